@@ -1,0 +1,113 @@
+ghost use Rattle.std.specs.Prelude.{◌≡◌, ℕ, ◌<◌, ◌≤◌, ◌^◌};
+ghost use Rattle.std.specs.Option.{SomeIff};
+ghost use Rattle.ds_base.specs.Ids.{IsMember, IsTable, IsLrsn};
+
+use std::marker::Model;
+
+/// No new change draws a number above this one: the numbers from here on are for compensations.
+pub const LRSN_LIMIT: u64 = (1 << 48) - (1 << 24);
+
+/// A member of the group, 1 to 32.
+#[derive(Clone, Copy, Debug, PartialEq, Eq, PartialOrd, Ord)]
+pub struct MemberId {
+    number: u8,
+}
+
+impl Model for MemberId {
+    ghost Value = { ℕ };
+
+    ghost view = { λ m. m.number };
+
+    ghost invariant = { λ m. IsMember m.number };
+
+    ghost inverse = { λ n. record { number = n } };
+}
+
+impl MemberId {
+    pub fn new(n: u64) -> Option<MemberId>
+        ensures { SomeIff result (IsMember n) n }
+    {
+        if 1 <= n && n <= 32 {
+            Some(MemberId { number: n as u8 })
+        } else {
+            None
+        }
+    }
+
+    pub fn number(&self) -> u64
+        ensures value { result ≡ self.now }
+        ensures range { IsMember self.now }
+    {
+        self.number as u64
+    }
+}
+
+/// A table, 1 to 64.
+#[derive(Clone, Copy, Debug, PartialEq, Eq, PartialOrd, Ord)]
+pub struct TableId {
+    number: u8,
+}
+
+impl Model for TableId {
+    ghost Value = { ℕ };
+
+    ghost view = { λ t. t.number };
+
+    ghost invariant = { λ t. IsTable t.number };
+
+    ghost inverse = { λ n. record { number = n } };
+}
+
+impl TableId {
+    pub fn new(n: u64) -> Option<TableId>
+        ensures { SomeIff result (IsTable n) n }
+    {
+        if 1 <= n && n <= 64 {
+            Some(TableId { number: n as u8 })
+        } else {
+            None
+        }
+    }
+
+    pub fn number(&self) -> u64
+        ensures value { result ≡ self.now }
+        ensures range { IsTable self.now }
+    {
+        self.number as u64
+    }
+}
+
+/// A log record sequence number (LRSN), below 2^48. The numbers are common to the group and order the merged logs.
+#[derive(Clone, Copy, Debug, PartialEq, Eq, PartialOrd, Ord)]
+pub struct Lrsn {
+    number: u64,
+}
+
+impl Model for Lrsn {
+    ghost Value = { ℕ };
+
+    ghost view = { λ l. l.number };
+
+    ghost invariant = { λ l. IsLrsn l.number };
+
+    ghost inverse = { λ n. record { number = n } };
+}
+
+impl Lrsn {
+    pub fn new(n: u64) -> Option<Lrsn>
+        ensures { SomeIff result (IsLrsn n) n }
+    {
+        if n < (1 << 48) {
+            Some(Lrsn { number: n })
+        } else {
+            None
+        }
+    }
+
+    pub fn number(&self) -> u64
+        ensures value { result ≡ self.now }
+        ensures range { IsLrsn self.now }
+    {
+        self.number
+    }
+}

@@ -1,0 +1,11 @@
+pub mod Rows
+pub mod Effect
+pub mod Transactions
+pub mod History
+pub mod Logs
+pub mod RecordBytes
+pub mod ScriptText
+pub mod OneMember
+pub mod ReportText
+pub mod Told
+pub mod Sound
