@@ -1,0 +1,24 @@
+-- The pages that a disk has, by their names.
+use Rattle.std.specs.Prelude.{◌≡◌, ℕ, List, Option, unwrap_or, replicate}
+use Rattle.std.proofs.Common.{refl, sym, ap, subst}
+use Rattle.std.specs.Ordering.{nat_cmp, on, then_cmp, ordering_then, is_eq}
+use Rattle.std.specs.declared.cmp.Ordering.{Ordering}
+use Rattle.std.specs.declared.cmp.Ordering.TheVariants.{Less, Equal, Greater}
+use Rattle.std.specs.Cmp.{IsTotalOrder, nat_cmp_total, on_total, then_total}
+use Rattle.std.specs.FinMap as map
+use Rattle.ds_base.specs.declared.names.PageId.{PageId}
+
+-- by page set, and then by number
+abbrev pub page_cmp : PageId → PageId → Ordering
+page_cmp = then_cmp (on (λ (p : PageId). p.set) nat_cmp) (on (λ (p : PageId). p.number) nat_cmp)
+
+pub page_cmp_total : IsTotalOrder page_cmp
+page_cmp_total = then_total (on_total (λ (p : PageId). p.set) nat_cmp_total) (on_total (λ (p : PageId). p.number) nat_cmp_total)
+
+-- the pages that were written
+abbrev pub Pages : Type 0
+Pages = map.FinMap page_cmp (List ℕ)
+
+-- a page that was never written reads as zeros
+abbrev pub page_at : Pages → PageId → List ℕ
+page_at pages id = unwrap_or (map.get pages id) (replicate 4096 0)

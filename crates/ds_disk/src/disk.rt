@@ -1,0 +1,80 @@
+ghost use Rattle.std.specs.Prelude.{◌≡◌, ℕ, ◌+◌, ◌-◌, ◌≤◌, ◌++◌, ◌⊎◌, min, List, Bool, Option, Some, length, take, drop};
+ghost use Rattle.std.specs.FinMap as map;
+
+use ds_base::{MemberId, PageId};
+
+#[derive(Clone, Copy, Debug, PartialEq, Eq)]
+pub enum DiskError {
+    Failed,
+    NoMemory,
+}
+
+#[derive(Clone, Copy, Debug, PartialEq, Eq)]
+pub enum DiskOp {
+    ReadPage,
+    WritePage,
+    AppendLog,
+    LogLength,
+    ReadLog,
+    CutLog,
+}
+
+/// The call of this kind with this number, from 1, fails, and the disk may die in it.
+#[derive(Clone, Copy, Debug)]
+pub struct DiskFailure {
+    pub call: DiskOp,
+    pub number: u64,
+    pub dies: Option<u64>,
+}
+
+pub trait Disk {
+    ghost use Rattle.ds_disk.specs.Pages.{page_at};
+    ghost use Rattle.ds_disk.specs.Contents.{Contents, WhenTold, Same, log_of, with_log};
+    ghost use Rattle.ds_disk.specs.Answers.{Answers, HasCause, Appended};
+
+    /// What it holds, where it tells.
+    ghost contents: { Self → Option Contents };
+
+    /// Whether it still answers.
+    ghost alive: { Self → Bool };
+
+    /// How often it has failed.
+    ghost faults: { Self → ℕ };
+
+    /// There is a log for each of the 32 members.
+    ghost has_logs: { (disk : Self) (c : Contents) → contents disk ≡ Some c → length c.logs ≡ 32 };
+
+    fn read_page(&mut self, id: PageId, into: &mut [u8; 4096]) -> Result<(), DiskError>
+        ensures answers { Answers (alive self.old) (alive self.new) (contents self.old) (contents self.new) result
+            (λ _ c d. (d ≡ c) × (into.new ≡ page_at c.pages id)) Same }
+        ensures cause { HasCause (faults self.old) (faults self.new) result };
+
+    fn write_page(&mut self, id: PageId, from: &[u8; 4096]) -> Result<(), DiskError>
+        ensures answers { Answers (alive self.old) (alive self.new) (contents self.old) (contents self.new) result
+            (λ _ c d. d ≡ record c { pages = map.insert c.pages id from.now })
+            (λ c d. (d ≡ c) ⊎ (d ≡ record c { pages = map.insert c.pages id from.now })) }
+        ensures cause { HasCause (faults self.old) (faults self.new) result };
+
+    fn append_log(&mut self, member: MemberId, bytes: &[u8]) -> Result<(), DiskError>
+        ensures answers { Answers (alive self.old) (alive self.new) (contents self.old) (contents self.new) result
+            (λ _ c d. d ≡ with_log c member (log_of c.logs member ++ bytes.now))
+            (Appended member bytes.now) }
+        ensures cause { HasCause (faults self.old) (faults self.new) result };
+
+    fn log_length(&mut self, member: MemberId) -> Result<u64, DiskError>
+        ensures answers { Answers (alive self.old) (alive self.new) (contents self.old) (contents self.new) result
+            (λ n c d. (d ≡ c) × (n ≡ length (log_of c.logs member))) Same }
+        ensures cause { HasCause (faults self.old) (faults self.new) result };
+
+    fn read_log(&mut self, member: MemberId, at: u64, into: &mut [u8]) -> Result<usize, DiskError>
+        ensures answers { Answers (alive self.old) (alive self.new) (contents self.old) (contents self.new) result
+            (λ n c d. (d ≡ c) × (n ≡ min (length into.new) (length (log_of c.logs member) - at)) × (take n into.new ≡ take n (drop at (log_of c.logs member)))) Same }
+        ensures cause { HasCause (faults self.old) (faults self.new) result };
+
+    fn cut_log(&mut self, member: MemberId, length: u64) -> Result<(), DiskError>
+        requires { WhenTold (contents self.old) (λ c. length ≤ Rattle.std.specs.Prelude.length (log_of c.logs member)) }
+        ensures answers { Answers (alive self.old) (alive self.new) (contents self.old) (contents self.new) result
+            (λ _ c d. d ≡ with_log c member (take length (log_of c.logs member)))
+            (λ c d. (d ≡ c) ⊎ (d ≡ with_log c member (take length (log_of c.logs member)))) }
+        ensures cause { HasCause (faults self.old) (faults self.new) result };
+}

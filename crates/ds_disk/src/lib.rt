@@ -1,0 +1,10 @@
+//! A disk of pages and of one log for each member.
+#![tactic(auto)]
+
+mod disk;
+mod health;
+mod memory;
+mod plan;
+
+pub use disk::{Disk, DiskError, DiskFailure, DiskOp};
+pub use memory::MemoryDisk;
