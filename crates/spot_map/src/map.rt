@@ -1,0 +1,64 @@
+ghost use Rattle.std.specs.Prelude.{◌≡◌, ◌<◌, ◌^◌, OnOk, OnErr};
+ghost use Rattle.std.specs.FinMap as finite;
+
+use ds_base::{Key, NoMemory, TableId};
+use std::alloc::Global;
+use std::collections::BTreeMap;
+use std::marker::Model;
+
+/// A map from a table and a key to a value that is copied, in the order of tables and then of keys.
+///
+/// A look-up and a change take time in the logarithm of the map's length.
+#[derive(Drop)]
+pub struct SpotMap<T> {
+    spots: BTreeMap<(TableId, Key), T>,
+}
+
+impl<T> Model for SpotMap<T> {
+    ghost use Rattle.std.specs.FinMap as finite;
+    ghost use Rattle.ds_model.specs.Rows.{spot_cmp};
+    ghost use Rattle.std.specs.Coded.{coded×, coded_ℕ};
+
+    ghost Value = { finite.FinMap spot_cmp T };
+
+    ghost coded = { finite.code (coded× coded_ℕ coded_ℕ) T.code };
+
+    ghost view = { λ m. finite.from_entries m.spots.entries };
+}
+
+impl<T: Copy> SpotMap<T> {
+    pub fn new(alloc: Global) -> SpotMap<T>
+        ensures { result ≡ finite.empty }
+    {
+        SpotMap {
+            spots: BTreeMap::new(alloc),
+        }
+    }
+
+    pub fn get(&self, table: TableId, key: Key) -> Option<T>
+        ensures { result ≡ finite.get self.now (table, key) }
+    {
+        self.spots.get(&(table, key)).copied()
+    }
+
+    pub fn insert(&mut self, table: TableId, key: Key, value: T) -> Result<(), NoMemory>
+        ensures ok { OnOk result (self.new ≡ finite.insert self.old (table, key) value) }
+        ensures err { OnErr result (self.new ≡ self.old) }
+    {
+        self.spots.insert((table, key), value)?;
+        Ok(())
+    }
+
+    pub fn remove(&mut self, table: TableId, key: Key)
+        ensures { self.new ≡ finite.remove self.old (table, key) }
+    {
+        self.spots.remove(&(table, key));
+    }
+
+    pub fn len(&self) -> usize
+        ensures count { result ≡ finite.len self.now }
+        ensures small { result < 2 ^ 63 }
+    {
+        self.spots.len()
+    }
+}
