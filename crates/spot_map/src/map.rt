@@ -1,7 +1,8 @@
-ghost use Rattle.std.specs.Prelude.{◌≡◌, ◌<◌, ◌^◌, OnOk, OnErr};
+ghost use Rattle.std.specs.Prelude.{◌≡◌, ◌<◌, ◌^◌, OnOk, OnErr, IfOk};
 ghost use Rattle.std.specs.FinMap as finite;
+ghost use Rattle.ds_model.specs.Rows.{listed};
 
-use ds_base::{Key, NoMemory, TableId};
+use ds_base::{Key, NoMemory, Row, RowList, TableId, Value};
 use std::alloc::Global;
 use std::collections::BTreeMap;
 use std::marker::Model;
@@ -60,5 +61,19 @@ impl<T: Copy> SpotMap<T> {
         ensures small { result < 2 ^ 63 }
     {
         self.spots.len()
+    }
+}
+
+impl SpotMap<Value> {
+    /// The rows in the order of their tables and then of their keys.
+    pub fn into_rows(self, alloc: Global) -> Result<RowList, NoMemory>
+        ensures { IfOk result (λ rows. rows ≡ listed self) }
+    {
+        let SpotMap { spots } = self;
+        let rows: Vec<Row> = spots
+            .into_iter()
+            .map(|((table, key), value)| Row { table, key, value })
+            .collect(alloc)?;
+        Ok(RowList::from_vec(rows))
     }
 }
