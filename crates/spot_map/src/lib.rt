@@ -4,3 +4,6 @@
 mod map;
 
 pub use map::SpotMap;
+
+#[cfg(test)]
+mod tests;
