@@ -1,4 +1,4 @@
-ghost use Rattle.std.specs.Prelude.{◌≡◌, ◌<◌, ◌^◌, OnOk, OnErr, IfOk};
+ghost use Rattle.std.specs.Prelude.{◌≡◌, ◌<◌, ◌^◌, None, OnOk, OnErr, IfOk};
 ghost use Rattle.std.specs.FinMap as finite;
 ghost use Rattle.ds_model.specs.Rows.{listed};
 
@@ -42,9 +42,11 @@ impl<T: Copy> SpotMap<T> {
         self.spots.get(&(table, key)).copied()
     }
 
+    /// Sets the value of a spot. A spot that has a value takes no memory.
     pub fn insert(&mut self, table: TableId, key: Key, value: T) -> Result<(), NoMemory>
         ensures ok { OnOk result (self.new ≡ finite.insert self.old (table, key) value) }
         ensures err { OnErr result (self.new ≡ self.old) }
+        ensures absent { OnErr result (finite.get self.old (table, key) ≡ None) }
     {
         self.spots.insert((table, key), value)?;
         Ok(())
