@@ -8,6 +8,9 @@ use ds_base::{Bytes, NoMemory, Value};
 use ds_model::{Body, LogRecord, RowChange};
 use std::alloc::Global;
 
+/// The version of the records' layout.
+const VERSION: u8 = 1;
+
 /// The most bytes that a record has.
 const LONGEST: usize = 241;
 
@@ -33,7 +36,7 @@ fn body_length(body: &Body) -> usize
     }
 }
 
-/// How many bytes the record has.
+/// How many bytes the record has: 22, and those of its body.
 #[tactic(auto, unfolding(ds_model::specs::RecordBytes::record_bytes))]
 pub fn record_length(it: &LogRecord) -> usize
     ensures exact { result ≡ length (record_bytes it.now) }
@@ -93,13 +96,13 @@ fn put_body(into: &mut [u8], at: usize, body: &Body) -> usize
     }
 }
 
-#[tactic(auto, unfolding(ds_model::specs::RecordBytes::record_bytes))]
 /// Writes the record at the front of the buffer, and answers its length.
+#[tactic(auto, unfolding(ds_model::specs::RecordBytes::record_bytes))]
 pub fn write_record(it: &LogRecord, into: &mut [u8]) -> usize
     requires allowed { IsAllowed it.now }
     requires room { length (record_bytes it.now) ≤ length into.old }
     ensures bytes { take result into.new ≡ record_bytes it.now }
-    ensures length { result ≡ Rattle.std.specs.Prelude.length (record_bytes it.now) }
+    ensures count { result ≡ length (record_bytes it.now) }
     ensures rest { SameFrom result into.old into.new }
 {
     let length = (record_length(it) as u32).to_be_bytes();
@@ -108,7 +111,7 @@ pub fn write_record(it: &LogRecord, into: &mut [u8]) -> usize
         Body::Commit => 4,
     };
     let at = put(into, 0, &length);
-    let at = put(into, at, &[kind, 1]);
+    let at = put(into, at, &[kind, VERSION]);
     let at = put(into, at, &it.lrsn.number().to_be_bytes()[2..]);
     let at = put(into, at, &it.tran.number().to_be_bytes()[2..]);
     let at = put_body(into, at, &it.body);
