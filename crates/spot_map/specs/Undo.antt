@@ -19,6 +19,7 @@ module _ {X : Type 0} where
   chosen Equal first second here h = sym (h refl)
   chosen Greater first second here h = refl
 
+  -- a look-up after one
   unchosen : (o : Ordering) (there here : Option X) → (o ≡ Equal → here ≡ there) → cond (is_eq o) there here ≡ here
   unchosen Less there here h = refl
   unchosen Equal there here h = sym (h refl)

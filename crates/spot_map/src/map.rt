@@ -10,7 +10,7 @@ use std::marker::Model;
 /// A map from a table and a key to a value that is copied, in the order of tables and then of keys.
 ///
 /// A look-up and a change take time in the logarithm of the map's length.
-#[derive(Drop)]
+#[derive(Debug, Drop)]
 pub struct SpotMap<T> {
     spots: BTreeMap<(TableId, Key), T>,
 }
