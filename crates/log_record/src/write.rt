@@ -1,8 +1,8 @@
-ghost use Rattle.std.specs.Prelude.{◌≡◌, ◌+◌, ◌≤◌, ◌++◌, length, take, OnOk, OnErr, IfOk};
-ghost use Rattle.std.specs.List.{AllByRecursion};
+ghost use Rattle.std.specs.Prelude.{◌≡◌, ◌+◌, ◌≤◌, ◌++◌, length, take, OnOk, OnErr, IfOk, All};
 ghost use Rattle.log_record.specs.Kept.{SameFrom};
-ghost use Rattle.ds_model.specs.RecordBytes.{state_bytes, row_bytes, change_bytes, body_bytes, record_bytes, log_bytes, IsAllowed};
+ghost use Rattle.ds_model.specs.RecordBytes.{state_bytes, row_bytes, change_bytes, body_bytes, record_bytes, log_bytes, IsAllowed, Fits};
 
+use crate::allowed::is_allowed;
 use crate::put::put;
 use ds_base::{Bytes, NoMemory, Value};
 use ds_model::{Body, LogRecord, RowChange};
@@ -99,7 +99,7 @@ fn put_body(into: &mut [u8], at: usize, body: &Body) -> usize
 /// Writes the record at the front of the buffer, and answers its length.
 #[tactic(auto, unfolding(ds_model::specs::RecordBytes::record_bytes))]
 pub fn write_record(it: &LogRecord, into: &mut [u8]) -> usize
-    requires allowed { IsAllowed it.now }
+    requires fits { Fits it.now }
     requires room { length (record_bytes it.now) ≤ length into.old }
     ensures bytes { take result into.new ≡ record_bytes it.now }
     ensures count { result ≡ length (record_bytes it.now) }
@@ -120,10 +120,12 @@ pub fn write_record(it: &LogRecord, into: &mut [u8]) -> usize
 
 /// Adds the bytes of the record.
 pub fn put_record(out: &mut Bytes, it: &LogRecord) -> Result<(), NoMemory>
-    requires allowed { IsAllowed it.now }
+    requires { Fits it.now }
     ensures ok { OnOk result (out.new ≡ out.old ++ record_bytes it.now) }
     ensures err { OnErr result (out.new ≡ out.old) }
+    ensures allowed { IsAllowed it.now }
 {
+    prove!(is_allowed(it));
     let mut buffer = [0u8; LONGEST];
     let length = write_record(it, &mut buffer);
     out.extend(&buffer[..length])
@@ -131,8 +133,9 @@ pub fn put_record(out: &mut Bytes, it: &LogRecord) -> Result<(), NoMemory>
 
 /// The bytes of these records, one after another.
 pub fn records_bytes(alloc: Global, records: &[LogRecord]) -> Result<Bytes, NoMemory>
-    requires allowed { AllByRecursion IsAllowed records.now }
-    ensures { IfOk result (λ bytes. bytes ≡ log_bytes records.now) }
+    requires { All Fits records.now }
+    ensures bytes { IfOk result (λ bytes. bytes ≡ log_bytes records.now) }
+    ensures allowed { OnOk result (All IsAllowed records.now) }
 {
     let mut out = Bytes::new(alloc);
     for record in records {

@@ -1,8 +1,8 @@
-use Rattle.std.proofs.Common.{◌≡◌, List, Err, sym, ap, subst, ◌∙◌}
-use Rattle.std.specs.List.{AllByRecursion}
-use Rattle.std.proofs.lemmas.List.Elements.{recursion_from_All}
+use Rattle.std.proofs.Common.{◌≡◌, ℕ, List, ◌++◌, All, Err, sym, ap, subst, ◌∙◌}
+use Rattle.std.proofs.lemmas.List.Elements.{recursion_from_All, All-from_recursion}
 use Rattle.ds_model.specs.declared.log.LogRecord.{LogRecord}
-use Rattle.ds_model.specs.RecordBytes.{Fits}
+use Rattle.ds_model.specs.RecordBytes.{log_bytes, IsAllowed, Fits}
+use Rattle.ds_disk.specs.Contents.{log_of, with_log, Becomes}
 use Rattle.ds_model.specs.OneMember.{IsOneMemberOp}
 use Rattle.serial_run.specs.declared.state.State.{State}
 use Rattle.serial_run.specs.Steps.{next, records_of}
@@ -14,7 +14,7 @@ use Rattle.serial_run.proofs.tran.play_tran.Goals as goal
 
 pub records_bytes-requires : goal.records_bytes-requires
 records_bytes-requires g c =
-    subst (AllByRecursion Fits) (sym (c.as_slice.ensures ∙ c.in_ok-draft.ensures.records)) (all_fit c.args.state.now c.args.ops.now)
+    subst (All Fits) (sym (c.as_slice.ensures ∙ c.in_ok-draft.ensures.records)) (All-from_recursion Fits _ (all_fit c.args.state.now c.args.ops.now))
 
 pub returns-in_ok-undo-in-Err-Failed-clause-plays : goal.returns-in_ok-undo-in-Err-Failed-clause-plays
 returns-in_ok-undo-in-Err-Failed-clause-plays g c =
@@ -30,4 +30,21 @@ returns-in_ok-undo-in-Err-Failed-clause-plays g c =
       alive = λ e. (left e).0;
       log = λ e. (left e).1;
       cause = c.append_log.ensures.cause.failed failed;
+    }
+
+pub returns-in-Ok-clause-plays : goal.returns-in-Ok-clause-plays
+returns-in-Ok-clause-plays g c =
+    let was = c.args.state.now in
+    let ops = c.args.ops.now in
+    let before = g.D.Disk.contents c.args.disk.now in
+    let after = g.D.Disk.contents c.append_log.new.self in
+    let done = c.in-Ok.ensures.answers.ok in
+    let its = c.as_slice.ensures ∙ c.in_ok-draft.ensures.records in
+    let bytes = c.as_slice-2.ensures ∙ c.in_ok-bytes.ensures.bytes ∙ ap log_bytes its in
+    record {
+      state = c.in_ok-draft.ensures.state;
+      reads_are = c.in_ok-draft.ensures.reads;
+      allowed = recursion_from_All IsAllowed (records_of was ops) (subst (All IsAllowed) its c.in_ok-bytes.ensures.allowed);
+      alive = done.1;
+      log = subst (λ (bs : List ℕ). Becomes before after (λ x y. y ≡ with_log x c.args.member (log_of x.logs c.args.member ++ bs))) bytes done.2;
     }
