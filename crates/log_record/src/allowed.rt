@@ -1,6 +1,5 @@
 ghost use Rattle.std.specs.Prelude.{◌≢◌, ◌<◌, ◌↔◌, IsTrue};
-ghost use Rattle.log_record.specs.Placed.{IsPlaced};
-ghost use Rattle.ds_model.specs.RecordBytes.{StateIsAllowed, ChangeIsAllowed, IsAllowed};
+ghost use Rattle.ds_model.specs.RecordBytes.{StateIsAllowed, ChangeIsAllowed, IsAllowed, Fits};
 
 use ds_base::{VALUE_LIMIT, Value};
 use ds_model::{Body, LogRecord, RowChange};
@@ -39,7 +38,7 @@ fn change_is_allowed(change: &RowChange) -> bool
 /// The other numbers and the values are in range by their types.
 pub fn is_allowed(it: &LogRecord) -> bool
     ensures decides { IsTrue result ↔ IsAllowed it.now }
-    ensures enough { it.now.tran ≢ 0 → IsPlaced it.now.body → IsTrue result }
+    ensures enough { Fits it.now → IsTrue result }
 {
     let has_numbers = it.lrsn.number() < LRSN_END && it.tran.number() != 0;
     has_numbers

@@ -1,8 +1,9 @@
 ghost use Rattle.std.specs.Prelude.{◌≡◌, ◌+◌, ◌≤◌, ◌++◌, length, take, OnOk, OnErr, IfOk};
 ghost use Rattle.std.specs.List.{AllByRecursion};
 ghost use Rattle.log_record.specs.Kept.{SameFrom};
-ghost use Rattle.ds_model.specs.RecordBytes.{state_bytes, row_bytes, change_bytes, body_bytes, record_bytes, log_bytes, IsAllowed};
+ghost use Rattle.ds_model.specs.RecordBytes.{state_bytes, row_bytes, change_bytes, body_bytes, record_bytes, log_bytes, IsAllowed, Fits};
 
+use crate::allowed::is_allowed;
 use crate::put::put;
 use ds_base::{Bytes, NoMemory, Value};
 use ds_model::{Body, LogRecord, RowChange};
@@ -99,12 +100,14 @@ fn put_body(into: &mut [u8], at: usize, body: &Body) -> usize
 /// Writes the record at the front of the buffer, and answers its length.
 #[tactic(auto, unfolding(ds_model::specs::RecordBytes::record_bytes))]
 pub fn write_record(it: &LogRecord, into: &mut [u8]) -> usize
-    requires allowed { IsAllowed it.now }
+    requires fits { Fits it.now }
     requires room { length (record_bytes it.now) ≤ length into.old }
     ensures bytes { take result into.new ≡ record_bytes it.now }
     ensures count { result ≡ length (record_bytes it.now) }
     ensures rest { SameFrom result into.old into.new }
+    ensures allowed { IsAllowed it.now }
 {
+    prove!(is_allowed(it));
     let length = (record_length(it) as u32).to_be_bytes();
     let kind = match it.body {
         Body::RowChange { .. } => 1,
@@ -120,19 +123,22 @@ pub fn write_record(it: &LogRecord, into: &mut [u8]) -> usize
 
 /// Adds the bytes of the record.
 pub fn put_record(out: &mut Bytes, it: &LogRecord) -> Result<(), NoMemory>
-    requires allowed { IsAllowed it.now }
+    requires fits { Fits it.now }
     ensures ok { OnOk result (out.new ≡ out.old ++ record_bytes it.now) }
     ensures err { OnErr result (out.new ≡ out.old) }
+    ensures allowed { IsAllowed it.now }
 {
     let mut buffer = [0u8; LONGEST];
-    let length = write_record(it, &mut buffer);
-    out.extend(&buffer[..length])
+    let bytes = &mut buffer[..record_length(it)];
+    write_record(it, bytes);
+    out.extend(bytes)
 }
 
 /// The bytes of these records, one after another.
 pub fn records_bytes(alloc: Global, records: &[LogRecord]) -> Result<Bytes, NoMemory>
-    requires allowed { AllByRecursion IsAllowed records.now }
-    ensures { IfOk result (λ bytes. bytes ≡ log_bytes records.now) }
+    requires fit { AllByRecursion Fits records.now }
+    ensures bytes { IfOk result (λ bytes. bytes ≡ log_bytes records.now) }
+    ensures allowed { OnOk result (AllByRecursion IsAllowed records.now) }
 {
     let mut out = Bytes::new(alloc);
     for record in records {
