@@ -1,3 +1,7 @@
+ghost use Rattle.std.specs.Prelude.{◌≡◌, IfOk};
+ghost use Rattle.ds_base.specs.Ids.{IsLrsn};
+ghost use Rattle.ds_model.specs.RecordBytes.{Fits};
+
 use crate::{
     Body, LogRecord, RowChange, is_allowed, put_record, record_length, records_bytes, write_record,
 };
@@ -16,11 +20,16 @@ const CHANGE: [u8; 46] = [
     1, 0, 0, 1, 0, 2, 5, 0x68, 0x65, 0x6c, 0x6c, 0x6f, 0, 0, 0, 0x2e,
 ];
 
-fn lrsn(number: u64) -> Lrsn {
+fn lrsn(number: u64) -> Lrsn
+    requires { IsLrsn number }
+    ensures { result ≡ number }
+{
     Lrsn::new(number).unwrap()
 }
 
-fn commit() -> LogRecord {
+fn commit() -> LogRecord
+    ensures { Fits result }
+{
     LogRecord {
         lrsn: lrsn(5),
         tran: lrsn(5),
@@ -28,58 +37,72 @@ fn commit() -> LogRecord {
     }
 }
 
-fn change(alloc: Global) -> Result<LogRecord, Fail> {
+fn change(alloc: Global) -> Result<LogRecord, Fail>
+    ensures { IfOk result (λ r. Fits r) }
+{
+    let after = Value::new(alloc, b"hello")?;
+    let change = RowChange {
+        table: TableId::new(1).unwrap(),
+        key: 10,
+        place: Place { page: 1, slot: 0 },
+        before: None,
+        after,
+    };
     Ok(LogRecord {
         lrsn: lrsn(1),
         tran: lrsn(1),
-        body: Body::RowChange {
-            change: RowChange {
-                table: TableId::new(1).unwrap(),
-                key: 10,
-                place: Place { page: 1, slot: 0 },
-                before: None,
-                after: Value::new(alloc, b"hello")?,
-            },
-        },
+        body: Body::RowChange { change },
     })
 }
 
 #[test]
 fn records_have_their_bytes(rt: HostRuntime) -> Result<(), Fail> {
-    let records = [commit(), change(rt.alloc())?];
-    let bytes = records_bytes(rt.alloc(), &records)?;
-    assert_eq!(rt; bytes.as_slice()[..22], COMMIT[..]);
-    assert_eq!(rt; bytes.as_slice()[22..], CHANGE[..]);
+    let commit = commit();
+    let change = change(rt.alloc())?;
+    let bytes = records_bytes(rt.alloc(), &[commit, change])?;
+    let mut expected = Bytes::new(rt.alloc());
+    expected.extend(&COMMIT)?;
+    expected.extend(&CHANGE)?;
+    assert_eq!(rt; bytes.as_slice(), expected.as_slice());
     Ok(())
 }
 
+/// A buffer of sevens with the record written into it.
+fn written(it: &LogRecord) -> [u8; 241]
+    requires { Fits it.now }
+{
+    let mut buffer = [7u8; 241];
+    write_record(it, &mut buffer[..record_length(it)]);
+    buffer
+}
+
 #[test]
-fn a_record_is_written_at_the_front(rt: HostRuntime) -> Result<(), Fail> {
-    let mut buffer = [7u8; 48];
-    assert_eq!(rt; write_record(&change(rt.alloc())?, &mut buffer), 46);
-    assert_eq!(rt; buffer[..46], CHANGE[..]);
-    assert_eq!(rt; buffer[46..], [7u8, 7][..]);
-    assert_eq!(rt; record_length(&commit()), 22);
-    Ok(())
+fn a_record_is_written_at_the_front(rt: HostRuntime) {
+    let buffer = written(&commit());
+    assert_eq!(rt; buffer[..22], COMMIT[..]);
+    assert_eq!(rt; buffer[22], 7);
 }
 
 #[test]
 fn records_are_added_behind_one_another(rt: HostRuntime) -> Result<(), Fail> {
+    let record = commit();
     let mut out = Bytes::new(rt.alloc());
-    put_record(&mut out, &commit())?;
-    put_record(&mut out, &commit())?;
-    assert_eq!(rt; out.as_slice().len(), 44);
-    assert_eq!(rt; out.as_slice()[22..], COMMIT[..]);
+    put_record(&mut out, &record)?;
+    put_record(&mut out, &record)?;
+    let mut expected = Bytes::new(rt.alloc());
+    expected.extend(&COMMIT)?;
+    expected.extend(&COMMIT)?;
+    assert_eq!(rt; out.as_slice(), expected.as_slice());
     Ok(())
 }
 
 #[test]
 fn a_record_needs_a_transaction(rt: HostRuntime) {
+    let none = LogRecord {
+        lrsn: lrsn(5),
+        tran: lrsn(0),
+        body: Body::Commit,
+    };
     assert!(rt; is_allowed(&commit()));
-    assert!(rt;
-        !is_allowed(&LogRecord {
-            tran: lrsn(0),
-            ..commit()
-        })
-    );
+    assert!(rt; !is_allowed(&none));
 }

@@ -1,4 +1,5 @@
-ghost use Rattle.std.specs.Prelude.{◌≡◌, ◌+◌, ◌≤◌, ◌++◌, length, take, OnOk, OnErr, IfOk, All};
+ghost use Rattle.std.specs.Prelude.{◌≡◌, ◌+◌, ◌≤◌, ◌++◌, length, take, OnOk, OnErr, IfOk};
+ghost use Rattle.std.specs.List.{AllByRecursion};
 ghost use Rattle.log_record.specs.Kept.{SameFrom};
 ghost use Rattle.ds_model.specs.RecordBytes.{state_bytes, row_bytes, change_bytes, body_bytes, record_bytes, log_bytes, IsAllowed, Fits};
 
@@ -104,7 +105,9 @@ pub fn write_record(it: &LogRecord, into: &mut [u8]) -> usize
     ensures bytes { take result into.new ≡ record_bytes it.now }
     ensures count { result ≡ length (record_bytes it.now) }
     ensures rest { SameFrom result into.old into.new }
+    ensures allowed { IsAllowed it.now }
 {
+    prove!(is_allowed(it));
     let length = (record_length(it) as u32).to_be_bytes();
     let kind = match it.body {
         Body::RowChange { .. } => 1,
@@ -120,22 +123,22 @@ pub fn write_record(it: &LogRecord, into: &mut [u8]) -> usize
 
 /// Adds the bytes of the record.
 pub fn put_record(out: &mut Bytes, it: &LogRecord) -> Result<(), NoMemory>
-    requires { Fits it.now }
+    requires fits { Fits it.now }
     ensures ok { OnOk result (out.new ≡ out.old ++ record_bytes it.now) }
     ensures err { OnErr result (out.new ≡ out.old) }
     ensures allowed { IsAllowed it.now }
 {
-    prove!(is_allowed(it));
     let mut buffer = [0u8; LONGEST];
-    let length = write_record(it, &mut buffer);
-    out.extend(&buffer[..length])
+    let bytes = &mut buffer[..record_length(it)];
+    write_record(it, bytes);
+    out.extend(bytes)
 }
 
 /// The bytes of these records, one after another.
 pub fn records_bytes(alloc: Global, records: &[LogRecord]) -> Result<Bytes, NoMemory>
-    requires { All Fits records.now }
+    requires fit { AllByRecursion Fits records.now }
     ensures bytes { IfOk result (λ bytes. bytes ≡ log_bytes records.now) }
-    ensures allowed { OnOk result (All IsAllowed records.now) }
+    ensures allowed { OnOk result (AllByRecursion IsAllowed records.now) }
 {
     let mut out = Bytes::new(alloc);
     for record in records {

@@ -1,8 +1,12 @@
+ghost use Rattle.ds_base.specs.Ids.{IsTable};
+
 use crate::SpotMap;
 use ds_base::{TableId, Value};
 use std::test::Fail;
 
-fn table(number: u64) -> TableId {
+fn table(number: u64) -> TableId
+    requires { IsTable number }
+{
     TableId::new(number).unwrap()
 }
 
