@@ -1,0 +1,7 @@
+//! The text of scripts: writing it, and reading that of the scripts that are played today.
+#![tactic(auto)]
+
+mod write;
+
+pub use ds_model::{FailAt, Op, OpList, Part, PartList, Phase, PhaseList, Script, Tran, TranList};
+pub use write::script_bytes;
