@@ -1,6 +1,8 @@
 //! The text of scripts: writing it, and reading that of the scripts that are played today.
 #![tactic(auto)]
 
+mod line;
+mod words;
 mod write;
 
 pub use ds_model::{FailAt, Op, OpList, Part, PartList, Phase, PhaseList, Script, Tran, TranList};
