@@ -1,6 +1,7 @@
 //! The text of scripts: writing it, and reading that of the scripts that are played today.
 #![tactic(auto)]
 
+mod draft;
 mod line;
 mod words;
 mod write;
