@@ -2,3 +2,4 @@ pub mod Cuts
 pub mod Numbers
 pub mod Texts
 pub mod Runs
+pub mod Keeps

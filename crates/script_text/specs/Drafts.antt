@@ -1,10 +1,13 @@
 -- Reading a script of one member line by line.
-use Rattle.std.specs.Prelude.{◌≡◌, ℕ, ◌+◌, Bool, true, false, if◌then◌else◌, nat_lt, List, [], ◌∷◌, ◌++◌, length, Option, Some, None, option_map, option_and_then}
+use Rattle.std.specs.Prelude.{◌≡◌, ℕ, ◌+◌, ◌≤◌, map, Bool, true, false, if◌then◌else◌, nat_lt, List, [], ◌∷◌, ◌++◌, length, Option, Some, None, option_map, option_and_then}
 use Rattle.ds_model.specs.declared.script.Op.{Op}
 use Rattle.ds_model.specs.declared.script.Tran.{Tran}
 use Rattle.ds_model.specs.declared.script.Part.{Part}
 use Rattle.ds_model.specs.declared.script.Phase.{Phase}
 use Rattle.ds_model.specs.declared.script.Script.{Script}
+use Rattle.std.specs.List.{flat_map, AllByRecursion}
+use Rattle.ds_model.specs.Transactions.{Placed, placed_part, placed_phase}
+use Rattle.ds_model.specs.OneMember.{counted, IsName, IsOneMemberOp, IsOneMemberTran, IsOneMemberPhase}
 use Rattle.script_text.specs.declared.draft.Place.{Place}
 use Rattle.script_text.specs.declared.draft.Place.TheVariants as place
 use Rattle.script_text.specs.declared.draft.Draft.{Draft}
@@ -89,3 +92,37 @@ whole d = option_map (λ phases. record { phases = phases; groupfails = 0 }) (cl
 -- the draft of what a step gives, if it was taken
 abbrev pub IsNext : Draft → Option Draft → Bool → Type 0
 IsNext now next taken = next ≡ (if taken then Some now else None)
+
+-- the transactions that are ended, with their members
+abbrev pub placed_trans : ℕ → List Tran → List Placed
+placed_trans member trans = placed_part (part_of member trans)
+
+abbrev pub placed_at : Place → List Placed
+placed_at place.Outside = []
+placed_at place.Phase = []
+placed_at (place.Part member trans) = placed_trans member trans
+placed_at (place.Tran member trans name ops) = placed_trans member trans
+
+abbrev pub placed_so_far : Draft → List Placed
+placed_so_far d = flat_map placed_phase d.phases ++ placed_at d.place
+
+-- how many transactions are open
+abbrev pub open_count : Place → ℕ
+open_count place.Outside = 0
+open_count place.Phase = 0
+open_count (place.Part member trans) = 0
+open_count (place.Tran member trans name ops) = 1
+
+abbrev pub IsPlace : Place → Type 0
+IsPlace place.Outside = Unit {0}
+IsPlace place.Phase = Unit {0}
+IsPlace (place.Part member trans) = (member ≡ 1) × AllByRecursion IsOneMemberTran trans
+IsPlace (place.Tran member trans name ops) = (member ≡ 1) × AllByRecursion IsOneMemberTran trans × IsName name × (length ops ≤ 64) × AllByRecursion IsOneMemberOp ops
+
+-- all that was read so far may stand in a script of one member
+pub record IsDraft (d : Draft) : Type 0 where
+  pub phases_are : AllByRecursion IsOneMemberPhase d.phases
+  pub place_is : IsPlace d.place
+  pub count_is : d.count ≡ length (placed_so_far d) + open_count d.place
+  pub count_fits : d.count ≤ 65536
+  pub numbers : map (λ (p : Placed). p.1.number) (placed_so_far d) ≡ counted 1 (length (placed_so_far d))
