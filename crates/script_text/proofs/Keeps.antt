@@ -1,5 +1,5 @@
 -- What is read line by line stays a script of one member.
-use Rattle.std.proofs.Common.{◌≡◌, ℕ, zero, suc, ◌+◌, ◌<◌, ◌≤◌, Bool, true, false, nat_lt, ltb, cond, List, [], ◌∷◌, ◌++◌, length, map, Option, Some, None, option_map, refl, sym, ap, ◌∙◌, subst, arith, append_assoc, append-nil, length-append}
+use Rattle.std.proofs.Common.{◌≡◌, ℕ, zero, suc, ◌+◌, ◌<◌, ◌≤◌, Bool, true, false, nat_lt, ltb, cond, List, [], ◌∷◌, ◌++◌, length, map, Option, Some, None, IfSome, option_map, refl, sym, ap, ◌∙◌, subst, arith, append_assoc, append-nil, length-append}
 use Rattle.std.specs.List.{flat_map, AllByRecursion}
 use Rattle.std.proofs.lemmas.Bool.{ltb-true, cases_Bool}
 use Rattle.std.proofs.lemmas.Option.{none-some, same_Some}
@@ -18,7 +18,7 @@ use Rattle.script_text.specs.declared.draft.Draft.{Draft}
 use Rattle.script_text.specs.declared.line.Line.{Line}
 use Rattle.script_text.specs.declared.line.Line.TheVariants as lines
 use Rattle.script_text.specs.Lines.{IsLine}
-use Rattle.script_text.specs.Drafts.{start, phase_with, part_of, closed_at, closed, part_begun, tran_begun, op_taken, tran_ended, step_phase, step_member, step_tran, step_op, step_end, step, placed_trans, placed_at, placed_so_far, open_count, IsPlace, IsDraft}
+use Rattle.script_text.specs.Drafts.{start, phase_with, part_of, closed_at, closed, part_begun, tran_begun, op_taken, tran_ended, step_phase, step_member, step_tran, step_op, step_end, step, placed_trans, placed_at, placed_so_far, open_count, IsPlace, IsDraft, whole, IsShaped}
 
 abbrev draft_at : List Phase → ℕ → Place → Draft
 draft_at phases count p = record { phases = phases; count = count; place = p }
@@ -182,3 +182,19 @@ keeps d lines.End e h is k = keeps_end d.phases d.count d.place e h k
 
 pub start_is : IsDraft start
 start_is = record { phases_are = tt; place_is = tt; count_is = omega arith; count_fits = omega arith; numbers = refl }
+
+-- a draft that is whole is a script of this shape
+pub whole_is : (d : Draft) (s : Script) → IsDraft d → whole d ≡ Some s → IsShaped s
+whole_is d s h k =
+    let m = mapped (λ (ps : List Phase). let it : Script = record { phases = ps; groupfails = 0 } in it) (closed d) s k in
+    let closes = closes_at d.phases d.count d.place m.0 h m.1 in
+    subst IsShaped m.2 (record {
+      no_groupfail = refl;
+      phases_are = closes.are;
+      trans_short = omega (arith, h.count_is, h.count_fits, ap length closes.same);
+      numbers = subst AreNumbered (sym closes.same) h.numbers;
+    })
+
+pub found_is : (d : Draft) (found : Option Script) → IsDraft d → found ≡ whole d → IfSome found IsShaped
+found_is d None h e = tt
+found_is d (Some s) h e = whole_is d s h (sym e)

@@ -98,15 +98,16 @@ run_parts phases c [] o h n l = (draft_at phases c place.Phase, record { runs = 
 run_parts phases c (p ∷ []) o h n l =
     let long : length (flat_map placed_part (p ∷ [])) ≡ length p.trans = ap length (append-nil (placed_part p)) ∙ length_placed p.member p.trans in
     let numbers : map (λ (t : Tran). t.number) p.trans ≡ counted (c + 1) (length p.trans) =
-          sym (numbers_placed p.member p.trans) ∙ ap (map (λ (p : Placed). p.1.number)) (sym (append-nil (placed_part p))) ∙ n ∙ ap (counted (c + 1)) long in
-    (draft_at phases (c + length p.trans) (place.Part p.member p.trans),
-     record {
-       runs = λ rest.
-         ap (λ (ls : List Line). run (draft_at phases c (place.Part p.member [])) (ls ++ rest)) (append-nil (flat_map tran_lines p.trans))
-         ∙ run_trans phases c p.member [] p.trans rest (h.0).trans_are numbers (omega (arith, long));
-       closes = ap (λ (q : Part). let it : Option (List Phase) = Some (phases ++ phase_with (q ∷ []) ∷ []) in it) (same_whole_part p h.0);
-       counts = omega (arith, long);
-     })
+    sym (numbers_placed p.member p.trans) ∙ ap (map (λ (p : Placed). p.1.number)) (sym (append-nil (placed_part p))) ∙ n ∙ ap (counted (c + 1)) long in (
+      draft_at phases (c + length p.trans) (place.Part p.member p.trans),
+      record {
+        runs = λ rest.
+            ap (λ (ls : List Line). run (draft_at phases c (place.Part p.member [])) (ls ++ rest)) (append-nil (flat_map tran_lines p.trans))
+            ∙ run_trans phases c p.member [] p.trans rest (h.0).trans_are numbers (omega (arith, long));
+        closes = ap (λ (q : Part). let it : Option (List Phase) = Some (phases ++ phase_with (q ∷ []) ∷ []) in it) (same_whole_part p h.0);
+        counts = omega (arith, long);
+      },
+    )
 run_parts phases c (p ∷ q ∷ ps) o h n l = absurd (omega arith)
 
 record EndsScript (d : Draft) (phases done : List Phase) (e : Draft) : Type 0 where
@@ -116,8 +117,8 @@ record EndsScript (d : Draft) (phases done : List Phase) (e : Draft) : Type 0 wh
 one_more : (d : Draft) (done : List Phase) (p : Phase) (ps : List Phase) (e f : Draft) → closed d ≡ Some done → p.groupfails ≡ 0 → EndsPhase done d.count p.parts e → EndsScript e ps (done ++ p ∷ []) f → EndsScript d (p ∷ ps) done f
 one_more d done p ps e f k g ends rest = record {
   runs =
-    ap (λ (o : Option (List Phase)). option_and_then (λ (x : Draft). run x (flat_map part_lines p.parts ++ flat_map phase_lines ps)) (option_map (λ (phases : List Phase). draft_at phases d.count place.Phase) o)) k
-    ∙ ends.runs (flat_map phase_lines ps) ∙ rest.runs;
+      ap (λ (o : Option (List Phase)). option_and_then (λ (x : Draft). run x (flat_map part_lines p.parts ++ flat_map phase_lines ps)) (option_map (λ (phases : List Phase). draft_at phases d.count place.Phase) o)) k
+      ∙ ends.runs (flat_map phase_lines ps) ∙ rest.runs;
   closes = rest.closes ∙ ap (λ (qs : List Phase). let it : Option (List Phase) = Some qs in it) (append_assoc done (p ∷ []) ps);
 }
 
@@ -131,7 +132,7 @@ Follows ps done e = closed e ≡ Some done → map (λ (p : Placed). p.1.number)
 after_phase : (p : Phase) (ps : List Phase) (done : List Phase) (d : Draft) → closed d ≡ Some done → IsOneMemberPhase p → map (λ (p : Placed). p.1.number) (flat_map placed_phase ps) ≡ counted (d.count + 1 + length (placed_phase p)) (length (flat_map placed_phase ps)) → d.count + length (placed_phase p) + length (flat_map placed_phase ps) ≤ 65536 → ((e : Draft) → Follows ps (done ++ p ∷ []) e) → (e : Draft) → EndsPhase done d.count p.parts e → (f : Draft) × EndsScript d (p ∷ ps) done f
 after_phase p ps done d k h n l more e ends =
     let numbers : map (λ (p : Placed). p.1.number) (flat_map placed_phase ps) ≡ counted (e.count + 1) (length (flat_map placed_phase ps)) =
-          n ∙ ap (λ (m : ℕ). counted m (length (flat_map placed_phase ps))) (omega (arith, ends.counts)) in
+    n ∙ ap (λ (m : ℕ). counted m (length (flat_map placed_phase ps))) (omega (arith, ends.counts)) in
     let rest = more e (closed_more done d.count p e h.no_groupfail ends) numbers (omega (arith, ends.counts)) in
     (rest.0, one_more d done p ps e rest.0 k h.no_groupfail ends rest.1)
 

@@ -6,8 +6,9 @@ use Rattle.ds_model.specs.declared.script.Part.{Part}
 use Rattle.ds_model.specs.declared.script.Phase.{Phase}
 use Rattle.ds_model.specs.declared.script.Script.{Script}
 use Rattle.std.specs.List.{flat_map, AllByRecursion}
-use Rattle.ds_model.specs.Transactions.{Placed, placed_part, placed_phase}
+use Rattle.ds_model.specs.Transactions.{Placed, placed_part, placed_phase, placed}
 use Rattle.ds_model.specs.OneMember.{counted, IsName, IsOneMemberOp, IsOneMemberTran, IsOneMemberPhase}
+use Rattle.script_text.specs.Lines.{IsLine, spelled}
 use Rattle.script_text.specs.declared.draft.Place.{Place}
 use Rattle.script_text.specs.declared.draft.Place.TheVariants as place
 use Rattle.script_text.specs.declared.draft.Draft.{Draft}
@@ -126,3 +127,17 @@ pub record IsDraft (d : Draft) : Type 0 where
   pub count_is : d.count ≡ length (placed_so_far d) + open_count d.place
   pub count_fits : d.count ≤ 65536
   pub numbers : map (λ (p : Placed). p.1.number) (placed_so_far d) ≡ counted 1 (length (placed_so_far d))
+
+-- All that makes a script one of one member, but for its names, its phases' number and its text's length.
+pub record IsShaped (s : Script) : Type 0 where
+  pub no_groupfail : s.groupfails ≡ 0
+  pub phases_are : AllByRecursion IsOneMemberPhase s.phases
+  pub trans_short : length (placed s) ≤ 65536
+  pub numbers : map (λ (p : Placed). p.1.number) (placed s) ≡ counted 1 (length (placed s))
+
+-- These bytes are lines, and behind the draft they complete this script.
+pub record IsLeft (rest : List ℕ) (d : Draft) (s : Script) : Type 0 where
+  pub lines_left : List Line
+  pub are : AllByRecursion IsLine lines_left
+  pub text : rest ≡ spelled lines_left
+  pub completes : option_and_then whole (run d lines_left) ≡ Some s
