@@ -4,3 +4,5 @@ pub mod Texts
 pub mod Runs
 pub mod Keeps
 pub mod Lefts
+pub mod Rising
+pub mod Differs

@@ -3,6 +3,7 @@
 
 mod draft;
 mod line;
+mod names;
 mod read;
 mod words;
 mod write;
