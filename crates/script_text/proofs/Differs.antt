@@ -106,7 +106,7 @@ no_zeros name h = all_weaker IsNameByte (λ (b : ℕ). b ≢ 0) name_byte name (
 padded_apart : (a b : List ℕ) → IsName a → IsName b → padded a ≡ padded b → a ≡ b
 padded_apart a b h k e =
     let whole : a ++ replicate (16 - length a) 0 ≡ b ++ replicate (16 - length b) 0 =
-          ap (λ (x : List ℕ). x ++ replicate (16 - length a) 0) (sym (take_all 16 a h.1)) ∙ e ∙ ap (λ (x : List ℕ). x ++ replicate (16 - length b) 0) (take_all 16 b k.1) in
+    ap (λ (x : List ℕ). x ++ replicate (16 - length a) 0) (sym (take_all 16 a h.1)) ∙ e ∙ ap (λ (x : List ℕ). x ++ replicate (16 - length b) 0) (take_all 16 b k.1) in
     same_front a b (16 - length a) (16 - length b) (no_zeros a h) (no_zeros b k) whole
 
 -- ---- names that differ
@@ -136,9 +136,10 @@ apart_lacks n ns h c =
 
 lacks_apart : (n : List ℕ) (ns : List (List ℕ)) → IsName n → AllByRecursion IsName ns → (Contains ns n → ⊥) → AllByRecursion (λ (y : List ℕ). same_key (padded n) y ≡ false) (map padded ns)
 lacks_apart n [] h k c = tt
-lacks_apart n (m ∷ ns) h k c =
-    (not_true (same_key (padded n) (padded m)) (λ e. c (0, omega arith, sym (padded_apart n m h k.0 (key_same (padded n) (padded m) e)))),
-     lacks_apart n ns h k.1 (λ d. c (Contains-append_right (m ∷ []) ns n d)))
+lacks_apart n (m ∷ ns) h k c = (
+  not_true (same_key (padded n) (padded m)) (λ e. c (0, omega arith, sym (padded_apart n m h k.0 (key_same (padded n) (padded m) e)))),
+  lacks_apart n ns h k.1 (λ d. c (Contains-append_right (m ∷ []) ns n d)),
+)
 
 differ_from_distinct : (ns : List (List ℕ)) → IsDistinct same_key (map padded ns) → Differ ns
 differ_from_distinct [] h = tt
@@ -169,10 +170,10 @@ pub rising_from_differ : (ns xs ys : List (List ℕ)) → AllByRecursion IsName 
 rising_from_differ ns xs ys is e p s h =
     let distinct = IsDistinct-IsPermutation same_key key_flips xs ys p (subst (IsDistinct same_key) (sym e) (distinct_from_differ ns is h)) in
     sorted_from_all_adjacent nat_list_cmp_total ys [] (λ k l.
-      must_rise (slice_cmp nat_cmp (get_or ys k []) (get_or ys (k + 1) [])) (slice_cmp nat_cmp (get_or ys (k + 1) []) (get_or ys k []))
-        (nat_list_cmp_total.antisymm (get_or ys k []) (get_or ys (k + 1) []))
-        (apart_from_distinct same_key ys k (k + 1) [] distinct (omega arith) l)
-        (s k [] (omega arith) l))
+    must_rise (slice_cmp nat_cmp (get_or ys k []) (get_or ys (k + 1) [])) (slice_cmp nat_cmp (get_or ys (k + 1) []) (get_or ys k []))
+    (nat_list_cmp_total.antisymm (get_or ys k []) (get_or ys (k + 1) []))
+    (apart_from_distinct same_key ys k (k + 1) [] distinct (omega arith) l)
+    (s k [] (omega arith) l))
 
 pub names_of_script : (s : Script) → flat_map phase_names s.phases ≡ map padded (script_names s)
 names_of_script s = phases_are s.phases

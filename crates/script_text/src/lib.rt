@@ -9,4 +9,5 @@ mod words;
 mod write;
 
 pub use ds_model::{FailAt, Op, OpList, Part, PartList, Phase, PhaseList, Script, Tran, TranList};
+pub use read::{PHASES_LIMIT, TEXT_LIMIT, read_one_member};
 pub use write::script_bytes;

@@ -14,8 +14,9 @@ returns c =
     let xs = c.put_phase_names.new.names.items in
     let ys = c.sort_unstable.new.self.items in
     let all : c.put_phase_names.new.names.items ≡ map padded (script_names c.args.script.now) =
-          c.in_ok-put_phase_names.ensures ∙ ap (λ (l : List (List ℕ)). l ++ flat_map phase_names c.as_slice.result.now) c.new-names.ensures.items
-          ∙ ap (flat_map phase_names) c.as_slice.ensures ∙ names_of_script c.args.script.now in
-    (λ t. differ_from_rising ns xs ys all c.sort_unstable.ensures.permutation (subst (IsStrictlySortedBy (slice_cmp nat_cmp)) c.deref.ensures.value (c.all_rise.ensures.0 t)),
-     λ d. c.all_rise.ensures.1 (subst (IsStrictlySortedBy (slice_cmp nat_cmp)) (sym c.deref.ensures.value)
-       (rising_from_differ ns xs ys (names_are_names s c.requires.phases_are) all c.sort_unstable.ensures.permutation c.sort_unstable.ensures.sorted d)))
+    c.in_ok-put_phase_names.ensures ∙ ap (λ (l : List (List ℕ)). l ++ flat_map phase_names c.as_slice.result.now) c.new-names.ensures.items
+    ∙ ap (flat_map phase_names) c.as_slice.ensures ∙ names_of_script c.args.script.now in (
+      λ t. differ_from_rising ns xs ys all c.sort_unstable.ensures.permutation (subst (IsStrictlySortedBy (slice_cmp nat_cmp)) c.deref.ensures.value (c.all_rise.ensures.0 t)),
+      λ d. c.all_rise.ensures.1 (subst (IsStrictlySortedBy (slice_cmp nat_cmp)) (sym c.deref.ensures.value)
+          (rising_from_differ ns xs ys (names_are_names s c.requires.phases_are) all c.sort_unstable.ensures.permutation c.sort_unstable.ensures.sorted d)),
+    )
