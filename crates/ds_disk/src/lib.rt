@@ -4,6 +4,7 @@
 mod disk;
 mod health;
 mod memory;
+mod page_map;
 mod plan;
 
 pub use disk::{Disk, DiskError, DiskFailure, DiskOp};
