@@ -1,12 +1,21 @@
 ghost use Rattle.std.specs.Prelude.{◌≡◌, ℕ, ◌+◌, ◌-◌, ◌≤◌, ◌++◌, ◌⊎◌, min, List, Bool, Option, Some, length, take, drop};
 ghost use Rattle.std.specs.FinMap as map;
+ghost use Rattle.ds_disk.specs.declared.disk.DiskError.TheVariants as errors;
 
-use ds_base::{MemberId, PageId};
+use ds_base::{MemberId, NoMemory, PageId};
 
 #[derive(Clone, Copy, Debug, PartialEq, Eq)]
 pub enum DiskError {
     Failed,
     NoMemory,
+}
+
+impl From<NoMemory> for DiskError {
+    ghost from_gives = { λ _ e. e ≡ errors.NoMemory };
+
+    fn from(_: NoMemory) -> Self {
+        DiskError::NoMemory
+    }
 }
 
 #[derive(Clone, Copy, Debug, PartialEq, Eq)]

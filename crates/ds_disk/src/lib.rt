@@ -3,7 +3,9 @@
 
 mod disk;
 mod health;
+mod log_set;
 mod memory;
+
 mod page_map;
 mod plan;
 
