@@ -1,5 +1,5 @@
 -- The condition of a disk in memory, and how its next call goes.
-use Rattle.std.specs.Prelude.{◌≡◌, ℕ, ◌+◌, ◌-◌, ◌^◌, min, Bool, true, false, ◌&&◌, eqb, cond, List, [], ◌∷◌, Option, Some, None, Result, Ok, Err, IsOkAnd}
+use Rattle.std.specs.Prelude.{◌≡◌, ℕ, ◌+◌, ◌-◌, ◌^◌, nat_lt, if◌then◌else◌, Bool, true, false, ◌&&◌, eqb, cond, List, [], ◌∷◌, Option, Some, None, Result, Ok, Err, IsOkAnd}
 use Rattle.std.proofs.Common.{refl}
 use Rattle.std.specs.Coded.{Coded, code_by, coded×, coded_ℕ, coded_bool, coded_list}
 use Rattle.ds_disk.specs.declared.disk.DiskError.{DiskError}
@@ -27,7 +27,7 @@ healthy failures = record { alive = true; faults = 0; calls = no_calls; failures
 
 -- counts end at 2^64 - 1
 abbrev pub one_more : ℕ → ℕ
-one_more n = min (n + 1) (2 ^ 64 - 1)
+one_more n = if nat_lt n (2 ^ 64 - 1) then n + 1 else n
 
 abbrev pub calls_of : DiskOp → Calls → ℕ
 calls_of ReadPage c = c.read_page
