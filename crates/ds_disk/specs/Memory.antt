@@ -40,23 +40,26 @@ logs_when false held c is e = grind arith
 pub told_logs : (m : Memory) (c : Contents) → told m ≡ Some c → length c.logs ≡ 32
 told_logs m c e = logs_when (eqb (length m.contents.logs) 32) m.contents c refl e
 
--- whether a page write or a cut is done
+-- whether a page write or a cut is done, and whether an append keeps anything
 abbrev pub is_done : Course → Bool
 is_done Runs = true
 is_done Fails = false
 is_done (Dies k) = nat_lt 0 k
 
+-- a disk that dies in an append keeps its first k bytes, or all if it has fewer
+abbrev pub kept : Course → List ℕ → List ℕ
+kept Runs bytes = bytes
+kept Fails bytes = []
+kept (Dies k) bytes = take k bytes
+
 abbrev pub page_left : Course → Contents → PageId → List ℕ → Contents
 page_left way c id page = cond (is_done way) (record c { pages = map.insert c.pages id page }) c
 
+abbrev pub append_left : Course → Contents → ℕ → List ℕ → Contents
+append_left way c member bytes = cond (is_done way) (with_log c member (log_of c.logs member ++ kept way bytes)) c
+
 abbrev pub cut_left : Course → Contents → ℕ → ℕ → Contents
 cut_left way c member n = cond (is_done way) (with_log c member (take n (log_of c.logs member))) c
-
--- a disk that dies in an append keeps so many of its bytes, or all if it has fewer
-abbrev pub append_left : Course → Contents → ℕ → List ℕ → Contents
-append_left Runs c member bytes = with_log c member (log_of c.logs member ++ bytes)
-append_left Fails c member bytes = c
-append_left (Dies k) c member bytes = with_log c member (log_of c.logs member ++ take k bytes)
 
 -- how a call ends: Told is what Ok tells, and left what the disk holds afterwards
 pub record Ends {T : Type 0} (op : DiskOp) (old new : Memory) (result : Result T DiskError) (Told : T → Type 0) (left : Contents) : Type 0 where
@@ -64,10 +67,10 @@ pub record Ends {T : Type 0} (op : DiskOp) (old new : Memory) (result : Result T
   pub contents : new.contents ≡ left
   pub condition : new.condition ≡ after (course op old.condition) (counted op old.condition)
 
--- a call that wants memory is counted, whatever was planned for it, and nothing else changes
+-- a call that has something to keep and no memory for it is counted, and nothing else changes
 pub record Wants (op : DiskOp) (old new : Memory) (result : Result (Unit {0}) DiskError) : Type 0 where
   pub answer : result ≡ Err NoMemory
-  pub alive : old.condition.alive ≡ true
+  pub keeps : is_done (course op old.condition) ≡ true
   pub contents : new.contents ≡ old.contents
   pub condition : new.condition ≡ counted op old.condition
 

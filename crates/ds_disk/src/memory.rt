@@ -10,7 +10,6 @@ ghost use Rattle.ds_disk.specs.declared.disk.DiskOp.TheVariants.{ReadPage, Write
 use crate::health::Health;
 use crate::log_set::LogSet;
 use crate::page_map::PageMap;
-use crate::plan::Course;
 use crate::{Disk, DiskError, DiskFailure, DiskOp};
 use ds_base::{Bytes, MemberId, NoMemory, PageId};
 use std::alloc::Global;
@@ -50,6 +49,25 @@ impl MemoryDisk {
             health: Health::new(failures),
         })
     }
+
+    /// The same contents, on a disk that answers again.
+    pub fn reopen(self, failures: Vec<DiskFailure>) -> MemoryDisk
+        ensures { result ≡ record { contents = self.contents; condition = healthy failures.items } }
+    {
+        let MemoryDisk { pages, logs, health: _ } = self;
+        MemoryDisk {
+            pages,
+            logs,
+            health: Health::new(failures),
+        }
+    }
+
+    /// The bytes of a log, without a call of the disk.
+    pub fn log(&self, member: MemberId) -> &[u8]
+        ensures { result.now ≡ log_of self.now.contents.logs member }
+    {
+        self.logs.log(member)
+    }
 }
 
 impl Disk for MemoryDisk {
@@ -83,13 +101,8 @@ impl Disk for MemoryDisk {
         ensures ends { EndsOrWants AppendLog self.old self.new result (λ way. append_left way self.old.contents member bytes.now) }
     {
         let course = self.health.begin(DiskOp::AppendLog);
-        match course {
-            Course::Runs => self.logs.append(member, bytes)?,
-            Course::Fails => {}
-            Course::Dies(done) => {
-                let count = bytes.len().min(done as usize);
-                self.logs.append(member, &bytes[..count])?;
-            }
+        if course.is_done() {
+            self.logs.append(member, course.kept(bytes))?;
         }
         self.health.end(course)
     }
