@@ -4,8 +4,8 @@ use Rattle.std.proofs.Common.{refl, arith}
 use Rattle.std.specs.Coded.{Coded, code_by, coded×, coded_ℕ, coded_list}
 use Rattle.std.specs.FinMap as map
 use Rattle.ds_base.specs.declared.names.PageId.{PageId}
-use Rattle.ds_disk.specs.Pages.{Pages, coded_page, with_pages}
-use Rattle.ds_disk.specs.Contents.{Contents, log_of, with_log}
+use Rattle.ds_disk.specs.Pages.{Pages, coded_page, put_pages}
+use Rattle.ds_disk.specs.Contents.{Contents, log_of, with_log, put_logs}
 use Rattle.ds_disk.specs.Conditions.{Condition, healthy, course, counted, after, Answered}
 use Rattle.ds_disk.specs.declared.disk.DiskError.{DiskError}
 use Rattle.ds_disk.specs.declared.disk.DiskError.TheVariants.{NoMemory}
@@ -22,6 +22,10 @@ pub record Memory : Type 0 where
 -- no pages, and empty logs
 abbrev pub nothing : Contents
 nothing = record { pages = map.empty; logs = replicate 32 [] }
+
+-- these pages and logs, the last of those with one name
+abbrev pub holding : List (PageId × List ℕ) → List (ℕ × List ℕ) → Contents
+holding pages logs = record { pages = put_pages map.empty pages; logs = put_logs (replicate 32 []) logs }
 
 abbrev pub contents_code : Coded Contents
 contents_code = code_by (Pages × List (List ℕ)) (coded× (map.code coded_page (coded_list coded_ℕ)) (coded_list (coded_list coded_ℕ))) (λ c. (c.pages, c.logs)) (λ q. record { pages = q.0; logs = q.1 }) (λ _. refl)

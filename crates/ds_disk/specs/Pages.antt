@@ -24,10 +24,10 @@ Pages = map.FinMap page_cmp (List ℕ)
 abbrev pub page_at : Pages → PageId → List ℕ
 page_at pages id = unwrap_or (map.get pages id) (replicate 4096 0)
 
--- these pages are written in turn
-abbrev pub with_pages : Pages → List (PageId × List ℕ) → Pages
-with_pages pages [] = pages
-with_pages pages (e ∷ es) = with_pages (map.insert pages e.0 e.1) es
+-- these pages are written in turn, so that the last with a name stands
+abbrev pub put_pages : Pages → List (PageId × List ℕ) → Pages
+put_pages pages [] = pages
+put_pages pages (e ∷ es) = put_pages (map.insert pages e.0 e.1) es
 
 -- as a pair of numbers
 abbrev pub coded_page : Coded PageId

@@ -1,6 +1,6 @@
 //! The logs of a disk in memory, one for each member.
 ghost use Rattle.std.specs.Prelude.{◌≡◌, ◌-◌, [], ◌++◌, length, take, replicate, slice_set, vec_len, IfOk, OnOk, OnErr};
-ghost use Rattle.ds_disk.specs.Contents.{log_of};
+ghost use Rattle.ds_disk.specs.Contents.{log_of, put_logs};
 
 use ds_base::{Bytes, MemberId, NoMemory};
 use std::alloc::Global;
@@ -63,5 +63,25 @@ impl LogSet {
         ensures count { Rattle.std.specs.Prelude.length self.new ≡ 32 }
     {
         self.logs[member.number() as usize - 1].truncate(length as usize);
+    }
+
+    fn put(&mut self, alloc: Global, member: MemberId, bytes: &[u8]) -> Result<(), NoMemory>
+        ensures ok { OnOk result (self.new ≡ slice_set self.old (member - 1) bytes.now) }
+        ensures err { OnErr result (self.new ≡ self.old) }
+    {
+        let mut log = Bytes::new(alloc);
+        log.extend(bytes)?;
+        self.logs[member.number() as usize - 1] = log;
+        Ok(())
+    }
+
+    pub fn put_all(&mut self, alloc: Global, logs: &[(MemberId, Bytes)]) -> Result<(), NoMemory>
+        ensures put { OnOk result (self.new ≡ put_logs self.old logs.now) }
+        ensures count { length self.new ≡ length self.old }
+    {
+        for (member, bytes) in logs {
+            self.put(alloc, *member, bytes.as_slice())?;
+        }
+        Ok(())
     }
 }

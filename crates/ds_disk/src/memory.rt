@@ -1,10 +1,10 @@
-ghost use Rattle.std.specs.Prelude.{◌≡◌, ◌⊎◌, ◌-◌, ◌≤◌, List, length, take, drop, min, replicate, IfOk};
+ghost use Rattle.std.specs.Prelude.{◌≡◌, ◌⊎◌, ◌-◌, ◌≤◌, List, All, length, take, drop, min, replicate, IfOk};
 ghost use Rattle.std.specs.FinMap as map;
 ghost use Rattle.ds_base.specs.Causes.{Rose};
 ghost use Rattle.ds_disk.specs.Pages.{page_at};
 ghost use Rattle.ds_disk.specs.Contents.{log_of};
 ghost use Rattle.ds_disk.specs.Conditions.{healthy, course};
-ghost use Rattle.ds_disk.specs.Memory.{Ends, EndsOrWants, nothing, append_left, cut_left, page_left, told, told_logs};
+ghost use Rattle.ds_disk.specs.Memory.{Ends, EndsOrWants, holding, nothing, append_left, cut_left, page_left, told, told_logs};
 ghost use Rattle.ds_disk.specs.declared.disk.DiskOp.TheVariants.{ReadPage, WritePage, AppendLog, LogLength, ReadLog, CutLog};
 
 use crate::health::Health;
@@ -48,6 +48,22 @@ impl MemoryDisk {
             logs: LogSet::new(alloc)?,
             health: Health::new(failures),
         })
+    }
+
+    /// A disk with these pages and logs. Of two with one name the later stands.
+    pub fn of(
+        alloc: Global,
+        pages: Vec<(PageId, Bytes)>,
+        logs: Vec<(MemberId, Bytes)>,
+        failures: Vec<DiskFailure>,
+    ) -> Result<MemoryDisk, NoMemory>
+        requires { All (λ page. length page.1 ≡ 4096) pages.items }
+        ensures { IfOk result (λ disk. disk ≡ record { contents = holding pages.items logs.items; condition = healthy failures.items }) }
+    {
+        let mut disk = MemoryDisk::new(alloc, failures)?;
+        disk.pages.write_all(&pages)?;
+        disk.logs.put_all(alloc, &logs)?;
+        Ok(disk)
     }
 
     /// The same contents, on a disk that answers again.

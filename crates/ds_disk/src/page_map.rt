@@ -1,9 +1,9 @@
 //! The pages of a disk in memory, in the order of their names.
-ghost use Rattle.std.specs.Prelude.{◌≡◌, IfOk, OnOk, OnErr};
+ghost use Rattle.std.specs.Prelude.{◌≡◌, length, All, IfOk, OnOk, OnErr};
 ghost use Rattle.std.specs.FinMap as map;
-ghost use Rattle.ds_disk.specs.Pages.{page_at, page_cmp};
+ghost use Rattle.ds_disk.specs.Pages.{page_at, put_pages};
 
-use ds_base::{NoMemory, PageId};
+use ds_base::{Bytes, NoMemory, PageId};
 use std::alloc::Global;
 use std::collections::BTreeMap;
 use std::marker::Model;
@@ -82,6 +82,18 @@ impl PageMap {
     {
         let page = Page::new(self.alloc, from)?;
         self.written.insert(id, page)?;
+        Ok(())
+    }
+
+    pub fn write_all(&mut self, pages: &[(PageId, Bytes)]) -> Result<(), NoMemory>
+        requires { All (λ page. length page.1 ≡ 4096) pages.now }
+        ensures { OnOk result (self.new ≡ put_pages self.old pages.now) }
+    {
+        for (id, bytes) in pages {
+            let mut page = [0; 4096];
+            page.copy_from_slice(bytes.as_slice());
+            self.write(*id, &page)?;
+        }
         Ok(())
     }
 }
