@@ -33,8 +33,11 @@ module _ (old new : Memory) (result : Result (Unit {0}) DiskError) (member : ℕ
   failed_by Runs a h c n f = absurd (grind arith)
   failed_by Fails a h c n f = inl (grind arith, told_when (eqb (length old.contents.logs) 32) (eqb (length new.contents.logs) 32) old.contents new.contents Same (ap (λ k. eqb k 32) (sym n)) c)
   failed_by (Dies k) a h c n f =
-      inr (grind arith, told_when (eqb (length old.contents.logs) 32) (eqb (length new.contents.logs) 32) old.contents new.contents (Appended member bytes) (ap (λ k. eqb k 32) (sym n))
-          (subst (λ d. Appended member bytes old.contents d) (sym c) (torn k old.contents member bytes)))
+      inr (
+        grind arith,
+        told_when (eqb (length old.contents.logs) 32) (eqb (length new.contents.logs) 32) old.contents new.contents (Appended member bytes) (ap (λ k. eqb k 32) (sym n))
+            (subst (λ d. Appended member bytes old.contents d) (sym c) (torn k old.contents member bytes)),
+      )
 
   as_many : (way : Course) → new.contents ≡ append_left way old.contents member bytes → length new.contents.logs ≡ length old.contents.logs
   as_many Runs c = grind (arith, length-set)

@@ -70,7 +70,11 @@ impl MemoryDisk {
     pub fn reopen(self, failures: Vec<DiskFailure>) -> MemoryDisk
         ensures { result ≡ record { contents = self.contents; condition = healthy failures.items } }
     {
-        let MemoryDisk { pages, logs, health: _ } = self;
+        let MemoryDisk {
+            pages,
+            logs,
+            health: _,
+        } = self;
         MemoryDisk {
             pages,
             logs,
