@@ -1,6 +1,6 @@
 -- What an append leaves on a disk in memory that dies in it.
-use Rattle.std.specs.Prelude.{◌≡◌, ◌⊎◌, ℕ, ◌-◌, ◌≤◌, min, List, [], ◌++◌, length, take, slice_set, Bool, true, false, cond, eqb, Option, Some, None, Result, Ok, Err, IsErrOf}
-use Rattle.std.proofs.Common.{inl, inr, zero, suc, refl, sym, ap, subst, ◌∙◌, arith, append-nil}
+use Rattle.std.specs.Prelude.{◌≡◌, ◌⊎◌, ℕ, ◌-◌, min, List, [], ◌++◌, length, take, Bool, true, false, cond, eqb, Some, None, Result, IsErrOf}
+use Rattle.std.proofs.Common.{inl, inr, zero, suc, sym, ap, subst, ◌∙◌, arith, append-nil}
 use Rattle.std.proofs.lemmas.List.{set-get_or, length-set, take_min}
 use Rattle.ds_disk.specs.Answers.{Appended}
 use Rattle.ds_disk.specs.Contents.{Contents, log_of, with_log, Becomes, Same}

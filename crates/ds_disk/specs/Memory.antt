@@ -1,15 +1,14 @@
 -- A disk in memory, as contracts see it, and how its calls end.
-use Rattle.std.specs.Prelude.{◌≡◌, ◌⊎◌, ℕ, ◌-◌, Bool, true, false, cond, eqb, nat_lt, List, [], ◌++◌, length, take, replicate, Option, Some, None, Result, Err}
+use Rattle.std.specs.Prelude.{◌≡◌, ◌⊎◌, ℕ, Bool, true, false, cond, eqb, nat_lt, List, [], ◌++◌, length, take, replicate, Option, Some, None, Result, Err}
 use Rattle.std.proofs.Common.{refl, arith}
 use Rattle.std.specs.Coded.{Coded, code_by, coded×, coded_ℕ, coded_list}
 use Rattle.std.specs.FinMap as map
 use Rattle.ds_base.specs.declared.names.PageId.{PageId}
 use Rattle.ds_disk.specs.Pages.{Pages, coded_page, put_pages}
 use Rattle.ds_disk.specs.Contents.{Contents, log_of, with_log, put_logs}
-use Rattle.ds_disk.specs.Conditions.{Condition, healthy, course, counted, after, Answered}
+use Rattle.ds_disk.specs.Conditions.{Condition, course, counted, after, Answered}
 use Rattle.ds_disk.specs.declared.disk.DiskError.{DiskError}
 use Rattle.ds_disk.specs.declared.disk.DiskError.TheVariants.{NoMemory}
-use Rattle.ds_disk.specs.declared.disk.DiskFailure.{DiskFailure}
 use Rattle.ds_disk.specs.declared.disk.DiskOp.{DiskOp}
 use Rattle.ds_disk.specs.declared.plan.Course.{Course}
 use Rattle.ds_disk.specs.declared.plan.Course.TheVariants.{Runs, Fails, Dies}

@@ -1,4 +1,4 @@
-use Rattle.std.proofs.Common.{◌≡◌, ◌∙◌, Some, None}
+use Rattle.std.proofs.Common.{◌∙◌, Some, None}
 use Rattle.ds_disk.proofs.FoundPages.{page_found}
 use Rattle.ds_disk.proofs.page_map.PageMap.read.Goals as goal
 

@@ -1,4 +1,4 @@
-use Rattle.std.proofs.Common.{◌≡◌, ◌∙◌, ap}
+use Rattle.std.proofs.Common.{◌∙◌, ap}
 use Rattle.std.specs.FinMap as map
 use Rattle.ds_disk.specs.Pages.{Pages}
 use Rattle.ds_disk.proofs.FoundPages.{one_written}
