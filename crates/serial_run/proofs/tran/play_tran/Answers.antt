@@ -1,5 +1,6 @@
-use Rattle.std.proofs.Common.{◌≡◌, ℕ, List, ◌++◌, All, Err, sym, ap, subst, ◌∙◌}
-use Rattle.std.proofs.lemmas.List.Elements.{recursion_from_All, All-from_recursion}
+use Rattle.std.proofs.Common.{◌≡◌, ℕ, List, ◌++◌, Err, sym, ap, subst, ◌∙◌}
+use Rattle.std.specs.List.{AllByRecursion}
+use Rattle.std.proofs.lemmas.List.Elements.{recursion_from_All}
 use Rattle.ds_model.specs.declared.log.LogRecord.{LogRecord}
 use Rattle.ds_model.specs.RecordBytes.{log_bytes, IsAllowed, Fits}
 use Rattle.ds_disk.specs.Contents.{log_of, with_log, Becomes}
@@ -14,7 +15,7 @@ use Rattle.serial_run.proofs.tran.play_tran.Goals as goal
 
 pub records_bytes-requires : goal.records_bytes-requires
 records_bytes-requires g c =
-    subst (All Fits) (sym (c.as_slice.ensures ∙ c.in_ok-draft.ensures.records)) (All-from_recursion Fits _ (all_fit c.args.state.now c.args.ops.now))
+    record { fit = subst (AllByRecursion Fits) (sym (c.as_slice.ensures ∙ c.in_ok-draft.ensures.records)) (all_fit c.args.state.now c.args.ops.now) }
 
 pub returns-in_ok-undo-in-Err-Failed-clause-plays : goal.returns-in_ok-undo-in-Err-Failed-clause-plays
 returns-in_ok-undo-in-Err-Failed-clause-plays g c =
@@ -44,7 +45,7 @@ returns-in-Ok-clause-plays g c =
     record {
       state = c.in_ok-draft.ensures.state;
       reads_are = c.in_ok-draft.ensures.reads;
-      allowed = recursion_from_All IsAllowed (records_of was ops) (subst (All IsAllowed) its c.in_ok-bytes.ensures.allowed);
+      allowed = subst (AllByRecursion IsAllowed) its c.in_ok-bytes.ensures.allowed;
       alive = done.1;
       log = subst (λ (bs : List ℕ). Becomes before after (λ x y. y ≡ with_log x c.args.member (log_of x.logs c.args.member ++ bs))) bytes done.2;
     }
