@@ -2,6 +2,7 @@ use super::*;
 use ds_base::{Bytes, MemberId, MemorySink, MemorySource, ReadSource, WriteSink};
 use ds_disk::{DiskFailure, DiskOp, MemoryDisk};
 use std::alloc::Global;
+use std::process::Abort;
 use std::sync::Wait;
 use std::test::Fail;
 use std::thread::Threads;
@@ -12,207 +13,129 @@ const HELLO: &str =
 
 const HELLO_REPORT: &str = "dsgroup 1\ncommitted a M1 answered\ncommitted b M1 answered\nread 1 10 =hello\nrows 1\nrow 1 10 =hello\nend 0\n";
 
-/// What stands around a call: its words, its script, and what fails.
-#[derive(Drop)]
-struct Setting {
-    words: Vec<String>,
-    script: Bytes,
-    source_fails: Vec<u64>,
-    sink_fails: Vec<u64>,
-    disk: MemoryDisk,
+/// Which call fails, from 1; 0 fails none.
+#[derive(Clone, Copy)]
+struct Faults {
+    source: u64,
+    sink: u64,
+    disk: Option<(DiskOp, u64)>,
 }
 
-fn setting(alloc: Global, word: &str, script: &str) -> Result<Setting, Fail> {
-    let mut words = Vec::new(alloc);
-    words.push(String::from_str(alloc, word)?)?;
-    Ok(Setting {
-        words,
-        script: Bytes::from_vec(script.as_bytes().to_vec(alloc)?),
-        source_fails: Vec::new(alloc),
-        sink_fails: Vec::new(alloc),
-        disk: MemoryDisk::new(alloc, Vec::new(alloc))?,
-    })
-}
+const NO_FAULTS: Faults = Faults {
+    source: 0,
+    sink: 0,
+    disk: None,
+};
 
-fn failing(alloc: Global, call: DiskOp) -> Result<MemoryDisk, Fail> {
+fn disk_with(alloc: Global, fault: Option<(DiskOp, u64)>) -> Result<MemoryDisk, Fail> {
     let mut failures = Vec::new(alloc);
-    failures.push(DiskFailure {
-        call,
-        number: 1,
-        dies: None,
-    })?;
+    if let Some((call, number)) = fault {
+        failures.push(DiskFailure {
+            call,
+            number,
+            dies: None,
+        })?;
+    }
     Ok(MemoryDisk::new(alloc, failures)?)
 }
 
-fn played<R: Threads + Wait + Sync>(
+fn source_of(alloc: Global, script: &str, fault: u64) -> Result<MemorySource, Fail> {
+    let bytes = Bytes::from_vec(script.as_bytes().to_vec(alloc)?);
+    Ok(MemorySource::new(bytes, 7, vec![in alloc; fault]?))
+}
+
+fn words_of(alloc: Global, word: &str) -> Result<Vec<String>, Fail> {
+    let mut words = Vec::new(alloc);
+    words.push(String::from_str(alloc, word)?)?;
+    Ok(words)
+}
+
+/// Plays on the disk, compares the status and what the sink has taken, and hands the disk on.
+fn plays<R: Threads + Wait + Sync + Abort>(
     rt: &R,
     alloc: Global,
-    setting: Setting,
-) -> Result<(Finished<MemoryDisk>, MemorySink), Fail> {
-    let mut source = MemorySource::new(setting.script, 7, setting.source_fails);
-    let mut sink = MemorySink::new(alloc, 1000, setting.sink_fails)?;
-    let finished = play(
-        rt,
-        alloc,
-        &setting.words,
-        &mut source,
-        &mut sink,
-        setting.disk,
-        &OpenGate,
-    );
-    Ok((finished, sink))
+    disk: MemoryDisk,
+    (word, script): (&str, &str),
+    faults: Faults,
+    (status, text): (Status, &str),
+) -> Result<MemoryDisk, Fail> {
+    let words = words_of(alloc, word)?;
+    let mut source = source_of(alloc, script, faults.source)?;
+    let mut sink = MemorySink::new(alloc, 1000, vec![in alloc; faults.sink]?)?;
+    let finished = play(rt, alloc, &words, &mut source, &mut sink, disk, &OpenGate);
+    assert_eq!(rt; finished.status, status);
+    assert_eq!(rt; sink.taken(), text.as_bytes());
+    Ok(finished.disk)
 }
 
-#[test]
-fn a_row_is_put_and_read_in_a_later_phase(rt: HostRuntime) -> Result<(), Fail> {
-    let alloc = rt.alloc();
-    let (finished, sink) = played(&rt, alloc, setting(alloc, "play", HELLO)?)?;
-    assert_eq!(rt; finished.status, Status::Done);
-    assert!(rt; finished.opened);
-    assert_eq!(rt; sink.taken(), HELLO_REPORT.as_bytes());
+fn plays_anew<R: Threads + Wait + Sync + Abort>(
+    rt: &R,
+    alloc: Global,
+    order: (&str, &str),
+    faults: Faults,
+    told: (Status, &str),
+) -> Result<(), Fail> {
+    let disk = disk_with(alloc, faults.disk)?;
+    let _disk = plays(rt, alloc, disk, order, faults, told)?;
     Ok(())
 }
 
 #[test]
-fn the_log_holds_each_transaction_as_one_append(rt: HostRuntime) -> Result<(), Fail> {
+fn a_row_is_put_and_read_and_its_log_is_left(rt: HostRuntime) -> Result<(), Fail> {
     let alloc = rt.alloc();
-    let (finished, _sink) = played(&rt, alloc, setting(alloc, "play", HELLO)?)?;
     let member = MemberId::new(1).ok_or("member")?;
+    let disk = disk_with(alloc, None)?;
+    let disk = plays(&rt, alloc, disk, ("play", HELLO), NO_FAULTS, (Status::Done, HELLO_REPORT))?;
     // A changed row of 46 bytes and its commit, and then the commit of the reader, each of 22.
-    assert_eq!(rt; finished.disk.log(member).len(), 46 + 22 + 22);
+    assert_eq!(rt; disk.log(member).len(), 90);
+    // A disk with a log is left as it is.
+    let again = plays(&rt, alloc, disk, ("play", HELLO), NO_FAULTS, (Status::NotYet, "not yet\n"))?;
+    assert_eq!(rt; again.log(member).len(), 90);
     Ok(())
 }
 
 #[test]
-fn the_empty_script_has_an_empty_report(rt: HostRuntime) -> Result<(), Fail> {
+fn orders_and_scripts_are_settled_first(rt: HostRuntime) -> Result<(), Fail> {
     let alloc = rt.alloc();
-    let (finished, sink) = played(&rt, alloc, setting(alloc, "play", "")?)?;
-    assert_eq!(rt; finished.status, Status::Done);
-    assert_eq!(rt; sink.taken(), b"dsgroup 1\nrows 0\nend 0\n".as_slice());
-    Ok(())
+    let later = "phase\nmember 2\ntran a\nput 1 10 =hello\nend\n";
+    let empty = "dsgroup 1\nrows 0\nend 0\n";
+    plays_anew(&rt, alloc, ("play", ""), NO_FAULTS, (Status::Done, empty))?;
+    plays_anew(&rt, alloc, ("show", HELLO), NO_FAULTS, (Status::WordsRefused, "words refused\n"))?;
+    plays_anew(&rt, alloc, ("play", later), NO_FAULTS, (Status::NotYet, "not yet\n"))
 }
 
 #[test]
-fn words_that_are_no_order_are_refused(rt: HostRuntime) -> Result<(), Fail> {
+fn faults_of_the_ends_are_told(rt: HostRuntime) -> Result<(), Fail> {
     let alloc = rt.alloc();
-    let (finished, sink) = played(&rt, alloc, setting(alloc, "show", HELLO)?)?;
-    assert_eq!(rt; finished.status, Status::WordsRefused);
-    assert!(rt; !finished.opened);
-    assert_eq!(rt; sink.taken(), b"words refused\n".as_slice());
-    Ok(())
+    let source = Faults { source: 1, sink: 0, disk: None };
+    plays_anew(&rt, alloc, ("play", HELLO), source, (Status::SourceFailed, "source failed\n"))?;
+    let sink = Faults { source: 0, sink: 1, disk: None };
+    plays_anew(&rt, alloc, ("play", HELLO), sink, (Status::SinkFailed, ""))
 }
 
 #[test]
-fn scripts_of_later_stages_are_not_yet_played(rt: HostRuntime) -> Result<(), Fail> {
+fn faults_of_the_disk_are_told(rt: HostRuntime) -> Result<(), Fail> {
     let alloc = rt.alloc();
-    let script = "phase\nmember 2\ntran a\nput 1 10 =hello\nend\n";
-    let (finished, sink) = played(&rt, alloc, setting(alloc, "play", script)?)?;
-    assert_eq!(rt; finished.status, Status::NotYet);
-    assert_eq!(rt; sink.taken(), b"not yet\n".as_slice());
-    Ok(())
-}
-
-#[test]
-fn a_disk_with_a_log_is_left_as_it_is(rt: HostRuntime) -> Result<(), Fail> {
-    let alloc = rt.alloc();
-    let (first, _sink) = played(&rt, alloc, setting(alloc, "play", HELLO)?)?;
-    let mut second = setting(alloc, "play", HELLO)?;
-    second.disk = first.disk.reopen(Vec::new(alloc));
-    let (finished, sink) = played(&rt, alloc, second)?;
-    assert_eq!(rt; finished.status, Status::NotYet);
-    assert_eq!(rt; sink.taken(), b"not yet\n".as_slice());
-    let member = MemberId::new(1).ok_or("member")?;
-    assert_eq!(rt; finished.disk.log(member).len(), 90);
-    Ok(())
-}
-
-#[test]
-fn a_source_that_fails_is_told(rt: HostRuntime) -> Result<(), Fail> {
-    let alloc = rt.alloc();
-    let mut setting = setting(alloc, "play", HELLO)?;
-    setting.source_fails.push(1)?;
-    let (finished, sink) = played(&rt, alloc, setting)?;
-    assert_eq!(rt; finished.status, Status::SourceFailed);
-    assert_eq!(rt; sink.taken(), b"source failed\n".as_slice());
-    Ok(())
-}
-
-#[test]
-fn a_sink_that_fails_takes_nothing(rt: HostRuntime) -> Result<(), Fail> {
-    let alloc = rt.alloc();
-    let mut setting = setting(alloc, "play", HELLO)?;
-    setting.sink_fails.push(1)?;
-    let (finished, sink) = played(&rt, alloc, setting)?;
-    assert_eq!(rt; finished.status, Status::SinkFailed);
-    assert!(rt; finished.opened);
-    assert_eq!(rt; sink.taken(), b"".as_slice());
-    Ok(())
-}
-
-#[test]
-fn a_log_length_that_fails_is_told(rt: HostRuntime) -> Result<(), Fail> {
-    let alloc = rt.alloc();
-    let mut setting = setting(alloc, "play", HELLO)?;
-    setting.disk = failing(alloc, DiskOp::LogLength)?;
-    let (finished, sink) = played(&rt, alloc, setting)?;
-    assert_eq!(rt; finished.status, Status::DiskFailed);
-    assert!(rt; !finished.opened);
-    assert_eq!(rt; sink.taken(), b"disk failed\n".as_slice());
-    Ok(())
-}
-
-#[test]
-fn an_append_that_fails_stops_all_behind_it(rt: HostRuntime) -> Result<(), Fail> {
-    let alloc = rt.alloc();
-    let mut setting = setting(alloc, "play", HELLO)?;
-    setting.disk = failing(alloc, DiskOp::AppendLog)?;
-    let (finished, sink) = played(&rt, alloc, setting)?;
-    assert_eq!(rt; finished.status, Status::DiskFailed);
-    assert!(rt; finished.opened);
-    assert_eq!(rt;
-        sink.taken(),
-        b"dsgroup 1\nstopped a M1\nstopped b M1\nrows 0\nend 5\n".as_slice()
-    );
-    Ok(())
-}
-
-#[test]
-fn a_row_that_was_overwritten_comes_back(rt: HostRuntime) -> Result<(), Fail> {
-    let alloc = rt.alloc();
+    let length = Faults { source: 0, sink: 0, disk: Some((DiskOp::LogLength, 1)) };
+    plays_anew(&rt, alloc, ("play", HELLO), length, (Status::DiskFailed, "disk failed\n"))?;
+    let append = Faults { source: 0, sink: 0, disk: Some((DiskOp::AppendLog, 1)) };
+    let stopped = "dsgroup 1\nstopped a M1\nstopped b M1\nrows 0\nend 5\n";
+    plays_anew(&rt, alloc, ("play", HELLO), append, (Status::DiskFailed, stopped))?;
     let script = "phase\nmember 1\ntran a\nput 1 1 =old\nend\ntran b\nput 1 1 =new\nput 1 2 =x\nget 1 1\nend\n";
-    let mut setting = setting(alloc, "play", script)?;
-    let mut failures = Vec::new(alloc);
-    failures.push(DiskFailure {
-        call: DiskOp::AppendLog,
-        number: 2,
-        dies: None,
-    })?;
-    setting.disk = MemoryDisk::new(alloc, failures)?;
-    let (finished, sink) = played(&rt, alloc, setting)?;
-    assert_eq!(rt; finished.status, Status::DiskFailed);
-    assert_eq!(rt;
-        sink.taken(),
-        b"dsgroup 1\ncommitted a M1 answered\nstopped b M1\nrows 1\nrow 1 1 =old\nend 5\n".as_slice()
-    );
-    Ok(())
+    let second = Faults { source: 0, sink: 0, disk: Some((DiskOp::AppendLog, 2)) };
+    let restored = "dsgroup 1\ncommitted a M1 answered\nstopped b M1\nrows 1\nrow 1 1 =old\nend 5\n";
+    plays_anew(&rt, alloc, ("play", script), second, (Status::DiskFailed, restored))
 }
 
 #[test]
-fn the_source_and_the_sink_may_be_any_reader_and_writer(rt: HostRuntime) -> Result<(), Fail> {
+fn any_reader_and_writer_will_do(rt: HostRuntime) -> Result<(), Fail> {
     let alloc = rt.alloc();
-    let setting = setting(alloc, "play", HELLO)?;
+    let words = words_of(alloc, "play")?;
+    let disk = disk_with(alloc, None)?;
     let mut source = ReadSource::new(HELLO.as_bytes());
     let mut taken = Vec::new(alloc);
     let mut sink = WriteSink::new(&mut taken);
-    let finished = play(
-        &rt,
-        alloc,
-        &setting.words,
-        &mut source,
-        &mut sink,
-        setting.disk,
-        &OpenGate,
-    );
+    let finished = play(&rt, alloc, &words, &mut source, &mut sink, disk, &OpenGate);
     assert_eq!(rt; finished.status, Status::Done);
     assert_eq!(rt; taken.as_slice(), HELLO_REPORT.as_bytes());
     Ok(())
