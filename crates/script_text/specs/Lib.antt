@@ -1,0 +1,5 @@
+pub mod Words
+pub mod Lines
+pub mod Drafts
+pub mod Names
+pub mod None
