@@ -17,15 +17,10 @@ use Rattle.script_text.specs.declared.draft.Place.TheVariants as place
 use Rattle.script_text.specs.declared.draft.Draft.{Draft}
 use Rattle.script_text.specs.declared.line.Line.{Line}
 use Rattle.script_text.specs.declared.line.Line.TheVariants as lines
+use Rattle.script_text.proofs.Lists.{all_push}
 use Rattle.script_text.specs.Lines.{IsLine}
-use Rattle.script_text.specs.Drafts.{start, phase_with, part_of, closed_at, closed, part_begun, tran_begun, op_taken, tran_ended, step_phase, step_member, step_tran, step_op, step_end, step, placed_trans, placed_at, placed_so_far, open_count, IsPlace, IsDraft, whole, IsShaped}
-
-abbrev draft_at : List Phase → ℕ → Place → Draft
-draft_at phases count p = record { phases = phases; count = count; place = p }
-
-all_push : {A : Type 0} (P : A → Type 0) (xs : List A) (x : A) → AllByRecursion P xs → P x → AllByRecursion P (xs ++ x ∷ [])
-all_push P [] x h k = (k, tt)
-all_push P (y ∷ ys) x h k = (h.0, all_push P ys x h.1 k)
+use Rattle.script_text.specs.Drafts.{draft_at, start, phase_with, part_of, closed_at, closed, part_begun, tran_begun, op_taken, tran_ended, step_phase, step_member, step_tran, step_op, step_end, step, whole}
+use Rattle.script_text.specs.Kept.{placed_trans, placed_at, placed_so_far, open_count, IsPlace, IsDraft, IsShaped}
 
 counted_push : (c n : ℕ) → counted c (suc n) ≡ counted c n ++ (c + n) ∷ []
 counted_push c zero = ap (λ (m : ℕ). m ∷ []) (omega arith)

@@ -17,10 +17,7 @@ use Rattle.script_text.specs.declared.draft.Draft.{Draft}
 use Rattle.script_text.specs.declared.line.Line.{Line}
 use Rattle.script_text.specs.declared.line.Line.TheVariants as lines
 use Rattle.script_text.specs.Lines.{tran_lines, part_lines, phase_lines, script_lines}
-use Rattle.script_text.specs.Drafts.{start, phase_with, part_of, closed_at, closed, step, run, whole}
-
-abbrev draft_at : List Phase → ℕ → Place → Draft
-draft_at phases count p = record { phases = phases; count = count; place = p }
+use Rattle.script_text.specs.Drafts.{draft_at, start, phase_with, part_of, closed_at, closed, step, run, whole}
 
 below : (m n : ℕ) → m < n → nat_lt m n ≡ true
 below m n h = grind (arith, nat_tests)

@@ -4,6 +4,7 @@ ghost use Rattle.std.specs.Prelude.{◌==◌};
 ghost use Rattle.script_text.specs.Words.{IsCut};
 ghost use Rattle.ds_model.specs.OneMember.{IsName};
 
+use crate::limits::NAME_LIMIT;
 use std::str;
 
 // Where the separator stands first.
@@ -49,7 +50,7 @@ pub fn is_name(bytes: &[u8]) -> bool
     ensures { IsTrue result ↔ IsName bytes.now }
 {
     1 <= bytes.len()
-        && bytes.len() <= 16
+        && bytes.len() <= NAME_LIMIT
         && bytes
             .iter()
             .all(|b| b.is_ascii_alphanumeric() || *b == b'-' || *b == b'_')
