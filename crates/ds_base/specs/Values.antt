@@ -1,6 +1,6 @@
 -- What may stand in a row.
 use Rattle.std.specs.Prelude.{◌≡◌, ℕ, ◌-◌, ◌≤◌, List, ◌++◌, length, take, drop, replicate, All}
-use Rattle.std.proofs.Common.{arith, sym, ap, ◌∙◌, length-take, length-append}
+use Rattle.std.proofs.Common.{arith, sym, ap, ◌∙◌, length-take}
 use Rattle.std.proofs.lemmas.List.{take-append-drop}
 
 abbrev pub IsValueByte : ℕ → Type 0

@@ -4,7 +4,7 @@ ghost use Rattle.ds_base.specs.Ids.{IsMember, IsTable, IsLrsn};
 
 use std::marker::Model;
 
-/// No new change draws a number above this one: the numbers from here on are for compensations.
+/// The last number that new work draws. The numbers above it are for compensations alone.
 pub const LRSN_LIMIT: u64 = (1 << 48) - (1 << 24);
 
 /// A member of the group, 1 to 32.

@@ -1,4 +1,4 @@
-ghost use Rattle.std.specs.Prelude.{◌≡◌, ℕ, ◌-◌, ◌≤◌, List, ◌++◌, take, drop, length, replicate, IfOk};
+ghost use Rattle.std.specs.Prelude.{◌≡◌, ℕ, ◌-◌, ◌≤◌, List, ◌++◌, take, drop, length, replicate, IfOk, IsOk};
 ghost use Rattle.std.specs.Option.{SomeIff};
 ghost use Rattle.ds_base.specs.Values.{IsValue, IsValueByte, IsValueImage, image, image_back, count_back};
 
@@ -41,9 +41,10 @@ fn image_of(bytes: &[u8]) -> [u8; 100]
 }
 
 impl Value {
-    /// The value of these bytes, or `None` where they are no value.
+    /// The value of these bytes, or `None` where they are no value. Takes no memory.
     pub fn new(_alloc: Global, bytes: &[u8]) -> Result<Option<Value>, NoMemory>
-        ensures { IfOk result (λ found. SomeIff found (IsValue bytes.now) bytes.now) }
+        ensures found { IfOk result (λ found. SomeIff found (IsValue bytes.now) bytes.now) }
+        ensures answers { IsOk result }
     {
         if bytes.len() <= VALUE_LIMIT && bytes.iter().all(|b| 0x21 <= *b && *b <= 0x7e) {
             Ok(Some(Value {

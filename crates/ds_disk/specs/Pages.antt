@@ -1,11 +1,11 @@
 -- The pages that a disk has, by their names.
-use Rattle.std.specs.Prelude.{◌≡◌, ℕ, List, Option, unwrap_or, replicate}
-use Rattle.std.proofs.Common.{refl, sym, ap, subst}
-use Rattle.std.specs.Ordering.{nat_cmp, on, then_cmp, ordering_then, is_eq}
+use Rattle.std.specs.Prelude.{ℕ, List, [], ◌∷◌, unwrap_or, replicate}
+use Rattle.std.proofs.Common.{refl}
+use Rattle.std.specs.Ordering.{nat_cmp, on, then_cmp}
 use Rattle.std.specs.declared.cmp.Ordering.{Ordering}
-use Rattle.std.specs.declared.cmp.Ordering.TheVariants.{Less, Equal, Greater}
 use Rattle.std.specs.Cmp.{IsTotalOrder, nat_cmp_total, on_total, then_total}
 use Rattle.std.specs.FinMap as map
+use Rattle.std.specs.Coded.{Coded, code_by, coded×, coded_ℕ}
 use Rattle.ds_base.specs.declared.names.PageId.{PageId}
 
 -- by page set, and then by number
@@ -22,3 +22,12 @@ Pages = map.FinMap page_cmp (List ℕ)
 -- a page that was never written reads as zeros
 abbrev pub page_at : Pages → PageId → List ℕ
 page_at pages id = unwrap_or (map.get pages id) (replicate 4096 0)
+
+-- these pages are written in turn, so that the last with a name stands
+abbrev pub put_pages : Pages → List (PageId × List ℕ) → Pages
+put_pages pages [] = pages
+put_pages pages (e ∷ es) = put_pages (map.insert pages e.0 e.1) es
+
+-- as a pair of numbers
+abbrev pub coded_page : Coded PageId
+coded_page = code_by (ℕ × ℕ) (coded× coded_ℕ coded_ℕ) (λ p. (p.set, p.number)) (λ q. record { set = q.0; number = q.1 }) (λ _. refl)

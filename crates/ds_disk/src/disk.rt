@@ -1,12 +1,27 @@
 ghost use Rattle.std.specs.Prelude.{◌≡◌, ℕ, ◌+◌, ◌-◌, ◌≤◌, ◌++◌, ◌⊎◌, min, List, Bool, Option, Some, length, take, drop};
 ghost use Rattle.std.specs.FinMap as map;
+ghost use Rattle.ds_disk.specs.declared.disk.DiskError.TheVariants as errors;
 
-use ds_base::{MemberId, PageId};
+use ds_base::{MemberId, NoMemory, PageId};
+use thiserror::Error;
 
-#[derive(Clone, Copy, Debug, PartialEq, Eq)]
+/// Why a call of a disk gave no answer.
+#[derive(Clone, Copy, Debug, PartialEq, Eq, Error)]
 pub enum DiskError {
+    /// The disk has counted a fault.
+    #[error("the disk failed")]
     Failed,
+    /// Nothing was changed.
+    #[error("out of memory")]
     NoMemory,
+}
+
+impl From<NoMemory> for DiskError {
+    ghost from_gives = { λ _ e. e ≡ errors.NoMemory };
+
+    fn from(_: NoMemory) -> Self {
+        DiskError::NoMemory
+    }
 }
 
 #[derive(Clone, Copy, Debug, PartialEq, Eq)]

@@ -3,8 +3,13 @@
 
 mod disk;
 mod health;
+mod log_set;
 mod memory;
+mod page_map;
 mod plan;
 
 pub use disk::{Disk, DiskError, DiskFailure, DiskOp};
 pub use memory::MemoryDisk;
+
+#[cfg(test)]
+mod tests;

@@ -1,135 +1,157 @@
-ghost use Rattle.std.specs.Prelude.{◌≡◌, vec_len, IfOk, IsTrue};
+ghost use Rattle.std.specs.Prelude.{◌≡◌, ◌⊎◌, ◌-◌, ◌≤◌, List, All, length, take, drop, min, replicate, IfOk};
 ghost use Rattle.std.specs.FinMap as map;
+ghost use Rattle.ds_base.specs.Causes.{Rose};
 ghost use Rattle.ds_disk.specs.Pages.{page_at};
-ghost use Rattle.ds_disk.specs.Contents.{told_logs};
+ghost use Rattle.ds_disk.specs.Contents.{log_of};
+ghost use Rattle.ds_disk.specs.Conditions.{healthy, course};
+ghost use Rattle.ds_disk.specs.Memory.{Ends, EndsOrWants, holding, nothing, append_left, cut_left, page_left, told, told_logs};
+ghost use Rattle.ds_disk.specs.declared.disk.DiskOp.TheVariants.{ReadPage, WritePage, AppendLog, LogLength, ReadLog, CutLog};
 
 use crate::health::Health;
+use crate::log_set::LogSet;
+use crate::page_map::PageMap;
 use crate::{Disk, DiskError, DiskFailure, DiskOp};
 use ds_base::{Bytes, MemberId, NoMemory, PageId};
-use std::alloc::{AllocError, Global};
-use std::collections::VecDeque;
+use std::alloc::Global;
+use std::marker::Model;
 
 /// A disk in memory, whose calls fail where they are told to.
 #[derive(Drop)]
 pub struct MemoryDisk {
-    pages: VecDeque<(PageId, [u8; 4096])>,
-    logs: Vec<Bytes>,
+    pages: PageMap,
+    logs: LogSet,
     health: Health,
-    ghost has_logs: { vec_len logs ≡ 32 },
 }
 
-fn empty_logs(alloc: Global) -> Result<Vec<Bytes>, NoMemory>
-    ensures { IfOk result (λ logs. vec_len logs ≡ 32) }
-{
-    let mut logs = Vec::new(alloc);
-    for _ in 0..32usize {
-        logs.push(Bytes::new(alloc))?;
-    }
-    Ok(logs)
-}
+impl Model for MemoryDisk {
+    ghost use Rattle.std.specs.Prelude.{◌≡◌, length};
+    ghost use Rattle.ds_disk.specs.Conditions.{condition_code};
+    ghost use Rattle.ds_disk.specs.Memory.{Memory, memory_code};
+    ghost use Rattle.ds_disk.specs.contracts.disk.DiskFailure as failure;
+    ghost use Rattle.ds_disk.specs.contracts.plan.Calls as calls;
 
-/// Copies the newest of the bytes of a page.
-fn copy_page(pages: &VecDeque<(PageId, [u8; 4096])>, id: PageId, into: &mut [u8; 4096])
-    ensures { into.new ≡ page_at (map.from_entries pages.now.items) id }
-{
-    for (name, bytes) in pages {
-        if *name == id {
-            *into = *bytes;
-            return;
-        }
-    }
-    *into = [0; 4096];
+    ghost Value = { Memory };
+
+    ghost coded = { memory_code (condition_code calls.the_row.coded failure.the_row.coded) };
+
+    ghost view = { λ d. record { contents = record { pages = d.pages; logs = d.logs }; condition = d.health } };
+
+    ghost invariant = { λ d. length d.logs ≡ 32 };
 }
 
 impl MemoryDisk {
     pub fn new(alloc: Global, failures: Vec<DiskFailure>) -> Result<MemoryDisk, NoMemory>
-        ensures alive { IfOk result (λ disk. IsTrue disk.health.alive) }
-        ensures faults { IfOk result (λ disk. disk.health.faults ≡ 0) }
+        ensures { IfOk result (λ disk. disk ≡ record { contents = nothing; condition = healthy failures.items }) }
     {
         Ok(MemoryDisk {
-            pages: VecDeque::new(alloc),
-            logs: empty_logs(alloc)?,
+            pages: PageMap::new(alloc),
+            logs: LogSet::new(alloc)?,
             health: Health::new(failures),
         })
+    }
+
+    /// A disk with these pages and logs. Of two with one name the later stands.
+    pub fn of(
+        alloc: Global,
+        pages: Vec<(PageId, Bytes)>,
+        logs: Vec<(MemberId, Bytes)>,
+        failures: Vec<DiskFailure>,
+    ) -> Result<MemoryDisk, NoMemory>
+        requires { All (λ page. length page.1 ≡ 4096) pages.items }
+        ensures { IfOk result (λ disk. disk ≡ record { contents = holding pages.items logs.items; condition = healthy failures.items }) }
+    {
+        let mut disk = MemoryDisk::new(alloc, failures)?;
+        disk.pages.write_all(&pages)?;
+        disk.logs.put_all(alloc, &logs)?;
+        Ok(disk)
+    }
+
+    /// The same contents, on a disk that answers again.
+    pub fn reopen(self, failures: Vec<DiskFailure>) -> MemoryDisk
+        ensures { result ≡ record { contents = self.contents; condition = healthy failures.items } }
+    {
+        let MemoryDisk {
+            pages,
+            logs,
+            health: _,
+        } = self;
+        MemoryDisk {
+            pages,
+            logs,
+            health: Health::new(failures),
+        }
+    }
+
+    /// The bytes of a log, without a call of the disk.
+    pub fn log(&self, member: MemberId) -> &[u8]
+        ensures { result.now ≡ log_of self.now.contents.logs member }
+    {
+        self.logs.log(member)
     }
 }
 
 impl Disk for MemoryDisk {
-    ghost use Rattle.std.specs.Prelude.{Some};
-    ghost use Rattle.std.specs.FinMap as map;
+    ghost contents = { told };
 
-    ghost contents = { λ d. Some (record { pages = map.from_entries d.pages.items; logs = d.logs.items }) };
+    ghost alive = { λ d. d.condition.alive };
 
-    ghost alive = { λ d. d.health.alive };
+    ghost faults = { λ d. d.condition.faults };
 
-    ghost faults = { λ d. d.health.faults };
+    ghost has_logs = { told_logs };
 
-    ghost has_logs = { λ d c e. told_logs (map.from_entries d.pages.items) d.logs c d.has_logs e };
-
-    fn read_page(&mut self, id: PageId, into: &mut [u8; 4096]) -> Result<(), DiskError> {
-        if self.health.strikes(DiskOp::ReadPage).is_some() {
-            return Err(DiskError::Failed);
-        }
-        copy_page(&self.pages, id, into);
+    fn read_page(&mut self, id: PageId, into: &mut [u8; 4096]) -> Result<(), DiskError>
+        ensures ends { Ends ReadPage self.old self.new result (λ _. into.new ≡ page_at self.old.contents.pages id) self.old.contents }
+    {
+        self.health.pass(DiskOp::ReadPage)?;
+        self.pages.read(id, into);
         Ok(())
     }
 
-    fn write_page(&mut self, id: PageId, from: &[u8; 4096]) -> Result<(), DiskError> {
-        if let Some(done) = self.health.strikes(DiskOp::WritePage) {
-            if !self.health.alive && done > 0 {
-                let _ = self.pages.push_front((id, *from));
-            }
-            return Err(DiskError::Failed);
+    fn write_page(&mut self, id: PageId, from: &[u8; 4096]) -> Result<(), DiskError>
+        ensures ends { EndsOrWants WritePage self.old self.new result (λ way. page_left way self.old.contents id from.now) }
+    {
+        let course = self.health.begin(DiskOp::WritePage);
+        if course.is_done() {
+            self.pages.write(id, from)?;
         }
-        match self.pages.push_front((id, *from)) {
-            Ok(()) => Ok(()),
-            Err(_) => Err(DiskError::NoMemory),
-        }
+        self.health.end(course)
     }
 
-    fn append_log(&mut self, member: MemberId, bytes: &[u8]) -> Result<(), DiskError> {
-        let at = member.number() as usize - 1;
-        if let Some(done) = self.health.strikes(DiskOp::AppendLog) {
-            if !self.health.alive {
-                let count = (done as usize).min(bytes.len());
-                let _ = self.logs[at].extend(&bytes[..count]);
-            }
-            return Err(DiskError::Failed);
+    fn append_log(&mut self, member: MemberId, bytes: &[u8]) -> Result<(), DiskError>
+        ensures ends { EndsOrWants AppendLog self.old self.new result (λ way. append_left way self.old.contents member bytes.now) }
+    {
+        let course = self.health.begin(DiskOp::AppendLog);
+        if course.is_done() {
+            self.logs.append(member, course.kept(bytes))?;
         }
-        match self.logs[at].extend(bytes) {
-            Ok(()) => Ok(()),
-            Err(_) => Err(DiskError::NoMemory),
-        }
+        self.health.end(course)
     }
 
-    fn log_length(&mut self, member: MemberId) -> Result<u64, DiskError> {
-        if self.health.strikes(DiskOp::LogLength).is_some() {
-            return Err(DiskError::Failed);
-        }
-        let at = member.number() as usize - 1;
-        Ok(self.logs[at].as_slice().len() as u64)
+    fn log_length(&mut self, member: MemberId) -> Result<u64, DiskError>
+        ensures ends { Ends LogLength self.old self.new result (λ n. n ≡ length (log_of self.old.contents.logs member)) self.old.contents }
+    {
+        self.health.pass(DiskOp::LogLength)?;
+        Ok(self.logs.log(member).len() as u64)
     }
 
-    fn read_log(&mut self, member: MemberId, at: u64, into: &mut [u8]) -> Result<usize, DiskError> {
-        if self.health.strikes(DiskOp::ReadLog).is_some() {
-            return Err(DiskError::Failed);
-        }
-        let log = self.logs[member.number() as usize - 1].as_slice();
+    fn read_log(&mut self, member: MemberId, at: u64, into: &mut [u8]) -> Result<usize, DiskError>
+        ensures ends { Ends ReadLog self.old self.new result (λ n. (n ≡ min (length into.new) (length (log_of self.old.contents.logs member) - at)) × (take n into.new ≡ take n (drop at (log_of self.old.contents.logs member)))) self.old.contents }
+    {
+        self.health.pass(DiskOp::ReadLog)?;
+        let log = self.logs.log(member);
         let start = (at as usize).min(log.len());
         let count = (log.len() - start).min(into.len());
         into[..count].copy_from_slice(&log[start..start + count]);
         Ok(count)
     }
 
-    fn cut_log(&mut self, member: MemberId, length: u64) -> Result<(), DiskError> {
-        let at = member.number() as usize - 1;
-        if let Some(done) = self.health.strikes(DiskOp::CutLog) {
-            if !self.health.alive && done > 0 {
-                self.logs[at].truncate(length as usize);
-            }
-            return Err(DiskError::Failed);
+    fn cut_log(&mut self, member: MemberId, length: u64) -> Result<(), DiskError>
+        ensures ends { Ends CutLog self.old self.new result (λ _. Unit {0}) (cut_left (course CutLog self.old.condition) self.old.contents member length) }
+    {
+        let course = self.health.begin(DiskOp::CutLog);
+        if course.is_done() {
+            self.logs.cut(member, length);
         }
-        self.logs[at].truncate(length as usize);
-        Ok(())
+        self.health.end(course)
     }
 }

@@ -66,3 +66,12 @@ pub record IsAllowed (r : LogRecord) : Type 0 where
   pub tran_some : r.tran ≢ 0
   pub tran_in : IsLrsn r.tran
   pub body_is : BodyIsAllowed r.body
+
+-- what the types of a record's fields leave open: its transaction has a number, and its place is one of a heap
+abbrev pub BodyFits : Body → Type 0
+BodyFits (body.RowChange c) = (c.place.page ≢ 0) × (c.place.slot < 31)
+BodyFits body.Commit = Unit {0}
+
+pub record Fits (r : LogRecord) : Type 0 where
+  pub tran_some : r.tran ≢ 0
+  pub body_fits : BodyFits r.body

@@ -1,4 +1,4 @@
--- When a report is sound for a script, the rows at the opening and the logs that are left.
+-- When a report is sound for a script, the rows at the opening and what is left: the logs of a disk, mostly.
 use Rattle.std.specs.Prelude.{◌≡◌, ℕ, List, map}
 use Rattle.std.specs.List.Sorted.{IsPermutation}
 use Rattle.ds_model.specs.declared.script.Script.{Script}
@@ -7,7 +7,6 @@ use Rattle.ds_model.specs.Rows.{Rows, listed}
 use Rattle.ds_model.specs.Transactions.{placed}
 use Rattle.ds_model.specs.History.{Play, played, replay, IsLegal, IsInOrder}
 use Rattle.ds_model.specs.Told.{entry_of}
-use Rattle.ds_model.specs.Logs.{StandFor}
 
 -- each transaction of the script stands once and no other, in order, and every read is that of one thread
 pub record IsSoundHistory (script : Script) (opening : Rows) (history : List Play) : Type 0 where
@@ -20,9 +19,9 @@ pub record Tells (script : Script) (opening : Rows) (history : List Play) (repor
   pub entries : report.entries ≡ map (entry_of script) history
   pub rows : report.rows ≡ listed (replay opening history)
 
--- the report tells a sound history, and the logs stand for the rows after it
-pub record IsSound (script : Script) (opening : Rows) (report : Report) (logs : List (List ℕ)) : Type 0 where
+-- the report tells a sound history, and what is left stands for the rows after it
+pub record IsSound (script : Script) (opening : Rows) (report : Report) (Stands : Rows → Type 0) : Type 0 where
   pub history : List Play
   pub sound : IsSoundHistory script opening history
   pub tells : Tells script opening history report
-  pub stands : StandFor logs (replay opening history)
+  pub stands : Stands (replay opening history)

@@ -1,0 +1,2 @@
+pub mod FoundPages
+pub mod Appends

@@ -1,0 +1,6 @@
+use Rattle.std.proofs.Common.{rules}
+use Rattle.ds_disk.proofs.Appends.{failed}
+use Rattle.ds_disk.proofs.memory.MemoryDiskDisk.TheImpl.Goals as goal
+
+pub append_log-tells : goal.append_log-tells
+append_log-tells c = record { answers = record { ok = search rules; failed = failed c.args.self.now c.new.self.now c.result c.args.member c.args.bytes.now c.ensures.ends; no_memory = search rules }; cause = search rules }

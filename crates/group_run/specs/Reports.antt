@@ -1,0 +1,24 @@
+-- The report of a run.
+use Rattle.std.specs.Prelude.{◌≡◌, ℕ, Bool, cond, Option}
+use Rattle.std.specs.FinMap as finite
+use Rattle.ds_disk.specs.Contents.{Contents}
+use Rattle.ds_model.specs.declared.script.Script.{Script}
+use Rattle.ds_model.specs.declared.report.Report.{Report}
+use Rattle.ds_model.specs.Rows.{listed}
+use Rattle.ds_model.specs.Sound.{IsSound}
+use Rattle.serial_run.specs.declared.run.Ran.{Ran}
+use Rattle.serial_run.specs.Ran.{IsRunOf}
+use Rattle.serial_run.specs.Sounds.{DiskStandsFor}
+
+-- its entries, its rows in order, and 5 where an append has failed, else 0
+pub record Reports (ran : Ran) (report : Report) : Type 0 where
+  pub entries : report.entries ≡ ran.entries
+  pub rows : report.rows ≡ listed ran.rows
+  pub status : report.status ≡ cond ran.failed 5 0
+
+-- a script has run, and this is its report, which is sound
+pub record HasRun (script : Script) (report : Report) (alive : Bool) (before after : Option Contents) (faults faults_now : ℕ) : Type 0 where
+  pub ran : Ran
+  pub reports : Reports ran report
+  pub run : IsRunOf script ran alive before after faults faults_now
+  pub sound : IsSound script finite.empty report (DiskStandsFor alive before after)

@@ -1,0 +1,24 @@
+-- The statuses by number, and what is written for those without a report.
+use Rattle.std.specs.Prelude.{ℕ, List, [], codes}
+use Rattle.ds_model.specs.ScriptText.{line}
+use Rattle.group_run.specs.declared.status.Status.{Status}
+use Rattle.group_run.specs.declared.status.Status.TheVariants as status
+
+abbrev pub number_of : Status → ℕ
+number_of status.Done = 0
+number_of status.WordsRefused = 1
+number_of status.SourceFailed = 3
+number_of status.SinkFailed = 4
+number_of status.DiskFailed = 5
+number_of status.NoMemory = 6
+number_of status.NotYet = 8
+
+-- the text where the run didn't open
+abbrev pub short_text : Status → List ℕ
+short_text status.Done = []
+short_text status.WordsRefused = line (codes "words refused")
+short_text status.SourceFailed = line (codes "source failed")
+short_text status.SinkFailed = []
+short_text status.DiskFailed = line (codes "disk failed")
+short_text status.NoMemory = []
+short_text status.NotYet = line (codes "not yet")

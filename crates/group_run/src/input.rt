@@ -1,0 +1,57 @@
+ghost use Rattle.std.specs.Prelude.{◌≡◌};
+ghost use Rattle.group_run.specs.Input.{ReadsAll};
+ghost use Rattle.group_run.specs.declared.input.ReadError.TheVariants as errors;
+
+use ds_base::{Failed, Source};
+use std::alloc::{AllocError, Global};
+
+/// Why a source was not read to its end.
+#[derive(Clone, Copy, Debug, PartialEq, Eq)]
+pub enum ReadError {
+    Failed,
+    NoMemory,
+    TooLong,
+}
+
+impl From<AllocError> for ReadError {
+    ghost from_gives = { λ _ e. e ≡ errors.NoMemory };
+
+    fn from(_: AllocError) -> Self {
+        ReadError::NoMemory
+    }
+}
+
+impl From<Failed> for ReadError {
+    ghost from_gives = { λ _ e. e ≡ errors.Failed };
+
+    fn from(_: Failed) -> Self {
+        ReadError::Failed
+    }
+}
+
+/// The bytes of the longest script.
+const SCRIPT_LIMIT: usize = 4_194_304;
+
+/// The bytes that one read asks for.
+const PIECE: usize = 65_536;
+
+/// All that is left of the source, or nothing where that is more than a script has. At most one byte more
+/// than a script has is taken.
+pub fn read_all<S: Source>(alloc: Global, source: &mut S) -> Result<Vec<u8>, ReadError>
+    ensures { ReadsAll (S.left source.old) (S.left source.new) (S.faults source.old) (S.faults source.new) result }
+{
+    let mut out = Vec::new(alloc);
+    let mut piece = [0u8; PIECE];
+    for _ in 0..SCRIPT_LIMIT + 2 {
+        let room = (SCRIPT_LIMIT + 1 - out.len()).min(PIECE);
+        let count = source.read(&mut piece[..room])?;
+        if count == 0 {
+            return Ok(out);
+        }
+        out.extend_from_slice(&piece[..count])?;
+        if out.len() > SCRIPT_LIMIT {
+            return Err(ReadError::TooLong);
+        }
+    }
+    unreachable!()
+}

@@ -1,0 +1,19 @@
+//! The call that plays a script on a disk and reports what became of it.
+#![tactic(auto)]
+
+mod gate;
+mod input;
+mod opening;
+mod output;
+mod prepare;
+mod run;
+mod status;
+mod top;
+mod words;
+
+pub use gate::{Gate, OpenGate};
+pub use status::Status;
+pub use top::{Finished, play};
+
+#[cfg(test)]
+mod tests;

@@ -1,0 +1,7 @@
+pub mod Steps
+pub mod Undo
+pub mod Played
+pub mod Entries
+pub mod Progress
+pub mod Ran
+pub mod Sounds

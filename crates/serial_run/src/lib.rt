@@ -1,0 +1,15 @@
+//! A run of a script by one thread, one transaction after the other, over a map of rows.
+//!
+//! It is the plain form of a run: what the members of a group do side by side has to come to the same.
+#![tactic(auto)]
+
+mod entry;
+mod flatten;
+mod place;
+mod run;
+mod state;
+mod step;
+mod tran;
+mod undo;
+
+pub use run::{Ran, run_script};

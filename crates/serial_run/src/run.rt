@@ -1,0 +1,82 @@
+ghost use Rattle.std.specs.Prelude.{◌≡◌, ℕ, ◌*◌, ◌<◌, ◌≤◌, true, length, IfOk, All};
+ghost use Rattle.ds_model.specs.OneMember.{IsOneMember};
+ghost use Rattle.serial_run.specs.Played.{HasRoom};
+ghost use Rattle.serial_run.specs.Progress.{IsPlayable, HasPlayed};
+ghost use Rattle.serial_run.specs.Ran.{IsRunOf};
+ghost use Rattle.serial_run.specs.Sounds.{IsSoundRun};
+
+use crate::entry::{entry_of, stop_all};
+use crate::flatten::{PlacedTran, flatten};
+use crate::state::State;
+use crate::tran::play_tran;
+use ds_base::{NoMemory, Sequence, Value};
+use ds_disk::Disk;
+use ds_model::{ReportEntryList, Script, Told};
+use spot_map::SpotMap;
+use std::alloc::Global;
+
+/// What a run has left: the rows, the entries of its report, and whether an append has failed.
+#[derive(Drop)]
+pub struct Ran {
+    pub rows: SpotMap<Value>,
+    pub entries: ReportEntryList,
+    pub failed: bool,
+}
+
+/// Plays transactions until an append fails, and answers how many have committed.
+fn play_trans<D: Disk>(
+    alloc: Global,
+    disk: &mut D,
+    state: &mut State,
+    items: &[PlacedTran],
+    entries: &mut ReportEntryList,
+) -> Result<usize, NoMemory>
+    requires playable { All IsPlayable items.now }
+    requires room { HasRoom state.old (65 * length items.now) }
+    requires alive { D.alive disk.old ≡ true }
+    ensures played { IfOk result (λ count. HasPlayed items.now count state.old state.new entries.old entries.new (D.alive disk.new) (D.contents disk.old) (D.contents disk.new) (D.faults disk.old) (D.faults disk.new)) }
+    ensures later { D.faults disk.old ≤ D.faults disk.new }
+{
+    for (i, item) in items.iter().enumerate() {
+        match play_tran(alloc, disk, item.0, state, item.1.ops.as_slice())? {
+            None => return Ok(i),
+            Some(reads) => {
+                let told = Told::Committed {
+                    answered: true,
+                    reads,
+                };
+                entries.push(entry_of(alloc, item, told)?)?;
+            }
+        }
+    }
+    Ok(items.len())
+}
+
+/// Plays the transactions of a script, one after the other in the order of the script. Where an append
+/// fails, that transaction and all behind it are stopped.
+pub fn run_script<D: Disk>(
+    alloc: Global,
+    disk: &mut D,
+    script: Script,
+) -> Result<Ran, NoMemory>
+    requires one_member { IsOneMember script }
+    requires alive { D.alive disk.old ≡ true }
+    ensures ran { IfOk result (λ ran. IsRunOf script ran (D.alive disk.new) (D.contents disk.old) (D.contents disk.new) (D.faults disk.old) (D.faults disk.new)) }
+    ensures sound { IfOk result (λ ran. IsSoundRun script ran (D.alive disk.new) (D.contents disk.old) (D.contents disk.new)) }
+    ensures later { D.faults disk.old ≤ D.faults disk.new }
+{
+    let items = flatten(alloc, script)?;
+    let mut state = State {
+        rows: SpotMap::new(alloc),
+        places: SpotMap::new(alloc),
+        last: 0,
+    };
+    let mut entries = Sequence::new(alloc);
+    let count = play_trans(alloc, disk, &mut state, &items, &mut entries)?;
+    stop_all(alloc, &items[count..], &mut entries)?;
+    Ok(Ran {
+        rows: state.rows,
+        entries,
+        failed: count < items.len(),
+    })
+}
