@@ -1,15 +1,14 @@
 -- Names differ where their forms in 16 bytes do.
-use Rattle.std.proofs.Common.{◌≡◌, ◌≢◌, ℕ, zero, suc, ◌+◌, ◌-◌, ◌<◌, ◌≤◌, ◌↔◌, Bool, true, false, IsTrue, Ordering, List, [], ◌∷◌, ◌++◌, length, get_or, map, take, replicate, Contains, refl, sym, ap, ◌∙◌, subst, arith, IsPermutation, inl, inr}
+use Rattle.std.proofs.Common.{◌≡◌, ℕ, zero, suc, ◌+◌, ◌-◌, Bool, true, false, Ordering, List, [], ◌∷◌, ◌++◌, length, get_or, map, replicate, Contains, refl, sym, ap, ◌∙◌, subst, arith, IsPermutation}
 use Rattle.std.specs.List.{flat_map, AllByRecursion, IsDistinct}
 use Rattle.std.specs.List.Sorted.{IsStrictlySortedBy, IsSorted}
 use Rattle.std.specs.Ordering.{nat_cmp, eq_by_cmp, is_lt, is_eq, ordering_reverse}
 use Rattle.std.specs.declared.cmp.Ordering.TheVariants.{Less, Equal, Greater}
-use Rattle.std.specs.Cmp.{IsTotalOrder, IsEquivalence}
 use Rattle.std.specs.Cmp.Lexicographic.{slice_cmp}
-use Rattle.std.proofs.lemmas.Bool.{both_ways, cases_Bool}
+use Rattle.std.proofs.lemmas.Bool.{both_ways}
 use Rattle.std.proofs.lemmas.Cmp.{nat_list_cmp_total, eq_by_cmp_equiv, tied_itself}
 use Rattle.std.proofs.lemmas.List.{map-append, take_all}
-use Rattle.std.proofs.lemmas.List.Elements.{recursion_from_All, All-from_recursion, All-contains, Contains-append_right}
+use Rattle.std.proofs.lemmas.List.Elements.{All-from_recursion, All-contains, Contains-append_right}
 use Rattle.std.proofs.lemmas.Map.Keys.{IsDistinct-from_sorted, IsDistinct-head, IsDistinct-tail, IsDistinct-cons, IsDistinct-from_apart, IsDistinct-IsPermutation, apart_from_distinct, sorted_from_all_adjacent}
 use Rattle.std.proofs.lemmas.Map.Lookups.{exact_bytes}
 use Rattle.std.proofs.lemmas.Map.Views.{tells_apart}
@@ -18,9 +17,9 @@ use Rattle.ds_model.specs.declared.script.Tran.{Tran}
 use Rattle.ds_model.specs.declared.script.Part.{Part}
 use Rattle.ds_model.specs.declared.script.Phase.{Phase}
 use Rattle.ds_model.specs.declared.script.Script.{Script}
-use Rattle.ds_model.specs.Transactions.{Placed, placed_part, placed_phase, placed}
-use Rattle.ds_model.specs.OneMember.{IsNameByte, IsName, Differ, IsOneMemberTran, IsOneMemberPart, IsOneMemberPhase}
-use Rattle.script_text.proofs.Lists.{all_flat, all_weaker}
+use Rattle.ds_model.specs.Transactions.{Placed, placed_part, placed_phase}
+use Rattle.ds_model.specs.OneMember.{IsName, Differ, IsOneMemberTran, IsOneMemberPart, IsOneMemberPhase}
+use Rattle.script_text.proofs.Lists.{all_flat}
 use Rattle.script_text.specs.Words.{Lacks}
 use Rattle.script_text.proofs.Numbers.{name_lacks}
 use Rattle.script_text.specs.Names.{padded, padded_name, part_names, phase_names, script_names}

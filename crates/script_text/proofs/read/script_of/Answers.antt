@@ -1,4 +1,4 @@
-use Rattle.std.proofs.Common.{◌≡◌, ℕ, List, [], length, Option, Some, None, IfSome, IfOk, Bool, cond, sym, ap, ◌∙◌, subst, arith, rules}
+use Rattle.std.proofs.Common.{◌≡◌, Option, Some, None, IfSome, IfOk, Bool, cond, sym, ap, ◌∙◌, subst}
 use Rattle.std.proofs.lemmas.Option.{none-some, same_Some}
 use Rattle.ds_model.specs.declared.script.Script.{Script}
 use Rattle.script_text.specs.declared.draft.Draft.{Draft}

@@ -1,4 +1,3 @@
-use Rattle.std.proofs.Common.{rules, ◌≡◌, ◌∙◌, sym}
 use Rattle.std.specs.Fmt.{decimal}
 use Rattle.script_text.proofs.Numbers.{number_cut}
 use Rattle.std.proofs.lemmas.Option.{none-some, same_Some}
