@@ -1,15 +1,14 @@
 -- Names differ where their forms in 16 bytes do.
-use Rattle.std.proofs.Common.{◌≡◌, ◌≢◌, ℕ, zero, suc, ◌+◌, ◌-◌, ◌<◌, ◌≤◌, ◌↔◌, Bool, true, false, IsTrue, Ordering, List, [], ◌∷◌, ◌++◌, length, get_or, map, take, replicate, Contains, refl, sym, ap, ◌∙◌, subst, arith, IsPermutation, inl, inr}
+use Rattle.std.proofs.Common.{◌≡◌, ℕ, zero, suc, ◌+◌, ◌-◌, Bool, true, false, Ordering, List, [], ◌∷◌, ◌++◌, length, get_or, map, replicate, Contains, refl, sym, ap, ◌∙◌, subst, arith, IsPermutation}
 use Rattle.std.specs.List.{flat_map, AllByRecursion, IsDistinct}
 use Rattle.std.specs.List.Sorted.{IsStrictlySortedBy, IsSorted}
 use Rattle.std.specs.Ordering.{nat_cmp, eq_by_cmp, is_lt, is_eq, ordering_reverse}
 use Rattle.std.specs.declared.cmp.Ordering.TheVariants.{Less, Equal, Greater}
-use Rattle.std.specs.Cmp.{IsTotalOrder, IsEquivalence}
 use Rattle.std.specs.Cmp.Lexicographic.{slice_cmp}
-use Rattle.std.proofs.lemmas.Bool.{both_ways, cases_Bool}
+use Rattle.std.proofs.lemmas.Bool.{both_ways}
 use Rattle.std.proofs.lemmas.Cmp.{nat_list_cmp_total, eq_by_cmp_equiv, tied_itself}
 use Rattle.std.proofs.lemmas.List.{map-append, take_all}
-use Rattle.std.proofs.lemmas.List.Elements.{recursion_from_All, All-from_recursion, All-contains, Contains-append_right}
+use Rattle.std.proofs.lemmas.List.Elements.{All-from_recursion, All-contains, Contains-append_right}
 use Rattle.std.proofs.lemmas.Map.Keys.{IsDistinct-from_sorted, IsDistinct-head, IsDistinct-tail, IsDistinct-cons, IsDistinct-from_apart, IsDistinct-IsPermutation, apart_from_distinct, sorted_from_all_adjacent}
 use Rattle.std.proofs.lemmas.Map.Lookups.{exact_bytes}
 use Rattle.std.proofs.lemmas.Map.Views.{tells_apart}
@@ -18,8 +17,11 @@ use Rattle.ds_model.specs.declared.script.Tran.{Tran}
 use Rattle.ds_model.specs.declared.script.Part.{Part}
 use Rattle.ds_model.specs.declared.script.Phase.{Phase}
 use Rattle.ds_model.specs.declared.script.Script.{Script}
-use Rattle.ds_model.specs.Transactions.{Placed, placed_part, placed_phase, placed}
-use Rattle.ds_model.specs.OneMember.{IsNameByte, IsName, Differ, IsOneMemberTran, IsOneMemberPart, IsOneMemberPhase}
+use Rattle.ds_model.specs.Transactions.{Placed, placed_part, placed_phase}
+use Rattle.ds_model.specs.OneMember.{IsName, Differ, IsOneMemberTran, IsOneMemberPart, IsOneMemberPhase}
+use Rattle.script_text.proofs.Lists.{all_flat}
+use Rattle.script_text.specs.Words.{Lacks}
+use Rattle.script_text.proofs.Numbers.{name_lacks}
 use Rattle.script_text.specs.Names.{padded, padded_name, part_names, phase_names, script_names}
 
 -- ---- the padded names are those of the script
@@ -50,14 +52,6 @@ phases_are (p ∷ ps) =
 
 -- ---- each name is one
 
-all_append : {A : Type 0} (P : A → Type 0) (xs ys : List A) → AllByRecursion P xs → AllByRecursion P ys → AllByRecursion P (xs ++ ys)
-all_append P [] ys h k = k
-all_append P (x ∷ xs) ys h k = (h.0, all_append P xs ys h.1 k)
-
-all_flat : {A B : Type 0} (P : A → Type 0) (Q : B → Type 0) (f : A → List B) → ((x : A) → P x → AllByRecursion Q (f x)) → (xs : List A) → AllByRecursion P xs → AllByRecursion Q (flat_map f xs)
-all_flat P Q f each [] h = tt
-all_flat P Q f each (x ∷ xs) h = all_append Q (f x) (flat_map f xs) (each x h.0) (all_flat P Q f each xs h.1)
-
 abbrev IsNamed : Placed → Type 0
 IsNamed p = IsName p.1.name
 
@@ -77,7 +71,7 @@ names_are ps h =
 -- ---- padding keeps names apart
 
 -- bytes that aren't 0, before zeros
-same_front : (xs ys : List ℕ) (m n : ℕ) → AllByRecursion (λ (b : ℕ). b ≢ 0) xs → AllByRecursion (λ (b : ℕ). b ≢ 0) ys → xs ++ replicate m 0 ≡ ys ++ replicate n 0 → xs ≡ ys
+same_front : (xs ys : List ℕ) (m n : ℕ) → Lacks 0 xs → Lacks 0 ys → xs ++ replicate m 0 ≡ ys ++ replicate n 0 → xs ≡ ys
 same_front [] [] m n h k e = refl
 same_front [] (y ∷ ys) zero n h k e = absurd cc
 same_front [] (y ∷ ys) (suc m) n h k e = absurd (k.0 cc)
@@ -89,25 +83,11 @@ same_front (x ∷ xs) (y ∷ ys) m n h k e =
     let rest : xs ≡ ys = same_front xs ys m n h.1 k.1 tails in
     cc
 
-all_weaker : {A : Type 0} (P Q : A → Type 0) → ((x : A) → P x → Q x) → (xs : List A) → AllByRecursion P xs → AllByRecursion Q xs
-all_weaker P Q f [] h = tt
-all_weaker P Q f (x ∷ xs) h = (f x h.0, all_weaker P Q f xs h.1)
-
-name_byte : (b : ℕ) → IsNameByte b → b ≢ 0
-name_byte b (inl h) = λ e. absurd (omega arith)
-name_byte b (inr (inl h)) = λ e. absurd (omega arith)
-name_byte b (inr (inr (inl h))) = λ e. absurd (omega arith)
-name_byte b (inr (inr (inr (inl h)))) = λ e. absurd (omega arith)
-name_byte b (inr (inr (inr (inr h)))) = λ e. absurd (omega arith)
-
-no_zeros : (name : List ℕ) → IsName name → AllByRecursion (λ (b : ℕ). b ≢ 0) name
-no_zeros name h = all_weaker IsNameByte (λ (b : ℕ). b ≢ 0) name_byte name (recursion_from_All IsNameByte name h.2)
-
 padded_apart : (a b : List ℕ) → IsName a → IsName b → padded a ≡ padded b → a ≡ b
 padded_apart a b h k e =
     let whole : a ++ replicate (16 - length a) 0 ≡ b ++ replicate (16 - length b) 0 =
     ap (λ (x : List ℕ). x ++ replicate (16 - length a) 0) (sym (take_all 16 a h.1)) ∙ e ∙ ap (λ (x : List ℕ). x ++ replicate (16 - length b) 0) (take_all 16 b k.1) in
-    same_front a b (16 - length a) (16 - length b) (no_zeros a h) (no_zeros b k) whole
+    same_front a b (16 - length a) (16 - length b) (name_lacks 0 a (omega arith) h) (name_lacks 0 b (omega arith) k) whole
 
 -- ---- names that differ
 

@@ -1,31 +1,25 @@
 -- What is read line by line stays a script of one member.
-use Rattle.std.proofs.Common.{◌≡◌, ℕ, zero, suc, ◌+◌, ◌<◌, ◌≤◌, Bool, true, false, nat_lt, ltb, cond, List, [], ◌∷◌, ◌++◌, length, map, Option, Some, None, IfSome, option_map, refl, sym, ap, ◌∙◌, subst, arith, append_assoc, append-nil, length-append}
+use Rattle.std.proofs.Common.{◌≡◌, ℕ, zero, suc, ◌+◌, Bool, true, false, nat_lt, cond, List, [], ◌∷◌, ◌++◌, length, map, Option, Some, None, IfSome, option_map, refl, sym, ap, ◌∙◌, subst, arith, append_assoc, append-nil, length-append}
 use Rattle.std.specs.List.{flat_map, AllByRecursion}
-use Rattle.std.proofs.lemmas.Bool.{ltb-true, cases_Bool}
+use Rattle.std.proofs.lemmas.Bool.{ltb-true}
 use Rattle.std.proofs.lemmas.Option.{none-some, same_Some}
 use Rattle.std.proofs.lemmas.List.{map_push}
 use Rattle.std.proofs.lemmas.List.Concat.{flat_map-append}
 use Rattle.ds_model.specs.declared.script.Op.{Op}
 use Rattle.ds_model.specs.declared.script.Tran.{Tran}
-use Rattle.ds_model.specs.declared.script.Part.{Part}
 use Rattle.ds_model.specs.declared.script.Phase.{Phase}
 use Rattle.ds_model.specs.declared.script.Script.{Script}
-use Rattle.ds_model.specs.Transactions.{Placed, placed_part, placed_phase, placed}
-use Rattle.ds_model.specs.OneMember.{counted, IsName, IsOneMemberOp, IsOneMemberTran, IsOneMemberPart, IsOneMemberPhase}
+use Rattle.ds_model.specs.Transactions.{Placed, placed_phase}
+use Rattle.ds_model.specs.OneMember.{counted, IsName, IsOneMemberOp, IsOneMemberTran, IsOneMemberPhase}
 use Rattle.script_text.specs.declared.draft.Place.{Place}
 use Rattle.script_text.specs.declared.draft.Place.TheVariants as place
 use Rattle.script_text.specs.declared.draft.Draft.{Draft}
 use Rattle.script_text.specs.declared.line.Line.{Line}
 use Rattle.script_text.specs.declared.line.Line.TheVariants as lines
+use Rattle.script_text.proofs.Lists.{all_push}
 use Rattle.script_text.specs.Lines.{IsLine}
-use Rattle.script_text.specs.Drafts.{start, phase_with, part_of, closed_at, closed, part_begun, tran_begun, op_taken, tran_ended, step_phase, step_member, step_tran, step_op, step_end, step, placed_trans, placed_at, placed_so_far, open_count, IsPlace, IsDraft, whole, IsShaped}
-
-abbrev draft_at : List Phase → ℕ → Place → Draft
-draft_at phases count p = record { phases = phases; count = count; place = p }
-
-all_push : {A : Type 0} (P : A → Type 0) (xs : List A) (x : A) → AllByRecursion P xs → P x → AllByRecursion P (xs ++ x ∷ [])
-all_push P [] x h k = (k, tt)
-all_push P (y ∷ ys) x h k = (h.0, all_push P ys x h.1 k)
+use Rattle.script_text.specs.Drafts.{draft_at, start, phase_with, part_of, closed_at, closed, op_taken, step_phase, step_member, step_tran, step_op, step_end, step, whole}
+use Rattle.script_text.specs.Kept.{placed_trans, placed_so_far, open_count, IsDraft, IsShaped}
 
 counted_push : (c n : ℕ) → counted c (suc n) ≡ counted c n ++ (c + n) ∷ []
 counted_push c zero = ap (λ (m : ℕ). m ∷ []) (omega arith)

@@ -1,6 +1,6 @@
 -- The first of the lines that are left.
-use Rattle.std.proofs.Common.{◌≡◌, ◌≢◌, ℕ, ◌+◌, ◌<◌, ◌≤◌, ◌^◌, Bool, true, false, not, eqb, List, [], ◌∷◌, ◌++◌, length, map, Option, Some, None, All, option_and_then, refl, sym, ap, ◌∙◌, subst, arith, append_assoc, append-nil, length-append, codes, inl, inr}
-use Rattle.std.specs.List.{flat_map, AllByRecursion, list_all}
+use Rattle.std.proofs.Common.{◌≡◌, ◌≢◌, ℕ, ◌<◌, ◌^◌, Bool, true, false, not, eqb, List, [], ◌∷◌, ◌++◌, length, map, Option, Some, None, option_and_then, refl, sym, ap, ◌∙◌, subst, arith, append_assoc, length-append, codes}
+use Rattle.std.specs.List.{AllByRecursion, list_all}
 use Rattle.std.specs.Fmt.{decimal}
 use Rattle.std.proofs.lemmas.Bool.{eqb-false, eqb-true, and_parts, not-true}
 use Rattle.std.proofs.lemmas.Option.{none-some, same_Some}
@@ -12,15 +12,17 @@ use Rattle.ds_model.specs.declared.script.Tran.{Tran}
 use Rattle.ds_model.specs.declared.script.Part.{Part}
 use Rattle.ds_model.specs.declared.script.Phase.{Phase}
 use Rattle.ds_model.specs.declared.script.Script.{Script}
-use Rattle.ds_model.specs.ScriptText.{line, spot_text, script_text}
-use Rattle.ds_model.specs.OneMember.{IsNameByte, IsName, IsOneMemberOp, IsOneMemberTran, IsOneMemberPart, IsOneMemberPhase, IsOneMember}
+use Rattle.ds_model.specs.ScriptText.{spot_text, script_text}
+use Rattle.ds_model.specs.OneMember.{IsOneMemberOp, IsOneMemberTran, IsOneMemberPart, IsOneMemberPhase, IsOneMember}
 use Rattle.script_text.specs.declared.draft.Draft.{Draft}
 use Rattle.script_text.specs.declared.line.Line.{Line}
 use Rattle.script_text.specs.declared.line.Line.TheVariants as lines
+use Rattle.script_text.proofs.Lists.{all_append, all_flat, all_weaker}
 use Rattle.script_text.specs.Words.{Lacks, IsCut}
 use Rattle.script_text.specs.Lines.{op_words, words_of, IsLine, tran_lines, part_lines, phase_lines, script_lines, spelled}
-use Rattle.script_text.specs.Drafts.{start, step, run, whole, IsLeft}
-use Rattle.script_text.proofs.Numbers.{Lacks-append, decimal_lacks}
+use Rattle.script_text.specs.Drafts.{start, step, run, whole}
+use Rattle.script_text.specs.Kept.{IsLeft}
+use Rattle.script_text.proofs.Numbers.{Lacks-append, decimal_lacks, name_lacks}
 use Rattle.script_text.proofs.Texts.{text_of_script}
 use Rattle.script_text.proofs.Runs.{run_script}
 
@@ -32,20 +34,6 @@ lacks_by_test c [] h = tt
 lacks_by_test c (b ∷ bs) h =
     let p = and_parts (not (eqb b c)) (list_all (λ (b : ℕ). not (eqb b c)) bs) h in
     (eqb-false b c (not-true (eqb b c) p.0), lacks_by_test c bs p.1)
-
-all_weaker : {A : Type 0} (P Q : A → Type 0) → ((x : A) → P x → Q x) → (xs : List A) → AllByRecursion P xs → AllByRecursion Q xs
-all_weaker P Q f [] h = tt
-all_weaker P Q f (x ∷ xs) h = (f x h.0, all_weaker P Q f xs h.1)
-
-name_byte : (b : ℕ) → IsNameByte b → b ≢ 10
-name_byte b (inl h) = λ e. absurd (omega arith)
-name_byte b (inr (inl h)) = λ e. absurd (omega arith)
-name_byte b (inr (inr (inl h))) = λ e. absurd (omega arith)
-name_byte b (inr (inr (inr (inl h)))) = λ e. absurd (omega arith)
-name_byte b (inr (inr (inr (inr h)))) = λ e. absurd (omega arith)
-
-name_lacks : (name : List ℕ) → IsName name → Lacks 10 name
-name_lacks name h = all_weaker IsNameByte (λ (b : ℕ). b ≢ 10) name_byte name (recursion_from_All IsNameByte name h.2)
 
 value_lacks : (value : List ℕ) → IsValue value → Lacks 10 value
 value_lacks value h = all_weaker IsValueByte (λ (b : ℕ). b ≢ 10) (λ b k e. omega (arith, k.0)) value (recursion_from_All IsValueByte value h.1)
@@ -73,19 +61,11 @@ op_lacks op.Abort h = absurd h
 line_lacks : (l : Line) → IsLine l → Lacks 10 (words_of l)
 line_lacks lines.Phase h = lacks_by_test 10 (codes "phase") refl
 line_lacks (lines.Member m) h = Lacks-append 10 (codes "member ") (decimal m) (lacks_by_test 10 (codes "member ") refl) (decimal_lacks 10 m (omega arith) (omega arith))
-line_lacks (lines.Tran name) h = Lacks-append 10 (codes "tran ") name (lacks_by_test 10 (codes "tran ") refl) (name_lacks name h)
+line_lacks (lines.Tran name) h = Lacks-append 10 (codes "tran ") name (lacks_by_test 10 (codes "tran ") refl) (name_lacks 10 name (omega arith) h)
 line_lacks (lines.Operation o) h = op_lacks o h
 line_lacks lines.End h = lacks_by_test 10 (codes "end") refl
 
 -- ---- the lines of a script
-
-all_append : {A : Type 0} (P : A → Type 0) (xs ys : List A) → AllByRecursion P xs → AllByRecursion P ys → AllByRecursion P (xs ++ ys)
-all_append P [] ys h k = k
-all_append P (x ∷ xs) ys h k = (h.0, all_append P xs ys h.1 k)
-
-all_flat : {A B : Type 0} (P : A → Type 0) (Q : B → Type 0) (f : A → List B) → ((x : A) → P x → AllByRecursion Q (f x)) → (xs : List A) → AllByRecursion P xs → AllByRecursion Q (flat_map f xs)
-all_flat P Q f each [] h = tt
-all_flat P Q f each (x ∷ xs) h = all_append Q (f x) (flat_map f xs) (each x h.0) (all_flat P Q f each xs h.1)
 
 ops_lines : (os : List Op) → AllByRecursion IsOneMemberOp os → AllByRecursion IsLine (map lines.Operation os)
 ops_lines [] h = tt

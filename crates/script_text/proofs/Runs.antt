@@ -1,26 +1,21 @@
 -- The lines of a script of one member are taken, and give the script.
-use Rattle.std.proofs.Common.{◌≡◌, ℕ, zero, suc, ◌+◌, ◌<◌, ◌≤◌, Bool, true, false, nat_lt, List, [], ◌∷◌, ◌++◌, length, map, Option, Some, None, refl, sym, ap, ◌∙◌, arith, append_assoc, append-nil, length-append, option_and_then, option_map}
+use Rattle.std.proofs.Common.{◌≡◌, ℕ, suc, ◌+◌, ◌<◌, ◌≤◌, Bool, true, nat_lt, List, [], ◌∷◌, ◌++◌, length, map, Option, Some, None, refl, sym, ap, ◌∙◌, arith, append_assoc, append-nil, length-append, option_and_then, option_map}
 use Rattle.std.specs.List.{flat_map, AllByRecursion}
 use Rattle.std.proofs.lemmas.Bool.Decides.{nat_tests}
-use Rattle.std.proofs.lemmas.List.Concat.{flat_map-append}
 use Rattle.ds_model.specs.declared.script.Op.{Op}
 use Rattle.ds_model.specs.declared.script.Tran.{Tran}
 use Rattle.ds_model.specs.declared.script.FailAt.{FailAt}
 use Rattle.ds_model.specs.declared.script.Part.{Part}
 use Rattle.ds_model.specs.declared.script.Phase.{Phase}
 use Rattle.ds_model.specs.declared.script.Script.{Script}
-use Rattle.ds_model.specs.Transactions.{Placed, placed_part, placed_phase, placed}
-use Rattle.ds_model.specs.OneMember.{counted, IsOneMemberOp, IsOneMemberTran, IsOneMemberPart, IsOneMemberPhase, IsOneMember}
-use Rattle.script_text.specs.declared.draft.Place.{Place}
+use Rattle.ds_model.specs.Transactions.{Placed, placed_part, placed_phase}
+use Rattle.ds_model.specs.OneMember.{counted, IsOneMemberTran, IsOneMemberPart, IsOneMemberPhase, IsOneMember}
 use Rattle.script_text.specs.declared.draft.Place.TheVariants as place
 use Rattle.script_text.specs.declared.draft.Draft.{Draft}
 use Rattle.script_text.specs.declared.line.Line.{Line}
 use Rattle.script_text.specs.declared.line.Line.TheVariants as lines
 use Rattle.script_text.specs.Lines.{tran_lines, part_lines, phase_lines, script_lines}
-use Rattle.script_text.specs.Drafts.{start, phase_with, part_of, closed_at, closed, step, run, whole}
-
-abbrev draft_at : List Phase → ℕ → Place → Draft
-draft_at phases count p = record { phases = phases; count = count; place = p }
+use Rattle.script_text.specs.Drafts.{draft_at, start, phase_with, part_of, closed, run, whole}
 
 below : (m n : ℕ) → m < n → nat_lt m n ≡ true
 below m n h = grind (arith, nat_tests)

@@ -1,5 +1,5 @@
 -- The text of a script of one member is the text of its lines.
-use Rattle.std.proofs.Common.{◌≡◌, ℕ, Bool, true, false, List, [], ◌∷◌, ◌++◌, Option, None, refl, sym, ap, ◌∙◌, map, append_assoc, append-nil, codes}
+use Rattle.std.proofs.Common.{◌≡◌, ℕ, List, [], ◌∷◌, ◌++◌, refl, sym, ap, ◌∙◌, map, append_assoc, append-nil, codes}
 use Rattle.std.specs.List.{flat_map, AllByRecursion}
 use Rattle.std.specs.Fmt.{decimal}
 use Rattle.std.proofs.lemmas.List.Concat.{flat_map-append}
@@ -9,11 +9,11 @@ use Rattle.ds_model.specs.declared.script.Tran.{Tran}
 use Rattle.ds_model.specs.declared.script.Part.{Part}
 use Rattle.ds_model.specs.declared.script.Phase.{Phase}
 use Rattle.ds_model.specs.declared.script.Script.{Script}
-use Rattle.ds_model.specs.ScriptText.{line, op_text, wait_text, tran_text, restart_text, fail_text, part_text, groupfail_text, phase_text, script_text}
+use Rattle.ds_model.specs.ScriptText.{line, op_text, wait_text, tran_text, restart_text, fail_text, part_text, phase_text, script_text}
 use Rattle.ds_model.specs.OneMember.{IsOneMemberOp, IsOneMemberTran, IsOneMemberPart, IsOneMemberPhase, IsOneMember}
 use Rattle.script_text.specs.declared.line.Line.{Line}
 use Rattle.script_text.specs.declared.line.Line.TheVariants as lines
-use Rattle.script_text.specs.Lines.{op_words, words_of, IsLine, tran_lines, part_lines, phase_lines, script_lines, spelled}
+use Rattle.script_text.specs.Lines.{op_words, words_of, tran_lines, part_lines, phase_lines, script_lines, spelled}
 
 text_of_op : (o : Op) → IsOneMemberOp o → op_text o ≡ line (op_words o)
 text_of_op (op.Get table key) h = refl

@@ -1,26 +1,27 @@
 -- Reading a script of one member line by line.
-use Rattle.std.specs.Prelude.{◌≡◌, ℕ, ◌+◌, ◌≤◌, map, Bool, true, false, if◌then◌else◌, nat_lt, List, [], ◌∷◌, ◌++◌, length, Option, Some, None, option_map, option_and_then}
+use Rattle.std.specs.Prelude.{◌≡◌, ℕ, ◌+◌, Bool, true, false, if◌then◌else◌, nat_lt, List, [], ◌∷◌, ◌++◌, length, Option, Some, None, option_map, option_and_then}
 use Rattle.ds_model.specs.declared.script.Op.{Op}
 use Rattle.ds_model.specs.declared.script.Tran.{Tran}
 use Rattle.ds_model.specs.declared.script.Part.{Part}
 use Rattle.ds_model.specs.declared.script.Phase.{Phase}
 use Rattle.ds_model.specs.declared.script.Script.{Script}
-use Rattle.std.specs.List.{flat_map, AllByRecursion}
-use Rattle.ds_model.specs.Transactions.{Placed, placed_part, placed_phase, placed}
-use Rattle.ds_model.specs.OneMember.{counted, IsName, IsOneMemberOp, IsOneMemberTran, IsOneMemberPhase}
-use Rattle.script_text.specs.Lines.{IsLine, spelled}
 use Rattle.script_text.specs.declared.draft.Place.{Place}
 use Rattle.script_text.specs.declared.draft.Place.TheVariants as place
 use Rattle.script_text.specs.declared.draft.Draft.{Draft}
 use Rattle.script_text.specs.declared.line.Line.{Line}
 use Rattle.script_text.specs.declared.line.Line.TheVariants as lines
 
+abbrev pub draft_at : List Phase → ℕ → Place → Draft
+draft_at phases count p = record { phases = phases; count = count; place = p }
+
+-- before the first line
 abbrev pub start : Draft
-start = record { phases = []; count = 0; place = place.Outside }
+start = draft_at [] 0 place.Outside
 
 abbrev pub phase_with : List Part → Phase
 phase_with parts = record { groupfails = 0; parts = parts }
 
+-- a part of these transactions
 abbrev pub part_of : ℕ → List Tran → Part
 part_of member trans = record { member = member; restart = false; fail = None; trans = trans }
 
@@ -60,19 +61,19 @@ tran_ended number (place.Tran member trans name ops) = Some (place.Part member (
 
 -- the draft behind each kind of line; none where the line may not stand there
 abbrev pub step_phase : Draft → Option Draft
-step_phase d = option_map (λ phases. record { phases = phases; count = d.count; place = place.Phase }) (closed d)
+step_phase d = option_map (λ phases. draft_at phases d.count place.Phase) (closed d)
 
 abbrev pub step_member : Draft → ℕ → Option Draft
-step_member d member = option_map (λ p. record { phases = d.phases; count = d.count; place = p }) (part_begun d.place member)
+step_member d member = option_map (draft_at d.phases d.count) (part_begun d.place member)
 
 abbrev pub step_tran : Draft → List ℕ → Option Draft
-step_tran d name = if nat_lt d.count 65536 then option_map (λ p. record { phases = d.phases; count = d.count + 1; place = p }) (tran_begun d.place name) else None
+step_tran d name = if nat_lt d.count 65536 then option_map (draft_at d.phases (d.count + 1)) (tran_begun d.place name) else None
 
 abbrev pub step_op : Draft → Op → Option Draft
-step_op d o = option_map (λ p. record { phases = d.phases; count = d.count; place = p }) (op_taken d.place o)
+step_op d o = option_map (draft_at d.phases d.count) (op_taken d.place o)
 
 abbrev pub step_end : Draft → Option Draft
-step_end d = option_map (λ p. record { phases = d.phases; count = d.count; place = p }) (tran_ended d.count d.place)
+step_end d = option_map (draft_at d.phases d.count) (tran_ended d.count d.place)
 
 abbrev pub step : Draft → Line → Option Draft
 step d lines.Phase = step_phase d
@@ -93,51 +94,3 @@ whole d = option_map (λ phases. record { phases = phases; groupfails = 0 }) (cl
 -- the draft of what a step gives, if it was taken
 abbrev pub IsNext : Draft → Option Draft → Bool → Type 0
 IsNext now next taken = next ≡ (if taken then Some now else None)
-
--- the transactions that are ended, with their members
-abbrev pub placed_trans : ℕ → List Tran → List Placed
-placed_trans member trans = placed_part (part_of member trans)
-
-abbrev pub placed_at : Place → List Placed
-placed_at place.Outside = []
-placed_at place.Phase = []
-placed_at (place.Part member trans) = placed_trans member trans
-placed_at (place.Tran member trans name ops) = placed_trans member trans
-
-abbrev pub placed_so_far : Draft → List Placed
-placed_so_far d = flat_map placed_phase d.phases ++ placed_at d.place
-
--- how many transactions are open
-abbrev pub open_count : Place → ℕ
-open_count place.Outside = 0
-open_count place.Phase = 0
-open_count (place.Part member trans) = 0
-open_count (place.Tran member trans name ops) = 1
-
-abbrev pub IsPlace : Place → Type 0
-IsPlace place.Outside = Unit {0}
-IsPlace place.Phase = Unit {0}
-IsPlace (place.Part member trans) = (member ≡ 1) × AllByRecursion IsOneMemberTran trans
-IsPlace (place.Tran member trans name ops) = (member ≡ 1) × AllByRecursion IsOneMemberTran trans × IsName name × (length ops ≤ 64) × AllByRecursion IsOneMemberOp ops
-
--- all that was read so far may stand in a script of one member
-pub record IsDraft (d : Draft) : Type 0 where
-  pub phases_are : AllByRecursion IsOneMemberPhase d.phases
-  pub place_is : IsPlace d.place
-  pub count_is : d.count ≡ length (placed_so_far d) + open_count d.place
-  pub count_fits : d.count ≤ 65536
-  pub numbers : map (λ (p : Placed). p.1.number) (placed_so_far d) ≡ counted 1 (length (placed_so_far d))
-
--- All that makes a script one of one member, but for its names, its phases' number and its text's length.
-pub record IsShaped (s : Script) : Type 0 where
-  pub no_groupfail : s.groupfails ≡ 0
-  pub phases_are : AllByRecursion IsOneMemberPhase s.phases
-  pub trans_short : length (placed s) ≤ 65536
-  pub numbers : map (λ (p : Placed). p.1.number) (placed s) ≡ counted 1 (length (placed s))
-
--- These bytes are lines, and behind the draft they complete this script.
-pub record IsLeft (rest : List ℕ) (d : Draft) (s : Script) : Type 0 where
-  pub lines_left : List Line
-  pub are : AllByRecursion IsLine lines_left
-  pub text : rest ≡ spelled lines_left
-  pub completes : option_and_then whole (run d lines_left) ≡ Some s

@@ -1,5 +1,6 @@
 pub mod Words
 pub mod Lines
 pub mod Drafts
+pub mod Kept
 pub mod Names
-pub mod None
+pub mod Spelled

@@ -1,5 +1,5 @@
 -- The names of a script's transactions in 16 bytes each.
-use Rattle.std.specs.Prelude.{◌≡◌, ℕ, ◌-◌, List, ◌++◌, map, take, length, replicate}
+use Rattle.std.specs.Prelude.{ℕ, ◌-◌, List, ◌++◌, map, take, length, replicate}
 use Rattle.std.specs.List.{flat_map}
 use Rattle.ds_model.specs.declared.script.Tran.{Tran}
 use Rattle.ds_model.specs.declared.script.Part.{Part}

@@ -2,17 +2,12 @@ ghost use Rattle.std.specs.Prelude.{◌≡◌, Option, Some, None, Bool, if◌th
 ghost use Rattle.ds_model.specs.declared.script.Script.{Script};
 ghost use Rattle.script_text.specs.Drafts.{IsNext, step, step_phase, step_member, step_tran, step_op, step_end, closed, start, whole};
 
+use crate::limits::{OPS_LIMIT, TRANS_LIMIT};
 use crate::line::Line;
 use ds_base::{Bytes, MemberId, NoMemory, Sequence};
 use ds_model::{Op, OpList, Part, Phase, PhaseList, Script, Tran, TranList};
 use std::alloc::Global;
 use std::mem;
-
-/// The most operations that a transaction has.
-pub const OPS_LIMIT: usize = 64;
-
-/// The most transactions that a script has.
-pub const TRANS_LIMIT: u32 = 65_536;
 
 /// Where in a script a line stands.
 #[derive(Debug, Drop)]

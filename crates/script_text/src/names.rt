@@ -4,25 +4,26 @@ ghost use Rattle.std.specs.List.{flat_map};
 ghost use Rattle.std.specs.Cmp.Lexicographic.{slice_cmp};
 ghost use Rattle.std.specs.List.Sorted.{IsStrictlySortedBy};
 ghost use Rattle.ds_model.specs.OneMember.{Differ};
-ghost use Rattle.script_text.specs.Drafts.{IsShaped};
+ghost use Rattle.script_text.specs.Kept.{IsShaped};
 ghost use Rattle.script_text.specs.Names.{padded, padded_name, part_names, phase_names, script_names};
 
+use crate::limits::NAME_LIMIT;
 use ds_base::NoMemory;
 use ds_model::{Part, Phase, Script, Tran};
 use std::alloc::Global;
 use std::cmp::Ordering;
 
 // A name with zeros behind it.
-fn padded(name: &[u8]) -> [u8; 16]
+fn padded(name: &[u8]) -> [u8; NAME_LIMIT]
     ensures { result ≡ padded name.now }
 {
-    let mut filled = [0u8; 16];
-    let count = name.len().min(16);
+    let mut filled = [0u8; NAME_LIMIT];
+    let count = name.len().min(NAME_LIMIT);
     filled[..count].copy_from_slice(&name[..count]);
     filled
 }
 
-fn put_names(names: &mut Vec<[u8; 16]>, trans: &[Tran]) -> Result<(), NoMemory>
+fn put_names(names: &mut Vec<[u8; NAME_LIMIT]>, trans: &[Tran]) -> Result<(), NoMemory>
     ensures { OnOk result (names.new.items ≡ names.old.items ++ map padded_name trans.now) }
 {
     for tran in trans {
@@ -31,7 +32,7 @@ fn put_names(names: &mut Vec<[u8; 16]>, trans: &[Tran]) -> Result<(), NoMemory>
     Ok(())
 }
 
-fn put_part_names(names: &mut Vec<[u8; 16]>, parts: &[Part]) -> Result<(), NoMemory>
+fn put_part_names(names: &mut Vec<[u8; NAME_LIMIT]>, parts: &[Part]) -> Result<(), NoMemory>
     ensures { OnOk result (names.new.items ≡ names.old.items ++ flat_map part_names parts.now) }
 {
     for part in parts {
@@ -40,7 +41,7 @@ fn put_part_names(names: &mut Vec<[u8; 16]>, parts: &[Part]) -> Result<(), NoMem
     Ok(())
 }
 
-fn put_phase_names(names: &mut Vec<[u8; 16]>, phases: &[Phase]) -> Result<(), NoMemory>
+fn put_phase_names(names: &mut Vec<[u8; NAME_LIMIT]>, phases: &[Phase]) -> Result<(), NoMemory>
     ensures { OnOk result (names.new.items ≡ names.old.items ++ flat_map phase_names phases.now) }
 {
     for phase in phases {
@@ -50,7 +51,7 @@ fn put_phase_names(names: &mut Vec<[u8; 16]>, phases: &[Phase]) -> Result<(), No
 }
 
 // Whether each name is below the next.
-fn all_rise(names: &[[u8; 16]]) -> bool
+fn all_rise(names: &[[u8; NAME_LIMIT]]) -> bool
     ensures { IsTrue result ↔ IsStrictlySortedBy (slice_cmp nat_cmp) names.now }
 {
     for i in 1..names.len() {

@@ -2,10 +2,11 @@ ghost use Rattle.std.specs.Prelude.{◌≡◌, ◌↔◌, ◌≤◌, length, Som
 ghost use Rattle.ds_model.specs.declared.script.Script.{Script};
 ghost use Rattle.ds_model.specs.ScriptText.{script_text};
 ghost use Rattle.ds_model.specs.OneMember.{IsOneMember, Spells};
-ghost use Rattle.script_text.specs.Drafts.{IsShaped};
-ghost use Rattle.script_text.specs.None.{SpellsNone};
+ghost use Rattle.script_text.specs.Kept.{IsShaped};
+ghost use Rattle.script_text.specs.Spelled.{SpellsNone};
 
 use crate::draft::Draft;
+use crate::limits::{PHASES_LIMIT, TEXT_LIMIT};
 use crate::line::line_of;
 use crate::names::names_differ;
 use crate::words::cut;
@@ -13,12 +14,6 @@ use crate::write::script_bytes;
 use ds_base::NoMemory;
 use ds_model::Script;
 use std::alloc::Global;
-
-/// The most bytes that the text of a script has.
-pub const TEXT_LIMIT: usize = 4_194_304;
-
-/// The most phases that a script has.
-pub const PHASES_LIMIT: usize = 1024;
 
 // The script that these bytes may spell.
 fn script_of(alloc: Global, bytes: &[u8]) -> Result<Option<Script>, NoMemory>

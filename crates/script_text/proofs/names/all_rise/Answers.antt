@@ -1,4 +1,4 @@
-use Rattle.std.proofs.Common.{◌≡◌, ◌∙◌, refl}
+use Rattle.std.proofs.Common.{◌∙◌, refl}
 use Rattle.script_text.proofs.Rising.{not_less, rising, rises_at}
 use Rattle.script_text.proofs.names.all_rise.Goals as goal
 

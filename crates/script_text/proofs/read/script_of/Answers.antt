@@ -1,10 +1,11 @@
-use Rattle.std.proofs.Common.{◌≡◌, ℕ, List, [], length, Option, Some, None, IfSome, IfOk, Bool, cond, sym, ap, ◌∙◌, subst, arith, rules}
+use Rattle.std.proofs.Common.{◌≡◌, Option, Some, None, IfSome, IfOk, Bool, cond, sym, ap, ◌∙◌, subst}
 use Rattle.std.proofs.lemmas.Option.{none-some, same_Some}
 use Rattle.ds_model.specs.declared.script.Script.{Script}
 use Rattle.script_text.specs.declared.draft.Draft.{Draft}
 use Rattle.script_text.specs.declared.line.Line.{Line}
 use Rattle.script_text.specs.Lines.{words_of, IsLine}
-use Rattle.script_text.specs.Drafts.{IsDraft, IsLeft, IsShaped, step, whole}
+use Rattle.script_text.specs.Drafts.{step, whole}
+use Rattle.script_text.specs.Kept.{IsDraft, IsLeft, IsShaped}
 use Rattle.std.proofs.lemmas.Result.{IfOk-weaker}
 use Rattle.script_text.proofs.Keeps.{keeps, start_is, found_is}
 use Rattle.script_text.proofs.Lefts.{all_left, first_line, no_line, not_refused, left_behind, some_left, none_left}

@@ -1,8 +1,8 @@
-use Rattle.std.proofs.Common.{◌≡◌, ℕ, length}
+use Rattle.std.proofs.Common.{◌≡◌, length}
 use Rattle.ds_model.specs.declared.script.Script.{Script}
 use Rattle.ds_model.specs.ScriptText.{script_text}
 use Rattle.ds_model.specs.OneMember.{IsOneMember}
-use Rattle.script_text.specs.Drafts.{IsDraft, IsLeft}
+use Rattle.script_text.specs.Kept.{IsDraft, IsLeft}
 use Rattle.script_text.proofs.read.script_of.Given as goal
 
 abbrev pub invariant-loop-rest : goal.invariant-loop-rest

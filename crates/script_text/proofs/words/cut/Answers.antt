@@ -1,6 +1,5 @@
-use Rattle.std.proofs.Common.{rules, ◌≡◌, sym, ◌∙◌, ◌+◌, ◌++◌, ◌∷◌, ap, drop, take, List, ℕ}
+use Rattle.std.proofs.Common.{◌+◌}
 use Rattle.std.proofs.lemmas.List.{take_rest}
-use Rattle.script_text.specs.Words.{IsCut}
 use Rattle.script_text.proofs.Cuts.{cut_at, cut_found, same_parts}
 use Rattle.script_text.proofs.words.cut.Goals as goal
 
