@@ -1,4 +1,4 @@
-ghost use Rattle.std.specs.Prelude.{◌≡◌, ℕ, ◌+◌, ◌-◌, ◌≤◌, ◌++◌, ◌⊎◌, min, List, Bool, Option, Some, length, take, drop};
+ghost use Rattle.std.specs.Prelude.{◌≡◌, ℕ, ◌+◌, ◌-◌, ◌≤◌, ◌++◌, ◌⊎◌, min, List, Bool, Option, Some, length, take, drop, IfOk};
 ghost use Rattle.std.specs.FinMap as map;
 ghost use Rattle.ds_disk.specs.declared.disk.DiskError.TheVariants as errors;
 
@@ -84,6 +84,7 @@ pub trait Disk {
     fn read_log(&mut self, member: MemberId, at: u64, into: &mut [u8]) -> Result<usize, DiskError>
         ensures answers { Answers (alive self.old) (alive self.new) (contents self.old) (contents self.new) result
             (λ n c d. (d ≡ c) × (n ≡ min (length into.new) (length (log_of c.logs member) - at)) × (take n into.new ≡ take n (drop at (log_of c.logs member)))) Same }
+        ensures bound { IfOk result (λ n. n ≤ length into.new) }
         ensures cause { HasCause (faults self.old) (faults self.new) result };
 
     fn cut_log(&mut self, member: MemberId, length: u64) -> Result<(), DiskError>

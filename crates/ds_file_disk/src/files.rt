@@ -1,0 +1,92 @@
+//! What is done with one file.
+ghost use Rattle.std.specs.Prelude.{◌≤◌, length, IfOk};
+
+use std::fs::{File, OpenFile, OpenOptions};
+use std::io::{ErrorKind, Read, Seek, SeekFrom, Write};
+use std::path::Path;
+use std::rt::Files;
+use std::{fs, io};
+
+/// A file that is missing holds nothing.
+fn if_there<T>(found: io::Result<T>) -> io::Result<Option<T>> {
+    match found {
+        Ok(it) => Ok(Some(it)),
+        Err(error) if error.kind() == ErrorKind::NotFound => Ok(None),
+        Err(error) => Err(error),
+    }
+}
+
+pub fn length<R: Files>(rt: &R, path: Path<'_>) -> io::Result<u64> {
+    Ok(if_there(fs::metadata(rt, path))?.map_or(0, |metadata| metadata.len()))
+}
+
+/// Reads on until the buffer is full or the file ends.
+pub fn read_on<F: Read>(file: &mut F, into: &mut [u8]) -> io::Result<usize>
+    ensures { IfOk result (λ count. count ≤ length into.new) }
+{
+    let mut count = 0;
+    for _ in 0..u64::MAX {
+        if count == into.len() {
+            return Ok(count);
+        }
+        match file.read(&mut into[count..]) {
+            Ok(0) => return Ok(count),
+            Ok(more) => count += more,
+            Err(error) if error.kind() == ErrorKind::Interrupted => {}
+            Err(error) => return Err(error),
+        }
+    }
+    Err(ErrorKind::Interrupted.into())
+}
+
+/// Reads the bytes from `at` on, and answers how many there are.
+pub fn read_at<R: Files>(
+    rt: &R,
+    path: Path<'_>,
+    at: u64,
+    into: &mut [u8],
+) -> io::Result<usize>
+    ensures { IfOk result (λ count. count ≤ length into.new) }
+{
+    let Some(mut file) = if_there(File::open(rt, path))? else {
+        return Ok(0);
+    };
+    if file.metadata()?.len() <= at {
+        return Ok(0);
+    }
+    file.seek(SeekFrom::Start(at))?;
+    read_on(&mut file, into)
+}
+
+pub fn open_to_write<R: Files>(rt: &R, path: Path<'_>) -> io::Result<R::File> {
+    OpenOptions::new().write(true).create(true).open(rt, path)
+}
+
+pub fn open_to_append<R: Files>(rt: &R, path: Path<'_>) -> io::Result<R::File> {
+    OpenOptions::new().append(true).create(true).open(rt, path)
+}
+
+pub fn open_to_cut<R: Files>(rt: &R, path: Path<'_>) -> io::Result<Option<R::File>> {
+    if_there(OpenOptions::new().write(true).open(rt, path))
+}
+
+/// Writes bytes at a place, and waits until they are on the disk.
+pub fn write_at<F: Write + Seek + OpenFile>(file: &mut F, at: u64, bytes: &[u8]) -> io::Result<()> {
+    file.seek(SeekFrom::Start(at))?;
+    file.write_all(bytes)?;
+    file.sync_all()
+}
+
+/// Writes bytes at the end, and waits until they are on the disk.
+pub fn append<F: Write + OpenFile>(file: &mut F, bytes: &[u8]) -> io::Result<()> {
+    file.write_all(bytes)?;
+    file.sync_all()
+}
+
+/// Keeps the first `length` bytes, and waits until the rest is gone from the disk.
+pub fn cut<F: OpenFile>(file: &F, length: u64) -> io::Result<()> {
+    if length < file.metadata()?.len() {
+        file.set_len(length)?;
+    }
+    file.sync_all()
+}
