@@ -13,7 +13,7 @@ mod script;
 pub use fate::{Answer, Cycle, Fate, Reads, Refusal};
 pub use lock::Name;
 pub use log::{Body, LogRecord, RecordList, RowChange};
-pub use report::{NameList, Report, ReportEntry, ReportEntryList, Told, ToldRead, ToldReads, ToldRefusal};
-pub use script::{
-    FailAt, Op, OpList, Part, PartList, Phase, PhaseList, Script, Tran, TranList,
+pub use report::{
+    NameList, Report, ReportEntry, ReportEntryList, Told, ToldRead, ToldReads, ToldRefusal,
 };
+pub use script::{FailAt, Op, OpList, Part, PartList, Phase, PhaseList, Script, Tran, TranList};

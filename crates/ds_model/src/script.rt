@@ -4,17 +4,35 @@ use ds_base::{Bytes, Key, MemberId, Sequence, TableId, Value};
 #[derive(Clone, Copy, Debug)]
 pub enum Op {
     /// Reads a row.
-    Get { table: TableId, key: Key },
+    Get {
+        table: TableId,
+        key: Key,
+    },
     /// Sets a row.
-    Put { table: TableId, key: Key, value: Value },
+    Put {
+        table: TableId,
+        key: Key,
+        value: Value,
+    },
     /// Removes a row.
-    Del { table: TableId, key: Key },
+    Del {
+        table: TableId,
+        key: Key,
+    },
     /// Reads the rows from `low` to `high`, both included.
-    Scan { table: TableId, low: Key, high: Key },
+    Scan {
+        table: TableId,
+        low: Key,
+        high: Key,
+    },
     /// Raises a flag of the phase.
-    Raise { flag: u8 },
+    Raise {
+        flag: u8,
+    },
     /// Waits until a flag of the phase is raised.
-    Await { flag: u8 },
+    Await {
+        flag: u8,
+    },
     /// The cache structure is lost here.
     LoseCache,
     /// Rolls the transaction back.

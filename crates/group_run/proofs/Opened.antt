@@ -28,9 +28,11 @@ not_opened None b e n member found lt its some p q = tt
 not_opened (Some x) None e n member found lt its some p q = absurd p
 not_opened (Some x) (Some y) None n member found lt its some p q = absurd q
 not_opened (Some x) (Some y) (Some z) n member found lt its some p q =
-    let at : member - 1 ≡ n = omega arith in
-    (q.0 ∙ p.0, λ empty. some (q.1 ∙ ap (λ (c : Contents). length (log_of c.logs member)) p.0 ∙ ap (λ (logs : List (List ℕ)). length {A = ℕ} (get_or logs (member - 1) [])) empty
-      ∙ ap (λ i. length {A = ℕ} (get_or (replicate {A = List ℕ} 32 []) i [])) at ∙ ap (length {A = ℕ}) (get_or-replicate {A = List ℕ} 32 n [] [] lt)))
+    let at : member - 1 ≡ n = omega arith in (
+      q.0 ∙ p.0,
+      λ empty. some (q.1 ∙ ap (λ (c : Contents). length (log_of c.logs member)) p.0 ∙ ap (λ (logs : List (List ℕ)). length {A = ℕ} (get_or logs (member - 1) [])) empty
+          ∙ ap (λ i. length {A = ℕ} (get_or (replicate {A = List ℕ} 32 []) i [])) at ∙ ap (length {A = ℕ}) (get_or-replicate {A = List ℕ} 32 n [] [] lt)),
+    )
 
 pub opening_same : (before after : Option Contents) → Becomes before after IsOpening → Becomes before after Same
 opening_same None after h = tt

@@ -11,7 +11,8 @@ use std::thread::Threads;
 const HELLO: &str =
     "phase\nmember 1\ntran a\nput 1 10 =hello\nend\nphase\nmember 1\ntran b\nget 1 10\nend\n";
 
-const HELLO_REPORT: &str = "dsgroup 1\ncommitted a M1 answered\ncommitted b M1 answered\nread 1 10 =hello\nrows 1\nrow 1 10 =hello\nend 0\n";
+const HELLO_REPORT: &str =
+    "dsgroup 1\ncommitted a M1 answered\ncommitted b M1 answered\nread 1 10 =hello\nrows 1\nrow 1 10 =hello\nend 0\n";
 
 /// Which call fails, from 1; 0 fails none.
 #[derive(Clone, Copy)]
@@ -85,11 +86,25 @@ fn a_row_is_put_and_read_and_its_log_is_left(rt: HostRuntime) -> Result<(), Fail
     let alloc = rt.alloc();
     let member = MemberId::new(1).ok_or("member")?;
     let disk = disk_with(alloc, None)?;
-    let disk = plays(&rt, alloc, disk, ("play", HELLO), NO_FAULTS, (Status::Done, HELLO_REPORT))?;
+    let disk = plays(
+        &rt,
+        alloc,
+        disk,
+        ("play", HELLO),
+        NO_FAULTS,
+        (Status::Done, HELLO_REPORT),
+    )?;
     // A changed row of 46 bytes and its commit, and then the commit of the reader, each of 22.
     assert_eq!(rt; disk.log(member).len(), 90);
     // A disk with a log is left as it is.
-    let again = plays(&rt, alloc, disk, ("play", HELLO), NO_FAULTS, (Status::NotYet, "not yet\n"))?;
+    let again = plays(
+        &rt,
+        alloc,
+        disk,
+        ("play", HELLO),
+        NO_FAULTS,
+        (Status::NotYet, "not yet\n"),
+    )?;
     assert_eq!(rt; again.log(member).len(), 90);
     Ok(())
 }
@@ -100,31 +115,89 @@ fn orders_and_scripts_are_settled_first(rt: HostRuntime) -> Result<(), Fail> {
     let later = "phase\nmember 2\ntran a\nput 1 10 =hello\nend\n";
     let empty = "dsgroup 1\nrows 0\nend 0\n";
     plays_anew(&rt, alloc, ("play", ""), NO_FAULTS, (Status::Done, empty))?;
-    plays_anew(&rt, alloc, ("show", HELLO), NO_FAULTS, (Status::WordsRefused, "words refused\n"))?;
-    plays_anew(&rt, alloc, ("play", later), NO_FAULTS, (Status::NotYet, "not yet\n"))
+    plays_anew(
+        &rt,
+        alloc,
+        ("show", HELLO),
+        NO_FAULTS,
+        (Status::WordsRefused, "words refused\n"),
+    )?;
+    plays_anew(
+        &rt,
+        alloc,
+        ("play", later),
+        NO_FAULTS,
+        (Status::NotYet, "not yet\n"),
+    )
 }
 
 #[test]
 fn faults_of_the_ends_are_told(rt: HostRuntime) -> Result<(), Fail> {
     let alloc = rt.alloc();
-    let source = Faults { source: 1, sink: 0, disk: None };
-    plays_anew(&rt, alloc, ("play", HELLO), source, (Status::SourceFailed, "source failed\n"))?;
-    let sink = Faults { source: 0, sink: 1, disk: None };
+    let source = Faults {
+        source: 1,
+        sink: 0,
+        disk: None,
+    };
+    plays_anew(
+        &rt,
+        alloc,
+        ("play", HELLO),
+        source,
+        (Status::SourceFailed, "source failed\n"),
+    )?;
+    let sink = Faults {
+        source: 0,
+        sink: 1,
+        disk: None,
+    };
     plays_anew(&rt, alloc, ("play", HELLO), sink, (Status::SinkFailed, ""))
 }
 
 #[test]
 fn faults_of_the_disk_are_told(rt: HostRuntime) -> Result<(), Fail> {
     let alloc = rt.alloc();
-    let length = Faults { source: 0, sink: 0, disk: Some((DiskOp::LogLength, 1)) };
-    plays_anew(&rt, alloc, ("play", HELLO), length, (Status::DiskFailed, "disk failed\n"))?;
-    let append = Faults { source: 0, sink: 0, disk: Some((DiskOp::AppendLog, 1)) };
+    let length = Faults {
+        source: 0,
+        sink: 0,
+        disk: Some((DiskOp::LogLength, 1)),
+    };
+    plays_anew(
+        &rt,
+        alloc,
+        ("play", HELLO),
+        length,
+        (Status::DiskFailed, "disk failed\n"),
+    )?;
+    let append = Faults {
+        source: 0,
+        sink: 0,
+        disk: Some((DiskOp::AppendLog, 1)),
+    };
     let stopped = "dsgroup 1\nstopped a M1\nstopped b M1\nrows 0\nend 5\n";
-    plays_anew(&rt, alloc, ("play", HELLO), append, (Status::DiskFailed, stopped))?;
-    let script = "phase\nmember 1\ntran a\nput 1 1 =old\nend\ntran b\nput 1 1 =new\nput 1 2 =x\nget 1 1\nend\n";
-    let second = Faults { source: 0, sink: 0, disk: Some((DiskOp::AppendLog, 2)) };
-    let restored = "dsgroup 1\ncommitted a M1 answered\nstopped b M1\nrows 1\nrow 1 1 =old\nend 5\n";
-    plays_anew(&rt, alloc, ("play", script), second, (Status::DiskFailed, restored))
+    plays_anew(
+        &rt,
+        alloc,
+        ("play", HELLO),
+        append,
+        (Status::DiskFailed, stopped),
+    )?;
+    let script =
+        "phase\nmember 1\ntran a\nput 1 1 =old\nend\ntran b\nput 1 1 =new\nput 1 2 =x\nget 1 1\nend\n";
+    let second = Faults {
+        source: 0,
+        sink: 0,
+        disk: Some((DiskOp::AppendLog, 2)),
+    };
+    let restored =
+        "dsgroup 1\ncommitted a M1 answered\nstopped b M1\nrows 1\nrow 1 1 =old\nend 5\n";
+    plays_anew(
+        &rt,
+        alloc,
+        ("play", script),
+        second,
+        (Status::DiskFailed, restored),
+    )
 }
 
 #[test]

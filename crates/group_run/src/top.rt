@@ -102,13 +102,21 @@ fn perform<S: Source, K: Sink, D: Disk>(
         (K.taken sink.old) (K.taken sink.new) (K.faults sink.old) (K.faults sink.new) }
 {
     match prepare(alloc, words, source, disk) {
-        Err(NoMemory) => (Status::NoMemory, false, empty_report(alloc, Status::NoMemory)),
+        Err(NoMemory) => (
+            Status::NoMemory,
+            false,
+            empty_report(alloc, Status::NoMemory),
+        ),
         Ok(Prepared::Ended(met)) => {
             let status = tell(sink, met, words_of(met));
             (status, false, empty_report(alloc, status))
         }
         Ok(Prepared::Ready(script)) => match run_ready(alloc, sink, disk, script) {
-            Err(NoMemory) => (Status::NoMemory, true, empty_report(alloc, Status::NoMemory)),
+            Err(NoMemory) => (
+                Status::NoMemory,
+                true,
+                empty_report(alloc, Status::NoMemory),
+            ),
             Ok((status, report)) => (status, true, report),
         },
     }
@@ -119,13 +127,7 @@ fn perform<S: Source, K: Sink, D: Disk>(
 /// The words are the command line without the program's name. The source is read to its end, or to the first
 /// byte past the longest script; then the logs are looked at; then the script is run. The sink gets the report,
 /// or the one line of a status that was met before the run opened. Today one thread plays all, and no gate is passed.
-pub fn play<
-    R: Threads + Wait + Sync,
-    S: Source,
-    K: Sink,
-    D: Disk + Send,
-    G: Gate + Sync,
->(
+pub fn play<R: Threads + Wait + Sync, S: Source, K: Sink, D: Disk + Send, G: Gate + Sync>(
     _rt: &R,
     alloc: Global,
     words: &[String],

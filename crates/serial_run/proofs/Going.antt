@@ -50,7 +50,7 @@ goes_on items i d p was s now entries so_far more reads a b x y z f g h lt its p
     let ps = take i items in
     let more_is : take (i + 1) items ≡ ps ++ p ∷ [] = take_more items i d lt ∙ ap (λ (q : Placed). ps ++ q ∷ []) (sym its) in
     let entry : entry_with p (told.Committed true reads) ≡ commit_entry (state_after was ps).rows p =
-        ap (λ (r : List ToldRead). entry_with p (told.Committed true r)) (committed.reads_are ∙ ap (λ (t : State). told_all t.rows p.1.ops) so.state_is) in
+    ap (λ (r : List ToldRead). entry_with p (told.Committed true r)) (committed.reads_are ∙ ap (λ (t : State). told_all t.rows p.1.ops) so.state_is) in
     record {
       entries_are = pushed ∙ ap (λ (l : List ReportEntry). l ++ entry_with p (told.Committed true reads) ∷ []) so.entries_are
           ∙ append_assoc entries (commit_entries was.rows ps) _

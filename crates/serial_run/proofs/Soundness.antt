@@ -87,7 +87,7 @@ in_order s count is =
     let ps = placed s in
     let numbers = λ (l : List Placed). map (λ (p : Placed). p.1.number) l in
     let split : numbers (take count ps) ++ numbers (drop count ps) ≡ counted 1 (length ps) =
-        sym (numbers_both (take count ps) (drop count ps)) ∙ ap (λ (l : List Placed). map (λ (p : Placed). p.1.number) l) (take-append-drop count ps) ∙ is.numbers in
+    sym (numbers_both (take count ps) (drop count ps)) ∙ ap (λ (l : List Placed). map (λ (p : Placed). p.1.number) l) (take-append-drop count ps) ∙ is.numbers in
     let rising : RiseAbove 0 (numbers (take count ps) ++ numbers (drop count ps)) = subst (RiseAbove 0) (sym split) (rises_counted 0 1 (length ps) (omega arith)) in
     record {
       committed = commits finite.empty (take count ps);
@@ -120,9 +120,11 @@ legal_stops rows (p ∷ ps) = (tt, legal_stops rows ps)
 
 legal_history : (rows : Rows) (ps : List Placed) (others : List Placed) → AllByRecursion IsFirst ps → IsLegal rows (commits rows ps ++ map stop others)
 legal_history rows [] others are = legal_stops rows others
-legal_history rows (p ∷ ps) others are =
-    (refl, subst (λ (r : Rows). IsLegal r (commits (after_ops rows p.1.ops) ps ++ map stop others)) (sym (tran_is rows p.1.ops are.0.1.ops_are))
-      (legal_history (after_ops rows p.1.ops) ps others are.1))
+legal_history rows (p ∷ ps) others are = (
+  refl,
+  subst (λ (r : Rows). IsLegal r (commits (after_ops rows p.1.ops) ps ++ map stop others)) (sym (tran_is rows p.1.ops are.0.1.ops_are))
+      (legal_history (after_ops rows p.1.ops) ps others are.1),
+)
 
 replay_stops : (rows : Rows) (ps : List Placed) → replay rows (map stop ps) ≡ rows
 replay_stops rows [] = refl

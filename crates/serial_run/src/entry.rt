@@ -7,11 +7,7 @@ use ds_model::{ReportEntry, ReportEntryList, Told};
 use std::alloc::Global;
 
 /// The entry of a transaction with this fate.
-pub fn entry_of(
-    alloc: Global,
-    item: &PlacedTran,
-    told: Told,
-) -> Result<ReportEntry, NoMemory>
+pub fn entry_of(alloc: Global, item: &PlacedTran, told: Told) -> Result<ReportEntry, NoMemory>
     ensures { IfOk result (λ e. e ≡ entry_with item.now told) }
 {
     let name = Bytes::from_vec(Vec::from_slice(alloc, item.1.name.as_slice())?);

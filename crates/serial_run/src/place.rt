@@ -16,11 +16,7 @@ pub fn place_of(n: u32) -> Place
 }
 
 /// The number of a key, which gets the next where it has none.
-pub fn number_key(
-    places: &mut SpotMap<u32>,
-    table: TableId,
-    key: Key,
-) -> Result<u32, NoMemory>
+pub fn number_key(places: &mut SpotMap<u32>, table: TableId, key: Key) -> Result<u32, NoMemory>
     requires { finite.len places.old < 2 ^ 32 }
     ensures number { IfOk result (λ n. n ≡ number_in places.old (table, key)) }
     ensures after { OnOk result (places.new ≡ placed_as places.old (table, key) (finite.get places.old (table, key))) }

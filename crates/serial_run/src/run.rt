@@ -54,11 +54,7 @@ fn play_trans<D: Disk>(
 
 /// Plays the transactions of a script, one after the other in the order of the script. Where an append
 /// fails, that transaction and all behind it are stopped.
-pub fn run_script<D: Disk>(
-    alloc: Global,
-    disk: &mut D,
-    script: Script,
-) -> Result<Ran, NoMemory>
+pub fn run_script<D: Disk>(alloc: Global, disk: &mut D, script: Script) -> Result<Ran, NoMemory>
     requires one_member { IsOneMember script }
     requires alive { D.alive disk.old ≡ true }
     ensures ran { IfOk result (λ ran. IsRunOf script ran (D.alive disk.new) (D.contents disk.old) (D.contents disk.new) (D.faults disk.old) (D.faults disk.new)) }

@@ -28,12 +28,7 @@ pub fn lrsn_of(n: u64) -> Lrsn
 }
 
 // Adds the record of a row change, or of the commit.
-fn log(
-    draft: &mut Draft,
-    lrsn: Lrsn,
-    tran: Lrsn,
-    change: Option<RowChange>,
-) -> Result<(), NoMemory>
+fn log(draft: &mut Draft, lrsn: Lrsn, tran: Lrsn, change: Option<RowChange>) -> Result<(), NoMemory>
     ensures reads { OnOk result (draft.new.reads ≡ draft.old.reads) }
     ensures records { OnOk result (draft.new.records ≡ draft.old.records ++ record { lrsn = lrsn; tran = tran; body = body_of change } ∷ []) }
 {
@@ -96,11 +91,7 @@ fn take_op(state: &mut State, draft: &mut Draft, tran: Lrsn, op: &Op) -> Result<
 }
 
 /// Adds the record of the commit.
-pub fn commit(
-    state: &mut State,
-    draft: &mut Draft,
-    tran: Lrsn,
-) -> Result<(), NoMemory>
+pub fn commit(state: &mut State, draft: &mut Draft, tran: Lrsn) -> Result<(), NoMemory>
     requires { HasRoom state.old 1 }
     ensures state { OnOk result (state.new ≡ committed state.old) }
     ensures few { OnOk result (HasRoom state.new 0) }
