@@ -136,7 +136,7 @@ pub fn put_record(out: &mut Bytes, it: &LogRecord) -> Result<(), NoMemory>
 
 /// The bytes of these records, one after another.
 pub fn records_bytes(alloc: Global, records: &[LogRecord]) -> Result<Bytes, NoMemory>
-    requires fit { AllByRecursion Fits records.now }
+    requires { AllByRecursion Fits records.now }
     ensures bytes { IfOk result (λ bytes. bytes ≡ log_bytes records.now) }
     ensures allowed { OnOk result (AllByRecursion IsAllowed records.now) }
 {
