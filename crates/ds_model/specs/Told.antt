@@ -1,5 +1,5 @@
 -- What a report tells of a history.
-use Rattle.std.specs.Prelude.{ℕ, List, [], ◌∷◌, map, Option}
+use Rattle.std.specs.Prelude.{ℕ, true, false, List, [], ◌∷◌, map, Option}
 use Rattle.ds_base.specs.declared.row.Row.{Row}
 use Rattle.ds_base.specs.declared.names.TranId.{TranId}
 use Rattle.ds_model.specs.declared.script.Op.{Op}
@@ -48,8 +48,10 @@ told_refusal_of s (refusal.LrsnEnd at) = told_refusal.LrsnEnd at
 told_refusal_of s refusal.Memory = told_refusal.Memory
 told_refusal_of s refusal.Aborted = told_refusal.Aborted
 
+-- a committed one that was not answered has told its reads to nobody
 abbrev pub told_of : Script → List Op → Fate → Told
-told_of s ops (fate.Committed answered reads) = told.Committed answered (told_reads ops reads)
+told_of s ops (fate.Committed true reads) = told.Committed true (told_reads ops reads)
+told_of s ops (fate.Committed false reads) = told.Committed false []
 told_of s ops (fate.Refused refusal) = told.Refused (told_refusal_of s refusal)
 told_of s ops fate.Stopped = told.Stopped
 

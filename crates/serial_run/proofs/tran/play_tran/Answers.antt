@@ -15,7 +15,7 @@ use Rattle.serial_run.proofs.tran.play_tran.Goals as goal
 
 pub records_bytes-requires : goal.records_bytes-requires
 records_bytes-requires g c =
-    record { fit = subst (AllByRecursion Fits) (sym (c.as_slice.ensures ∙ c.in_ok-draft.ensures.records)) (all_fit c.args.state.now c.args.ops.now) }
+    subst (AllByRecursion Fits) (sym (c.as_slice.ensures ∙ c.in_ok-draft.ensures.records)) (all_fit c.args.state.now c.args.ops.now)
 
 pub returns-in_ok-undo-in-Err-Failed-clause-plays : goal.returns-in_ok-undo-in-Err-Failed-clause-plays
 returns-in_ok-undo-in-Err-Failed-clause-plays g c =
