@@ -40,12 +40,7 @@ pub fn read_on<F: Read>(file: &mut F, into: &mut [u8]) -> io::Result<usize>
 }
 
 /// Reads the bytes from `at` on, and answers how many there are.
-pub fn read_at<R: Files>(
-    rt: &R,
-    path: Path<'_>,
-    at: u64,
-    into: &mut [u8],
-) -> io::Result<usize>
+pub fn read_at<R: Files>(rt: &R, path: Path<'_>, at: u64, into: &mut [u8]) -> io::Result<usize>
     ensures { IfOk result (λ count. count ≤ length into.new) }
 {
     let Some(mut file) = if_there(File::open(rt, path))? else {
