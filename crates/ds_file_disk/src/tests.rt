@@ -1,12 +1,10 @@
 use super::*;
-use crate::files::read_on;
 use ds_base::{MemberId, PageId};
 use ds_disk::{Disk, DiskError};
-use std::io::{ErrorKind, Read};
+use std::fs;
 use std::os::unix::fs::symlink;
 use std::process::Abort;
 use std::test::Fail;
-use std::{fs, io};
 
 fn member(rt: &impl Abort, number: u64) -> MemberId {
     MemberId::new(number).expect(rt, "a member")
@@ -143,42 +141,5 @@ fn a_disk_is_dead_after_a_write_that_failed(rt: HostRuntime) -> Result<(), Fail>
         b"abc".as_slice()
     );
     fs::remove_dir_all(&rt, "full")?;
-    Ok(())
-}
-
-/// Gives a byte a read, and is interrupted now and then, until it fails.
-#[derive(Drop)]
-struct Dripping {
-    reads: u8,
-    ends: u8,
-}
-
-impl Read for Dripping {
-    fn read(&mut self, buf: &mut [u8]) -> io::Result<usize> {
-        self.reads = self.reads.wrapping_add(1);
-        if self.reads == self.ends {
-            return Err(ErrorKind::Other.into());
-        }
-        if self.reads % 3 == 0 {
-            return Err(ErrorKind::Interrupted.into());
-        }
-        if buf.is_empty() {
-            return Ok(0);
-        }
-        buf[0] = self.reads;
-        Ok(1)
-    }
-}
-
-#[test]
-fn short_reads_go_on_and_an_error_ends_them(rt: HostRuntime) -> Result<(), Fail> {
-    let mut bytes = [0; 4];
-    assert_eq!(rt;
-        read_on(&mut Dripping { reads: 0, ends: 9 }, &mut bytes)?,
-        4
-    );
-    assert_eq!(rt; bytes, [1, 2, 4, 5]);
-    let failed = read_on(&mut Dripping { reads: 0, ends: 4 }, &mut bytes);
-    assert!(rt; matches!(failed, Err(error) if error.kind() == ErrorKind::Other));
     Ok(())
 }
