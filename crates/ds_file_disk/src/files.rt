@@ -20,42 +20,21 @@ pub fn length<R: Files>(rt: &R, path: Path<'_>) -> io::Result<u64> {
     Ok(if_there(fs::metadata(rt, path))?.map_or(0, |metadata| metadata.len()))
 }
 
-/// Reads on until the buffer is full or the file ends.
-pub fn read_on<F: Read>(file: &mut F, into: &mut [u8]) -> io::Result<usize>
-    ensures { IfOk result (λ count. count ≤ length into.new) }
-{
-    let mut count = 0;
-    for _ in 0..u64::MAX {
-        if count == into.len() {
-            return Ok(count);
-        }
-        match file.read(&mut into[count..]) {
-            Ok(0) => return Ok(count),
-            Ok(more) => count += more,
-            Err(error) if error.kind() == ErrorKind::Interrupted => {}
-            Err(error) => return Err(error),
-        }
-    }
-    Err(ErrorKind::Interrupted.into())
-}
-
 /// Reads the bytes from `at` on, and answers how many there are.
-pub fn read_at<R: Files>(
-    rt: &R,
-    path: Path<'_>,
-    at: u64,
-    into: &mut [u8],
-) -> io::Result<usize>
+pub fn read_at<R: Files>(rt: &R, path: Path<'_>, at: u64, into: &mut [u8]) -> io::Result<usize>
     ensures { IfOk result (λ count. count ≤ length into.new) }
 {
     let Some(mut file) = if_there(File::open(rt, path))? else {
         return Ok(0);
     };
-    if file.metadata()?.len() <= at {
+    let length = file.metadata()?.len();
+    if length <= at {
         return Ok(0);
     }
+    let count = into.len().min((length - at) as usize);
     file.seek(SeekFrom::Start(at))?;
-    read_on(&mut file, into)
+    file.read_exact(&mut into[..count])?;
+    Ok(count)
 }
 
 pub fn open_to_write<R: Files>(rt: &R, path: Path<'_>) -> io::Result<R::File> {

@@ -1,15 +1,19 @@
 use super::*;
-use crate::files::read_on;
 use ds_base::{MemberId, PageId};
 use ds_disk::{Disk, DiskError};
-use std::io::{ErrorKind, Read};
+use std::fs;
 use std::os::unix::fs::symlink;
 use std::process::Abort;
 use std::test::Fail;
-use std::{fs, io};
 
 fn member(rt: &impl Abort, number: u64) -> MemberId {
     MemberId::new(number).expect(rt, "a member")
+}
+
+/// Whether `count` bytes are `front`, and all after them `rest`.
+fn is_made_of(bytes: &[u8], count: usize, front: u8, rest: u8) -> bool {
+    let mut bytes = bytes.iter().enumerate();
+    bytes.all(|(at, byte)| *byte == if at < count { front } else { rest })
 }
 
 /// A disk over an empty folder.
@@ -23,21 +27,45 @@ fn emptied(rt: HostRuntime, folder: &str) -> Result<FileDisk<HostRuntime>, Fail>
 fn a_page_lies_at_4096_times_its_number(rt: HostRuntime) -> Result<(), Fail> {
     let mut disk = emptied(rt, "pages")?;
     let mut page = [9; 4096];
-    assert_eq!(rt; disk.read_page(PageId { set: 7, number: 1 }, &mut page), Ok(()));
+    assert_eq!(rt;
+        disk.read_page(PageId { set: 7, number: 1 }, &mut page),
+        Ok(())
+    );
     assert!(rt; page == [0; 4096], "a page of a missing file");
-    assert_eq!(rt; disk.write_page(PageId { set: 7, number: 1 }, &[5; 4096]), Ok(()));
-    assert_eq!(rt; disk.write_page(PageId { set: 128, number: 0 }, &[6; 4096]), Ok(()));
+    assert_eq!(rt;
+        disk.write_page(PageId { set: 7, number: 1 }, &[5; 4096]),
+        Ok(())
+    );
+    assert_eq!(rt;
+        disk.write_page(
+            PageId {
+                set: 128,
+                number: 0
+            },
+            &[6; 4096]
+        ),
+        Ok(())
+    );
     let bytes = fs::read(&rt, "pages/space-007.pages")?;
     assert_eq!(rt; bytes.len(), 8192);
-    assert!(rt; bytes[..4096] == [0; 4096] && bytes[4096..] == [5; 4096]);
+    assert!(rt; is_made_of(bytes.as_slice(), 4096, 0, 5));
     assert_eq!(rt; fs::metadata(&rt, "pages/space-128.pages")?.len(), 4096);
     for (number, byte) in [(0, 0), (1, 5), (2, 0)] {
-        assert_eq!(rt; disk.read_page(PageId { set: 7, number }, &mut page), Ok(()));
+        assert_eq!(rt;
+            disk.read_page(PageId { set: 7, number }, &mut page),
+            Ok(())
+        );
         assert!(rt; page == [byte; 4096], "page {number}");
     }
     fs::write(&rt, "pages/space-007.pages", [8; 5000].as_slice())?;
-    assert_eq!(rt; disk.read_page(PageId { set: 7, number: 1 }, &mut page), Ok(()));
-    assert!(rt; page[..904] == [8; 904] && page[904..] == [0; 3192], "a page partly past the end");
+    assert_eq!(rt;
+        disk.read_page(PageId { set: 7, number: 1 }, &mut page),
+        Ok(())
+    );
+    assert!(rt;
+        is_made_of(page.as_slice(), 904, 8, 0),
+        "a page partly past the end"
+    );
     fs::remove_dir_all(&rt, "pages")?;
     Ok(())
 }
@@ -54,8 +82,14 @@ fn a_log_grows_is_read_and_is_cut(rt: HostRuntime) -> Result<(), Fail> {
     assert_eq!(rt; disk.append_log(last, b"defg"), Ok(()));
     assert_eq!(rt; disk.append_log(first, b"h"), Ok(()));
     assert_eq!(rt; disk.log_length(last), Ok(7));
-    assert_eq!(rt; fs::read(&rt, "logs/log-32.log")?.as_slice(), b"abcdefg".as_slice());
-    assert_eq!(rt; fs::read(&rt, "logs/log-01.log")?.as_slice(), b"h".as_slice());
+    assert_eq!(rt;
+        fs::read(&rt, "logs/log-32.log")?.as_slice(),
+        b"abcdefg".as_slice()
+    );
+    assert_eq!(rt;
+        fs::read(&rt, "logs/log-01.log")?.as_slice(),
+        b"h".as_slice()
+    );
     assert_eq!(rt; disk.read_log(last, 2, &mut bytes), Ok(4));
     assert_eq!(rt; bytes.as_slice(), b"cdef".as_slice());
     assert_eq!(rt; disk.read_log(last, 5, &mut bytes), Ok(2));
@@ -65,7 +99,10 @@ fn a_log_grows_is_read_and_is_cut(rt: HostRuntime) -> Result<(), Fail> {
     }
     assert_eq!(rt; disk.cut_log(last, 5), Ok(()));
     assert_eq!(rt; disk.append_log(last, b"x"), Ok(()));
-    assert_eq!(rt; fs::read(&rt, "logs/log-32.log")?.as_slice(), b"abcdex".as_slice());
+    assert_eq!(rt;
+        fs::read(&rt, "logs/log-32.log")?.as_slice(),
+        b"abcdex".as_slice()
+    );
     fs::remove_dir_all(&rt, "logs")?;
     Ok(())
 }
@@ -90,43 +127,19 @@ fn a_disk_is_dead_after_a_write_that_failed(rt: HostRuntime) -> Result<(), Fail>
     let mut disk = emptied(rt, "full")?;
     symlink(&rt, "/dev/full", "full/log-01.log")?;
     assert_eq!(rt; disk.append_log(member(&rt, 2), b"abc"), Ok(()));
-    assert_eq!(rt; disk.append_log(member(&rt, 1), b"abc"), Err(DiskError::Failed));
+    assert_eq!(rt;
+        disk.append_log(member(&rt, 1), b"abc"),
+        Err(DiskError::Failed)
+    );
     assert_eq!(rt; disk.log_length(member(&rt, 2)), Err(DiskError::Failed));
-    assert_eq!(rt; disk.append_log(member(&rt, 2), b"def"), Err(DiskError::Failed));
-    assert_eq!(rt; fs::read(&rt, "full/log-02.log")?.as_slice(), b"abc".as_slice());
+    assert_eq!(rt;
+        disk.append_log(member(&rt, 2), b"def"),
+        Err(DiskError::Failed)
+    );
+    assert_eq!(rt;
+        fs::read(&rt, "full/log-02.log")?.as_slice(),
+        b"abc".as_slice()
+    );
     fs::remove_dir_all(&rt, "full")?;
-    Ok(())
-}
-
-/// Gives a byte a read, and is interrupted now and then, until it fails.
-struct Dripping {
-    reads: u8,
-    ends: u8,
-}
-
-impl Read for Dripping {
-    fn read(&mut self, buf: &mut [u8]) -> io::Result<usize> {
-        self.reads = self.reads.wrapping_add(1);
-        if self.reads == self.ends {
-            return Err(ErrorKind::Other.into());
-        }
-        if self.reads % 3 == 0 {
-            return Err(ErrorKind::Interrupted.into());
-        }
-        if buf.is_empty() {
-            return Ok(0);
-        }
-        buf[0] = self.reads;
-        Ok(1)
-    }
-}
-
-#[test]
-fn short_reads_go_on_and_an_error_ends_them(rt: HostRuntime) -> Result<(), Fail> {
-    let mut bytes = [0; 4];
-    assert_eq!(rt; read_on(&mut Dripping { reads: 0, ends: 9 }, &mut bytes)?, 4);
-    assert_eq!(rt; bytes, [1, 2, 4, 5]);
-    let failed = read_on(&mut Dripping { reads: 0, ends: 4 }, &mut bytes);
-    assert!(rt; matches!(failed, Err(error) if error.kind() == ErrorKind::Other));
     Ok(())
 }
