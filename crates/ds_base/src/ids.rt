@@ -4,8 +4,14 @@ ghost use Rattle.ds_base.specs.Ids.{IsMember, IsTable, IsLrsn};
 
 use std::marker::Model;
 
+/// How many bytes a log record sequence number has.
+pub const LRSN_WIDTH: u32 = 6;
+
+/// The least number that is no log record sequence number.
+pub const LRSN_END: u64 = 1 << (8 * LRSN_WIDTH);
+
 /// The last number that new work draws. The numbers above it are for compensations alone.
-pub const LRSN_LIMIT: u64 = (1 << 48) - (1 << 24);
+pub const LRSN_LIMIT: u64 = LRSN_END - (1 << 24);
 
 /// A member of the group, 1 to 32.
 #[derive(Clone, Copy, Debug, PartialEq, Eq, PartialOrd, Ord)]
@@ -97,7 +103,7 @@ impl Lrsn {
     pub fn new(n: u64) -> Option<Lrsn>
         ensures { SomeIff result (IsLrsn n) n }
     {
-        if n < (1 << 48) {
+        if n < LRSN_END {
             Some(Lrsn { number: n })
         } else {
             None

@@ -1,17 +1,17 @@
 -- The one spelling of a log record.
-use Rattle.std.specs.Prelude.{◌≡◌, ◌≢◌, ℕ, ◌+◌, ◌<◌, ◌^◌, List, [], ◌∷◌, ◌++◌, length, drop, Option, Some, None}
+use Rattle.std.specs.Prelude.{◌≡◌, ◌≢◌, ℕ, ◌+◌, ◌-◌, ◌<◌, ◌^◌, List, [], ◌∷◌, ◌++◌, length, drop, Option, Some, None}
 use Rattle.std.specs.List.{flat_map}
 use Rattle.std.specs.Int.{w16, w32, w64, to_be_bytes}
-use Rattle.ds_base.specs.Ids.{IsTable, IsLrsn}
+use Rattle.ds_base.specs.Ids.{IsTable, IsLrsn, lrsn_width}
 use Rattle.ds_base.specs.Values.{IsValue}
 use Rattle.ds_model.specs.declared.log.LogRecord.{LogRecord}
 use Rattle.ds_model.specs.declared.log.RowChange.{RowChange}
 use Rattle.ds_model.specs.declared.log.Body.{Body}
 use Rattle.ds_model.specs.declared.log.Body.TheVariants as body
 
--- six bytes of a number below 2^48
-abbrev pub six : ℕ → List ℕ
-six n = drop 2 (to_be_bytes w64 n)
+-- the last bytes of a number, as many as a log record's number has
+abbrev pub lrsn_bytes : ℕ → List ℕ
+lrsn_bytes n = drop (8 - lrsn_width) (to_be_bytes w64 n)
 
 -- whether a row is there: 1 and no bytes, or 2, their count, and they
 abbrev pub state_bytes : Option (List ℕ) → List ℕ
@@ -37,7 +37,7 @@ length_of b = 22 + length (body_bytes b)
 
 -- the length, the kind, the version, the number, the transaction, the body, and the length again
 unfoldable pub record_bytes : LogRecord → List ℕ
-record_bytes r = to_be_bytes w32 (length_of r.body) ++ kind_of r.body ∷ 1 ∷ six r.lrsn ++ six r.tran ++ body_bytes r.body ++ to_be_bytes w32 (length_of r.body)
+record_bytes r = to_be_bytes w32 (length_of r.body) ++ kind_of r.body ∷ 1 ∷ lrsn_bytes r.lrsn ++ lrsn_bytes r.tran ++ body_bytes r.body ++ to_be_bytes w32 (length_of r.body)
 
 abbrev pub log_bytes : List LogRecord → List ℕ
 log_bytes records = flat_map record_bytes records

@@ -1,11 +1,8 @@
 ghost use Rattle.std.specs.Prelude.{◌≢◌, ◌<◌, ◌↔◌, IsTrue};
 ghost use Rattle.ds_model.specs.RecordBytes.{StateIsAllowed, ChangeIsAllowed, IsAllowed, Fits};
 
-use ds_base::{VALUE_LIMIT, Value};
+use ds_base::{LRSN_END, VALUE_LIMIT, Value};
 use ds_model::{Body, LogRecord, RowChange};
-
-/// The first number that six bytes do not hold.
-const LRSN_END: u64 = 1 << 48;
 
 /// The slots of a page.
 const SLOTS: u16 = 31;

@@ -1,4 +1,5 @@
 ghost use Rattle.std.specs.Prelude.{◌≡◌, ℕ, ◌+◌, ◌-◌, ◌<◌, ◌≤◌, ◌^◌, [], ◌∷◌, ◌++◌, length, OnOk, All};
+ghost use Rattle.ds_base.specs.Ids.{IsLrsn};
 ghost use Rattle.ds_model.specs.declared.script.Op.TheVariants as op;
 ghost use Rattle.ds_model.specs.OneMember.{IsOneMemberOp};
 ghost use Rattle.serial_run.specs.Steps.{after, after_all, added, changes, told_op, told_all, committed, commit_record, body_of};
@@ -18,7 +19,7 @@ pub struct Draft {
 
 /// The number for a log record.
 pub fn lrsn_of(n: u64) -> Lrsn
-    requires { n < 2 ^ 48 }
+    requires { IsLrsn n }
     ensures { result ≡ n }
 {
     match Lrsn::new(n) {
