@@ -51,7 +51,8 @@ fn is_text(alloc: Global, bytes: &[u8], script: &Script) -> Result<bool, NoMemor
 }
 
 /// The script that these bytes spell: one of member 1 and table 1 with gets and puts, of at most 1,024 phases
-/// with at most one part each, 65,536 transactions of at most 64 operations, and 4,194,304 bytes.
+/// with at most one part each, 65,536 transactions of at most 64 operations and with names that differ, and
+/// 4,194,304 bytes.
 ///
 /// `None` where the bytes are the canonical text of no such script.
 pub fn read_one_member(alloc: Global, bytes: &[u8]) -> Result<Option<Script>, NoMemory>

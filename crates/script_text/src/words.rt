@@ -1,6 +1,5 @@
-ghost use Rattle.std.specs.Prelude.{◌≡◌, ◌↔◌, ℕ, ◌<◌, ◌^◌, List, Some, IfSome, IsTrue, MatchOption, ◌∷◌, ◌++◌, decimal};
+ghost use Rattle.std.specs.Prelude.{◌≡◌, ◌==◌, ◌↔◌, ℕ, ◌<◌, ◌^◌, List, Some, IfSome, IsTrue, MatchOption, ◌∷◌, ◌++◌, decimal};
 ghost use Rattle.std.specs.List.{position};
-ghost use Rattle.std.specs.Prelude.{◌==◌};
 ghost use Rattle.script_text.specs.Words.{IsCut, IsNumber, IsFirstNumber};
 ghost use Rattle.ds_model.specs.OneMember.{IsName};
 
