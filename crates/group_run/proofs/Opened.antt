@@ -1,8 +1,7 @@
 -- The logs of a disk, one length after the other.
-use Rattle.std.proofs.Common.{◌≡◌, ◌≢◌, ℕ, zero, suc, ◌+◌, ◌-◌, ◌<◌, ◌≤◌, List, [], ◌∷◌, length, get_or, replicate, Option, Some, None, refl, sym, ap, subst, ◌∙◌, arith}
+use Rattle.std.proofs.Common.{◌≡◌, ◌≢◌, ℕ, zero, suc, ◌+◌, ◌-◌, ◌<◌, List, [], ◌∷◌, length, get_or, replicate, Option, Some, None, refl, sym, ap, ◌∙◌, arith}
 use Rattle.std.proofs.lemmas.List.{get_or-replicate}
 use Rattle.ds_disk.specs.Contents.{Contents, log_of, Becomes, Same}
-use Rattle.serial_run.specs.Sounds.{HasEmptyLogs}
 use Rattle.group_run.specs.Opening.{EmptyUpTo, IsOpening, IsNoOpening}
 
 all_empty : (n : ℕ) (logs : List (List ℕ)) → length logs ≡ n → ((m : ℕ) → m < n → get_or logs m [] ≡ []) → logs ≡ replicate n []

@@ -1,22 +1,17 @@
 -- A script that was ready and has run was played.
-use Rattle.std.proofs.Common.{◌≡◌, ℕ, ◌+◌, ◌-◌, ◌^◌, ◌≤◌, min, Bool, true, false, cond, nat_eq, List, String, Global, Option, Some, None, refl, sym, ap, subst, ◌∙◌, arith}
-use Rattle.std.specs.FinMap as finite
+use Rattle.std.proofs.Common.{◌≡◌, ℕ, ◌≤◌, Bool, true, false, cond, nat_eq, List, String, Global, Option, Some, None, refl, sym, ap, subst, ◌∙◌, arith}
 use Rattle.std.specs.Io.KnownBytes.{Consumes, IsAtEnd}
 use Rattle.ds_base.specs.Causes.{Rose}
-use Rattle.ds_disk.specs.Contents.{Contents, WhenTold, Becomes, Same}
+use Rattle.ds_disk.specs.Contents.{Contents, WhenTold, Becomes}
 use Rattle.ds_model.specs.declared.script.Script.{Script}
 use Rattle.ds_model.specs.declared.report.Report.{Report}
-use Rattle.ds_model.specs.Transactions.{placed}
-use Rattle.ds_model.specs.Logs.{StandFor}
-use Rattle.serial_run.specs.declared.run.Ran.{Ran}
-use Rattle.serial_run.specs.Ran.{IsRunOf}
 use Rattle.serial_run.specs.Sounds.{HasEmptyLogs}
 use Rattle.group_run.specs.declared.status.Status.{Status}
 use Rattle.group_run.specs.declared.status.Status.TheVariants as status
 use Rattle.group_run.specs.Opening.{IsOpening}
-use Rattle.group_run.specs.Outside.{Outside, outside}
-use Rattle.group_run.specs.Reports.{Reports, HasRun}
-use Rattle.group_run.specs.Played.{IsPlayed, IsRead}
+use Rattle.group_run.specs.Outside.{Outside}
+use Rattle.group_run.specs.Reports.{HasRun}
+use Rattle.group_run.specs.Played.{IsPlayed}
 use Rattle.group_run.specs.Ends.{IsOrder, IsReady, Ran as RanAs, TellsReport, met_by}
 
 -- a step of an opened disk is a step of the disk before

@@ -1,9 +1,8 @@
 -- The records of a transaction can be written.
-use Rattle.std.proofs.Common.{◌≡◌, ◌≢◌, ℕ, ◌+◌, ◌/◌, ◌%◌, ◌<◌, List, [], ◌∷◌, ◌++◌, arith}
+use Rattle.std.proofs.Common.{◌≢◌, ℕ, ◌+◌, ◌/◌, ◌%◌, ◌<◌, List, [], ◌∷◌, ◌++◌, arith}
 use Rattle.std.specs.List.{AllByRecursion}
 use Rattle.ds_model.specs.declared.script.Op.{Op}
 use Rattle.ds_model.specs.declared.script.Op.TheVariants as op
-use Rattle.ds_model.specs.declared.log.LogRecord.{LogRecord}
 use Rattle.ds_model.specs.RecordBytes.{Fits}
 use Rattle.serial_run.specs.declared.state.State.{State}
 use Rattle.serial_run.specs.Steps.{after, added, changes, records_of, number_in}

@@ -1,8 +1,7 @@
 -- The run so far, and one transaction more.
 use Rattle.std.proofs.Common.{◌≡◌, ℕ, ◌+◌, ◌-◌, ◌*◌, ◌<◌, ◌≤◌, Bool, true, List, [], ◌∷◌, ◌++◌, length, take, get_or, Option, refl, sym, ap, subst, ◌∙◌, arith, append_assoc}
 use Rattle.std.proofs.lemmas.List.{append-nil, take_more}
-use Rattle.ds_base.specs.Causes.{Rose}
-use Rattle.ds_disk.specs.Contents.{Contents, Becomes, Same}
+use Rattle.ds_disk.specs.Contents.{Contents, Becomes}
 use Rattle.ds_model.specs.declared.report.ReportEntry.{ReportEntry}
 use Rattle.ds_model.specs.declared.report.ToldRead.{ToldRead}
 use Rattle.ds_model.specs.declared.report.Told.TheVariants as told

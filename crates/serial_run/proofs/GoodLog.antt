@@ -1,18 +1,18 @@
 -- A log that grows by whole transactions stands for the rows after them.
-use Rattle.std.proofs.Common.{◌≡◌, ℕ, zero, suc, ◌+◌, ◌<◌, ◌≤◌, Bool, true, false, cond, ◌||◌, ◌&&◌, eqb, leb, List, [], ◌∷◌, ◌++◌, length, replicate, Option, Some, None, refl, sym, ap, subst, ◌∙◌, arith, append_assoc, length-append, inl}
+use Rattle.std.proofs.Common.{◌≡◌, ℕ, zero, suc, ◌+◌, ◌<◌, ◌≤◌, Bool, true, false, cond, ◌||◌, eqb, leb, List, [], ◌∷◌, ◌++◌, replicate, refl, sym, ap, ◌∙◌, arith, inl}
 use Rattle.std.proofs.lemmas.List.{append-nil}
 use Rattle.std.proofs.lemmas.List.Folds.{list_any-append}
-use Rattle.std.specs.List.{AllByRecursion, list_any, filter}
+use Rattle.std.specs.List.{AllByRecursion, filter}
 use Rattle.std.specs.FinMap as finite
 use Rattle.ds_model.specs.declared.script.Op.{Op}
 use Rattle.ds_model.specs.declared.script.Op.TheVariants as op
 use Rattle.ds_model.specs.declared.log.LogRecord.{LogRecord}
 use Rattle.ds_model.specs.Rows.{Rows}
 use Rattle.ds_model.specs.RecordBytes.{IsAllowed, log_bytes}
-use Rattle.ds_model.specs.Logs.{is_commit, has_commit, put_by_lrsn, by_lrsn, after_body, after_records, rows_of_records, rows_of_logs, AreLogs, IsLog, StandFor}
+use Rattle.ds_model.specs.Logs.{has_commit, put_by_lrsn, by_lrsn, after_body, after_records, rows_of_records, AreLogs, IsLog, StandFor}
 use Rattle.ds_model.specs.OneMember.{IsOneMemberOp}
 use Rattle.serial_run.specs.declared.state.State.{State}
-use Rattle.serial_run.specs.Steps.{after, after_all, added, drawn, changes, commit_record, records_of, next}
+use Rattle.serial_run.specs.Steps.{after, after_all, added, changes, commit_record, records_of, next}
 use Rattle.serial_run.specs.Ran.{start}
 
 -- the numbers rise, above low and up to high

@@ -1,18 +1,16 @@
 -- One transaction more, for each function of those that have committed.
-use Rattle.std.proofs.Common.{◌≡◌, ℕ, suc, ◌+◌, ◌-◌, ◌*◌, ◌<◌, ◌≤◌, ◌^◌, Bool, true, List, [], ◌∷◌, ◌++◌, length, take, drop, map, get_or, Option, Some, None, refl, sym, ap, subst, ◌∙◌, arith, append_assoc}
+use Rattle.std.proofs.Common.{◌≡◌, List, [], ◌∷◌, ◌++◌, Option, Some, None, refl, sym, ap, ◌∙◌}
 use Rattle.std.specs.List.{AllByRecursion}
-use Rattle.ds_base.specs.Causes.{Rose}
-use Rattle.ds_disk.specs.Contents.{Contents, Becomes, Same}
-use Rattle.ds_model.specs.declared.log.LogRecord.{LogRecord}
+use Rattle.ds_disk.specs.Contents.{Contents, Becomes}
 use Rattle.ds_model.specs.declared.report.ReportEntry.{ReportEntry}
 use Rattle.ds_model.specs.RecordBytes.{IsAllowed}
 use Rattle.ds_model.specs.Rows.{Rows}
-use Rattle.ds_model.specs.Effect.{after_op, after_ops}
+use Rattle.ds_model.specs.Effect.{after_ops}
 use Rattle.ds_model.specs.declared.script.Op.{Op}
 use Rattle.ds_model.specs.Transactions.{Placed}
 use Rattle.serial_run.specs.declared.state.State.{State}
 use Rattle.serial_run.specs.Steps.{after, after_all, next, records_of}
-use Rattle.serial_run.specs.Played.{appended, HasRoom}
+use Rattle.serial_run.specs.Played.{appended}
 use Rattle.serial_run.specs.Entries.{commit_entry, commit_entries}
 use Rattle.serial_run.specs.Progress.{state_after, contents_after, AreAllowed}
 

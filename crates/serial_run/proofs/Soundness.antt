@@ -1,32 +1,29 @@
 -- A run of a script is sound.
-use Rattle.std.proofs.Common.{◌≡◌, ℕ, zero, suc, ◌+◌, ◌-◌, ◌<◌, ◌≤◌, Bool, true, false, cond, ◌||◌, List, [], ◌∷◌, ◌++◌, map, length, take, drop, replicate, set, get_or, Option, Some, None, refl, sym, ap, subst, ◌∙◌, arith, append_assoc}
-use Rattle.std.proofs.lemmas.List.{append-nil, take-append-drop}
+use Rattle.std.proofs.Common.{◌≡◌, ℕ, zero, suc, ◌+◌, ◌<◌, Bool, true, false, cond, List, [], ◌∷◌, ◌++◌, map, length, take, drop, replicate, set, get_or, Option, Some, None, refl, sym, ap, subst, ◌∙◌, arith, append_assoc}
+use Rattle.std.proofs.lemmas.List.{take-append-drop}
 use Rattle.std.proofs.lemmas.List.Sorted.{IsPermutation-refl}
-use Rattle.std.specs.List.{AllByRecursion, flat_map}
+use Rattle.std.specs.List.{AllByRecursion}
 use Rattle.std.specs.List.Sorted.{IsPermutation}
 use Rattle.std.specs.FinMap as finite
-use Rattle.ds_disk.specs.Contents.{Contents, log_of, with_log, Becomes}
+use Rattle.ds_disk.specs.Contents.{Contents, Becomes}
 use Rattle.ds_model.specs.declared.script.Op.{Op}
 use Rattle.ds_model.specs.declared.script.Op.TheVariants as op
 use Rattle.ds_model.specs.declared.script.Script.{Script}
 use Rattle.ds_model.specs.declared.log.LogRecord.{LogRecord}
-use Rattle.ds_model.specs.declared.report.Report.{Report}
 use Rattle.ds_model.specs.Rows.{Rows, listed}
-use Rattle.ds_model.specs.RecordBytes.{IsAllowed, log_bytes, record_bytes}
-use Rattle.ds_model.specs.Effect.{after_op, after_ops, aborts, after_tran}
+use Rattle.ds_model.specs.RecordBytes.{log_bytes, record_bytes}
+use Rattle.ds_model.specs.Effect.{after_ops, aborts, after_tran}
 use Rattle.ds_model.specs.Transactions.{Placed, placed}
-use Rattle.ds_model.specs.OneMember.{IsOneMember, IsOneMemberOp, IsOneMemberTran, counted}
-use Rattle.ds_model.specs.History.{Play, played, is_committed, after_fate, replay, IsLegal, RiseAbove, IsInOrder}
-use Rattle.ds_model.specs.Told.{entry_of}
+use Rattle.ds_model.specs.OneMember.{IsOneMember, IsOneMemberOp, counted}
+use Rattle.ds_model.specs.History.{Play, played, is_committed, replay, IsLegal, RiseAbove, IsInOrder}
 use Rattle.ds_model.specs.Logs.{StandFor}
-use Rattle.ds_model.specs.Sound.{IsSoundHistory, IsSound}
 use Rattle.serial_run.specs.declared.state.State.{State}
 use Rattle.serial_run.specs.declared.run.Ran.{Ran}
 use Rattle.serial_run.specs.Steps.{next, records_of}
 use Rattle.serial_run.specs.Played.{appended}
 use Rattle.serial_run.specs.Progress.{state_after, contents_after, AreAllowed}
 use Rattle.serial_run.specs.Ran.{start, commits, stop, history_of, IsRunOf}
-use Rattle.serial_run.specs.Sounds.{HasEmptyLogs, DiskStandsFor, IsSoundRun}
+use Rattle.serial_run.specs.Sounds.{HasEmptyLogs, IsSoundRun}
 use Rattle.serial_run.proofs.Pushes.{rows_of_next}
 use Rattle.serial_run.proofs.Playable.{IsFirst, firsts, all_take}
 use Rattle.serial_run.proofs.GoodLog.{IsGoodLog, good_log_none, good_log_grows, stands_for}

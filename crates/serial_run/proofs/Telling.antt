@@ -2,7 +2,6 @@
 use Rattle.std.proofs.Common.{◌≡◌, ℕ, true, List, [], ◌∷◌, ◌++◌, map, take, drop, refl, sym, ap, ◌∙◌}
 use Rattle.std.specs.List.{AllByRecursion}
 use Rattle.std.specs.FinMap as finite
-use Rattle.std.proofs.lemmas.List.Elements.{recursion_from_All}
 use Rattle.ds_model.specs.declared.script.Op.{Op}
 use Rattle.ds_model.specs.declared.script.Op.TheVariants as op
 use Rattle.ds_model.specs.declared.script.Script.{Script}
@@ -13,7 +12,7 @@ use Rattle.ds_model.specs.declared.report.Told.TheVariants as told
 use Rattle.ds_model.specs.Rows.{Rows}
 use Rattle.ds_model.specs.Effect.{after_op, after_ops, reads_of}
 use Rattle.ds_model.specs.Transactions.{Placed}
-use Rattle.ds_model.specs.OneMember.{IsOneMemberOp, IsOneMemberTran}
+use Rattle.ds_model.specs.OneMember.{IsOneMemberOp}
 use Rattle.ds_model.specs.History.{Play}
 use Rattle.ds_model.specs.Told.{told_reads, entry_of}
 use Rattle.serial_run.specs.Steps.{told_all}

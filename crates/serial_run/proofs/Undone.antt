@@ -1,13 +1,10 @@
 -- Changes that are taken back, the last first.
-use Rattle.std.proofs.Common.{◌≡◌, ℕ, ◌+◌, Bool, true, false, cond, List, [], ◌∷◌, ◌++◌, Option, Some, None, refl, sym, ap, subst, ◌∙◌}
+use Rattle.std.proofs.Common.{◌≡◌, ℕ, ◌+◌, List, [], ◌∷◌, ◌++◌, Option, Some, None, refl, sym, ap, ◌∙◌}
 use Rattle.std.specs.FinMap as finite
 use Rattle.ds_model.specs.declared.script.Op.{Op}
 use Rattle.ds_model.specs.declared.script.Op.TheVariants as op
 use Rattle.ds_model.specs.declared.log.LogRecord.{LogRecord}
-use Rattle.ds_model.specs.declared.log.Body.{Body}
-use Rattle.ds_model.specs.declared.log.Body.TheVariants as body
-use Rattle.ds_model.specs.Rows.{Rows, spot_cmp}
-use Rattle.ds_model.specs.Effect.{after_op}
+use Rattle.ds_model.specs.Rows.{Rows}
 use Rattle.ds_model.specs.Logs.{set_row}
 use Rattle.ds_model.specs.OneMember.{IsOneMemberOp}
 use Rattle.spot_map.specs.Undo.{insert-insert_back, remove-insert_new}

@@ -1,7 +1,6 @@
 -- What a whole run leaves, of what its transactions leave.
-use Rattle.std.proofs.Common.{◌≡◌, ◌↔◌, ℕ, ◌+◌, ◌*◌, ◌<◌, ◌≤◌, ◌^◌, Bool, true, nat_lt, List, [], ◌∷◌, ◌++◌, map, length, take, drop, Option, refl, sym, ap, subst, ◌∙◌, arith}
+use Rattle.std.proofs.Common.{◌≡◌, ◌↔◌, ℕ, ◌*◌, ◌<◌, ◌≤◌, Bool, true, nat_lt, List, [], ◌++◌, map, length, take, drop, Option, ap, subst, ◌∙◌, arith}
 use Rattle.std.proofs.lemmas.Bool.Decides.{nat_tests}
-use Rattle.std.specs.List.{AllByRecursion}
 use Rattle.std.specs.FinMap as finite
 use Rattle.ds_disk.specs.Contents.{Contents, Becomes}
 use Rattle.ds_model.specs.declared.script.Script.{Script}
@@ -10,13 +9,12 @@ use Rattle.ds_model.specs.Rows.{Rows, spot_cmp}
 use Rattle.ds_model.specs.Transactions.{Placed, placed}
 use Rattle.ds_model.specs.OneMember.{IsOneMember}
 use Rattle.serial_run.specs.declared.state.State.{State}
-use Rattle.serial_run.specs.declared.run.Ran.{Ran}
 use Rattle.serial_run.specs.Steps.{Places}
 use Rattle.serial_run.specs.Played.{HasRoom}
 use Rattle.serial_run.specs.Entries.{commit_entries, stop_entry}
-use Rattle.serial_run.specs.Progress.{IsPlayable, state_after, contents_after, AreAllowed, HasPlayed}
+use Rattle.serial_run.specs.Progress.{state_after, contents_after, AreAllowed, HasPlayed}
 use Rattle.serial_run.specs.Ran.{start, IsRunOf}
-use Rattle.serial_run.proofs.Playable.{all_take, playable_take}
+use Rattle.serial_run.proofs.Playable.{playable_take}
 use Rattle.serial_run.proofs.Telling.{entries_told}
 
 pub state_is : (rows : Rows) (places : Places) (last : ℕ) → rows ≡ finite.empty → places ≡ finite.empty → last ≡ 0 → ◌≡◌ {A = State} (record { rows = rows; places = places; last = last }) start

@@ -1,5 +1,5 @@
 -- The entries of a report, made one after the other.
-use Rattle.std.specs.Prelude.{ℕ, true, List, [], ◌∷◌}
+use Rattle.std.specs.Prelude.{true, List, [], ◌∷◌}
 use Rattle.ds_model.specs.declared.report.Told.{Told}
 use Rattle.ds_model.specs.declared.report.Told.TheVariants as told
 use Rattle.ds_model.specs.declared.report.ReportEntry.{ReportEntry}

@@ -1,5 +1,5 @@
 -- That a run is sound.
-use Rattle.std.specs.Prelude.{◌≡◌, ℕ, Bool, true, List, [], replicate, Option}
+use Rattle.std.specs.Prelude.{◌≡◌, Bool, true, [], replicate, Option}
 use Rattle.std.specs.FinMap as finite
 use Rattle.ds_disk.specs.Contents.{Contents, Becomes}
 use Rattle.ds_model.specs.declared.script.Script.{Script}

@@ -1,4 +1,4 @@
-use Rattle.std.proofs.Common.{◌≡◌, ℕ, ◌<◌, ◌≤◌, true}
+use Rattle.std.proofs.Common.{◌≡◌, ◌<◌, ◌≤◌, true}
 use Rattle.ds_disk.specs.Contents.{Becomes}
 use Rattle.group_run.specs.Opening.{EmptyUpTo}
 use Rattle.group_run.proofs.opening.logs_are_empty.Given as goal

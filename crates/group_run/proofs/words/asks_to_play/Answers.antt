@@ -1,4 +1,4 @@
-use Rattle.std.proofs.Common.{◌≡◌, ℕ, ◌<◌, ◌≤◌, List, [], ◌∷◌, map, length, get_or, string_bytes, refl, sym, ap, ◌∙◌, arith, String, Global}
+use Rattle.std.proofs.Common.{◌≡◌, ℕ, ◌<◌, ◌≤◌, List, [], ◌∷◌, map, length, get_or, string_bytes, sym, ap, ◌∙◌, arith, String, Global}
 use Rattle.group_run.proofs.words.asks_to_play.Goals as goal
 
 one_word : (words : List (String Global)) (w : String Global) → 1 ≤ length words → length words < 2 → w ≡ get_or words 0 w → map string_bytes words ≡ string_bytes w ∷ []

@@ -1,5 +1,3 @@
-use Rattle.std.proofs.Common.{subst, sym}
-use Rattle.std.specs.FinMap as finite
 use Rattle.serial_run.proofs.Maps.{insert_few}
 use Rattle.serial_run.proofs.place.number_key.Goals as goal
 

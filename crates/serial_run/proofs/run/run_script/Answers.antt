@@ -1,6 +1,6 @@
-use Rattle.std.proofs.Common.{◌≡◌, ◌*◌, ◌≤◌, List, ◌++◌, map, length, drop, All, refl, sym, ap, subst, ◌∙◌, arith}
+use Rattle.std.proofs.Common.{◌*◌, ◌≤◌, List, ◌++◌, map, length, drop, All, refl, sym, ap, subst, ◌∙◌, arith}
 use Rattle.std.proofs.lemmas.List.{take_rest}
-use Rattle.ds_model.specs.Transactions.{Placed, placed}
+use Rattle.ds_model.specs.Transactions.{Placed}
 use Rattle.serial_run.specs.declared.state.State.{State}
 use Rattle.serial_run.specs.Played.{HasRoom}
 use Rattle.serial_run.specs.Entries.{stop_entry}

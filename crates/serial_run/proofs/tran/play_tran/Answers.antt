@@ -6,7 +6,7 @@ use Rattle.ds_model.specs.RecordBytes.{log_bytes, IsAllowed, Fits}
 use Rattle.ds_disk.specs.Contents.{log_of, with_log, Becomes}
 use Rattle.ds_model.specs.OneMember.{IsOneMemberOp}
 use Rattle.serial_run.specs.declared.state.State.{State}
-use Rattle.serial_run.specs.Steps.{next, records_of}
+use Rattle.serial_run.specs.Steps.{next}
 use Rattle.serial_run.specs.Undo.{undone}
 use Rattle.serial_run.proofs.Undone.{undone-records}
 use Rattle.serial_run.proofs.Fitting.{all_fit}
