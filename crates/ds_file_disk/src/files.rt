@@ -16,8 +16,13 @@ fn if_there<T>(found: io::Result<T>) -> io::Result<Option<T>> {
     }
 }
 
+/// The length of a file. What has its name and is no file has none.
 pub fn length<R: Files>(rt: &R, path: Path<'_>) -> io::Result<u64> {
-    Ok(if_there(fs::metadata(rt, path))?.map_or(0, |metadata| metadata.len()))
+    match if_there(fs::metadata(rt, path))? {
+        None => Ok(0),
+        Some(metadata) if metadata.is_file() => Ok(metadata.len()),
+        Some(_) => Err(io::Error::from(ErrorKind::IsADirectory)),
+    }
 }
 
 /// Reads the bytes from `at` on, and answers how many there are.

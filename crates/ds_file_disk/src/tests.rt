@@ -113,6 +113,7 @@ fn a_call_that_changed_nothing_may_be_tried_again(rt: HostRuntime) -> Result<(),
     let first = member(&rt, 1);
     fs::create_dir(&rt, "denied/log-01.log")?;
     let mut bytes = [0; 4];
+    assert_eq!(rt; disk.log_length(first), Err(DiskError::Failed));
     assert_eq!(rt; disk.read_log(first, 0, &mut bytes), Err(DiskError::Failed));
     assert_eq!(rt; disk.append_log(first, b"abc"), Err(DiskError::Failed));
     fs::remove_dir(&rt, "denied/log-01.log")?;
