@@ -1,15 +1,12 @@
 -- The records of a transaction can be written.
-use Rattle.std.proofs.Common.{◌≢◌, ℕ, ◌+◌, ◌/◌, ◌%◌, ◌<◌, List, [], ◌∷◌, ◌++◌, arith}
+use Rattle.std.proofs.Common.{◌≢◌, ℕ, ◌+◌, ◌/◌, ◌%◌, ◌<◌, List, [], ◌∷◌, arith}
 use Rattle.std.specs.List.{AllByRecursion}
 use Rattle.ds_model.specs.declared.script.Op.{Op}
 use Rattle.ds_model.specs.declared.script.Op.TheVariants as op
 use Rattle.ds_model.specs.RecordBytes.{Fits}
 use Rattle.serial_run.specs.declared.state.State.{State}
+use Rattle.serial_run.proofs.Lists.{all_append}
 use Rattle.serial_run.specs.Steps.{after, added, changes, records_of, number_in}
-
-all_append : {X : Type 0} (P : X → Type 0) (xs ys : List X) → AllByRecursion P xs → AllByRecursion P ys → AllByRecursion P (xs ++ ys)
-all_append P [] ys p q = q
-all_append P (x ∷ xs) ys p q = (p.0, all_append P xs ys p.1 q)
 
 page_some : (n : ℕ) → 1 + n / 31 ≢ 0
 page_some n e = absurd (omega arith)

@@ -14,6 +14,7 @@ use Rattle.ds_model.specs.OneMember.{IsOneMemberOp}
 use Rattle.serial_run.specs.declared.state.State.{State}
 use Rattle.serial_run.specs.Steps.{after, after_all, added, changes, commit_record, records_of, next}
 use Rattle.serial_run.specs.Ran.{start}
+use Rattle.serial_run.proofs.Lists.{all_append}
 
 -- the numbers rise, above low and up to high
 abbrev pub Rises : ℕ → List LogRecord → ℕ → Type 0
@@ -72,10 +73,6 @@ or-true : (a b : Bool) → b ≡ true → (a || b) ≡ true
 or-true true b e = refl
 or-true false b e = e
 
-all-append : (P : LogRecord → Type 0) (xs ys : List LogRecord) → AllByRecursion P xs → AllByRecursion P ys → AllByRecursion P (xs ++ ys)
-all-append P [] ys p q = q
-all-append P (x ∷ xs) ys p q = (p.0, all-append P xs ys p.1 q)
-
 commits-more : (log more records : List LogRecord) → HasCommits log records → HasCommits (log ++ more) records
 commits-more log more [] p = tt
 commits-more log more (r ∷ rs) p = (list_any-append _ log more ∙ true-or _ _ p.0, commits-more log more rs p.1)
@@ -92,7 +89,7 @@ commits-added log tran s op.Abort e = tt
 
 commits-changes : (log : List LogRecord) (tran : ℕ) (s : State) (ops : List Op) → has_commit log tran ≡ true → HasCommits log (changes tran s ops)
 commits-changes log tran s [] e = tt
-commits-changes log tran s (o ∷ ops) e = all-append _ (added tran s o) (changes tran (after s o) ops) (commits-added log tran s o e) (commits-changes log tran (after s o) ops e)
+commits-changes log tran s (o ∷ ops) e = all_append _ (added tran s o) (changes tran (after s o) ops) (commits-added log tran s o e) (commits-changes log tran (after s o) ops e)
 
 has-its-commit : (log changed : List LogRecord) (tran n : ℕ) → has_commit (log ++ (changed ++ commit_record tran n ∷ [])) tran ≡ true
 has-its-commit log changed tran n =
@@ -134,10 +131,10 @@ good_log_grows log s ops h are allowed =
     let its = has-its-commit log (changes (s.last + 1) s ops) (s.last + 1) n in
     record {
       rising = rises-append 0 s.last (next s ops).last log more h.rising (rises-records s ops);
-      committed = all-append _ log more (commits-more log more log h.committed)
-          (all-append _ (changes (s.last + 1) s ops) _ (commits-changes (log ++ more) (s.last + 1) s ops its) (its, tt));
+      committed = all_append _ log more (commits-more log more log h.committed)
+          (all_append _ (changes (s.last + 1) s ops) _ (commits-changes (log ++ more) (s.last + 1) s ops its) (its, tt));
       stands = after_records-append finite.empty log more ∙ ap (λ (r : Rows). after_records r more) h.stands ∙ after_records-records s ops are;
-      allowed = all-append _ log more h.allowed allowed;
+      allowed = all_append _ log more h.allowed allowed;
     }
 
 pub good_log_none : IsGoodLog [] start

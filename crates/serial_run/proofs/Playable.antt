@@ -10,10 +10,7 @@ use Rattle.ds_model.specs.declared.script.Script.{Script}
 use Rattle.ds_model.specs.Transactions.{Placed, placed_part, placed_phase, placed}
 use Rattle.ds_model.specs.OneMember.{IsOneMemberTran, IsOneMemberPart, IsOneMemberPhase, IsOneMember}
 use Rattle.serial_run.specs.Progress.{IsPlayable}
-
-all_append : {X : Type 0} (P : X → Type 0) (xs ys : List X) → AllByRecursion P xs → AllByRecursion P ys → AllByRecursion P (xs ++ ys)
-all_append P [] ys p q = q
-all_append P (x ∷ xs) ys p q = (p.0, all_append P xs ys p.1 q)
+use Rattle.serial_run.proofs.Lists.{all_append}
 
 -- a transaction of member 1 that is played
 abbrev pub IsFirst : Placed → Type 0

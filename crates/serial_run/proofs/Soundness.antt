@@ -1,6 +1,7 @@
 -- A run of a script is sound.
-use Rattle.std.proofs.Common.{◌≡◌, ℕ, zero, suc, ◌+◌, ◌<◌, Bool, true, false, cond, List, [], ◌∷◌, ◌++◌, map, length, take, drop, replicate, set, get_or, Option, Some, None, refl, sym, ap, subst, ◌∙◌, arith, append_assoc}
-use Rattle.std.proofs.lemmas.List.{take-append-drop}
+use Rattle.std.proofs.Common.{◌≡◌, ℕ, zero, suc, ◌+◌, ◌<◌, Bool, true, false, cond, List, [], ◌∷◌, ◌++◌, map, length, take, drop, replicate, set, get_or, Option, Some, None, refl, sym, ap, subst, ◌∙◌, arith}
+use Rattle.std.proofs.lemmas.Grind.{flat_map-append}
+use Rattle.std.proofs.lemmas.List.{map-append, take-append-drop}
 use Rattle.std.proofs.lemmas.List.Sorted.{IsPermutation-refl}
 use Rattle.std.specs.List.{AllByRecursion}
 use Rattle.std.specs.List.Sorted.{IsPermutation}
@@ -38,13 +39,9 @@ played-stops : (ps : List Placed) → map played (map stop ps) ≡ ps
 played-stops [] = refl
 played-stops (p ∷ ps) = ap (λ (l : List Placed). p ∷ l) (played-stops ps)
 
-map_both : (xs ys : List Play) → map played (xs ++ ys) ≡ map played xs ++ map played ys
-map_both [] ys = refl
-map_both (x ∷ xs) ys = ap (λ (l : List Placed). played x ∷ l) (map_both xs ys)
-
 played-history : (ps : List Placed) (count : ℕ) → map played (history_of ps count) ≡ ps
 played-history ps count =
-    map_both (commits finite.empty (take count ps)) (map stop (drop count ps))
+    map-append played (commits finite.empty (take count ps)) (map stop (drop count ps))
     ∙ ap (λ (l : List Placed). l ++ map played (map stop (drop count ps))) (played-commits finite.empty (take count ps))
     ∙ ap (λ (l : List Placed). take count ps ++ l) (played-stops (drop count ps))
     ∙ take-append-drop count ps
@@ -75,16 +72,12 @@ numbers_stopped : (ps : List Placed) → map (λ (p : Play). p.tran.number) (map
 numbers_stopped [] = refl
 numbers_stopped (p ∷ ps) = ap (λ (l : List ℕ). p.1.number ∷ l) (numbers_stopped ps)
 
-numbers_both : (xs ys : List Placed) → map (λ (p : Placed). p.1.number) (xs ++ ys) ≡ map (λ (p : Placed). p.1.number) xs ++ map (λ (p : Placed). p.1.number) ys
-numbers_both [] ys = refl
-numbers_both (x ∷ xs) ys = ap (λ (l : List ℕ). x.1.number ∷ l) (numbers_both xs ys)
-
 in_order : (s : Script) (count : ℕ) → IsOneMember s → IsInOrder (history_of (placed s) count)
 in_order s count is =
     let ps = placed s in
     let numbers = λ (l : List Placed). map (λ (p : Placed). p.1.number) l in
     let split : numbers (take count ps) ++ numbers (drop count ps) ≡ counted 1 (length ps) =
-    sym (numbers_both (take count ps) (drop count ps)) ∙ ap (λ (l : List Placed). map (λ (p : Placed). p.1.number) l) (take-append-drop count ps) ∙ is.numbers in
+    sym (map-append (λ (p : Placed). p.1.number) (take count ps) (drop count ps)) ∙ ap (λ (l : List Placed). map (λ (p : Placed). p.1.number) l) (take-append-drop count ps) ∙ is.numbers in
     let rising : RiseAbove 0 (numbers (take count ps) ++ numbers (drop count ps)) = subst (RiseAbove 0) (sym split) (rises_counted 0 1 (length ps) (omega arith)) in
     record {
       committed = commits finite.empty (take count ps);
@@ -141,15 +134,11 @@ replay_history s (p ∷ ps) others are =
 abbrev Has : Contents → List LogRecord → Type 0
 Has c log = c.logs ≡ log_bytes log ∷ replicate 31 []
 
-log_bytes-append : (xs ys : List LogRecord) → log_bytes (xs ++ ys) ≡ log_bytes xs ++ log_bytes ys
-log_bytes-append [] ys = refl
-log_bytes-append (x ∷ xs) ys = ap (λ (l : List ℕ). record_bytes x ++ l) (log_bytes-append xs ys) ∙ sym (append_assoc (record_bytes x) (log_bytes xs) (log_bytes ys))
-
 has_more : (c : Contents) (log more : List LogRecord) (member : ℕ) → member ≡ 1 → Has c log → Has (appended member more c) (log ++ more)
 has_more c log more member its has =
     ap (λ (m : ℕ). (appended m more c).logs) its
     ∙ ap (λ (logs : List (List ℕ)). set logs 0 (get_or logs 0 [] ++ log_bytes more)) has
-    ∙ ap (λ (l : List ℕ). l ∷ replicate 31 []) (sym (log_bytes-append log more))
+    ∙ ap (λ (l : List ℕ). l ∷ replicate 31 []) (sym (flat_map-append record_bytes log more))
 
 logs_after : (s : State) (ps : List Placed) (c : Contents) (log : List LogRecord) → AllByRecursion IsFirst ps → AreAllowed s ps → IsGoodLog log s → Has c log
     → StandFor (contents_after s ps c).logs (state_after s ps).rows

@@ -2,6 +2,7 @@
 use Rattle.std.proofs.Common.{◌≡◌, ℕ, true, List, [], ◌∷◌, ◌++◌, map, take, drop, refl, sym, ap, ◌∙◌}
 use Rattle.std.specs.List.{AllByRecursion}
 use Rattle.std.specs.FinMap as finite
+use Rattle.std.proofs.lemmas.List.{map-append}
 use Rattle.ds_model.specs.declared.script.Op.{Op}
 use Rattle.ds_model.specs.declared.script.Op.TheVariants as op
 use Rattle.ds_model.specs.declared.script.Script.{Script}
@@ -13,7 +14,6 @@ use Rattle.ds_model.specs.Rows.{Rows}
 use Rattle.ds_model.specs.Effect.{after_op, after_ops, reads_of}
 use Rattle.ds_model.specs.Transactions.{Placed}
 use Rattle.ds_model.specs.OneMember.{IsOneMemberOp}
-use Rattle.ds_model.specs.History.{Play}
 use Rattle.ds_model.specs.Told.{told_reads, entry_of}
 use Rattle.serial_run.specs.Steps.{told_all}
 use Rattle.serial_run.specs.Entries.{entry_with, commit_entry, commit_entries, stop_entry}
@@ -41,13 +41,9 @@ stopped_are : (s : Script) (ps : List Placed) → map (entry_of s) (map stop ps)
 stopped_are s [] = refl
 stopped_are s (p ∷ ps) = ap (λ (l : List ReportEntry). stop_entry p ∷ l) (stopped_are s ps)
 
-map_both : (f : Play → ReportEntry) (xs ys : List Play) → map f (xs ++ ys) ≡ map f xs ++ map f ys
-map_both f [] ys = refl
-map_both f (x ∷ xs) ys = ap (λ (l : List ReportEntry). f x ∷ l) (map_both f xs ys)
-
 pub entries_told : (s : Script) (ps : List Placed) (count : ℕ) → AllByRecursion IsPlayable (take count ps)
     → commit_entries finite.empty (take count ps) ++ map stop_entry (drop count ps) ≡ map (entry_of s) (history_of ps count)
 entries_told s ps count are =
-    sym (map_both (entry_of s) (commits finite.empty (take count ps)) (map stop (drop count ps))
+    sym (map-append (entry_of s) (commits finite.empty (take count ps)) (map stop (drop count ps))
     ∙ ap (λ (l : List ReportEntry). l ++ map (entry_of s) (map stop (drop count ps))) (committed_are s finite.empty (take count ps) are)
     ∙ ap (λ (l : List ReportEntry). commit_entries finite.empty (take count ps) ++ l) (stopped_are s (drop count ps)))
