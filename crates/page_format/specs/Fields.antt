@@ -1,4 +1,4 @@
--- The fields of a page's header, and how a page is patched.
+-- Where the fields of a page's header stand, and how a page is patched.
 use Rattle.std.specs.Prelude.{ℕ, ◌+◌, List, ◌++◌, length, take, drop}
 use Rattle.ds_base.specs.Ids.{lrsn_width}
 use Rattle.byteorder.specs.Endian.{big_bytes}
@@ -7,6 +7,9 @@ abbrev pub page_size : ℕ
 page_size = 4096
 
 -- ---- where the fields of the header begin
+
+abbrev pub mark_at : ℕ
+mark_at = 0
 
 abbrev pub kind_at : ℕ
 kind_at = 4

@@ -1,8 +1,11 @@
 //! The pages of the disk: their bytes, the header that stands in front, and changes to them.
 #![tactic(auto)]
 
+mod header;
 mod page;
 mod patch;
 
-pub use page::{PAGE_SIZE, Page};
+pub use header::{Header, NotAPage, PageKind};
+pub use page::{ENTRIES_PER_PAGE, PAGE_SIZE, Page, SLOTS_PER_PAGE};
+use patch::LRSN_AT;
 pub use patch::{Patch, Patches};

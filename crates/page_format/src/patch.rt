@@ -5,7 +5,7 @@ use crate::Page;
 use ds_base::{Bytes, LRSN_WIDTH, Lrsn, PageId, Sequence};
 
 // Where the LRSN of the last change stands in a page.
-const LRSN_AT: usize = 16;
+pub const LRSN_AT: usize = 16;
 
 /// New bytes for a part of a page, from an offset on.
 #[derive(Debug, Drop)]

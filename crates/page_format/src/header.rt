@@ -1,0 +1,124 @@
+ghost use Rattle.std.specs.Prelude.{◌≡◌, ◌≤◌, ◌==◌, ◌+◌, List, length, Option};
+ghost use Rattle.ds_base.specs.Ids.{lrsn_width};
+ghost use Rattle.page_format.specs.Fields.{page_size, lrsn_at, count_at};
+ghost use Rattle.page_format.specs.Header.{kind_of, may_have, most, number_in, fields, first_fault, is_blank, blank_header, header_in, header_of};
+
+use crate::{ENTRIES_PER_PAGE, LRSN_AT, Page, SLOTS_PER_PAGE};
+use byteorder::{BigEndian, ByteOrder};
+use ds_base::{Lrsn, PageId};
+
+// What stands in front of every page that was written.
+const MARK: [u8; 4] = *b"DSG1";
+const VERSION: u8 = 1;
+
+// Where the fields of the header begin.
+const MARK_AT: u16 = 0;
+const KIND_AT: u16 = 4;
+const VERSION_AT: u16 = 5;
+const SET_AT: u16 = 6;
+const NUMBER_AT: u16 = 8;
+const COUNT_AT: u16 = 26;
+
+/// What a page holds.
+#[derive(Clone, Copy, Debug, PartialEq, Eq)]
+pub enum PageKind {
+    /// It was never written: all its bytes are zeros.
+    Empty,
+    /// Page 0 of a table's heap.
+    HeapHeader,
+    /// Rows of a table.
+    Heap,
+    /// Page 0 of a table's index.
+    IndexHeader,
+    /// Entries that lead to other pages of the index.
+    Branch,
+    /// Entries that lead to rows.
+    Leaf,
+}
+
+/// What the header of a page says besides its name.
+#[derive(Clone, Copy, Debug, PartialEq, Eq)]
+pub struct Header {
+    pub kind: PageKind,
+    /// The LRSN of the last change, 0 for an empty page.
+    pub lrsn: Lrsn,
+    /// How many slots or entries are in use, 0 for an empty page and for page 0 of a page set.
+    pub count: u16,
+}
+
+/// The bytes are no page of this name: the field that begins at this offset can't stand there.
+#[derive(Clone, Copy, Debug, PartialEq, Eq)]
+pub struct NotAPage {
+    pub at: u16,
+}
+
+impl PageKind {
+    // The kind of this number, and `Empty` for a number that stands in no header.
+    fn of_number(number: u8) -> PageKind
+        ensures { result ≡ kind_of number }
+    {
+        match number {
+            1 => PageKind::HeapHeader,
+            2 => PageKind::Heap,
+            3 => PageKind::IndexHeader,
+            4 => PageKind::Branch,
+            5 => PageKind::Leaf,
+            _ => PageKind::Empty,
+        }
+    }
+
+    // Whether the header of this page may have the kind.
+    fn may_stand_in(self, id: PageId) -> bool
+        ensures { result ≡ may_have id self }
+    {
+        let is_heap = id.set % 2 == 1;
+        let is_first = id.number == 0;
+        match self {
+            PageKind::Empty => false,
+            PageKind::HeapHeader => is_heap && is_first,
+            PageKind::Heap => is_heap && !is_first,
+            PageKind::IndexHeader => !is_heap && is_first,
+            PageKind::Branch | PageKind::Leaf => !is_heap && !is_first,
+        }
+    }
+
+    // The greatest count of a page of the kind.
+    fn most(self) -> u16
+        ensures { result ≡ most self }
+    {
+        match self {
+            PageKind::Empty | PageKind::HeapHeader | PageKind::IndexHeader => 0,
+            PageKind::Heap => SLOTS_PER_PAGE,
+            PageKind::Branch | PageKind::Leaf => ENTRIES_PER_PAGE,
+        }
+    }
+}
+
+fn read_lrsn(page: &[u8]) -> Lrsn
+    requires { page_size ≤ length page.now }
+    ensures { result ≡ number_in page.now lrsn_at lrsn_width }
+{
+    let b = &page[LRSN_AT..];
+    let number = u64::from_be_bytes([0, 0, b[0], b[1], b[2], b[3], b[4], b[5]]);
+    let Some(lrsn) = Lrsn::new(number) else {
+        unreachable!()
+    };
+    lrsn
+}
+
+fn read_fields(page: &[u8]) -> Header
+    requires { page_size ≤ length page.now }
+    ensures { result ≡ header_in page.now }
+{
+    Header {
+        kind: PageKind::of_number(page[KIND_AT as usize]),
+        lrsn: read_lrsn(page),
+        count: BigEndian::read_u16(&page[COUNT_AT as usize..]),
+    }
+}
+
+fn is_empty(page: &[u8]) -> bool
+    ensures { result ≡ is_blank page.now }
+{
+    page.iter().all(|byte| *byte == 0)
+}
