@@ -117,8 +117,63 @@ fn read_fields(page: &[u8]) -> Header
     }
 }
 
+fn empty_header() -> Header
+    ensures { result ≡ blank_header }
+{
+    let Some(lrsn) = Lrsn::new(0) else {
+        unreachable!()
+    };
+    Header {
+        kind: PageKind::Empty,
+        lrsn,
+        count: 0,
+    }
+}
+
 fn is_empty(page: &[u8]) -> bool
     ensures { result ≡ is_blank page.now }
 {
     page.iter().all(|byte| *byte == 0)
+}
+
+// The offset of the first field that can't stand in the header of this page.
+fn find_fault(page: &[u8], id: PageId, header: &Header) -> Option<u16>
+    requires whole { page_size ≤ length page.now }
+    requires read { header.now ≡ header_in page.now }
+    ensures { result ≡ first_fault (fields page.now id) }
+{
+    if &page[..4] != MARK.as_slice() {
+        Some(MARK_AT)
+    } else if !header.kind.may_stand_in(id) {
+        Some(KIND_AT)
+    } else if page[VERSION_AT as usize] != VERSION {
+        Some(VERSION_AT)
+    } else if BigEndian::read_u16(&page[SET_AT as usize..]) != id.set {
+        Some(SET_AT)
+    } else if BigEndian::read_u32(&page[NUMBER_AT as usize..]) != id.number {
+        Some(NUMBER_AT)
+    } else if header.lrsn.number() == 0 {
+        Some(LRSN_AT as u16)
+    } else if header.count > header.kind.most() {
+        Some(COUNT_AT)
+    } else {
+        None
+    }
+}
+
+impl Page {
+    /// The header of the page of this name. The bytes that no field has, from the header's on, are not looked at.
+    pub fn read_header(&self, id: PageId) -> Result<Header, NotAPage>
+        ensures { result ≡ header_of self.now id }
+    {
+        let page = self.bytes();
+        if is_empty(page) {
+            return Ok(empty_header());
+        }
+        let header = read_fields(page);
+        match find_fault(page, id, &header) {
+            None => Ok(header),
+            Some(at) => Err(NotAPage { at }),
+        }
+    }
 }
