@@ -1,11 +1,9 @@
 -- What the header of a page says, and where it can't be the header of that page.
-use Rattle.std.specs.Prelude.{ℕ, ◌%◌, ◌==◌, nat_le, Bool, true, false, not, ◌&&◌, if◌then◌else◌, List, [], ◌∷◌, take, drop, slice_index, Option, Some, None, Result, Ok, Err}
+use Rattle.std.specs.Prelude.{ℕ, ◌%◌, ◌==◌, nat_le, Bool, true, false, not, ◌&&◌, if◌then◌else◌, List, [], ◌∷◌, take, slice_index, Option, Some, None, Result, Ok, Err}
 use Rattle.std.specs.List.{list_all}
 use Rattle.std.specs.Str.{bytes_eq}
-use Rattle.ds_base.specs.Ids.{lrsn_width}
 use Rattle.ds_base.specs.declared.names.PageId.{PageId}
-use Rattle.byteorder.specs.Endian.{big_number}
-use Rattle.page_format.specs.Fields.{mark_at, kind_at, version_at, set_at, number_at, lrsn_at, count_at}
+use Rattle.page_format.specs.Fields.{mark_at, kind_at, version_at, set_at, number_at, lrsn_at, count_at, number_in, lrsn_of}
 use Rattle.page_format.specs.declared.header.Header.{Header}
 use Rattle.page_format.specs.declared.header.NotAPage.{NotAPage}
 use Rattle.page_format.specs.declared.header.PageKind.{PageKind}
@@ -59,14 +57,10 @@ most kind.Leaf = entries_per_page
 abbrev pub mark : List ℕ
 mark = 0x44 ∷ 0x53 ∷ 0x47 ∷ 0x31 ∷ []
 
--- the number in so many bytes from this offset on
-abbrev pub number_in : List ℕ → ℕ → ℕ → ℕ
-number_in page offset width = big_number width (drop offset page)
-
 abbrev pub header_in : List ℕ → Header
 header_in page = record {
     kind = kind_of (slice_index page kind_at);
-    lrsn = number_in page lrsn_at lrsn_width;
+    lrsn = lrsn_of page;
     count = number_in page count_at 2 }
 
 -- the offset of each field, in rising order, and whether it may stand in the header of this page
@@ -99,7 +93,7 @@ judged None header = Ok header
 judged (Some offset) header = Err (record { at = offset })
 
 -- the header of the page of this name that has these bytes
-abbrev pub header_of : List ℕ → PageId → Result Header NotAPage
+unfoldable pub header_of : List ℕ → PageId → Result Header NotAPage
 header_of page id =
     if is_blank page then Ok blank_header
     else judged (first_fault (fields page id)) (header_in page)

@@ -1,23 +1,15 @@
 ghost use Rattle.std.specs.Prelude.{◌≡◌, ◌≤◌, ◌==◌, ◌+◌, List, length, Option};
-ghost use Rattle.ds_base.specs.Ids.{lrsn_width};
-ghost use Rattle.page_format.specs.Fields.{page_size, lrsn_at, count_at};
-ghost use Rattle.page_format.specs.Header.{kind_of, may_have, most, number_in, fields, first_fault, is_blank, blank_header, header_in, header_of};
+ghost use Rattle.page_format.specs.Fields.{page_size, lrsn_of};
+ghost use Rattle.page_format.specs.Header.{kind_of, may_have, most, fields, first_fault, is_blank, blank_header, header_in, header_of};
 
-use crate::{ENTRIES_PER_PAGE, LRSN_AT, Page, SLOTS_PER_PAGE};
+use crate::layout::{COUNT_AT, KIND_AT, LRSN_AT, MARK_AT, NUMBER_AT, SET_AT, VERSION_AT};
+use crate::{ENTRIES_PER_PAGE, Page, SLOTS_PER_PAGE};
 use byteorder::{BigEndian, ByteOrder};
 use ds_base::{Lrsn, PageId};
 
 // What stands in front of every page that was written.
 const MARK: [u8; 4] = *b"DSG1";
 const VERSION: u8 = 1;
-
-// Where the fields of the header begin.
-const MARK_AT: u16 = 0;
-const KIND_AT: u16 = 4;
-const VERSION_AT: u16 = 5;
-const SET_AT: u16 = 6;
-const NUMBER_AT: u16 = 8;
-const COUNT_AT: u16 = 26;
 
 /// What a page holds.
 #[derive(Clone, Copy, Debug, PartialEq, Eq)]
@@ -96,9 +88,9 @@ impl PageKind {
 
 fn read_lrsn(page: &[u8]) -> Lrsn
     requires { page_size ≤ length page.now }
-    ensures { result ≡ number_in page.now lrsn_at lrsn_width }
+    ensures { result ≡ lrsn_of page.now }
 {
-    let b = &page[LRSN_AT..];
+    let b = &page[LRSN_AT as usize..];
     let number = u64::from_be_bytes([0, 0, b[0], b[1], b[2], b[3], b[4], b[5]]);
     let Some(lrsn) = Lrsn::new(number) else {
         unreachable!()
@@ -153,7 +145,7 @@ fn find_fault(page: &[u8], id: PageId, header: &Header) -> Option<u16>
     } else if BigEndian::read_u32(&page[NUMBER_AT as usize..]) != id.number {
         Some(NUMBER_AT)
     } else if header.lrsn.number() == 0 {
-        Some(LRSN_AT as u16)
+        Some(LRSN_AT)
     } else if header.count > header.kind.most() {
         Some(COUNT_AT)
     } else {
@@ -163,6 +155,7 @@ fn find_fault(page: &[u8], id: PageId, header: &Header) -> Option<u16>
 
 impl Page {
     /// The header of the page of this name. The bytes that no field has, from the header's on, are not looked at.
+    #[tactic(auto, unfolding(crate::specs::Header::header_of))]
     pub fn read_header(&self, id: PageId) -> Result<Header, NotAPage>
         ensures { result ≡ header_of self.now id }
     {

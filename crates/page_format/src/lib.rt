@@ -2,10 +2,10 @@
 #![tactic(auto)]
 
 mod header;
+mod layout;
 mod page;
 mod patch;
 
 pub use header::{Header, NotAPage, PageKind};
 pub use page::{ENTRIES_PER_PAGE, PAGE_SIZE, Page, SLOTS_PER_PAGE};
-use patch::LRSN_AT;
 pub use patch::{Patch, Patches};
