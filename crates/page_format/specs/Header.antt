@@ -1,5 +1,5 @@
 -- What the header of a page says, and where it can't be the header of that page.
-use Rattle.std.specs.Prelude.{ℕ, ◌%◌, ◌==◌, nat_le, Bool, true, false, not, ◌&&◌, if◌then◌else◌, List, [], ◌∷◌, take, slice_index, Option, Some, None, Result, Ok, Err}
+use Rattle.std.specs.Prelude.{ℕ, ◌%◌, ◌==◌, nat_le, Bool, false, not, ◌&&◌, if◌then◌else◌, List, [], ◌∷◌, take, slice_index, Option, Some, None, Result, Ok, Err}
 use Rattle.std.specs.List.{list_all}
 use Rattle.std.specs.Str.{bytes_eq}
 use Rattle.ds_base.specs.declared.names.PageId.{PageId}
@@ -59,9 +59,10 @@ mark = 0x44 ∷ 0x53 ∷ 0x47 ∷ 0x31 ∷ []
 
 abbrev pub header_in : List ℕ → Header
 header_in page = record {
-    kind = kind_of (slice_index page kind_at);
-    lrsn = lrsn_of page;
-    count = number_in page count_at 2 }
+  kind = kind_of (slice_index page kind_at);
+  lrsn = lrsn_of page;
+  count = number_in page count_at 2;
+}
 
 -- the offset of each field, in rising order, and whether it may stand in the header of this page
 abbrev pub fields : List ℕ → PageId → List (ℕ × Bool)
@@ -82,11 +83,11 @@ first_fault (field ∷ rest) = if field.1 then first_fault rest else Some field.
 
 -- ---- the answer
 
-abbrev pub is_blank : List ℕ → Bool
-is_blank page = list_all (λ b. b == 0) page
+abbrev pub is_zeros : List ℕ → Bool
+is_zeros page = list_all (λ b. b == 0) page
 
-abbrev pub blank_header : Header
-blank_header = record { kind = kind.Empty; lrsn = 0; count = 0 }
+abbrev pub empty_header : Header
+empty_header = record { kind = kind.Empty; lrsn = 0; count = 0 }
 
 abbrev pub judged : Option ℕ → Header → Result Header NotAPage
 judged None header = Ok header
@@ -95,5 +96,5 @@ judged (Some offset) header = Err (record { at = offset })
 -- the header of the page of this name that has these bytes
 unfoldable pub header_of : List ℕ → PageId → Result Header NotAPage
 header_of page id =
-    if is_blank page then Ok blank_header
+    if is_zeros page then Ok empty_header
     else judged (first_fault (fields page id)) (header_in page)

@@ -1,14 +1,15 @@
 ghost use Rattle.std.specs.Prelude.{◌≡◌, ◌≤◌, ◌==◌, ◌+◌, List, length, Option};
 ghost use Rattle.page_format.specs.Fields.{page_size, lrsn_of};
-ghost use Rattle.page_format.specs.Header.{kind_of, may_have, most, fields, first_fault, is_blank, blank_header, header_in, header_of};
+ghost use Rattle.page_format.specs.Header.{kind_of, may_have, most, fields, first_fault, is_zeros, empty_header, header_in, header_of};
 
 use crate::layout::{COUNT_AT, KIND_AT, LRSN_AT, MARK_AT, NUMBER_AT, SET_AT, VERSION_AT};
 use crate::{ENTRIES_PER_PAGE, Page, SLOTS_PER_PAGE};
 use byteorder::{BigEndian, ByteOrder};
 use ds_base::{Lrsn, PageId};
 
-// What stands in front of every page that was written.
+// What every page begins with, once it was written.
 const MARK: [u8; 4] = *b"DSG1";
+
 const VERSION: u8 = 1;
 
 /// What a page holds.
@@ -98,32 +99,36 @@ fn read_lrsn(page: &[u8]) -> Lrsn
     lrsn
 }
 
-fn read_fields(page: &[u8]) -> Header
-    requires { page_size ≤ length page.now }
-    ensures { result ≡ header_in page.now }
-{
-    Header {
-        kind: PageKind::of_number(page[KIND_AT as usize]),
-        lrsn: read_lrsn(page),
-        count: BigEndian::read_u16(&page[COUNT_AT as usize..]),
+impl Header {
+    // The header of a page that was never written.
+    fn empty() -> Header
+        ensures { result ≡ empty_header }
+    {
+        let Some(lrsn) = Lrsn::new(0) else {
+            unreachable!()
+        };
+        Header {
+            kind: PageKind::Empty,
+            lrsn,
+            count: 0,
+        }
+    }
+
+    // What these bytes say, whether or not they may.
+    fn read(page: &[u8]) -> Header
+        requires { page_size ≤ length page.now }
+        ensures { result ≡ header_in page.now }
+    {
+        Header {
+            kind: PageKind::of_number(page[KIND_AT as usize]),
+            lrsn: read_lrsn(page),
+            count: BigEndian::read_u16(&page[COUNT_AT as usize..]),
+        }
     }
 }
 
-fn empty_header() -> Header
-    ensures { result ≡ blank_header }
-{
-    let Some(lrsn) = Lrsn::new(0) else {
-        unreachable!()
-    };
-    Header {
-        kind: PageKind::Empty,
-        lrsn,
-        count: 0,
-    }
-}
-
-fn is_empty(page: &[u8]) -> bool
-    ensures { result ≡ is_blank page.now }
+fn is_zeros(page: &[u8]) -> bool
+    ensures { result ≡ is_zeros page.now }
 {
     page.iter().all(|byte| *byte == 0)
 }
@@ -154,16 +159,16 @@ fn find_fault(page: &[u8], id: PageId, header: &Header) -> Option<u16>
 }
 
 impl Page {
-    /// The header of the page of this name. The bytes that no field has, from the header's on, are not looked at.
+    /// The header of the page of this name. Bytes of no field are looked at only to tell an empty page.
     #[tactic(auto, unfolding(crate::specs::Header::header_of))]
     pub fn read_header(&self, id: PageId) -> Result<Header, NotAPage>
         ensures { result ≡ header_of self.now id }
     {
         let page = self.bytes();
-        if is_empty(page) {
-            return Ok(empty_header());
+        if is_zeros(page) {
+            return Ok(Header::empty());
         }
-        let header = read_fields(page);
+        let header = Header::read(page);
         match find_fault(page, id, &header) {
             None => Ok(header),
             Some(at) => Err(NotAPage { at }),

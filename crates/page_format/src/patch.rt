@@ -19,7 +19,7 @@ pub type Patches = Sequence<Patch>;
 
 // Writes bytes over those from an offset on.
 #[tactic(auto, unfolding(crate::specs::Fields::patched))]
-fn overwrite(page: &mut [u8], offset: usize, bytes: &[u8])
+pub fn overwrite(page: &mut [u8], offset: usize, bytes: &[u8])
     requires { offset + length bytes.now ≤ length page.old }
     ensures { page.new ≡ patched page.old offset bytes.now }
 {
@@ -35,7 +35,11 @@ fn stamp(page: &mut [u8], lrsn: Lrsn)
     ensures range { IsLrsn lrsn }
 {
     let number = lrsn.number().to_be_bytes();
-    overwrite(page, LRSN_AT as usize, &number[number.len() - LRSN_WIDTH as usize..]);
+    overwrite(
+        page,
+        LRSN_AT as usize,
+        &number[number.len() - LRSN_WIDTH as usize..],
+    );
 }
 
 impl Page {
