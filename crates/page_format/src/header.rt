@@ -1,4 +1,4 @@
-ghost use Rattle.std.specs.Prelude.{◌≡◌, ◌≤◌, ◌==◌, ◌+◌, List, length, Option};
+ghost use Rattle.std.specs.Prelude.{◌≡◌, ◌≤◌, length};
 ghost use Rattle.page_format.specs.Fields.{page_size, lrsn_of};
 ghost use Rattle.page_format.specs.Header.{kind_of, may_have, most, fields, first_fault, is_zeros, empty_header, header_in, header_of};
 

@@ -1,4 +1,4 @@
-ghost use Rattle.std.specs.Prelude.{◌≡◌, ℕ, List, length, replicate, IfOk};
+ghost use Rattle.std.specs.Prelude.{◌≡◌, length, replicate, IfOk};
 ghost use Rattle.std.specs.Borrow.{sem};
 ghost use Rattle.page_format.specs.Fields.{page_size};
 ghost use Rattle.page_format.specs.Lending.{LendsBytes};

@@ -1,6 +1,3 @@
-ghost use Rattle.std.specs.Prelude.{◌<◌, ◌≤◌, ◌+◌, ◌^◌};
-ghost use Rattle.ds_base.specs.Ids.{IsLrsn};
-
 use crate::patch::overwrite;
 use crate::{Header, NotAPage, PAGE_SIZE, Page, PageKind, Patch};
 use ds_base::{Bytes, Lrsn, PageId};
