@@ -1,0 +1,56 @@
+ghost use Rattle.std.specs.Prelude.{◌≡◌, ◌+◌, ◌≤◌, length};
+ghost use Rattle.ds_base.specs.Ids.{IsLrsn};
+ghost use Rattle.page_format.specs.Fields.{page_size, lrsn_at, patched, set_lrsn, lrsn_of};
+
+use crate::Page;
+use crate::layout::LRSN_AT;
+use ds_base::{Bytes, LRSN_WIDTH, Lrsn, PageId, Sequence};
+
+/// New bytes for a part of a page, from an offset on.
+#[derive(Debug, Drop)]
+pub struct Patch {
+    pub page: PageId,
+    pub offset: u16,
+    pub bytes: Bytes,
+}
+
+/// A list of patches.
+pub type Patches = Sequence<Patch>;
+
+// Writes bytes over those from an offset on.
+#[tactic(auto, unfolding(crate::specs::Fields::patched))]
+pub fn overwrite(page: &mut [u8], offset: usize, bytes: &[u8])
+    requires { offset + length bytes.now ≤ length page.old }
+    ensures { page.new ≡ patched page.old offset bytes.now }
+{
+    page[offset..offset + bytes.len()].copy_from_slice(bytes);
+}
+
+// Writes the LRSN of the last change.
+#[tactic(auto, unfolding(crate::specs::Fields::set_lrsn))]
+fn stamp(page: &mut [u8], lrsn: Lrsn)
+    requires { page_size ≤ length page.old }
+    ensures bytes { page.new ≡ set_lrsn page.old lrsn }
+    ensures has_room { lrsn_at ≤ length page.old }
+    ensures range { IsLrsn lrsn }
+{
+    let number = lrsn.number().to_be_bytes();
+    overwrite(
+        page,
+        LRSN_AT as usize,
+        &number[number.len() - LRSN_WIDTH as usize..],
+    );
+}
+
+impl Page {
+    /// Writes the patch's bytes, and then the LRSN of the change. Whose page it is isn't asked.
+    pub fn apply(&mut self, patch: &Patch, lrsn: Lrsn)
+        requires { patch.now.offset + length patch.now.bytes ≤ page_size }
+        ensures bytes { self.new ≡ set_lrsn (patched self.old patch.now.offset patch.now.bytes) lrsn }
+        ensures number { lrsn_of self.new ≡ lrsn }
+    {
+        let bytes = self.bytes_mut();
+        overwrite(bytes, patch.offset as usize, patch.bytes.as_slice());
+        stamp(bytes, lrsn);
+    }
+}
