@@ -1,5 +1,9 @@
 -- The options that were read, and those that the words behind them give.
-use Rattle.std.proofs.Common.{◌≡◌, ℕ, List, [], ◌∷◌, ◌++◌, Option, Some, None, option_map, arith, rules, refl, append_assoc}
+use Rattle.std.proofs.Common.{◌≡◌, ℕ, List, [], ◌∷◌, ◌++◌, Option, Some, None, option_map, arith, rules, refl, ◌+◌, ◌<◌, ◌≤◌, drop, get_or, length}
+use Rattle.std.specs.Prelude.{String}
+use Rattle.std.specs.Global.{Global}
+use Rattle.std.specs.String.{string_bytes}
+use Rattle.group_words.specs.Orders.{texts}
 use Rattle.std.proofs.lemmas.Grind.{common_steps}
 use Rattle.group_words.specs.Options.{given_after, step_of}
 use Rattle.group_words.specs.declared.given.Given.{Given}
@@ -14,22 +18,39 @@ behind_one : (done : List Given) (given : Given) (more : Option (List Given)) �
 behind_one done given None = refl
 behind_one done given (Some more) = grind (arith, common_steps)
 
-pub read_refused : (done : List Given) (waiting : Option Setting) (word : List ℕ) (words : List (List ℕ)) → step_of waiting word ≡ None → behind done (given_after waiting (word ∷ words)) ≡ None
-unfolding given_after
-read_refused done waiting word words e = rw e refl
+-- the word at an index, and those behind it
+texts_at : (words : List (String Global)) (i : ℕ) (w : String Global) → i < length words → w ≡ get_or words i w → texts (drop i words) ≡ string_bytes w ∷ texts (drop (i + 1) words)
+texts_at words i w low e =
+    let cut : drop i words ≡ w ∷ drop (i + 1) words = grind (arith, common_steps) in
+    rw cut refl
 
-pub read_waits : (done : List Given) (waiting : Option Setting) (word : List ℕ) (words : List (List ℕ)) (s : Setting) → step_of waiting word ≡ Some (Waits s) → behind done (given_after waiting (word ∷ words)) ≡ behind done (given_after (Some s) words)
-unfolding given_after
-read_waits done waiting word words s e = rw e refl
+texts_end : (words : List (String Global)) (i : ℕ) → length words ≤ i → texts (drop i words) ≡ []
+texts_end words i high =
+    let none : drop i words ≡ [] = grind (arith, common_steps) in
+    rw none refl
 
-pub read_gives : (done : List Given) (waiting : Option Setting) (word : List ℕ) (words : List (List ℕ)) (given : Given) → step_of waiting word ≡ Some (Gives given) → behind done (given_after waiting (word ∷ words)) ≡ behind (done ++ given ∷ []) (given_after None words)
-unfolding given_after
-read_gives done waiting word words given e = rw e (behind_one done given (given_after None words))
+-- what the words from an index on give behind the options that were read
+abbrev pub behind_at : List Given → Option Setting → ℕ → List (String Global) → Option (List Given)
+behind_at done waiting i words = behind done (given_after waiting (texts (drop i words)))
 
-pub read_all : (done : List Given) → behind done (given_after None []) ≡ Some done
+pub refused_at : (done : List Given) (waiting : Option Setting) (words : List (String Global)) (i : ℕ) (w : String Global) → i < length words → w ≡ get_or words i w → step_of waiting (string_bytes w) ≡ None → behind_at done waiting i words ≡ None
 unfolding given_after
-read_all done = grind (arith, common_steps)
+refused_at done waiting words i w low e h = rw (texts_at words i w low e, h) refl
 
-pub read_lacks : (done : List Given) (s : Setting) → behind done (given_after (Some s) []) ≡ None
+pub waits_at : (done : List Given) (waiting : Option Setting) (words : List (String Global)) (i : ℕ) (w : String Global) (s : Setting) → i < length words → w ≡ get_or words i w → step_of waiting (string_bytes w) ≡ Some (Waits s) → behind_at done waiting i words ≡ behind_at done (Some s) (i + 1) words
 unfolding given_after
-read_lacks done s = refl
+waits_at done waiting words i w s low e h = rw (texts_at words i w low e, h) refl
+
+pub gives_at : (done : List Given) (waiting : Option Setting) (words : List (String Global)) (i : ℕ) (w : String Global) (given : Given) → i < length words → w ≡ get_or words i w → step_of waiting (string_bytes w) ≡ Some (Gives given) → behind_at done waiting i words ≡ behind_at (done ++ given ∷ []) None (i + 1) words
+unfolding given_after
+gives_at done waiting words i w given low e h = rw (texts_at words i w low e, h) (behind_one done given (given_after None (texts (drop (i + 1) words))))
+
+pub all_at : (done : List Given) (words : List (String Global)) (i : ℕ) → length words ≤ i → behind_at done None i words ≡ Some done
+unfolding given_after
+all_at done words i high =
+    let whole : done ++ [] ≡ done = search rules in
+    rw (texts_end words i high, whole) refl
+
+pub lacks_at : (done : List Given) (s : Setting) (words : List (String Global)) (i : ℕ) → length words ≤ i → behind_at done (Some s) i words ≡ None
+unfolding given_after
+lacks_at done s words i high = rw (texts_end words i high) refl

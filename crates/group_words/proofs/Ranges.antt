@@ -4,7 +4,7 @@ use Rattle.std.proofs.lemmas.Slice.Eq.{bytes_eq-Decides}
 use Rattle.std.proofs.lemmas.Grind.{common_steps}
 use Rattle.std.specs.List.{list_all}
 use Rattle.std.specs.Str.{bytes_eq}
-use Rattle.group_words.specs.Options.{rule_of, numbered, is_for, is_in_range, number_for}
+use Rattle.group_words.specs.Options.{rule_of, numbered, is_for, is_in_range, number_for, are_allowed}
 use Rattle.group_words.specs.declared.given.Given.{Given}
 use Rattle.group_words.specs.declared.setting.Setting.{Setting}
 use Rattle.group_words.specs.declared.setting.Setting.TheVariants.{Members, Agents, Locks, Records, Cache, Pool, Pages, Seed, Trace}
@@ -52,3 +52,6 @@ next_fits s first given false e h more = rw e more
 pub number_fits : (s : Setting) (given : List Given) → list_all is_in_range given ≡ true → number_for s given ≤ (rule_of s).greatest
 number_fits s [] h = usual_fits s
 number_fits s (first ∷ given) h = next_fits s first given (is_for s first) refl (grind arith) (number_fits s given (grind arith))
+
+pub allowed_fits : (s : Setting) (given : List Given) → are_allowed given ≡ true → number_for s given ≤ (rule_of s).greatest
+allowed_fits s given h = number_fits s given (grind arith)

@@ -41,9 +41,12 @@ make_order _ = None
 abbrev pub work_with : ℕ → List Given → Option Order
 work_with n given = if are_allowed given && list_all suits_work given then Some (Work n (sizes_of given)) else None
 
+abbrev pub work_given : ℕ → List (List ℕ) → Option Order
+work_given n words = option_and_then (work_with n) (given_of words)
+
 abbrev pub work_order : List (List ℕ) → Option Order
 work_order [] = None
-work_order (number ∷ words) = option_and_then (λ n. option_and_then (work_with n) (given_of words)) (number_of number)
+work_order (number ∷ words) = option_and_then (λ n. work_given n words) (number_of number)
 
 abbrev pub order_under : List ℕ → List (List ℕ) → Option Order
 order_under command words =

@@ -83,14 +83,16 @@ pub fn given_of(alloc: Global, words: &[String]) -> Result<Vec<Given>, WordsFaul
     let mut given = Vec::new(alloc);
     let mut waiting = None;
     for word in words {
-        match step_of(waiting, word.as_bytes()) {
-            Some(Step::Waits(setting)) => waiting = Some(setting),
-            Some(Step::Gives(option)) => {
+        let Some(step) = step_of(waiting, word.as_bytes()) else {
+            return Err(WordsFault::Refused);
+        };
+        waiting = match step {
+            Step::Waits(setting) => Some(setting),
+            Step::Gives(option) => {
                 given.push(option)?;
-                waiting = None;
+                None
             }
-            None => return Err(WordsFault::Refused),
-        }
+        };
     }
     match waiting {
         Some(_) => Err(WordsFault::Refused),

@@ -4,6 +4,10 @@
 mod given;
 mod number;
 mod order;
+mod read;
 mod setting;
+#[cfg(test)]
+mod tests;
 
 pub use order::{Order, WordsFault};
+pub use read::read_words;
