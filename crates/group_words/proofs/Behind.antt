@@ -5,14 +5,17 @@ use Rattle.std.specs.Global.{Global}
 use Rattle.std.specs.String.{string_bytes}
 use Rattle.group_words.specs.Orders.{texts}
 use Rattle.std.proofs.lemmas.Grind.{common_steps}
-use Rattle.group_words.specs.Options.{given_after, step_of}
+use Rattle.group_words.specs.Steps.{given_after, step_of}
 use Rattle.group_words.specs.declared.given.Given.{Given}
-use Rattle.group_words.specs.declared.given.Step.{Step}
 use Rattle.group_words.specs.declared.given.Step.TheVariants.{Waits, Gives}
 use Rattle.group_words.specs.declared.setting.Setting.{Setting}
 
 abbrev pub behind : List Given → Option (List Given) → Option (List Given)
 behind done more = option_map (λ more. done ++ more) more
+
+pub behind_none : (more : Option (List Given)) → behind [] more ≡ more
+behind_none None = refl
+behind_none (Some more) = refl
 
 behind_one : (done : List Given) (given : Given) (more : Option (List Given)) → behind done (option_map (λ more. given ∷ more) more) ≡ behind (done ++ given ∷ []) more
 behind_one done given None = refl

@@ -1,8 +1,8 @@
 -- The numbers that digits spell.
-use Rattle.std.proofs.Common.{◌≡◌, ℕ, ◌+◌, ◌-◌, ◌*◌, ◌^◌, ◌<◌, ◌≤◌, Bool, true, false, ◌&&◌, nat_lt, if◌then◌else◌, List, [], ◌∷◌, length, get_or, drop, Option, Some, None, arith, rules, refl, drop-cons}
+use Rattle.std.proofs.Common.{◌≡◌, ℕ, ◌+◌, ◌-◌, ◌*◌, ◌^◌, ◌<◌, ◌≤◌, Bool, true, false, ◌&&◌, nat_lt, List, [], ◌∷◌, length, get_or, drop, Some, None, arith, refl}
 use Rattle.std.proofs.lemmas.Grind.{common_steps}
 use Rattle.std.specs.Str.{all_ascii_digits}
-use Rattle.group_words.specs.Numbers.{spelled, spelled_after, number_of, is_number}
+use Rattle.group_words.specs.Numbers.{spelled, spelled_after, number_of}
 
 -- digits make a number no smaller
 pub spelled_after_least : (n : ℕ) (digits : List ℕ) → n ≤ spelled_after n digits

@@ -1,7 +1,6 @@
 -- The numbers of options that were given in their ranges.
-use Rattle.std.proofs.Common.{◌≡◌, ℕ, ◌≤◌, Bool, true, false, nat_le, ◌&&◌, List, [], ◌∷◌, find, Option, Some, unwrap_or, arith, rules, refl, ap}
+use Rattle.std.proofs.Common.{◌≡◌, ℕ, ◌≤◌, Bool, true, false, List, [], ◌∷◌, find, Option, Some, unwrap_or, arith, refl, ap}
 use Rattle.std.proofs.lemmas.Slice.Eq.{bytes_eq-Decides}
-use Rattle.std.proofs.lemmas.Grind.{common_steps}
 use Rattle.std.specs.List.{list_all}
 use Rattle.std.specs.Str.{bytes_eq}
 use Rattle.group_words.specs.Options.{rule_of, numbered, is_for, is_in_range, number_for, are_allowed}

@@ -1,13 +1,11 @@
 -- The options of a command line.
-use Rattle.std.specs.Prelude.{ℕ, ◌+◌, ◌*◌, ◌^◌, ◌-◌, ◌==◌, Bool, true, false, not, ◌&&◌, if◌then◌else◌, nat_le, List, [], ◌∷◌, take, drop, find, Option, Some, None, option_map, option_and_then, unwrap_or, codes}
+use Rattle.std.specs.Prelude.{ℕ, ◌+◌, ◌*◌, ◌^◌, ◌-◌, ◌==◌, Bool, true, false, not, ◌&&◌, if◌then◌else◌, nat_le, List, [], ◌∷◌, take, drop, find, Option, Some, option_map, option_and_then, is_some, unwrap_or, codes}
 use Rattle.std.specs.List.{list_all, list_any, position}
 use Rattle.std.specs.Str.{bytes_eq}
 use Rattle.group_words.specs.Numbers.{number_of}
 use Rattle.group_words.specs.declared.setting.Setting.{Setting}
 use Rattle.group_words.specs.declared.setting.Setting.TheVariants.{Members, Agents, Locks, Records, Cache, Pool, Pages, Seed, Trace}
 use Rattle.group_words.specs.declared.given.Given.{Given}
-use Rattle.group_words.specs.declared.given.Step.{Step}
-use Rattle.group_words.specs.declared.given.Step.TheVariants.{Waits, Gives}
 
 -- An option: its name, the least and the greatest number that it takes, and its number where it is not given.
 pub record Rule : Type 0 where
@@ -51,36 +49,23 @@ abbrev pub joined : List ℕ → Option Given
 joined word = option_and_then (λ at. option_and_then (λ s. with_number s (drop (at + 1) word)) (setting_of (take at word))) (position (λ (b : ℕ). b == 61) word)
 
 -- an option in one word
-abbrev pub alone : List ℕ → Option Given
-alone word = if bytes_eq word (rule_of Trace).name then Some (given_as 1 Trace) else joined word
+abbrev pub in_one_word : List ℕ → Option Given
+in_one_word word = if bytes_eq word (rule_of Trace).name then Some (given_as 1 Trace) else joined word
 
--- a word that names the option
-abbrev pub begins : List ℕ → Option Setting → Option Step
-begins word (Some s) = Some (Waits s)
-begins word None = option_map Gives (alone word)
+-- an option in two words, its name and its number
+abbrev pub in_two_words : List ℕ → List ℕ → Option Given
+in_two_words name number = option_and_then (λ s. with_number s number) (setting_of name)
 
--- a word where an option may wait for its number
-abbrev pub step_of : Option Setting → List ℕ → Option Step
-step_of (Some s) word = option_map Gives (with_number s word)
-step_of None word = begins word (setting_of word)
+abbrev pub and_more : Option Given → Option (List Given) → Option (List Given)
+and_more first more = option_and_then (λ given. option_map (λ others. given ∷ others) more) first
 
-abbrev pub and_then : Option Step → (Option Setting → Option (List Given)) → Option (List Given)
-and_then None next = None
-and_then (Some (Waits s)) next = next (Some s)
-and_then (Some (Gives given)) next = option_map (λ more. given ∷ more) (next None)
-
--- at the end of the words, where no option may wait
-abbrev pub ended : Option Setting → Option (List Given)
-ended None = Some []
-ended (Some s) = None
-
--- the options that these words give, where one may wait for its number
-unfoldable pub given_after : Option Setting → List (List ℕ) → Option (List Given)
-given_after waiting [] = ended waiting
-given_after waiting (word ∷ words) = and_then (step_of waiting word) (λ next. given_after next words)
-
-abbrev pub given_of : List (List ℕ) → Option (List Given)
-given_of words = given_after None words
+-- the options that the words give, in their order
+unfoldable pub given_of : List (List ℕ) → Option (List Given)
+given_of [] = Some []
+given_of (word ∷ []) = and_more (in_one_word word) (Some [])
+given_of (word ∷ next ∷ words) =
+    if is_some (setting_of word) then and_more (in_two_words word next) (given_of words)
+    else and_more (in_one_word word) (given_of (next ∷ words))
 
 abbrev pub is_for : Setting → Given → Bool
 is_for s given = bytes_eq (rule_of s).name (rule_of given.setting).name

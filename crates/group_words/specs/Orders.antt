@@ -1,5 +1,5 @@
 -- What the words of a command line order.
-use Rattle.std.specs.Prelude.{ℕ, Bool, true, false, ◌&&◌, ◌==◌, if◌then◌else◌, List, [], ◌∷◌, map, Option, Some, None, option_map, option_and_then, codes}
+use Rattle.std.specs.Prelude.{ℕ, Bool, false, ◌&&◌, ◌||◌, ◌==◌, if◌then◌else◌, List, [], ◌∷◌, map, Option, Some, None, option_map, option_and_then, codes}
 use Rattle.std.specs.Prelude.{String}
 use Rattle.std.specs.Global.{Global}
 use Rattle.std.specs.List.{list_all}
@@ -63,3 +63,8 @@ order_of (command ∷ words) = order_under command words
 
 abbrev pub texts : List (String Global) → List (List ℕ)
 texts words = map string_bytes words
+
+-- the words are those of a command that takes options, and words stand behind it
+abbrev pub may_have_options : List (List ℕ) → Bool
+may_have_options (command ∷ word ∷ words) = bytes_eq command (codes "play") || bytes_eq command (codes "work")
+may_have_options _ = false

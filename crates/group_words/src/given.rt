@@ -1,8 +1,9 @@
 //! The options that the words give.
 
-ghost use Rattle.std.specs.Prelude.{◌≡◌, ◌==◌, ℕ, List, Some, None, IfOk, IfErr};
+ghost use Rattle.std.specs.Prelude.{◌≡◌, ◌==◌, ℕ, List, Some, None, IfOk, IfErr, ◌≤◌, length};
 ghost use Rattle.std.specs.List.{position, list_any, list_all};
 ghost use Rattle.group_words.specs.Options as spec;
+ghost use Rattle.group_words.specs.Steps as steps;
 ghost use Rattle.group_words.specs.Orders.{texts};
 ghost use Rattle.group_words.specs.declared.order.WordsFault.TheVariants as faults;
 
@@ -49,8 +50,8 @@ fn joined(word: &[u8]) -> Option<Given>
 }
 
 // An option in one word.
-fn alone(word: &[u8]) -> Option<Given>
-    ensures { result ≡ spec.alone word.now }
+fn in_one_word(word: &[u8]) -> Option<Given>
+    ensures { result ≡ spec.in_one_word word.now }
 {
     if word == Setting::Trace.name() {
         Some(Given {
@@ -64,14 +65,14 @@ fn alone(word: &[u8]) -> Option<Given>
 
 /// What a word does where an option may wait for its number. `None` where it may not stand there.
 pub fn step_of(waiting: Option<Setting>, word: &[u8]) -> Option<Step>
-    ensures { result ≡ spec.step_of waiting word.now }
+    ensures { result ≡ steps.step_of waiting word.now }
 {
     if let Some(setting) = waiting {
         return with_number(setting, word).map(Step::Gives);
     }
     match setting_of(word) {
         Some(setting) => Some(Step::Waits(setting)),
-        None => alone(word).map(Step::Gives),
+        None => in_one_word(word).map(Step::Gives),
     }
 }
 
@@ -79,6 +80,7 @@ pub fn step_of(waiting: Option<Setting>, word: &[u8]) -> Option<Step>
 pub fn given_of(alloc: Global, words: &[String]) -> Result<Vec<Given>, WordsFault>
     ensures given { IfOk result (λ given. spec.given_of (texts words.now) ≡ Some given.items) }
     ensures refused { IfErr result (λ fault. fault ≡ faults.Refused → spec.given_of (texts words.now) ≡ None) }
+    ensures memory { IfErr result (λ fault. fault ≡ faults.NoMemory → 1 ≤ length words.now) }
 {
     let mut given = Vec::new(alloc);
     let mut waiting = None;

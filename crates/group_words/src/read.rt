@@ -1,4 +1,4 @@
-ghost use Rattle.std.specs.Prelude.{◌≡◌, true, Some, None, IfOk, IfErr};
+ghost use Rattle.std.specs.Prelude.{◌≡◌, ◌≤◌, ◌∷◌, length, true, Some, None, IfOk, IfErr};
 ghost use Rattle.group_words.specs.Options.{are_allowed};
 ghost use Rattle.group_words.specs.Orders as spec;
 ghost use Rattle.group_words.specs.declared.order.WordsFault.TheVariants as faults;
@@ -29,6 +29,7 @@ fn sizes_of(given: &[Given]) -> Sizes
 fn play_order(alloc: Global, words: &[String]) -> Result<Order, WordsFault>
     ensures order { IfOk result (λ order. spec.play_order (spec.texts words.now) ≡ Some order) }
     ensures refused { IfErr result (λ fault. fault ≡ faults.Refused → spec.play_order (spec.texts words.now) ≡ None) }
+    ensures memory { IfErr result (λ fault. fault ≡ faults.NoMemory → 1 ≤ length words.now) }
 {
     let given = given_of(alloc, words)?;
     if !are_allowed(&given) {
@@ -65,6 +66,7 @@ fn make_order(words: &[String]) -> Option<Order>
 fn work_with(alloc: Global, n: u64, words: &[String]) -> Result<Order, WordsFault>
     ensures order { IfOk result (λ order. spec.work_given n (spec.texts words.now) ≡ Some order) }
     ensures refused { IfErr result (λ fault. fault ≡ faults.Refused → spec.work_given n (spec.texts words.now) ≡ None) }
+    ensures memory { IfErr result (λ fault. fault ≡ faults.NoMemory → 1 ≤ length words.now) }
 {
     let given = given_of(alloc, words)?;
     if are_allowed(&given) && suit_work(&given) {
@@ -80,6 +82,7 @@ fn work_with(alloc: Global, n: u64, words: &[String]) -> Result<Order, WordsFaul
 fn work_order(alloc: Global, words: &[String]) -> Result<Order, WordsFault>
     ensures order { IfOk result (λ order. spec.work_order (spec.texts words.now) ≡ Some order) }
     ensures refused { IfErr result (λ fault. fault ≡ faults.Refused → spec.work_order (spec.texts words.now) ≡ None) }
+    ensures memory { IfErr result (λ fault. fault ≡ faults.NoMemory → 1 ≤ length words.now) }
 {
     let [number, options @ ..] = words else {
         return Err(WordsFault::Refused);
@@ -94,6 +97,7 @@ fn work_order(alloc: Global, words: &[String]) -> Result<Order, WordsFault>
 fn order_under(alloc: Global, command: &[u8], words: &[String]) -> Result<Order, WordsFault>
     ensures order { IfOk result (λ order. spec.order_under command.now (spec.texts words.now) ≡ Some order) }
     ensures refused { IfErr result (λ fault. fault ≡ faults.Refused → spec.order_under command.now (spec.texts words.now) ≡ None) }
+    ensures memory { IfErr result (λ fault. fault ≡ faults.NoMemory → spec.may_have_options (command.now ∷ spec.texts words.now) ≡ true) }
 {
     if command == b"play".as_slice() {
         play_order(alloc, words)
@@ -125,6 +129,7 @@ fn order_under(alloc: Global, command: &[u8], words: &[String]) -> Result<Order,
 pub fn read_words(alloc: Global, words: &[String]) -> Result<Order, WordsFault>
     ensures order { IfOk result (λ order. spec.order_of (spec.texts words.now) ≡ Some order) }
     ensures refused { IfErr result (λ fault. fault ≡ faults.Refused → spec.order_of (spec.texts words.now) ≡ None) }
+    ensures memory { IfErr result (λ fault. fault ≡ faults.NoMemory → spec.may_have_options (spec.texts words.now) ≡ true) }
 {
     match words {
         [command, rest @ ..] => order_under(alloc, command.as_bytes(), rest),

@@ -1,4 +1,4 @@
-use Rattle.std.proofs.Common.{◌≡◌, ℕ, ◌≤◌, arith, rules}
+use Rattle.std.proofs.Common.{◌≤◌, arith, rules}
 use Rattle.group_words.proofs.Ranges.{number_fits}
 use Rattle.group_words.specs.Options.{number_for}
 use Rattle.group_words.specs.declared.setting.Setting.TheVariants.{Members}

@@ -1,4 +1,4 @@
-use Rattle.std.proofs.Common.{◌≡◌, ℕ, ◌<◌, arith, rules}
+use Rattle.std.proofs.Common.{arith, rules}
 use Rattle.group_words.proofs.Digits.{read_too_great}
 use Rattle.group_words.proofs.number.number_of.Goals as goal
 
