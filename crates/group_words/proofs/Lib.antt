@@ -1,0 +1,4 @@
+mod Digits
+mod Ranges
+mod Behind
+mod Pairs

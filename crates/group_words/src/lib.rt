@@ -1,0 +1,13 @@
+//! The command line as an order.
+#![tactic(auto)]
+
+mod given;
+mod number;
+mod order;
+mod read;
+mod setting;
+#[cfg(test)]
+mod tests;
+
+pub use order::{Order, WordsFault};
+pub use read::read_words;
