@@ -24,6 +24,7 @@ impl From<NoMemory> for DiskError {
     }
 }
 
+/// The calls of a disk.
 #[derive(Clone, Copy, Debug, PartialEq, Eq)]
 pub enum DiskOp {
     ReadPage,
@@ -34,7 +35,13 @@ pub enum DiskOp {
     CutLog,
 }
 
-/// The call of this kind with this number, from 1, fails, and the disk may die in it.
+/// A failure that is planned for a disk in memory: the call of this kind with this number fails.
+///
+/// Calls of a kind are numbered from 1, those that fail too. The numbers end at 2^64 - 1, which every later
+/// call has. Of two failures for one call the first in the list decides.
+///
+/// Where `dies` is a number the disk is dead afterwards. An append then keeps its first so many bytes, or all
+/// if it has fewer; a page write and a cut are done where the number isn't 0.
 #[derive(Clone, Copy, Debug)]
 pub struct DiskFailure {
     pub call: DiskOp,
@@ -42,6 +49,9 @@ pub struct DiskFailure {
     pub dies: Option<u64>,
 }
 
+/// Pages of 4,096 bytes, and a log for each member.
+///
+/// A page that was never written reads as zeros. An append that answered `Ok` is stable.
 pub trait Disk {
     ghost use Rattle.ds_disk.specs.Pages.{page_at};
     ghost use Rattle.ds_disk.specs.Contents.{Contents, WhenTold, Same, log_of, with_log};
@@ -70,23 +80,27 @@ pub trait Disk {
             (λ c d. (d ≡ c) ⊎ (d ≡ record c { pages = map.insert c.pages id from.now })) }
         ensures cause { HasCause (faults self.old) (faults self.new) result };
 
+    /// Adds bytes at a log's end.
     fn append_log(&mut self, member: MemberId, bytes: &[u8]) -> Result<(), DiskError>
         ensures answers { Answers (alive self.old) (alive self.new) (contents self.old) (contents self.new) result
             (λ _ c d. d ≡ with_log c member (log_of c.logs member ++ bytes.now))
             (Appended member bytes.now) }
         ensures cause { HasCause (faults self.old) (faults self.new) result };
 
+    /// The length of a log in bytes.
     fn log_length(&mut self, member: MemberId) -> Result<u64, DiskError>
         ensures answers { Answers (alive self.old) (alive self.new) (contents self.old) (contents self.new) result
             (λ n c d. (d ≡ c) × (n ≡ length (log_of c.logs member))) Same }
         ensures cause { HasCause (faults self.old) (faults self.new) result };
 
+    /// Reads a log from the byte `at` on, and answers how many bytes there were.
     fn read_log(&mut self, member: MemberId, at: u64, into: &mut [u8]) -> Result<usize, DiskError>
         ensures answers { Answers (alive self.old) (alive self.new) (contents self.old) (contents self.new) result
             (λ n c d. (d ≡ c) × (n ≡ min (length into.new) (length (log_of c.logs member) - at)) × (take n into.new ≡ take n (drop at (log_of c.logs member)))) Same }
         ensures bound { IfOk result (λ n. n ≤ length into.new) }
         ensures cause { HasCause (faults self.old) (faults self.new) result };
 
+    /// Keeps the first `length` bytes of a log.
     fn cut_log(&mut self, member: MemberId, length: u64) -> Result<(), DiskError>
         requires { WhenTold (contents self.old) (λ c. length ≤ Rattle.std.specs.Prelude.length (log_of c.logs member)) }
         ensures answers { Answers (alive self.old) (alive self.new) (contents self.old) (contents self.new) result

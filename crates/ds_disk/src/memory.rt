@@ -1,4 +1,4 @@
-ghost use Rattle.std.specs.Prelude.{◌≡◌, ◌⊎◌, ◌-◌, ◌≤◌, List, All, length, take, drop, min, replicate, IfOk};
+ghost use Rattle.std.specs.Prelude.{◌≡◌, ◌⊎◌, ◌-◌, ◌≤◌, List, All, length, take, drop, min, replicate, Some, IfOk};
 ghost use Rattle.std.specs.FinMap as map;
 ghost use Rattle.ds_base.specs.Causes.{Rose};
 ghost use Rattle.ds_disk.specs.Pages.{page_at};
@@ -15,7 +15,9 @@ use ds_base::{Bytes, MemberId, NoMemory, PageId};
 use std::alloc::Global;
 use std::marker::Model;
 
-/// A disk in memory, whose calls fail where they are told to.
+/// A disk in memory, whose calls fail where that is planned.
+///
+/// A call that has something to keep and no memory for it answers `NoMemory`, also where it was to fail.
 #[derive(Drop)]
 pub struct MemoryDisk {
     pages: PageMap,
@@ -40,8 +42,10 @@ impl Model for MemoryDisk {
 }
 
 impl MemoryDisk {
+    /// A disk with no pages and empty logs.
     pub fn new(alloc: Global, failures: Vec<DiskFailure>) -> Result<MemoryDisk, NoMemory>
-        ensures { IfOk result (λ disk. disk ≡ record { contents = nothing; condition = healthy failures.items }) }
+        ensures made { IfOk result (λ disk. disk ≡ record { contents = nothing; condition = healthy failures.items }) }
+        ensures tells { IfOk result (λ disk. told disk ≡ Some nothing) }
     {
         Ok(MemoryDisk {
             pages: PageMap::new(alloc),
@@ -58,7 +62,8 @@ impl MemoryDisk {
         failures: Vec<DiskFailure>,
     ) -> Result<MemoryDisk, NoMemory>
         requires { All (λ page. length page.1 ≡ 4096) pages.items }
-        ensures { IfOk result (λ disk. disk ≡ record { contents = holding pages.items logs.items; condition = healthy failures.items }) }
+        ensures made { IfOk result (λ disk. disk ≡ record { contents = holding pages.items logs.items; condition = healthy failures.items }) }
+        ensures tells { IfOk result (λ disk. told disk ≡ Some (holding pages.items logs.items)) }
     {
         let mut disk = MemoryDisk::new(alloc, failures)?;
         disk.pages.write_all(&pages)?;
@@ -68,7 +73,8 @@ impl MemoryDisk {
 
     /// The same contents, on a disk that answers again.
     pub fn reopen(self, failures: Vec<DiskFailure>) -> MemoryDisk
-        ensures { result ≡ record { contents = self.contents; condition = healthy failures.items } }
+        ensures made { result ≡ record { contents = self.contents; condition = healthy failures.items } }
+        ensures tells { told result ≡ Some self.contents }
     {
         let MemoryDisk {
             pages,

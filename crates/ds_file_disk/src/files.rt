@@ -1,5 +1,6 @@
 //! What is done with one file.
-ghost use Rattle.std.specs.Prelude.{◌≤◌, length, IfOk};
+ghost use Rattle.std.specs.Prelude.{◌≤◌, length, IfOk, OnOk};
+ghost use Rattle.std.specs.Io.KnownBytes.{Appends};
 
 use std::fs::{File, OpenFile, OpenOptions};
 use std::io::{ErrorKind, Read, Seek, SeekFrom, Write};
@@ -62,7 +63,9 @@ pub fn write_at<F: Write + Seek + OpenFile>(file: &mut F, at: u64, bytes: &[u8])
 }
 
 /// Writes bytes at the end, and waits until they are on the disk.
-pub fn append<F: Write + OpenFile>(file: &mut F, bytes: &[u8]) -> io::Result<()> {
+pub fn append<F: Write + OpenFile>(file: &mut F, bytes: &[u8]) -> io::Result<()>
+    ensures { OnOk result (Appends (F.contents file.old) (F.contents file.new) bytes.now) }
+{
     file.write_all(bytes)?;
     file.sync_all()
 }
