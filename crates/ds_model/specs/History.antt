@@ -2,21 +2,15 @@
 use Rattle.std.specs.Prelude.{◌≡◌, ℕ, ◌<◌, Bool, true, false, List, [], ◌∷◌, ◌++◌, map}
 use Rattle.std.specs.List.{AllByRecursion}
 use Rattle.ds_model.specs.declared.script.Op.{Op}
-use Rattle.ds_model.specs.declared.script.Tran.{Tran}
+use Rattle.ds_model.specs.declared.history.Entry.{Entry}
 use Rattle.ds_model.specs.declared.fate.Fate.{Fate}
 use Rattle.ds_model.specs.declared.fate.Fate.TheVariants as fate
 use Rattle.ds_model.specs.Rows.{Rows}
 use Rattle.ds_model.specs.Effect.{after_tran, reads_of}
 use Rattle.ds_model.specs.Transactions.{Placed}
 
--- a transaction that a member has played, and what became of it
-pub record Play : Type 0 where
-  pub member : ℕ
-  pub tran : Tran
-  pub fate : Fate
-
-abbrev pub played : Play → Placed
-played p = (p.member, p.tran)
+abbrev pub played : Entry → Placed
+played e = (e.member, e.tran)
 
 abbrev pub is_committed : Fate → Bool
 is_committed (fate.Committed answered reads) = true
@@ -36,13 +30,24 @@ FateIsLegal rows ops (fate.Refused refusal) = Unit {0}
 FateIsLegal rows ops fate.Stopped = Unit {0}
 
 -- one thread runs the committed ones in the order of the list
-abbrev pub replay : Rows → List Play → Rows
+abbrev pub replay : Rows → List Entry → Rows
 replay rows [] = rows
-replay rows (p ∷ ps) = replay (after_fate rows p.tran.ops p.fate) ps
+replay rows (e ∷ es) = replay (after_fate rows e.tran.ops e.fate) es
 
-abbrev pub IsLegal : Rows → List Play → Type 0
+abbrev pub IsLegal : Rows → List Entry → Type 0
 IsLegal rows [] = Unit {0}
-IsLegal rows (p ∷ ps) = FateIsLegal rows p.tran.ops p.fate × IsLegal (after_fate rows p.tran.ops p.fate) ps
+IsLegal rows (e ∷ es) = FateIsLegal rows e.tran.ops e.fate × IsLegal (after_fate rows e.tran.ops e.fate) es
+
+-- the same for what is printed: a committed one that was not answered has told its reads to nobody
+abbrev pub PrintIsLegal : Rows → List Op → Fate → Type 0
+PrintIsLegal rows ops (fate.Committed true reads) = reads ≡ reads_of rows ops
+PrintIsLegal rows ops (fate.Committed false reads) = Unit {0}
+PrintIsLegal rows ops (fate.Refused refusal) = Unit {0}
+PrintIsLegal rows ops fate.Stopped = Unit {0}
+
+abbrev pub ArePrintsLegal : Rows → List Entry → Type 0
+ArePrintsLegal rows [] = Unit {0}
+ArePrintsLegal rows (e ∷ es) = PrintIsLegal rows e.tran.ops e.fate × ArePrintsLegal (after_fate rows e.tran.ops e.fate) es
 
 -- the numbers rise, and are above this one
 abbrev pub RiseAbove : ℕ → List ℕ → Type 0
@@ -50,10 +55,10 @@ RiseAbove low [] = Unit {0}
 RiseAbove low (n ∷ ns) = (low < n) × RiseAbove n ns
 
 -- committed ones stand first, and the others by their numbers
-pub record IsInOrder (history : List Play) : Type 0 where
-  pub committed : List Play
-  pub others : List Play
+pub record IsInOrder (history : List Entry) : Type 0 where
+  pub committed : List Entry
+  pub others : List Entry
   pub whole : history ≡ committed ++ others
-  pub first : AllByRecursion (λ (p : Play). is_committed p.fate ≡ true) committed
-  pub last : AllByRecursion (λ (p : Play). is_committed p.fate ≡ false) others
-  pub by_number : RiseAbove 0 (map (λ (p : Play). p.tran.number) others)
+  pub first : AllByRecursion (λ (e : Entry). is_committed e.fate ≡ true) committed
+  pub last : AllByRecursion (λ (e : Entry). is_committed e.fate ≡ false) others
+  pub by_number : RiseAbove 0 (map (λ (e : Entry). e.tran.number) others)

@@ -5,7 +5,8 @@ pub mod History
 pub mod Logs
 pub mod RecordBytes
 pub mod ScriptText
-pub mod OneMember
+pub mod Scripts
+pub mod Serial
 pub mod ReportText
 pub mod Told
 pub mod Sound

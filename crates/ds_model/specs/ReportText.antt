@@ -1,5 +1,5 @@
 -- The one spelling of a report.
-use Rattle.std.specs.Prelude.{ℕ, Bool, true, false, List, [], ◌∷◌, ◌++◌, length, Option, Some, None, codes, decimal}
+use Rattle.std.specs.Prelude.{ℕ, Bool, true, false, List, ◌++◌, length, Option, Some, None, codes, decimal}
 use Rattle.std.specs.List.{flat_map}
 use Rattle.ds_base.specs.declared.row.Row.{Row}
 use Rattle.ds_base.specs.declared.names.PageId.{PageId}
@@ -12,6 +12,9 @@ use Rattle.ds_model.specs.declared.report.ToldRefusal.TheVariants as refusal
 use Rattle.ds_model.specs.declared.report.Told.{Told}
 use Rattle.ds_model.specs.declared.report.Told.TheVariants as told
 use Rattle.ds_model.specs.declared.report.ReportEntry.{ReportEntry}
+use Rattle.ds_model.specs.declared.report.CauseLine.{CauseLine}
+use Rattle.ds_model.specs.declared.report.EventLine.{EventLine}
+use Rattle.ds_model.specs.declared.report.Trace.{Trace}
 use Rattle.ds_model.specs.declared.report.Report.{Report}
 use Rattle.ds_model.specs.ScriptText.{line, spot_text}
 
@@ -69,5 +72,14 @@ told_text who told.Stopped = line (codes "stopped " ++ who)
 abbrev pub entry_text : ReportEntry → List ℕ
 entry_text e = told_text (who_text e.name e.member) e.told
 
+abbrev pub cause_text : CauseLine → List ℕ
+cause_text c = line (codes "cause " ++ c.name ++ codes " " ++ decimal c.place)
+
+abbrev pub event_text : EventLine → List ℕ
+event_text e = line (codes "event " ++ decimal e.place ++ codes " " ++ decimal e.member ++ codes " " ++ decimal e.choice ++ codes " " ++ e.command ++ codes " " ++ e.reply)
+
+abbrev pub trace_text : Trace → List ℕ
+trace_text t = flat_map cause_text t.causes ++ flat_map event_text t.events
+
 abbrev pub report_text : Report → List ℕ
-report_text r = line (codes "dsgroup 1") ++ flat_map entry_text r.entries ++ line (codes "rows " ++ decimal (length r.rows)) ++ flat_map row_text r.rows ++ line (codes "end " ++ decimal r.status)
+report_text r = line (codes "dsgroup 1") ++ flat_map entry_text r.entries ++ trace_text r.trace ++ line (codes "rows " ++ decimal (length r.rows)) ++ flat_map row_text r.rows ++ line (codes "end " ++ decimal r.status)

@@ -1,6 +1,5 @@
 -- What a report tells of a history.
-use Rattle.std.specs.Prelude.{ℕ, true, false, List, [], ◌∷◌, map, Option}
-use Rattle.ds_base.specs.declared.row.Row.{Row}
+use Rattle.std.specs.Prelude.{true, false, List, [], ◌∷◌, map}
 use Rattle.ds_base.specs.declared.names.TranId.{TranId}
 use Rattle.ds_model.specs.declared.script.Op.{Op}
 use Rattle.ds_model.specs.declared.script.Op.TheVariants as op
@@ -19,7 +18,7 @@ use Rattle.ds_model.specs.declared.report.Told.{Told}
 use Rattle.ds_model.specs.declared.report.Told.TheVariants as told
 use Rattle.ds_model.specs.declared.report.ReportEntry.{ReportEntry}
 use Rattle.ds_model.specs.Transactions.{name_of}
-use Rattle.ds_model.specs.History.{Play}
+use Rattle.ds_model.specs.declared.history.Entry.{Entry}
 
 -- each answer behind what was asked: a get's value, a scan's rows
 abbrev pub told_reads : List Op → List Answer → List ToldRead
@@ -55,5 +54,5 @@ told_of s ops (fate.Committed false reads) = told.Committed false []
 told_of s ops (fate.Refused refusal) = told.Refused (told_refusal_of s refusal)
 told_of s ops fate.Stopped = told.Stopped
 
-abbrev pub entry_of : Script → Play → ReportEntry
-entry_of s p = record { name = p.tran.name; member = p.member; told = told_of s p.tran.ops p.fate }
+abbrev pub entry_of : Script → Entry → ReportEntry
+entry_of s e = record { name = e.tran.name; member = e.member; told = told_of s e.tran.ops e.fate }

@@ -5,15 +5,21 @@
 #![tactic(auto)]
 
 mod fate;
+mod history;
 mod lock;
 mod log;
 mod report;
 mod script;
 
 pub use fate::{Answer, Cycle, Fate, Reads, Refusal};
+pub use history::Entry;
 pub use lock::Name;
 pub use log::{Body, LogRecord, RecordList, RowChange};
 pub use report::{
-    NameList, Report, ReportEntry, ReportEntryList, Told, ToldRead, ToldReads, ToldRefusal,
+    CauseLine, CauseLineList, EventLine, EventLineList, NameList, Report, ReportEntry,
+    ReportEntryList, Told, ToldRead, ToldReads, ToldRefusal, Trace,
 };
-pub use script::{FailAt, Op, OpList, Part, PartList, Phase, PhaseList, Script, Tran, TranList};
+pub use script::{
+    FailAt, FaultKind, Op, OpList, Part, PartList, Phase, PhaseList, Script, ScriptFault, Tran,
+    TranList,
+};

@@ -53,10 +53,40 @@ pub struct ReportEntry {
 
 pub type ReportEntryList = Sequence<ReportEntry>;
 
-/// What is printed of a run: its transactions, the rows afterwards and the status.
+/// The event of the journal at which a refusal's cause held. Events are counted from 1.
+#[derive(Debug, Drop)]
+pub struct CauseLine {
+    pub name: Bytes,
+    pub place: u64,
+}
+
+pub type CauseLineList = Sequence<CauseLine>;
+
+/// An event of the journal, by its place from 1, its member (0 for the group) and its choice, with the words of
+/// its command and of the reply.
+#[derive(Debug, Drop)]
+pub struct EventLine {
+    pub place: u64,
+    pub member: u8,
+    pub choice: u64,
+    pub command: Bytes,
+    pub reply: Bytes,
+}
+
+pub type EventLineList = Sequence<EventLine>;
+
+/// What is printed of a journal, where that is asked for: the refusals' causes, and then all events.
+#[derive(Debug, Drop)]
+pub struct Trace {
+    pub causes: CauseLineList,
+    pub events: EventLineList,
+}
+
+/// What is printed of a run: its transactions, its trace, the rows afterwards and the status.
 #[derive(Debug, Drop)]
 pub struct Report {
     pub entries: ReportEntryList,
+    pub trace: Trace,
     pub rows: RowList,
     pub status: u8,
 }

@@ -89,3 +89,35 @@ pub struct Script {
     pub phases: PhaseList,
     pub groupfails: u32,
 }
+
+/// What may be wrong with a line of a script.
+///
+/// A line may have several faults. The first of them in the order of the variants counts.
+#[derive(Clone, Copy, Debug, PartialEq, Eq)]
+pub enum FaultKind {
+    /// It has a byte behind the longest script, or begins one phase, transaction or operation too many.
+    TooLong,
+    /// It isn't ASCII, its first word may not stand here, or its words are too many, too few or of another form.
+    Word,
+    /// A number isn't 1 to 20 digits, or is out of its range.
+    Number,
+    /// What a row is set to isn't `=` and a value.
+    Value,
+    /// There is no such member, or the member has a part in this phase already.
+    Member,
+    /// A name isn't 1 to 16 letters, digits, `-` or `_`, or was used before.
+    Name,
+    /// The member restarts, and no earlier phase lets it fail.
+    Restart,
+    /// A flag is used in a transaction that isn't the first of its part, or is raised by an earlier one too.
+    Flag,
+    /// The text ends inside a transaction. The line is the one after the last.
+    End,
+}
+
+/// The first line of a text that makes it no script, counted from 1, and what is wrong with it.
+#[derive(Clone, Copy, Debug, PartialEq, Eq)]
+pub struct ScriptFault {
+    pub line: u32,
+    pub kind: FaultKind,
+}
