@@ -1,4 +1,3 @@
-mod Digits
 mod Ranges
 mod Behind
 mod Pairs

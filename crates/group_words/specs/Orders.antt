@@ -6,7 +6,7 @@ use Rattle.std.specs.List.{list_all}
 use Rattle.std.specs.Str.{bytes_eq}
 use Rattle.std.specs.String.{string_bytes}
 use Rattle.ds_base.specs.declared.names.Sizes.{Sizes}
-use Rattle.group_words.specs.Numbers.{number_of}
+use Rattle.number_text.specs.Numbers.{number_of}
 use Rattle.group_words.specs.Options.{given_of, number_given, number_for, are_allowed, suits_work}
 use Rattle.group_words.specs.declared.given.Given.{Given}
 use Rattle.group_words.specs.declared.setting.Setting.TheVariants.{Members, Agents, Locks, Records, Cache, Pool, Pages, Seed, Trace}

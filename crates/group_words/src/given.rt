@@ -7,9 +7,9 @@ ghost use Rattle.group_words.specs.Steps as steps;
 ghost use Rattle.group_words.specs.Orders.{texts};
 ghost use Rattle.group_words.specs.declared.order.WordsFault.TheVariants as faults;
 
-use crate::number::number_of;
 use crate::order::WordsFault;
 use crate::setting::{Setting, setting_of};
+use number_text::number_of;
 use std::alloc::Global;
 
 /// An option that was given, and its number. That of `--trace` is 1.

@@ -2,7 +2,6 @@
 #![tactic(auto)]
 
 mod given;
-mod number;
 mod order;
 mod read;
 mod setting;

@@ -4,10 +4,10 @@ ghost use Rattle.group_words.specs.Orders as spec;
 ghost use Rattle.group_words.specs.declared.order.WordsFault.TheVariants as faults;
 
 use crate::given::{Given, are_allowed, given_of, number_for, number_given, suit_work};
-use crate::number::number_of;
 use crate::order::{Order, WordsFault};
 use crate::setting::Setting;
 use ds_base::Sizes;
+use number_text::number_of;
 use std::alloc::Global;
 
 // The sizes that were given, and the usual ones.

@@ -1,5 +1,5 @@
 ghost use Rattle.std.specs.Prelude.{◌≡◌};
-ghost use Rattle.group_words.specs.Numbers as spec;
+ghost use Rattle.number_text.specs.Numbers as spec;
 
 // The most digits of a number, leading zeros among them.
 const DIGITS_LIMIT: usize = 20;

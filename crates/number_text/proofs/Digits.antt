@@ -2,7 +2,7 @@
 use Rattle.std.proofs.Common.{◌≡◌, ℕ, ◌+◌, ◌-◌, ◌*◌, ◌^◌, ◌<◌, ◌≤◌, Bool, true, false, ◌&&◌, nat_lt, List, [], ◌∷◌, length, get_or, drop, Some, None, arith, refl}
 use Rattle.std.proofs.lemmas.Grind.{common_steps}
 use Rattle.std.specs.Str.{all_ascii_digits}
-use Rattle.group_words.specs.Numbers.{spelled, spelled_after, number_of}
+use Rattle.number_text.specs.Numbers.{spelled, spelled_after, number_of}
 
 -- digits make a number no smaller
 pub spelled_after_least : (n : ℕ) (digits : List ℕ) → n ≤ spelled_after n digits

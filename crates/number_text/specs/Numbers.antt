@@ -1,4 +1,4 @@
--- The numbers of a command line.
+-- The numbers that decimal digits spell.
 use Rattle.std.specs.Prelude.{ℕ, ◌+◌, ◌-◌, ◌*◌, ◌^◌, Bool, ◌&&◌, if◌then◌else◌, nat_lt, nat_le, List, [], ◌∷◌, length, Option, Some, None}
 use Rattle.std.specs.Str.{all_ascii_digits}
 

@@ -1,7 +1,7 @@
 use Rattle.std.proofs.Common.{◌≡◌, ◌<◌, ◌^◌, drop}
 use Rattle.std.specs.Str.{all_ascii_digits}
-use Rattle.group_words.specs.Numbers.{spelled, spelled_after}
-use Rattle.group_words.proofs.number.number_of.Given as goal
+use Rattle.number_text.specs.Numbers.{spelled, spelled_after}
+use Rattle.number_text.proofs.number.number_of.Given as goal
 
 abbrev pub invariant-loop-byte : goal.invariant-loop-byte
 invariant-loop-byte l = (spelled_after l.number (drop l.byte-index l.word) ≡ spelled l.fn.word)

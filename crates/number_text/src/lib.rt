@@ -1,0 +1,6 @@
+//! Numbers as decimal digits.
+#![tactic(auto)]
+
+mod number;
+
+pub use number::number_of;
