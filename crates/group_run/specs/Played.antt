@@ -1,41 +1,51 @@
--- What it is that a script was played.
-use Rattle.std.specs.Prelude.{◌≡◌, ℕ, true, List}
+-- What it is that a script was played, and that an empty disk was shown.
+use Rattle.std.specs.Prelude.{◌≡◌, ℕ, ◌≤◌, List, length, Ok}
 use Rattle.std.specs.FinMap as finite
 use Rattle.std.specs.Io.KnownBytes.{Consumes, IsAtEnd}
-use Rattle.ds_disk.specs.Contents.{WhenTold, Becomes}
+use Rattle.ds_disk.specs.Contents.{WhenTold}
 use Rattle.ds_model.specs.declared.script.Script.{Script}
 use Rattle.ds_model.specs.declared.report.Report.{Report}
-use Rattle.ds_model.specs.Rows.{Rows}
-use Rattle.ds_model.specs.Logs.{StandFor}
-use Rattle.ds_model.specs.OneMember.{Spells}
+use Rattle.ds_model.specs.Scripts.{IsScript}
+use Rattle.ds_model.specs.Serial.{IsSerial}
 use Rattle.ds_model.specs.Sound.{IsSound}
+use Rattle.script_text.specs.Scripts.{script_of}
 use Rattle.serial_run.specs.declared.run.Ran.{Ran}
 use Rattle.serial_run.specs.Ran.{IsRunOf}
-use Rattle.serial_run.specs.Sounds.{HasEmptyLogs}
-use Rattle.group_run.specs.Outside.{Outside}
-use Rattle.group_run.specs.Reports.{Reports}
+use Rattle.serial_run.specs.Sounds.{HasEmptyLogs, DiskStandsFor}
+use Rattle.group_run.specs.Input.{script_limit}
+use Rattle.group_run.specs.Outside.{Outside, DiskIsSame}
+use Rattle.group_run.specs.Reports.{Reports, empty_report}
+
+-- the bytes are this script for so many members
+pub record Spells (members : ℕ) (bytes : List ℕ) (script : Script) : Type 0 where
+  pub is : script_of members bytes ≡ Ok script
+  pub has_rules : IsScript members script
+  pub short : length bytes ≤ script_limit
 
 -- the source was read to its end, and spelled this script
-pub record IsRead (before after : Outside) (script : Script) : Type 0 where
+pub record IsRead (members : ℕ) (before after : Outside) (script : Script) : Type 0 where
   pub bytes : List ℕ
   pub consumed : Consumes before.left after.left bytes
   pub at_end : IsAtEnd after.left
-  pub spelled : Spells bytes script
+  pub spelled : Spells members bytes script
 
 -- a disk that tells what it holds had empty logs
 abbrev pub BeganEmpty : Outside → Type 0
 BeganEmpty before = WhenTold before.contents HasEmptyLogs
 
--- a disk that tells what it holds, and is alive, has logs that stand for these rows
-abbrev pub LogsStandFor : Outside → Outside → Rows → Type 0
-LogsStandFor before after rows = after.alive ≡ true → Becomes before.contents after.contents (λ c d. StandFor d.logs rows)
-
 -- the script of the source was run from empty logs, and the report is sound for it and for the logs that are left
-pub record IsPlayed (before after : Outside) (report : Report) : Type 0 where
+pub record IsPlayed (members : ℕ) (before after : Outside) (report : Report) : Type 0 where
   pub script : Script
-  pub read : IsRead before after script
+  pub read : IsRead members before after script
+  pub serial : IsSerial script
   pub empty : BeganEmpty before
   pub ran : Ran
   pub run : IsRunOf script ran after.alive before.contents after.contents before.disk_faults after.disk_faults
   pub reports : Reports ran report
-  pub sound : IsSound script finite.empty report (LogsStandFor before after)
+  pub sound : IsSound script finite.empty report (DiskStandsFor after.alive before.contents after.contents)
+
+-- the logs are empty and stay so, and so is the report
+pub record IsShown (before after : Outside) (report : Report) : Type 0 where
+  pub empty : BeganEmpty before
+  pub same : DiskIsSame before after
+  pub report_is : report ≡ empty_report 0

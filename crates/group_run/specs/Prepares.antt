@@ -1,21 +1,66 @@
--- What becomes of bytes that may spell a script, on a disk whose logs may be empty.
-use Rattle.std.specs.Prelude.{◌≡◌, ◌⊎◌, ℕ, Bool, true, List, Option}
+-- The steps of a call up to the opening of a run.
+use Rattle.std.specs.Prelude.{◌≡◌, ◌⊎◌, ℕ, Bool, true, List, Option, Some, None, Err}
 use Rattle.ds_base.specs.Causes.{Rose}
 use Rattle.ds_disk.specs.Contents.{Contents, Becomes}
 use Rattle.ds_model.specs.declared.script.Script.{Script}
-use Rattle.ds_model.specs.OneMember.{Spells}
+use Rattle.ds_model.specs.Serial.{IsSerial}
+use Rattle.group_words.specs.declared.order.Order.{Order}
+use Rattle.group_words.specs.declared.order.Order.TheVariants as order
+use Rattle.group_run.specs.declared.status.Status.{Status}
 use Rattle.group_run.specs.declared.status.Status.TheVariants as status
 use Rattle.group_run.specs.declared.prepare.Prepared.{Prepared}
 use Rattle.group_run.specs.declared.prepare.Prepared.TheVariants as prepared
+use Rattle.script_text.specs.Scripts.{script_of}
 use Rattle.group_run.specs.Opening.{IsOpening, IsNoOpening}
+use Rattle.group_run.specs.Outside.{Outside}
+use Rattle.group_run.specs.Played.{Spells, IsRead}
+use Rattle.group_run.specs.Ends.{MetByPlay, MetByShow, MetBy}
 
-abbrev pub OpensAs : Prepared → List ℕ → Bool → Option Contents → Option Contents → ℕ → ℕ → Type 0
-OpensAs (prepared.Ready script) bytes alive before after faults faults_now = Spells bytes script × Becomes before after IsOpening × (alive ≡ true)
-OpensAs (prepared.Ended status.Done) bytes alive before after faults faults_now = ⊥
-OpensAs (prepared.Ended status.WordsRefused) bytes alive before after faults faults_now = ⊥
-OpensAs (prepared.Ended status.SourceFailed) bytes alive before after faults faults_now = ⊥
-OpensAs (prepared.Ended status.SinkFailed) bytes alive before after faults faults_now = ⊥
-OpensAs (prepared.Ended status.DiskFailed) bytes alive before after faults faults_now = ((s : Script) × Spells bytes s) × Rose faults faults_now
-OpensAs (prepared.Ended status.NoMemory) bytes alive before after faults faults_now = ⊥
-OpensAs (prepared.Ended status.NotYet) bytes alive before after faults faults_now =
-    ((s : Script) → Spells bytes s → ⊥) ⊎ ((s : Script) × Spells bytes s × Becomes before after IsNoOpening)
+-- ---- bytes and the disk alone
+
+-- what is ready to run of bytes that were read, and of the logs
+abbrev pub OpensToPlay : ℕ → Prepared → List ℕ → Bool → Option Contents → Option Contents → ℕ → ℕ → Type 0
+OpensToPlay members (prepared.Play script) bytes alive before after faults faults_now = Spells members bytes script × IsSerial script × Becomes before after IsOpening × (alive ≡ true)
+OpensToPlay members prepared.Show bytes alive before after faults faults_now = ⊥
+OpensToPlay members (prepared.Ended status.Done) bytes alive before after faults faults_now = ⊥
+OpensToPlay members (prepared.Ended status.WordsRefused) bytes alive before after faults faults_now = ⊥
+OpensToPlay members (prepared.Ended (status.ScriptRefused fault)) bytes alive before after faults faults_now = script_of members bytes ≡ Err fault
+OpensToPlay members (prepared.Ended status.SourceFailed) bytes alive before after faults faults_now = ⊥
+OpensToPlay members (prepared.Ended status.SinkFailed) bytes alive before after faults faults_now = ⊥
+OpensToPlay members (prepared.Ended status.DiskFailed) bytes alive before after faults faults_now = ((s : Script) × Spells members bytes s × IsSerial s) × Rose faults faults_now
+OpensToPlay members (prepared.Ended status.NoMemory) bytes alive before after faults faults_now = ⊥
+OpensToPlay members (prepared.Ended status.NotYet) bytes alive before after faults faults_now =
+    (s : Script) × Spells members bytes s × ((IsSerial s → ⊥) ⊎ Becomes before after IsNoOpening)
+
+-- ---- source and disk
+
+-- all logs are empty, on a disk that is alive
+pub record IsOpened (before after : Outside) : Type 0 where
+  pub opening : Becomes before.contents after.contents IsOpening
+  pub alive : after.alive ≡ true
+
+-- a script is ready to run: it was read, one thread can play it, and all logs are empty
+pub record IsReady (members : ℕ) (before after : Outside) (script : Script) : Type 0 where
+  pub read : IsRead members before after script
+  pub serial : IsSerial script
+  pub opened : IsOpened before after
+
+abbrev pub IsPreparedToPlay : ℕ → Prepared → Outside → Outside → Type 0
+IsPreparedToPlay members (prepared.Play script) before after = IsReady members before after script
+IsPreparedToPlay members prepared.Show before after = ⊥
+IsPreparedToPlay members (prepared.Ended met) before after = MetByPlay members met before after
+
+abbrev pub IsPreparedToShow : Prepared → Outside → Outside → Type 0
+IsPreparedToShow (prepared.Play script) before after = ⊥
+IsPreparedToShow prepared.Show before after = IsOpened before after
+IsPreparedToShow (prepared.Ended met) before after = MetByShow met before after
+
+abbrev pub IsEndedAs : Status → Prepared → Type 0
+IsEndedAs met p = p ≡ prepared.Ended met
+
+abbrev pub IsPrepared : Option Order → Prepared → Outside → Outside → Type 0
+IsPrepared None p before after = IsEndedAs status.WordsRefused p
+IsPrepared (Some (order.Play sizes seed trace)) p before after = IsPreparedToPlay sizes.members p before after
+IsPrepared (Some order.Show) p before after = IsPreparedToShow p before after
+IsPrepared (Some (order.Make n)) p before after = IsEndedAs status.NotYet p
+IsPrepared (Some (order.Work n sizes)) p before after = IsEndedAs status.NotYet p

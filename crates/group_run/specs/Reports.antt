@@ -1,8 +1,9 @@
 -- The report of a run.
-use Rattle.std.specs.Prelude.{◌≡◌, ℕ, Bool, cond, Option}
+use Rattle.std.specs.Prelude.{◌≡◌, ℕ, Bool, cond, [], Option}
 use Rattle.std.specs.FinMap as finite
 use Rattle.ds_disk.specs.Contents.{Contents}
 use Rattle.ds_model.specs.declared.script.Script.{Script}
+use Rattle.ds_model.specs.declared.report.Trace.{Trace}
 use Rattle.ds_model.specs.declared.report.Report.{Report}
 use Rattle.ds_model.specs.Rows.{listed}
 use Rattle.ds_model.specs.Sound.{IsSound}
@@ -10,9 +11,17 @@ use Rattle.serial_run.specs.declared.run.Ran.{Ran}
 use Rattle.serial_run.specs.Ran.{IsRunOf}
 use Rattle.serial_run.specs.Sounds.{DiskStandsFor}
 
--- its entries, its rows in order, and 5 where an append has failed, else 0
+abbrev pub no_trace : Trace
+no_trace = record { causes = []; events = [] }
+
+-- a report of nothing that was done over no rows
+abbrev pub empty_report : ℕ → Report
+empty_report status = record { entries = []; trace = no_trace; rows = []; status = status }
+
+-- its entries, its rows in order, and 5 where an append has failed, else 0; one thread has no journal to trace
 pub record Reports (ran : Ran) (report : Report) : Type 0 where
   pub entries : report.entries ≡ ran.entries
+  pub trace : report.trace ≡ no_trace
   pub rows : report.rows ≡ listed ran.rows
   pub status : report.status ≡ cond ran.failed 5 0
 

@@ -1,5 +1,8 @@
 -- The statuses by number, and what is written for those without a report.
-use Rattle.std.specs.Prelude.{ℕ, List, [], codes}
+use Rattle.std.specs.Prelude.{ℕ, List, [], ◌++◌, codes, decimal}
+use Rattle.ds_model.specs.declared.script.FaultKind.{FaultKind}
+use Rattle.ds_model.specs.declared.script.FaultKind.TheVariants as fault
+use Rattle.ds_model.specs.declared.script.ScriptFault.{ScriptFault}
 use Rattle.ds_model.specs.ScriptText.{line}
 use Rattle.group_run.specs.declared.status.Status.{Status}
 use Rattle.group_run.specs.declared.status.Status.TheVariants as status
@@ -7,16 +10,32 @@ use Rattle.group_run.specs.declared.status.Status.TheVariants as status
 abbrev pub number_of : Status → ℕ
 number_of status.Done = 0
 number_of status.WordsRefused = 1
+number_of (status.ScriptRefused f) = 2
 number_of status.SourceFailed = 3
 number_of status.SinkFailed = 4
 number_of status.DiskFailed = 5
 number_of status.NoMemory = 6
 number_of status.NotYet = 8
 
+abbrev pub kind_word : FaultKind → List ℕ
+kind_word fault.TooLong = codes "too-long"
+kind_word fault.Word = codes "word"
+kind_word fault.Number = codes "number"
+kind_word fault.Value = codes "value"
+kind_word fault.Member = codes "member"
+kind_word fault.Name = codes "name"
+kind_word fault.Restart = codes "restart"
+kind_word fault.Flag = codes "flag"
+kind_word fault.End = codes "end"
+
+abbrev pub fault_text : ScriptFault → List ℕ
+fault_text f = line (codes "script refused line " ++ decimal f.line ++ codes " " ++ kind_word f.kind)
+
 -- the text where the run didn't open
 abbrev pub short_text : Status → List ℕ
 short_text status.Done = []
 short_text status.WordsRefused = line (codes "words refused")
+short_text (status.ScriptRefused f) = fault_text f
 short_text status.SourceFailed = line (codes "source failed")
 short_text status.SinkFailed = []
 short_text status.DiskFailed = line (codes "disk failed")

@@ -5,12 +5,11 @@ ghost use Rattle.group_run.specs.declared.input.ReadError.TheVariants as errors;
 use ds_base::{Failed, Source};
 use std::alloc::{AllocError, Global};
 
-/// Why a source was not read to its end.
+/// Why a source was not read.
 #[derive(Clone, Copy, Debug, PartialEq, Eq)]
 pub enum ReadError {
     Failed,
     NoMemory,
-    TooLong,
 }
 
 impl From<AllocError> for ReadError {
@@ -35,8 +34,7 @@ const SCRIPT_LIMIT: usize = 4_194_304;
 /// The bytes that one read asks for.
 const PIECE: usize = 65_536;
 
-/// All that is left of the source, or nothing where that is more than a script has. At most one byte more
-/// than a script has is taken.
+/// All that is left of the source or, where that is more than a script has, one byte more than a script has.
 pub fn read_all<S: Source>(alloc: Global, source: &mut S) -> Result<Vec<u8>, ReadError>
     ensures { ReadsAll (S.left source.old) (S.left source.new) (S.faults source.old) (S.faults source.new) result }
 {
@@ -50,7 +48,7 @@ pub fn read_all<S: Source>(alloc: Global, source: &mut S) -> Result<Vec<u8>, Rea
         }
         out.extend_from_slice(&piece[..count])?;
         if out.len() > SCRIPT_LIMIT {
-            return Err(ReadError::TooLong);
+            return Ok(out);
         }
     }
     unreachable!()

@@ -9,7 +9,6 @@ mod prepare;
 mod run;
 mod status;
 mod top;
-mod words;
 
 pub use gate::{Gate, OpenGate};
 pub use status::Status;

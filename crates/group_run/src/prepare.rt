@@ -1,61 +1,109 @@
-ghost use Rattle.std.specs.Prelude.{◌≡◌, ◌≤◌, IfOk};
+ghost use Rattle.std.specs.Prelude.{◌≡◌, ℕ, List, Option, ◌≤◌, IfOk};
 ghost use Rattle.ds_disk.specs.Contents.{Becomes, Same};
+ghost use Rattle.ds_base.specs.Ids.{IsMember};
 ghost use Rattle.group_run.specs.Outside.{outside};
-ghost use Rattle.group_run.specs.Ends.{IsPrepared};
-ghost use Rattle.group_run.specs.Prepares.{OpensAs};
+ghost use Rattle.group_run.specs.Ends.{ordered, ReadsNothing};
+ghost use Rattle.group_run.specs.Prepares.{OpensToPlay, IsPrepared, IsPreparedToPlay, IsPreparedToShow};
 
 use crate::input::{ReadError, read_all};
 use crate::opening::logs_are_empty;
 use crate::status::Status;
-use crate::words::asks_to_play;
 use ds_base::{NoMemory, Source};
 use ds_disk::{Disk, DiskError};
 use ds_model::Script;
-use script_text::read_one_member;
+use group_words::{Order, WordsFault, read_words};
+use script_text::{ScriptError, read_script};
+use serial_run::plays;
 use std::alloc::Global;
 
-/// A script that is ready to run, or the status that was met before.
+/// What is ready to run, or the status that was met before.
 #[derive(Drop)]
 pub enum Prepared {
-    Ready(Script),
+    Play(Script),
+    Show,
     Ended(Status),
 }
 
-// Reads the script of the bytes, and looks at the logs.
-fn open<D: Disk>(alloc: Global, disk: &mut D, bytes: &[u8]) -> Result<Prepared, NoMemory>
-    ensures opens { IfOk result (λ p. OpensAs p bytes.now (D.alive disk.new) (D.contents disk.old) (D.contents disk.new) (D.faults disk.old) (D.faults disk.new)) }
+// What is ready to run of these bytes, and of the logs.
+fn open_to_play<D: Disk>(
+    alloc: Global,
+    disk: &mut D,
+    bytes: &[u8],
+    members: u8,
+) -> Result<Prepared, NoMemory>
+    requires { IsMember members }
+    ensures opens { IfOk result (λ p. OpensToPlay members p bytes.now (D.alive disk.new) (D.contents disk.old) (D.contents disk.new) (D.faults disk.old) (D.faults disk.new)) }
     ensures same { Becomes (D.contents disk.old) (D.contents disk.new) Same }
     ensures later { D.faults disk.old ≤ D.faults disk.new }
 {
-    let Some(script) = read_one_member(alloc, bytes)? else {
-        return Ok(Prepared::Ended(Status::NotYet));
+    let script = match read_script(alloc, bytes, members) {
+        Err(ScriptError::NoMemory) => return Err(NoMemory),
+        Err(ScriptError::Fault(fault)) => {
+            return Ok(Prepared::Ended(Status::ScriptRefused(fault)));
+        }
+        Ok(script) => script,
     };
+    if !plays(&script) {
+        return Ok(Prepared::Ended(Status::NotYet));
+    }
     match logs_are_empty(disk) {
         Err(DiskError::NoMemory) => Err(NoMemory),
         Err(DiskError::Failed) => Ok(Prepared::Ended(Status::DiskFailed)),
         Ok(false) => Ok(Prepared::Ended(Status::NotYet)),
-        Ok(true) => Ok(Prepared::Ready(script)),
+        Ok(true) => Ok(Prepared::Play(script)),
     }
 }
 
-/// Settles the words, the source, the script and the logs of the disk, in this order.
+// Settles the source, the script and the logs, in this order.
+fn prepare_to_play<S: Source, D: Disk>(
+    alloc: Global,
+    source: &mut S,
+    disk: &mut D,
+    members: u8,
+) -> Result<Prepared, NoMemory>
+    requires { IsMember members }
+    ensures prepared { IfOk result (λ p. IsPreparedToPlay members p (outside (S.left source.old) (S.faults source.old) (D.contents disk.old) (D.alive disk.old) (D.faults disk.old)) (outside (S.left source.new) (S.faults source.new) (D.contents disk.new) (D.alive disk.new) (D.faults disk.new))) }
+    ensures same { Becomes (D.contents disk.old) (D.contents disk.new) Same }
+    ensures later { D.faults disk.old ≤ D.faults disk.new }
+{
+    match read_all(alloc, source) {
+        Err(ReadError::NoMemory) => Err(NoMemory),
+        Err(ReadError::Failed) => Ok(Prepared::Ended(Status::SourceFailed)),
+        Ok(bytes) => open_to_play(alloc, disk, &bytes, members),
+    }
+}
+
+// Settles the logs of a disk that is to be shown.
+fn prepare_to_show<D: Disk>(disk: &mut D) -> Result<Prepared, NoMemory>
+    ensures prepared { (left : Option (List ℕ)) (faults : ℕ) → IfOk result (λ p. IsPreparedToShow p (outside left faults (D.contents disk.old) (D.alive disk.old) (D.faults disk.old)) (outside left faults (D.contents disk.new) (D.alive disk.new) (D.faults disk.new))) }
+    ensures same { Becomes (D.contents disk.old) (D.contents disk.new) Same }
+    ensures later { D.faults disk.old ≤ D.faults disk.new }
+{
+    match logs_are_empty(disk) {
+        Err(DiskError::NoMemory) => Err(NoMemory),
+        Err(DiskError::Failed) => Ok(Prepared::Ended(Status::DiskFailed)),
+        Ok(false) => Ok(Prepared::Ended(Status::NotYet)),
+        Ok(true) => Ok(Prepared::Show),
+    }
+}
+
+/// Settles the words and then what they order: for a script the source, the script and the logs of the disk.
 pub fn prepare<S: Source, D: Disk>(
     alloc: Global,
     words: &[String],
     source: &mut S,
     disk: &mut D,
 ) -> Result<Prepared, NoMemory>
-    ensures prepared { IfOk result (λ p. IsPrepared p words.now (outside (S.left source.old) (S.faults source.old) (D.contents disk.old) (D.alive disk.old) (D.faults disk.old)) (outside (S.left source.new) (S.faults source.new) (D.contents disk.new) (D.alive disk.new) (D.faults disk.new))) }
+    ensures prepared { IfOk result (λ p. IsPrepared (ordered words.now) p (outside (S.left source.old) (S.faults source.old) (D.contents disk.old) (D.alive disk.old) (D.faults disk.old)) (outside (S.left source.new) (S.faults source.new) (D.contents disk.new) (D.alive disk.new) (D.faults disk.new))) }
     ensures same { Becomes (D.contents disk.old) (D.contents disk.new) Same }
     ensures later { D.faults disk.old ≤ D.faults disk.new }
+    ensures unread { ReadsNothing (ordered words.now) → S.left source.new ≡ S.left source.old }
 {
-    if !asks_to_play(words) {
-        return Ok(Prepared::Ended(Status::WordsRefused));
-    }
-    match read_all(alloc, source) {
-        Err(ReadError::NoMemory) => Err(NoMemory),
-        Err(ReadError::Failed) => Ok(Prepared::Ended(Status::SourceFailed)),
-        Err(ReadError::TooLong) => Ok(Prepared::Ended(Status::NotYet)),
-        Ok(bytes) => open(alloc, disk, &bytes),
+    match read_words(alloc, words) {
+        Err(WordsFault::NoMemory) => Err(NoMemory),
+        Err(WordsFault::Refused) => Ok(Prepared::Ended(Status::WordsRefused)),
+        Ok(Order::Play { sizes, .. }) => prepare_to_play(alloc, source, disk, sizes.members),
+        Ok(Order::Show) => prepare_to_show(disk),
+        Ok(Order::Make { .. } | Order::Work { .. }) => Ok(Prepared::Ended(Status::NotYet)),
     }
 }

@@ -1,4 +1,9 @@
-ghost use Rattle.std.specs.Prelude.{◌≡◌};
+ghost use Rattle.std.specs.Prelude.{◌≡◌, ◌++◌, OnOk, IfOk, codes};
+ghost use Rattle.group_run.specs.Statuses.{kind_word, fault_text, short_text};
+
+use ds_base::{Bytes, NoMemory};
+use ds_model::{FaultKind, ScriptFault};
+use std::alloc::Global;
 
 /// How a call ended.
 #[derive(Clone, Copy, Debug, PartialEq, Eq)]
@@ -7,6 +12,8 @@ pub enum Status {
     Done,
     /// The words are no order.
     WordsRefused,
+    /// A line of the source makes it no script.
+    ScriptRefused(ScriptFault),
     /// A read of the source failed.
     SourceFailed,
     /// A write to the sink failed.
@@ -15,7 +22,7 @@ pub enum Status {
     DiskFailed,
     /// Memory was wanting.
     NoMemory,
-    /// The script, or a disk with a log that isn't empty, is for a later stage.
+    /// The order, the script, or a disk with a log that isn't empty, is for a later stage.
     NotYet,
 }
 
@@ -29,6 +36,7 @@ impl Status {
         match self {
             Status::Done => 0,
             Status::WordsRefused => 1,
+            Status::ScriptRefused(_) => 2,
             Status::SourceFailed => 3,
             Status::SinkFailed => 4,
             Status::DiskFailed => 5,
@@ -36,4 +44,57 @@ impl Status {
             Status::NotYet => 8,
         }
     }
+}
+
+// The word for what is wrong with a line.
+fn word_of(kind: FaultKind) -> &'static [u8]
+    ensures { result.now ≡ kind_word kind }
+{
+    match kind {
+        FaultKind::TooLong => b"too-long",
+        FaultKind::Word => b"word",
+        FaultKind::Number => b"number",
+        FaultKind::Value => b"value",
+        FaultKind::Member => b"member",
+        FaultKind::Name => b"name",
+        FaultKind::Restart => b"restart",
+        FaultKind::Flag => b"flag",
+        FaultKind::End => b"end",
+    }
+}
+
+fn put_fault(alloc: Global, out: &mut Bytes, fault: ScriptFault) -> Result<(), NoMemory>
+    ensures { OnOk result (out.new ≡ out.old ++ fault_text fault) }
+{
+    out.extend(b"script refused line ")?;
+    out.extend_number(alloc, u64::from(fault.line))?;
+    out.extend(b" ")?;
+    out.extend(word_of(fault.kind))?;
+    out.extend(b"\n")
+}
+
+// The text of a status that is always the same.
+fn fixed_text(status: Status) -> &'static [u8]
+    requires { (f : ScriptFault) → status ≡ Status.ScriptRefused f → ⊥ }
+    ensures { result.now ≡ short_text status }
+{
+    match status {
+        Status::WordsRefused => b"words refused\n",
+        Status::SourceFailed => b"source failed\n",
+        Status::DiskFailed => b"disk failed\n",
+        Status::NotYet => b"not yet\n",
+        Status::Done | Status::SinkFailed | Status::NoMemory | Status::ScriptRefused(_) => b"",
+    }
+}
+
+/// The text of a status before a run has opened.
+pub fn text_of(alloc: Global, status: Status) -> Result<Bytes, NoMemory>
+    ensures { IfOk result (λ text. text ≡ short_text status) }
+{
+    let mut out = Bytes::new(alloc);
+    match status {
+        Status::ScriptRefused(fault) => put_fault(alloc, &mut out, fault)?,
+        other => out.extend(fixed_text(other))?,
+    }
+    Ok(out)
 }

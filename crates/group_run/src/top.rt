@@ -1,18 +1,19 @@
 ghost use Rattle.std.specs.Prelude.{◌≡◌, ◌≤◌, true, [], IfOk, OnErr};
 ghost use Rattle.group_run.specs.Outside.{outside};
 ghost use Rattle.group_run.specs.Statuses.{short_text};
-ghost use Rattle.group_run.specs.Ends.{Tells, TellsReport, Ends};
-ghost use Rattle.group_run.specs.Reports.{HasRun};
-ghost use Rattle.ds_model.specs.OneMember.{IsOneMember};
+ghost use Rattle.group_run.specs.Ends.{ordered, Tells, TellsReport, Ends};
+ghost use Rattle.group_run.specs.Reports.{HasRun, empty_report};
+ghost use Rattle.ds_model.specs.Serial.{IsSerial, IsCounted};
 
 use crate::gate::Gate;
 use crate::output::write_all;
 use crate::prepare::{Prepared, prepare};
-use crate::run::run;
-use crate::status::Status;
+use crate::run::{empty_report, run};
+use crate::status::{Status, text_of};
 use ds_base::{NoMemory, RowList, Sequence, Sink, Source};
 use ds_disk::Disk;
 use ds_model::{Report, Script};
+use report_text::write_report;
 use std::alloc::Global;
 use std::sync::Wait;
 use std::thread::Threads;
@@ -28,29 +29,6 @@ pub struct Finished<D> {
     pub disk: D,
     pub report: Report,
     pub opening: RowList,
-}
-
-fn empty_report(alloc: Global, status: Status) -> Report
-    ensures entries { result.entries ≡ [] }
-{
-    Report {
-        entries: Sequence::new(alloc),
-        rows: Sequence::new(alloc),
-        status: status.number(),
-    }
-}
-
-/// The text of a status before a run has opened.
-fn words_of(status: Status) -> &'static [u8]
-    ensures { result.now ≡ short_text status }
-{
-    match status {
-        Status::WordsRefused => b"words refused\n",
-        Status::SourceFailed => b"source failed\n",
-        Status::DiskFailed => b"disk failed\n",
-        Status::NotYet => b"not yet\n",
-        Status::Done | Status::SinkFailed | Status::NoMemory => b"",
-    }
 }
 
 /// Writes the text of a status, and answers the status that stands in the end.
@@ -71,7 +49,8 @@ fn run_ready<K: Sink, D: Disk>(
     disk: &mut D,
     script: Script,
 ) -> Result<(Status, Report), NoMemory>
-    requires one_member { IsOneMember script }
+    requires serial { IsSerial script }
+    requires counted { IsCounted script }
     requires alive { D.alive disk.old ≡ true }
     ensures run { IfOk result (λ r. HasRun script r.1 (D.alive disk.new) (D.contents disk.old) (D.contents disk.new) (D.faults disk.old) (D.faults disk.new)) }
     ensures told { IfOk result (λ r. TellsReport r.0 r.1 (K.taken sink.old) (K.taken sink.new) (K.faults sink.old) (K.faults sink.new)) }
@@ -87,6 +66,34 @@ fn run_ready<K: Sink, D: Disk>(
     Ok((tell(sink, met, text.as_slice()), report))
 }
 
+// Tells a status that was met before a run opened.
+fn tell_short<K: Sink>(alloc: Global, sink: &mut K, met: Status) -> Result<Status, NoMemory>
+    requires { met ≡ Status.SinkFailed → ⊥ }
+    ensures told { IfOk result (λ status. Tells met status (short_text met) (K.taken sink.old) (K.taken sink.new) (K.faults sink.old) (K.faults sink.new)) }
+    ensures err { OnErr result (K.taken sink.new ≡ K.taken sink.old) }
+{
+    let text = text_of(alloc, met)?;
+    Ok(tell(sink, met, text.as_slice()))
+}
+
+// Tells the report of a disk with empty logs.
+fn show<K: Sink>(alloc: Global, sink: &mut K) -> Result<(Status, Report), NoMemory>
+    ensures report { IfOk result (λ r. r.1 ≡ empty_report 0) }
+    ensures told { IfOk result (λ r. TellsReport r.0 r.1 (K.taken sink.old) (K.taken sink.new) (K.faults sink.old) (K.faults sink.new)) }
+    ensures err { OnErr result (K.taken sink.new ≡ K.taken sink.old) }
+{
+    let report = empty_report(alloc, 0);
+    let text = write_report(alloc, &report)?;
+    Ok((tell(sink, Status::Done, text.as_slice()), report))
+}
+
+// What is left where memory was wanting.
+fn wanting(alloc: Global, opened: bool) -> (Status, bool, Report)
+    ensures { result ≡ (Status.NoMemory, opened, empty_report 6) }
+{
+    (Status::NoMemory, opened, empty_report(alloc, Status::NoMemory.number()))
+}
+
 // All that a call does, with the status, whether a run opened, and the report.
 fn perform<S: Source, K: Sink, D: Disk>(
     alloc: Global,
@@ -95,38 +102,36 @@ fn perform<S: Source, K: Sink, D: Disk>(
     sink: &mut K,
     disk: &mut D,
 ) -> (Status, bool, Report)
-    ensures { Ends words.now
+    ensures { Ends (ordered words.now)
         (outside (S.left source.old) (S.faults source.old) (D.contents disk.old) (D.alive disk.old) (D.faults disk.old))
         (outside (S.left source.new) (S.faults source.new) (D.contents disk.new) (D.alive disk.new) (D.faults disk.new))
         result.0 result.1 result.2
         (K.taken sink.old) (K.taken sink.new) (K.faults sink.old) (K.faults sink.new) }
 {
     match prepare(alloc, words, source, disk) {
-        Err(NoMemory) => (
-            Status::NoMemory,
-            false,
-            empty_report(alloc, Status::NoMemory),
-        ),
-        Ok(Prepared::Ended(met)) => {
-            let status = tell(sink, met, words_of(met));
-            (status, false, empty_report(alloc, status))
-        }
-        Ok(Prepared::Ready(script)) => match run_ready(alloc, sink, disk, script) {
-            Err(NoMemory) => (
-                Status::NoMemory,
-                true,
-                empty_report(alloc, Status::NoMemory),
-            ),
+        Err(NoMemory) => wanting(alloc, false),
+        Ok(Prepared::Ended(met)) => match tell_short(alloc, sink, met) {
+            Err(NoMemory) => wanting(alloc, false),
+            Ok(status) => (status, false, empty_report(alloc, status.number())),
+        },
+        Ok(Prepared::Show) => match show(alloc, sink) {
+            Err(NoMemory) => wanting(alloc, true),
+            Ok((status, report)) => (status, true, report),
+        },
+        Ok(Prepared::Play(script)) => match run_ready(alloc, sink, disk, script) {
+            Err(NoMemory) => wanting(alloc, true),
             Ok((status, report)) => (status, true, report),
         },
     }
 }
 
-/// Plays the script of the source on the disk, and writes the report to the sink.
+/// Does what the words order: plays the script of the source on the disk, or shows the disk, and writes the
+/// report to the sink.
 ///
-/// The words are the command line without the program's name. The source is read to its end, or to the first
-/// byte past the longest script; then the logs are looked at; then the script is run. The sink gets the report,
-/// or the one line of a status that was met before the run opened. Today one thread plays all, and no gate is passed.
+/// The words are the command line without the program's name. For a script the source is read to its end, or to
+/// the first byte past the longest script; then the logs are looked at; then the script is run. The sink gets the
+/// report, or the one line of a status that was met before the run opened. Today one thread plays all, and no
+/// gate is passed.
 pub fn play<R: Threads + Wait + Sync, S: Source, K: Sink, D: Disk + Send, G: Gate + Sync>(
     _rt: &R,
     alloc: Global,
@@ -136,7 +141,7 @@ pub fn play<R: Threads + Wait + Sync, S: Source, K: Sink, D: Disk + Send, G: Gat
     mut disk: D,
     _gate: &G,
 ) -> Finished<D>
-    ensures ends { Ends words.now
+    ensures ends { Ends (ordered words.now)
         (outside (S.left source.old) (S.faults source.old) (D.contents disk) (D.alive disk) (D.faults disk))
         (outside (S.left source.new) (S.faults source.new) (D.contents result.disk) (D.alive result.disk) (D.faults result.disk))
         result.status result.opened result.report
