@@ -10,9 +10,16 @@ use Rattle.group_run.specs.declared.status.Status.{Status}
 use Rattle.group_run.specs.declared.status.Status.TheVariants as status
 use Rattle.group_run.specs.Opening.{IsOpening}
 use Rattle.group_run.specs.Outside.{Outside}
-use Rattle.group_run.specs.Reports.{HasRun}
-use Rattle.group_run.specs.Played.{IsPlayed}
-use Rattle.group_run.specs.Ends.{IsOrder, IsReady, Ran as RanAs, TellsReport, met_by}
+use Rattle.group_run.specs.Reports.{HasRun, empty_report}
+use Rattle.group_run.specs.Played.{IsRead, IsPlayed, IsShown}
+use Rattle.group_run.specs.Prepares.{IsOpened, IsReady, IsPrepared}
+use Rattle.group_run.specs.declared.prepare.Prepared.TheVariants as prepared
+use Rattle.group_words.specs.declared.order.Order.{Order}
+use Rattle.group_words.specs.declared.order.Order.TheVariants as order
+use Rattle.ds_model.specs.Serial.{IsSerial, IsCounted}
+use Rattle.group_run.proofs.Counted.{counted}
+use Rattle.group_run.specs.Ends.{MetBy, RanByPlay, RanBy, Tells, TellsReport, met_by}
+use Rattle.group_run.proofs.Opened.{opening_same}
 
 -- a step of an opened disk is a step of the disk before
 from_opening : (a b c : Option Contents) (P : Contents → Contents → Type 0) → Becomes a b IsOpening → Becomes b c P → Becomes a c P
@@ -20,14 +27,6 @@ from_opening None b c P p q = tt
 from_opening (Some x) None c P p q = absurd p
 from_opening (Some x) (Some y) None P p q = absurd q
 from_opening (Some x) (Some y) (Some z) P p q = subst (λ (w : Contents). P w z) p.0 q
-
--- what is owed to empty logs is had
-from_empty : (a b c : Option Contents) (P : Contents → Contents → Type 0) → Becomes a b IsOpening → Becomes b c (λ x z. HasEmptyLogs x → P x z) → Becomes a c P
-from_empty None b c P p q = tt
-from_empty (Some x) None c P p q = absurd p
-from_empty (Some x) (Some y) None P p q = absurd q
-from_empty (Some x) (Some y) (Some z) P p q =
-    let owed = subst (λ (w : Contents). HasEmptyLogs w → P w z) p.0 q in owed p.1
 
 began_empty : (a b : Option Contents) → Becomes a b IsOpening → WhenTold a HasEmptyLogs
 began_empty None b p = tt
@@ -37,21 +36,25 @@ began_empty (Some x) (Some y) p = p.1
 earlier : (a b c : ℕ) → a ≤ b → Rose b c → Rose a c
 earlier a b c le rose = omega arith
 
-pub is_played : (words : List (String Global)) (before mid after : Outside) (script : Script) (report : Report)
-    → IsReady words before mid script → mid.left ≡ after.left → before.disk_faults ≤ mid.disk_faults
+same_script : (members : ℕ) (before mid after : Outside) (script : Script) → mid.left ≡ after.left → IsRead members before mid script → IsRead members before after script
+same_script members before mid after script same read = record {
+  bytes = read.bytes;
+  consumed = subst (λ l. Consumes before.left l read.bytes) same read.consumed;
+  at_end = subst IsAtEnd same read.at_end;
+  spelled = read.spelled;
+}
+
+pub is_played : (members : ℕ) (before mid after : Outside) (script : Script) (report : Report)
+    → IsReady members before mid script → mid.left ≡ after.left → before.disk_faults ≤ mid.disk_faults
     → HasRun script report after.alive mid.contents after.contents mid.disk_faults after.disk_faults
-    → IsPlayed before after report
-is_played words before mid after script report ready same le has =
+    → IsPlayed members before after report
+is_played members before mid after script report ready same le has =
     let run = has.run in
     record {
       script = script;
-      read = record {
-        bytes = ready.read.bytes;
-        consumed = subst (λ l. Consumes before.left l ready.read.bytes) same ready.read.consumed;
-        at_end = subst IsAtEnd same ready.read.at_end;
-        spelled = ready.read.spelled;
-      };
-      empty = began_empty before.contents mid.contents ready.opening;
+      read = same_script members before mid after script same ready.read;
+      serial = ready.serial;
+      empty = began_empty before.contents mid.contents ready.opened.opening;
       ran = has.ran;
       run = record {
         count = run.count;
@@ -59,7 +62,9 @@ is_played words before mid after script report ready same le has =
         entries_are = run.entries_are;
         rows_are = run.rows_are;
         allowed = run.allowed;
-        log = λ e. from_opening before.contents mid.contents after.contents _ ready.opening (run.log e);
+        appends = run.appends;
+        log = λ e. from_opening before.contents mid.contents after.contents _ ready.opened.opening (run.log e);
+        torn = λ e. from_opening before.contents mid.contents after.contents _ ready.opened.opening (run.torn e);
         failed_is = run.failed_is;
         cause = λ e. earlier before.disk_faults mid.disk_faults after.disk_faults le (run.cause e);
       };
@@ -68,9 +73,19 @@ is_played words before mid after script report ready same le has =
         history = has.sound.history;
         sound = has.sound.sound;
         tells = has.sound.tells;
-        stands = λ e. from_empty before.contents mid.contents after.contents _ ready.opening (has.sound.stands e);
+        stands = record {
+          alive = λ e. from_opening before.contents mid.contents after.contents _ ready.opened.opening (has.sound.stands.alive e);
+          dead = λ e. from_opening before.contents mid.contents after.contents _ ready.opened.opening (has.sound.stands.dead e);
+        };
       };
     }
+
+pub is_shown : (before after : Outside) (report : Report) → IsOpened before after → report ≡ empty_report 0 → IsShown before after report
+is_shown before after report opened is = record {
+  empty = began_empty before.contents after.contents opened.opening;
+  same = opening_same before.contents after.contents opened.opening;
+  report_is = is;
+}
 
 met_failed : (n : ℕ) → n ≡ 5 → cond (nat_eq n 5) status.DiskFailed status.Done ≡ status.DiskFailed
 met_failed n e = ap (λ m. cond (nat_eq m 5) status.DiskFailed status.Done) e
@@ -78,13 +93,80 @@ met_failed n e = ap (λ m. cond (nat_eq m 5) status.DiskFailed status.Done) e
 met_done : (n : ℕ) → n ≡ 0 → cond (nat_eq n 5) status.DiskFailed status.Done ≡ status.Done
 met_done n e = ap (λ m. cond (nat_eq m 5) status.DiskFailed status.Done) e
 
-by_failure : (words : List (String Global)) (before after : Outside) (report : Report) (failed : Bool) → IsOrder words → IsPlayed before after report
-    → report.status ≡ cond failed 5 0 → (failed ≡ true → Rose before.disk_faults after.disk_faults) → RanAs (met_by report) words before after report
-by_failure words before after report true order played e rose = subst (λ m. RanAs m words before after report) (sym (met_failed report.status e)) (order, played, e, rose refl)
-by_failure words before after report false order played e rose = subst (λ m. RanAs m words before after report) (sym (met_done report.status e)) (order, played, e)
+by_failure : (members : ℕ) (before after : Outside) (report : Report) (failed : Bool) → IsPlayed members before after report
+    → report.status ≡ cond failed 5 0 → (failed ≡ true → Rose before.disk_faults after.disk_faults) → RanByPlay members (met_by report) before after report
+by_failure members before after report true played e rose = subst (λ m. RanByPlay members m before after report) (sym (met_failed report.status e)) (played, e, rose refl)
+by_failure members before after report false played e rose = subst (λ m. RanByPlay members m before after report) (sym (met_done report.status e)) (played, e)
 
-pub has_ran : (words : List (String Global)) (before after : Outside) (report : Report) → IsOrder words → IsPlayed before after report → RanAs (met_by report) words before after report
-has_ran words before after report order played = by_failure words before after report played.ran.failed order played played.reports.status played.run.cause
+pub has_ran : (members : ℕ) (before after : Outside) (report : Report) → IsPlayed members before after report → RanByPlay members (met_by report) before after report
+has_ran members before after report played = by_failure members before after report played.ran.failed played played.reports.status played.run.cause
+
+-- ---- by what the words order
+
+pub counted_by : (o : Option Order) (script : Script) (before after : Outside) → IsPrepared o (prepared.Play script) before after → IsCounted script
+counted_by None script before after h = let f : prepared.Play script ≡ prepared.Ended status.WordsRefused = h in cc
+counted_by (Some (order.Play sizes seed trace)) script before after h = counted sizes.members script h.read.spelled.has_rules
+counted_by (Some order.Show) script before after h = absurd h
+counted_by (Some (order.Make n)) script before after h = let f : prepared.Play script ≡ prepared.Ended status.NotYet = h in cc
+counted_by (Some (order.Work n sizes)) script before after h = let f : prepared.Play script ≡ prepared.Ended status.NotYet = h in cc
+
+pub serial_by : (o : Option Order) (script : Script) (before after : Outside) → IsPrepared o (prepared.Play script) before after → IsSerial script
+serial_by None script before after h = let f : prepared.Play script ≡ prepared.Ended status.WordsRefused = h in cc
+serial_by (Some (order.Play sizes seed trace)) script before after h = h.serial
+serial_by (Some order.Show) script before after h = absurd h
+serial_by (Some (order.Make n)) script before after h = let f : prepared.Play script ≡ prepared.Ended status.NotYet = h in cc
+serial_by (Some (order.Work n sizes)) script before after h = let f : prepared.Play script ≡ prepared.Ended status.NotYet = h in cc
+
+pub ran_by : (o : Option Order) (before mid after : Outside) (script : Script) (report : Report)
+    → IsPrepared o (prepared.Play script) before mid → mid.left ≡ after.left → before.disk_faults ≤ mid.disk_faults
+    → HasRun script report after.alive mid.contents after.contents mid.disk_faults after.disk_faults
+    → RanBy o (met_by report) before after report
+ran_by None before mid after script report h same le run = let f : prepared.Play script ≡ prepared.Ended status.WordsRefused = h in cc
+ran_by (Some (order.Play sizes seed trace)) before mid after script report h same le run = has_ran sizes.members before after report (is_played sizes.members before mid after script report h same le run)
+ran_by (Some order.Show) before mid after script report h same le run = absurd h
+ran_by (Some (order.Make n)) before mid after script report h same le run = let f : prepared.Play script ≡ prepared.Ended status.NotYet = h in cc
+ran_by (Some (order.Work n sizes)) before mid after script report h same le run = let f : prepared.Play script ≡ prepared.Ended status.NotYet = h in cc
+
+met_shown : (report : Report) → report ≡ empty_report 0 → met_by report ≡ status.Done
+met_shown report e = ap met_by e
+
+pub shown_by : (o : Option Order) (before after : Outside) (report : Report) → IsPrepared o prepared.Show before after → report ≡ empty_report 0 → RanBy o (met_by report) before after report
+shown_by None before after report h e = let f : prepared.Show ≡ prepared.Ended status.WordsRefused = h in cc
+shown_by (Some (order.Play sizes seed trace)) before after report h e = absurd h
+shown_by (Some order.Show) before after report h e = (is_shown before after report h e, met_shown report e)
+shown_by (Some (order.Make n)) before after report h e = let f : prepared.Show ≡ prepared.Ended status.NotYet = h in cc
+shown_by (Some (order.Work n sizes)) before after report h e = let f : prepared.Show ≡ prepared.Ended status.NotYet = h in cc
+
+-- before a run opened, what was prepared has met its status
+pub met_by_order : (o : Option Order) (met : Status) (before after : Outside) → IsPrepared o (prepared.Ended met) before after → MetBy o met before after
+met_by_order None met before after h = cc
+met_by_order (Some (order.Play sizes seed trace)) met before after h = h
+met_by_order (Some order.Show) met before after h = h
+met_by_order (Some (order.Make n)) met before after h = cc
+met_by_order (Some (order.Work n sizes)) met before after h = cc
+
+meets_no_want : (o : Option Order) (before after : Outside) → MetBy o status.NoMemory before after → ⊥
+meets_no_want None before after h = let f : status.NoMemory ≡ status.WordsRefused = h in cc
+meets_no_want (Some (order.Play sizes seed trace)) before after h = h
+meets_no_want (Some order.Show) before after h = h
+meets_no_want (Some (order.Make n)) before after h = let f : status.NoMemory ≡ status.NotYet = h in cc
+meets_no_want (Some (order.Work n sizes)) before after h = let f : status.NoMemory ≡ status.NotYet = h in cc
+
+meets_no_sink : (o : Option Order) (before after : Outside) → MetBy o status.SinkFailed before after → ⊥
+meets_no_sink None before after h = let f : status.SinkFailed ≡ status.WordsRefused = h in cc
+meets_no_sink (Some (order.Play sizes seed trace)) before after h = h
+meets_no_sink (Some order.Show) before after h = h
+meets_no_sink (Some (order.Make n)) before after h = let f : status.SinkFailed ≡ status.NotYet = h in cc
+meets_no_sink (Some (order.Work n sizes)) before after h = let f : status.SinkFailed ≡ status.NotYet = h in cc
+
+pub no_sink_met : (o : Option Order) (met : Status) (before after : Outside) → MetBy o met before after → met ≡ status.SinkFailed → ⊥
+no_sink_met o met before after h e = meets_no_sink o before after (subst (λ m. MetBy o m before after) e h)
+
+pub short_not_wanting : (o : Option Order) (met ended : Status) (before after : Outside) (text : List ℕ) (taken taken_now : Option (List ℕ)) (f g : ℕ)
+    → MetBy o met before after → Tells met ended text taken taken_now f g → ended ≡ status.NoMemory → ⊥
+short_not_wanting o met ended before after text taken taken_now f g h told e =
+    let other : ended ≡ status.SinkFailed → ⊥ = λ s. let same : status.NoMemory ≡ status.SinkFailed = sym e ∙ s in cc in
+    meets_no_want o before after (subst (λ m. MetBy o m before after) (sym (told.whole other).0 ∙ e) h)
 
 met_is : (b : Bool) → cond b status.DiskFailed status.Done ≡ status.NoMemory → ⊥
 met_is true e = cc

@@ -9,7 +9,7 @@ use Rattle.ds_model.specs.declared.script.ScriptFault.{ScriptFault}
 use Rattle.ds_model.specs.declared.report.Report.{Report}
 use Rattle.ds_model.specs.ReportText.{report_text}
 use Rattle.ds_model.specs.Serial.{IsSerial}
-use Rattle.script_text.specs.Scripts.{script_of}
+use Rattle.script_text.specs.Reading.{script_of}
 use Rattle.group_words.specs.declared.order.Order.{Order}
 use Rattle.group_words.specs.declared.order.Order.TheVariants as order
 use Rattle.group_words.specs.Orders.{order_of, texts}

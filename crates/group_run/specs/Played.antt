@@ -8,7 +8,7 @@ use Rattle.ds_model.specs.declared.report.Report.{Report}
 use Rattle.ds_model.specs.Scripts.{IsScript}
 use Rattle.ds_model.specs.Serial.{IsSerial}
 use Rattle.ds_model.specs.Sound.{IsSound}
-use Rattle.script_text.specs.Scripts.{script_of}
+use Rattle.script_text.specs.Reading.{script_of}
 use Rattle.serial_run.specs.declared.run.Ran.{Ran}
 use Rattle.serial_run.specs.Ran.{IsRunOf}
 use Rattle.serial_run.specs.Sounds.{HasEmptyLogs, DiskStandsFor}

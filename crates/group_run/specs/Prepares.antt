@@ -10,7 +10,7 @@ use Rattle.group_run.specs.declared.status.Status.{Status}
 use Rattle.group_run.specs.declared.status.Status.TheVariants as status
 use Rattle.group_run.specs.declared.prepare.Prepared.{Prepared}
 use Rattle.group_run.specs.declared.prepare.Prepared.TheVariants as prepared
-use Rattle.script_text.specs.Scripts.{script_of}
+use Rattle.script_text.specs.Reading.{script_of}
 use Rattle.group_run.specs.Opening.{IsOpening, IsNoOpening}
 use Rattle.group_run.specs.Outside.{Outside}
 use Rattle.group_run.specs.Played.{Spells, IsRead}

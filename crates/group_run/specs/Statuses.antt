@@ -28,8 +28,11 @@ kind_word fault.Restart = codes "restart"
 kind_word fault.Flag = codes "flag"
 kind_word fault.End = codes "end"
 
+unfoldable pub place_text : ℕ → List ℕ
+place_text number = codes "script refused line " ++ decimal number
+
 abbrev pub fault_text : ScriptFault → List ℕ
-fault_text f = line (codes "script refused line " ++ decimal f.line ++ codes " " ++ kind_word f.kind)
+fault_text f = line (place_text f.line ++ codes " " ++ kind_word f.kind)
 
 -- the text where the run didn't open
 abbrev pub short_text : Status → List ℕ

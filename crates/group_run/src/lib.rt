@@ -14,5 +14,3 @@ pub use gate::{Gate, OpenGate};
 pub use status::Status;
 pub use top::{Finished, play};
 
-#[cfg(test)]
-mod tests;

@@ -11,7 +11,7 @@ use crate::status::Status;
 use ds_base::{NoMemory, Source};
 use ds_disk::{Disk, DiskError};
 use ds_model::Script;
-use group_words::{Order, WordsFault, read_words};
+use group_words::{Order, WordsFault, member_laws, read_words};
 use script_text::{ScriptError, read_script};
 use serial_run::plays;
 use std::alloc::Global;
@@ -99,6 +99,7 @@ pub fn prepare<S: Source, D: Disk>(
     ensures later { D.faults disk.old ≤ D.faults disk.new }
     ensures unread { ReadsNothing (ordered words.now) → S.left source.new ≡ S.left source.old }
 {
+    member_laws();
     match read_words(alloc, words) {
         Err(WordsFault::NoMemory) => Err(NoMemory),
         Err(WordsFault::Refused) => Ok(Prepared::Ended(Status::WordsRefused)),

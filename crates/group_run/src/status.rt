@@ -1,5 +1,5 @@
-ghost use Rattle.std.specs.Prelude.{◌≡◌, ◌++◌, OnOk, IfOk, codes};
-ghost use Rattle.group_run.specs.Statuses.{kind_word, fault_text, short_text};
+ghost use Rattle.std.specs.Prelude.{◌≡◌, ◌++◌, OnOk, IfOk, decimal};
+ghost use Rattle.group_run.specs.Statuses.{kind_word, place_text, fault_text, short_text};
 
 use ds_base::{Bytes, NoMemory};
 use ds_model::{FaultKind, ScriptFault};
@@ -63,11 +63,24 @@ fn word_of(kind: FaultKind) -> &'static [u8]
     }
 }
 
+fn put_number(alloc: Global, out: &mut Bytes, text: &[u8], number: u64) -> Result<(), NoMemory>
+    ensures { OnOk result (out.new ≡ out.old ++ (text.now ++ decimal number)) }
+{
+    out.extend(text)?;
+    out.extend_number(alloc, number)
+}
+
+#[tactic(auto, unfolding(crate::specs::Statuses::place_text))]
+fn put_place(alloc: Global, out: &mut Bytes, number: u32) -> Result<(), NoMemory>
+    ensures { OnOk result (out.new ≡ out.old ++ place_text number) }
+{
+    put_number(alloc, out, b"script refused line ", number as u64)
+}
+
 fn put_fault(alloc: Global, out: &mut Bytes, fault: ScriptFault) -> Result<(), NoMemory>
     ensures { OnOk result (out.new ≡ out.old ++ fault_text fault) }
 {
-    out.extend(b"script refused line ")?;
-    out.extend_number(alloc, u64::from(fault.line))?;
+    put_place(alloc, out, fault.line)?;
     out.extend(b" ")?;
     out.extend(word_of(fault.kind))?;
     out.extend(b"\n")

@@ -1,18 +1,53 @@
-use Rattle.std.proofs.Common.{◌≡◌, true, false, refl}
-use Rattle.group_run.specs.Ends.{met_by}
-use Rattle.group_run.proofs.Played.{is_played, has_ran, not_wanting}
+use Rattle.std.proofs.Common.{◌≡◌, true, false, ap, refl}
+use Rattle.ds_model.specs.declared.report.Report.{Report}
+use Rattle.group_run.specs.Ends.{ordered, met_by}
+use Rattle.group_run.specs.Statuses.{short_text}
+use Rattle.group_run.proofs.Played.{counted_by, serial_by, ran_by, shown_by, not_wanting, met_by_order, no_sink_met, short_not_wanting}
 use Rattle.group_run.proofs.top.perform.Goals as goal
+
+pub run_ready-requires-clause-counted : goal.run_ready-requires-clause-counted
+run_ready-requires-clause-counted g c = counted_by (ordered c.args.words.now) c.in-Ok-Play.script _ _ (rw c.in-Ok-Play.field-0-is at c.in-Ok-Play.ensures.prepared)
+
+pub run_ready-requires-clause-serial : goal.run_ready-requires-clause-serial
+run_ready-requires-clause-serial g c = serial_by (ordered c.args.words.now) c.in-Ok-Play.script _ _ (rw c.in-Ok-Play.field-0-is at c.in-Ok-Play.ensures.prepared)
+
+pub returns-in-Ok-show : goal.returns-in-Ok-show
+returns-in-Ok-show g c =
+    let ready = rw c.in-Ok-Show.field-0-is at c.in-Ok-Show.ensures.prepared in
+    let report = c.in-Ok-show.report in
+    let shown = c.in-Ok-show.ensures in
+    record {
+      long = λ e not. (met_by report, shown_by (ordered c.args.words.now) _ _ report ready shown.report, shown.told);
+      short = λ e not. let f : true ≡ false = e in cc;
+      wanting = λ e. absurd (not_wanting report c.in-Ok-show.status _ _ _ _ shown.told e);
+      same = λ e. let f : true ≡ false = e in cc;
+      unreported = λ e. let f : true ≡ false = e in cc;
+      unread = c.prepare.ensures.unread;
+    }
+
+pub returns-in-Ok-run_ready : goal.returns-in-Ok-run_ready
+returns-in-Ok-run_ready g c =
+    let ready = rw c.in-Ok-Play.field-0-is at c.in-Ok-Play.ensures.prepared in
+    let report = c.in-Ok-run_ready.report in
+    let run = c.in-Ok-run_ready.ensures in
+    record {
+      long = λ e not. (met_by report, ran_by (ordered c.args.words.now) _ _ _ c.in-Ok-Play.script report ready refl c.prepare.ensures.later run.run, run.told);
+      short = λ e not. let f : true ≡ false = e in cc;
+      wanting = λ e. absurd (not_wanting report c.in-Ok-run_ready.status _ _ _ _ run.told e);
+      same = λ e. let f : true ≡ false = e in cc;
+      unreported = λ e. let f : true ≡ false = e in cc;
+      unread = c.prepare.ensures.unread;
+    }
 
 pub returns-in-Ok : goal.returns-in-Ok
 returns-in-Ok g c =
-    let ready = rw c.in-Ok-Ready.field-0-is at c.in-Ok-Ready.ensures.prepared in
-    let report = c.in-Ok.report in
-    let run = c.in-Ok.ensures.run in
-    let played = is_played c.args.words.now _ _ _ c.in-Ok-Ready.script report ready refl c.prepare.ensures.later run in
+    let met = met_by_order (ordered c.args.words.now) c.in-Ok-Ended.met _ _ (rw c.in-Ok-Ended.field-0-is at c.in-Ok-Ended.ensures.prepared) in
+    let told = c.in-Ok.ensures.told in
     record {
-      long = λ e not. (met_by report, has_ran c.args.words.now _ _ report ready.order played, c.in-Ok.ensures.told);
-      short = λ e not. let f : true ≡ false = e in cc;
-      wanting = λ e. absurd (not_wanting report c.in-Ok.status _ _ _ _ c.in-Ok.ensures.told e);
-      same = λ e. let f : true ≡ false = e in cc;
-      unreported = λ e. let f : true ≡ false = e in cc;
+      long = λ e. let f : false ≡ true = e in cc;
+      short = λ e not. (c.in-Ok-Ended.met, met, told);
+      wanting = λ e. absurd (short_not_wanting (ordered c.args.words.now) c.in-Ok-Ended.met c.in-Ok.status _ _ (short_text c.in-Ok-Ended.met) _ _ _ _ met told e);
+      same = λ e. c.prepare.ensures.same;
+      unreported = λ e. ap (λ (r : Report). r.entries) c.empty_report.ensures;
+      unread = c.prepare.ensures.unread;
     }

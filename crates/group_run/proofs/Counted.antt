@@ -1,0 +1,31 @@
+-- The transactions of a script are few and short.
+use Rattle.std.proofs.Common.{◌≡◌, ℕ, List, [], ◌∷◌, ◌++◌, map}
+use Rattle.std.specs.List.{AllByRecursion, flat_map}
+use Rattle.ds_model.specs.declared.script.Tran.{Tran}
+use Rattle.ds_model.specs.declared.script.Part.{Part}
+use Rattle.ds_model.specs.declared.script.Phase.{Phase}
+use Rattle.ds_model.specs.declared.script.Script.{Script}
+use Rattle.ds_model.specs.Transactions.{Placed, placed_part, placed_phase, placed}
+use Rattle.ds_model.specs.Scripts.{IsTran, AreParts, ArePhases, IsScript, part_raises, phase_fails}
+use Rattle.ds_model.specs.Serial.{IsShortTran, IsCounted}
+
+all_append : {X : Type 0} (P : X → Type 0) (xs ys : List X) → AllByRecursion P xs → AllByRecursion P ys → AllByRecursion P (xs ++ ys)
+all_append P [] ys h k = k
+all_append P (x ∷ xs) ys h k = (h.0, all_append P xs ys h.1 k)
+
+trans_short : (member : ℕ) (ts : List Tran) → AllByRecursion IsTran ts → AllByRecursion IsShortTran (map (λ (t : Tran). let it : Placed = (member, t) in it) ts)
+trans_short member [] are = tt
+trans_short member (t ∷ ts) are = (are.0.short, trans_short member ts are.1)
+
+parts_short : (members : ℕ) (failed raised had : List ℕ) (ps : List Part) → AreParts members failed raised had ps → AllByRecursion IsShortTran (flat_map placed_part ps)
+parts_short members failed raised had [] are = tt
+parts_short members failed raised had (p ∷ ps) are =
+    all_append IsShortTran (placed_part p) (flat_map placed_part ps) (trans_short p.member p.trans are.1.trans_are) (parts_short members failed (raised ++ part_raises p) (had ++ p.member ∷ []) ps are.2)
+
+phases_short : (members : ℕ) (failed : List ℕ) (ps : List Phase) → ArePhases members failed ps → AllByRecursion IsShortTran (flat_map placed_phase ps)
+phases_short members failed [] are = tt
+phases_short members failed (p ∷ ps) are =
+    all_append IsShortTran (placed_phase p) (flat_map placed_phase ps) (parts_short members failed [] [] p.parts are.0) (phases_short members (failed ++ phase_fails p) ps are.1)
+
+pub counted : (members : ℕ) (s : Script) → IsScript members s → IsCounted s
+counted members s is = record { trans_short = is.trans_short; ops_short = phases_short members [] s.phases is.phases_are; numbers = is.numbers }

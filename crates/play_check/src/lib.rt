@@ -1,0 +1,8 @@
+//! Whole plays over memory, by what they print: tests that cross all crates.
+#![tactic(auto)]
+
+mod setting;
+#[cfg(test)]
+mod tests;
+
+pub use setting::Setting;
