@@ -50,15 +50,15 @@ record Cut (xs : List ℕ) : Type 0 where
 
 cut_by : (b : Bool) (x : ℕ) (xs : List ℕ) → is_blank x ≡ b → Cut xs → Cut (x ∷ xs)
 cut_by true x xs e ih = record {
-    rest = slice_split is_blank xs;
-    cut = rw (length_blank x xs e) (rw e refl);
-    same = rw (length_blank x xs e) (sym (words_blank x xs e));
-  }
+  rest = slice_split is_blank xs;
+  cut = rw (length_blank x xs e) (rw e refl);
+  same = rw (length_blank x xs e) (sym (words_blank x xs e));
+}
 cut_by false x xs e ih = record {
-    rest = ih.rest;
-    cut = rw (length_solid x xs e) (rw (e, ih.cut) refl);
-    same = rw (length_solid x xs e) ih.same;
-  }
+  rest = ih.rest;
+  cut = rw (length_solid x xs e) (rw (e, ih.cut) refl);
+  same = rw (length_solid x xs e) ih.same;
+}
 
 cut_of : (xs : List ℕ) → Cut xs
 cut_of [] = record { rest = []; cut = refl; same = refl }

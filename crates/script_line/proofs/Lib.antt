@@ -1,2 +1,3 @@
 pub mod FirstWords
 pub mod Ranges
+pub mod LineOfWords
