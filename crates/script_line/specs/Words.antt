@@ -1,5 +1,5 @@
 -- The words of a line, and what a word may be.
-use Rattle.std.specs.Prelude.{ℕ, ◌==◌, Bool, true, ◌&&◌, ◌||◌, if◌then◌else◌, nat_lt, nat_le, List, [], ◌∷◌, length, Option, Some, None, Result, Ok, Err, filter}
+use Rattle.std.specs.Prelude.{ℕ, ◌==◌, Bool, true, not, ◌&&◌, ◌||◌, if◌then◌else◌, nat_lt, nat_le, List, [], ◌∷◌, length, Option, Some, None, Result, Ok, Err, filter}
 use Rattle.std.specs.List.{list_all, slice_split}
 use Rattle.ds_model.specs.declared.script.FaultKind.{FaultKind}
 use Rattle.ds_model.specs.declared.script.FaultKind.TheVariants as fault
@@ -7,6 +7,9 @@ use Rattle.number_text.specs.Numbers.{number_of}
 
 abbrev pub is_blank : ℕ → Bool
 is_blank b = b == 32
+
+abbrev pub is_solid : ℕ → Bool
+is_solid b = not (is_blank b)
 
 abbrev pub is_some_word : List ℕ → Bool
 is_some_word word = nat_lt 0 (length word)
@@ -64,7 +67,10 @@ name_in word = if is_name word then Ok word else Err fault.Name
 abbrev pub is_value : List ℕ → Bool
 is_value bytes = nat_le (length bytes) 100 && list_all (is_between 0x21 0x7e) bytes
 
+abbrev pub value_of : List ℕ → Result (List ℕ) FaultKind
+value_of bytes = if is_value bytes then Ok bytes else Err fault.Value
+
 -- a value behind = (61)
 abbrev pub value_in : List ℕ → Result (List ℕ) FaultKind
 value_in [] = Err fault.Value
-value_in (b ∷ bytes) = if (b == 61) && is_value bytes then Ok bytes else Err fault.Value
+value_in (b ∷ bytes) = if b == 61 then value_of bytes else Err fault.Value
