@@ -1,7 +1,8 @@
 -- The log record at the front of bytes, with the first field that isn't allowed.
-use Rattle.std.specs.Prelude.{◌≡◌, ℕ, ◌-◌, ◌==◌, nat_le, nat_lt, Bool, not, ◌&&◌, if◌then◌else◌, List, length, take, drop, Result, Ok, Err}
+use Rattle.std.specs.Prelude.{◌≡◌, ℕ, ◌-◌, ◌≤◌, ◌==◌, nat_le, nat_lt, Bool, not, ◌&&◌, if◌then◌else◌, List, length, take, drop, Result, Ok, Err}
 use Rattle.byteorder.specs.Endian.{big_number}
 use Rattle.ds_model.specs.declared.log.LogRecord.{LogRecord}
+use Rattle.ds_model.specs.RecordBytes.{IsAllowed, record_bytes}
 use Rattle.log_record.specs.declared.fault.RecordFault.{RecordFault}
 use Rattle.log_record.specs.declared.fault.RecordFault.TheVariants as fault
 use Rattle.log_record.specs.Fields.{◌>>=◌, kind_at, version_at, lrsn_at, tran_at, body_at}
@@ -37,6 +38,15 @@ record_in bytes =
     else if not (is_size (big_number 4 bytes)) then Err (fault.Bad 0)
     else if nat_lt (length bytes) (big_number 4 bytes) then Err fault.NotWhole
     else whole_in bytes (big_number 4 bytes)
+
+-- ---- what was read
+
+-- this record stands at the front of the bytes, and has this length
+pub record Found (bytes : List ℕ) (r : LogRecord) (size : ℕ) : Type 0 where
+  pub long : 22 ≤ size
+  pub within : size ≤ length bytes
+  pub spelled : take size bytes ≡ record_bytes r
+  pub allowed : IsAllowed r
 
 -- What a function returned, seen by view, is what is read.
 abbrev pub Gives : {X Y : Type 0} → (X → Y) → Result X RecordFault → Result Y RecordFault → Type 0

@@ -10,6 +10,7 @@ mod allowed;
 mod fault;
 mod field;
 mod kind;
+mod laws;
 mod put;
 mod read;
 mod state;
@@ -18,6 +19,7 @@ mod write;
 pub use allowed::is_allowed;
 pub use ds_model::{Body, LogRecord, RecordList, RowChange};
 pub use fault::RecordFault;
+pub use laws::reading_laws;
 pub use read::read_record;
 pub use write::{put_record, record_length, records_bytes, write_record};
 

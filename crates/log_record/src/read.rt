@@ -1,7 +1,9 @@
-ghost use Rattle.std.specs.Prelude.{◌≡◌, ◌≤◌, length, take, IfOk};
+ghost use Rattle.std.specs.Prelude.{◌≡◌, ◌≤◌, ◌<◌, ℕ, List, ◌++◌, length, take, IfOk};
+ghost use Rattle.ds_model.specs.declared.log.LogRecord.{LogRecord};
 ghost use Rattle.ds_model.specs.RecordBytes.{IsAllowed, record_bytes};
 ghost use Rattle.log_record.specs.Fields.{change_at, body_at};
-ghost use Rattle.log_record.specs.Reading.{fields_in, ends_at, whole_in, record_in};
+ghost use Rattle.log_record.specs.declared.fault.RecordFault.TheVariants.{NotWhole};
+ghost use Rattle.log_record.specs.Reading.{Found, fields_in, ends_at, whole_in, record_in};
 
 use crate::fault::RecordFault;
 use crate::field::{key_at, kind_at, lrsn_at, place_at, table_at, tran_at, version_at};
@@ -86,16 +88,10 @@ fn whole_in(alloc: Global, bytes: &[u8], size: usize) -> Result<(LogRecord, usiz
     }
 }
 
-/// The log record at the front of the bytes, and its length. Bytes may follow it.
-///
-/// `Bad` names the first field that isn't allowed, or that would reach into the repeated length. Where the body ends
-/// too early, or the repeated length is another, it names the byte behind the body's last field. Takes no memory.
+// The record at the front, where the bytes begin with a length that is allowed and go on that far.
 #[tactic(auto, unfolding(crate::specs::Reading::record_in))]
-pub fn read_record(alloc: Global, bytes: &[u8]) -> Result<(LogRecord, usize), RecordFault>
-    ensures exact { result ≡ record_in bytes.now }
-    ensures spelled { IfOk result (λ found. take found.1 bytes.now ≡ record_bytes found.0) }
-    ensures allowed { IfOk result (λ found. IsAllowed found.0) }
-    ensures length { IfOk result (λ found. found.1 ≡ length (record_bytes found.0)) }
+fn record_in(alloc: Global, bytes: &[u8]) -> Result<(LogRecord, usize), RecordFault>
+    ensures { result ≡ record_in bytes.now }
 {
     if bytes.len() < 4 {
         return Err(RecordFault::NotWhole);
@@ -108,4 +104,21 @@ pub fn read_record(alloc: Global, bytes: &[u8]) -> Result<(LogRecord, usize), Re
         return Err(RecordFault::NotWhole);
     }
     whole_in(alloc, bytes, size)
+}
+
+/// The log record at the front of the bytes, and its length. Bytes may follow it.
+///
+/// `NotWhole` says that the bytes end before the record does. `Bad` names the first byte of the first field that isn't
+/// allowed, or that would reach into the repeated length; where the body ends before it, or another length stands
+/// there, the first byte behind the body's last field. Takes no memory.
+pub fn read_record(alloc: Global, bytes: &[u8]) -> Result<(LogRecord, usize), RecordFault>
+    ensures exact { result ≡ record_in bytes.now }
+    // What is read is spelled so.
+    ensures found { IfOk result (λ found. Found bytes.now found.0 found.1) }
+    // What is spelled so is read, whatever follows it.
+    ensures again { (r : LogRecord) (rest : List ℕ) → IsAllowed r → bytes.now ≡ record_bytes r ++ rest → result ≡ Ok (r, length (record_bytes r)) }
+    // What a stop inside a write leaves of a record is not whole.
+    ensures cut { (r : LogRecord) (n : ℕ) → IsAllowed r → n < length (record_bytes r) → bytes.now ≡ take n (record_bytes r) → result ≡ Err NotWhole }
+{
+    record_in(alloc, bytes)
 }
