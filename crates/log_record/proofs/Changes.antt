@@ -53,16 +53,16 @@ state_takes fields at o next fits e =
     let t = number_takes 1 (λ n. n == 1 || n == 2) fields at a.0.0 a.0.1 fits a.1 in
     elim (cases_Bool (a.0.0 == 1)) [
       | inl is-one ↦
-        let mark : Takes fields at (1 ∷ []) a.0.1 = subst (λ (n : ℕ). Takes fields at (bytes_high_first 1 n) a.0.1) (eqb-true _ _ is-one) t.0 in
-        let rest = absent_takes fields a.0.1 o next fits (rw is-one at a.2) in
-        let both = Takes-then fields at (1 ∷ []) a.0.1 (0 ∷ []) next mark rest.1 in
-        subst (λ (z : Option (List ℕ)). Takes fields at (state_bytes z) next × StateIsAllowed z) (sym rest.0) (both, tt)
+          let mark : Takes fields at (1 ∷ []) a.0.1 = subst (λ (n : ℕ). Takes fields at (bytes_high_first 1 n) a.0.1) (eqb-true _ _ is-one) t.0 in
+          let rest = absent_takes fields a.0.1 o next fits (rw is-one at a.2) in
+          let both = Takes-then fields at (1 ∷ []) a.0.1 (0 ∷ []) next mark rest.1 in
+          subst (λ (z : Option (List ℕ)). Takes fields at (state_bytes z) next × StateIsAllowed z) (sym rest.0) (both, tt)
       | inr is-not ↦
-        let two : a.0.0 ≡ 2 = elim (or_cases (a.0.0 == 1) (a.0.0 == 2) t.2) [ inl is ↦ absurd cc | inr is ↦ eqb-true _ _ is ] in
-        let mark : Takes fields at (2 ∷ []) a.0.1 = subst (λ (n : ℕ). Takes fields at (bytes_high_first 1 n) a.0.1) two t.0 in
-        let p = present_takes fields a.0.1 o next fits (rw is-not at a.2) in
-        let both = Takes-then fields at (2 ∷ []) a.0.1 (length p.value ∷ p.value) next mark p.takes in
-        subst (λ (z : Option (List ℕ)). Takes fields at (state_bytes z) next × StateIsAllowed z) (sym p.is) (both, p.allowed)
+          let two : a.0.0 ≡ 2 = elim (or_cases (a.0.0 == 1) (a.0.0 == 2) t.2) [ inl is ↦ absurd cc | inr is ↦ eqb-true _ _ is ] in
+          let mark : Takes fields at (2 ∷ []) a.0.1 = subst (λ (n : ℕ). Takes fields at (bytes_high_first 1 n) a.0.1) two t.0 in
+          let p = present_takes fields a.0.1 o next fits (rw is-not at a.2) in
+          let both = Takes-then fields at (2 ∷ []) a.0.1 (length p.value ∷ p.value) next mark p.takes in
+          subst (λ (z : Option (List ℕ)). Takes fields at (state_bytes z) next × StateIsAllowed z) (sym p.is) (both, p.allowed)
     ]
 
 pub state_again : (fields : List ℕ) (at : ℕ) (o : Option (List ℕ)) (rest : List ℕ) → StateIsAllowed o → Left fields at (state_bytes o ++ rest) → Reads (state_at fields at) o fields rest

@@ -32,11 +32,11 @@ number_is n k e =
     elim (cases_Bool (n == 1)) [
       | inl a ↦ let s : kind.RowChange ≡ k = let h = rw a at e in cc in subst (λ (z : Kind). n ≡ number_of z) s (eqb-true n 1 a)
       | inr a ↦
-        let h = rw a at e in
-        elim (cases_Bool (n == 4)) [
-          | inl b ↦ let s : kind.Commit ≡ k = let g = rw b at h in cc in subst (λ (z : Kind). n ≡ number_of z) s (eqb-true n 4 b)
-          | inr b ↦ let g = rw b at h in absurd cc
-        ]
+          let h = rw a at e in
+          elim (cases_Bool (n == 4)) [
+            | inl b ↦ let s : kind.Commit ≡ k = let g = rw b at h in cc in subst (λ (z : Kind). n ≡ number_of z) s (eqb-true n 4 b)
+            | inr b ↦ let g = rw b at h in absurd cc
+          ]
     ]
 
 number_small : (k : Kind) → number_of k < 256
@@ -123,8 +123,8 @@ fields_again fields r h l =
     let rest = body_bytes r.body ++ [] in
     let no_more : body_bytes r.body ≡ rest = sym (append-nil (body_bytes r.body)) in
     let begins : middle r ≡ number_of k ∷ 1 ∷ (lrsn_bytes r.lrsn ++ (lrsn_bytes r.tran ++ rest)) =
-      ap (λ (n : ℕ). n ∷ 1 ∷ (lrsn_bytes r.lrsn ++ (lrsn_bytes r.tran ++ body_bytes r.body))) (sym (kind_for-is r.body))
-      ∙ ap (λ (x : List ℕ). number_of k ∷ 1 ∷ (lrsn_bytes r.lrsn ++ (lrsn_bytes r.tran ++ x))) no_more in
+    ap (λ (n : ℕ). n ∷ 1 ∷ (lrsn_bytes r.lrsn ++ (lrsn_bytes r.tran ++ body_bytes r.body))) (sym (kind_for-is r.body))
+    ∙ ap (λ (x : List ℕ). number_of k ∷ 1 ∷ (lrsn_bytes r.lrsn ++ (lrsn_bytes r.tran ++ x))) no_more in
     let a = kind_again fields 4 k (1 ∷ (lrsn_bytes r.lrsn ++ (lrsn_bytes r.tran ++ rest))) (Left-as fields 4 _ _ begins l) in
     let v = number_again 1 (λ n. n == 1) fields a.next 1 (lrsn_bytes r.lrsn ++ (lrsn_bytes r.tran ++ rest)) (lit< tt) refl a.left in
     let n = number_again 6 (λ n. true) fields v.next r.lrsn (lrsn_bytes r.tran ++ rest) h.lrsn_in refl v.left in
@@ -168,11 +168,11 @@ whole_takes bytes size r n fits long within first e =
     let tail : take 4 (drop (size - 4) bytes) ≡ to_be_bytes w32 (length_of f.0.0.body) = front_back (drop (size - 4) bytes) size (IsBytes-drop (size - 4) bytes fits) (omega (arith, length-drop (size - 4) bytes)) end.1 ∙ spelled_size in
     let cut : (size - 4) + 4 ≡ size = omega arith in
     let whole : take size bytes ≡ record_bytes f.0.0 =
-      ap (λ (k : ℕ). take k bytes) (sym cut) ∙ take-add (size - 4) 4 bytes
-      ∙ ap (λ (x : List ℕ). x ++ take 4 (drop (size - 4) bytes)) (sym (take-append-drop 4 fields))
-      ∙ ap (λ (x : List ℕ). (take 4 fields ++ x) ++ take 4 (drop (size - 4) bytes)) body-is
-      ∙ ap (λ (x : List ℕ). (x ++ middle f.0.0) ++ take 4 (drop (size - 4) bytes)) front
-      ∙ ap (λ (x : List ℕ). (to_be_bytes w32 (length_of f.0.0.body) ++ middle f.0.0) ++ x) tail in
+    ap (λ (k : ℕ). take k bytes) (sym cut) ∙ take-add (size - 4) 4 bytes
+    ∙ ap (λ (x : List ℕ). x ++ take 4 (drop (size - 4) bytes)) (sym (take-append-drop 4 fields))
+    ∙ ap (λ (x : List ℕ). (take 4 fields ++ x) ++ take 4 (drop (size - 4) bytes)) body-is
+    ∙ ap (λ (x : List ℕ). (x ++ middle f.0.0) ++ take 4 (drop (size - 4) bytes)) front
+    ∙ ap (λ (x : List ℕ). (to_be_bytes w32 (length_of f.0.0.body) ++ middle f.0.0) ++ x) tail in
     subst (λ (z : LogRecord × ℕ). Found bytes z.0 z.1) p.1 (record { long = long; within = within; spelled = whole; allowed = t.1 })
 
 otherwise : {A : Type 0} (b : Bool) (d : RecordFault) (z : Result A RecordFault) (y : A) → cond b (Err d) z ≡ Ok y → (b ≡ false) × (z ≡ Ok y)
@@ -249,11 +249,11 @@ record_cut r n h lt =
     elim (cases_lt n 4) [
       | inl few ↦ let is_few : nat_lt (length bytes) 4 ≡ true = lt-ltb _ _ (omega (arith, len)) in rw is_few refl
       | inr enough ↦
-        let not_few : nat_lt (length bytes) 4 ≡ false = le-ltb _ _ (omega (arith, len)) in
-        let size : big_number 4 bytes ≡ length_of r.body =
+          let not_few : nat_lt (length bytes) 4 ≡ false = le-ltb _ _ (omega (arith, len)) in
+          let size : big_number 4 bytes ≡ length_of r.body =
           big_from-take 0 4 n (record_bytes r) enough ∙ ap (big_number 4) (sym (append-nil (record_bytes r))) ∙ spelled_size r [] h in
-        let is_cut : nat_lt (length bytes) (length_of r.body) ≡ true = lt-ltb _ _ (omega (arith, len, whole_length r)) in
-        rw (not_few, size, allowed_size r h, is_cut) refl
+          let is_cut : nat_lt (length bytes) (length_of r.body) ≡ true = lt-ltb _ _ (omega (arith, len, whole_length r)) in
+          rw (not_few, size, allowed_size r h, is_cut) refl
     ]
 
 pub is_found : (bytes : List ℕ) (result : Result (LogRecord × ℕ) RecordFault) → IsBytes bytes → result ≡ record_in bytes → IfOk result (λ found. Found bytes found.0 found.1)
