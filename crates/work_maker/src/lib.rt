@@ -1,0 +1,12 @@
+//! Scripts that are drawn from a number, as work for a group.
+#![tactic(auto)]
+
+mod operation;
+mod script;
+mod transaction;
+
+pub use draw_generator::Generator;
+pub use script::make_script;
+
+#[cfg(test)]
+mod tests;
