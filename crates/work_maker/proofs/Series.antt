@@ -7,9 +7,13 @@ pub series_suc : {X : Type 0} (make : ℕ → ℕ → X × ℕ) (count number x 
     → series make (suc count) number x ≡ ((series make count number x).0 ++ (make (number + count) (series make count number x).1).0 ∷ [], (make (number + count) (series make count number x).1).1)
 unfolding series
 series_suc make zero number x = rw add-zero refl
-series_suc make (suc c) number x =
+series_suc {X} make (suc c) number x =
     let e : number + 1 + c ≡ number + suc c = omega arith in
-    rw (series_suc make c (number + 1) (make number x).1, e) refl
+    let first : X × ℕ = make number x in
+    let mid : List X × ℕ = series make c (number + 1) first.1 in
+    let more : ℕ → List X × ℕ = λ k. (mid.0 ++ (make k mid.1).0 ∷ [], (make k mid.1).1) in
+    let put : List X × ℕ → List X × ℕ = λ r. (first.0 ∷ r.0, r.1) in
+    ap put (series_suc make c (number + 1) first.1 ∙ ap more e)
 
 pub step_items : {X : Type 0} (make : ℕ → ℕ → X × ℕ) (count number x place state : ℕ) (item : X) (next : ℕ) → place ≡ number + count → state ≡ (series make count number x).1 → make place state ≡ (item, next)
     → (series make (count + 1) number x).0 ≡ (series make count number x).0 ++ item ∷ []
