@@ -1,8 +1,8 @@
 -- The fields of a changed row: what is read is their spelling, and their spelling is read again.
-use Rattle.std.proofs.Common.{lit<, ◌≡◌, ℕ, ◌+◌, ◌^◌, ◌<◌, ◌≤◌, Bool, true, false, not, cond, List, [], ◌∷◌, ◌++◌, length, Option, Some, None, Result, Ok, Err, refl, sym, ap, subst, ◌∙◌, append_assoc, arith, inl, inr}
+use Rattle.std.proofs.Common.{lit<, ◌≡◌, ℕ, ◌^◌, ◌<◌, ◌≤◌, true, not, cond, List, [], ◌∷◌, ◌++◌, length, Option, Some, None, Ok, refl, sym, ap, subst, ◌∙◌, append_assoc, arith, inl, inr}
 use Rattle.std.specs.Prelude.{◌≢◌, ◌==◌, nat_le, nat_lt, ◌&&◌, ◌||◌}
-use Rattle.std.specs.Int.{w16, w32, w64, to_be_bytes, bytes_high_first}
-use Rattle.std.proofs.lemmas.Bool.{eqb-true, eqb-false, eq-eqb, ne_eqb, leb-true, le-leb, ltb-true, lt-ltb, not-true, not_from_false, and_parts, and_from, or_cases, cases_Bool}
+use Rattle.std.specs.Int.{w16, w32, to_be_bytes, bytes_high_first}
+use Rattle.std.proofs.lemmas.Bool.{eqb-true, eqb-false, ne_eqb, leb-true, le-leb, ltb-true, lt-ltb, not-true, not_from_false, and_parts, and_from, or_cases, cases_Bool}
 use Rattle.ds_base.specs.declared.names.Place.{Place}
 use Rattle.ds_base.specs.Ids.{IsTable}
 use Rattle.ds_base.specs.Values.{IsValue}

@@ -1,16 +1,16 @@
 -- Whole records: what is read is their spelling, their spelling is read again, and a front of it is not whole.
 use Rattle.std.proofs.Common.{lit<, lit≤, ◌≡◌, ℕ, ◌+◌, ◌-◌, ◌^◌, ◌<◌, ◌≤◌, Bool, true, false, not, cond, List, [], ◌∷◌, ◌++◌, length, Option, Some, None, Result, Ok, Err, take, drop, refl, sym, ap, subst, ◌∙◌, append_assoc, arith, inl, inr}
-use Rattle.std.specs.Prelude.{IfOk, ◌≢◌, ◌==◌, nat_le, nat_lt, ◌&&◌}
+use Rattle.std.specs.Prelude.{IfOk, ◌≢◌, ◌==◌, nat_le, nat_lt}
 use Rattle.std.specs.Int.{w32, to_be_bytes, bytes_high_first}
 use Rattle.std.proofs.Math.Seq.{take-add}
-use Rattle.std.proofs.lemmas.Bool.{cases_lt, cases_Bool, eqb-true, eqb-false, eq-eqb, ne_eqb, leb-true, le-leb, ltb-false, lt-ltb, le-ltb, not-true, not-false, not_from_false, and_parts, and_from}
-use Rattle.std.proofs.lemmas.List.{append-nil, drop-take, length-append, length-take, length-drop, take-take, take-append-drop, take_at, drop_at, nil_from_length}
+use Rattle.std.proofs.lemmas.Bool.{cases_lt, cases_Bool, eqb-true, eq-eqb, leb-true, le-leb, ltb-false, lt-ltb, le-ltb, not-false, and_parts, and_from}
+use Rattle.std.proofs.lemmas.List.{append-nil, length-append, length-take, length-drop, take-take, take-append-drop, take_at, drop_at, nil_from_length}
 use Rattle.byteorder.specs.Endian.{big_number}
 use Rattle.byteorder.specs.Numbers.{big_from-take, big_number-reads_back}
 use Rattle.ds_model.specs.declared.log.LogRecord.{LogRecord}
 use Rattle.ds_model.specs.declared.log.Body.{Body}
 use Rattle.ds_model.specs.declared.log.Body.TheVariants as body
-use Rattle.ds_model.specs.RecordBytes.{state_bytes, change_bytes, kind_of, body_bytes, length_of, lrsn_bytes, record_bytes, StateIsAllowed, ChangeIsAllowed, BodyIsAllowed, IsAllowed}
+use Rattle.ds_model.specs.RecordBytes.{state_bytes, kind_of, body_bytes, length_of, lrsn_bytes, record_bytes, StateIsAllowed, BodyIsAllowed, IsAllowed}
 use Rattle.log_record.specs.declared.fault.RecordFault.{RecordFault}
 use Rattle.log_record.specs.declared.fault.RecordFault.TheVariants as fault
 use Rattle.log_record.specs.declared.kind.Kind.{Kind}

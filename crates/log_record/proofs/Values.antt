@@ -1,5 +1,5 @@
 -- The test of a value's bytes, and what a value is.
-use Rattle.std.proofs.Common.{◌≡◌, ◌↔◌, ℕ, ◌≤◌, Bool, true, false, ◌&&◌, List, length, All, refl, arith}
+use Rattle.std.proofs.Common.{◌≡◌, ℕ, ◌≤◌, true, false, List, length, refl}
 use Rattle.std.specs.Prelude.{nat_le}
 use Rattle.std.specs.Bool.{Decides}
 use Rattle.std.specs.List.{list_all}

@@ -7,14 +7,9 @@ ghost use Rattle.log_record.specs.Reading.{Gives};
 
 use crate::fault::RecordFault;
 use crate::kind::Kind;
+use crate::layout::{SLOTS, VERSION};
 use byteorder::{BigEndian, ByteOrder};
 use ds_base::{Key, LRSN_WIDTH, Lrsn, Place, TableId};
-
-/// The version of the records' layout.
-const VERSION: u8 = 1;
-
-/// The slots of a page.
-const SLOTS: u16 = 31;
 
 /// So many bytes from this offset on.
 pub fn bytes_at(fields: &[u8], at: usize, width: usize) -> Result<&[u8], RecordFault>

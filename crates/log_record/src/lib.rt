@@ -11,6 +11,7 @@ mod fault;
 mod field;
 mod kind;
 mod laws;
+mod layout;
 mod put;
 mod read;
 mod state;

@@ -10,10 +10,16 @@ use std::alloc::Global;
 const PHASES: u32 = 10;
 
 /// The phase and the member that fails in it, at one of its commits.
-const FAILURE: Seat = Seat { phase: 4, member: 2 };
+const FAILURE: Seat = Seat {
+    phase: 4,
+    member: 2,
+};
 
 /// The phase and the member that restarts in it.
-const RESTART: Seat = Seat { phase: 6, member: 2 };
+const RESTART: Seat = Seat {
+    phase: 6,
+    member: 2,
+};
 
 #[tactic(auto, unfolding(crate::specs::Made::part_from))]
 fn draw_part(alloc: Global, generator: &mut Generator, seat: Seat) -> Result<Part, NoMemory>

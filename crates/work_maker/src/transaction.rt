@@ -58,7 +58,11 @@ fn draw_tran(
 }
 
 /// The transactions of a part.
-pub fn draw_trans(alloc: Global, generator: &mut Generator, seat: Seat) -> Result<TranList, NoMemory>
+pub fn draw_trans(
+    alloc: Global,
+    generator: &mut Generator,
+    seat: Seat,
+) -> Result<TranList, NoMemory>
     requires phase { (1 ≤ seat.phase) × (seat.phase ≤ 10) }
     requires member { (1 ≤ seat.member) × (seat.member ≤ 4) }
     ensures { IfOk result (λ trans. series (tran_from seat.phase seat.member) trans_per_part 1 generator.old ≡ (trans, generator.new)) }

@@ -1,4 +1,4 @@
-use Rattle.std.proofs.Common.{◌≡◌, ◌+◌, Ok, refl, sym, ap}
+use Rattle.std.proofs.Common.{refl}
 use Rattle.log_record.specs.Fields.{field_at}
 use Rattle.log_record.proofs.Values.{value_true}
 use Rattle.log_record.proofs.state.value_at.Goals as goal
