@@ -1,5 +1,6 @@
 -- A series grows at its end as a loop makes it.
-use Rattle.std.proofs.Common.{◌≡◌, ℕ, zero, suc, ◌+◌, List, [], ◌∷◌, ◌++◌, refl, sym, ap, ◌∙◌, add-one, add-zero, arith}
+use Rattle.std.proofs.Common.{◌≡◌, ℕ, zero, suc, ◌+◌, ◌<◌, ◌≤◌, List, [], ◌∷◌, ◌++◌, length, refl, sym, ap, ◌∙◌, add-one, add-zero, arith}
+use Rattle.std.specs.List.{flat_map, AllByRecursion}
 use Rattle.work_maker.specs.Made.{series}
 
 -- one more behind the others
@@ -31,3 +32,23 @@ pub step : {X : Type 0} (make : ℕ → ℕ → X × ℕ) (count number x place 
 step make count number x place items state item next p s m =
     let q : make (number + count) state ≡ (item, next) = ap (λ (k : ℕ). make k state) (sym p) ∙ m in
     rw (add-one, series_suc make count number x, s, q) refl
+
+pub length_series : {X : Type 0} (make : ℕ → ℕ → X × ℕ) (count number x : ℕ) → length (series make count number x).0 ≡ count
+unfolding series
+length_series make zero number x = refl
+length_series make (suc c) number x = ap suc (length_series make c (number + 1) (make number x).1)
+
+-- what holds of each thing that is made holds of all of them
+pub series_all : {X : Type 0} (P : X → Type 0) (make : ℕ → ℕ → X × ℕ) (count number x : ℕ) → ((k y : ℕ) → number ≤ k → k < number + count → P (make k y).0) → AllByRecursion P (series make count number x).0
+unfolding series
+series_all P make zero number x h = tt
+series_all P make (suc c) number x h =
+    (h number x (omega arith) (omega arith), series_all P make c (number + 1) (make number x).1 (λ k y a b. h k y (omega arith) (omega arith)))
+
+pub all_weaker : {X : Type 0} (P Q : X → Type 0) → ((x : X) → P x → Q x) → (xs : List X) → AllByRecursion P xs → AllByRecursion Q xs
+all_weaker P Q f [] h = tt
+all_weaker P Q f (x ∷ xs) h = (f x h.0, all_weaker P Q f xs h.1)
+
+pub flat_none : {X A : Type 0} (f : X → List A) (xs : List X) → AllByRecursion (λ x. f x ≡ []) xs → flat_map f xs ≡ []
+flat_none f [] h = refl
+flat_none f (x ∷ xs) h = let rest = flat_none f xs h.1 in rw (h.0, rest) refl

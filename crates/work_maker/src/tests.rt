@@ -49,5 +49,6 @@ fn the_first_transaction_of_number_0(rt: HostRuntime) -> Result<(), Fail> {
     assert_eq!(rt; tran.number, 1);
     assert_eq!(rt; tran.ops.len(), 4);
     assert!(rt; tran.wait);
+    assert!(rt; matches!(tran.ops.as_slice().first(), Some(Op::Get { key: 236, .. })));
     Ok(())
 }

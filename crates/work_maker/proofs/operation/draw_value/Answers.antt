@@ -1,4 +1,4 @@
-use Rattle.std.proofs.Common.{refl, ◌≡◌, ◌++◌, List, ℕ, codes, decimal, subst, sym, ap, ◌∙◌, arith}
+use Rattle.std.proofs.Common.{refl, ◌≡◌, subst, sym, arith}
 use Rattle.ds_base.specs.Values.{IsValue}
 use Rattle.work_maker.specs.Made.{value_of}
 use Rattle.work_maker.proofs.Texts.{value_allowed}
