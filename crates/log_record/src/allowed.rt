@@ -1,11 +1,9 @@
 ghost use Rattle.std.specs.Prelude.{◌≢◌, ◌<◌, ◌↔◌, IsTrue};
 ghost use Rattle.ds_model.specs.RecordBytes.{StateIsAllowed, ChangeIsAllowed, IsAllowed, Fits};
 
+use crate::layout::SLOTS;
 use ds_base::{LRSN_END, VALUE_LIMIT, Value};
 use ds_model::{Body, LogRecord, RowChange};
-
-/// The slots of a page.
-const SLOTS: u16 = 31;
 
 fn state_is_allowed(state: &Option<Value>) -> bool
     ensures always { IsTrue result }

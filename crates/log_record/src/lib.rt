@@ -7,11 +7,21 @@
 #![tactic(auto)]
 
 mod allowed;
+mod fault;
+mod field;
+mod kind;
+mod laws;
+mod layout;
 mod put;
+mod read;
+mod state;
 mod write;
 
 pub use allowed::is_allowed;
 pub use ds_model::{Body, LogRecord, RecordList, RowChange};
+pub use fault::RecordFault;
+pub use laws::reading_laws;
+pub use read::read_record;
 pub use write::{put_record, record_length, records_bytes, write_record};
 
 #[cfg(test)]

@@ -4,13 +4,11 @@ ghost use Rattle.log_record.specs.Kept.{SameFrom};
 ghost use Rattle.ds_model.specs.RecordBytes.{state_bytes, row_bytes, change_bytes, body_bytes, record_bytes, log_bytes, IsAllowed, Fits};
 
 use crate::allowed::is_allowed;
+use crate::layout::VERSION;
 use crate::put::put;
 use ds_base::{Bytes, NoMemory, Value};
 use ds_model::{Body, LogRecord, RowChange};
 use std::alloc::Global;
-
-/// The version of the records' layout.
-const VERSION: u8 = 1;
 
 /// The most bytes that a record has.
 const LONGEST: usize = 241;

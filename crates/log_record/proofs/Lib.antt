@@ -1,0 +1,5 @@
+pub mod Values
+pub mod Numbers
+pub mod Steps
+pub mod Changes
+pub mod Records

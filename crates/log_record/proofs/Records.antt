@@ -1,0 +1,261 @@
+-- Whole records: what is read is their spelling, their spelling is read again, and a front of it is not whole.
+use Rattle.std.proofs.Common.{lit<, lit≤, ◌≡◌, ℕ, ◌+◌, ◌-◌, ◌^◌, ◌<◌, ◌≤◌, Bool, true, false, not, cond, List, [], ◌∷◌, ◌++◌, length, Option, Some, None, Result, Ok, Err, take, drop, refl, sym, ap, subst, ◌∙◌, append_assoc, arith, inl, inr}
+use Rattle.std.specs.Prelude.{IfOk, ◌≢◌, ◌==◌, nat_le, nat_lt}
+use Rattle.std.specs.Int.{w32, to_be_bytes, bytes_high_first}
+use Rattle.std.proofs.Math.Seq.{take-add}
+use Rattle.std.proofs.lemmas.Bool.{cases_lt, cases_Bool, eqb-true, eq-eqb, leb-true, le-leb, ltb-false, lt-ltb, le-ltb, not-false, and_parts, and_from}
+use Rattle.std.proofs.lemmas.List.{append-nil, length-append, length-take, length-drop, take-take, take-append-drop, take_at, drop_at, nil_from_length}
+use Rattle.byteorder.specs.Endian.{big_number}
+use Rattle.byteorder.specs.Numbers.{big_from-take, big_number-reads_back}
+use Rattle.ds_model.specs.declared.log.LogRecord.{LogRecord}
+use Rattle.ds_model.specs.declared.log.Body.{Body}
+use Rattle.ds_model.specs.declared.log.Body.TheVariants as body
+use Rattle.ds_model.specs.RecordBytes.{state_bytes, kind_of, body_bytes, length_of, lrsn_bytes, record_bytes, StateIsAllowed, BodyIsAllowed, IsAllowed}
+use Rattle.log_record.specs.declared.fault.RecordFault.{RecordFault}
+use Rattle.log_record.specs.declared.fault.RecordFault.TheVariants as fault
+use Rattle.log_record.specs.declared.kind.Kind.{Kind}
+use Rattle.log_record.specs.declared.kind.Kind.TheVariants as kind
+use Rattle.log_record.specs.Fields.{◌>>=◌, kind_of_number, has_tran, kind_at, version_at, lrsn_at, tran_at, change_at, body_at}
+use Rattle.log_record.specs.Reading.{fields_in, ends_at, whole_in, is_size, record_in, Found}
+use Rattle.log_record.proofs.Numbers.{IsBytes, IsBytes-take, IsBytes-drop, bytes_back, one_byte}
+use Rattle.log_record.proofs.Steps.{bind_ok, passed, ok_is, Takes, Takes-then, Takes-none, field_takes, number_takes, Left, Left-as, Reads, field_again, number_again}
+use Rattle.log_record.proofs.Changes.{not-zero, zero-not, change_takes, change_again}
+
+-- ---- kinds
+
+abbrev number_of : Kind → ℕ
+number_of kind.RowChange = 1
+number_of kind.Commit = 4
+
+number_is : (n : ℕ) (k : Kind) → kind_of_number n ≡ Some k → n ≡ number_of k
+number_is n k e =
+    elim (cases_Bool (n == 1)) [
+      | inl a ↦ let s : kind.RowChange ≡ k = let h = rw a at e in cc in subst (λ (z : Kind). n ≡ number_of z) s (eqb-true n 1 a)
+      | inr a ↦
+          let h = rw a at e in
+          elim (cases_Bool (n == 4)) [
+            | inl b ↦ let s : kind.Commit ≡ k = let g = rw b at h in cc in subst (λ (z : Kind). n ≡ number_of z) s (eqb-true n 4 b)
+            | inr b ↦ let g = rw b at h in absurd cc
+          ]
+    ]
+
+number_small : (k : Kind) → number_of k < 256
+number_small kind.RowChange = lit< tt
+number_small kind.Commit = lit< tt
+
+kind_takes : (fields : List ℕ) (at : ℕ) (k : Kind) (next : ℕ) → IsBytes fields → kind_at fields at ≡ Ok (k, next) → Takes fields at (number_of k ∷ []) next
+kind_takes fields at k next fits e =
+    let t = field_takes 1 (λ bytes. kind_of_number (big_number 1 bytes)) fields at k next fits e in
+    let n-is = number_is (big_number 1 t.text) k t.means in
+    let text-is : t.text ≡ bytes_high_first 1 (number_of k) = sym (bytes_back 1 t.text t.wide t.bytes) ∙ ap (bytes_high_first 1) n-is in
+    subst (λ (text : List ℕ). Takes fields at text next) (text-is ∙ one_byte (number_of k) (number_small k)) t.takes
+
+kind_again : (fields : List ℕ) (at : ℕ) (k : Kind) (rest : List ℕ) → Left fields at (number_of k ∷ rest) → Reads (kind_at fields at) k fields rest
+kind_again fields at kind.RowChange rest l = field_again 1 (λ bytes. kind_of_number (big_number 1 bytes)) fields at (1 ∷ []) rest kind.RowChange refl refl l
+kind_again fields at kind.Commit rest l = field_again 1 (λ bytes. kind_of_number (big_number 1 bytes)) fields at (4 ∷ []) rest kind.Commit refl refl l
+
+-- ---- bodies
+
+body_takes : (k : Kind) (fields : List ℕ) (at : ℕ) (b : Body) (next : ℕ) → IsBytes fields → at ≤ length fields → body_at k fields at ≡ Ok (b, next) → Takes fields at (body_bytes b) next × (number_of k ≡ kind_of b) × BodyIsAllowed b
+unfolding body_at
+body_takes kind.RowChange fields at b next fits le e =
+    let c = bind_ok (change_at fields at) (λ change. Ok (body.RowChange change.0, change.1)) (b, next) e in
+    let t = change_takes fields at c.0.0 c.0.1 fits c.1 in
+    subst (λ (z : Body × ℕ). Takes fields at (body_bytes z.0) z.1 × (1 ≡ kind_of z.0) × BodyIsAllowed z.0) (ok_is (body.RowChange c.0.0, c.0.1) (b, next) c.2) (t.0, refl, t.1)
+body_takes kind.Commit fields at b next fits le e =
+    subst (λ (z : Body × ℕ). Takes fields at (body_bytes z.0) z.1 × (4 ≡ kind_of z.0) × BodyIsAllowed z.0) (ok_is (body.Commit, at) (b, next) e) (Takes-none fields at le, refl, tt)
+
+abbrev kind_for : Body → Kind
+kind_for (body.RowChange c) = kind.RowChange
+kind_for body.Commit = kind.Commit
+
+kind_for-is : (b : Body) → number_of (kind_for b) ≡ kind_of b
+kind_for-is (body.RowChange c) = refl
+kind_for-is body.Commit = refl
+
+body_again : (fields : List ℕ) (at : ℕ) (b : Body) (rest : List ℕ) → BodyIsAllowed b → Left fields at (body_bytes b ++ rest) → Reads (body_at (kind_for b) fields at) b fields rest
+unfolding body_at
+body_again fields at (body.RowChange c) rest h l =
+    let a = change_again fields at c rest h l in
+    record { next = a.next; is = rw a.is refl; left = a.left }
+body_again fields at body.Commit rest h l = record { next = at; is = refl; left = l }
+
+-- ---- from the kind to the body
+
+abbrev middle : LogRecord → List ℕ
+middle r = kind_of r.body ∷ 1 ∷ lrsn_bytes r.lrsn ++ lrsn_bytes r.tran ++ body_bytes r.body
+
+tran_some : (k : Kind) (n : ℕ) → (cond (has_tran k) (not (n == 0)) (n == 0)) ≡ true → n ≢ 0
+tran_some kind.RowChange n e = not-zero n e
+tran_some kind.Commit n e = not-zero n e
+
+tran_ok : (k : Kind) (n : ℕ) → n ≢ 0 → (cond (has_tran k) (not (n == 0)) (n == 0)) ≡ true
+tran_ok kind.RowChange n h = zero-not n h
+tran_ok kind.Commit n h = zero-not n h
+
+fields_takes : (fields : List ℕ) (r : LogRecord) (next : ℕ) → IsBytes fields → fields_in fields ≡ Ok (r, next) → Takes fields 4 (middle r) next × IsAllowed r
+unfolding fields_in
+fields_takes fields r next fits e =
+    let k = bind_ok (kind_at fields 4) (λ kind. version_at fields kind.1 >>= λ version. lrsn_at fields version.1 >>= λ lrsn. tran_at kind.0 fields lrsn.1 >>= λ tran. body_at kind.0 fields tran.1 >>= λ body. Ok (record { lrsn = lrsn.0; tran = tran.0; body = body.0 }, body.1)) (r, next) e in
+    let v = bind_ok (version_at fields k.0.1) (λ version. lrsn_at fields version.1 >>= λ lrsn. tran_at k.0.0 fields lrsn.1 >>= λ tran. body_at k.0.0 fields tran.1 >>= λ body. Ok (record { lrsn = lrsn.0; tran = tran.0; body = body.0 }, body.1)) (r, next) k.2 in
+    let l = bind_ok (lrsn_at fields v.0.1) (λ lrsn. tran_at k.0.0 fields lrsn.1 >>= λ tran. body_at k.0.0 fields tran.1 >>= λ body. Ok (record { lrsn = lrsn.0; tran = tran.0; body = body.0 }, body.1)) (r, next) v.2 in
+    let t = bind_ok (tran_at k.0.0 fields l.0.1) (λ tran. body_at k.0.0 fields tran.1 >>= λ body. Ok (record { lrsn = l.0.0; tran = tran.0; body = body.0 }, body.1)) (r, next) l.2 in
+    let b = bind_ok (body_at k.0.0 fields t.0.1) (λ body. Ok (record { lrsn = l.0.0; tran = t.0.0; body = body.0 }, body.1)) (r, next) t.2 in
+    let kind_t = kind_takes fields 4 k.0.0 k.0.1 fits k.1 in
+    let version_t = number_takes 1 (λ n. n == 1) fields k.0.1 v.0.0 v.0.1 fits v.1 in
+    let lrsn_t = number_takes 6 (λ n. true) fields v.0.1 l.0.0 l.0.1 fits l.1 in
+    let tran_t = number_takes 6 (λ n. cond (has_tran k.0.0) (not (n == 0)) (n == 0)) fields l.0.1 t.0.0 t.0.1 fits t.1 in
+    let body_t = body_takes k.0.0 fields t.0.1 b.0.0 b.0.1 fits tran_t.0.within b.1 in
+    let made : LogRecord = record { lrsn = l.0.0; tran = t.0.0; body = b.0.0 } in
+    let one : Takes fields k.0.1 (1 ∷ []) v.0.1 = subst (λ (n : ℕ). Takes fields k.0.1 (bytes_high_first 1 n) v.0.1) (eqb-true _ _ version_t.2) version_t.0 in
+    let first : Takes fields 4 (kind_of b.0.0 ∷ []) k.0.1 = subst (λ (n : ℕ). Takes fields 4 (n ∷ []) k.0.1) body_t.1 kind_t in
+    let head : Takes fields 4 (kind_of b.0.0 ∷ 1 ∷ []) v.0.1 = Takes-then fields 4 (kind_of b.0.0 ∷ []) k.0.1 (1 ∷ []) v.0.1 first one in
+    let numbered : Takes fields 4 (kind_of b.0.0 ∷ 1 ∷ lrsn_bytes l.0.0) l.0.1 = Takes-then fields 4 (kind_of b.0.0 ∷ 1 ∷ []) v.0.1 (lrsn_bytes l.0.0) l.0.1 head lrsn_t.0 in
+    let owned = Takes-then fields 4 (kind_of b.0.0 ∷ 1 ∷ lrsn_bytes l.0.0) l.0.1 (lrsn_bytes t.0.0) t.0.1 numbered tran_t.0 in
+    let whole : Takes fields 4 (middle made) b.0.1 = Takes-then fields 4 (kind_of b.0.0 ∷ 1 ∷ lrsn_bytes l.0.0 ++ lrsn_bytes t.0.0) t.0.1 (body_bytes b.0.0) b.0.1 owned body_t.0 in
+    let allowed : IsAllowed made = record { lrsn_in = lrsn_t.1; tran_some = tran_some k.0.0 t.0.0 tran_t.2; tran_in = tran_t.1; body_is = body_t.2 } in
+    subst (λ (z : LogRecord × ℕ). Takes fields 4 (middle z.0) z.1 × IsAllowed z.0) (ok_is (made, b.0.1) (r, next) b.2) (whole, allowed)
+
+fields_again : (fields : List ℕ) (r : LogRecord) → IsAllowed r → Left fields 4 (middle r) → Reads (fields_in fields) r fields []
+unfolding fields_in
+fields_again fields r h l =
+    let k = kind_for r.body in
+    let rest = body_bytes r.body ++ [] in
+    let no_more : body_bytes r.body ≡ rest = sym (append-nil (body_bytes r.body)) in
+    let begins : middle r ≡ number_of k ∷ 1 ∷ (lrsn_bytes r.lrsn ++ (lrsn_bytes r.tran ++ rest)) =
+    ap (λ (n : ℕ). n ∷ 1 ∷ (lrsn_bytes r.lrsn ++ (lrsn_bytes r.tran ++ body_bytes r.body))) (sym (kind_for-is r.body))
+    ∙ ap (λ (x : List ℕ). number_of k ∷ 1 ∷ (lrsn_bytes r.lrsn ++ (lrsn_bytes r.tran ++ x))) no_more in
+    let a = kind_again fields 4 k (1 ∷ (lrsn_bytes r.lrsn ++ (lrsn_bytes r.tran ++ rest))) (Left-as fields 4 _ _ begins l) in
+    let v = number_again 1 (λ n. n == 1) fields a.next 1 (lrsn_bytes r.lrsn ++ (lrsn_bytes r.tran ++ rest)) (lit< tt) refl a.left in
+    let n = number_again 6 (λ n. true) fields v.next r.lrsn (lrsn_bytes r.tran ++ rest) h.lrsn_in refl v.left in
+    let t = number_again 6 (λ n. cond (has_tran k) (not (n == 0)) (n == 0)) fields n.next r.tran rest h.tran_in (tran_ok k r.tran h.tran_some) n.left in
+    let b = body_again fields t.next r.body [] h.body_is t.left in
+    record { next = b.next; is = rw (a.is, v.is, n.is, t.is, b.is) refl; left = b.left }
+
+-- ---- the whole record
+
+ended : (bytes : List ℕ) (size at : ℕ) → ends_at bytes size at ≡ true → (at ≡ size - 4) × (big_number 4 (drop (size - 4) bytes) ≡ size)
+ended bytes size at e = let p = and_parts (at == size - 4) (big_number 4 (drop (size - 4) bytes) == size) e in (eqb-true _ _ p.0, eqb-true _ _ p.1)
+
+-- the four bytes at the front are those of their number
+front_back : (bytes : List ℕ) (n : ℕ) → IsBytes bytes → 4 ≤ length bytes → big_number 4 bytes ≡ n → take 4 bytes ≡ to_be_bytes w32 n
+front_back bytes n fits le is =
+    let same : big_number 4 (take 4 bytes) ≡ n = big_from-take 0 4 4 bytes (lit≤ tt) ∙ is in
+    sym (bytes_back 4 (take 4 bytes) (omega (arith, length-take 4 bytes)) (IsBytes-take 4 bytes fits)) ∙ ap (bytes_high_first 4) same
+
+whole_length : (r : LogRecord) → length (record_bytes r) ≡ length_of r.body
+unfolding record_bytes
+whole_length r = omega (arith, length-append (body_bytes r.body) (to_be_bytes w32 (length_of r.body)))
+
+whole_parts : (r : LogRecord) (rest : List ℕ) → record_bytes r ++ rest ≡ (to_be_bytes w32 (length_of r.body) ++ middle r) ++ (to_be_bytes w32 (length_of r.body) ++ rest)
+unfolding record_bytes
+whole_parts r rest = append_assoc (to_be_bytes w32 (length_of r.body) ++ middle r) (to_be_bytes w32 (length_of r.body)) rest
+
+whole_takes : (bytes : List ℕ) (size : ℕ) (r : LogRecord) (n : ℕ) → IsBytes bytes → 22 ≤ size → size ≤ length bytes → big_number 4 bytes ≡ size → whole_in bytes size ≡ Ok (r, n) → Found bytes r n
+unfolding whole_in record_bytes
+whole_takes bytes size r n fits long within first e =
+    let fields = take (size - 4) bytes in
+    let f = bind_ok (fields_in fields) (λ found. cond (ends_at bytes size found.1) (Ok (found.0, size)) (Err (fault.Bad found.1))) (r, n) e in
+    let p = passed (ends_at bytes size f.0.1) (fault.Bad f.0.1) (f.0.0, size) (r, n) f.2 in
+    let end = ended bytes size f.0.1 p.0 in
+    let t = fields_takes fields f.0.0 f.0.1 (IsBytes-take (size - 4) bytes fits) f.1 in
+    let count : length fields ≡ size - 4 = omega (arith, length-take (size - 4) bytes) in
+    let nothing : drop f.0.1 fields ≡ [] = nil_from_length (drop f.0.1 fields) (omega (arith, length-drop f.0.1 fields, end.0, count)) in
+    let body-is : drop 4 fields ≡ middle f.0.0 = t.0.parts ∙ ap (λ (x : List ℕ). middle f.0.0 ++ x) nothing ∙ append-nil (middle f.0.0) in
+    let size-is : size ≡ length_of f.0.0.body = omega (arith, t.0.ends, end.0) in
+    let spelled_size : to_be_bytes w32 size ≡ to_be_bytes w32 (length_of f.0.0.body) = ap (to_be_bytes w32) size-is in
+    let front : take 4 fields ≡ to_be_bytes w32 (length_of f.0.0.body) = take-take 4 (size - 4) bytes (omega arith) ∙ front_back bytes size fits (omega arith) first ∙ spelled_size in
+    let tail : take 4 (drop (size - 4) bytes) ≡ to_be_bytes w32 (length_of f.0.0.body) = front_back (drop (size - 4) bytes) size (IsBytes-drop (size - 4) bytes fits) (omega (arith, length-drop (size - 4) bytes)) end.1 ∙ spelled_size in
+    let cut : (size - 4) + 4 ≡ size = omega arith in
+    let whole : take size bytes ≡ record_bytes f.0.0 =
+    ap (λ (k : ℕ). take k bytes) (sym cut) ∙ take-add (size - 4) 4 bytes
+    ∙ ap (λ (x : List ℕ). x ++ take 4 (drop (size - 4) bytes)) (sym (take-append-drop 4 fields))
+    ∙ ap (λ (x : List ℕ). (take 4 fields ++ x) ++ take 4 (drop (size - 4) bytes)) body-is
+    ∙ ap (λ (x : List ℕ). (x ++ middle f.0.0) ++ take 4 (drop (size - 4) bytes)) front
+    ∙ ap (λ (x : List ℕ). (to_be_bytes w32 (length_of f.0.0.body) ++ middle f.0.0) ++ x) tail in
+    subst (λ (z : LogRecord × ℕ). Found bytes z.0 z.1) p.1 (record { long = long; within = within; spelled = whole; allowed = t.1 })
+
+otherwise : {A : Type 0} (b : Bool) (d : RecordFault) (z : Result A RecordFault) (y : A) → cond b (Err d) z ≡ Ok y → (b ≡ false) × (z ≡ Ok y)
+otherwise true d z y e = absurd cc
+otherwise false d z y e = (refl, e)
+
+-- what is read is a spelling
+pub record_takes : (bytes : List ℕ) (r : LogRecord) (n : ℕ) → IsBytes bytes → record_in bytes ≡ Ok (r, n) → Found bytes r n
+unfolding record_in
+record_takes bytes r n fits e =
+    let size = big_number 4 bytes in
+    let a = otherwise (nat_lt (length bytes) 4) fault.NotWhole _ (r, n) e in
+    let b = otherwise (not (is_size size)) (fault.Bad 0) _ (r, n) a.1 in
+    let c = otherwise (nat_lt (length bytes) size) fault.NotWhole (whole_in bytes size) (r, n) b.1 in
+    let s = and_parts (nat_le 22 size) (nat_le size 16384) (not-false (is_size size) b.0) in
+    whole_takes bytes size r n fits (leb-true _ _ s.0) (ltb-false _ _ c.0) refl c.1
+
+-- ---- what is spelled
+
+state_short : (o : Option (List ℕ)) → StateIsAllowed o → length (state_bytes o) ≤ 102
+state_short None h = lit≤ tt
+state_short (Some v) h = omega (arith, h.0)
+
+body_short : (b : Body) → BodyIsAllowed b → length (body_bytes b) ≤ 219
+body_short (body.RowChange c) h = omega (arith, state_short c.before h.before_is, state_short c.after h.after_is, length-append (state_bytes c.before) (state_bytes c.after))
+body_short body.Commit h = lit≤ tt
+
+whole_again : (r : LogRecord) (rest : List ℕ) → IsAllowed r → whole_in (record_bytes r ++ rest) (length_of r.body) ≡ Ok (r, length_of r.body)
+unfolding whole_in
+whole_again r rest h =
+    let n = length_of r.body in
+    let bytes = record_bytes r ++ rest in
+    let front = to_be_bytes w32 n ++ middle r in
+    let back = to_be_bytes w32 n ++ rest in
+    let wide : length front ≡ n - 4 = omega arith in
+    let fields-is : take (n - 4) bytes ≡ front = ap (take (n - 4)) (whole_parts r rest) ∙ take_at front back (n - 4) wide in
+    let tail-is : drop (n - 4) bytes ≡ back = ap (drop (n - 4)) (whole_parts r rest) ∙ drop_at front back (n - 4) wide in
+    let a = fields_again front r h (record { within = omega arith; is = refl }) in
+    let end : a.next ≡ n - 4 = omega (arith, a.left.within, length-drop a.next front, ap length a.left.is, wide) in
+    let small : n < 256 ^ 4 = omega (arith, body_short r.body h.body_is) in
+    let again : big_number 4 back ≡ n = big_number-reads_back 4 n rest small in
+    let ok : ends_at bytes n a.next ≡ true = and_from (a.next == n - 4) (big_number 4 (drop (n - 4) bytes) == n) (eq-eqb _ _ end) (eq-eqb _ _ (ap (big_number 4) tail-is ∙ again)) in
+    rw (fields-is, a.is, ok) refl
+
+-- the number at the front of a spelling is its length
+spelled_size : (r : LogRecord) (rest : List ℕ) → IsAllowed r → big_number 4 (record_bytes r ++ rest) ≡ length_of r.body
+spelled_size r rest h =
+    let n = length_of r.body in
+    let small : n < 256 ^ 4 = omega (arith, body_short r.body h.body_is) in
+    let e : record_bytes r ++ rest ≡ to_be_bytes w32 n ++ (middle r ++ (to_be_bytes w32 n ++ rest)) = whole_parts r rest ∙ append_assoc (to_be_bytes w32 n) (middle r) (to_be_bytes w32 n ++ rest) in
+    ap (big_number 4) e ∙ big_number-reads_back 4 n (middle r ++ (to_be_bytes w32 n ++ rest)) small
+
+allowed_size : (r : LogRecord) → IsAllowed r → is_size (length_of r.body) ≡ true
+allowed_size r h = and_from (nat_le 22 (length_of r.body)) (nat_le (length_of r.body) 16384) (le-leb _ _ (omega arith)) (le-leb _ _ (omega (arith, body_short r.body h.body_is)))
+
+-- what is spelled is read, whatever follows it
+pub record_again : (r : LogRecord) (rest : List ℕ) → IsAllowed r → record_in (record_bytes r ++ rest) ≡ Ok (r, length (record_bytes r))
+unfolding record_in
+record_again r rest h =
+    let bytes = record_bytes r ++ rest in
+    let n = length_of r.body in
+    let len : length bytes ≡ n + length rest = omega (arith, length-append (record_bytes r) rest, whole_length r) in
+    let not_few : nat_lt (length bytes) 4 ≡ false = le-ltb _ _ (omega (arith, len)) in
+    let size : big_number 4 bytes ≡ n = spelled_size r rest h in
+    let not_cut : nat_lt (length bytes) n ≡ false = le-ltb _ _ (omega (arith, len)) in
+    rw (not_few, size, allowed_size r h, not_cut, whole_again r rest h, whole_length r) refl
+
+-- a front of a spelling is not whole
+pub record_cut : (r : LogRecord) (n : ℕ) → IsAllowed r → n < length (record_bytes r) → record_in (take n (record_bytes r)) ≡ Err fault.NotWhole
+unfolding record_in
+record_cut r n h lt =
+    let bytes = take n (record_bytes r) in
+    let len : length bytes ≡ n = omega (arith, length-take n (record_bytes r)) in
+    elim (cases_lt n 4) [
+      | inl few ↦ let is_few : nat_lt (length bytes) 4 ≡ true = lt-ltb _ _ (omega (arith, len)) in rw is_few refl
+      | inr enough ↦
+          let not_few : nat_lt (length bytes) 4 ≡ false = le-ltb _ _ (omega (arith, len)) in
+          let size : big_number 4 bytes ≡ length_of r.body =
+          big_from-take 0 4 n (record_bytes r) enough ∙ ap (big_number 4) (sym (append-nil (record_bytes r))) ∙ spelled_size r [] h in
+          let is_cut : nat_lt (length bytes) (length_of r.body) ≡ true = lt-ltb _ _ (omega (arith, len, whole_length r)) in
+          rw (not_few, size, allowed_size r h, is_cut) refl
+    ]
+
+pub is_found : (bytes : List ℕ) (result : Result (LogRecord × ℕ) RecordFault) → IsBytes bytes → result ≡ record_in bytes → IfOk result (λ found. Found bytes found.0 found.1)
+is_found bytes (Ok found) fits e = record_takes bytes found.0 found.1 fits (sym e)
+is_found bytes (Err fault) fits e = tt

@@ -1,0 +1,148 @@
+//! The fields of log records. Each is read at an offset of the record without its last 4 bytes, and answers the offset
+//! behind it.
+
+ghost use Rattle.std.specs.Prelude.{◌≡◌, ◌+◌, ◌≤◌, length, OnOk, IfOk};
+ghost use Rattle.log_record.specs.Fields.{bytes_at, kind_of_number, has_tran, kind_at, version_at, lrsn_at, tran_at, table_at, key_at, page_at, slot_at, place_at};
+ghost use Rattle.log_record.specs.Reading.{Gives};
+
+use crate::fault::RecordFault;
+use crate::kind::Kind;
+use crate::layout::{SLOTS, VERSION};
+use byteorder::{BigEndian, ByteOrder};
+use ds_base::{Key, LRSN_WIDTH, Lrsn, Place, TableId};
+
+/// So many bytes from this offset on.
+pub fn bytes_at(fields: &[u8], at: usize, width: usize) -> Result<&[u8], RecordFault>
+    ensures exact { Gives (λ bytes. bytes.now) result (bytes_at width fields.now at) }
+    ensures whole { IfOk result (λ bytes. length bytes.now ≡ width) }
+    ensures within { OnOk result (at + width ≤ length fields.now) }
+{
+    if fields.len() < at || fields.len() - at < width {
+        return Err(RecordFault::Bad { at });
+    }
+    Ok(&fields[at..at + width])
+}
+
+impl Kind {
+    fn of_number(number: u8) -> Option<Kind>
+        ensures { result ≡ kind_of_number number }
+    {
+        match number {
+            1 => Some(Kind::RowChange),
+            4 => Some(Kind::Commit),
+            _ => None,
+        }
+    }
+
+    // Whether a record of the kind belongs to a transaction.
+    fn has_tran(self) -> bool
+        ensures { result ≡ has_tran self }
+    {
+        match self {
+            Kind::RowChange | Kind::Commit => true,
+        }
+    }
+}
+
+#[tactic(auto, unfolding(crate::specs::Fields::field_at))]
+pub fn kind_at(fields: &[u8], at: usize) -> Result<(Kind, usize), RecordFault>
+    ensures { result ≡ kind_at fields.now at }
+{
+    let bytes = bytes_at(fields, at, 1)?;
+    match Kind::of_number(bytes[0]) {
+        Some(kind) => Ok((kind, at + 1)),
+        None => Err(RecordFault::Bad { at }),
+    }
+}
+
+#[tactic(auto, unfolding(crate::specs::Fields::field_at))]
+pub fn version_at(fields: &[u8], at: usize) -> Result<(u8, usize), RecordFault>
+    ensures { result ≡ version_at fields.now at }
+{
+    let version = bytes_at(fields, at, 1)?[0];
+    if version == VERSION {
+        Ok((version, at + 1))
+    } else {
+        Err(RecordFault::Bad { at })
+    }
+}
+
+#[tactic(auto, unfolding(crate::specs::Fields::field_at))]
+pub fn lrsn_at(fields: &[u8], at: usize) -> Result<(Lrsn, usize), RecordFault>
+    ensures { result ≡ lrsn_at fields.now at }
+{
+    let width = LRSN_WIDTH as usize;
+    let bytes = bytes_at(fields, at, width)?;
+    let number = u64::from_be_bytes([
+        0, 0, bytes[0], bytes[1], bytes[2], bytes[3], bytes[4], bytes[5],
+    ]);
+    let Some(lrsn) = Lrsn::new(number) else {
+        unreachable!()
+    };
+    Ok((lrsn, at + width))
+}
+
+/// The transaction of a record of the kind.
+#[tactic(auto, unfolding(crate::specs::Fields::field_at))]
+pub fn tran_at(kind: Kind, fields: &[u8], at: usize) -> Result<(Lrsn, usize), RecordFault>
+    ensures { result ≡ tran_at kind fields.now at }
+{
+    let (tran, next) = lrsn_at(fields, at)?;
+    if kind.has_tran() == (tran.number() != 0) {
+        Ok((tran, next))
+    } else {
+        Err(RecordFault::Bad { at })
+    }
+}
+
+#[tactic(auto, unfolding(crate::specs::Fields::field_at))]
+pub fn table_at(fields: &[u8], at: usize) -> Result<(TableId, usize), RecordFault>
+    ensures { result ≡ table_at fields.now at }
+{
+    let bytes = bytes_at(fields, at, 1)?;
+    match TableId::new(bytes[0] as u64) {
+        Some(table) => Ok((table, at + 1)),
+        None => Err(RecordFault::Bad { at }),
+    }
+}
+
+#[tactic(auto, unfolding(crate::specs::Fields::field_at))]
+pub fn key_at(fields: &[u8], at: usize) -> Result<(Key, usize), RecordFault>
+    ensures { result ≡ key_at fields.now at }
+{
+    let bytes = bytes_at(fields, at, 8)?;
+    Ok((BigEndian::read_u64(bytes), at + 8))
+}
+
+#[tactic(auto, unfolding(crate::specs::Fields::field_at))]
+fn page_at(fields: &[u8], at: usize) -> Result<(u32, usize), RecordFault>
+    ensures { result ≡ page_at fields.now at }
+{
+    let page = BigEndian::read_u32(bytes_at(fields, at, 4)?);
+    if page == 0 {
+        Err(RecordFault::Bad { at })
+    } else {
+        Ok((page, at + 4))
+    }
+}
+
+#[tactic(auto, unfolding(crate::specs::Fields::field_at))]
+fn slot_at(fields: &[u8], at: usize) -> Result<(u16, usize), RecordFault>
+    ensures { result ≡ slot_at fields.now at }
+{
+    let slot = BigEndian::read_u16(bytes_at(fields, at, 2)?);
+    if slot < SLOTS {
+        Ok((slot, at + 2))
+    } else {
+        Err(RecordFault::Bad { at })
+    }
+}
+
+#[tactic(auto, unfolding(crate::specs::Fields::place_at))]
+pub fn place_at(fields: &[u8], at: usize) -> Result<(Place, usize), RecordFault>
+    ensures { result ≡ place_at fields.now at }
+{
+    let (page, at) = page_at(fields, at)?;
+    let (slot, at) = slot_at(fields, at)?;
+    Ok((Place { page, slot }, at))
+}

@@ -1,0 +1,4 @@
+pub mod Series
+pub mod Texts
+pub mod Trans
+pub mod Scripts
