@@ -32,7 +32,8 @@ fn write(rows: &mut SpotMap<Value>, changes: &mut Vec<Change>, op: &Op) -> Resul
         Op::Put { table, key, value } => {
             let before = rows.get(table, key);
             changes.push(Change { table, key, before })?;
-            rows.insert(table, key, value)
+            rows.insert(table, key, value)?;
+            Ok(())
         }
         Op::Del { table, key } => {
             let before = rows.get(table, key);
