@@ -51,9 +51,9 @@ later e es n s = record { at = suc s.at; below = omega arith; is = s.is }
 stands : (es : List Entry) (n : ℕ) → has_committed es n ≡ true → Stands es n
 stands [] n h = absurd (cc)
 stands (e ∷ es) n h = elim (e.tran.number == n) as (λ b. (e.tran.number == n) ≡ b → Stands (e ∷ es) n) [
-    | true ↦ λ is. record { at = 0; below = omega arith; is = grind (arith, nat_tests) }
-    | false ↦ λ not. later e es n (stands es n (grind arith))
-  ] refl
+  | true ↦ λ is. record { at = 0; below = omega arith; is = grind (arith, nat_tests) }
+  | false ↦ λ not. later e es n (stands es n (grind arith))
+] refl
 
 -- none has this number
 lacking : (es : List Entry) (n : ℕ) → has_number es n ≡ false → (i : ℕ) → i < length es → get_or (numbers es) i 0 ≡ n → ⊥
@@ -128,25 +128,26 @@ module _ (es : List Entry) (places : List ℕ) (room capacity : ℕ) (p : IsPlac
   at_place n at h read =
       let s = stands es n h in
       let known = place_of n s in
-      let here : at ≡ s.at = read ∙ get_or_default places n at 0 known.0 ∙ known.1 in
-      (omega (arith, here, s.below),
-       only_one es at n (omega (arith, here, s.below)) (ap (λ k. get_or (numbers es) k 0) here ∙ s.is)
-         (λ i low has. sym (p.found i low) ∙ ap (λ k. get_or places k 0) has ∙ known.1 ∙ sym here))
+      let here : at ≡ s.at = read ∙ get_or_default places n at 0 known.0 ∙ known.1 in (
+        omega (arith, here, s.below),
+        only_one es at n (omega (arith, here, s.below)) (ap (λ k. get_or (numbers es) k 0) here ∙ s.is)
+            (λ i low has. sym (p.found i low) ∙ ap (λ k. get_or places k 0) has ∙ known.1 ∙ sym here),
+      )
 
   pub kept_answer : (at : ℕ) → IsPlaced (answer_at es at) places room capacity
   kept_answer at = record {
-      few = omega (arith, p.few, length-answer_at es at);
-      kept = p.kept;
-      a_place_each = p.a_place_each;
-      within = λ i below. subst (λ (ns : List ℕ). get_or ns i 0 ≤ room) (sym (numbers-answer_at es at)) (p.within i (omega (arith, length-answer_at es at)));
-      found = λ i below. subst (λ (ns : List ℕ). get_or places (get_or ns i 0) 0 ≡ i) (sym (numbers-answer_at es at)) (p.found i (omega (arith, length-answer_at es at)));
-    }
+    few = omega (arith, p.few, length-answer_at es at);
+    kept = p.kept;
+    a_place_each = p.a_place_each;
+    within = λ i below. subst (λ (ns : List ℕ). get_or ns i 0 ≤ room) (sym (numbers-answer_at es at)) (p.within i (omega (arith, length-answer_at es at)));
+    found = λ i below. subst (λ (ns : List ℕ). get_or places (get_or ns i 0) 0 ≡ i) (sym (numbers-answer_at es at)) (p.found i (omega (arith, length-answer_at es at)));
+  }
 
   pub kept_push : (e : Entry) → length es < room → e.tran.number ≤ room → has_number es e.tran.number ≡ false → IsPlaced (es ++ e ∷ []) (set places e.tran.number (length es)) room capacity
   kept_push e low number new = record {
-      few = omega (arith, length_push es e);
-      kept = p.kept;
-      a_place_each = length-set places e.tran.number (length es) ∙ p.a_place_each;
-      within = λ i below. within_push es e i room p.within number (omega (arith, below, length_push es e));
-      found = λ i below. found_push es e i places p.found (omega (arith, number, p.a_place_each)) (lacking es e.tran.number new) (omega (arith, below, length_push es e));
-    }
+    few = omega (arith, length_push es e);
+    kept = p.kept;
+    a_place_each = length-set places e.tran.number (length es) ∙ p.a_place_each;
+    within = λ i below. within_push es e i room p.within number (omega (arith, below, length_push es e));
+    found = λ i below. found_push es e i places p.found (omega (arith, number, p.a_place_each)) (lacking es e.tran.number new) (omega (arith, below, length_push es e));
+  }

@@ -9,7 +9,8 @@ use std::marker::Model;
 
 /// The transactions of a run with their fates, in order.
 ///
-/// A transaction is found by its number, 1 to the most entries that there may be, without a search.
+/// A transaction is found by its number without a search. So no number is above the most entries that
+/// there may be, and none stands twice.
 #[derive(Drop)]
 pub struct History {
     entries: Vec<Entry>,
@@ -57,7 +58,7 @@ impl History {
     /// Adds an entry at the end. Takes no memory.
     pub fn push(&mut self, entry: Entry)
         requires room { length self.old.entries < self.old.room }
-        requires number { (1 ≤ entry.tran.number) × (entry.tran.number ≤ self.old.room) }
+        requires number { entry.tran.number ≤ self.old.room }
         requires new { has_number self.old.entries entry.tran.number ≡ false }
         ensures { self.new ≡ record { entries = self.old.entries ++ entry ∷ []; room = self.old.room } }
     {

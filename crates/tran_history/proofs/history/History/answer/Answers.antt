@@ -24,8 +24,8 @@ invariant_of-self c =
     let now : c.mark_answered.new.entries ≡ answer_at es c.index.result.now = c.mark_answered.ensures ∙ ap (λ xs. answer_at xs c.index.result.now) c.deref_mut.ensures.value in
     let long : length c.mark_answered.new.entries ≡ c.self.inside.entries.len = ap length now ∙ length-answer_at es c.index.result.now ∙ sym c.self.inside.entries.ok.0 in
     subst (λ xs. IsPlaced xs c.self.inside.places.items c.self.inside.room c.self.inside.entries.cap)
-      (sym (with_items_is c.self.inside.entries c.mark_answered.new.entries long ∙ now))
-      (kept_answer _ _ _ _ c.self.invariant c.index.result.now)
+    (sym (with_items_is c.self.inside.entries c.mark_answered.new.entries long ∙ now))
+    (kept_answer _ _ _ _ c.self.invariant c.index.result.now)
 
 pub returns : goal.returns
 returns c =
