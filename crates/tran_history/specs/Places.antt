@@ -1,5 +1,5 @@
 -- Where the entries of a history stand.
-use Rattle.std.specs.Prelude.{◌≡◌, ℕ, zero, suc, ◌+◌, ◌≤◌, ◌<◌, ◌^◌, List, [], ◌∷◌, map, length, slice_index}
+use Rattle.std.specs.Prelude.{◌≡◌, ℕ, zero, suc, ◌+◌, ◌≤◌, ◌<◌, List, [], ◌∷◌, map, length, slice_index}
 use Rattle.ds_model.specs.declared.history.Entry.{Entry}
 use Rattle.tran_history.specs.Histories.{answered_entry}
 

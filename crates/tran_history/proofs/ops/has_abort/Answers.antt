@@ -1,8 +1,7 @@
-use Rattle.std.proofs.Common.{◌≡◌, ◌∙◌, rules}
+use Rattle.std.proofs.Common.{◌∙◌, rules}
 use borrow.Author.Tests.{tests}
 use Rattle.std.proofs.lemmas.Iterator.{YieldsList-from_slice}
 use Rattle.std.proofs.lemmas.Iterator.Search.{any_from_yields_List}
-use Rattle.ds_model.specs.declared.script.Op.{Op}
 use Rattle.ds_model.specs.Effect.{is_abort}
 use Rattle.tran_history.proofs.Aborting.{any_aborts}
 use Rattle.tran_history.proofs.ops.has_abort.Goals as goal

@@ -1,4 +1,4 @@
-use Rattle.std.proofs.Common.{◌∙◌, ap, refl}
+use Rattle.std.proofs.Common.{◌∙◌, ap}
 use Rattle.tran_history.specs.Changes.{undone}
 use Rattle.tran_history.proofs.Undone.{noted_put, noted_del}
 use Rattle.tran_history.proofs.ops.write.Goals as goal
