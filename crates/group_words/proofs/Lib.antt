@@ -1,3 +1,2 @@
 mod Ranges
-mod Behind
 mod Pairs

@@ -3,8 +3,9 @@ ghost use Rattle.group_words.specs.Options.{are_allowed};
 ghost use Rattle.group_words.specs.Orders as spec;
 ghost use Rattle.group_words.specs.declared.order.WordsFault.TheVariants as faults;
 
-use crate::given::{Given, are_allowed, given_of, number_for, number_given, suit_work};
+use crate::given::{Given, are_allowed, number_for, number_given, suit_work};
 use crate::order::{Order, WordsFault};
+use crate::parsed::given_once;
 use crate::setting::Setting;
 use ds_base::Sizes;
 use number_text::number_of;
@@ -31,7 +32,7 @@ fn play_order(alloc: Global, words: &[String]) -> Result<Order, WordsFault>
     ensures refused { IfErr result (λ fault. fault ≡ faults.Refused → spec.play_order (spec.texts words.now) ≡ None) }
     ensures memory { IfErr result (λ fault. fault ≡ faults.NoMemory → 1 ≤ length words.now) }
 {
-    let given = given_of(alloc, words)?;
+    let given = given_once(alloc, words)?;
     if !are_allowed(&given) {
         return Err(WordsFault::Refused);
     }
@@ -68,7 +69,7 @@ fn work_with(alloc: Global, n: u64, words: &[String]) -> Result<Order, WordsFaul
     ensures refused { IfErr result (λ fault. fault ≡ faults.Refused → spec.work_given n (spec.texts words.now) ≡ None) }
     ensures memory { IfErr result (λ fault. fault ≡ faults.NoMemory → 1 ≤ length words.now) }
 {
-    let given = given_of(alloc, words)?;
+    let given = given_once(alloc, words)?;
     if are_allowed(&given) && suit_work(&given) {
         Ok(Order::Work {
             n,
