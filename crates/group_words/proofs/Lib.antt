@@ -1,2 +1,5 @@
 mod Ranges
 mod Pairs
+mod Walked
+mod Rows
+mod Table

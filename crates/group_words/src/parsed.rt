@@ -69,16 +69,18 @@ fn with_number(setting: Setting, text: &str) -> Option<Given>
 }
 
 // Whether the words gave the option of this name.
+#[tactic(auto, using(crate::proofs::Rows::source_by_rows, crate::proofs::Table::named_numbered))]
 fn is_by_words(matches: &ArgMatches<'_>, name: &str) -> bool
     ensures { result ≡ spec.is_by_words (spec.source_of name.now (rows_of (found_of matches.now))) }
 {
     match matches.value_source(name) {
         Some(ValueSource::CommandLine) => true,
-        _ => false,
+        Some(ValueSource::DefaultValue) | None => false,
     }
 }
 
 // The option of this name, by the value that was found.
+#[tactic(auto, using(crate::proofs::Rows::first_by_rows))]
 fn option_in(matches: &ArgMatches<'_>, name: &str) -> Option<Given>
     ensures { result ≡ spec.option_in (rows_of (found_of matches.now)) name.now }
 {
