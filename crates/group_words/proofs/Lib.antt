@@ -1,5 +1,7 @@
 mod Ranges
+mod Steps
 mod Pairs
 mod Walked
 mod Rows
 mod Table
+mod Ties

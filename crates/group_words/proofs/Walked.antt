@@ -88,7 +88,7 @@ held rows pending = record { rows = rows; pending = pending; skip = 0 }
 abbrev pub at : Held → Waiting → Walk
 at h waiting = record { held = h; waiting = waiting; position = 1; is_trailing = false; stopped = None }
 
-same_text : (name : Text) → bytes_eq name name ≡ true
+pub same_text : (name : Text) → bytes_eq name name ≡ true
 same_text name = (bytes_eq-Decides name name).1 refl
 
 -- ---- the same, read word by word

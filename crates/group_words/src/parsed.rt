@@ -69,7 +69,7 @@ fn with_number(setting: Setting, text: &str) -> Option<Given>
 }
 
 // Whether the words gave the option of this name.
-#[tactic(auto, using(crate::proofs::Rows::source_by_rows, crate::proofs::Table::named_numbered))]
+#[tactic(auto, using(crate::proofs::Rows::source_by_rows))]
 fn is_by_words(matches: &ArgMatches<'_>, name: &str) -> bool
     ensures { result ≡ spec.is_by_words (spec.source_of name.now (rows_of (found_of matches.now))) }
 {
