@@ -5,7 +5,10 @@ use Rattle.std.specs.Prelude.{slice_get}
 use Rattle.std.specs.List.{list_all, list_any, position, position_or_len}
 use Rattle.std.proofs.lemmas.Slice.Eq.{bytes_eq-Decides}
 use Rattle.clap.specs.Lexer.{long_of, is_long_word, name_and_value, strip_byte, long_of_rest}
-use Rattle.clap.specs.Walk.{Row, Text, first_of, has_row, with_default}
+use Rattle.clap.specs.Values.{reading_of}
+use Rattle.clap.specs.Walk.{Row, Text, first_of, has_row, more_values, with_default}
+use Rattle.clap.specs.declared.builder.value_parser.ValueParser.TheVariants as vp
+use Rattle.clap.specs.declared.parser.matches.ValueSource.TheVariants.{DefaultValue}
 use Rattle.number_text.specs.Numbers.{number_of}
 use Rattle.group_words.specs.Parsed.{before_more, if_once, is_by_words, is_well_formed, option_in, options_in, parsed, source_of}
 use Rattle.group_words.specs.Options.{are_once, given_as, in_one_word, is_for, joined, rule_of, setting_of, with_number}
@@ -137,7 +140,7 @@ hyphen_first (x ∷ xs) rest e = go (x == 45) refl
   where
     go : (b : Bool) → (x == 45) ≡ b → x ∷ xs ≡ 45 ∷ rest
     go true f =
-        let is : x ≡ 45 = omega arith in
+        let is : x ≡ 45 = grind arith in
         let some : Some xs ≡ Some rest = rw f at e in
         let same : xs ≡ rest = ap (λ o. unwrap_or o xs) some in
         rw (is, same) refl
@@ -155,11 +158,14 @@ hyphens : (word : Text) (p : Text × Option Text) → (o : Option Text) → stri
 hyphens word p None is e = absurd cc
 hyphens word p (Some a) is e = second word a p (hyphen_first word a is) (strip_byte 45 a) refl e
 
+seen_does : (word : Text) (p : Text × Option Text) (rest : Text) → word ≡ 45 ∷ 45 ∷ rest → name_and_value rest ≡ p → step_of None word ≡ does p.0 p.1
+seen_does word p rest is same = rw (is, ← same) (hyphened_does rest (list_any (λ (x : ℕ). x == 61) rest) refl)
+
 -- a word that clap takes for the name of an option, with its value or without
 word_does : (word : Text) (p : Text × Option Text) → long_of word ≡ Some p → step_of None word ≡ does p.0 p.1
 word_does word p e =
     let view = hyphens word p (strip_byte 45 word) refl e in
-    rw (view.1, ← view.2) (hyphened_does view.0 (list_any (λ (x : ℕ). x == 61) view.0) refl)
+    seen_does word p view.0 view.1 view.2
 
 -- such a word is no number
 long_no_number : (word : Text) (p : Text × Option Text) → long_of word ≡ Some p → number_of word ≡ None
@@ -182,3 +188,248 @@ word_stray (x ∷ xs) e = go (x == 45) refl
     go false f =
         let other : (45 == x) ≡ false = grind arith in
         rw (other, f, no_hyphen_joined x xs other (position (λ (b : ℕ). b == 61) (x ∷ xs)) refl) refl
+
+-- ---- rows and options
+
+-- the option of a row
+abbrev pub given_by : Row → Option Given
+given_by x = if bytes_eq x.id trace then Some (given_as 1 Trace) else option_and_then (λ s. option_and_then (with_number s) (slice_get x.values 0)) (named x.id)
+
+abbrev pub numbers : List Row → Option (List Given)
+numbers [] = Some []
+numbers (x ∷ xs) = before_more (given_by x) (numbers xs)
+
+-- the rows came by words
+abbrev pub are_by_words : List Row → Bool
+are_by_words rows = list_all (λ x. is_by_words x.source) rows
+
+-- no two rows have one name
+abbrev pub are_apart : List Row → Bool
+are_apart [] = true
+are_apart (x ∷ xs) = not (has_row x.id xs) && are_apart xs
+
+has_row_behind : (name : Text) (xs ys : List Row) → has_row name (xs ++ ys) ≡ (has_row name xs || has_row name ys)
+has_row_behind name [] ys = refl
+has_row_behind name (x ∷ xs) ys = go (bytes_eq x.id name) (has_row_behind name xs ys)
+  where
+    go : (b : Bool) → has_row name (xs ++ ys) ≡ (has_row name xs || has_row name ys) → (b || has_row name (xs ++ ys)) ≡ ((b || has_row name xs) || has_row name ys)
+    go true e = refl
+    go false e = e
+
+apart_behind : (xs : List Row) (y : Row) → are_apart xs ≡ true → has_row y.id xs ≡ false → are_apart (xs ++ y ∷ []) ≡ true
+apart_behind [] y apart none = refl
+apart_behind (x ∷ xs) y apart none = go (bytes_eq x.id y.id) refl (has_row x.id xs) refl (apart_behind xs y)
+  where
+    go : (b : Bool) → bytes_eq x.id y.id ≡ b → (h : Bool) → has_row x.id xs ≡ h → (are_apart xs ≡ true → has_row y.id xs ≡ false → are_apart (xs ++ y ∷ []) ≡ true) → are_apart ((x ∷ xs) ++ y ∷ []) ≡ true
+    go true e h f more = let bad : true ≡ false = rw e at none in absurd cc
+    go false e true f more = let bad : false ≡ true = rw f at apart in absurd cc
+    go false e false f more =
+        let rest : are_apart xs ≡ true = rw f at apart in
+        let none_behind : has_row y.id xs ≡ false = rw e at none in
+        rw (has_row_behind x.id xs (y ∷ []), f, swapped x.id y.id false e) (more rest none_behind)
+
+by_words_behind : (xs : List Row) (y : Row) → are_by_words xs ≡ true → is_by_words y.source ≡ true → are_by_words (xs ++ y ∷ []) ≡ true
+by_words_behind [] y words is = rw is refl
+by_words_behind (x ∷ xs) y words is =
+    let each = both (is_by_words x.source) (are_by_words xs) words in
+    rw (each.0, by_words_behind xs y each.1 is) refl
+
+-- ---- the options of rows, found by their names
+
+other_name : (x : Row) (xs ys : List Row) → has_row x.id ys ≡ false → options_in (x ∷ xs) (map (λ r. r.id) ys) ≡ options_in xs (map (λ r. r.id) ys)
+other_name x xs [] none = refl
+other_name x xs (y ∷ ys) none = go (bytes_eq y.id x.id) refl (other_name x xs ys)
+  where
+    go : (b : Bool) → bytes_eq y.id x.id ≡ b → (has_row x.id ys ≡ false → options_in (x ∷ xs) (map (λ r. r.id) ys) ≡ options_in xs (map (λ r. r.id) ys)) → options_in (x ∷ xs) (map (λ r. r.id) (y ∷ ys)) ≡ options_in xs (map (λ r. r.id) (y ∷ ys))
+    go true e more = let bad : true ≡ false = rw e at none in absurd cc
+    go false e more =
+        let rest : has_row x.id ys ≡ false = rw e at none in
+        rw (swapped y.id x.id false e, more rest) refl
+
+-- the options of the rows that came by words
+abbrev pub numbers_by_words : List Row → Option (List Given)
+numbers_by_words [] = Some []
+numbers_by_words (x ∷ xs) = if is_by_words x.source then before_more (given_by x) (numbers_by_words xs) else numbers_by_words xs
+
+parsed_apart : (rows : List Row) → are_apart rows ≡ true → parsed rows ≡ numbers_by_words rows
+parsed_apart [] apart = refl
+parsed_apart (x ∷ xs) apart = go (has_row x.id xs) refl (parsed_apart xs)
+  where
+    go : (h : Bool) → has_row x.id xs ≡ h → (are_apart xs ≡ true → parsed xs ≡ numbers_by_words xs) → parsed (x ∷ xs) ≡ numbers_by_words (x ∷ xs)
+    go true f more = let bad : false ≡ true = rw f at apart in absurd cc
+    go false f more =
+        let rest : are_apart xs ≡ true = rw f at apart in
+        rw (same_text x.id, other_name x xs xs f, more rest) refl
+
+-- clap's own row is none of the words
+default_unseen : (rows : List Row) (y : Row) → is_by_words y.source ≡ false → are_by_words rows ≡ true → numbers_by_words (rows ++ y ∷ []) ≡ numbers rows
+default_unseen [] y is words = rw is refl
+default_unseen (x ∷ xs) y is words =
+    let each = both (is_by_words x.source) (are_by_words xs) words in
+    rw (each.0, default_unseen xs y is each.1) refl
+
+all_seen : (rows : List Row) → are_by_words rows ≡ true → numbers_by_words rows ≡ numbers rows
+all_seen [] words = refl
+all_seen (x ∷ xs) words =
+    let each = both (is_by_words x.source) (are_by_words xs) words in
+    rw (each.0, all_seen xs each.1) refl
+
+-- the options that are found among the rows and clap's own
+abbrev pub found_in : List Row → Option (List Given)
+found_in rows = parsed (with_default rows built_trace)
+
+-- clap's row of `--trace` where the words do not give it
+abbrev default_row : Row
+default_row = record { id = trace; values = codes "false" ∷ []; count = None; source = Some DefaultValue; reading = reading_of vp.Bool }
+
+found_numbers : (rows : List Row) → are_by_words rows ≡ true → are_apart rows ≡ true → (b : Bool) → has_row trace rows ≡ b → found_in rows ≡ numbers rows
+found_numbers rows words apart true e = rw e (parsed_apart rows apart ∙ all_seen rows words)
+found_numbers rows words apart false e =
+    rw (e, no_row_at trace (more_values DefaultValue (codes "false" ∷ [])) (default_row ∷ []) rows e)
+    (parsed_apart (rows ++ default_row ∷ []) (apart_behind rows default_row apart e) ∙ default_unseen rows default_row refl words)
+
+-- ---- options once
+
+named_by : (s : Setting) (name : Text) → named name ≡ Some s → (rule_of s).name ≡ 45 ∷ 45 ∷ name
+named_by s name e = named_is (45 ∷ 45 ∷ name) s e
+
+numbered_as : (s : Setting) (g : Given) (n : Option ℕ) → option_map (λ m. given_as m s) n ≡ Some g → g.setting ≡ s
+numbered_as s g None e = absurd cc
+numbered_as s g (Some m) e =
+    let same : given_as m s ≡ g = ap (λ o. unwrap_or o g) e in
+    rw (← same) refl
+
+valued_as : (s : Setting) (g : Given) (v : Option Text) → option_and_then (with_number s) v ≡ Some g → g.setting ≡ s
+valued_as s g None e = absurd cc
+valued_as s g (Some text) e = numbered_as s g (number_of text) e
+
+named_as : (x : Row) (g : Given) (o : Option Setting) → named x.id ≡ o → option_and_then (λ s. option_and_then (with_number s) (slice_get x.values 0)) o ≡ Some g → (rule_of g.setting).name ≡ 45 ∷ 45 ∷ x.id
+named_as x g None is e = absurd cc
+named_as x g (Some s) is e = rw (valued_as s g (slice_get x.values 0) e) (named_by s x.id is)
+
+-- the option of a row has its name
+given_named : (x : Row) (g : Given) → given_by x ≡ Some g → (rule_of g.setting).name ≡ 45 ∷ 45 ∷ x.id
+given_named x g e = go (bytes_eq x.id trace) refl
+  where
+    go : (b : Bool) → bytes_eq x.id trace ≡ b → (rule_of g.setting).name ≡ 45 ∷ 45 ∷ x.id
+    go true f =
+        let some : Some (given_as 1 Trace) ≡ Some g = rw f at e in
+        let same : given_as 1 Trace ≡ g = ap (λ o. unwrap_or o g) some in
+        let name : x.id ≡ trace = (bytes_eq-Decides x.id trace).0 f in
+        rw (← same, name) refl
+    go false f =
+        let rest : option_and_then (λ s. option_and_then (with_number s) (slice_get x.values 0)) (named x.id) ≡ Some g = rw f at e in
+        named_as x g (named x.id) refl rest
+
+-- an option stands among those of rows as its name does among theirs
+stands_as : (x : Row) (g : Given) → given_by x ≡ Some g → (rows : List Row) (d : List Given) → numbers rows ≡ Some d → list_any (is_for g.setting) d ≡ has_row x.id rows
+stands_as x g is [] d e =
+    let same : [] ≡ d = ap (λ o. unwrap_or o d) e in
+    rw (← same) refl
+stands_as x g is (y ∷ ys) d e = go (given_by y) refl (numbers ys) refl (stands_as x g is ys)
+  where
+    go : (o : Option Given) → given_by y ≡ o → (m : Option (List Given)) → numbers ys ≡ m → ((d : List Given) → numbers ys ≡ Some d → list_any (is_for g.setting) d ≡ has_row x.id ys) → list_any (is_for g.setting) d ≡ has_row x.id (y ∷ ys)
+    go None f m h more = let bad : None ≡ Some d = rw f at e in absurd cc
+    go (Some k) f None h more = let bad : None ≡ Some d = rw (f, h) at e in absurd cc
+    go (Some k) f (Some ks) h more =
+        let some : Some (k ∷ ks) ≡ Some d = rw (f, h) at e in
+        let same : k ∷ ks ≡ d = ap (λ o. unwrap_or o d) some in
+        rw (← same, given_named x g is, given_named y k f, swapped x.id y.id (bytes_eq x.id y.id) refl, more ks h) refl
+
+-- the options of rows of which no two have one name stand once
+stand_once : (rows : List Row) (d : List Given) → are_apart rows ≡ true → numbers rows ≡ Some d → are_once d ≡ true
+stand_once [] d apart e =
+    let same : [] ≡ d = ap (λ o. unwrap_or o d) e in
+    rw (← same) refl
+stand_once (x ∷ xs) d apart e = go (given_by x) refl (numbers xs) refl (has_row x.id xs) refl (stand_once xs)
+  where
+    go : (o : Option Given) → given_by x ≡ o → (m : Option (List Given)) → numbers xs ≡ m → (b : Bool) → has_row x.id xs ≡ b → ((d : List Given) → are_apart xs ≡ true → numbers xs ≡ Some d → are_once d ≡ true) → are_once d ≡ true
+    go None f m h b t more = let bad : None ≡ Some d = rw f at e in absurd cc
+    go (Some k) f None h b t more = let bad : None ≡ Some d = rw (f, h) at e in absurd cc
+    go (Some k) f (Some ks) h true t more = let bad : false ≡ true = rw t at apart in absurd cc
+    go (Some k) f (Some ks) h false t more =
+        let some : Some (k ∷ ks) ≡ Some d = rw (f, h) at e in
+        let same : k ∷ ks ≡ d = ap (λ o. unwrap_or o d) some in
+        let rest : are_apart xs ≡ true = rw t at apart in
+        rw (← same, stands_as x k f xs ks h, t) (more ks rest h)
+
+any_at : {X : Type 0} (p : X → Bool) (xs ys : List X) (y : X) → p y ≡ true → list_any p (xs ++ y ∷ ys) ≡ true
+any_at p [] ys y e = rw e refl
+any_at p (x ∷ xs) ys y e = go (p x) (any_at p xs ys y e)
+  where
+    go : (b : Bool) → list_any p (xs ++ y ∷ ys) ≡ true → (b || list_any p (xs ++ y ∷ ys)) ≡ true
+    go true more = refl
+    go false more = more
+
+-- options of which one stands already do not stand once
+twice : (d : List Given) (g : Given) (more : List Given) → list_any (is_for g.setting) d ≡ true → are_once (d ++ g ∷ more) ≡ false
+twice [] g more e = absurd cc
+twice (first ∷ rest) g more e = go (is_for g.setting first) refl (twice rest g more)
+  where
+    go : (b : Bool) → is_for g.setting first ≡ b → (list_any (is_for g.setting) rest ≡ true → are_once (rest ++ g ∷ more) ≡ false) → are_once ((first ∷ rest) ++ g ∷ more) ≡ false
+    go true f next =
+        let back : is_for first.setting g ≡ true = swapped (rule_of g.setting).name (rule_of first.setting).name true f in
+        rw (any_at (is_for first.setting) rest more g back) refl
+    go false f next =
+        let behind : list_any (is_for g.setting) rest ≡ true = rw f at e in
+        rw (next behind) (and_false (not (list_any (is_for first.setting) (rest ++ g ∷ more))))
+
+-- ---- the words behind those that were read
+
+abbrev behind : Option (List Given) → Option (List Given) → Option (List Given)
+behind done more = option_and_then (λ d. option_map (λ m. d ++ m) more) done
+
+abbrev pub full : Option (List Given) → Option (List Given) → Option (List Given)
+full done more = option_and_then if_once (behind done more)
+
+-- the options of the words behind those of rows
+abbrev pub Tied : List Text → Type 0
+Tied words = ((rows : List Row) → are_by_words rows ≡ true → are_apart rows ≡ true → option_and_then found_in (read numbered rows None words) ≡ full (numbers rows) (given_after None words))
+    × ((rows : List Row) → are_by_words rows ≡ true → are_apart rows ≡ true → (name : Text) (s : Setting) → named name ≡ Some s → option_and_then found_in (read numbered rows (Some name) words) ≡ full (numbers rows) (given_after (Some s) words))
+
+full_none : (done : Option (List Given)) → full done None ≡ None
+full_none None = refl
+full_none (Some d) = refl
+
+full_twice : (done : List Given) (g : Given) (more : Option (List Given)) → list_any (is_for g.setting) done ≡ true → full (Some done) (option_map (λ m. g ∷ m) more) ≡ None
+full_twice done g None e = refl
+full_twice done g (Some m) e = rw (twice done g m e) refl
+
+full_next : (done : Option (List Given)) (g : Given) (more : Option (List Given)) → full done (option_map (λ m. g ∷ m) more) ≡ full (option_map (λ d. d ++ g ∷ []) done) more
+full_next None g more = refl
+full_next (Some d) g None = refl
+full_next (Some d) g (Some m) = rw (append_assoc d (g ∷ []) m) refl
+
+numbers_behind : (rows : List Row) (x : Row) (g : Given) → given_by x ≡ Some g → numbers (rows ++ x ∷ []) ≡ option_map (λ d. d ++ g ∷ []) (numbers rows)
+numbers_behind [] x g e = rw e refl
+numbers_behind (y ∷ ys) x g e = rw (numbers_behind ys x g e) (go (given_by y) (numbers ys))
+  where
+    go : (o : Option Given) (m : Option (List Given)) → before_more o (option_map (λ d. d ++ g ∷ []) m) ≡ option_map (λ d. d ++ g ∷ []) (before_more o m)
+    go None m = refl
+    go (Some k) None = refl
+    go (Some k) (Some ks) = refl
+
+no_number_behind : (rows : List Row) (x : Row) → given_by x ≡ None → numbers (rows ++ x ∷ []) ≡ None
+no_number_behind [] x e = rw e refl
+no_number_behind (y ∷ ys) x e = rw (no_number_behind ys x e) (go (given_by y))
+  where
+    go : (o : Option Given) → before_more o None ≡ None
+    go None = refl
+    go (Some k) = refl
+
+-- a row more, and the words behind it
+put_tied : (words : List Text) → Tied words → (rows : List Row) → are_by_words rows ≡ true → are_apart rows ≡ true → (x : Row) → is_by_words x.source ≡ true → (o : Option Given) → given_by x ≡ o
+    → option_and_then found_in (put x rows (λ r. read numbered r None words)) ≡ full (numbers rows) (and_then (option_map Gives o) (λ next. given_after next words))
+put_tied words tied rows words_gave apart x by o is = go o is (has_row x.id rows) refl (numbers rows) refl
+  where
+    go : (o : Option Given) → given_by x ≡ o → (b : Bool) → has_row x.id rows ≡ b → (m : Option (List Given)) → numbers rows ≡ m
+        → option_and_then found_in (put x rows (λ r. read numbered r None words)) ≡ full (numbers rows) (and_then (option_map Gives o) (λ next. given_after next words))
+    go None f true t m h = rw t (sym (full_none (numbers rows)))
+    go None f false t m h =
+        rw t (tied.0 (rows ++ x ∷ []) (by_words_behind rows x words_gave by) (apart_behind rows x apart t) ∙ ap (λ d. full d (given_after None words)) (no_number_behind rows x f) ∙ sym (full_none (numbers rows)))
+    go (Some g) f true t None h = rw (t, h) refl
+    go (Some g) f true t (Some d) h =
+        let stands : list_any (is_for g.setting) d ≡ true = stands_as x g f rows d h ∙ t in
+        rw (t, h) (sym (full_twice d g (given_after None words) stands))
+    go (Some g) f false t m h =
+        rw t (tied.0 (rows ++ x ∷ []) (by_words_behind rows x words_gave by) (apart_behind rows x apart t) ∙ ap (λ d. full d (given_after None words)) (numbers_behind rows x g f) ∙ sym (full_next (numbers rows) g (given_after None words)))
