@@ -5,3 +5,4 @@ mod Walked
 mod Rows
 mod Table
 mod Ties
+mod Law

@@ -19,7 +19,7 @@ use Rattle.group_words.specs.declared.setting.Setting.TheVariants.{Members, Agen
 use Rattle.group_words.specs.declared.given.Given.{Given}
 use Rattle.group_words.proofs.Pairs.{found_meets, named_lacks}
 use Rattle.group_words.proofs.Table.{named, named_numbered, numbered}
-use Rattle.group_words.proofs.Walked.{begun, built_trace, flag_row, flagged, no_row_at, put, read, row, same_text, trace, valued}
+use Rattle.group_words.proofs.Walked.{begun, built_trace, flag_row, flagged, no_row_at, plain_hyphen, put, read, row, same_text, trace, valued}
 
 -- ---- texts
 
@@ -433,3 +433,76 @@ put_tied words tied rows words_gave apart x by o is = go o is (has_row x.id rows
         rw (t, h) (sym (full_twice d g (given_after None words) stands))
     go (Some g) f false t m h =
         rw t (tied.0 (rows ++ x ∷ []) (by_words_behind rows x words_gave by) (apart_behind rows x apart t) ∙ ap (λ d. full d (given_after None words)) (numbers_behind rows x g f) ∙ sym (full_next (numbers rows) g (given_after None words)))
+
+end_tied : (rows : List Row) → are_by_words rows ≡ true → are_apart rows ≡ true → found_in rows ≡ full (numbers rows) (Some [])
+end_tied rows words apart = found_numbers rows words apart (has_row trace rows) refl ∙ go (numbers rows) refl
+  where
+    go : (m : Option (List Given)) → numbers rows ≡ m → numbers rows ≡ full (numbers rows) (Some [])
+    go None h = rw h refl
+    go (Some d) h = rw (h, append-nil d, stand_once rows d apart h) refl
+
+named_some : (name : Text) → numbered name ≡ true → (o : Option Setting) → named name ≡ o → (s : Setting) × (named name ≡ Some s)
+named_some name e None is =
+    let none : is_some (named name) ≡ false = rw is refl in
+    let bad : false ≡ true = sym none ∙ (named_numbered name ∙ e) in
+    absurd cc
+named_some name e (Some s) is = (s, is)
+
+named_none : (name : Text) → numbered name ≡ false → (o : Option Setting) → named name ≡ o → named name ≡ None
+named_none name e None is = is
+named_none name e (Some s) is =
+    let some : is_some (named name) ≡ true = rw is refl in
+    let bad : true ≡ false = sym some ∙ (named_numbered name ∙ e) in
+    absurd cc
+
+named_not_trace : (name : Text) (s : Setting) → named name ≡ Some s → (b : Bool) → bytes_eq name trace ≡ b → bytes_eq name trace ≡ false
+named_not_trace name s is false e = e
+named_not_trace name s is true e =
+    let same : name ≡ trace = (bytes_eq-Decides name trace).0 e in
+    let bad : None ≡ Some s = rw same at is in
+    absurd cc
+
+row_gives : (name text : Text) (s : Setting) → named name ≡ Some s → given_by (row name (text ∷ [])) ≡ with_number s text
+row_gives name text s is = rw (named_not_trace name s is (bytes_eq name trace) refl, is) refl
+
+long_tied : (word : Text) (words : List Text) → Tied words → (rows : List Row) → are_by_words rows ≡ true → are_apart rows ≡ true → (name : Text) (value : Option Text) → (b : Bool) → numbered name ≡ b → (t : Bool) → bytes_eq trace name ≡ t
+    → option_and_then found_in (begun numbered (Some (name, value)) rows (λ r waiting. read numbered r waiting words)) ≡ full (numbers rows) (and_then (does name value) (λ next. given_after next words))
+long_tied word words tied rows by apart name None true n t f =
+    let s = named_some name n (named name) refl in
+    rw (n, s.1) (tied.1 rows by apart name s.0 s.1)
+long_tied word words tied rows by apart name (Some text) true n t f =
+    let s = named_some name n (named name) refl in
+    rw (n, s.1) (put_tied words tied rows by apart (row name (text ∷ [])) refl (with_number s.0 text) (row_gives name text s.0 s.1))
+long_tied word words tied rows by apart name None false n true f =
+    rw (n, named_none name n (named name) refl, f) (put_tied words tied rows by apart flag_row refl (Some (given_as 1 Trace)) refl)
+long_tied word words tied rows by apart name (Some text) false n true f =
+    rw (n, named_none name n (named name) refl, f) (sym (full_none (numbers rows)))
+long_tied word words tied rows by apart name None false n false f =
+    rw (n, named_none name n (named name) refl, f) (sym (full_none (numbers rows)))
+long_tied word words tied rows by apart name (Some text) false n false f =
+    rw (n, named_none name n (named name) refl, f) (sym (full_none (numbers rows)))
+
+idle_tied : (word : Text) (words : List Text) → is_well_formed word ≡ true → Tied words → (rows : List Row) → are_by_words rows ≡ true → are_apart rows ≡ true → (o : Option (Text × Option Text)) → long_of word ≡ o
+    → option_and_then found_in (read numbered rows None (word ∷ words)) ≡ full (numbers rows) (given_after None (word ∷ words))
+unfolding read given_after
+idle_tied word words formed tied rows by apart None is =
+    rw (word_stray word (plain_hyphen word formed is), is) (sym (full_none (numbers rows)))
+idle_tied word words formed tied rows by apart (Some p) is =
+    rw (word_does word p is, is) (long_tied word words tied rows by apart p.0 p.1 (numbered p.0) refl (bytes_eq trace p.0) refl)
+
+waiting_tied : (word : Text) (words : List Text) → Tied words → (rows : List Row) → are_by_words rows ≡ true → are_apart rows ≡ true → (name : Text) (s : Setting) → named name ≡ Some s → (o : Option (Text × Option Text)) → long_of word ≡ o
+    → option_and_then found_in (read numbered rows (Some name) (word ∷ words)) ≡ full (numbers rows) (given_after (Some s) (word ∷ words))
+unfolding read given_after
+waiting_tied word words tied rows by apart name s is None long =
+    rw long (put_tied words tied rows by apart (row name (word ∷ [])) refl (with_number s word) (row_gives name word s is))
+waiting_tied word words tied rows by apart name s is (Some p) long =
+    rw (long_no_number word p long, long) (sym (full_none (numbers rows)))
+
+-- what clap takes of well formed words are the options that the words give, each once
+pub tied : (words : List Text) → list_all is_well_formed words ≡ true → Tied words
+unfolding read given_after
+tied [] formed = ((λ rows by apart. end_tied rows by apart), (λ rows by apart name s is. sym (full_none (numbers rows))))
+tied (word ∷ words) formed =
+    let each = both (is_well_formed word) (list_all is_well_formed words) formed in
+    let more = tied words each.1 in
+    ((λ rows by apart. idle_tied word words each.0 more rows by apart (long_of word) refl), (λ rows by apart name s is. waiting_tied word words more rows by apart name s is (long_of word) refl))

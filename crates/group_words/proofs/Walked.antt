@@ -129,10 +129,14 @@ no_hyphen : (word : Text) (o : Option Text) → strip_byte 45 word ≡ o → (no
 no_hyphen word None is e = is
 no_hyphen word (Some rest) is e = absurd cc
 
+pub plain_hyphen : (word : Text) → is_well_formed word ≡ true → long_of word ≡ None → strip_byte 45 word ≡ None
+plain_hyphen word formed is =
+    let e : (not (is_some (strip_byte 45 word)) || false) ≡ true = rw is at formed in
+    no_hyphen word (strip_byte 45 word) refl e
+
 plain_word : (word : Text) → is_well_formed word ≡ true → long_of word ≡ None → (short_of word ≡ None) × (bytes_eq word (codes "--") ≡ false)
 plain_word word formed is =
-    let e : (not (is_some (strip_byte 45 word)) || false) ≡ true = rw is at formed in
-    let none : strip_byte 45 word ≡ None = no_hyphen word (strip_byte 45 word) refl e in
+    let none : strip_byte 45 word ≡ None = plain_hyphen word formed is in
     (rw none refl, go none (bytes_eq word (codes "--")) refl)
   where
     go : strip_byte 45 word ≡ None → (b : Bool) → bytes_eq word (codes "--") ≡ b → bytes_eq word (codes "--") ≡ false

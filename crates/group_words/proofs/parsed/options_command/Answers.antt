@@ -5,7 +5,7 @@ use Rattle.clap.specs.Simple.{Shape, app_of_fields, on_top}
 use Rattle.clap.specs.declared.builder.arg.Arg.{Arg}
 use Rattle.clap.specs.declared.builder.command.Command.{Command}
 use Rattle.group_words.specs.Parsed as spec
-use Rattle.group_words.proofs.Ties.{does}
+use Rattle.group_words.proofs.Law.{clap_gives}
 use Rattle.group_words.proofs.parsed.options_command.Goals as goal
 
 -- a command with one more argument
