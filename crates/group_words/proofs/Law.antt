@@ -1,7 +1,13 @@
 -- What clap makes of well formed words, and the options that they give.
-use Rattle.std.proofs.Common.{◌≡◌, ◌∙◌, ◌&&◌, Bool, true, false, refl, sym, ap, List, [], ◌∷◌, ◌++◌, Option, Some, None, option_map, option_and_then, is_some, map, fold}
+use Rattle.std.proofs.Common.{◌≡◌, ◌∙◌, ◌&&◌, Bool, true, false, refl, sym, ap, List, [], ◌∷◌, ◌++◌, Option, Some, None, option_map, option_and_then, is_some, map, fold, ◌⊎◌, inl, inr}
 use Rattle.std.specs.List.{list_all}
-use Rattle.clap.specs.Kinds.{Kinds, or_else}
+use Rattle.clap.specs.Kinds.{IsAmong, Kinds, or_else}
+use Rattle.clap.specs.Words.{HasMatchesOf, found_of, rows_of}
+use Rattle.clap.specs.declared.error.kind.ErrorKind.{ErrorKind}
+use Rattle.clap.specs.declared.error.kind.ErrorKind.TheVariants.{OutOfMemory}
+use Rattle.clap.specs.declared.parser.matches.ArgMatches.{ArgMatches}
+use Rattle.group_words.specs.Faults.{fault_by}
+use Rattle.group_words.specs.declared.order.WordsFault.TheVariants.{NoMemory, Refused}
 use Rattle.clap.specs.Walk.{Row, Rule, Text, Walk, nothing_held, settled, walk, walk_from, walked, with_default}
 use Rattle.clap.specs.Simple.{built, entered, is_simple, matches_of}
 use Rattle.clap.specs.Faults.{defaults_fault, entered_fault, fault_of, is_simple_and_free, level_fault, settle_fault, turn_fault, walk_fault}
@@ -73,3 +79,21 @@ is_simple_command = refl
 
 pub is_free_command : is_simple_and_free options_command ≡ true
 is_free_command = refl
+
+-- a parse that clap takes found the options that the words give
+pub takes : (m : ArgMatches) (words : List Text) → list_all is_well_formed words ≡ true → fault_of options_command words ≡ [] → HasMatchesOf options_command words m → parsed (rows_of (found_of m)) ≡ given_once words
+takes m words formed none has =
+    ap parsed (has is_simple_command).0 ∙ (sym (ap (λ f. gate f (parsed (matches_of options_command words))) none) ∙ clap_gives words formed)
+
+-- words that clap refuses give none
+pub refuses : (kind : ErrorKind) (words : List Text) → list_all is_well_formed words ≡ true → (kind ≡ OutOfMemory) ⊎ IsAmong kind (fault_of options_command words) → fault_by kind ≡ Refused → given_once words ≡ None
+refuses kind words formed has refused = go has (fault_of options_command words) refl
+  where
+    go : (kind ≡ OutOfMemory) ⊎ IsAmong kind (fault_of options_command words) → (f : Kinds) → fault_of options_command words ≡ f → given_once words ≡ None
+    go (inl memory) f is =
+        let bad : NoMemory ≡ Refused = rw memory at refused in
+        absurd cc
+    go (inr among) [] is =
+        let bad : IsAmong kind [] = rw is at among in
+        absurd bad
+    go (inr among) (k ∷ ks) is = sym (clap_gives words formed) ∙ ap (λ f. gate f (parsed (matches_of options_command words))) is

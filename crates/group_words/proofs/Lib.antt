@@ -6,3 +6,4 @@ mod Rows
 mod Table
 mod Ties
 mod Law
+mod Found
