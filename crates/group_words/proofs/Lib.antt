@@ -7,3 +7,4 @@ mod Table
 mod Ties
 mod Law
 mod Found
+mod Formed

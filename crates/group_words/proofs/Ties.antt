@@ -47,7 +47,7 @@ both false b e = absurd cc
 -- ---- what words do by definition
 
 -- a word with a hyphen is no number
-hyphen_no_number : (rest : Text) → number_of (45 ∷ rest) ≡ None
+pub hyphen_no_number : (rest : Text) → number_of (45 ∷ rest) ≡ None
 hyphen_no_number rest = go (nat_le 1 (length (45 ∷ rest))) refl (nat_le (length (45 ∷ rest)) 20) refl
   where
     go : (a : Bool) → nat_le 1 (length (45 ∷ rest)) ≡ a → (b : Bool) → nat_le (length (45 ∷ rest)) 20 ≡ b → number_of (45 ∷ rest) ≡ None
@@ -134,7 +134,7 @@ hyphened_does : (rest : Text) (b : Bool) → list_any (λ (x : ℕ). x == 61) re
 hyphened_does rest true e = rw e (does_signed rest e (bytes_eq rest trace) refl)
 hyphened_does rest false e = rw (e, whole_before (λ x. x == 61) rest e) (does_unsigned rest e (named rest) refl (bytes_eq rest trace) refl)
 
-hyphen_first : (word rest : Text) → strip_byte 45 word ≡ Some rest → word ≡ 45 ∷ rest
+pub hyphen_first : (word rest : Text) → strip_byte 45 word ≡ Some rest → word ≡ 45 ∷ rest
 hyphen_first [] rest e = absurd cc
 hyphen_first (x ∷ xs) rest e = go (x == 45) refl
   where

@@ -3,7 +3,6 @@
 ghost use Rattle.std.specs.Prelude.{◌≡◌, Some, None, true, false, IfOk, IfErr, ◌≤◌, length};
 ghost use Rattle.std.specs.List.{list_all};
 ghost use Rattle.clap.specs.Words.{app_of, found_of, rows_of, rule_of};
-ghost use Rattle.std.specs.String.{string_bytes};
 ghost use Rattle.group_words.specs.Options as options;
 ghost use Rattle.group_words.specs.Parsed as spec;
 ghost use Rattle.group_words.specs.Orders.{texts};
@@ -51,14 +50,26 @@ fn options_command<'a>(alloc: Global) -> Result<Command<'a>, AllocError>
 }
 
 // The word begins with `--` and a name, or with no hyphen.
-fn is_well_formed(word: &String) -> bool
-    ensures { result ≡ spec.is_well_formed (string_bytes word.now) }
+fn is_well_formed(word: &[u8]) -> bool
+    ensures { result ≡ spec.is_well_formed word.now }
 {
-    match word.as_bytes() {
+    match word {
         [b'-', b'-', _, ..] => true,
         [b'-', ..] => false,
         _ => true,
     }
+}
+
+// Each word is.
+fn are_well_formed(words: &[String]) -> bool
+    ensures { result ≡ list_all spec.is_well_formed (texts words.now) }
+{
+    for word in words {
+        if !is_well_formed(word.as_bytes()) {
+            return false;
+        }
+    }
+    true
 }
 
 fn with_number(setting: Setting, text: &str) -> Option<Given>
@@ -123,6 +134,7 @@ fn parsed(alloc: Global, words: &[String]) -> Result<Vec<Given>, WordsFault>
 }
 
 /// The options that the words give, each once, in their order.
+#[tactic(auto, using(crate::proofs::Formed::malformed_give_none, crate::proofs::Formed::no_words))]
 pub fn given_once(alloc: Global, words: &[String]) -> Result<Vec<Given>, WordsFault>
     ensures given { IfOk result (λ given. spec.given_once (texts words.now) ≡ Some given.items) }
     ensures refused { IfErr result (λ fault. fault ≡ faults.Refused → spec.given_once (texts words.now) ≡ None) }
@@ -131,7 +143,7 @@ pub fn given_once(alloc: Global, words: &[String]) -> Result<Vec<Given>, WordsFa
     if words.is_empty() {
         return Ok(Vec::new(alloc));
     }
-    if !words.iter().all(is_well_formed) {
+    if !are_well_formed(words) {
         return Err(WordsFault::Refused);
     }
     parsed(alloc, words)
