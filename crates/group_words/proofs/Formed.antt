@@ -1,12 +1,11 @@
 -- Words that begin with one hyphen, and `--`, give no options.
-use Rattle.std.proofs.Common.{◌≡◌, ◌∙◌, ◌&&◌, ◌||◌, ◌==◌, not, ℕ, Bool, true, false, zero, suc, refl, sym, ap, ap₂, List, [], ◌∷◌, map, length, Option, Some, None, option_map, option_and_then, is_some, arith, drop}
+use Rattle.std.proofs.Common.{◌≡◌, ◌∙◌, ◌==◌, ℕ, Bool, true, false, zero, suc, refl, sym, ap, List, [], ◌∷◌, length, Option, Some, None, option_and_then, unwrap_or, arith, drop}
 use Rattle.std.specs.Prelude.{String}
 use Rattle.std.specs.Global.{Global}
-use Rattle.std.specs.String.{string_bytes}
 use Rattle.std.specs.List.{list_all, position}
 use Rattle.clap.specs.Lexer.{long_of, long_of_rest, strip_byte}
 use Rattle.clap.specs.Walk.{Text}
-use Rattle.group_words.specs.Options.{given_of, joined}
+use Rattle.group_words.specs.Options.{are_once, given_of, joined}
 use Rattle.group_words.specs.Orders.{texts}
 use Rattle.group_words.specs.Parsed.{given_once, if_once, is_well_formed}
 use Rattle.group_words.specs.declared.given.Given.{Given}
@@ -76,3 +75,18 @@ pub malformed_give_none : (words : List Text) → list_all is_well_formed words 
 malformed_give_none words e =
     let none : given_of words ≡ None = sym (word_by_word words) ∙ malformed words None e in
     rw none refl
+
+-- options that stand once stand once
+pub are_once_given : (words : List Text) (given : List Given) → given_once words ≡ Some given → are_once given ≡ true
+are_once_given words given e = among (given_of words) e
+  where
+    once : (g : List Given) → (b : Bool) → are_once g ≡ b → if_once g ≡ Some given → are_once given ≡ true
+    once g true t is =
+        let some : Some g ≡ Some given = rw t at is in
+        let same : g ≡ given = ap (λ o. unwrap_or o g) some in
+        rw (← same) t
+    once g false t is = let bad : None ≡ Some given = rw t at is in absurd cc
+
+    among : (o : Option (List Given)) → option_and_then if_once o ≡ Some given → are_once given ≡ true
+    among None is = absurd cc
+    among (Some g) is = once g (are_once g) refl is

@@ -1,5 +1,5 @@
 -- The options of clap's rows, name by name.
-use Rattle.std.proofs.Common.{◌≡◌, refl, ap, ℕ, List, [], ◌∷◌, ◌++◌, map, drop, true, false, Option, Some, None, option_map, append-nil, append_assoc, unwrap_or}
+use Rattle.std.proofs.Common.{◌≡◌, refl, ap, List, [], ◌∷◌, ◌++◌, map, drop, true, false, Option, Some, None, option_map, append-nil, append_assoc, unwrap_or}
 use Rattle.std.specs.Prelude.{slice_get}
 use Rattle.clap.specs.Facts.{Entry}
 use Rattle.clap.specs.Walk.{Row, Text, row_of, rows_of}

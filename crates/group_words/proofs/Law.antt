@@ -1,5 +1,5 @@
 -- What clap makes of well formed words, and the options that they give.
-use Rattle.std.proofs.Common.{◌≡◌, ◌∙◌, ◌&&◌, Bool, true, false, refl, sym, ap, List, [], ◌∷◌, ◌++◌, Option, Some, None, option_map, option_and_then, is_some, map, fold, ◌⊎◌, inl, inr}
+use Rattle.std.proofs.Common.{◌≡◌, ◌∙◌, true, false, refl, sym, ap, List, [], ◌∷◌, Option, Some, None, option_and_then, is_some, fold, ◌⊎◌, inl, inr}
 use Rattle.std.specs.List.{list_all}
 use Rattle.clap.specs.Kinds.{IsAmong, Kinds, or_else}
 use Rattle.clap.specs.Words.{HasMatchesOf, found_of, rows_of}
@@ -8,17 +8,16 @@ use Rattle.clap.specs.declared.error.kind.ErrorKind.TheVariants.{OutOfMemory}
 use Rattle.clap.specs.declared.parser.matches.ArgMatches.{ArgMatches}
 use Rattle.group_words.specs.Faults.{fault_by}
 use Rattle.group_words.specs.declared.order.WordsFault.TheVariants.{NoMemory, Refused}
-use Rattle.clap.specs.Walk.{Row, Rule, Text, Walk, nothing_held, settled, walk, walk_from, walked, with_default}
+use Rattle.clap.specs.Walk.{Row, Text, Walk, nothing_held, settled, walk, walk_from, walked, with_default}
 use Rattle.clap.specs.Simple.{built, entered, is_simple, matches_of}
-use Rattle.clap.specs.Faults.{defaults_fault, entered_fault, fault_of, is_simple_and_free, level_fault, settle_fault, turn_fault, walk_fault}
-use Rattle.group_words.specs.Options.{given_of}
+use Rattle.clap.specs.Faults.{entered_fault, fault_of, is_simple_and_free, level_fault, settle_fault, turn_fault, walk_fault}
 use Rattle.group_words.specs.Parsed.{given_once, if_once, is_well_formed, options_command, parsed, value_names}
 use Rattle.group_words.specs.declared.given.Given.{Given}
 use Rattle.group_words.proofs.Steps.{given_after}
 use Rattle.group_words.proofs.Pairs.{word_by_word}
 use Rattle.group_words.proofs.Table.{by_id, by_index, by_long, defaults_among, no_defaults_fault, numbered, rules}
 use Rattle.group_words.proofs.Ties.{found_in, full, tied}
-use Rattle.group_words.proofs.Walked.{built_trace, gate, outcome, read, reads, shape}
+use Rattle.group_words.proofs.Walked.{built_trace, gate, outcome, reads, shape}
 
 abbrev ended : Walk → List Text → Option (List Row)
 ended w words = outcome rules numbered by_long by_id by_index w words

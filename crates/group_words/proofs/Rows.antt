@@ -1,12 +1,11 @@
 -- What clap's getters give, by its rows.
-use Rattle.std.proofs.Common.{◌≡◌, ◌∙◌, sym, refl, ap, ℕ, List, find, Option, Some, None, option_map, option_and_then}
+use Rattle.std.proofs.Common.{◌≡◌, ◌∙◌, sym, refl, ap, find, Option, Some, None, option_map, option_and_then}
 use Rattle.std.specs.Str.{bytes_eq}
 use Rattle.clap.specs.Matches.{first_value, matched_of}
 use Rattle.clap.specs.Walk.{Row, Text, first_of, row_of, rows_of}
 use Rattle.clap.specs.Facts.{Entry}
 use Rattle.clap.specs.declared.parser.matches.Found.{Found}
 use Rattle.clap.specs.declared.parser.matches.MatchedArg.{MatchedArg}
-use Rattle.clap.specs.declared.parser.matches.ValueSource.{ValueSource}
 use Rattle.clap.proofs.WalkLemmas.{find_row, first_value-rows}
 use Rattle.group_words.specs.Parsed.{source_of}
 

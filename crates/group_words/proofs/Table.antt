@@ -1,9 +1,9 @@
 -- The options of the command: what clap finds by a name, and what the definition of options finds.
-use Rattle.std.proofs.Common.{◌≡◌, ◌∙◌, ◌&&◌, ◌||◌, ◌==◌, not, ℕ, Bool, if◌then◌else◌, true, false, zero, suc, refl, sym, ap, List, [], ◌∷◌, ◌++◌, map, length, take, drop, find, Option, Some, None, option_map, option_and_then, is_some, unwrap_or, arith, codes, nat_lt, ◌+◌}
+use Rattle.std.proofs.Common.{◌≡◌, ◌∙◌, Bool, true, false, refl, ap, List, [], ◌∷◌, ◌++◌, map, find, Option, Some, None, is_some}
 use Rattle.std.specs.Str.{bytes_eq}
 use Rattle.std.specs.List.{list_all, list_any, position}
 use Rattle.std.proofs.lemmas.Slice.Eq.{bytes_eq-Decides}
-use Rattle.clap.specs.Walk.{Row, Rule, Text, arg_by_id, arg_by_index, arg_by_long, has_long, has_row, with_default}
+use Rattle.clap.specs.Walk.{Row, Rule, Text, arg_by_id, arg_by_index, arg_by_long, has_row, with_default}
 use Rattle.clap.specs.Simple.{built}
 use Rattle.clap.specs.Faults.{defaults_fault}
 use Rattle.group_words.specs.Parsed.{options_command, value_names}

@@ -1,25 +1,25 @@
 -- The words read for their options, and the options that they give by definition.
-use Rattle.std.proofs.Common.{◌≡◌, ◌∙◌, ◌&&◌, ◌||◌, ◌==◌, not, ℕ, Bool, if◌then◌else◌, true, false, zero, suc, refl, sym, ap, List, [], ◌∷◌, ◌++◌, map, length, take, drop, find, Option, Some, None, option_map, option_and_then, is_some, unwrap_or, arith, codes, nat_lt, nat_le, ◌+◌, append-nil, append_assoc}
-use Rattle.std.specs.Str.{bytes_eq, all_ascii_digits}
+use Rattle.std.proofs.Common.{◌≡◌, ◌∙◌, ◌&&◌, ◌||◌, ◌==◌, not, ℕ, Bool, if◌then◌else◌, true, false, zero, suc, refl, sym, ap, List, [], ◌∷◌, ◌++◌, map, length, take, drop, Option, Some, None, option_map, option_and_then, is_some, unwrap_or, arith, codes, nat_lt, nat_le, ◌+◌, append-nil, append_assoc}
+use Rattle.std.specs.Str.{bytes_eq}
 use Rattle.std.specs.Prelude.{slice_get}
 use Rattle.std.specs.List.{list_all, list_any, position, position_or_len}
 use Rattle.std.proofs.lemmas.Slice.Eq.{bytes_eq-Decides}
-use Rattle.clap.specs.Lexer.{long_of, is_long_word, name_and_value, strip_byte, long_of_rest}
+use Rattle.clap.specs.Lexer.{long_of, name_and_value, strip_byte, long_of_rest}
 use Rattle.clap.specs.Values.{reading_of}
-use Rattle.clap.specs.Walk.{Row, Text, first_of, has_row, more_values, with_default}
+use Rattle.clap.specs.Walk.{Row, Text, has_row, more_values, with_default}
 use Rattle.clap.specs.declared.builder.value_parser.ValueParser.TheVariants as vp
 use Rattle.clap.specs.declared.parser.matches.ValueSource.TheVariants.{DefaultValue}
 use Rattle.number_text.specs.Numbers.{number_of}
-use Rattle.group_words.specs.Parsed.{before_more, if_once, is_by_words, is_well_formed, option_in, options_in, parsed, source_of}
-use Rattle.group_words.specs.Options.{are_once, given_as, in_one_word, is_for, joined, rule_of, setting_of, with_number}
+use Rattle.group_words.specs.Parsed.{before_more, if_once, is_by_words, is_well_formed, options_in, parsed}
+use Rattle.group_words.specs.Options.{are_once, given_as, is_for, joined, rule_of, setting_of, with_number}
 use Rattle.group_words.specs.Options.{numbered as numbered_settings}
-use Rattle.group_words.proofs.Steps.{Step, Waits, Gives, and_then, begins, given_after, step_of}
+use Rattle.group_words.proofs.Steps.{Step, Waits, Gives, and_then, given_after, step_of}
 use Rattle.group_words.specs.declared.setting.Setting.{Setting}
 use Rattle.group_words.specs.declared.setting.Setting.TheVariants.{Members, Agents, Locks, Records, Cache, Pool, Pages, Seed, Trace}
 use Rattle.group_words.specs.declared.given.Given.{Given}
-use Rattle.group_words.proofs.Pairs.{found_meets, named_lacks}
+use Rattle.group_words.proofs.Pairs.{found_meets}
 use Rattle.group_words.proofs.Table.{named, named_numbered, numbered}
-use Rattle.group_words.proofs.Walked.{begun, built_trace, flag_row, flagged, no_row_at, plain_hyphen, put, read, row, same_text, trace, valued}
+use Rattle.group_words.proofs.Walked.{begun, built_trace, flag_row, no_row_at, plain_hyphen, put, read, row, same_text, trace}
 
 -- ---- texts
 

@@ -1,5 +1,5 @@
 -- The walk of clap over the words, for a command whose options have long names alone.
-use Rattle.std.proofs.Common.{◌≡◌, ◌∙◌, ◌&&◌, ◌||◌, not, ℕ, Bool, if◌then◌else◌, true, false, zero, suc, refl, sym, ap, List, [], ◌∷◌, ◌++◌, map, length, Option, Some, None, option_map, is_some, arith, codes, append-nil, fold, nat_lt}
+use Rattle.std.proofs.Common.{◌≡◌, ◌∙◌, ◌&&◌, ◌||◌, not, Bool, if◌then◌else◌, true, false, refl, sym, ap, List, [], ◌∷◌, ◌++◌, Option, Some, None, is_some, codes, append-nil}
 use Rattle.std.specs.Str.{bytes_eq}
 use Rattle.std.specs.List.{list_all}
 use Rattle.std.proofs.lemmas.Slice.Eq.{bytes_eq-Decides}
@@ -8,7 +8,7 @@ use Rattle.clap.specs.Kinds.{Kinds, or_else}
 use Rattle.clap.specs.Values.{reading_of}
 use Rattle.clap.specs.Walk.{Held, Waiting, idle, option, Row, Rule, Text, Walk, arg_by_id, arg_by_long, arg_by_index, at_row, has_row, more_values, settled, walked, with_values, without}
 use Rattle.clap.specs.Simple.{Shape, new_shape, filled, with_index}
-use Rattle.clap.specs.Faults.{repeat_fault, settle_fault, turn_fault, walk_fault}
+use Rattle.clap.specs.Faults.{repeat_fault, settle_fault, turn_fault}
 use Rattle.clap.specs.declared.builder.value_parser.Reading.{Reading}
 use Rattle.clap.specs.declared.builder.value_parser.ValueParser.TheVariants as vp
 use Rattle.clap.specs.declared.parser.matches.ValueSource.TheVariants.{CommandLine}
@@ -155,7 +155,6 @@ found_by numbered name = if numbered name then Some (built_option name) else if 
 
 module _ (c : List Rule) (numbered : Text → Bool) (by_long : (name : Text) → arg_by_long c name ≡ found_by numbered name)
     (by_id : (name : Text) → arg_by_id c name ≡ found_by numbered name) (by_index : arg_by_index c 1 ≡ None) where
-
   -- the rows after the words, where clap takes them
   unfoldable pub outcome : Walk → List Text → Option (List Row)
   outcome w [] = gate (settle_fault c false w.held) (Some (settled c w.held).rows)

@@ -1,6 +1,5 @@
 -- The options as clap parses them.
-use Rattle.std.specs.Prelude.{ℕ, ◌+◌, ◌&&◌, ◌||◌, Bool, true, false, not, if◌then◌else◌, List, [], ◌∷◌, ◌++◌, map, find, Option, Some, None, option_map, option_and_then, is_some, codes}
-use Rattle.std.specs.List.{list_all}
+use Rattle.std.specs.Prelude.{ℕ, ◌||◌, Bool, true, false, not, if◌then◌else◌, List, [], ◌∷◌, ◌++◌, map, find, Option, Some, None, option_map, option_and_then, is_some, codes}
 use Rattle.std.specs.Str.{bytes_eq}
 use Rattle.clap.specs.Lexer.{strip_byte, is_long_word}
 use Rattle.clap.specs.Words.{App, Row, Rule, Text, new_rule, first_of}
@@ -8,7 +7,7 @@ use Rattle.clap.specs.Simple.{new_shape}
 use Rattle.clap.specs.declared.builder.action.ArgAction.TheVariants.{SetTrue}
 use Rattle.clap.specs.declared.parser.matches.ValueSource.{ValueSource}
 use Rattle.clap.specs.declared.parser.matches.ValueSource.TheVariants.{CommandLine}
-use Rattle.group_words.specs.Options.{with_number, given_as, setting_of, given_of, are_once}
+use Rattle.group_words.specs.Options.{with_number, given_as, numbered, plain_name, setting_of, given_of, are_once}
 use Rattle.group_words.specs.declared.setting.Setting.TheVariants.{Trace}
 use Rattle.group_words.specs.declared.given.Given.{Given}
 
@@ -22,7 +21,7 @@ flag_rule name = record (option_rule name) { action = Some SetTrue }
 
 -- the names of the options that take a number
 abbrev pub value_names : List Text
-value_names = codes "members" ∷ codes "agents" ∷ codes "locks" ∷ codes "records" ∷ codes "cache" ∷ codes "pool" ∷ codes "pages" ∷ codes "seed" ∷ []
+value_names = map plain_name numbered
 
 -- the command of which clap parses the words
 abbrev pub options_command : App

@@ -1,7 +1,7 @@
 //! The options that the words give.
 
-ghost use Rattle.std.specs.Prelude.{◌≡◌};
-ghost use Rattle.std.specs.List.{list_any, list_all};
+ghost use Rattle.std.specs.Prelude.{◌≡◌, true};
+ghost use Rattle.std.specs.List.{list_all};
 ghost use Rattle.group_words.specs.Options as spec;
 
 use crate::setting::Setting;
@@ -36,25 +36,6 @@ pub fn number_for(setting: Setting, given: &[Given]) -> u64
     number_given(setting, given).unwrap_or(setting.usual())
 }
 
-fn is_among(setting: Setting, given: &[Given]) -> bool
-    ensures { result ≡ list_any (spec.is_for setting) given.now }
-{
-    given.iter().any(|option| is_for(setting, option))
-}
-
-fn are_once(given: &[Given]) -> bool
-    ensures { result ≡ spec.are_once given.now }
-{
-    let mut rest = given;
-    while let [first, more @ ..] = rest {
-        if is_among(first.setting, more) {
-            return false;
-        }
-        rest = more;
-    }
-    true
-}
-
 fn is_in_range(given: &Given) -> bool
     ensures { result ≡ spec.is_in_range given.now }
 {
@@ -68,12 +49,12 @@ fn are_in_range(given: &[Given]) -> bool
     given.iter().all(is_in_range)
 }
 
-/// Whether each option has a number of its range and stands once, and the cache is large enough for the members.
+/// Whether each option has a number of its range, and the cache is large enough for the members.
 pub fn are_allowed(given: &[Given]) -> bool
+    requires { spec.are_once given.now ≡ true }
     ensures { result ≡ spec.are_allowed given.now }
 {
     are_in_range(given)
-        && are_once(given)
         && 4 * number_for(Setting::Members, given) <= number_for(Setting::Cache, given)
 }
 

@@ -16,7 +16,7 @@ use clap::{Arg, ArgAction, ArgMatches, Command};
 use number_text::number_of;
 use std::alloc::{AllocError, Global};
 
-// An option with a value.
+// An option with a value, which clap takes as a text.
 fn option_named<'a>(alloc: Global, name: &'a str) -> Arg<'a>
     ensures rule { rule_of result ≡ spec.option_rule name.entry.now }
     ensures local { result.global ≡ false }
@@ -32,6 +32,8 @@ fn flag_named<'a>(alloc: Global, name: &'a str) -> Arg<'a>
     option_named(alloc, name).action(ArgAction::SetTrue)
 }
 
+// The command of which clap parses the words. It refuses an option that is given twice, one that it is not told of,
+// help and the version among them, and one without its value.
 fn options_command<'a>(alloc: Global) -> Result<Command<'a>, AllocError>
     ensures { IfOk result (λ command. app_of command ≡ spec.options_command) }
 {
@@ -49,7 +51,8 @@ fn options_command<'a>(alloc: Global) -> Result<Command<'a>, AllocError>
         .arg(flag_named(alloc, "trace"))
 }
 
-// The word begins with `--` and a name, or with no hyphen.
+// The word begins with `--` and a name, or with no hyphen. clap would take `--` as the end of the options, and a
+// single hyphen as a short option.
 fn is_well_formed(word: &[u8]) -> bool
     ensures { result ≡ spec.is_well_formed word.now }
 {
@@ -60,7 +63,6 @@ fn is_well_formed(word: &[u8]) -> bool
     }
 }
 
-// Each word is.
 fn are_well_formed(words: &[String]) -> bool
     ensures { result ≡ list_all spec.is_well_formed (texts words.now) }
 {
@@ -95,7 +97,7 @@ fn is_by_words(matches: &ArgMatches<'_>, name: &str) -> bool
 fn option_in(matches: &ArgMatches<'_>, name: &str) -> Option<Given>
     ensures { result ≡ spec.option_in (rows_of (found_of matches.now)) name.now }
 {
-    if name == "trace" {
+    if name == Setting::Trace.name() {
         return Some(Given {
             setting: Setting::Trace,
             number: 1,
@@ -122,8 +124,8 @@ fn options_in(alloc: Global, matches: &ArgMatches<'_>) -> Result<Vec<Given>, Wor
     Ok(given)
 }
 
-// The options of words that clap takes only in the ways that are allowed here.
-fn parsed(alloc: Global, words: &[String]) -> Result<Vec<Given>, WordsFault>
+// The options by clap, of words that it takes in no other way than is allowed here.
+fn options_by_clap(alloc: Global, words: &[String]) -> Result<Vec<Given>, WordsFault>
     requires { list_all spec.is_well_formed (texts words.now) ≡ true }
     ensures given { IfOk result (λ given. spec.given_once (texts words.now) ≡ Some given.items) }
     ensures refused { IfErr result (λ fault. fault ≡ faults.Refused → spec.given_once (texts words.now) ≡ None) }
@@ -134,10 +136,11 @@ fn parsed(alloc: Global, words: &[String]) -> Result<Vec<Given>, WordsFault>
 }
 
 /// The options that the words give, each once, in their order.
-#[tactic(auto, using(crate::proofs::Formed::malformed_give_none, crate::proofs::Formed::no_words))]
+#[tactic(auto, using(crate::proofs::Formed::malformed_give_none, crate::proofs::Formed::no_words, crate::proofs::Formed::are_once_given))]
 pub fn given_once(alloc: Global, words: &[String]) -> Result<Vec<Given>, WordsFault>
     ensures given { IfOk result (λ given. spec.given_once (texts words.now) ≡ Some given.items) }
     ensures refused { IfErr result (λ fault. fault ≡ faults.Refused → spec.given_once (texts words.now) ≡ None) }
+    ensures once { IfOk result (λ given. options.are_once given.items ≡ true) }
     ensures memory { IfErr result (λ fault. fault ≡ faults.NoMemory → 1 ≤ length words.now) }
 {
     if words.is_empty() {
@@ -146,5 +149,5 @@ pub fn given_once(alloc: Global, words: &[String]) -> Result<Vec<Given>, WordsFa
     if !are_well_formed(words) {
         return Err(WordsFault::Refused);
     }
-    parsed(alloc, words)
+    options_by_clap(alloc, words)
 }

@@ -1,11 +1,9 @@
-use Rattle.std.proofs.Common.{◌≡◌, ◌∙◌, rules, refl, true, false, arith, ap, ap₂, codes, map, ◌++◌, ◌∷◌, []}
+use Rattle.std.proofs.Common.{◌≡◌, ◌∙◌, true, false, ap, ap₂}
 use Rattle.std.proofs.lemmas.Result.{IfOk-weaker}
 use Rattle.clap.specs.Words.{AddsArg, App, Rule, app_of, rule_of, with_rule}
-use Rattle.clap.specs.Simple.{Shape, app_of_fields, on_top}
+use Rattle.clap.specs.Simple.{app_of_fields, on_top}
 use Rattle.clap.specs.declared.builder.arg.Arg.{Arg}
 use Rattle.clap.specs.declared.builder.command.Command.{Command}
-use Rattle.group_words.specs.Parsed as spec
-use Rattle.group_words.proofs.Law.{clap_gives}
 use Rattle.group_words.proofs.parsed.options_command.Goals as goal
 
 -- a command with one more argument

@@ -1,7 +1,6 @@
-use Rattle.std.proofs.Common.{◌≡◌, ◌∙◌, sym, ap, rules, Some, None, true, false, List, ℕ, option_map, refl}
+use Rattle.std.proofs.Common.{◌≡◌, ◌∙◌, sym, ap, Some, option_map}
 use Rattle.clap.specs.Matches.{ids_left}
 use Rattle.clap.specs.Words.{found_of, rows_of}
-use Rattle.group_words.specs.Parsed as spec
 use Rattle.group_words.proofs.Found.{all_found, lacks_number, names_by_rows, none_found, one_found, passed_over}
 use Rattle.group_words.proofs.parsed.options_in.Goals as goal
 

@@ -9,7 +9,7 @@ use Rattle.group_words.specs.Parsed.{options_command}
 use Rattle.group_words.specs.declared.order.WordsFault.{WordsFault}
 use Rattle.group_words.specs.declared.order.WordsFault.TheVariants.{Refused}
 use Rattle.group_words.proofs.Law.{is_free_command, refuses, takes}
-use Rattle.group_words.proofs.parsed.parsed.Goals as goal
+use Rattle.group_words.proofs.parsed.options_by_clap.Goals as goal
 
 fails_as : {T : Type 0} {X : Type 0} (r : Result T WordsFault) (by : WordsFault) → IsErrAnd r (λ fault. fault ≡ by) → (by ≡ Refused → X) → IfErr r (λ fault. fault ≡ Refused → X)
 fails_as (Ok value) by is gives = tt
