@@ -1,12 +1,12 @@
 -- Words that begin with one hyphen, and `--`, give no options.
-use Rattle.std.proofs.Common.{◌≡◌, ◌∙◌, ◌==◌, ℕ, Bool, true, false, zero, suc, refl, sym, ap, List, [], ◌∷◌, length, Option, Some, None, option_and_then, unwrap_or, arith, drop}
+use Rattle.std.proofs.Common.{◌≡◌, ◌≢◌, ◌∙◌, ◌==◌, ℕ, Bool, true, false, zero, suc, refl, sym, ap, List, [], ◌∷◌, length, Option, Some, None, option_and_then, unwrap_or, arith, drop}
 use Rattle.std.specs.Prelude.{String}
 use Rattle.std.specs.Global.{Global}
 use Rattle.std.specs.List.{list_all, position}
 use Rattle.clap.specs.Lexer.{long_of, long_of_rest, strip_byte}
 use Rattle.clap.specs.Walk.{Text}
 use Rattle.group_words.specs.Options.{are_once, given_of, joined}
-use Rattle.group_words.specs.Orders.{texts}
+use Rattle.group_words.specs.Orders.{may_be_options, texts}
 use Rattle.group_words.specs.Parsed.{given_once, if_once, is_well_formed}
 use Rattle.group_words.specs.declared.given.Given.{Given}
 use Rattle.group_words.specs.declared.setting.Setting.{Setting}
@@ -90,3 +90,8 @@ are_once_given words given e = among (given_of words) e
     among : (o : Option (List Given)) → option_and_then if_once o ≡ Some given → are_once given ≡ true
     among None is = absurd cc
     among (Some g) is = once g (are_once g) refl is
+
+-- well formed words may be options
+pub may_be : (words : List (String Global)) → length words ≢ 0 → list_all is_well_formed (texts words) ≡ true → may_be_options (texts words) ≡ true
+may_be [] some formed = absurd (some refl)
+may_be (w ∷ words) some formed = formed

@@ -1,11 +1,11 @@
 //! The options as clap parses them.
 
-ghost use Rattle.std.specs.Prelude.{◌≡◌, Some, None, true, false, IfOk, IfErr, ◌≤◌, length};
+ghost use Rattle.std.specs.Prelude.{◌≡◌, Some, None, true, false, IfOk, IfErr};
 ghost use Rattle.std.specs.List.{list_all};
 ghost use Rattle.clap.specs.Words.{app_of, found_of, rows_of, rule_of};
 ghost use Rattle.group_words.specs.Options as options;
 ghost use Rattle.group_words.specs.Parsed as spec;
-ghost use Rattle.group_words.specs.Orders.{texts};
+ghost use Rattle.group_words.specs.Orders.{may_be_options, texts};
 ghost use Rattle.group_words.specs.declared.order.WordsFault.TheVariants as faults;
 
 use crate::given::Given;
@@ -136,12 +136,12 @@ fn options_by_clap(alloc: Global, words: &[String]) -> Result<Vec<Given>, WordsF
 }
 
 /// The options that the words give, each once, in their order.
-#[tactic(auto, using(crate::proofs::Formed::malformed_give_none, crate::proofs::Formed::no_words, crate::proofs::Formed::are_once_given))]
+#[tactic(auto, using(crate::proofs::Formed::malformed_give_none, crate::proofs::Formed::no_words, crate::proofs::Formed::are_once_given, crate::proofs::Formed::may_be))]
 pub fn given_once(alloc: Global, words: &[String]) -> Result<Vec<Given>, WordsFault>
     ensures given { IfOk result (λ given. spec.given_once (texts words.now) ≡ Some given.items) }
     ensures refused { IfErr result (λ fault. fault ≡ faults.Refused → spec.given_once (texts words.now) ≡ None) }
     ensures once { IfOk result (λ given. options.are_once given.items ≡ true) }
-    ensures memory { IfErr result (λ fault. fault ≡ faults.NoMemory → 1 ≤ length words.now) }
+    ensures memory { IfErr result (λ fault. fault ≡ faults.NoMemory → may_be_options (texts words.now) ≡ true) }
 {
     if words.is_empty() {
         return Ok(Vec::new(alloc));
