@@ -51,8 +51,8 @@ fn options_command<'a>(alloc: Global) -> Result<Command<'a>, AllocError>
         .arg(flag_named(alloc, "trace"))
 }
 
-// The word begins with `--` and a name, or with no hyphen. clap would take `--` as the end of the options, and a
-// single hyphen as a short option.
+// The word begins with `--` and a name, or with no hyphen: it is neither a short option, of which there are none,
+// nor `--`, which clap would take as the end of the options.
 fn is_well_formed(word: &[u8]) -> bool
     ensures { result ≡ spec.is_well_formed word.now }
 {
