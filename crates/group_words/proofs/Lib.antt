@@ -1,3 +1,10 @@
 mod Ranges
-mod Behind
+mod Steps
 mod Pairs
+mod Walked
+mod Rows
+mod Table
+mod Ties
+mod Law
+mod Found
+mod Formed

@@ -3,9 +3,8 @@ use Rattle.std.proofs.Common.{◌≡◌, ℕ, Bool, true, false, List, [], ◌�
 use Rattle.std.proofs.lemmas.Slice.Eq.{bytes_eq-Decides}
 use Rattle.std.specs.Str.{bytes_eq}
 use Rattle.group_words.specs.Options.{given_of, rule_of, numbered, setting_of, in_one_word, with_number, and_more}
-use Rattle.group_words.specs.Steps.{given_after, and_then}
+use Rattle.group_words.proofs.Steps.{given_after, and_then, Gives}
 use Rattle.group_words.specs.declared.given.Given.{Given}
-use Rattle.group_words.specs.declared.given.Step.TheVariants.{Gives}
 use Rattle.group_words.specs.declared.setting.Setting.{Setting}
 use Rattle.group_words.specs.declared.setting.Setting.TheVariants.{Members, Agents, Locks, Records, Cache, Pool, Pages, Seed, Trace}
 
@@ -17,7 +16,7 @@ first_meets p y ys x true h more e =
 first_meets p y ys x false h more e = more (rw h at e)
 
 -- what is found meets the test
-found_meets : {A : Type 0} (p : A → Bool) (xs : List A) (x : A) → find p xs ≡ Some x → p x ≡ true
+pub found_meets : {A : Type 0} (p : A → Bool) (xs : List A) (x : A) → find p xs ≡ Some x → p x ≡ true
 found_meets p [] x e = absurd cc
 found_meets p (y ∷ ys) x e = first_meets p y ys x (p y) refl (found_meets p ys x) e
 
@@ -33,7 +32,7 @@ name_lacks Pages e = refl
 name_lacks Seed e = refl
 name_lacks Trace e = absurd cc
 
-named_lacks : (s : Setting) (word : List ℕ) → setting_of word ≡ Some s → in_one_word word ≡ None
+pub named_lacks : (s : Setting) (word : List ℕ) → setting_of word ≡ Some s → in_one_word word ≡ None
 named_lacks s word e =
     let meets : bytes_eq (rule_of s).name word ≡ true = found_meets (λ t. bytes_eq (rule_of t).name word) numbered s e in
     let names : (rule_of s).name ≡ word = (bytes_eq-Decides (rule_of s).name word).0 meets in

@@ -29,6 +29,10 @@ rule_of Pages = rule (codes "--pages") 1 65536 4096
 rule_of Seed = rule (codes "--seed") 0 (2 ^ 64 - 1) 0
 rule_of Trace = rule (codes "--trace") 1 1 0
 
+-- an option's name without its two hyphens
+abbrev pub plain_name : Setting → List ℕ
+plain_name s = drop 2 (rule_of s).name
+
 -- the options that take a number
 abbrev pub numbered : List Setting
 numbered = Members ∷ Agents ∷ Locks ∷ Records ∷ Cache ∷ Pool ∷ Pages ∷ Seed ∷ []

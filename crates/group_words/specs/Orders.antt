@@ -1,5 +1,5 @@
 -- What the words of a command line order.
-use Rattle.std.specs.Prelude.{ℕ, Bool, false, ◌&&◌, ◌||◌, ◌==◌, if◌then◌else◌, List, [], ◌∷◌, map, Option, Some, None, option_map, option_and_then, codes}
+use Rattle.std.specs.Prelude.{ℕ, Bool, false, ◌&&◌, ◌||◌, ◌==◌, if◌then◌else◌, List, [], ◌∷◌, map, Option, Some, None, option_map, option_and_then, is_some, codes}
 use Rattle.std.specs.Prelude.{String}
 use Rattle.std.specs.Global.{Global}
 use Rattle.std.specs.List.{list_all}
@@ -8,6 +8,7 @@ use Rattle.std.specs.String.{string_bytes}
 use Rattle.ds_base.specs.declared.names.Sizes.{Sizes}
 use Rattle.number_text.specs.Numbers.{number_of}
 use Rattle.group_words.specs.Options.{given_of, number_given, number_for, are_allowed, suits_work}
+use Rattle.group_words.specs.Parsed.{is_well_formed}
 use Rattle.group_words.specs.declared.given.Given.{Given}
 use Rattle.group_words.specs.declared.setting.Setting.TheVariants.{Members, Agents, Locks, Records, Cache, Pool, Pages, Seed, Trace}
 use Rattle.group_words.specs.declared.order.Order.{Order}
@@ -64,7 +65,17 @@ order_of (command ∷ words) = order_under command words
 abbrev pub texts : List (String Global) → List (List ℕ)
 texts words = map string_bytes words
 
--- the words are those of a command that takes options, and words stand behind it
+-- one word or more, each of which may be one of an option's
+abbrev pub may_be_options : List (List ℕ) → Bool
+may_be_options [] = false
+may_be_options (word ∷ words) = list_all is_well_formed (word ∷ words)
+
+-- a number, and words that may be options
+abbrev pub may_be_work : List (List ℕ) → Bool
+may_be_work [] = false
+may_be_work (number ∷ words) = is_some (number_of number) && may_be_options words
+
+-- the words are those of a command that takes options, and words that may be options stand behind it
 abbrev pub may_have_options : List (List ℕ) → Bool
-may_have_options (command ∷ word ∷ words) = bytes_eq command (codes "play") || bytes_eq command (codes "work")
-may_have_options _ = false
+may_have_options [] = false
+may_have_options (command ∷ words) = (bytes_eq command (codes "play") && may_be_options words) || (bytes_eq command (codes "work") && may_be_work words)

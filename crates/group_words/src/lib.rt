@@ -3,6 +3,7 @@
 
 mod given;
 mod order;
+mod parsed;
 mod read;
 mod setting;
 #[cfg(test)]

@@ -1,6 +1,9 @@
 ghost use Rattle.std.specs.Prelude.{◌≡◌};
+ghost use Rattle.clap.specs.Words.{kind_of};
+ghost use Rattle.group_words.specs.Faults.{fault_by};
 ghost use Rattle.group_words.specs.declared.order.WordsFault.TheVariants as faults;
 
+use clap::error::ErrorKind;
 use ds_base::Sizes;
 use std::alloc::{AllocError, AllocFailed};
 use thiserror::Error;
@@ -47,5 +50,16 @@ impl<T: Drop> From<AllocFailed<T>> for WordsFault {
 
     fn from(_: AllocFailed<T>) -> Self {
         WordsFault::NoMemory
+    }
+}
+
+impl From<clap::Error> for WordsFault {
+    ghost from_gives = { λ error fault. fault ≡ fault_by (kind_of error) };
+
+    fn from(error: clap::Error) -> Self {
+        match error.kind() {
+            ErrorKind::OutOfMemory => WordsFault::NoMemory,
+            _ => WordsFault::Refused,
+        }
     }
 }

@@ -1,10 +1,11 @@
-ghost use Rattle.std.specs.Prelude.{◌≡◌, ◌≤◌, ◌∷◌, length, true, Some, None, IfOk, IfErr};
+ghost use Rattle.std.specs.Prelude.{◌≡◌, ◌∷◌, true, Some, None, IfOk, IfErr};
 ghost use Rattle.group_words.specs.Options.{are_allowed};
 ghost use Rattle.group_words.specs.Orders as spec;
 ghost use Rattle.group_words.specs.declared.order.WordsFault.TheVariants as faults;
 
-use crate::given::{Given, are_allowed, given_of, number_for, number_given, suit_work};
+use crate::given::{Given, are_allowed, number_for, number_given, suit_work};
 use crate::order::{Order, WordsFault};
+use crate::parsed::given_once;
 use crate::setting::Setting;
 use ds_base::Sizes;
 use number_text::number_of;
@@ -29,9 +30,9 @@ fn sizes_of(given: &[Given]) -> Sizes
 fn play_order(alloc: Global, words: &[String]) -> Result<Order, WordsFault>
     ensures order { IfOk result (λ order. spec.play_order (spec.texts words.now) ≡ Some order) }
     ensures refused { IfErr result (λ fault. fault ≡ faults.Refused → spec.play_order (spec.texts words.now) ≡ None) }
-    ensures memory { IfErr result (λ fault. fault ≡ faults.NoMemory → 1 ≤ length words.now) }
+    ensures memory { IfErr result (λ fault. fault ≡ faults.NoMemory → spec.may_be_options (spec.texts words.now) ≡ true) }
 {
-    let given = given_of(alloc, words)?;
+    let given = given_once(alloc, words)?;
     if !are_allowed(&given) {
         return Err(WordsFault::Refused);
     }
@@ -66,9 +67,9 @@ fn make_order(words: &[String]) -> Option<Order>
 fn work_with(alloc: Global, n: u64, words: &[String]) -> Result<Order, WordsFault>
     ensures order { IfOk result (λ order. spec.work_given n (spec.texts words.now) ≡ Some order) }
     ensures refused { IfErr result (λ fault. fault ≡ faults.Refused → spec.work_given n (spec.texts words.now) ≡ None) }
-    ensures memory { IfErr result (λ fault. fault ≡ faults.NoMemory → 1 ≤ length words.now) }
+    ensures memory { IfErr result (λ fault. fault ≡ faults.NoMemory → spec.may_be_options (spec.texts words.now) ≡ true) }
 {
-    let given = given_of(alloc, words)?;
+    let given = given_once(alloc, words)?;
     if are_allowed(&given) && suit_work(&given) {
         Ok(Order::Work {
             n,
@@ -82,7 +83,7 @@ fn work_with(alloc: Global, n: u64, words: &[String]) -> Result<Order, WordsFaul
 fn work_order(alloc: Global, words: &[String]) -> Result<Order, WordsFault>
     ensures order { IfOk result (λ order. spec.work_order (spec.texts words.now) ≡ Some order) }
     ensures refused { IfErr result (λ fault. fault ≡ faults.Refused → spec.work_order (spec.texts words.now) ≡ None) }
-    ensures memory { IfErr result (λ fault. fault ≡ faults.NoMemory → 1 ≤ length words.now) }
+    ensures memory { IfErr result (λ fault. fault ≡ faults.NoMemory → spec.may_be_work (spec.texts words.now) ≡ true) }
 {
     let [number, options @ ..] = words else {
         return Err(WordsFault::Refused);

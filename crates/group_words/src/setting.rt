@@ -1,6 +1,6 @@
 //! The options by their names, the numbers that they take, and those that they have where they are not given.
 
-ghost use Rattle.std.specs.Prelude.{◌≡◌};
+ghost use Rattle.std.specs.Prelude.{◌≡◌, ◌++◌, codes};
 ghost use Rattle.group_words.specs.Options as spec;
 
 /// What an option sets.
@@ -30,19 +30,20 @@ const NUMBERED: [Setting; 8] = [
 ];
 
 impl Setting {
-    pub fn name(self) -> &'static [u8]
-        ensures { result.now ≡ (spec.rule_of self).name }
+    /// Its name without the hyphens.
+    pub fn name(self) -> &'static str
+        ensures { result.now ≡ spec.plain_name self }
     {
         match self {
-            Setting::Members => b"--members",
-            Setting::Agents => b"--agents",
-            Setting::Locks => b"--locks",
-            Setting::Records => b"--records",
-            Setting::Cache => b"--cache",
-            Setting::Pool => b"--pool",
-            Setting::Pages => b"--pages",
-            Setting::Seed => b"--seed",
-            Setting::Trace => b"--trace",
+            Setting::Members => "members",
+            Setting::Agents => "agents",
+            Setting::Locks => "locks",
+            Setting::Records => "records",
+            Setting::Cache => "cache",
+            Setting::Pool => "pool",
+            Setting::Pages => "pages",
+            Setting::Seed => "seed",
+            Setting::Trace => "trace",
         }
     }
 
@@ -82,8 +83,8 @@ impl Setting {
 }
 
 /// The option of this name that takes a number.
-pub fn setting_of(name: &[u8]) -> Option<Setting>
-    ensures { result ≡ spec.setting_of name.now }
+pub fn setting_named(name: &str) -> Option<Setting>
+    ensures { result ≡ spec.setting_of (codes "--" ++ name.now) }
 {
     NUMBERED.iter().copied().find(|s| s.name() == name)
 }

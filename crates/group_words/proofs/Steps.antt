@@ -1,10 +1,13 @@
 -- The options of a command line, read word by word.
-use Rattle.std.specs.Prelude.{ℕ, List, [], ◌∷◌, Option, Some, None, option_map}
+use Rattle.std.proofs.Common.{ℕ, List, [], ◌∷◌, Option, Some, None, option_map}
 use Rattle.group_words.specs.Options.{with_number, setting_of, in_one_word}
 use Rattle.group_words.specs.declared.setting.Setting.{Setting}
 use Rattle.group_words.specs.declared.given.Given.{Given}
-use Rattle.group_words.specs.declared.given.Step.{Step}
-use Rattle.group_words.specs.declared.given.Step.TheVariants.{Waits, Gives}
+
+-- what one word does: the option's number is the next word, or the option is given
+pub data Step : Type 0 where
+  Waits : Setting → Step
+  Gives : Given → Step
 
 -- a word behind a complete option, which may name the option
 abbrev pub begins : List ℕ → Option Setting → Option Step
