@@ -1,41 +1,44 @@
-ghost use Rattle.std.specs.Prelude.{◌≡◌, Option, Some, None, Bool, if◌then◌else◌, IfOk};
-ghost use Rattle.ds_model.specs.declared.script.Script.{Script};
-ghost use Rattle.script_text.specs.Drafts.{IsNext, step, step_phase, step_member, step_tran, step_op, step_end, closed, start, whole};
+ghost use Rattle.std.specs.Prelude.{◌≡◌, ◌<◌, ◌-◌, ◌^◌, OnOk};
+ghost use Rattle.script_text.specs.Drafts.{IsStep, closed, fail_step, group_failed, is_first, is_one_too_many, may_stand, member_step, op_step, phase_begun, restart_step, start, end_step, tran_step, whole};
 
-use crate::limits::{OPS_LIMIT, TRANS_LIMIT};
-use crate::line::Line;
+use crate::limits::{OPS_LIMIT, PHASES_LIMIT, TRANS_LIMIT};
 use ds_base::{Bytes, MemberId, NoMemory, Sequence};
-use ds_model::{Op, OpList, Part, Phase, PhaseList, Script, Tran, TranList};
+use ds_model::{
+    FailAt, FaultKind, Op, OpList, Part, PartList, Phase, PhaseList, Script, Tran, TranList,
+};
+use script_line::{Keyword, LineError};
 use std::alloc::Global;
 use std::mem;
 
 /// Where in a script a line stands.
 #[derive(Debug, Drop)]
 pub enum Place {
-    /// Before the first phase.
+    /// In no phase.
     Outside,
-    /// In a phase, before its part.
-    Phase,
-    /// In the part of a phase, between transactions.
-    Part {
-        member: MemberId,
-        trans: TranList,
-    },
-    /// In a transaction.
+    /// In a phase, before its first part.
+    Phase { parts: PartList },
+    /// In a part, between transactions. The parts are those before it.
+    Part { parts: PartList, part: Part },
+    /// In a transaction of a part.
     Tran {
-        member: MemberId,
-        trans: TranList,
+        parts: PartList,
+        part: Part,
         name: Bytes,
+        wait: bool,
         ops: OpList,
     },
 }
 
-/// A script that is being read line by line.
+/// The script that was read so far.
 #[derive(Debug, Drop)]
 pub struct Draft {
-    phases: PhaseList,
-    count: u32,
-    place: Place,
+    /// The phases that are ended.
+    pub phases: PhaseList,
+    /// How often the group fails before the open phase, or behind the last one where none is open.
+    pub groupfails: u32,
+    /// How many transactions have begun.
+    pub count: u32,
+    pub place: Place,
 }
 
 impl Draft {
@@ -44,150 +47,60 @@ impl Draft {
     {
         Draft {
             phases: Sequence::new(alloc),
+            groupfails: 0,
             count: 0,
             place: Place::Outside,
         }
     }
 
-    // Ends the phase that is open, if one is. A transaction may not be open.
-    fn close(&mut self, alloc: Global) -> Result<bool, NoMemory>
-        ensures phases { IfOk result (λ taken. closed self.old ≡ (if taken then Some self.new.phases else None)) }
-        ensures count { self.new.count ≡ self.old.count }
+    /// Whether a line of this kind may stand next.
+    pub fn may_stand(&self, keyword: Keyword) -> bool
+        ensures { result ≡ may_stand self.now.place keyword }
     {
-        match mem::replace(&mut self.place, Place::Outside) {
-            Place::Outside => {}
-            Place::Phase => {
-                let parts = Sequence::new(alloc);
-                self.phases.push(Phase {
-                    groupfails: 0,
-                    parts,
-                })?;
-            }
-            Place::Part { member, trans } => {
-                let mut parts = Sequence::new(alloc);
-                parts.push(Part {
-                    member,
-                    restart: false,
-                    fail: None,
-                    trans,
-                })?;
-                self.phases.push(Phase {
-                    groupfails: 0,
-                    parts,
-                })?;
-            }
-            Place::Tran { .. } => return Ok(false),
+        match &self.place {
+            Place::Outside => matches!(keyword, Keyword::GroupFail | Keyword::Phase),
+            Place::Phase { .. } => matches!(
+                keyword,
+                Keyword::GroupFail | Keyword::Phase | Keyword::Member
+            ),
+            Place::Part { part, .. } => may_stand_in_part(part, keyword),
+            Place::Tran { .. } => matches!(keyword, Keyword::Operation | Keyword::End),
         }
-        Ok(true)
     }
 
-    fn begin_phase(&mut self, alloc: Global) -> Result<bool, NoMemory>
-        ensures { IfOk result (IsNext self.new (step_phase self.old)) }
+    /// Whether a line of this kind would begin more than a limit allows.
+    pub fn is_one_too_many(&self, keyword: Keyword) -> bool
+        ensures { result ≡ is_one_too_many self.now keyword }
     {
-        let taken = self.close(alloc)?;
-        self.place = Place::Phase;
-        Ok(taken)
-    }
-
-    fn begin_part(&mut self, alloc: Global, member: MemberId) -> bool
-        ensures { IsNext self.new (step_member self.old member) result }
-    {
-        match self.place {
-            Place::Phase => {
-                let trans = Sequence::new(alloc);
-                self.place = Place::Part { member, trans };
-                true
-            }
+        match keyword {
+            Keyword::Phase => self.phases_begun() >= PHASES_LIMIT,
+            Keyword::Tran => self.count >= TRANS_LIMIT,
+            Keyword::Operation => self.open_ops() >= OPS_LIMIT,
             _ => false,
         }
     }
 
-    fn begin_tran(&mut self, alloc: Global, name: Bytes) -> bool
-        ensures { IsNext self.new (step_tran self.old name) result }
-    {
-        if self.count >= TRANS_LIMIT {
-            return false;
+    fn phases_begun(&self) -> usize {
+        match &self.place {
+            Place::Outside => self.phases.len(),
+            _ => self.phases.len() + 1,
         }
-        match mem::replace(&mut self.place, Place::Outside) {
-            Place::Part { member, trans } => {
-                let ops = Sequence::new(alloc);
-                self.count += 1;
-                self.place = Place::Tran {
-                    member,
-                    trans,
-                    name,
-                    ops,
-                };
-                true
-            }
+    }
+
+    fn open_ops(&self) -> usize {
+        match &self.place {
+            Place::Tran { ops, .. } => ops.len(),
+            _ => 0,
+        }
+    }
+
+    /// Whether the open transaction is the first of its part.
+    pub fn is_first_tran(&self) -> bool
+        ensures { result ≡ is_first self.now.place }
+    {
+        match &self.place {
+            Place::Tran { part, .. } => part.trans.is_empty(),
             _ => false,
-        }
-    }
-
-    fn take_op(&mut self, op: Op) -> Result<bool, NoMemory>
-        ensures { IfOk result (IsNext self.new (step_op self.old op)) }
-    {
-        match &mut self.place {
-            Place::Tran { ops, .. } => {
-                if ops.len() < OPS_LIMIT {
-                    ops.push(op)?;
-                    Ok(true)
-                } else {
-                    Ok(false)
-                }
-            }
-            _ => Ok(false),
-        }
-    }
-
-    fn end_tran(&mut self) -> Result<bool, NoMemory>
-        ensures { IfOk result (IsNext self.new (step_end self.old)) }
-    {
-        match mem::replace(&mut self.place, Place::Outside) {
-            Place::Tran {
-                member,
-                mut trans,
-                name,
-                ops,
-            } => {
-                trans.push(Tran {
-                    name,
-                    number: self.count,
-                    wait: true,
-                    ops,
-                })?;
-                self.place = Place::Part { member, trans };
-                Ok(true)
-            }
-            _ => Ok(false),
-        }
-    }
-
-    /// Reads one more line, if it may stand here. Nothing may be read behind a line that may not.
-    pub fn take(&mut self, alloc: Global, line: Line) -> Result<bool, NoMemory>
-        ensures { IfOk result (IsNext self.new (step self.old line)) }
-    {
-        match line {
-            Line::Phase => self.begin_phase(alloc),
-            Line::Member(member) => Ok(self.begin_part(alloc, member)),
-            Line::Tran(name) => Ok(self.begin_tran(alloc, name)),
-            Line::Operation(op) => self.take_op(op),
-            Line::End => self.end_tran(),
-        }
-    }
-
-    /// The script, or `None` where a transaction is open.
-    pub fn finish(mut self, alloc: Global) -> Result<Option<Script>, NoMemory>
-        ensures { IfOk result (λ found. found ≡ whole self) }
-    {
-        if self.close(alloc)? {
-            let Draft { phases, .. } = self;
-            Ok(Some(Script {
-                phases,
-                groupfails: 0,
-            }))
-        } else {
-            Ok(None)
         }
     }
 }
