@@ -1,5 +1,5 @@
 -- What a line says by itself, for a group with so many members.
-use Rattle.std.specs.Prelude.{ℕ, ◌-◌, ◌^◌, Bool, true, false, if◌then◌else◌, List, [], ◌∷◌, Option, Some, None, Result, Ok, Err, codes}
+use Rattle.std.specs.Prelude.{◌≡◌, ℕ, ◌-◌, ◌^◌, Bool, true, false, if◌then◌else◌, List, [], ◌∷◌, Option, Some, None, Result, Ok, Err, codes}
 use Rattle.std.specs.Str.{bytes_eq}
 use Rattle.ds_model.specs.declared.script.Op.{Op}
 use Rattle.ds_model.specs.declared.script.Op.TheVariants as op
@@ -11,6 +11,8 @@ use Rattle.script_line.specs.declared.line.Keyword.{Keyword}
 use Rattle.script_line.specs.declared.line.Keyword.TheVariants as keyword
 use Rattle.script_line.specs.declared.line.Line.{Line}
 use Rattle.script_line.specs.declared.line.Line.TheVariants as line
+use Rattle.script_line.specs.declared.line.LineError.{LineError}
+use Rattle.script_line.specs.declared.line.LineError.TheVariants as error
 use Rattle.script_line.specs.Words.{words_of, are_skipped, is_ascii, and_then, mapped, number_in, member_in, name_in, value_in}
 
 -- ---- the first word
@@ -146,3 +148,16 @@ keyword_in bytes = keyword_of_words (words_of bytes)
 -- what a line that isn't skipped says, or its first fault of those that show in the line alone
 unfoldable pub line_in : ℕ → List ℕ → Result Line FaultKind
 line_in members bytes = if is_ascii bytes then line_of_words members (words_of bytes) else Err fault.Word
+
+-- ---- what a reader answers that may want memory
+
+-- the line is that of a transaction
+abbrev pub is_of_tran : Result Line FaultKind → Bool
+is_of_tran (Ok (line.Tran name wait)) = true
+is_of_tran said = false
+
+-- it gives what the line says: the line or its fault. It wants memory only for the name of a transaction
+abbrev pub Gives : Result Line FaultKind → Result Line LineError → Type 0
+Gives said (Ok l) = said ≡ Ok l
+Gives said (Err (error.Fault kind)) = said ≡ Err kind
+Gives said (Err error.NoMemory) = is_of_tran said ≡ true

@@ -64,7 +64,10 @@ name_in word = if is_name word then Ok word else Err fault.Name
 abbrev pub is_value : List ℕ → Bool
 is_value bytes = nat_le (length bytes) 100 && list_all (is_between 0x21 0x7e) bytes
 
+abbrev pub value_of : List ℕ → Result (List ℕ) FaultKind
+value_of bytes = if is_value bytes then Ok bytes else Err fault.Value
+
 -- a value behind = (61)
 abbrev pub value_in : List ℕ → Result (List ℕ) FaultKind
 value_in [] = Err fault.Value
-value_in (b ∷ bytes) = if (b == 61) && is_value bytes then Ok bytes else Err fault.Value
+value_in (b ∷ bytes) = if b == 61 then value_of bytes else Err fault.Value

@@ -45,3 +45,11 @@ impl From<NoMemory> for LineError {
         LineError::NoMemory
     }
 }
+
+impl From<FaultKind> for LineError {
+    ghost from_gives = { λ kind e. e ≡ errors.Fault kind };
+
+    fn from(kind: FaultKind) -> Self {
+        LineError::Fault(kind)
+    }
+}
