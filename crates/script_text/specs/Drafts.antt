@@ -12,6 +12,7 @@ use Rattle.script_line.specs.declared.line.Keyword.{Keyword}
 use Rattle.script_line.specs.declared.line.Keyword.TheVariants as keyword
 use Rattle.script_line.specs.declared.line.Line.{Line}
 use Rattle.script_line.specs.declared.line.Line.TheVariants as line
+use Rattle.script_line.specs.Words.{mapped}
 use Rattle.script_text.specs.declared.draft.Place.{Place}
 use Rattle.script_text.specs.declared.draft.Place.TheVariants as place
 use Rattle.script_text.specs.declared.draft.Draft.{Draft}
@@ -75,24 +76,27 @@ moved d p = draft_at d.phases d.groupfails d.count p
 abbrev pub with_phase : Draft → List Part → Draft
 with_phase d parts = draft_at (d.phases ++ phase_with d.groupfails parts ∷ []) 0 d.count place.Outside
 
-abbrev pub closed_at : Draft → Place → Draft
-closed_at d place.Outside = moved d place.Outside
-closed_at d (place.Phase parts) = with_phase d parts
-closed_at d (place.Part parts part) = with_phase d (parts ++ part ∷ [])
-closed_at d (place.Tran parts part name wait ops) = with_phase d (parts ++ part ∷ [])
+abbrev pub closed_at : Draft → Place → Result Draft FaultKind
+closed_at d place.Outside = Ok (moved d place.Outside)
+closed_at d (place.Phase parts) = Ok (with_phase d parts)
+closed_at d (place.Part parts part) = Ok (with_phase d (parts ++ part ∷ []))
+closed_at d (place.Tran parts part name wait ops) = Err fault.Word
 
 -- the phase that is open is ended
-abbrev pub closed : Draft → Draft
+abbrev pub closed : Draft → Result Draft FaultKind
 closed d = closed_at d d.place
 
 abbrev pub failed_again : Draft → Draft
 failed_again d = draft_at d.phases (d.groupfails + 1) d.count d.place
 
-abbrev pub step_groupfail : Draft → Draft
-step_groupfail d = failed_again (closed d)
+abbrev pub step_groupfail : Draft → Result Draft FaultKind
+step_groupfail d = mapped failed_again (closed d)
 
-abbrev pub step_phase : Draft → Draft
-step_phase d = moved (closed d) (place.Phase [])
+abbrev pub in_phase : Draft → Draft
+in_phase d = moved d (place.Phase [])
+
+abbrev pub step_phase : Draft → Result Draft FaultKind
+step_phase d = mapped in_phase (closed d)
 
 abbrev pub part_of : ℕ → Part
 part_of member = record { member = member; restart = false; fail = None; trans = [] }
@@ -109,14 +113,25 @@ step_member d member = if has_number (members_playing d) member then Err fault.M
 abbrev pub restarted : Part → Part
 restarted p = record { member = p.member; restart = true; fail = p.fail; trans = p.trans }
 
-abbrev pub restart_at : Draft → Place → Result Draft FaultKind
-restart_at d place.Outside = Err fault.Word
-restart_at d (place.Phase parts) = Err fault.Word
-restart_at d (place.Part parts part) = if has_number (members_failed d) part.member then Ok (moved d (place.Part parts (restarted part))) else Err fault.Restart
-restart_at d (place.Tran parts part name wait ops) = Err fault.Word
+-- the member of the open part, between its transactions
+abbrev pub member_at : Place → Option ℕ
+member_at place.Outside = None
+member_at (place.Phase parts) = None
+member_at (place.Part parts part) = Some part.member
+member_at (place.Tran parts part name wait ops) = None
+
+abbrev pub restarted_at : Draft → Place → Result Draft FaultKind
+restarted_at d place.Outside = Err fault.Word
+restarted_at d (place.Phase parts) = Err fault.Word
+restarted_at d (place.Part parts part) = Ok (moved d (place.Part parts (restarted part)))
+restarted_at d (place.Tran parts part name wait ops) = Err fault.Word
+
+abbrev pub restart_of : Draft → Option ℕ → Result Draft FaultKind
+restart_of d None = Err fault.Word
+restart_of d (Some member) = if has_number (members_failed d) member then restarted_at d d.place else Err fault.Restart
 
 abbrev pub step_restart : Draft → Result Draft FaultKind
-step_restart d = restart_at d d.place
+step_restart d = restart_of d (member_at d.place)
 
 abbrev pub failing : FailAt → Part → Part
 failing at p = record { member = p.member; restart = p.restart; fail = Some at; trans = p.trans }
@@ -182,8 +197,8 @@ abbrev pub step_end : Draft → Result Draft FaultKind
 step_end d = tran_ended d d.place
 
 abbrev pub step_line : Draft → Line → Result Draft FaultKind
-step_line d line.GroupFail = Ok (step_groupfail d)
-step_line d line.Phase = Ok (step_phase d)
+step_line d line.GroupFail = step_groupfail d
+step_line d line.Phase = step_phase d
 step_line d (line.Member member) = step_member d member
 step_line d line.Restart = step_restart d
 step_line d (line.Fail at) = step_fail d at

@@ -1,14 +1,16 @@
 -- The script that a text spells, or the text's first fault.
-use Rattle.std.specs.Prelude.{ℕ, ◌+◌, if◌then◌else◌, nat_lt, List, [], ◌∷◌, Option, Some, None, Result, Ok, Err}
+use Rattle.std.specs.Prelude.{◌≡◌, ℕ, ◌+◌, if◌then◌else◌, nat_lt, List, [], ◌∷◌, Option, Some, None, Result, Ok, Err}
 use Rattle.ds_model.specs.declared.script.Script.{Script}
 use Rattle.ds_model.specs.declared.script.ScriptFault.{ScriptFault}
 use Rattle.ds_model.specs.declared.script.FaultKind.{FaultKind}
 use Rattle.ds_model.specs.declared.script.FaultKind.TheVariants as fault
 use Rattle.script_line.specs.Words.{and_then}
 use Rattle.script_line.specs.Lines.{is_skipped, keyword_in, line_in}
-use Rattle.script_text.specs.declared.draft.Place.{Place}
-use Rattle.script_text.specs.declared.draft.Place.TheVariants as place
+use Rattle.script_line.specs.declared.line.LineError.{LineError}
+use Rattle.script_line.specs.declared.line.LineError.TheVariants as line_error
 use Rattle.script_text.specs.declared.draft.Draft.{Draft}
+use Rattle.script_text.specs.declared.read.ScriptError.{ScriptError}
+use Rattle.script_text.specs.declared.read.ScriptError.TheVariants as script_error
 use Rattle.script_text.specs.TextLines.{TextLine, lines_of}
 use Rattle.script_text.specs.Drafts.{start, closed, place_fault, step_line}
 
@@ -27,31 +29,43 @@ step_bytes members d bytes = if is_skipped bytes then Ok d else step_words membe
 abbrev pub step : ℕ → Draft → TextLine → Result Draft FaultKind
 step members d l = if nat_lt 4194304 l.end then Err fault.TooLong else step_bytes members d l.bytes
 
-abbrev pub fault_at : ℕ → FaultKind → ScriptFault
-fault_at number kind = record { line = number; kind = kind }
-
 abbrev pub script_of_closed : Draft → Script
 script_of_closed d = record { phases = d.phases; groupfails = d.groupfails }
 
--- behind the last line, where a line of this number would stand
-abbrev pub finished_at : ℕ → Draft → Place → Result Script ScriptFault
-finished_at number d place.Outside = Ok (script_of_closed (closed d))
-finished_at number d (place.Phase parts) = Ok (script_of_closed (closed d))
-finished_at number d (place.Part parts part) = Ok (script_of_closed (closed d))
-finished_at number d (place.Tran parts part name wait ops) = Err (fault_at number fault.End)
+abbrev pub or_end : Result Draft FaultKind → Result Script FaultKind
+or_end (Ok d) = Ok (script_of_closed d)
+or_end (Err kind) = Err fault.End
 
-abbrev pub finished : ℕ → Draft → Result Script ScriptFault
-finished number d = finished_at number d d.place
+-- behind the last line the open phase is ended, unless a transaction is open
+abbrev pub finished : Draft → Result Script FaultKind
+finished d = or_end (closed d)
+
+-- a fault, of the line of this number
+abbrev pub at_line : ℕ → Result Script FaultKind → Result Script ScriptFault
+at_line number (Ok s) = Ok s
+at_line number (Err kind) = Err (record { line = number; kind = kind })
 
 abbrev pub go_on : ℕ → (Draft → Result Script ScriptFault) → Result Draft FaultKind → Result Script ScriptFault
 go_on number more (Ok d) = more d
-go_on number more (Err kind) = Err (fault_at number kind)
+go_on number more (Err kind) = Err (record { line = number; kind = kind })
 
 -- the lines from this number on, behind what was read
 abbrev pub read_lines : ℕ → ℕ → Draft → List TextLine → Result Script ScriptFault
-read_lines members number d [] = finished number d
+read_lines members number d [] = at_line number (finished d)
 read_lines members number d (l ∷ ls) = go_on number (λ e. read_lines members (number + 1) e ls) (step members d l)
 
 -- the script of a text, for a group of so many members
 unfoldable pub script_of : ℕ → List ℕ → Result Script ScriptFault
 script_of members text = read_lines members 1 start (lines_of text)
+
+-- ---- what code gives, or want of memory
+
+abbrev pub Ends : Result Script FaultKind → Result Script LineError → Type 0
+Ends said (Ok s) = said ≡ Ok s
+Ends said (Err (line_error.Fault kind)) = said ≡ Err kind
+Ends said (Err line_error.NoMemory) = Unit {0}
+
+abbrev pub Reads : Result Script ScriptFault → Result Script ScriptError → Type 0
+Reads said (Ok s) = said ≡ Ok s
+Reads said (Err (script_error.Fault f)) = said ≡ Err f
+Reads said (Err script_error.NoMemory) = Unit {0}

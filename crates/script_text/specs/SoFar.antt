@@ -4,7 +4,7 @@ use Rattle.std.specs.List.{flat_map, list_any}
 use Rattle.ds_model.specs.declared.script.Part.{Part}
 use Rattle.ds_model.specs.declared.script.Phase.{Phase}
 use Rattle.ds_model.specs.Transactions.{Placed, placed_phase}
-use Rattle.ds_model.specs.Scripts.{phase_fails, part_raises}
+use Rattle.ds_model.specs.Scripts.{flags_raised, part_raises, failing_as, phase_fails}
 use Rattle.script_text.specs.declared.draft.Place.{Place}
 use Rattle.script_text.specs.declared.draft.Place.TheVariants as place
 use Rattle.script_text.specs.declared.draft.Draft.{Draft}
@@ -49,6 +49,10 @@ names_so_far d = map (λ (p : Placed). p.1.name) (flat_map placed_phase (phases_
 abbrev pub members_failed : Draft → List ℕ
 members_failed d = flat_map phase_fails d.phases
 
+-- the members that the open phase lets fail so far
+abbrev pub members_failing : Draft → List ℕ
+members_failing d = flat_map (λ (p : Part). failing_as p.member p.fail) (parts_of d.place)
+
 -- the members with a part in the open phase
 abbrev pub members_playing : Draft → List ℕ
 members_playing d = map (λ (p : Part). p.member) (parts_of d.place)
@@ -56,3 +60,13 @@ members_playing d = map (λ (p : Part). p.member) (parts_of d.place)
 -- the flags that the ended transactions of the open phase raise
 abbrev pub flags_raised_by_others : Draft → List ℕ
 flags_raised_by_others d = flat_map part_raises (parts_of d.place)
+
+abbrev pub flags_at : Place → List ℕ
+flags_at place.Outside = []
+flags_at (place.Phase parts) = []
+flags_at (place.Part parts part) = []
+flags_at (place.Tran parts part name wait ops) = flags_raised ops
+
+-- the flags that the open transaction raises so far
+abbrev pub flags_raised_now : Draft → List ℕ
+flags_raised_now d = flags_at d.place

@@ -1,5 +1,6 @@
-ghost use Rattle.std.specs.Prelude.{◌≡◌, ◌<◌, ◌-◌, ◌^◌, OnOk};
-ghost use Rattle.script_text.specs.Drafts.{IsStep, closed, fail_step, group_failed, is_first, is_one_too_many, may_stand, member_step, op_step, phase_begun, restart_step, start, end_step, tran_step, whole};
+ghost use Rattle.std.specs.Prelude.{◌≡◌, ◌<◌, ◌-◌, ◌^◌};
+ghost use Rattle.script_text.specs.Indexes.{IsStep};
+ghost use Rattle.script_text.specs.Drafts.{closed, is_first, member_at, restarted_at, step_fail,  is_one_too_many, may_stand, op_taken, part_begun, start, step_end, tran_begun};
 
 use crate::limits::{OPS_LIMIT, PHASES_LIMIT, TRANS_LIMIT};
 use ds_base::{Bytes, MemberId, NoMemory, Sequence};
@@ -94,6 +95,16 @@ impl Draft {
         }
     }
 
+    /// The member of the open part, between its transactions.
+    pub fn playing(&self) -> Option<MemberId>
+        ensures { result ≡ member_at self.now.place }
+    {
+        match &self.place {
+            Place::Part { part, .. } => Some(part.member),
+            _ => None,
+        }
+    }
+
     /// Whether the open transaction is the first of its part.
     pub fn is_first_tran(&self) -> bool
         ensures { result ≡ is_first self.now.place }
@@ -101,6 +112,154 @@ impl Draft {
         match &self.place {
             Place::Tran { part, .. } => part.trans.is_empty(),
             _ => false,
+        }
+    }
+}
+
+fn may_stand_in_part(part: &Part, keyword: Keyword) -> bool {
+    match keyword {
+        Keyword::GroupFail | Keyword::Phase | Keyword::Member | Keyword::Tran => true,
+        Keyword::Restart => !part.restart && may_fail(part),
+        Keyword::Fail => may_fail(part),
+        Keyword::Operation | Keyword::End => false,
+    }
+}
+
+// Whether neither a fail line nor a transaction stands in the part.
+fn may_fail(part: &Part) -> bool {
+    part.fail.is_none() && part.trans.is_empty()
+}
+
+// A part of which no more than its first line was read.
+fn part_of(alloc: Global, member: MemberId) -> Part {
+    Part {
+        member,
+        restart: false,
+        fail: None,
+        trans: Sequence::new(alloc),
+    }
+}
+
+// What a line adds.
+impl Draft {
+    // Ends the phase that is open.
+    pub fn close(&mut self) -> Result<(), LineError>
+        ensures { IsStep (closed self.old) self.new result }
+    {
+        let parts = match mem::replace(&mut self.place, Place::Outside) {
+            Place::Outside => return Ok(()),
+            Place::Phase { parts } => parts,
+            Place::Part { mut parts, part } => {
+                parts.push(part)?;
+                parts
+            }
+            Place::Tran { .. } => return Err(LineError::Fault(FaultKind::Word)),
+        };
+        let groupfails = mem::replace(&mut self.groupfails, 0);
+        self.phases.push(Phase { groupfails, parts })?;
+        Ok(())
+    }
+
+    pub fn begin_part(&mut self, alloc: Global, member: MemberId) -> Result<(), LineError>
+        ensures { IsStep (part_begun self.old self.old.place member) self.new result }
+    {
+        let part = part_of(alloc, member);
+        match mem::replace(&mut self.place, Place::Outside) {
+            Place::Phase { parts } => {
+                self.place = Place::Part { parts, part };
+                Ok(())
+            }
+            Place::Part {
+                mut parts,
+                part: last,
+            } => {
+                parts.push(last)?;
+                self.place = Place::Part { parts, part };
+                Ok(())
+            }
+            _ => Err(LineError::Fault(FaultKind::Word)),
+        }
+    }
+
+    // The open part restarts.
+    pub fn restart(&mut self) -> Result<(), LineError>
+        ensures { IsStep (restarted_at self.old self.old.place) self.new result }
+    {
+        match &mut self.place {
+            Place::Part { part, .. } => {
+                part.restart = true;
+                Ok(())
+            }
+            _ => Err(LineError::Fault(FaultKind::Word)),
+        }
+    }
+
+    // The open part fails.
+    pub fn fail(&mut self, at: FailAt) -> Result<(), LineError>
+        ensures { IsStep (step_fail self.old at) self.new result }
+    {
+        match &mut self.place {
+            Place::Part { part, .. } => {
+                part.fail = Some(at);
+                Ok(())
+            }
+            _ => Err(LineError::Fault(FaultKind::Word)),
+        }
+    }
+
+    pub fn begin_tran(&mut self, alloc: Global, name: Bytes, wait: bool) -> Result<(), LineError>
+        requires { self.old.count < 2 ^ 32 - 1 }
+        ensures { IsStep (tran_begun self.old self.old.place name wait) self.new result }
+    {
+        match mem::replace(&mut self.place, Place::Outside) {
+            Place::Part { parts, part } => {
+                self.count += 1;
+                self.place = Place::Tran {
+                    parts,
+                    part,
+                    name,
+                    wait,
+                    ops: Sequence::new(alloc),
+                };
+                Ok(())
+            }
+            _ => Err(LineError::Fault(FaultKind::Word)),
+        }
+    }
+
+    pub fn take_op(&mut self, op: Op) -> Result<(), LineError>
+        ensures { IsStep (op_taken self.old self.old.place op) self.new result }
+    {
+        match &mut self.place {
+            Place::Tran { ops, .. } => {
+                ops.push(op)?;
+                Ok(())
+            }
+            _ => Err(LineError::Fault(FaultKind::Word)),
+        }
+    }
+
+    pub fn end_tran(&mut self) -> Result<(), LineError>
+        ensures { IsStep (step_end self.old) self.new result }
+    {
+        match mem::replace(&mut self.place, Place::Outside) {
+            Place::Tran {
+                parts,
+                mut part,
+                name,
+                wait,
+                ops,
+            } => {
+                part.trans.push(Tran {
+                    name,
+                    number: self.count,
+                    wait,
+                    ops,
+                })?;
+                self.place = Place::Part { parts, part };
+                Ok(())
+            }
+            _ => Err(LineError::Fault(FaultKind::Word)),
         }
     }
 }

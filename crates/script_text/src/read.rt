@@ -1,0 +1,59 @@
+use crate::limits::TEXT_LIMIT;
+use crate::lines::{cut_line, line_of};
+use crate::reader::Reader;
+use ds_base::NoMemory;
+use ds_model::{FaultKind, Script, ScriptFault};
+use script_line::LineError;
+use std::alloc::Global;
+
+/// Why a text was not read.
+#[derive(Clone, Copy, Debug, PartialEq, Eq)]
+pub enum ScriptError {
+    /// It is no script.
+    Fault(ScriptFault),
+    NoMemory,
+}
+
+// What went wrong at the line of this number.
+fn at_line(number: u32, error: LineError) -> ScriptError {
+    match error {
+        LineError::Fault(kind) => ScriptError::Fault(ScriptFault { line: number, kind }),
+        LineError::NoMemory => ScriptError::NoMemory,
+    }
+}
+
+// Reads the line whose last byte, with what ends it, is this one of the text, counted from 1.
+fn read_piece(
+    alloc: Global,
+    reader: &mut Reader,
+    piece: &[u8],
+    end: usize,
+    members: u8,
+) -> Result<(), LineError> {
+    if end > TEXT_LIMIT {
+        return Err(LineError::Fault(FaultKind::TooLong));
+    }
+    reader.read_line(alloc, line_of(piece), members)
+}
+
+/// The script that a text spells, for a group of so many members, or the text's first fault.
+pub fn read_script(alloc: Global, bytes: &[u8], members: u8) -> Result<Script, ScriptError> {
+    let mut reader = Reader::new(alloc);
+    let mut number: u32 = 1;
+    let mut end: usize = 0;
+    let mut rest = bytes;
+    while !rest.is_empty() {
+        let (piece, after) = cut_line(rest);
+        end += piece.len();
+        match read_piece(alloc, &mut reader, piece, end, members) {
+            Ok(()) => {}
+            Err(error) => return Err(at_line(number, error)),
+        }
+        number += 1;
+        rest = after;
+    }
+    match reader.finish() {
+        Ok(script) => Ok(script),
+        Err(error) => Err(at_line(number, error)),
+    }
+}
