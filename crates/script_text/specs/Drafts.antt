@@ -16,13 +16,24 @@ use Rattle.script_line.specs.Words.{mapped}
 use Rattle.script_text.specs.declared.draft.Place.{Place}
 use Rattle.script_text.specs.declared.draft.Place.TheVariants as place
 use Rattle.script_text.specs.declared.draft.Draft.{Draft}
-use Rattle.script_text.specs.SoFar.{has_number, has_name, phase_with, phases_so_far, names_so_far, members_failed, members_playing, flags_raised_by_others}
+use Rattle.script_text.specs.SoFar.{has_number, has_name, phase_with, names_so_far, members_failed, members_playing, flags_raised_by_others}
 
 -- ---- where a line may stand, by its first word
 
 -- no fail line and no transaction stands in the part
 abbrev pub may_fail : Part → Bool
 may_fail p = is_none p.fail && (length p.trans == 0)
+
+-- between the transactions of the part
+abbrev pub may_stand_in : Part → Keyword → Bool
+may_stand_in part keyword.GroupFail = true
+may_stand_in part keyword.Phase = true
+may_stand_in part keyword.Member = true
+may_stand_in part keyword.Restart = not part.restart && may_fail part
+may_stand_in part keyword.Fail = may_fail part
+may_stand_in part keyword.Tran = true
+may_stand_in part keyword.Operation = false
+may_stand_in part keyword.End = false
 
 abbrev pub may_stand : Place → Keyword → Bool
 may_stand place.Outside keyword.GroupFail = true
@@ -32,13 +43,7 @@ may_stand (place.Phase parts) keyword.GroupFail = true
 may_stand (place.Phase parts) keyword.Phase = true
 may_stand (place.Phase parts) keyword.Member = true
 may_stand (place.Phase parts) _ = false
-may_stand (place.Part parts part) keyword.GroupFail = true
-may_stand (place.Part parts part) keyword.Phase = true
-may_stand (place.Part parts part) keyword.Member = true
-may_stand (place.Part parts part) keyword.Restart = not part.restart && may_fail part
-may_stand (place.Part parts part) keyword.Fail = may_fail part
-may_stand (place.Part parts part) keyword.Tran = true
-may_stand (place.Part parts part) _ = false
+may_stand (place.Part parts part) k = may_stand_in part k
 may_stand (place.Tran parts part name wait ops) keyword.Operation = true
 may_stand (place.Tran parts part name wait ops) keyword.End = true
 may_stand (place.Tran parts part name wait ops) _ = false
@@ -50,9 +55,19 @@ open_ops (place.Phase parts) = 0
 open_ops (place.Part parts part) = 0
 open_ops (place.Tran parts part name wait ops) = length ops
 
+abbrev pub begun_at : ℕ → Place → ℕ
+begun_at ended place.Outside = ended
+begun_at ended (place.Phase parts) = ended + 1
+begun_at ended (place.Part parts part) = ended + 1
+begun_at ended (place.Tran parts part name wait ops) = ended + 1
+
+-- how many phases have begun
+abbrev pub phases_begun : Draft → ℕ
+phases_begun d = begun_at (length d.phases) d.place
+
 -- the line begins one phase, transaction or operation more than a limit allows
 abbrev pub is_one_too_many : Draft → Keyword → Bool
-is_one_too_many d keyword.Phase = nat_le 1024 (length (phases_so_far d))
+is_one_too_many d keyword.Phase = nat_le 1024 (phases_begun d)
 is_one_too_many d keyword.Tran = nat_le 65536 d.count
 is_one_too_many d keyword.Operation = nat_le 64 (open_ops d.place)
 is_one_too_many d _ = false

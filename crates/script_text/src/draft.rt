@@ -1,11 +1,11 @@
-ghost use Rattle.std.specs.Prelude.{◌≡◌, ◌<◌, ◌-◌, ◌^◌};
+ghost use Rattle.std.specs.Prelude.{◌≡◌, ◌<◌, ◌-◌, ◌^◌, nat_le};
 ghost use Rattle.script_text.specs.Indexes.{IsStep};
-ghost use Rattle.script_text.specs.Drafts.{closed, is_first, member_at, restarted_at, step_fail,  is_one_too_many, may_stand, op_taken, part_begun, start, step_end, tran_begun};
+ghost use Rattle.script_text.specs.Drafts.{closed, is_first, is_one_too_many, may_fail, may_stand, may_stand_in, member_at, op_taken, open_ops, part_begun, part_of, phases_begun, restarted_at, start, step_end, step_fail, tran_begun};
 
 use crate::limits::{OPS_LIMIT, PHASES_LIMIT, TRANS_LIMIT};
 use ds_base::{Bytes, MemberId, NoMemory, Sequence};
 use ds_model::{
-    FailAt, FaultKind, Op, OpList, Part, PartList, Phase, PhaseList, Script, Tran, TranList,
+    FailAt, FaultKind, Op, OpList, Part, PartList, Phase, PhaseList, Tran,
 };
 use script_line::{Keyword, LineError};
 use std::alloc::Global;
@@ -74,21 +74,28 @@ impl Draft {
         ensures { result ≡ is_one_too_many self.now keyword }
     {
         match keyword {
-            Keyword::Phase => self.phases_begun() >= PHASES_LIMIT,
+            Keyword::Phase => self.has_all_phases(),
             Keyword::Tran => self.count >= TRANS_LIMIT,
             Keyword::Operation => self.open_ops() >= OPS_LIMIT,
             _ => false,
         }
     }
 
-    fn phases_begun(&self) -> usize {
+    // Whether no more phases may begin.
+    #[tactic(auto, using(crate::proofs::Counts::with_open))]
+    fn has_all_phases(&self) -> bool
+        ensures { result ≡ nat_le 1024 (phases_begun self.now) }
+    {
         match &self.place {
-            Place::Outside => self.phases.len(),
-            _ => self.phases.len() + 1,
+            Place::Outside => self.phases.len() >= PHASES_LIMIT,
+            _ => self.phases.len() >= PHASES_LIMIT - 1,
         }
     }
 
-    fn open_ops(&self) -> usize {
+    // How many operations the open transaction has.
+    fn open_ops(&self) -> usize
+        ensures { result ≡ open_ops self.now.place }
+    {
         match &self.place {
             Place::Tran { ops, .. } => ops.len(),
             _ => 0,
@@ -116,7 +123,10 @@ impl Draft {
     }
 }
 
-fn may_stand_in_part(part: &Part, keyword: Keyword) -> bool {
+// Whether a line of this kind may stand in the part, between its transactions.
+fn may_stand_in_part(part: &Part, keyword: Keyword) -> bool
+    ensures { result ≡ may_stand_in part.now keyword }
+{
     match keyword {
         Keyword::GroupFail | Keyword::Phase | Keyword::Member | Keyword::Tran => true,
         Keyword::Restart => !part.restart && may_fail(part),
@@ -126,12 +136,16 @@ fn may_stand_in_part(part: &Part, keyword: Keyword) -> bool {
 }
 
 // Whether neither a fail line nor a transaction stands in the part.
-fn may_fail(part: &Part) -> bool {
+fn may_fail(part: &Part) -> bool
+    ensures { result ≡ may_fail part.now }
+{
     part.fail.is_none() && part.trans.is_empty()
 }
 
 // A part of which no more than its first line was read.
-fn part_of(alloc: Global, member: MemberId) -> Part {
+fn part_of(alloc: Global, member: MemberId) -> Part
+    ensures { result ≡ part_of member }
+{
     Part {
         member,
         restart: false,
