@@ -1,3 +1,9 @@
 pub mod Lists
 pub mod Counts
 pub mod SoFar
+pub mod Pieces
+pub mod Inserted
+pub mod Blank
+pub mod Indexed
+pub mod Grows
+pub mod Loops

@@ -1,5 +1,5 @@
 -- How each step changes what a draft says.
-use Rattle.std.proofs.Common.{◌≡◌, ℕ, ◌+◌, Bool, true, false, ◌||◌, eqb, List, [], ◌∷◌, ◌++◌, map, Option, Some, None, IfOk, Result, Ok, Err, refl, sym, ap, ◌∙◌, append_assoc, append-nil}
+use Rattle.std.proofs.Common.{◌≡◌, ℕ, ◌+◌, Bool, true, false, ◌||◌, eqb, List, [], ◌∷◌, ◌++◌, map, Option, Some, None, IfOk, Result, Ok, Err, refl, sym, ap, ◌∙◌, subst, append_assoc, append-nil}
 use Rattle.std.specs.List.{flat_map, list_any}
 use Rattle.std.proofs.lemmas.List.{map_push}
 use Rattle.std.proofs.lemmas.List.Concat.{flat_map-append}
@@ -15,7 +15,7 @@ use Rattle.script_text.specs.declared.draft.Place.{Place}
 use Rattle.script_text.specs.declared.draft.Place.TheVariants as place
 use Rattle.script_text.specs.declared.draft.Draft.{Draft}
 use Rattle.script_text.specs.SoFar.{has_number, has_name, parts_of, phase_with, names_so_far, members_failed, members_failing, members_playing, flags_raised_by_others, flags_raised_now}
-use Rattle.script_text.specs.Drafts.{draft_at, moved, closed_at, failed_again, in_phase, part_of, part_begun, restarted, restarted_at, failing, fail_at, tran_begun, op_taken, tran_of, with_tran, tran_ended}
+use Rattle.script_text.specs.Drafts.{draft_at, moved, closed_at, failed_again, in_phase, part_of, part_begun, restarted, restarted_at, member_at, failing, fail_at, tran_begun, op_taken, tran_of, with_tran, tran_ended}
 
 pub record Says (e : Draft) (names : List (List ℕ)) (failed failing playing raised now : List ℕ) : Type 0 where
   pub names_say : names_so_far e ≡ names
@@ -184,21 +184,23 @@ fails_twice : (xs : List ℕ) (m n : ℕ) (o : Option FailAt) → has_number (xs
 fails_twice xs m n None = has_pushed xs m n ∙ ap (λ ys. has_number ys n || eqb m n) (sym (append-nil xs))
 fails_twice xs m n (Some at) = has_pushed xs m n ∙ or_twice (has_number xs n) (eqb m n) ∙ ap (λ b. b || eqb m n) (sym (has_pushed xs m n))
 
-pub fail_says : (phases : List Phase) (g c : ℕ) (p : Place) (at : FailAt) (m : ℕ) → IfOk (fail_at (draft_at phases g c p) p at) (λ e. (parts : List Part) (part : Part) → p ≡ place.Part parts part → SaysFails e (draft_at phases g c p) part.member)
-fail_says phases g c place.Outside at m = tt
-fail_says phases g c (place.Phase parts) at m = tt
-fail_says phases g c (place.Part parts part) at m = λ qs q h. let same : q ≡ part = cc in rw same (record {
-  names_say = ap (λ ns. ns ++ []) (same_names phases g g parts (failing at part) part refl);
-  failed_say = refl;
-  failing_say = λ n.
-      ap (λ xs. has_number xs n) (push_flat fails_of parts (failing at part))
-      ∙ fails_twice (flat_map fails_of parts) part.member n part.fail
-      ∙ ap (λ xs. has_number xs n || eqb part.member n) (sym (push_flat fails_of parts part));
-  playing_say = map_push member_of parts (failing at part) ∙ sym (map_push member_of parts part);
-  raised_say = same_push part_raises parts (failing at part) part refl;
-  now_say = refl;
-})
-fail_says phases g c (place.Tran parts part name wait ops) at m = tt
+pub fail_says : (phases : List Phase) (g c : ℕ) (p : Place) (at : FailAt) (m : ℕ) → member_at p ≡ Some m → IfOk (fail_at (draft_at phases g c p) p at) (λ e. SaysFails e (draft_at phases g c p) m)
+fail_says phases g c place.Outside at m h = tt
+fail_says phases g c (place.Phase parts) at m h = tt
+fail_says phases g c (place.Part parts part) at m h =
+    let same : part.member ≡ m = cc in
+    subst (λ (k : ℕ). SaysFails (draft_at phases g c (place.Part parts (failing at part))) (draft_at phases g c (place.Part parts part)) k) same (record {
+      names_say = ap (λ ns. ns ++ []) (same_names phases g g parts (failing at part) part refl);
+      failed_say = refl;
+      failing_say = λ n.
+          ap (λ xs. has_number xs n) (push_flat fails_of parts (failing at part))
+          ∙ fails_twice (flat_map fails_of parts) part.member n part.fail
+          ∙ ap (λ xs. has_number xs n || eqb part.member n) (sym (push_flat fails_of parts part));
+      playing_say = map_push member_of parts (failing at part) ∙ sym (map_push member_of parts part);
+      raised_say = same_push part_raises parts (failing at part) part refl;
+      now_say = refl;
+    })
+fail_says phases g c (place.Tran parts part name wait ops) at m h = tt
 
 pub tran_begun_says : (phases : List Phase) (g c : ℕ) (p : Place) (name : List ℕ) (wait : Bool) → IfOk (tran_begun (draft_at phases g c p) p name wait) (λ e. Says e (names_so_far (draft_at phases g c p) ++ name ∷ []) (members_failed (draft_at phases g c p)) (members_failing (draft_at phases g c p)) (members_playing (draft_at phases g c p)) (flags_raised_by_others (draft_at phases g c p)) (flags_raised_now (draft_at phases g c p)))
 tran_begun_says phases g c place.Outside name wait = tt

@@ -1,5 +1,5 @@
 -- What the indexes of a reader hold of the script so far.
-use Rattle.std.specs.Prelude.{◌≡◌, ℕ, Bool, false, List, get_or, Result, Ok, Err, ◌+◌, ◌<◌, ◌≤◌}
+use Rattle.std.specs.Prelude.{◌≡◌, ℕ, Bool, false, List, get_or, Result, Ok, Err}
 use Rattle.std.specs.List.{flat_map, list_any}
 use Rattle.std.specs.Ordering.{nat_cmp}
 use Rattle.std.specs.Cmp.Lexicographic.{slice_cmp}
@@ -37,8 +37,3 @@ abbrev pub IsStep : Result Draft FaultKind → Draft → Result (Unit {0}) LineE
 IsStep next now (Ok done) = next ≡ Ok now
 IsStep next now (Err (error.Fault kind)) = next ≡ Err kind
 IsStep next now (Err error.NoMemory) = Unit {0}
-
--- the lines' numbers bound the draft's counts
-pub record Grows (old new : Draft) : Type 0 where
-  pub groupfails_by_one : new.groupfails ≤ old.groupfails + 1
-  pub count_by_one : new.count ≤ old.count + 1

@@ -65,6 +65,10 @@ Ends said (Ok s) = said ≡ Ok s
 Ends said (Err (line_error.Fault kind)) = said ≡ Err kind
 Ends said (Err line_error.NoMemory) = Unit {0}
 
+abbrev pub error_at : ℕ → LineError → ScriptError
+error_at number (line_error.Fault kind) = script_error.Fault (record { line = number; kind = kind })
+error_at number line_error.NoMemory = script_error.NoMemory
+
 abbrev pub Reads : Result Script ScriptFault → Result Script ScriptError → Type 0
 Reads said (Ok s) = said ≡ Ok s
 Reads said (Err (script_error.Fault f)) = said ≡ Err f

@@ -13,7 +13,7 @@ abbrev pub has_number : List ℕ → ℕ → Bool
 has_number xs n = list_any (λ x. x == n) xs
 
 abbrev pub has_name : List (List ℕ) → List ℕ → Bool
-has_name names name = list_any (λ x. bytes_eq x name) names
+has_name names name = list_any (λ x. bytes_eq name x) names
 
 -- the parts of the open phase, with the open one, but without its open transaction
 abbrev pub parts_of : Place → List Part

@@ -1,4 +1,4 @@
-ghost use Rattle.std.specs.Prelude.{◌≡◌, ◌+◌, ◌<◌, ◌∷◌, length};
+ghost use Rattle.std.specs.Prelude.{◌≡◌, ◌==◌, ℕ, ◌+◌, ◌<◌, ◌≤◌, ◌∷◌, length, take, drop, position};
 ghost use Rattle.script_text.specs.TextLines.{ends_in, line_of, pieces};
 
 // Whether the bytes end in this one.
@@ -23,10 +23,21 @@ pub fn line_of(piece: &[u8]) -> &[u8]
     }
 }
 
+// Where the first line feed stands.
+fn line_feed(text: &[u8]) -> Option<usize>
+    ensures { result ≡ position (λ (b : ℕ). b == 10) text.now }
+{
+    text.iter().position(|b| *b == b'\n')
+}
+
 // How many bytes the first line of a text has, its line feed among them.
 fn first_length(text: &[u8]) -> usize
+    requires { 0 < length text.now }
+    ensures within { result ≤ length text.now }
+    ensures some { 0 < result }
+    ensures pieces { pieces text.now ≡ take result text.now ∷ pieces (drop result text.now) }
 {
-    match text.iter().position(|b| *b == b'\n') {
+    match line_feed(text) {
         Some(at) => at + 1,
         None => text.len(),
     }

@@ -27,7 +27,7 @@ impl Names {
     }
 
     pub fn add(&mut self, alloc: Global, name: &[u8]) -> Result<(), NoMemory>
-        ensures { OnOk result ((q : List ℕ) → is_kept self.new q ≡ (is_kept self.old q || bytes_eq name.now q)) }
+        ensures { OnOk result ((q : List ℕ) → is_kept self.new q ≡ (is_kept self.old q || bytes_eq q name.now)) }
     {
         self.kept.insert(Vec::from_slice(alloc, name)?)?;
         Ok(())

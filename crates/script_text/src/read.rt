@@ -1,3 +1,8 @@
+ghost use Rattle.std.specs.Prelude.{◌≡◌, ◌<◌, ◌≤◌, ◌-◌, ◌^◌, OnOk};
+ghost use Rattle.script_text.specs.Indexes.{IsIndexed, IsStep};
+ghost use Rattle.script_text.specs.Reading.{Reads, error_at, script_of, step};
+ghost use Rattle.script_text.specs.TextLines.{line_of};
+
 use crate::limits::TEXT_LIMIT;
 use crate::lines::{cut_line, line_of};
 use crate::reader::Reader;
@@ -15,7 +20,9 @@ pub enum ScriptError {
 }
 
 // What went wrong at the line of this number.
-fn at_line(number: u32, error: LineError) -> ScriptError {
+fn at_line(number: u32, error: LineError) -> ScriptError
+    ensures { result ≡ error_at number error }
+{
     match error {
         LineError::Fault(kind) => ScriptError::Fault(ScriptFault { line: number, kind }),
         LineError::NoMemory => ScriptError::NoMemory,
@@ -29,7 +36,14 @@ fn read_piece(
     piece: &[u8],
     end: usize,
     members: u8,
-) -> Result<(), LineError> {
+) -> Result<(), LineError>
+    requires members { (1 ≤ members) × (members ≤ 32) }
+    requires indexed { IsIndexed reader.old }
+    requires groupfails { reader.old.draft.groupfails < 2 ^ 32 - 1 }
+    requires count { reader.old.draft.count < 2 ^ 32 - 1 }
+    ensures next { IsStep (step members reader.old.draft (record { bytes = line_of piece.now; end = end })) reader.new.draft result }
+    ensures indexed { OnOk result (IsIndexed reader.new) }
+{
     if end > TEXT_LIMIT {
         return Err(LineError::Fault(FaultKind::TooLong));
     }
@@ -37,7 +51,10 @@ fn read_piece(
 }
 
 /// The script that a text spells, for a group of so many members, or the text's first fault.
-pub fn read_script(alloc: Global, bytes: &[u8], members: u8) -> Result<Script, ScriptError> {
+pub fn read_script(alloc: Global, bytes: &[u8], members: u8) -> Result<Script, ScriptError>
+    requires { (1 ≤ members) × (members ≤ 32) }
+    ensures { Reads (script_of members bytes.now) result }
+{
     let mut reader = Reader::new(alloc);
     let mut number: u32 = 1;
     let mut end: usize = 0;

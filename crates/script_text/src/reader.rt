@@ -1,7 +1,8 @@
 ghost use Rattle.std.specs.Prelude.{◌≡◌, ◌<◌, ◌≤◌, ◌-◌, ◌^◌, OnOk, IfOk};
 ghost use Rattle.script_text.specs.Drafts.{closed, may_use_flags, place_fault, start, step_groupfail, step_phase, step_member, step_restart, step_fail, step_tran, step_op, step_end, step_line};
-ghost use Rattle.script_text.specs.Indexes.{Grows, IsIndexed, IsStep};
+ghost use Rattle.script_text.specs.Indexes.{IsIndexed, IsStep};
 ghost use Rattle.script_text.specs.Reading.{Ends, step_bytes, finished};
+ghost use Rattle.script_text.specs.declared.draft.Place.TheVariants.{Outside};
 
 use crate::draft::{Draft, Place};
 use crate::marks::Marks;
@@ -48,6 +49,7 @@ impl Reader {
         requires { IsIndexed self.old }
         ensures next { IsStep (closed self.old.draft) self.new.draft result }
         ensures indexed { OnOk result (IsIndexed self.new) }
+        ensures outside { OnOk result (self.new.draft.place ≡ Outside) }
     {
         self.draft.close()?;
         self.failed.mark_all(&self.failing);
