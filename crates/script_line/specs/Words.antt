@@ -1,5 +1,5 @@
 -- The words of a line, and what a word may be.
-use Rattle.std.specs.Prelude.{ℕ, ◌==◌, Bool, true, ◌&&◌, ◌||◌, if◌then◌else◌, nat_lt, nat_le, List, [], ◌∷◌, length, Option, Some, None, Result, Ok, Err, filter}
+use Rattle.std.specs.Prelude.{ℕ, ◌==◌, Bool, true, not, ◌&&◌, ◌||◌, if◌then◌else◌, nat_lt, nat_le, List, [], ◌∷◌, length, Option, Some, None, Result, Ok, Err, filter}
 use Rattle.std.specs.List.{list_all, slice_split}
 use Rattle.ds_model.specs.declared.script.FaultKind.{FaultKind}
 use Rattle.ds_model.specs.declared.script.FaultKind.TheVariants as fault
@@ -7,6 +7,9 @@ use Rattle.number_text.specs.Numbers.{number_of}
 
 abbrev pub is_blank : ℕ → Bool
 is_blank b = b == 32
+
+abbrev pub is_solid : ℕ → Bool
+is_solid b = not (is_blank b)
 
 abbrev pub is_some_word : List ℕ → Bool
 is_some_word word = nat_lt 0 (length word)

@@ -106,6 +106,17 @@ fn line_under(
     }
 }
 
+// What a line with this first word and this behind it says.
+fn line_behind(alloc: Global, first: &[u8], rest: &[u8], members: u8) -> Result<Line, LineError>
+    requires { members ≤ 32 }
+    ensures { spec.Gives (spec.line_behind members (spec.keyword_of first.now) first.now (words_of rest.now)) result }
+{
+    match keyword_of(first) {
+        Some(keyword) => line_under(alloc, keyword, first, rest, members),
+        None => Err(LineError::Fault(FaultKind::Word)),
+    }
+}
+
 fn is_ascii(line: &[u8]) -> bool
     ensures { result ≡ words.is_ascii line.now }
 {
@@ -119,15 +130,11 @@ pub fn line_in(alloc: Global, line: &[u8], members: u8) -> Result<Line, LineErro
     requires { (1 ≤ members) × (members ≤ 32) }
     ensures { spec.Gives (spec.line_in members line.now) result }
 {
-    let fault = LineError::Fault(FaultKind::Word);
     if !is_ascii(line) {
-        return Err(fault);
+        return Err(LineError::Fault(FaultKind::Word));
     }
-    let Some((first, rest)) = next_word(line) else {
-        return Err(fault);
-    };
-    match keyword_of(first) {
-        Some(keyword) => line_under(alloc, keyword, first, rest, members),
-        None => Err(fault),
+    match next_word(line) {
+        Some((first, rest)) => line_behind(alloc, first, rest, members),
+        None => Err(LineError::Fault(FaultKind::Word)),
     }
 }

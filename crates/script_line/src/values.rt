@@ -1,6 +1,7 @@
 //! Words by what they may be, each with the fault of a word that isn't one.
 
 ghost use Rattle.std.specs.Prelude.{◌≡◌, ◌≤◌, ◌^◌, ◌<◌};
+ghost use Rattle.std.specs.List.{list_all};
 ghost use Rattle.script_line.specs.Words as words;
 ghost use Rattle.script_line.specs.Lines as spec;
 
@@ -75,11 +76,17 @@ fn is_name_byte(byte: u8) -> bool
     matches!(byte, b'0'..=b'9' | b'A'..=b'Z' | b'a'..=b'z' | b'-' | b'_')
 }
 
+fn are_name_bytes(word: &[u8]) -> bool
+    ensures { result ≡ list_all words.is_name_byte word.now }
+{
+    word.iter().all(|b| is_name_byte(*b))
+}
+
 /// Whether the bytes are a name of a transaction.
 pub fn is_name(word: &[u8]) -> bool
     ensures { result ≡ words.is_name word.now }
 {
-    1 <= word.len() && word.len() <= NAME_LIMIT && word.iter().all(|b| is_name_byte(*b))
+    1 <= word.len() && word.len() <= NAME_LIMIT && are_name_bytes(word)
 }
 
 fn value_of(alloc: Global, bytes: &[u8]) -> Result<Value, FaultKind>

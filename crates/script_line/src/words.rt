@@ -1,30 +1,36 @@
 //! The words of a line.
 
-ghost use Rattle.std.specs.Prelude.{◌≡◌, ◌≢◌, ◌==◌, ◌<◌, ℕ, not, [], ◌∷◌, length, MatchOption};
-ghost use Rattle.std.specs.List.{position};
+ghost use Rattle.std.specs.Prelude.{◌≡◌, ◌≢◌, ◌<◌, ◌≤◌, [], ◌∷◌, length, MatchOption};
+ghost use Rattle.std.specs.List.{prefix_len};
 ghost use Rattle.script_line.specs.Lines as spec;
-ghost use Rattle.script_line.specs.Words.{words_of};
+ghost use Rattle.script_line.specs.Words.{is_blank, is_solid, words_of};
 
-// Where the first byte stands that is no blank.
-fn first_byte(line: &[u8]) -> Option<usize>
-    ensures { result ≡ position (λ (b : ℕ). not (b == 32)) line.now }
+// How many blanks a line begins with.
+fn blanks_before(line: &[u8]) -> usize
+    ensures count { result ≡ prefix_len is_blank line.now }
+    ensures bound { result ≤ length line.now }
 {
-    line.iter().position(|b| *b != b' ')
+    line.iter().take_while(|b| **b == b' ').count()
 }
 
-fn first_blank(line: &[u8]) -> Option<usize>
-    ensures { result ≡ position (λ (b : ℕ). b == 32) line.now }
+// How many bytes stand before the first blank.
+fn word_length(line: &[u8]) -> usize
+    ensures count { result ≡ prefix_len is_solid line.now }
+    ensures bound { result ≤ length line.now }
 {
-    line.iter().position(|b| *b == b' ')
+    line.iter().take_while(|b| **b != b' ').count()
 }
 
 /// The first word of a line, and what stands behind it.
+#[tactic(auto, using(crate::proofs::FirstWords::no_words, crate::proofs::FirstWords::first_word))]
 pub fn next_word(line: &[u8]) -> Option<(&[u8], &[u8])>
     ensures { MatchOption result (words_of line.now ≡ []) (λ found. (words_of line.now ≡ found.0.now ∷ words_of found.1.now) × (0 < length found.0.now)) }
 {
-    let line = &line[first_byte(line)?..];
-    let end = first_blank(line).unwrap_or(line.len());
-    Some((&line[..end], &line[end..]))
+    let (_, line) = line.split_at(blanks_before(line));
+    match word_length(line) {
+        0 => None,
+        length => Some(line.split_at(length)),
+    }
 }
 
 /// The word of a line that has one.
