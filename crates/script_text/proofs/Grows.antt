@@ -1,5 +1,5 @@
 -- A line adds at most one transaction and at most one failure of the group.
-use Rattle.std.proofs.Common.{◌≡◌, ℕ, ◌+◌, ◌≤◌, Bool, true, false, nat_lt, List, IfOk, Option, Some, None, Result, Ok, Err, arith, subst, sym}
+use Rattle.std.proofs.Common.{◌≡◌, ℕ, ◌+◌, ◌≤◌, Bool, true, false, nat_lt, if◌then◌else◌, List, IfOk, Option, Some, None, Result, Ok, Err, arith}
 use Rattle.ds_model.specs.declared.script.FaultKind.{FaultKind}
 use Rattle.ds_model.specs.declared.script.FailAt.{FailAt}
 use Rattle.ds_model.specs.declared.script.Op.{Op}
