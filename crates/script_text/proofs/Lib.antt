@@ -7,3 +7,6 @@ pub mod Blank
 pub mod Indexed
 pub mod Grows
 pub mod Loops
+pub mod Members
+pub mod Kept
+pub mod Sound

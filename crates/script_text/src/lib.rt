@@ -2,6 +2,7 @@
 #![tactic(auto)]
 
 mod draft;
+mod laws;
 mod lines;
 mod limits;
 mod marks;
@@ -16,6 +17,7 @@ pub use ds_model::{
     FailAt, FaultKind, Op, OpList, Part, PartList, Phase, PhaseList, Script, ScriptFault, Tran,
     TranList,
 };
+pub use laws::reading_script_laws;
 pub use limits::{OPS_LIMIT, PHASES_LIMIT, TEXT_LIMIT, TRANS_LIMIT};
 pub use read::{ScriptError, read_script};
 pub use write::script_bytes;
