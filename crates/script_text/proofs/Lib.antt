@@ -10,3 +10,6 @@ pub mod Loops
 pub mod Members
 pub mod Kept
 pub mod Sound
+pub mod Spelled
+pub mod Cutting
+pub mod Runs

@@ -17,7 +17,7 @@ pub use ds_model::{
     FailAt, FaultKind, Op, OpList, Part, PartList, Phase, PhaseList, Script, ScriptFault, Tran,
     TranList,
 };
-pub use laws::reading_script_laws;
+pub use laws::{canonical_script_laws, reading_script_laws};
 pub use limits::{OPS_LIMIT, PHASES_LIMIT, TEXT_LIMIT, TRANS_LIMIT};
 pub use read::{ScriptError, read_script};
 pub use write::script_bytes;
