@@ -13,3 +13,4 @@ pub mod Sound
 pub mod Spelled
 pub mod Cutting
 pub mod Runs
+pub mod Round
