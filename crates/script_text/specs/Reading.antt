@@ -73,3 +73,9 @@ abbrev pub Reads : Result Script ScriptFault → Result Script ScriptError → T
 Reads said (Ok s) = said ≡ Ok s
 Reads said (Err (script_error.Fault f)) = said ≡ Err f
 Reads said (Err script_error.NoMemory) = Unit {0}
+
+-- this script, or want of memory
+abbrev pub IsReadAs : Script → Result Script ScriptError → Type 0
+IsReadAs s (Ok t) = t ≡ s
+IsReadAs s (Err (script_error.Fault f)) = ⊥
+IsReadAs s (Err script_error.NoMemory) = Unit {0}

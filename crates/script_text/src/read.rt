@@ -1,8 +1,12 @@
-ghost use Rattle.std.specs.Prelude.{◌≡◌, ◌<◌, ◌≤◌, ◌-◌, ◌^◌, OnOk};
+ghost use Rattle.std.specs.Prelude.{◌≡◌, ◌<◌, ◌≤◌, ◌-◌, ◌^◌, length, IfOk, OnOk};
+ghost use Rattle.ds_model.specs.ScriptText.{script_text};
+ghost use Rattle.ds_model.specs.Scripts.{IsScript};
+ghost use Rattle.ds_model.specs.declared.script.Script.{Script};
 ghost use Rattle.script_text.specs.Indexes.{IsIndexed, IsStep};
-ghost use Rattle.script_text.specs.Reading.{Reads, error_at, script_of, step};
+ghost use Rattle.script_text.specs.Reading.{IsReadAs, Reads, error_at, script_of, step};
 ghost use Rattle.script_text.specs.TextLines.{line_of};
 
+use crate::laws::{canonical_script_laws, reading_script_laws};
 use crate::limits::TEXT_LIMIT;
 use crate::lines::{cut_line, line_of};
 use crate::reader::Reader;
@@ -29,7 +33,7 @@ fn at_line(number: u32, error: LineError) -> ScriptError
     }
 }
 
-// Reads the line whose last byte, with what ends it, is this one of the text, counted from 1.
+// Reads a line, with what ends it. The text has so many bytes up to its end.
 fn read_piece(
     alloc: Global,
     reader: &mut Reader,
@@ -50,8 +54,8 @@ fn read_piece(
     reader.read_line(alloc, line_of(piece), members)
 }
 
-/// The script that a text spells, for a group of so many members, or the text's first fault.
-pub fn read_script(alloc: Global, bytes: &[u8], members: u8) -> Result<Script, ScriptError>
+// The script of a text, line by line.
+fn read_text(alloc: Global, bytes: &[u8], members: u8) -> Result<Script, ScriptError>
     requires { (1 ≤ members) × (members ≤ 32) }
     ensures { Reads (script_of members bytes.now) result }
 {
@@ -73,4 +77,19 @@ pub fn read_script(alloc: Global, bytes: &[u8], members: u8) -> Result<Script, S
         Ok(script) => Ok(script),
         Err(error) => Err(at_line(number, error)),
     }
+}
+
+/// The script that a text spells, for a group of 1 to 32 members, or the first line with a fault and what is wrong with it.
+///
+/// Lines end with a line feed, which the last may lack; a carriage return directly before it is dropped. Words
+/// are apart by spaces. Lines without words, and those whose first word begins with `#`, are skipped.
+pub fn read_script(alloc: Global, bytes: &[u8], members: u8) -> Result<Script, ScriptError>
+    requires { (1 ≤ members) × (members ≤ 32) }
+    ensures read { Reads (script_of members bytes.now) result }
+    ensures script { IfOk result (IsScript members) }
+    ensures canonical { (s : Script) → IsScript members s → length (script_text s) ≤ 4194304 → bytes.now ≡ script_text s → IsReadAs s result }
+{
+    reading_script_laws();
+    canonical_script_laws();
+    read_text(alloc, bytes, members)
 }

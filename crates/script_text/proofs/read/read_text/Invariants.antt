@@ -2,7 +2,7 @@ use Rattle.std.proofs.Common.{◌≡◌, ◌+◌, ◌≤◌, length}
 use Rattle.script_text.specs.Indexes.{IsIndexed}
 use Rattle.script_text.specs.Reading.{read_lines, script_of}
 use Rattle.script_text.specs.TextLines.{lines_behind, pieces}
-use Rattle.script_text.proofs.read.read_script.Given as goal
+use Rattle.script_text.proofs.read.read_text.Given as goal
 
 abbrev pub invariant-loop-rest : goal.invariant-loop-rest
 invariant-loop-rest l = record {
