@@ -103,4 +103,4 @@ pub step_grows : (members : ℕ) (d : Draft) (l : TextLine) → FromTo d (step m
 step_grows members d l =
     test_err (nat_lt 4194304 l.end) _ d (step_bytes members d l.bytes)
     (skip_grows (is_skipped l.bytes) d (step_words members d l.bytes)
-      (unless_grows d (place_fault d (keyword_in l.bytes)) _ (read_grows d (line_in members l.bytes))))
+    (unless_grows d (place_fault d (keyword_in l.bytes)) _ (read_grows d (line_in members l.bytes))))

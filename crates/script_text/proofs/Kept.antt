@@ -80,10 +80,13 @@ Is members d = IsDraft members d.phases d.count d.place
 
 parts_push : (m : ℕ) (f r h : List ℕ) (ps : List Part) (p : Part) → AreParts m f r h ps → Lacks (h ++ map (λ (p : Part). p.member) ps) p.member → IsPart m f (r ++ flat_map part_raises ps) p → AreParts m f r h (ps ++ p ∷ [])
 parts_push m f r h [] p a l i = (subst (λ xs. Lacks xs p.member) (append-nil h) l, subst (λ xs. IsPart m f xs p) (append-nil r) i, tt)
-parts_push m f r h (q ∷ ps) p a l i =
-    (a.0, a.1, parts_push m f (r ++ part_raises q) (h ++ q.member ∷ []) ps p a.2
+parts_push m f r h (q ∷ ps) p a l i = (
+  a.0,
+  a.1,
+  parts_push m f (r ++ part_raises q) (h ++ q.member ∷ []) ps p a.2
       (subst (λ xs. Lacks xs p.member) (sym (append_assoc h (q.member ∷ []) (map (λ (p : Part). p.member) ps))) l)
-      (subst (λ xs. IsPart m f xs p) (sym (append_assoc r (part_raises q) (flat_map part_raises ps))) i))
+      (subst (λ xs. IsPart m f xs p) (sym (append_assoc r (part_raises q) (flat_map part_raises ps))) i),
+)
 
 one_part : (m : ℕ) (f : List ℕ) (ps : List Part) (p : Part) → AreParts m f [] [] ps → IsNext m f ps p → AreParts m f [] [] (ps ++ p ∷ [])
 one_part m f ps p a n = parts_push m f [] [] ps p a n.new n.is_part
@@ -164,17 +167,20 @@ restart_keeps m phases g c (place.Part parts part) member h k s =
     record {
       phases_short = h.phases_short;
       phases_are = h.phases_are;
-      place_is = (h.place_is.0, record {
-        new = i.new;
-        is_part = record {
-          member_in = i.is_part.member_in;
-          restarts = λ e. subst (Contains (flat_map phase_fails phases)) (sym (s parts part refl)) (contains_number (flat_map phase_fails phases) member k);
-          fail_in = i.is_part.fail_in;
-          trans_are = i.is_part.trans_are;
-          first_alone = i.is_part.first_alone;
-          raises_its_own = i.is_part.raises_its_own;
-        };
-      });
+      place_is = (
+        h.place_is.0,
+        record {
+          new = i.new;
+          is_part = record {
+            member_in = i.is_part.member_in;
+            restarts = λ e. subst (Contains (flat_map phase_fails phases)) (sym (s parts part refl)) (contains_number (flat_map phase_fails phases) member k);
+            fail_in = i.is_part.fail_in;
+            trans_are = i.is_part.trans_are;
+            first_alone = i.is_part.first_alone;
+            raises_its_own = i.is_part.raises_its_own;
+          };
+        },
+      );
       counts = h.counts;
     }
 restart_keeps m phases g c (place.Tran parts part name wait ops) member h k s = tt
@@ -187,17 +193,20 @@ fail_keeps m phases g c (place.Part parts part) at h k =
     record {
       phases_short = h.phases_short;
       phases_are = h.phases_are;
-      place_is = (h.place_is.0, record {
-        new = i.new;
-        is_part = record {
-          member_in = i.is_part.member_in;
-          restarts = i.is_part.restarts;
-          fail_in = k;
-          trans_are = i.is_part.trans_are;
-          first_alone = i.is_part.first_alone;
-          raises_its_own = i.is_part.raises_its_own;
-        };
-      });
+      place_is = (
+        h.place_is.0,
+        record {
+          new = i.new;
+          is_part = record {
+            member_in = i.is_part.member_in;
+            restarts = i.is_part.restarts;
+            fail_in = k;
+            trans_are = i.is_part.trans_are;
+            first_alone = i.is_part.first_alone;
+            raises_its_own = i.is_part.raises_its_own;
+          };
+        },
+      );
       counts = h.counts;
     }
 fail_keeps m phases g c (place.Tran parts part name wait ops) at h k = tt
@@ -266,13 +275,17 @@ op_keeps m phases g c (place.Tran parts part name wait ops) o h i l k =
     record {
       phases_short = h.phases_short;
       phases_are = h.phases_are;
-      place_is = (h.place_is.0, h.place_is.1, record {
-        named = q.named;
-        short = omega (arith, length-append {A = Op});
-        ops_are = all_push IsOp ops o q.ops_are i;
-        later = λ e. all_push LeavesFlags ops o (q.later e) (op_leaves (draft_at phases g c (place.Tran parts part name wait ops)) parts part name wait ops o refl k e);
-        own = subst (AllByRecursion (Lacks (flat_map part_raises parts))) (sym (push_flat flag_raised ops o)) (all_append (Lacks (flat_map part_raises parts)) (flags_raised ops) (flag_raised o) q.own (op_raises phases g c parts part name wait ops o k));
-      });
+      place_is = (
+        h.place_is.0,
+        h.place_is.1,
+        record {
+          named = q.named;
+          short = omega (arith, length-append {A = Op});
+          ops_are = all_push IsOp ops o q.ops_are i;
+          later = λ e. all_push LeavesFlags ops o (q.later e) (op_leaves (draft_at phases g c (place.Tran parts part name wait ops)) parts part name wait ops o refl k e);
+          own = subst (AllByRecursion (Lacks (flat_map part_raises parts))) (sym (push_flat flag_raised ops o)) (all_append (Lacks (flat_map part_raises parts)) (flags_raised ops) (flag_raised o) q.own (op_raises phases g c parts part name wait ops o k));
+        },
+      );
       counts = h.counts;
     }
 
@@ -319,16 +332,19 @@ end_keeps m phases g c (place.Tran parts part name wait ops) h =
     record {
       phases_short = h.phases_short;
       phases_are = h.phases_are;
-      place_is = (h.place_is.0, record {
-        new = h.place_is.1.new;
-        is_part = record {
-          member_in = i.member_in;
-          restarts = i.restarts;
-          fail_in = i.fail_in;
-          trans_are = all_push IsTran part.trans (tran_of name c wait ops) i.trans_are (record { named = q.named; short = q.short; ops_are = q.ops_are });
-          first_alone = alone_push part.trans (tran_of name c wait ops) i.first_alone q.later;
-          raises_its_own = subst (AllByRecursion (Lacks (flat_map part_raises parts))) (sym (push_flat raises_of part.trans (tran_of name c wait ops))) (all_append (Lacks (flat_map part_raises parts)) (part_raises part) (flags_raised ops) i.raises_its_own q.own);
-        };
-      });
+      place_is = (
+        h.place_is.0,
+        record {
+          new = h.place_is.1.new;
+          is_part = record {
+            member_in = i.member_in;
+            restarts = i.restarts;
+            fail_in = i.fail_in;
+            trans_are = all_push IsTran part.trans (tran_of name c wait ops) i.trans_are (record { named = q.named; short = q.short; ops_are = q.ops_are });
+            first_alone = alone_push part.trans (tran_of name c wait ops) i.first_alone q.later;
+            raises_its_own = subst (AllByRecursion (Lacks (flat_map part_raises parts))) (sym (push_flat raises_of part.trans (tran_of name c wait ops))) (all_append (Lacks (flat_map part_raises parts)) (part_raises part) (flags_raised ops) i.raises_its_own q.own);
+          };
+        },
+      );
       counts = recount c 0 _ _ [] (sym (ended_more phases parts part (tran_of name c wait ops))) (count_end c (ended phases (place.Part parts part)) (placed_tran part.member (tran_of name c wait ops)) h.counts refl);
     }

@@ -57,9 +57,9 @@ nothing y c = omega (arith, c.1)
 pub differ_push : (xs : List (List ℕ)) (y : List ℕ) → Differ xs → (Contains xs y → ⊥) → Differ (xs ++ y ∷ [])
 differ_push [] y d h = ((λ c. nothing y c), tt)
 differ_push (x ∷ xs) y d h = (
-    (λ c. apart xs x y d.0 (λ e. h (subst (Contains (x ∷ xs)) (sym e) (Contains-append_left (x ∷ []) xs x (Contains-push [] x)))) (Contains-push_cases xs y x c)),
-    differ_push xs y d.1 (λ c. h (Contains-append_right (x ∷ []) xs y c)),
-  )
+  (λ c. apart xs x y d.0 (λ e. h (subst (Contains (x ∷ xs)) (sym e) (Contains-append_left (x ∷ []) xs x (Contains-push [] x)))) (Contains-push_cases xs y x c)),
+  differ_push xs y d.1 (λ c. h (Contains-append_right (x ∷ []) xs y c)),
+)
 
 pub fewer : (xs ys : List ℕ) (n : ℕ) → Lacks (xs ++ ys) n → Lacks xs n
 fewer xs ys n h c = h (Contains-append_left xs ys n c)

@@ -102,8 +102,7 @@ in_tran phases g c qs x name wait ops = draft_at phases g c (place.Tran qs x nam
 run_ops : (m : ℕ) (phases : List Phase) (g c : ℕ) (qs : List Part) (x : Part) (name : List ℕ) (wait : Bool) (done os : List Op) → length done + length os ≤ 64 → AllByRecursion IsOp os → FlagsFit qs x os → Runs m (in_tran phases g c qs x name wait done) (map lines.Operation os) (in_tran phases g c qs x name wait (done ++ os))
 run_ops m phases g c qs x name wait done [] l h k = ap (in_tran phases g c qs x name wait) (sym (append-nil done))
 run_ops m phases g c qs x name wait done (o ∷ os) l h k =
-    let next = in_tran phases g c qs x name wait (done ++ o ∷ []) in
-    (
+    let next = in_tran phases g c qs x name wait (done ++ o ∷ []) in (
       in_tran phases g c qs x name wait (done ++ o ∷ []),
       record {
         ranged = h.0;
@@ -111,8 +110,8 @@ run_ops m phases g c qs x name wait done (o ∷ os) l h k =
         steps = ap (λ (b : Bool). if b then Ok (in_tran phases g c qs x name wait (done ++ o ∷ [])) else Err fault.Flag) (op_fits phases g c qs x name wait done o os k);
       },
       at_end m (in_tran phases g c qs x name wait (done ++ o ∷ [])) (map lines.Operation os) (in_tran phases g c qs x name wait ((done ++ o ∷ []) ++ os)) (in_tran phases g c qs x name wait (done ++ o ∷ os))
-      (ap (in_tran phases g c qs x name wait) (append_assoc done (o ∷ []) os))
-      (run_ops m phases g c qs x name wait (done ++ o ∷ []) os (omega (arith, length-append {A = Op})) h.1 (rest_fits qs x o os k)),
+          (ap (in_tran phases g c qs x name wait) (append_assoc done (o ∷ []) os))
+          (run_ops m phases g c qs x name wait (done ++ o ∷ []) os (omega (arith, length-append {A = Op})) h.1 (rest_fits qs x o os k)),
     )
 
 -- ---- the next transaction of all
@@ -172,8 +171,7 @@ same_tran t n h = ap (λ (k : ℕ). tran_of t.name k t.wait t.ops) (sym h)
 
 run_tran : (m : ℕ) (phases : List Phase) (g c : ℕ) (qs : List Part) (x : Part) (t : Tran) → IsTran t → FlagsFit qs x t.ops → c ≡ length (ended phases (place.Part qs x)) → Next (ended phases (place.Part qs x)) (placed_tran x.member t) → Runs m (in_part phases g c qs x) (tran_lines t) (in_part phases g (c + 1) qs (with_tran x t))
 run_tran m phases g c qs x t h f e n =
-    let lacked = ap (λ (ns : List (List ℕ)). has_name ns t.name) (names_ended phases g c qs x) ∙ name_lacked (map name_of (ended phases (place.Part qs x))) t.name n.new in
-    (
+    let lacked = ap (λ (ns : List (List ℕ)). has_name ns t.name) (names_ended phases g c qs x) ∙ name_lacked (map name_of (ended phases (place.Part qs x))) t.name n.new in (
       in_tran phases g (c + 1) qs x t.name t.wait [],
       record {
         ranged = h.named;
@@ -181,10 +179,10 @@ run_tran m phases g c qs x t h f e n =
         steps = ap (λ (b : Bool). if b then Err fault.Name else Ok (in_tran phases g (c + 1) qs x t.name t.wait [])) lacked;
       },
       joined m (in_tran phases g (c + 1) qs x t.name t.wait []) (map lines.Operation t.ops) (lines.End ∷ []) (in_tran phases g (c + 1) qs x t.name t.wait t.ops) (in_part phases g (c + 1) qs (with_tran x t))
-      (run_ops m phases g (c + 1) qs x t.name t.wait [] t.ops (omega (arith, h.short)) h.ops_are f)
-      (at_end m (in_tran phases g (c + 1) qs x t.name t.wait t.ops) (lines.End ∷ []) (in_part phases g (c + 1) qs (with_tran x (tran_of t.name (c + 1) t.wait t.ops))) (in_part phases g (c + 1) qs (with_tran x t))
-        (ap (λ (u : Tran). in_part phases g (c + 1) qs (with_tran x u)) (same_tran t (c + 1) (omega (arith, n.number_is))))
-        (one m (in_tran phases g (c + 1) qs x t.name t.wait t.ops) lines.End _ (record { ranged = tt; placed_right = refl; steps = refl }))),
+          (run_ops m phases g (c + 1) qs x t.name t.wait [] t.ops (omega (arith, h.short)) h.ops_are f)
+          (at_end m (in_tran phases g (c + 1) qs x t.name t.wait t.ops) (lines.End ∷ []) (in_part phases g (c + 1) qs (with_tran x (tran_of t.name (c + 1) t.wait t.ops))) (in_part phases g (c + 1) qs (with_tran x t))
+          (ap (λ (u : Tran). in_part phases g (c + 1) qs (with_tran x u)) (same_tran t (c + 1) (omega (arith, n.number_is))))
+          (one m (in_tran phases g (c + 1) qs x t.name t.wait t.ops) lines.End _ (record { ranged = tt; placed_right = refl; steps = refl }))),
     )
 
 abbrev all_raised : List Tran → List ℕ
@@ -218,10 +216,10 @@ run_trans m W phases g c qs x (t ∷ ts) Y good h f e w =
     joined m (in_part phases g c qs x) (tran_lines t) (flat_map tran_lines ts) (in_part phases g (c + 1) qs (with_tran x t)) (in_part phases g (c + length (t ∷ ts)) qs (with_trans x (t ∷ ts)))
     (run_tran m phases g c qs x t h.0 (first_fits qs x t ts f) e (next_of W (ended phases (place.Part qs x)) (placed_tran x.member t) (map (placed_tran x.member) ts ++ Y) good w))
     (at_end m (in_part phases g (c + 1) qs (with_tran x t)) (flat_map tran_lines ts) (in_part phases g (c + 1 + length ts) qs (with_trans (with_tran x t) ts)) (in_part phases g (c + length (t ∷ ts)) qs (with_trans x (t ∷ ts)))
-      (with_more phases g (c + 1 + length ts) (c + length (t ∷ ts)) qs x (x.trans ++ t ∷ [] ++ ts) (x.trans ++ t ∷ ts) (omega arith) (append_assoc x.trans (t ∷ []) ts))
-      (run_trans m W phases g (c + 1) qs (with_tran x t) ts Y good h.1 (later_fit qs x (with_tran x t) t ts f)
-        (omega (arith, ap length more, length-append {A = Placed}))
-        (w ∙ sym (append_assoc (ended phases (place.Part qs x)) (placed_tran x.member t ∷ []) (map (placed_tran x.member) ts ++ Y)) ∙ ap (λ (xs : List Placed). xs ++ (map (placed_tran x.member) ts ++ Y)) (sym more))))
+    (with_more phases g (c + 1 + length ts) (c + length (t ∷ ts)) qs x (x.trans ++ t ∷ [] ++ ts) (x.trans ++ t ∷ ts) (omega arith) (append_assoc x.trans (t ∷ []) ts))
+    (run_trans m W phases g (c + 1) qs (with_tran x t) ts Y good h.1 (later_fit qs x (with_tran x t) t ts f)
+    (omega (arith, ap length more, length-append {A = Placed}))
+    (w ∙ sym (append_assoc (ended phases (place.Part qs x)) (placed_tran x.member t ∷ []) (map (placed_tran x.member) ts ++ Y)) ∙ ap (λ (xs : List Placed). xs ++ (map (placed_tran x.member) ts ++ Y)) (sym more))))
 
 -- ---- parts
 
@@ -271,15 +269,14 @@ before phases qs = flat_map placed_phase phases ++ flat_map placed_part qs
 
 run_part : (m : ℕ) (W : List Placed) (phases : List Phase) (g c : ℕ) (qs : List Part) (p : Place) (x : Part) (Y : List Placed) → Good W → Between qs p → Lacks (map (λ (p : Part). p.member) qs) x.member → IsPart m (flat_map phase_fails phases) (flat_map part_raises qs) x → c ≡ length (before phases qs) → W ≡ before phases qs ++ (placed_part x ++ Y) → Runs m (draft_at phases g c p) (part_lines x) (in_part phases g (c + length x.trans) qs x)
 run_part m W phases g c qs p x Y good b l i e w =
-    let idle : before phases qs ≡ flat_map placed_phase phases ++ (flat_map placed_part qs ++ []) = ap (λ (xs : List Placed). flat_map placed_phase phases ++ xs) (sym (append-nil (flat_map placed_part qs))) in
-    (
+    let idle : before phases qs ≡ flat_map placed_phase phases ++ (flat_map placed_part qs ++ []) = ap (λ (xs : List Placed). flat_map placed_phase phases ++ xs) (sym (append-nil (flat_map placed_part qs))) in (
       in_part phases g c qs (head x.member false None),
       begin_takes m phases g c qs p x.member b i.member_in l,
       joined m (in_part phases g c qs (head x.member false None)) (restart_lines x.restart) (fail_lines x.fail ++ flat_map tran_lines x.trans) (in_part phases g c qs (head x.member x.restart None)) (in_part phases g (c + length x.trans) qs x)
-      (run_restart m phases g c qs x.member x.restart i.restarts)
-      (joined m (in_part phases g c qs (head x.member x.restart None)) (fail_lines x.fail) (flat_map tran_lines x.trans) (in_part phases g c qs (head x.member x.restart x.fail)) (in_part phases g (c + length x.trans) qs x)
-        (run_fail m phases g c qs x.member x.restart x.fail i.fail_in)
-        (run_trans m W phases g c qs (head x.member x.restart x.fail) x.trans Y good i.trans_are (inl (refl, i.raises_its_own, i.first_alone))
+          (run_restart m phases g c qs x.member x.restart i.restarts)
+          (joined m (in_part phases g c qs (head x.member x.restart None)) (fail_lines x.fail) (flat_map tran_lines x.trans) (in_part phases g c qs (head x.member x.restart x.fail)) (in_part phases g (c + length x.trans) qs x)
+          (run_fail m phases g c qs x.member x.restart x.fail i.fail_in)
+          (run_trans m W phases g c qs (head x.member x.restart x.fail) x.trans Y good i.trans_are (inl (refl, i.raises_its_own, i.first_alone))
           (e ∙ ap length idle)
           (w ∙ ap (λ (xs : List Placed). xs ++ (placed_part x ++ Y)) idle))),
     )
@@ -316,12 +313,12 @@ run_parts m W phases g c qs (x ∷ ps) p Y good b a e w =
     let pushed : before phases (qs ++ x ∷ []) ≡ flat_map placed_phase phases ++ (flat_map placed_part qs ++ placed_part x) = ap (λ (xs : List Placed). flat_map placed_phase phases ++ xs) (push_flat placed_part qs x) in
     subst (PartsRun m phases g (draft_at phases g c p) (flat_map part_lines (x ∷ ps))) (append_assoc qs (x ∷ []) ps)
     (then_parts m phases g (draft_at phases g c p) (in_part phases g (c + length x.trans) qs x) (part_lines x) (flat_map part_lines ps) ((qs ++ x ∷ []) ++ ps)
-      (run_part m W phases g c qs p x (flat_map placed_part ps ++ Y) good b a.0 a.1 e (w ∙ ap (λ (xs : List Placed). before phases qs ++ xs) (append_assoc (placed_part x) (flat_map placed_part ps) Y)))
-      (run_parts m W phases g (c + length x.trans) (qs ++ x ∷ []) ps (place.Part qs x) Y good (later_place qs x)
-        (subst (λ (had : List ℕ). AreParts m (flat_map phase_fails phases) (flat_map part_raises (qs ++ x ∷ [])) had ps) (sym (map_push (λ (p : Part). p.member) qs x))
-          (subst (λ (raised : List ℕ). AreParts m (flat_map phase_fails phases) raised (map (λ (p : Part). p.member) qs ++ x.member ∷ []) ps) (sym (push_flat part_raises qs x)) a.2))
-        (longer (flat_map placed_phase phases) (flat_map placed_part qs) (placed_part x) c (length x.trans) e (long_part x.member x.trans) ∙ ap length (sym pushed))
-        (w ∙ regroup (flat_map placed_phase phases) (flat_map placed_part qs) (placed_part x) (flat_map placed_part ps) Y ∙ ap (λ (xs : List Placed). xs ++ (flat_map placed_part ps ++ Y)) (sym pushed))))
+    (run_part m W phases g c qs p x (flat_map placed_part ps ++ Y) good b a.0 a.1 e (w ∙ ap (λ (xs : List Placed). before phases qs ++ xs) (append_assoc (placed_part x) (flat_map placed_part ps) Y)))
+    (run_parts m W phases g (c + length x.trans) (qs ++ x ∷ []) ps (place.Part qs x) Y good (later_place qs x)
+    (subst (λ (had : List ℕ). AreParts m (flat_map phase_fails phases) (flat_map part_raises (qs ++ x ∷ [])) had ps) (sym (map_push (λ (p : Part). p.member) qs x))
+    (subst (λ (raised : List ℕ). AreParts m (flat_map phase_fails phases) raised (map (λ (p : Part). p.member) qs ++ x.member ∷ []) ps) (sym (push_flat part_raises qs x)) a.2))
+    (longer (flat_map placed_phase phases) (flat_map placed_part qs) (placed_part x) c (length x.trans) e (long_part x.member x.trans) ∙ ap length (sym pushed))
+    (w ∙ regroup (flat_map placed_phase phases) (flat_map placed_part qs) (placed_part x) (flat_map placed_part ps) Y ∙ ap (λ (xs : List Placed). xs ++ (flat_map placed_part ps ++ Y)) (sym pushed))))
 
 -- ---- phases
 
@@ -406,10 +403,10 @@ run_phases m W (x ∷ ps) d done c good h l a e w =
     let first = run_phase m W d done c x (flat_map placed_phase ps) good h (omega arith) a.0 e w in
     subst (PhasesRun m d (flat_map phase_lines (x ∷ ps))) (append_assoc done (x ∷ []) ps)
     (then_phases m d (phase_lines x) (flat_map phase_lines ps) (done ++ x ∷ []) ((done ++ x ∷ []) ++ ps) first
-      (run_phases m W ps first.last (done ++ x ∷ []) first.total good first.ready (omega (arith, length-append {A = Phase}))
-        (subst (λ (f : List ℕ). ArePhases m f ps) (sym (push_flat phase_fails done x)) a.1)
-        first.total_is
-        (w ∙ sym (append_assoc (flat_map placed_phase done) (placed_phase x) (flat_map placed_phase ps)) ∙ ap (λ (xs : List Placed). xs ++ flat_map placed_phase ps) (sym (push_flat placed_phase done x)))))
+    (run_phases m W ps first.last (done ++ x ∷ []) first.total good first.ready (omega (arith, length-append {A = Phase}))
+    (subst (λ (f : List ℕ). ArePhases m f ps) (sym (push_flat phase_fails done x)) a.1)
+    first.total_is
+    (w ∙ sym (append_assoc (flat_map placed_phase done) (placed_phase x) (flat_map placed_phase ps)) ∙ ap (λ (xs : List Placed). xs ++ flat_map placed_phase ps) (sym (push_flat placed_phase done x)))))
 
 -- ---- the whole
 

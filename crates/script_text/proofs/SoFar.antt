@@ -82,22 +82,28 @@ fails_of p = failing_as p.member p.fail
 -- what the open phase lets fail is failed
 pub closed_says : (phases : List Phase) (g c : ℕ) (p : Place) → IfOk (closed_at (draft_at phases g c p) p) (λ e. Says e (names_so_far (draft_at phases g c p)) (members_failed (draft_at phases g c p) ++ members_failing (draft_at phases g c p)) [] [] [] [] × (e.place ≡ place.Outside))
 closed_says phases g c place.Outside = (record { names_say = refl; failed_say = sym (append-nil (flat_map phase_fails phases)); failing_say = refl; playing_say = refl; raised_say = refl; now_say = refl }, refl)
-closed_says phases g c (place.Phase parts) = (record {
-  names_say = ap (λ ps. names_in ps ++ []) (append-nil (phases ++ phase_with g parts ∷ []));
-  failed_say = push_flat phase_fails phases (phase_with g parts);
-  failing_say = refl;
-  playing_say = refl;
-  raised_say = refl;
-  now_say = refl;
-}, refl)
-closed_says phases g c (place.Part parts part) = (record {
-  names_say = ap (λ ps. names_in ps ++ []) (append-nil (phases ++ phase_with g (parts ++ part ∷ []) ∷ []));
-  failed_say = push_flat phase_fails phases (phase_with g (parts ++ part ∷ []));
-  failing_say = refl;
-  playing_say = refl;
-  raised_say = refl;
-  now_say = refl;
-}, refl)
+closed_says phases g c (place.Phase parts) = (
+  record {
+    names_say = ap (λ ps. names_in ps ++ []) (append-nil (phases ++ phase_with g parts ∷ []));
+    failed_say = push_flat phase_fails phases (phase_with g parts);
+    failing_say = refl;
+    playing_say = refl;
+    raised_say = refl;
+    now_say = refl;
+  },
+  refl,
+)
+closed_says phases g c (place.Part parts part) = (
+  record {
+    names_say = ap (λ ps. names_in ps ++ []) (append-nil (phases ++ phase_with g (parts ++ part ∷ []) ∷ []));
+    failed_say = push_flat phase_fails phases (phase_with g (parts ++ part ∷ []));
+    failing_say = refl;
+    playing_say = refl;
+    raised_say = refl;
+    now_say = refl;
+  },
+  refl,
+)
 closed_says phases g c (place.Tran parts part name wait ops) = tt
 
 abbrev SaysSame : Draft → Draft → Type 0

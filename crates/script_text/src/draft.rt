@@ -4,9 +4,7 @@ ghost use Rattle.script_text.specs.Drafts.{closed, is_first, is_one_too_many, ma
 
 use crate::limits::{OPS_LIMIT, PHASES_LIMIT, TRANS_LIMIT};
 use ds_base::{Bytes, MemberId, NoMemory, Sequence};
-use ds_model::{
-    FailAt, FaultKind, Op, OpList, Part, PartList, Phase, PhaseList, Tran,
-};
+use ds_model::{FailAt, FaultKind, Op, OpList, Part, PartList, Phase, PhaseList, Tran};
 use script_line::{Keyword, LineError};
 use std::alloc::Global;
 use std::mem;
@@ -17,9 +15,14 @@ pub enum Place {
     /// In no phase.
     Outside,
     /// In a phase, before its first part.
-    Phase { parts: PartList },
+    Phase {
+        parts: PartList,
+    },
     /// In a part, between transactions. The parts are those before it.
-    Part { parts: PartList, part: Part },
+    Part {
+        parts: PartList,
+        part: Part,
+    },
     /// In a transaction of a part.
     Tran {
         parts: PartList,

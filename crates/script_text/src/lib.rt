@@ -3,8 +3,8 @@
 
 mod draft;
 mod laws;
-mod lines;
 mod limits;
+mod lines;
 mod marks;
 mod names;
 mod read;

@@ -241,7 +241,9 @@ impl Reader {
         match draft.close() {
             Ok(()) => {
                 let Draft {
-                    phases, groupfails, ..
+                    phases,
+                    groupfails,
+                    ..
                 } = draft;
                 Ok(Script { phases, groupfails })
             }

@@ -85,8 +85,18 @@ fn faults_outside_transactions(rt: HostRuntime) -> Result<(), Fail> {
         ("phase\nmember 1\nmember 2\nmember 1\n", 4, 4, Member),
         ("phase\nmember 1\nrestart\n", 4, 3, Restart),
         ("phase\nmember 1\nfail command 1\nrestart\n", 4, 4, Word),
-        ("phase\nmember 1\nfail command 1\nphase\nmember 2\nrestart\n", 4, 6, Restart),
-        ("phase\nmember 1\nfail commit 1\nfail commit 1\n", 4, 4, Word),
+        (
+            "phase\nmember 1\nfail command 1\nphase\nmember 2\nrestart\n",
+            4,
+            6,
+            Restart,
+        ),
+        (
+            "phase\nmember 1\nfail commit 1\nfail commit 1\n",
+            4,
+            4,
+            Word,
+        ),
         ("phase\nmember 1\nfail commit 0\n", 4, 3, Number),
         ("phase\nmember 1\nfail committed 4294967296\n", 4, 3, Number),
         ("phase\nmember 1\nfail raise 65\n", 4, 3, Number),
@@ -134,7 +144,12 @@ fn faults_in_transactions(rt: HostRuntime) -> Result<(), Fail> {
         ("await 65\n", 4, 1, Number),
         ("losecache 1\n", 4, 1, Word),
         ("end\ntran a\n", 4, 2, Name),
-        ("end\nphase\nmember 2\ntran b\nend\ntran a nowait\n", 4, 6, Name),
+        (
+            "end\nphase\nmember 2\ntran b\nend\ntran a nowait\n",
+            4,
+            6,
+            Name,
+        ),
         ("end\ntran b\nraise 1\n", 4, 3, Flag),
         ("end\ntran b\nawait 1\n", 4, 3, Flag),
         ("raise 1\nend\nmember 2\ntran b\nraise 1\n", 4, 5, Flag),
@@ -150,7 +165,10 @@ fn scripts_are_read(rt: HostRuntime) -> Result<(), Fail> {
         ("", ""),
         ("\n\r\n  \n# \u{e9}\n  #x", ""),
         ("groupfail\ngroupfail", "groupfail\ngroupfail\n"),
-        ("groupfail\nphase\ngroupfail\n", "groupfail\nphase\ngroupfail\n"),
+        (
+            "groupfail\nphase\ngroupfail\n",
+            "groupfail\nphase\ngroupfail\n",
+        ),
         ("  phase  \r\n member  01 ", "phase\nmember 1\n"),
         ("phase\nmember 00000000000000000032\n", "phase\nmember 32\n"),
         (
@@ -167,7 +185,10 @@ fn scripts_are_read(rt: HostRuntime) -> Result<(), Fail> {
         ),
     ];
     for (text, canonical) in cases {
-        assert!(rt; is_read_as(alloc, text.as_bytes(), canonical.as_bytes())?, "{text}");
+        assert!(rt;
+            is_read_as(alloc, text.as_bytes(), canonical.as_bytes())?,
+            "{text}"
+        );
     }
     Ok(())
 }
@@ -217,7 +238,10 @@ fn many_transactions_are_read(rt: HostRuntime) -> Result<(), Fail> {
     let mut text = joined(alloc, &["phase\nmember 1\n"])?;
     for number in 0..65_536u32 {
         let name = number.to_string(alloc)?;
-        let tran = joined(alloc, &["tran a", &name, "\nput 1 1 =", FIFTY_LETTERS, "\nend\n"])?;
+        let tran = joined(
+            alloc,
+            &["tran a", &name, "\nput 1 1 =", FIFTY_LETTERS, "\nend\n"],
+        )?;
         if number < 50_000 {
             text.extend_from_slice(&tran)?;
         } else {
@@ -228,9 +252,13 @@ fn many_transactions_are_read(rt: HostRuntime) -> Result<(), Fail> {
     assert!(rt; 4_000_000 < text.len() && text.len() <= TEXT_LIMIT);
     assert_eq!(rt; fault_of(alloc, &text, 1)?, None);
     text.extend_from_slice(b"tran\n")?;
-    assert_eq!(rt; fault_of(alloc, &text, 1)?, fault(2 + 50_000 * 3 + 15_536 * 2 + 1, TooLong));
+    assert_eq!(rt;
+        fault_of(alloc, &text, 1)?,
+        fault(2 + 50_000 * 3 + 15_536 * 2 + 1, TooLong)
+    );
     Ok(())
 }
+
 fn table(number: u64) -> Result<TableId, Fail> {
     Ok(TableId::new(number).ok_or("a table")?)
 }

@@ -15,5 +15,5 @@ returns-clause-indexed c =
     on_step (tran_begun c.args.self.now.draft c.args.self.now.draft.place c.args.name c.args.wait) c.begin_tran.new.self c.begin_tran.result
     (λ (e : Draft). IsIndexed (record c.args.self.now { draft = e; names = c.add.new.self })) c.begin_tran.ensures
     (IfOk-weaker (tran_begun c.args.self.now.draft c.args.self.now.draft.place c.args.name c.args.wait) (λ (e : Draft). SaysNamed e c.args.self.now.draft c.args.name) (λ (e : Draft). IsIndexed (record c.args.self.now { draft = e; names = c.add.new.self }))
-      (λ e s. named_indexed c.args.self.now e c.add.new.self c.args.name c.requires.indexed s kept)
-      (tran_begun_says d.phases d.groupfails d.count d.place c.args.name c.args.wait))
+    (λ e s. named_indexed c.args.self.now e c.add.new.self c.args.name c.requires.indexed s kept)
+    (tran_begun_says d.phases d.groupfails d.count d.place c.args.name c.args.wait))

@@ -10,6 +10,6 @@ pub returns-in_ok-fail-in-Some-clause-indexed : goal.returns-in_ok-fail-in-Some-
 returns-in_ok-fail-in-Some-clause-indexed c =
     let d = c.args.self.now.draft in
     let says = at_step (step_fail c.args.self.now.draft c.args.at) c.fail.new.self (λ (e : Draft). SaysFails e c.args.self.now.draft c.in-Some.member) c.in_ok-fail-in-Some.ensures
-        (fail_says d.phases d.groupfails d.count d.place c.args.at c.in-Some.member (sym c.in-Some.ensures)) in
+    (fail_says d.phases d.groupfails d.count d.place c.args.at c.in-Some.member (sym c.in-Some.ensures)) in
     fails_indexed c.args.self.now c.fail.new.self c.mark.new.self c.in-Some.member c.requires says
     (λ n. c.mark.ensures n ∙ ap (λ m. is_marked c.args.self.now.failing n || eqb m n) c.number.ensures.value)
