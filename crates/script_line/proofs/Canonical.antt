@@ -1,5 +1,5 @@
 -- The canonical text of a line is read as that line.
-use Rattle.std.proofs.Common.{◌≡◌, ℕ, ◌≤◌, Bool, true, false, List, [], ◌∷◌, ◌++◌, Some, Ok, refl, sym, ap, ◌∙◌, arith, append_assoc, append-nil, codes, rules, All}
+use Rattle.std.proofs.Common.{◌≡◌, ℕ, ◌≤◌, Bool, true, false, List, [], ◌∷◌, ◌++◌, Some, Ok, refl, ap, ◌∙◌, arith, append_assoc, append-nil, codes, All}
 use Rattle.std.specs.Fmt.{decimal}
 use Rattle.std.specs.List.{list_all}
 use Rattle.std.proofs.lemmas.List.Elements.{All-weaker}
@@ -8,12 +8,12 @@ use Rattle.ds_model.specs.declared.script.Op.{Op}
 use Rattle.ds_model.specs.declared.script.Op.TheVariants as op
 use Rattle.ds_model.specs.declared.script.FailAt.{FailAt}
 use Rattle.ds_model.specs.declared.script.FailAt.TheVariants as fail_at
-use Rattle.ds_model.specs.Scripts.{IsOp, IsName, FailIsAllowed}
+use Rattle.ds_model.specs.Scripts.{IsOp, FailIsAllowed}
 use Rattle.script_line.specs.declared.line.Line.{Line}
 use Rattle.script_line.specs.declared.line.Line.TheVariants as line
 use Rattle.script_line.specs.Canonical.{IsLine, IsPrinted, keyword_for, op_line_text, fail_line_text, text_of}
-use Rattle.script_line.specs.Lines.{table_in, key_in, spot_op, put_op, scan_op, op_line, fail_line, line_in, line_of_words, keyword_in, keyword_of_words, is_skipped}
-use Rattle.script_line.specs.Words.{words_of, is_ascii, are_skipped, and_then, mapped, value_in}
+use Rattle.script_line.specs.Lines.{table_in, key_in, spot_op, put_op, scan_op, op_line, fail_line, line_in, line_of_words, keyword_in, keyword_of_words}
+use Rattle.script_line.specs.Words.{words_of, is_ascii, and_then, mapped, value_in}
 use Rattle.script_line.proofs.LineOfWords.{by_words}
 use Rattle.script_line.proofs.Numbers.{member_is, table_is, key_is, flag_is, count_is}
 use Rattle.script_line.proofs.Ranges.{between_Decides, name_is, value_is}
@@ -213,4 +213,4 @@ keyword_of_text members l few h = ap keyword_of_words (words_of_text members l f
 pub text_is_printed : (members : ℕ) (l : Line) → members ≤ 32 → IsLine members l → All IsPrinted (text_of l)
 text_is_printed members l few h =
     All-weaker (λ b. is_printed b ≡ true) IsPrinted (λ b. (between_Decides 0x20 0x7e b).0) (text_of l)
-        (AllPass-from_list_all is_printed (text_of l) (ap (list_all is_printed) (text_is l) ∙ printed_spaced (words_in l) (seen_line members l few h)))
+    (AllPass-from_list_all is_printed (text_of l) (ap (list_all is_printed) (text_is l) ∙ printed_spaced (words_in l) (seen_line members l few h)))

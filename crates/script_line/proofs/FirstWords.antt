@@ -1,7 +1,6 @@
 -- The first word of a line, and the rest of them.
-use Rattle.std.proofs.Common.{◌≡◌, ◌≢◌, ℕ, suc, ◌+◌, ◌<◌, ◌≤◌, Bool, true, false, cond, not, List, [], ◌∷◌, length, take, drop, refl, sym, ap, ◌∙◌, arith, filter}
-use Rattle.std.specs.List.{prefix_len, slice_split, onto_first}
-use Rattle.std.proofs.lemmas.Grind.{common_steps}
+use Rattle.std.proofs.Common.{◌≡◌, ℕ, suc, ◌<◌, Bool, true, false, List, [], ◌∷◌, length, take, drop, refl, sym, ap, ◌∙◌, arith, filter}
+use Rattle.std.specs.List.{prefix_len, slice_split}
 use Rattle.std.proofs.Math.Numerals.{one-add}
 use Rattle.script_line.specs.Words.{is_blank, is_solid, is_some_word, words_of}
 

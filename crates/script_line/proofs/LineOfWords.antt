@@ -1,8 +1,8 @@
 -- What a line says, by its words.
-use Rattle.std.proofs.Common.{◌≡◌, ℕ, Bool, true, false, List, [], ◌∷◌, Err, refl, cond}
+use Rattle.std.proofs.Common.{◌≡◌, ℕ, true, false, List, [], ◌∷◌, Err, refl}
 use Rattle.ds_model.specs.declared.script.FaultKind.TheVariants as fault
 use Rattle.script_line.specs.Words.{words_of, is_ascii}
-use Rattle.script_line.specs.Lines.{line_in, line_of_words, line_behind, keyword_of, keyword_in}
+use Rattle.script_line.specs.Lines.{line_in, line_of_words, line_behind, keyword_of}
 
 pub not_ascii : (members : ℕ) (bytes : List ℕ) → is_ascii bytes ≡ false → line_in members bytes ≡ Err fault.Word
 unfolding line_in

@@ -1,16 +1,16 @@
 -- What the decimal digits of a number are read as.
-use Rattle.std.proofs.Common.{◌≡◌, ℕ, ◌<◌, ◌≤◌, ◌^◌, ◌-◌, Bool, true, nat_le, nat_lt, ◌&&◌, List, Some, Ok, length, refl, ap, ◌∙◌, arith, rules}
+use Rattle.std.proofs.Common.{◌≡◌, ℕ, ◌<◌, ◌≤◌, ◌^◌, ◌-◌, true, List, Some, Ok, length, refl, ap, ◌∙◌, arith, rules}
 use Rattle.std.specs.Fmt.{decimal}
 use Rattle.std.specs.Str.{all_ascii_digits}
 use Rattle.std.proofs.lemmas.Bool.{le-leb, lt-ltb}
 use Rattle.std.proofs.lemmas.Fmt.{digits_decimal, digits_value-decimal, decimal_nonempty, length-decimal-le}
 use Rattle.std.proofs.lemmas.Str.Parse.{IsNumeralModel, numerals_by_fold}
-use Rattle.number_text.specs.Numbers.{spelled, spelled_after, is_number, number_of}
+use Rattle.number_text.specs.Numbers.{spelled, spelled_after, number_of}
 use Rattle.ds_base.specs.Ids.{IsTable}
 use Rattle.ds_model.specs.Scripts.{IsFlag, IsKey, IsCount}
 use Rattle.ds_model.specs.declared.script.FaultKind.{FaultKind}
 use Rattle.ds_model.specs.declared.script.FaultKind.TheVariants as fault
-use Rattle.script_line.specs.Words.{is_between, between, member_in, number_in}
+use Rattle.script_line.specs.Words.{is_between, between, member_in}
 use Rattle.script_line.specs.Lines.{table_in, key_in, flag_in, count_in}
 
 numerals : IsNumeralModel (λ ds. all_ascii_digits ds ≡ true) spelled

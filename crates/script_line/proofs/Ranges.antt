@@ -1,7 +1,7 @@
 -- Tests of words, and what they say.
-use Rattle.std.proofs.Common.{◌≡◌, ◌⊎◌, inl, inr, ℕ, ◌≤◌, Bool, true, false, nat_le, List, Option, None, Some, Ok, Err, length, ◌∷◌, refl, sym, ap, ◌∙◌, cond, ok_or}
+use Rattle.std.proofs.Common.{◌≡◌, ◌⊎◌, inl, inr, ℕ, ◌≤◌, nat_le, List, Option, None, Some, Ok, length, ◌∷◌, refl, ok_or}
 use Rattle.std.specs.Bool.{Decides}
-use Rattle.std.specs.List.{All, list_all}
+use Rattle.std.specs.List.{list_all}
 use Rattle.std.specs.Option.{SomeIff}
 use Rattle.std.proofs.lemmas.Bool.Decides.{Decides-and, Decides-or, Decides-like, Decides-eqb, Decides-by_and}
 use Rattle.std.proofs.lemmas.Bool.{false_from_ne_true, leb-true, le-leb}

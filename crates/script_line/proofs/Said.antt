@@ -1,5 +1,5 @@
 -- What is read is in range.
-use Rattle.std.proofs.Common.{◌≡◌, ℕ, ◌≤◌, ◌<◌, ◌^◌, ◌-◌, ◌==◌, codes, Bool, true, false, if◌then◌else◌, List, [], ◌∷◌, Option, None, Some, Result, Ok, Err, IfOk, refl, sym, ap, ◌∙◌, subst, arith}
+use Rattle.std.proofs.Common.{◌≡◌, ℕ, ◌≤◌, ◌^◌, ◌-◌, ◌==◌, codes, Bool, true, false, if◌then◌else◌, List, [], ◌∷◌, Option, None, Some, Result, Ok, Err, IfOk, refl, sym, ap, subst, arith}
 use Rattle.std.specs.Str.{bytes_eq}
 use Rattle.ds_base.specs.Ids.{IsTable}
 use Rattle.ds_base.specs.Values.{IsValue}
@@ -17,7 +17,7 @@ use Rattle.script_line.specs.declared.line.Line.{Line}
 use Rattle.script_line.specs.declared.line.Line.TheVariants as line
 use Rattle.script_line.specs.Canonical.{IsLine, keyword_for}
 use Rattle.script_line.specs.Lines.{table_in, key_in, flag_in, count_in, spot_op, put_op, scan_op, flag_op, bare_op, op_line, bare, member_line, fail_at_in, fail_line, tran_as, tran_line, line_under, line_behind, line_of_words, line_in, keyword_of, keyword_of_words, keyword_in}
-use Rattle.script_line.specs.Words.{is_between, between, number_in, member_in, is_name, name_in, is_value, value_of, value_in, and_then, mapped, words_of, is_ascii}
+use Rattle.script_line.specs.Words.{is_between, between, member_in, is_name, name_in, is_value, value_of, value_in, and_then, mapped, words_of, is_ascii}
 use Rattle.script_line.proofs.Ranges.{between_Decides, name_Decides, value_Decides}
 
 -- ---- facts of what was read, if it was
@@ -84,8 +84,8 @@ put_said (a ∷ []) = tt
 put_said (a ∷ b ∷ []) = tt
 put_said (a ∷ b ∷ c ∷ []) =
     then_said IsTable IsOp (λ t. and_then (λ k. mapped (op.Put t k) (value_in c)) (key_in b)) (λ t h.
-        then_said IsKey IsOp (λ k. mapped (op.Put t k) (value_in c)) (λ k i.
-            mapped_said IsValue IsOp (op.Put t k) (λ v j. (h, i, j)) (value_in c) (value_said c)) (key_in b) (key_said b)) (table_in a) (table_said a)
+    then_said IsKey IsOp (λ k. mapped (op.Put t k) (value_in c)) (λ k i.
+    mapped_said IsValue IsOp (op.Put t k) (λ v j. (h, i, j)) (value_in c) (value_said c)) (key_in b) (key_said b)) (table_in a) (table_said a)
 put_said (a ∷ b ∷ c ∷ d ∷ words) = tt
 
 scan_said : (words : List (List ℕ)) → Said IsOp (scan_op words)
@@ -94,8 +94,8 @@ scan_said (a ∷ []) = tt
 scan_said (a ∷ b ∷ []) = tt
 scan_said (a ∷ b ∷ c ∷ []) =
     then_said IsTable IsOp (λ t. and_then (λ l. mapped (op.Scan t l) (key_in c)) (key_in b)) (λ t h.
-        then_said IsKey IsOp (λ l. mapped (op.Scan t l) (key_in c)) (λ l i.
-            mapped_said IsKey IsOp (op.Scan t l) (λ k j. (h, i, j)) (key_in c) (key_said c)) (key_in b) (key_said b)) (table_in a) (table_said a)
+    then_said IsKey IsOp (λ l. mapped (op.Scan t l) (key_in c)) (λ l i.
+    mapped_said IsKey IsOp (op.Scan t l) (λ k j. (h, i, j)) (key_in c) (key_said c)) (key_in b) (key_said b)) (table_in a) (table_said a)
 scan_said (a ∷ b ∷ c ∷ d ∷ words) = tt
 
 flagged_said : (make : ℕ → Op) → ((flag : ℕ) → IsFlag flag → IsOp (make flag)) → (words : List (List ℕ)) → Said IsOp (flag_op make words)

@@ -1,5 +1,5 @@
 -- A line is read by its first word.
-use Rattle.std.proofs.Common.{sym, ◌∙◌, subst, Result}
+use Rattle.std.proofs.Common.{sym, subst, Result}
 use Rattle.ds_model.specs.declared.script.FaultKind.{FaultKind}
 use Rattle.script_line.specs.Lines.{Gives}
 use Rattle.script_line.specs.declared.line.Line.{Line}
