@@ -1,6 +1,5 @@
-pub mod Words
-pub mod Lines
+pub mod TextLines
+pub mod SoFar
 pub mod Drafts
-pub mod Kept
-pub mod Names
-pub mod Spelled
+pub mod Reading
+pub mod Indexes

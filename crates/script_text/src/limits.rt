@@ -9,6 +9,3 @@ pub const TRANS_LIMIT: u32 = 65_536;
 
 /// The most operations that a transaction has.
 pub const OPS_LIMIT: usize = 64;
-
-/// The most letters that the name of a transaction has.
-pub const NAME_LIMIT: usize = 16;

@@ -1,77 +1,95 @@
-ghost use Rattle.std.specs.Prelude.{◌≡◌, ◌↔◌, ◌≤◌, length, Some, IfOk, IfSome, IfNone, IsTrue};
-ghost use Rattle.ds_model.specs.declared.script.Script.{Script};
+ghost use Rattle.std.specs.Prelude.{◌≡◌, ◌<◌, ◌≤◌, ◌-◌, ◌^◌, length, IfOk, OnOk};
 ghost use Rattle.ds_model.specs.ScriptText.{script_text};
-ghost use Rattle.ds_model.specs.OneMember.{IsOneMember, Spells};
-ghost use Rattle.script_text.specs.Kept.{IsShaped};
-ghost use Rattle.script_text.specs.Spelled.{SpellsNone};
+ghost use Rattle.ds_model.specs.Scripts.{IsScript};
+ghost use Rattle.ds_model.specs.declared.script.Script.{Script};
+ghost use Rattle.script_text.specs.Indexes.{IsIndexed, IsStep};
+ghost use Rattle.script_text.specs.Reading.{IsReadAs, Reads, error_at, script_of, step};
+ghost use Rattle.script_text.specs.TextLines.{line_of};
 
-use crate::draft::Draft;
-use crate::limits::{PHASES_LIMIT, TEXT_LIMIT};
-use crate::line::line_of;
-use crate::names::names_differ;
-use crate::words::cut;
-use crate::write::script_bytes;
+use crate::laws::{canonical_script_laws, reading_script_laws};
+use crate::limits::TEXT_LIMIT;
+use crate::lines::{cut_line, line_of};
+use crate::reader::Reader;
 use ds_base::NoMemory;
-use ds_model::Script;
+use ds_model::{FaultKind, Script, ScriptFault};
+use script_line::LineError;
 use std::alloc::Global;
 
-// The script that these bytes may spell.
-fn script_of(alloc: Global, bytes: &[u8]) -> Result<Option<Script>, NoMemory>
-    ensures shape { IfOk result (λ found. IfSome found IsShaped) }
-    ensures only { (s : Script) → IsOneMember s → bytes.now ≡ script_text s → IfOk result (λ found. found ≡ Some s) }
+/// Why a text was not read.
+#[derive(Clone, Copy, Debug, PartialEq, Eq)]
+pub enum ScriptError {
+    /// It is no script.
+    Fault(ScriptFault),
+    NoMemory,
+}
+
+// What went wrong at the line of this number.
+fn at_line(number: u32, error: LineError) -> ScriptError
+    ensures { result ≡ error_at number error }
 {
-    let mut draft = Draft::new(alloc);
+    match error {
+        LineError::Fault(kind) => ScriptError::Fault(ScriptFault { line: number, kind }),
+        LineError::NoMemory => ScriptError::NoMemory,
+    }
+}
+
+// Reads a line, with what ends it. The text has so many bytes up to its end.
+fn read_piece(
+    alloc: Global,
+    reader: &mut Reader,
+    piece: &[u8],
+    end: usize,
+    members: u8,
+) -> Result<(), LineError>
+    requires members { (1 ≤ members) × (members ≤ 32) }
+    requires indexed { IsIndexed reader.old }
+    requires groupfails { reader.old.draft.groupfails < 2 ^ 32 - 1 }
+    requires count { reader.old.draft.count < 2 ^ 32 - 1 }
+    ensures next { IsStep (step members reader.old.draft (record { bytes = line_of piece.now; end = end })) reader.new.draft result }
+    ensures indexed { OnOk result (IsIndexed reader.new) }
+{
+    if end > TEXT_LIMIT {
+        return Err(LineError::Fault(FaultKind::TooLong));
+    }
+    reader.read_line(alloc, line_of(piece), members)
+}
+
+// The script of a text, line by line.
+fn read_text(alloc: Global, bytes: &[u8], members: u8) -> Result<Script, ScriptError>
+    requires { (1 ≤ members) × (members ≤ 32) }
+    ensures { Reads (script_of members bytes.now) result }
+{
+    let mut reader = Reader::new(alloc);
+    let mut number: u32 = 1;
+    let mut end: usize = 0;
     let mut rest = bytes;
     while !rest.is_empty() {
-        let Some((line, after)) = cut(rest, b'\n') else {
-            return Ok(None);
-        };
-        let Some(line) = line_of(alloc, line)? else {
-            return Ok(None);
-        };
-        if !draft.take(alloc, line)? {
-            return Ok(None);
+        let (piece, after) = cut_line(rest);
+        end += piece.len();
+        match read_piece(alloc, &mut reader, piece, end, members) {
+            Ok(()) => {}
+            Err(error) => return Err(at_line(number, error)),
         }
+        number += 1;
         rest = after;
     }
-    draft.finish(alloc)
-}
-
-// Whether this is the text of the script, whose names differ and whose phases are not too many.
-fn is_text(alloc: Global, bytes: &[u8], script: &Script) -> Result<bool, NoMemory>
-    requires shape { IsShaped script.now }
-    requires short { length bytes.now ≤ 4194304 }
-    ensures { IfOk result (λ is. IsTrue is ↔ Spells bytes.now script.now) }
-{
-    if script.phases.len() > PHASES_LIMIT || !names_differ(alloc, script)? {
-        return Ok(false);
+    match reader.finish() {
+        Ok(script) => Ok(script),
+        Err(error) => Err(at_line(number, error)),
     }
-    let text = script_bytes(alloc, script)?;
-    Ok(text.as_slice() == bytes)
 }
 
-/// The script that these bytes spell: one of member 1 and table 1 with gets and puts, of at most 1,024 phases
-/// with at most one part each, 65,536 transactions of at most 64 operations and with names that differ, and
-/// 4,194,304 bytes.
+/// The script that a text spells, for a group of 1 to 32 members, or the first line with a fault and what is wrong with it.
 ///
-/// `None` where the bytes are the canonical text of no such script.
-pub fn read_one_member(alloc: Global, bytes: &[u8]) -> Result<Option<Script>, NoMemory>
-    ensures found { IfOk result (λ found. IfSome found (λ script. Spells bytes.now script)) }
-    ensures none { IfOk result (λ found. IfNone found (SpellsNone bytes.now)) }
-    // The script is determined by its text.
-    ensures only { IfOk result (λ found. (s : Script) → Spells bytes.now s → found ≡ Some s) }
+/// Lines end with a line feed, which the last may lack; a carriage return directly before it is dropped. Words
+/// are apart by spaces. Lines without words, and those whose first word begins with `#`, are skipped.
+pub fn read_script(alloc: Global, bytes: &[u8], members: u8) -> Result<Script, ScriptError>
+    requires { (1 ≤ members) × (members ≤ 32) }
+    ensures read { Reads (script_of members bytes.now) result }
+    ensures script { IfOk result (IsScript members) }
+    ensures canonical { (s : Script) → IsScript members s → length (script_text s) ≤ 4194304 → bytes.now ≡ script_text s → IsReadAs s result }
 {
-    if bytes.len() > TEXT_LIMIT {
-        return Ok(None);
-    }
-    match script_of(alloc, bytes)? {
-        Some(script) => {
-            if is_text(alloc, bytes, &script)? {
-                Ok(Some(script))
-            } else {
-                Ok(None)
-            }
-        }
-        None => Ok(None),
-    }
+    reading_script_laws();
+    canonical_script_laws();
+    read_text(alloc, bytes, members)
 }
