@@ -1,12 +1,1 @@
 pub mod Lists
-pub mod Maps
-pub mod Undone
-pub mod Fitting
-pub mod Failing
-pub mod Pushes
-pub mod Going
-pub mod Playable
-pub mod Telling
-pub mod Whole
-pub mod GoodLog
-pub mod Soundness
