@@ -1,1 +1,8 @@
 pub mod Lists
+pub mod Reaching
+pub mod Fitting
+pub mod Drafted
+pub mod Undone
+pub mod Failing
+pub mod Pushes
+pub mod Going
