@@ -1,6 +1,6 @@
 -- The run so far, and one transaction more.
 use Rattle.std.proofs.Common.{◌≡◌, ℕ, ◌+◌, ◌-◌, ◌*◌, ◌<◌, ◌≤◌, Bool, true, false, cond, List, [], ◌∷◌, ◌++◌, length, take, drop, get_or, Option, refl, sym, ap, subst, ◌∙◌, arith, append_assoc}
-use Rattle.std.proofs.lemmas.List.{append-nil, take_more, drop_at}
+use Rattle.std.proofs.lemmas.List.{append-nil, take_more, drop_more}
 use Rattle.ds_base.specs.Causes.{Rose}
 use Rattle.ds_disk.specs.Answers.{Appended}
 use Rattle.ds_disk.specs.Contents.{Contents, Becomes}
@@ -121,7 +121,7 @@ stops items i d p was s now entries so_far a b x y z f g h lt its so stopped =
     let ps = take i items in
     let t = state_after was ps in
     let more_is : take (i + 1) items ≡ ps ++ p ∷ [] = take_more items i d lt ∙ ap (λ (q : Placed). ps ++ q ∷ []) (sym its) in
-    let rest_is : drop i items ≡ p ∷ drop (i + 1) items = drop_at items i d lt ∙ ap (λ (q : Placed). q ∷ drop (i + 1) items) (sym its) in
+    let rest_is : drop i items ≡ p ∷ drop (i + 1) items = drop_more items i d lt ∙ ap (λ (q : Placed). q ∷ drop (i + 1) items) (sym its) in
     record {
       few = omega arith;
       committed_are = so.committed_are;
