@@ -6,3 +6,8 @@ pub mod Undone
 pub mod Failing
 pub mod Pushes
 pub mod Going
+pub mod Telling
+pub mod Whole
+pub mod Sorting
+pub mod Records
+pub mod GoodLogs

@@ -1,0 +1,18 @@
+use Rattle.std.proofs.Common.{◌≡◌, ◌*◌, ◌≤◌, List, ◌++◌, map, length, drop, refl, sym, ap, ◌∙◌, arith}
+use Rattle.std.proofs.lemmas.List.{take_rest}
+use Rattle.ds_model.specs.declared.report.ReportEntry.{ReportEntry}
+use Rattle.ds_model.specs.Transactions.{Placed}
+use Rattle.serial_run.specs.Entries.{stop_entry}
+use Rattle.serial_run.proofs.Whole.{state_is, run_is}
+use Rattle.serial_run.proofs.GoodLogs.{good_logs_grow}
+use Rattle.serial_run.proofs.run.run_script.Goals as goal
+
+pub returns-clause-ran : goal.returns-clause-ran
+returns-clause-ran g c =
+    let its = c.deref.ensures.value ∙ c.in_ok-items.ensures in
+    let same = c.deref-2.ensures.value ∙ sym c.deref.ensures.value in
+    run_is c.args.script c.deref.result.now c.in_ok-count.count _ c.play_trans.new.state (record { committed = c.new-3.result; others = c.new-4.result }) c.play_trans.new.entries c.stop_all.new.entries _ _ _ _ _ _ c.len.result
+    its (state_is c.new.result c.new-2.result _ 0 c.new.ensures c.new-2.ensures refl refl) c.new-3.ensures c.new-4.ensures c.in_ok-count.ensures.played
+    (c.in_ok-stop_all.ensures ∙ ap (λ (l : List Placed). c.play_trans.new.entries.others ++ map stop_entry l) (take_rest c.deref-2.result.now c.in_ok-count.count ∙ ap (λ (l : List Placed). drop c.in_ok-count.count l) same))
+    c.in_ok-gather.ensures
+    (omega (arith, c.len.ensures, ap length c.deref.ensures.value, c.in_ok-items.items.ok.0))
