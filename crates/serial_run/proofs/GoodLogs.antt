@@ -36,10 +36,10 @@ pub record AreGood (logs : List (List LogRecord)) (s : State) : Type 0 where
 -- ---- one log that grows
 
 -- the records up to the end of one log, and those of the logs behind it
-before_end : List (List LogRecord) → ℕ → List LogRecord
+abbrev before_end : List (List LogRecord) → ℕ → List LogRecord
 before_end logs i = flat (take i logs) ++ get_or logs i []
 
-behind : List (List LogRecord) → ℕ → List LogRecord
+abbrev behind : List (List LogRecord) → ℕ → List LogRecord
 behind logs i = flat (drop (suc i) logs)
 
 grown : (logs : List (List LogRecord)) (i : ℕ) (more : List LogRecord) → i < length logs → flat (set logs i (get_or logs i [] ++ more)) ≡ before_end logs i ++ (more ++ behind logs i)

@@ -11,3 +11,5 @@ pub mod Whole
 pub mod Sorting
 pub mod Records
 pub mod GoodLogs
+pub mod Fronts
+pub mod Disks

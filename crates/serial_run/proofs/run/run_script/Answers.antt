@@ -4,7 +4,7 @@ use Rattle.ds_model.specs.declared.report.ReportEntry.{ReportEntry}
 use Rattle.ds_model.specs.Transactions.{Placed}
 use Rattle.serial_run.specs.Entries.{stop_entry}
 use Rattle.serial_run.proofs.Whole.{state_is, run_is}
-use Rattle.serial_run.proofs.GoodLogs.{good_logs_grow}
+use Rattle.serial_run.proofs.Disks.{stand_for}
 use Rattle.serial_run.proofs.run.run_script.Goals as goal
 
 pub returns-clause-ran : goal.returns-clause-ran
