@@ -13,3 +13,5 @@ pub mod Records
 pub mod GoodLogs
 pub mod Fronts
 pub mod Disks
+pub mod Soundness
+pub mod Standing

@@ -4,7 +4,7 @@ use Rattle.ds_model.specs.declared.report.ReportEntry.{ReportEntry}
 use Rattle.ds_model.specs.Transactions.{Placed}
 use Rattle.serial_run.specs.Entries.{stop_entry}
 use Rattle.serial_run.proofs.Whole.{state_is, run_is}
-use Rattle.serial_run.proofs.Disks.{stand_for}
+use Rattle.serial_run.proofs.Standing.{sound_run}
 use Rattle.serial_run.proofs.run.run_script.Goals as goal
 
 pub returns-clause-ran : goal.returns-clause-ran
@@ -16,3 +16,6 @@ returns-clause-ran g c =
     (c.in_ok-stop_all.ensures ∙ ap (λ (l : List Placed). c.play_trans.new.entries.others ++ map stop_entry l) (take_rest c.deref-2.result.now c.in_ok-count.count ∙ ap (λ (l : List Placed). drop c.in_ok-count.count l) same))
     c.in_ok-gather.ensures
     (omega (arith, c.len.ensures, ap length c.deref.ensures.value, c.in_ok-items.items.ok.0))
+
+pub returns-clause-sound : goal.returns-clause-sound
+returns-clause-sound g c = sound_run c.args.script _ _ _ _ _ _ c.requires.counted (returns-clause-ran g c)
