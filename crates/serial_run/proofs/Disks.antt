@@ -161,7 +161,7 @@ by_cut : (s : State) (c : Contents) (member : ℕ) (ops : List Op) (bytes : List
     → StandFor (with_log c member (log_of c.logs member ++ bytes)).logs s.rows ⊎ StandFor (with_log c member (log_of c.logs member ++ bytes)).logs (committed (after_all s ops)).rows
 by_cut s c member ops bytes disk append (inl e) =
     inr (subst (λ (b : List ℕ). StandFor (with_log c member (log_of c.logs member ++ b)).logs (after_all s ops).rows) (sym e)
-        (stand_for (committed (after_all s ops)) (appended member (records_of s ops) c) (disk_appends s c member ops disk append)))
+    (stand_for (committed (after_all s ops)) (appended member (records_of s ops) c) (disk_appends s c member ops disk append)))
 by_cut s c member ops bytes disk append (inr front) = inl (torn_stands s c member ops bytes disk append front)
 
 -- a disk that died inside an append stands for the rows before it, or for those after it

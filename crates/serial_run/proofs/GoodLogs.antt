@@ -131,9 +131,9 @@ rows_of_torn logs s i part good in_range are =
     let chosen : filter (test (xs ++ (part ++ ys))) (xs ++ (part ++ ys)) ≡ xs ++ ys =
     filter-append (test (xs ++ (part ++ ys))) xs (part ++ ys)
     ∙ ap (λ (l : List LogRecord). filter (test (xs ++ (part ++ ys))) xs ++ l)
-        (filter-append (test (xs ++ (part ++ ys))) part ys
-        ∙ ap (λ (l : List LogRecord). l ++ filter (test (xs ++ (part ++ ys))) ys) lost
-        ∙ filter-all (test (xs ++ (part ++ ys))) ys (all_last _ xs ys kept))
+    (filter-append (test (xs ++ (part ++ ys))) part ys
+    ∙ ap (λ (l : List LogRecord). l ++ filter (test (xs ++ (part ++ ys))) ys) lost
+    ∙ filter-all (test (xs ++ (part ++ ys))) ys (all_last _ xs ys kept))
     ∙ ap (λ (l : List LogRecord). l ++ ys) (filter-all (test (xs ++ (part ++ ys))) xs (all_first _ xs ys kept)) in
     ap (λ (l : List LogRecord). after_records finite.empty (by_lrsn (filter (test l) l))) is
     ∙ ap (λ (l : List LogRecord). after_records finite.empty (by_lrsn l)) (chosen ∙ sym was)

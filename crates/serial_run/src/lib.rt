@@ -15,3 +15,6 @@ mod undo;
 
 pub use run::{Ran, run_script};
 pub use serial::plays;
+
+#[cfg(test)]
+mod tests;

@@ -34,7 +34,7 @@ loop-i-preserved g c =
     let few = c.in_ok-play_tran.ensures.few in
     let so_far = c.loop-i.entries in
     elim c.match-branch-2.branch [
-      in-Aborted+in_ok-entry_of-in-Aborted+in_ok-push-in-Aborted w ↦
+      | in-Aborted+in_ok-entry_of-in-Aborted+in_ok-push-in-Aborted w ↦
           (let plays = rw w.in-Aborted.is at c.in_ok-play_tran.ensures.plays in
           let aborted = subst (λ (o : List Op). IsAborted s now o (g.D.Disk.alive c.loop-i.disk) alive before after) c.as_slice.ensures plays in
           let more : Entries = record { committed = so_far.committed; others = w.push.new.self } in
