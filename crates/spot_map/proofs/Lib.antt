@@ -1,1 +1,3 @@
 mod Spots
+mod Scans
+mod Lists

@@ -1,16 +1,15 @@
 -- A tree by table and key against the map that its entries make.
-use Rattle.std.proofs.Common.{◌≡◌, ℕ, Bool, true, false, cond, List, [], ◌∷◌, length, refl, sym, ap, subst, ◌∙◌}
+use Rattle.std.proofs.Common.{◌≡◌, Bool, true, false, cond, List, [], ◌∷◌, length, refl, sym, ap, subst, ◌∙◌}
 use Rattle.std.specs.Prelude.{Option, Some, None, T, ◌&&◌}
 use Rattle.std.specs.FinMap as finite
-use Rattle.std.specs.FinMap.{FinMap, find, from_entries, from_sorted, insert, remove, same_map, get-insert, get-remove, get-from_entries, get-from_sorted, entries, entries-from_sorted, len-entries}
+use Rattle.std.specs.FinMap.{find, from_entries, from_sorted, insert, remove, same_map, get-insert, get-remove, get-from_entries, get-from_sorted, entries, entries-from_sorted, len-entries}
 use Rattle.std.specs.FinMap.Entries.{below_all, is_sorted}
-use Rattle.std.specs.Ordering.{is_lt, eq_by_cmp}
+use Rattle.std.specs.Ordering.{is_lt}
 use Rattle.std.specs.Cmp.{eq_by_cmp_equiv}
 use Rattle.std.specs.Map.{lookup, keys_of}
 use Rattle.std.specs.BTreeMap.{is_at}
 use Rattle.std.specs.List.{AllByRecursion}
 use Rattle.std.specs.List.Sorted.{IsStrictlySortedBy}
-use Rattle.std.specs.declared.cmp.Ordering.{Ordering}
 use Rattle.std.specs.declared.cmp.Ordering.TheVariants.{Less}
 use Rattle.ds_model.specs.Rows.{Spot, spot_cmp, spot_cmp_total}
 use Rattle.spot_map.specs.Undo.{exact_spots}

@@ -1,5 +1,5 @@
 -- Changes of a map by table and key that undo one another.
-use Rattle.std.specs.Prelude.{◌≡◌, Bool, true, false, cond, Option, Some, None}
+use Rattle.std.specs.Prelude.{◌≡◌, cond, Option, Some, None}
 use Rattle.std.specs.FinMap.{FinMap, IsAntisymmetric, get, insert, remove, same_map, get-insert, get-remove, get_tied}
 use Rattle.std.specs.Ordering.{nat_cmp, eq_by_cmp, is_eq}
 use Rattle.std.specs.declared.cmp.Ordering.{Ordering}

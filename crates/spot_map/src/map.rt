@@ -1,6 +1,6 @@
 ghost use Rattle.std.specs.Prelude.{◌≡◌, ◌<◌, ◌^◌, None, OnOk, OnErr, IfOk};
 ghost use Rattle.std.specs.FinMap as finite;
-ghost use Rattle.ds_model.specs.Rows.{listed};
+ghost use Rattle.ds_model.specs.Rows.{AreSorted, listed, map_of, scanned};
 
 use ds_base::{Key, NoMemory, Row, RowList, TableId, Value};
 use std::alloc::Global;
@@ -67,9 +67,45 @@ impl<T: Copy> SpotMap<T> {
 }
 
 impl SpotMap<Value> {
+    /// The map of a list of rows in order.
+    pub fn from_rows(alloc: Global, rows: &RowList) -> Result<SpotMap<Value>, NoMemory>
+        requires { AreSorted rows.now }
+        ensures { IfOk result (λ map. map ≡ map_of rows.now) }
+    {
+        let mut map = SpotMap::new(alloc);
+        for row in rows.as_slice() {
+            map.insert(row.table, row.key, row.value)?;
+        }
+        Ok(map)
+    }
+
+    /// The rows of one table whose keys are `low` to `high`, both included, in order.
+    ///
+    /// Takes time in the logarithm of the map's length and in the number of these rows.
+    pub fn scan(
+        &self,
+        alloc: Global,
+        table: TableId,
+        low: Key,
+        high: Key,
+    ) -> Result<RowList, NoMemory>
+        ensures { IfOk result (λ rows. rows ≡ scanned self.now table low high) }
+    {
+        if low > high {
+            return Ok(RowList::new(alloc));
+        }
+        let rows: Vec<Row> = self
+            .spots
+            .range((table, low)..=(table, high))
+            .map(|(&(table, key), &value)| Row { table, key, value })
+            .collect(alloc)?;
+        Ok(RowList::from_vec(rows))
+    }
+
     /// The rows in the order of their tables and then of their keys.
     pub fn into_rows(self, alloc: Global) -> Result<RowList, NoMemory>
-        ensures { IfOk result (λ rows. rows ≡ listed self) }
+        ensures rows { IfOk result (λ rows. rows ≡ listed self) }
+        ensures in_order { IfOk result AreSorted }
     {
         let SpotMap { spots } = self;
         let rows: Vec<Row> = spots

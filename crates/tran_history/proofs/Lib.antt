@@ -1,0 +1,4 @@
+pub mod Undone
+pub mod Aborting
+pub mod Placing
+pub mod Replaying
