@@ -1,5 +1,5 @@
 -- The logs of a disk stand for the rows of a run.
-use Rattle.std.proofs.Common.{◌≡◌, ◌⊎◌, inl, inr, ℕ, zero, suc, ◌+◌, ◌-◌, ◌<◌, ◌≤◌, Bool, true, false, cond, List, [], ◌∷◌, ◌++◌, map, length, take, set, get_or, replicate, refl, sym, ap, subst, ◌∙◌, arith, append_assoc}
+use Rattle.std.proofs.Common.{◌≡◌, ◌⊎◌, inl, inr, ℕ, zero, suc, ◌+◌, ◌-◌, ◌≤◌, Bool, true, false, cond, List, [], ◌∷◌, ◌++◌, map, take, set, get_or, replicate, refl, sym, ap, subst, ◌∙◌, arith, append_assoc}
 use Rattle.std.proofs.lemmas.List.{append-nil, map-set}
 use Rattle.std.proofs.Math.ListN.{get_or-map}
 use Rattle.std.proofs.lemmas.Grind.{flat_map-append}
@@ -8,10 +8,9 @@ use Rattle.ds_disk.specs.Answers.{Appended}
 use Rattle.ds_disk.specs.Contents.{Contents, with_log, log_of}
 use Rattle.ds_model.specs.declared.script.Op.{Op}
 use Rattle.ds_model.specs.declared.log.LogRecord.{LogRecord}
-use Rattle.ds_model.specs.Rows.{Rows}
 use Rattle.ds_model.specs.Effect.{aborts}
 use Rattle.ds_model.specs.RecordBytes.{log_bytes, record_bytes, IsAllowed}
-use Rattle.ds_model.specs.Logs.{IsLog, IsTorn, AreLogs, StandFor, rows_of_logs}
+use Rattle.ds_model.specs.Logs.{IsLog, IsTorn, AreLogs, StandFor}
 use Rattle.ds_model.specs.Transactions.{Placed}
 use Rattle.serial_run.specs.declared.state.State.{State}
 use Rattle.serial_run.specs.Steps.{reached, after_all, changes, commit_record, records_of, committed, rolled_back, next}
@@ -22,7 +21,6 @@ use Rattle.serial_run.specs.Sounds.{HasEmptyLogs}
 use Rattle.serial_run.proofs.Lists.{all_append, all_first}
 use Rattle.serial_run.proofs.Sorting.{rises_within}
 use Rattle.serial_run.proofs.Records.{IsChangeOf, are_changes, rises-changes}
-use Rattle.serial_run.proofs.Undone.{next-goes, next-aborts}
 use Rattle.serial_run.proofs.Fronts.{IsFrontOf, cut}
 use Rattle.serial_run.proofs.GoodLogs.{AreGood, rows_of_good, rows_of_torn, good_logs_grow, good_logs_wait}
 

@@ -1,7 +1,6 @@
 -- The run so far, and one transaction more.
 use Rattle.std.proofs.Common.{◌≡◌, ℕ, ◌+◌, ◌-◌, ◌*◌, ◌<◌, ◌≤◌, Bool, true, false, cond, List, [], ◌∷◌, ◌++◌, length, take, drop, get_or, Option, refl, sym, ap, subst, ◌∙◌, arith, append_assoc}
 use Rattle.std.proofs.lemmas.List.{append-nil, take_more, drop_more}
-use Rattle.ds_base.specs.Causes.{Rose}
 use Rattle.ds_disk.specs.Answers.{Appended}
 use Rattle.ds_disk.specs.Contents.{Contents, Becomes}
 use Rattle.ds_model.specs.declared.report.ReportEntry.{ReportEntry}
@@ -13,7 +12,7 @@ use Rattle.ds_model.specs.Serial.{IsShortTran}
 use Rattle.ds_model.specs.Transactions.{Placed}
 use Rattle.serial_run.specs.declared.entry.Entries.{Entries}
 use Rattle.serial_run.specs.declared.state.State.{State}
-use Rattle.serial_run.specs.Steps.{next, told_all, records_of}
+use Rattle.serial_run.specs.Steps.{next, records_of}
 use Rattle.serial_run.specs.Played.{appended, HasRoom, IsAppend, IsCommitted, IsAborted, IsStopped}
 use Rattle.serial_run.specs.Entries.{entry_with, commit_entry, commit_entries, abort_entry, abort_entries}
 use Rattle.serial_run.specs.Progress.{state_after, contents_next, contents_after, AreAllowed, FirstAppends, IsTornAt, HasPlayed}

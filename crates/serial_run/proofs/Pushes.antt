@@ -8,8 +8,8 @@ use Rattle.ds_model.specs.Effect.{aborts, after_ops, after_tran}
 use Rattle.ds_model.specs.declared.script.Op.{Op}
 use Rattle.ds_model.specs.Transactions.{Placed}
 use Rattle.serial_run.specs.declared.state.State.{State}
-use Rattle.serial_run.specs.Steps.{reached, after, after_all, next, rolled_back, committed, records_of}
-use Rattle.serial_run.specs.Played.{appended, IsAppend}
+use Rattle.serial_run.specs.Steps.{reached, after, after_all, next, rolled_back, committed}
+use Rattle.serial_run.specs.Played.{IsAppend}
 use Rattle.serial_run.specs.Entries.{commit_entry, commit_entries, abort_entry, abort_entries}
 use Rattle.serial_run.specs.Progress.{state_after, contents_next, contents_after, AreAllowed}
 

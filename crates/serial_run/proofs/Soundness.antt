@@ -1,6 +1,6 @@
 -- A run of a script is sound.
-use Rattle.std.proofs.Common.{◌≡◌, ◌⊎◌, inl, inr, ℕ, zero, suc, ◌+◌, ◌<◌, ◌≤◌, Bool, true, false, cond, List, [], ◌∷◌, ◌++◌, map, length, take, drop, get_or, Option, Some, None, refl, sym, ap, subst, ◌∙◌, arith, append_assoc}
-use Rattle.std.proofs.lemmas.List.{map-append, take-append-drop, append-nil}
+use Rattle.std.proofs.Common.{◌≡◌, ℕ, zero, suc, ◌+◌, ◌<◌, ◌≤◌, Bool, true, false, cond, List, [], ◌∷◌, ◌++◌, map, length, take, drop, refl, sym, ap, subst, ◌∙◌, arith, append_assoc}
+use Rattle.std.proofs.lemmas.List.{map-append, take-append-drop}
 use Rattle.std.proofs.lemmas.List.Sorted.{IsPermutation-refl, IsPermutation-cons, IsPermutation-trans, IsPermutation-middle}
 use Rattle.std.specs.List.{AllByRecursion}
 use Rattle.std.specs.List.Sorted.{IsPermutation}
@@ -9,7 +9,7 @@ use Rattle.ds_model.specs.declared.script.Script.{Script}
 use Rattle.ds_model.specs.declared.fate.Fate.TheVariants as fate
 use Rattle.ds_model.specs.declared.fate.Refusal.TheVariants as refusal
 use Rattle.ds_model.specs.declared.history.Entry.{Entry}
-use Rattle.ds_model.specs.Rows.{Rows, listed}
+use Rattle.ds_model.specs.Rows.{Rows}
 use Rattle.ds_model.specs.Effect.{after_ops, aborts, after_tran, reads_of}
 use Rattle.ds_model.specs.Scripts.{counted}
 use Rattle.ds_model.specs.Transactions.{Placed, placed}

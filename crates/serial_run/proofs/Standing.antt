@@ -1,11 +1,8 @@
 -- The whole of a run's soundness.
-use Rattle.std.proofs.Common.{◌≡◌, ◌⊎◌, ℕ, zero, suc, ◌+◌, Bool, true, false, List, [], ◌∷◌, ◌++◌, take, drop, get_or, Option, Some, None, refl, sym, ap, subst, ◌∙◌, arith}
+use Rattle.std.proofs.Common.{◌≡◌, ◌⊎◌, ℕ, zero, suc, ◌+◌, Bool, false, List, [], ◌∷◌, take, drop, get_or, Option, refl, sym, ap, subst, ◌∙◌, arith}
 use Rattle.std.specs.FinMap as finite
-use Rattle.ds_disk.specs.Answers.{Appended}
-use Rattle.ds_disk.specs.Contents.{Contents, Becomes}
+use Rattle.ds_disk.specs.Contents.{Contents}
 use Rattle.ds_model.specs.declared.script.Script.{Script}
-use Rattle.ds_model.specs.declared.history.Entry.{Entry}
-use Rattle.ds_model.specs.RecordBytes.{log_bytes}
 use Rattle.ds_model.specs.Rows.{Rows, listed}
 use Rattle.ds_model.specs.Effect.{aborts}
 use Rattle.ds_model.specs.Transactions.{Placed, placed}
@@ -14,7 +11,7 @@ use Rattle.ds_model.specs.History.{replay}
 use Rattle.ds_model.specs.Logs.{StandFor}
 use Rattle.serial_run.specs.declared.state.State.{State}
 use Rattle.serial_run.specs.declared.run.Ran.{Ran}
-use Rattle.serial_run.specs.Steps.{after_all, next, records_of, committed}
+use Rattle.serial_run.specs.Steps.{after_all, next, committed}
 use Rattle.serial_run.specs.Played.{IsAppend}
 use Rattle.serial_run.specs.Progress.{state_after, contents_after, AreAllowed, FirstAppends, IsTornAt}
 use Rattle.serial_run.specs.Ran.{start, history_of, IsRunOf}

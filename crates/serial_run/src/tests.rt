@@ -1,7 +1,7 @@
 ghost use Rattle.std.specs.Prelude.{◌≡◌, ◌≤◌, ◌∷◌, [], length, IfOk};
 ghost use Rattle.ds_base.specs.Ids.{IsTable, IsMember};
 ghost use Rattle.ds_model.specs.Serial.{IsCounted};
-ghost use Rattle.ds_model.specs.Transactions.{placed_part};
+ghost use Rattle.ds_model.specs.Transactions.{placed_phase};
 
 use super::*;
 use ds_base::{Bytes, MemberId, Sequence, TableId, Value};
@@ -29,68 +29,83 @@ fn value(alloc: Global, text: &str) -> Result<Value, Fail> {
     Ok(value)
 }
 
-/// A part of one transaction.
-fn part(alloc: Global, player: u64, order: (&str, u32), ops: &[Op]) -> Result<Part, Fail>
-    requires { IsMember player }
+/// A transaction of these operations.
+fn tran(alloc: Global, name: &str, number: u32, ops: &[Op]) -> Result<Tran, Fail>
+    ensures { IfOk result (λ t. (t.number ≡ number) × (t.ops ≡ ops.now)) }
 {
-    let (name, number) = order;
-    let tran = Tran {
+    Ok(Tran {
         name: Bytes::from_vec(name.as_bytes().to_vec(alloc)?),
         number,
         wait: true,
         ops: Sequence::from_vec(ops.to_vec(alloc)?),
-    };
-    Ok(Part {
-        member: member(player),
-        restart: false,
-        fail: None,
-        trans: Sequence::from_vec(vec![in alloc; tran]?),
     })
 }
 
-/// Rows are put by member 1 and scanned by member 2. A removal that aborts leaves its row, and another removes it.
-fn script(alloc: Global) -> Result<Script, Fail> {
+/// A phase in which one member plays one transaction.
+fn phase(alloc: Global, player: MemberId, tran: Tran) -> Result<Phase, Fail>
+    ensures { IfOk result (λ p. placed_phase p ≡ (player, tran) ∷ []) }
+{
+    let part = Part {
+        member: player,
+        restart: false,
+        fail: None,
+        trans: Sequence::from_vec(vec![in alloc; tran]?),
+    };
+    Ok(Phase {
+        groupfails: 0,
+        parts: Sequence::from_vec(vec![in alloc; part]?),
+    })
+}
+
+/// Rows are put by member 1 and scanned by member 2.
+fn puts_and_scan(alloc: Global) -> Result<(Tran, Tran), Fail>
+    ensures { IfOk result (λ ts. (ts.0.number ≡ 1) × (length ts.0.ops ≤ 64) × (ts.1.number ≡ 2) × (length ts.1.ops ≤ 64)) }
+{
+    let table = table(1);
+    let first = value(alloc, "a")?;
+    let last = value(alloc, "z")?;
     let puts = [
         Op::Put {
-            table: table(1),
+            table,
             key: 0,
-            value: value(alloc, "a")?,
+            value: first,
         },
         Op::Put {
-            table: table(1),
+            table,
             key: LAST,
-            value: value(alloc, "z")?,
+            value: last,
         },
     ];
     let scan = [Op::Scan {
-        table: table(1),
+        table,
         low: 0,
         high: LAST,
     }];
-    let del = Op::Del {
-        table: table(1),
-        key: 0,
-    };
-    let get = Op::Get {
-        table: table(1),
-        key: 0,
-    };
-    let first = Phase {
-        groupfails: 0,
-        parts: Sequence::from_vec(vec![in alloc;
-            part(alloc, 1, ("a", 1), &puts)?,
-            part(alloc, 2, ("b", 2), &scan)?,
-        ]?),
-    };
-    let second = Phase {
-        groupfails: 0,
-        parts: Sequence::from_vec(vec![in alloc;
-            part(alloc, 2, ("c", 3), &[del, Op::Abort, get])?,
-            part(alloc, 1, ("d", 4), &[del, get])?,
-        ]?),
-    };
+    Ok((tran(alloc, "a", 1, &puts)?, tran(alloc, "b", 2, &scan)?))
+}
+
+/// A removal that aborts leaves its row, and another removes it.
+fn removals(alloc: Global) -> Result<(Tran, Tran), Fail>
+    ensures { IfOk result (λ ts. (ts.0.number ≡ 3) × (length ts.0.ops ≤ 64) × (ts.1.number ≡ 4) × (length ts.1.ops ≤ 64)) }
+{
+    let table = table(1);
+    let aborted = [
+        Op::Del { table, key: 0 },
+        Op::Abort,
+        Op::Get { table, key: 0 },
+    ];
+    let played = [Op::Del { table, key: 0 }, Op::Get { table, key: 0 }];
+    Ok((tran(alloc, "c", 3, &aborted)?, tran(alloc, "d", 4, &played)?))
+}
+
+fn script(alloc: Global) -> Result<Script, Fail>
+    ensures { IfOk result (λ s. IsCounted s) }
+{
+    let (puts, scan) = puts_and_scan(alloc)?;
+    let (aborted, played) = removals(alloc)?;
+    let phases = vec![in alloc; phase(alloc, member(1), puts)?, phase(alloc, member(2), scan)?, phase(alloc, member(2), aborted)?, phase(alloc, member(1), played)?]?;
     Ok(Script {
-        phases: Sequence::from_vec(vec![in alloc; first, second]?),
+        phases: Sequence::from_vec(phases),
         groupfails: 0,
     })
 }

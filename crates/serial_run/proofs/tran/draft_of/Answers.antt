@@ -1,8 +1,6 @@
-use Rattle.std.proofs.Common.{◌≡◌, ◌+◌, ◌++◌, List, false, sym, ap, ◌∙◌}
-use Rattle.ds_model.specs.declared.script.Op.{Op}
+use Rattle.std.proofs.Common.{◌≡◌, ◌++◌, List, false, sym, ap, ◌∙◌}
 use Rattle.ds_model.specs.declared.log.LogRecord.{LogRecord}
 use Rattle.ds_model.specs.Effect.{aborts}
-use Rattle.serial_run.specs.declared.state.State.{State}
 use Rattle.serial_run.specs.Steps.{reached, after_all, changes, committed}
 use Rattle.serial_run.proofs.Reaching.{reached-all}
 use Rattle.serial_run.proofs.Drafted.{drafted, drafted_reads}

@@ -1,12 +1,11 @@
 use Rattle.std.proofs.Common.{◌≡◌, ℕ, false, List, Err, sym, ap, subst, ◌∙◌, ◌⊎◌}
 use Rattle.std.specs.List.{AllByRecursion}
 use Rattle.ds_model.specs.declared.log.LogRecord.{LogRecord}
-use Rattle.ds_model.specs.Effect.{aborts}
 use Rattle.ds_model.specs.RecordBytes.{log_bytes, IsAllowed, Fits}
 use Rattle.ds_disk.specs.Answers.{Appended}
 use Rattle.ds_disk.specs.Contents.{Becomes, Same}
 use Rattle.serial_run.specs.declared.state.State.{State}
-use Rattle.serial_run.specs.Steps.{after_all, records_of}
+use Rattle.serial_run.specs.Steps.{after_all}
 use Rattle.serial_run.specs.Undo.{undone}
 use Rattle.serial_run.proofs.Undone.{next-goes, undone-records}
 use Rattle.serial_run.proofs.Fitting.{all_fit}
