@@ -95,7 +95,10 @@ fn removals(alloc: Global) -> Result<(Tran, Tran), Fail>
         Op::Get { table, key: 0 },
     ];
     let played = [Op::Del { table, key: 0 }, Op::Get { table, key: 0 }];
-    Ok((tran(alloc, "c", 3, &aborted)?, tran(alloc, "d", 4, &played)?))
+    Ok((
+        tran(alloc, "c", 3, &aborted)?,
+        tran(alloc, "d", 4, &played)?,
+    ))
 }
 
 fn script(alloc: Global) -> Result<Script, Fail>
@@ -103,7 +106,12 @@ fn script(alloc: Global) -> Result<Script, Fail>
 {
     let (puts, scan) = puts_and_scan(alloc)?;
     let (aborted, played) = removals(alloc)?;
-    let phases = vec![in alloc; phase(alloc, member(1), puts)?, phase(alloc, member(2), scan)?, phase(alloc, member(2), aborted)?, phase(alloc, member(1), played)?]?;
+    let phases = vec![in alloc;
+        phase(alloc, member(1), puts)?,
+        phase(alloc, member(2), scan)?,
+        phase(alloc, member(2), aborted)?,
+        phase(alloc, member(1), played)?,
+    ]?;
     Ok(Script {
         phases: Sequence::from_vec(phases),
         groupfails: 0,
