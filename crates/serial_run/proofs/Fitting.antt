@@ -1,12 +1,13 @@
 -- The records of a transaction can be written.
-use Rattle.std.proofs.Common.{◌≢◌, ℕ, ◌+◌, ◌/◌, ◌%◌, ◌<◌, List, [], ◌∷◌, arith}
+use Rattle.std.proofs.Common.{◌≢◌, ℕ, ◌+◌, ◌/◌, ◌%◌, ◌<◌, List, [], ◌∷◌, Option, Some, None, arith}
 use Rattle.std.specs.List.{AllByRecursion}
+use Rattle.std.specs.FinMap as finite
 use Rattle.ds_model.specs.declared.script.Op.{Op}
 use Rattle.ds_model.specs.declared.script.Op.TheVariants as op
 use Rattle.ds_model.specs.RecordBytes.{Fits}
 use Rattle.serial_run.specs.declared.state.State.{State}
 use Rattle.serial_run.proofs.Lists.{all_append}
-use Rattle.serial_run.specs.Steps.{after, added, changes, records_of, number_in}
+use Rattle.serial_run.specs.Steps.{after, added, removal, changes, change_record, records_of, number_in}
 
 page_some : (n : ℕ) → 1 + n / 31 ≢ 0
 page_some n e = absurd (omega arith)
@@ -14,10 +15,17 @@ page_some n e = absurd (omega arith)
 slot_in : (n : ℕ) → n % 31 < 31
 slot_in n = omega arith
 
+fits_change : (tran : ℕ) (s : State) (table key : ℕ) (value : Option (List ℕ)) → tran ≢ 0 → Fits (change_record tran s table key value)
+fits_change tran s table key value some = record { tran_some = some; body_fits = (page_some (number_in s table key), slot_in (number_in s table key)) }
+
+fits_removal : (tran : ℕ) (s : State) (table key : ℕ) (value : Option (List ℕ)) → tran ≢ 0 → AllByRecursion Fits (removal tran s table key value)
+fits_removal tran s table key None some = tt
+fits_removal tran s table key (Some value) some = (fits_change tran s table key None some, tt)
+
 fits_added : (tran : ℕ) (s : State) (o : Op) → tran ≢ 0 → AllByRecursion Fits (added tran s o)
 fits_added tran s (op.Get table key) some = tt
-fits_added tran s (op.Put table key value) some = (record { tran_some = some; body_fits = (page_some (number_in s.places (table, key)), slot_in (number_in s.places (table, key))) }, tt)
-fits_added tran s (op.Del table key) some = tt
+fits_added tran s (op.Put table key value) some = (fits_change tran s table key (Some value) some, tt)
+fits_added tran s (op.Del table key) some = fits_removal tran s table key (finite.get s.rows (table, key)) some
 fits_added tran s (op.Scan table low high) some = tt
 fits_added tran s (op.Raise flag) some = tt
 fits_added tran s (op.Await flag) some = tt

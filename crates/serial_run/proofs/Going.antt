@@ -1,24 +1,28 @@
 -- The run so far, and one transaction more.
-use Rattle.std.proofs.Common.{◌≡◌, ℕ, ◌+◌, ◌-◌, ◌*◌, ◌<◌, ◌≤◌, Bool, true, List, [], ◌∷◌, ◌++◌, length, take, get_or, Option, refl, sym, ap, subst, ◌∙◌, arith, append_assoc}
-use Rattle.std.proofs.lemmas.List.{append-nil, take_more}
+use Rattle.std.proofs.Common.{◌≡◌, ℕ, ◌+◌, ◌-◌, ◌*◌, ◌<◌, ◌≤◌, Bool, true, false, cond, List, [], ◌∷◌, ◌++◌, length, take, drop, get_or, Option, refl, sym, ap, subst, ◌∙◌, arith, append_assoc}
+use Rattle.std.proofs.lemmas.List.{append-nil, take_more, drop_more}
+use Rattle.ds_disk.specs.Answers.{Appended}
 use Rattle.ds_disk.specs.Contents.{Contents, Becomes}
 use Rattle.ds_model.specs.declared.report.ReportEntry.{ReportEntry}
 use Rattle.ds_model.specs.declared.report.ToldRead.{ToldRead}
 use Rattle.ds_model.specs.declared.report.Told.TheVariants as told
-use Rattle.std.specs.List.{AllByRecursion}
-use Rattle.ds_model.specs.RecordBytes.{IsAllowed}
-use Rattle.ds_model.specs.OneMember.{IsOneMemberTran}
+use Rattle.ds_model.specs.RecordBytes.{log_bytes}
+use Rattle.ds_model.specs.Effect.{aborts}
+use Rattle.ds_model.specs.Serial.{IsShortTran}
 use Rattle.ds_model.specs.Transactions.{Placed}
+use Rattle.serial_run.specs.declared.entry.Entries.{Entries}
 use Rattle.serial_run.specs.declared.state.State.{State}
-use Rattle.serial_run.specs.Steps.{next, told_all, records_of}
-use Rattle.serial_run.specs.Played.{appended, HasRoom, IsCommitted, IsStopped}
-use Rattle.serial_run.specs.Entries.{entry_with, commit_entry, commit_entries}
-use Rattle.serial_run.specs.Progress.{state_after, contents_after, AreAllowed, HasPlayed}
-use Rattle.serial_run.proofs.Pushes.{state-push, contents-push, entries-push, allowed-push, becomes-then, becomes_same}
+use Rattle.serial_run.specs.Steps.{next, records_of}
+use Rattle.serial_run.specs.Played.{appended, HasRoom, IsAppend, IsCommitted, IsAborted, IsStopped}
+use Rattle.serial_run.specs.Entries.{entry_with, commit_entry, commit_entries, abort_entry, abort_entries}
+use Rattle.serial_run.specs.Progress.{state_after, contents_next, contents_after, AreAllowed, FirstAppends, IsTornAt, HasPlayed}
+use Rattle.serial_run.proofs.Failing.{lives_on, has_died}
+use Rattle.serial_run.proofs.Pushes.{state-push, contents-push, commits-push, aborts-push, allowed-push, becomes-then, becomes_same, becomes_so}
 
--- the first i transactions have committed
-pub record Going (items : List Placed) (i : ℕ) (was now : State) (entries entries_now : List ReportEntry) (now_alive : Bool) (before after : Option Contents) (faults faults_now : ℕ) : Type 0 where
-  pub entries_are : entries_now ≡ entries ++ commit_entries was.rows (take i items)
+-- the first i transactions were played to their ends
+pub record Going (items : List Placed) (i : ℕ) (was now : State) (entries entries_now : Entries) (now_alive : Bool) (before after : Option Contents) (faults faults_now : ℕ) : Type 0 where
+  pub committed_are : entries_now.committed ≡ entries.committed ++ commit_entries was.rows (take i items)
+  pub others_are : entries_now.others ≡ entries.others ++ abort_entries (take i items)
   pub state_is : now ≡ state_after was (take i items)
   pub allowed : AreAllowed was (take i items)
   pub alive : now_alive ≡ true
@@ -26,10 +30,11 @@ pub record Going (items : List Placed) (i : ℕ) (was now : State) (entries entr
   pub room : HasRoom now (65 * (length items - i))
   pub later : faults ≤ faults_now
 
-pub starts : (items : List Placed) (s : State) (entries : List ReportEntry) (alive : Bool) (x : Option Contents) (f : ℕ)
+pub starts : (items : List Placed) (s : State) (entries : Entries) (alive : Bool) (x : Option Contents) (f : ℕ)
     → alive ≡ true → HasRoom s (65 * length items) → Going items 0 s s entries entries alive x x f f
 starts items s entries alive x f lives room = record {
-  entries_are = sym (append-nil entries);
+  committed_are = sym (append-nil entries.committed);
+  others_are = sym (append-nil entries.others);
   state_is = refl;
   allowed = tt;
   alive = lives;
@@ -38,52 +43,110 @@ starts items s entries alive x f lives room = record {
   later = omega arith;
 }
 
-pub goes_on : (items : List Placed) (i : ℕ) (d p : Placed) (was s now : State) (entries so_far more : List ReportEntry) (reads : List ToldRead) (a b : Bool) (x y z : Option Contents) (f g h : ℕ)
-    → i < length items → p ≡ get_or items i d → IsOneMemberTran p.1
+-- what one more leaves, of either kind
+goes : (items : List Placed) (i : ℕ) (d p : Placed) (was s now : State) (entries so_far more : Entries) (a b : Bool) (x y z : Option Contents) (f g h : ℕ)
+    → i < length items → p ≡ get_or items i d → IsShortTran p
     → Going items i was s entries so_far a x y f g
-    → IsCommitted p.0 s now p.1.ops reads b y z
+    → now ≡ next s p.1.ops → b ≡ true → Becomes y z (λ m n. n ≡ contents_next s p m)
+    → (aborts p.1.ops ≡ false → IsAppend p.0 s p.1.ops)
     → HasRoom now 0 → now.last ≤ s.last + length p.1.ops + 1 → g ≤ h
-    → more ≡ so_far ++ entry_with p (told.Committed true reads) ∷ []
+    → more.committed ≡ so_far.committed ++ cond (aborts p.1.ops) [] (commit_entry s.rows p ∷ [])
+    → more.others ≡ so_far.others ++ cond (aborts p.1.ops) (abort_entry p ∷ []) []
     → Going items (i + 1) was now entries more b x z f h
-goes_on items i d p was s now entries so_far more reads a b x y z f g h lt its playable so committed few drawn later pushed =
+goes items i d p was s now entries so_far more a b x y z f g h lt its short so now_is lives left allowed few drawn later committed others =
     let ps = take i items in
     let more_is : take (i + 1) items ≡ ps ++ p ∷ [] = take_more items i d lt ∙ ap (λ (q : Placed). ps ++ q ∷ []) (sym its) in
-    let entry : entry_with p (told.Committed true reads) ≡ commit_entry (state_after was ps).rows p =
-    ap (λ (r : List ToldRead). entry_with p (told.Committed true r)) (committed.reads_are ∙ ap (λ (t : State). told_all t.rows p.1.ops) so.state_is) in
     record {
-      entries_are = pushed ∙ ap (λ (l : List ReportEntry). l ++ entry_with p (told.Committed true reads) ∷ []) so.entries_are
-          ∙ append_assoc entries (commit_entries was.rows ps) _
-          ∙ ap (λ (e : ReportEntry). entries ++ (commit_entries was.rows ps ++ e ∷ [])) entry
-          ∙ ap (λ (l : List ReportEntry). entries ++ l) (sym (ap (commit_entries was.rows) more_is ∙ entries-push was ps p));
-      state_is = committed.state ∙ ap (λ (t : State). next t p.1.ops) so.state_is ∙ sym (ap (state_after was) more_is ∙ state-push was ps p);
-      allowed = subst (AreAllowed was) (sym more_is) (allowed-push was ps p so.allowed (subst (λ (t : State). AllByRecursion IsAllowed (records_of t p.1.ops)) so.state_is committed.allowed));
-      alive = committed.alive;
-      log = becomes-then x y z _ _ _ so.log committed.log (λ c m n is_m is_n. is_n ∙ ap (λ (t : State). appended p.0 (records_of t p.1.ops) m) so.state_is
-          ∙ ap (appended p.0 (records_of (state_after was ps) p.1.ops)) is_m ∙ sym (ap (λ (l : List Placed). contents_after was l c) more_is ∙ contents-push was ps p c));
-      room = record { placed_few = few.placed_few; drawn_few = omega (arith, so.room.drawn_few, playable.short) };
+      committed_are = committed ∙ ap (λ (t : State). so_far.committed ++ cond (aborts p.1.ops) [] (commit_entry t.rows p ∷ [])) so.state_is
+          ∙ ap (λ (l : List ReportEntry). l ++ cond (aborts p.1.ops) [] (commit_entry (state_after was ps).rows p ∷ [])) so.committed_are
+          ∙ append_assoc entries.committed (commit_entries was.rows ps) _
+          ∙ ap (λ (l : List ReportEntry). entries.committed ++ l) (sym (ap (commit_entries was.rows) more_is ∙ commits-push was ps p));
+      others_are = others
+          ∙ ap (λ (l : List ReportEntry). l ++ cond (aborts p.1.ops) (abort_entry p ∷ []) []) so.others_are
+          ∙ append_assoc entries.others (abort_entries ps) _
+          ∙ ap (λ (l : List ReportEntry). entries.others ++ l) (sym (ap abort_entries more_is ∙ aborts-push ps p));
+      state_is = now_is ∙ ap (λ (t : State). next t p.1.ops) so.state_is ∙ sym (ap (state_after was) more_is ∙ state-push was ps p);
+      allowed = subst (AreAllowed was) (sym more_is) (allowed-push was ps p so.allowed (subst (λ (t : State). aborts p.1.ops ≡ false → IsAppend p.0 t p.1.ops) so.state_is allowed));
+      alive = lives;
+      log = becomes-then x y z _ _ _ so.log left (λ c m n is_m is_n. is_n ∙ ap (λ (t : State). contents_next t p m) so.state_is
+          ∙ ap (contents_next (state_after was ps) p) is_m ∙ sym (ap (λ (l : List Placed). contents_after was l c) more_is ∙ contents-push was ps p c));
+      room = record { placed_few = few.placed_few; drawn_few = omega (arith, so.room.drawn_few, short) };
       later = omega (arith, so.later);
     }
 
-pub stops : (items : List Placed) (i : ℕ) (was s now : State) (entries so_far : List ReportEntry) (a b : Bool) (x y z : Option Contents) (f g h : ℕ)
-    → i < length items → Going items i was s entries so_far a x y f g → IsStopped s now a b y z g h
-    → HasPlayed items i was now entries so_far b x z f h
-stops items i was s now entries so_far a b x y z f g h lt so stopped = record {
-  few = omega arith;
-  entries_are = so.entries_are;
-  rows_are = stopped.rows ∙ ap (λ (t : State). t.rows) so.state_is;
-  allowed = so.allowed;
-  log = λ e. becomes-then x y z _ _ _ so.log (stopped.log e) (λ c m n is_m is_n. is_n ∙ is_m);
-  cause = λ l. omega (arith, so.later, stopped.cause);
-}
+when_false : {X : Type 0} (b : Bool) (x y : X) → b ≡ false → cond b x y ≡ y
+when_false b x y e = ap (λ c. cond c x y) e
 
-pub ends : (items : List Placed) (i : ℕ) (was s : State) (entries so_far : List ReportEntry) (a : Bool) (x y : Option Contents) (f g : ℕ)
-    → i ≡ length items → Going items i was s entries so_far a x y f g
+when_true : {X : Type 0} (b : Bool) (x y : X) → b ≡ true → cond b x y ≡ x
+when_true b x y e = ap (λ c. cond c x y) e
+
+pub commits_one : (items : List Placed) (i : ℕ) (d p : Placed) (was s now : State) (entries so_far more : Entries) (reads : List ToldRead) (a b : Bool) (x y z : Option Contents) (f g h : ℕ)
+    → i < length items → p ≡ get_or items i d → IsShortTran p
+    → Going items i was s entries so_far a x y f g
+    → IsCommitted p.0 s now p.1.ops reads b y z
+    → HasRoom now 0 → now.last ≤ s.last + length p.1.ops + 1 → g ≤ h
+    → more.committed ≡ so_far.committed ++ entry_with p (told.Committed true reads) ∷ [] → more.others ≡ so_far.others
+    → Going items (i + 1) was now entries more b x z f h
+commits_one items i d p was s now entries so_far more reads a b x y z f g h lt its short so done few drawn later committed others =
+    let no = done.append.no_abort in
+    goes items i d p was s now entries so_far more a b x y z f g h lt its short so done.state done.alive
+    (becomes_so y z _ _ done.log (λ m n e. e ∙ sym (when_false (aborts p.1.ops) m (appended p.0 (records_of s p.1.ops) m) no)))
+    (λ e. done.append) few drawn later
+    (committed ∙ ap (λ (r : List ToldRead). so_far.committed ++ entry_with p (told.Committed true r) ∷ []) done.reads_are
+    ∙ ap (λ (l : List ReportEntry). so_far.committed ++ l) (sym (when_false (aborts p.1.ops) [] (commit_entry s.rows p ∷ []) no)))
+    (others ∙ sym (append-nil so_far.others) ∙ ap (λ (l : List ReportEntry). so_far.others ++ l) (sym (when_false (aborts p.1.ops) (abort_entry p ∷ []) [] no)))
+
+pub aborts_one : (items : List Placed) (i : ℕ) (d p : Placed) (was s now : State) (entries so_far more : Entries) (a b : Bool) (x y z : Option Contents) (f g h : ℕ)
+    → i < length items → p ≡ get_or items i d → IsShortTran p
+    → Going items i was s entries so_far a x y f g
+    → IsAborted s now p.1.ops a b y z
+    → HasRoom now 0 → now.last ≤ s.last + length p.1.ops + 1 → g ≤ h
+    → more.committed ≡ so_far.committed → more.others ≡ so_far.others ++ abort_entry p ∷ []
+    → Going items (i + 1) was now entries more b x z f h
+aborts_one items i d p was s now entries so_far more a b x y z f g h lt its short so done few drawn later committed others =
+    let yes = done.aborts_it in
+    let same : Becomes y y (λ m n. n ≡ contents_next s p m) = becomes_same y _ (λ m. sym (when_true (aborts p.1.ops) m (appended p.0 (records_of s p.1.ops) m) yes)) in
+    goes items i d p was s now entries so_far more a b x y z f g h lt its short so done.state (done.alive ∙ so.alive)
+    (subst (λ (o : Option Contents). Becomes y o (λ m n. n ≡ contents_next s p m)) (sym done.log) same)
+    (λ e. let f : true ≡ false = sym yes ∙ e in cc) few drawn later
+    (committed ∙ sym (append-nil so_far.committed) ∙ ap (λ (l : List ReportEntry). so_far.committed ++ l) (sym (when_true (aborts p.1.ops) [] (commit_entry s.rows p ∷ []) yes)))
+    (others ∙ ap (λ (l : List ReportEntry). so_far.others ++ l) (sym (when_true (aborts p.1.ops) (abort_entry p ∷ []) [] yes)))
+
+pub stops : (items : List Placed) (i : ℕ) (d p : Placed) (was s now : State) (entries so_far : Entries) (a b : Bool) (x y z : Option Contents) (f g h : ℕ)
+    → i < length items → p ≡ get_or items i d
+    → Going items i was s entries so_far a x y f g → IsStopped p.0 s now p.1.ops a b y z g h
+    → HasPlayed items i was now entries so_far b x z f h
+stops items i d p was s now entries so_far a b x y z f g h lt its so stopped =
+    let ps = take i items in
+    let t = state_after was ps in
+    let more_is : take (i + 1) items ≡ ps ++ p ∷ [] = take_more items i d lt ∙ ap (λ (q : Placed). ps ++ q ∷ []) (sym its) in
+    let rest_is : drop i items ≡ p ∷ drop (i + 1) items = drop_more items i d lt ∙ ap (λ (q : Placed). q ∷ drop (i + 1) items) (sym its) in
+    record {
+      few = omega arith;
+      committed_are = so.committed_are;
+      others_are = so.others_are;
+      rows_are = stopped.rows ∙ ap (λ (u : State). u.rows) so.state_is;
+      allowed = subst (AreAllowed was) (sym more_is) (allowed-push was ps p so.allowed (λ e. subst (λ (u : State). IsAppend p.0 u p.1.ops) so.state_is stopped.append));
+      appends = subst FirstAppends (sym rest_is) stopped.append.no_abort;
+      log = λ e. becomes-then x y z _ _ _ so.log (lives_on a b y z _ stopped.log e) (λ c m n is_m is_n. is_n ∙ is_m);
+      torn = λ e. becomes-then x y z _ _ _ so.log (has_died a b y z _ stopped.log so.alive e) (λ c m n is_m torn.
+          subst (λ (l : List Placed). IsTornAt t l (contents_after was ps c) n) (sym rest_is)
+          (subst (λ (w : Contents). Appended p.0 (log_bytes (records_of t p.1.ops)) w n) is_m
+          (subst (λ (u : State). Appended p.0 (log_bytes (records_of u p.1.ops)) m n) so.state_is torn)));
+      cause = λ l. omega (arith, so.later, stopped.cause);
+    }
+
+pub ends : (items : List Placed) (i : ℕ) (was s : State) (entries so_far : Entries) (a : Bool) (x y : Option Contents) (f g : ℕ)
+    → i ≡ length items → take (i + 1) items ≡ take i items → drop i items ≡ [] → Going items i was s entries so_far a x y f g
     → HasPlayed items i was s entries so_far a x y f g
-ends items i was s entries so_far a x y f g is so = record {
+ends items i was s entries so_far a x y f g is all none so = record {
   few = omega arith;
-  entries_are = so.entries_are;
+  committed_are = so.committed_are;
+  others_are = so.others_are;
   rows_are = ap (λ (t : State). t.rows) so.state_is;
-  allowed = so.allowed;
+  allowed = subst (AreAllowed was) (sym all) so.allowed;
+  appends = subst FirstAppends (sym none) tt;
   log = λ e. so.log;
+  torn = λ e. let f : true ≡ false = sym so.alive ∙ e in cc;
   cause = λ l. absurd (omega arith);
 }

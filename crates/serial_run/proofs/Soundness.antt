@@ -1,179 +1,221 @@
 -- A run of a script is sound.
-use Rattle.std.proofs.Common.{◌≡◌, ℕ, zero, suc, ◌+◌, ◌<◌, Bool, true, false, cond, List, [], ◌∷◌, ◌++◌, map, length, take, drop, replicate, set, get_or, Option, Some, None, refl, sym, ap, subst, ◌∙◌, arith}
-use Rattle.std.proofs.lemmas.Grind.{flat_map-append}
+use Rattle.std.proofs.Common.{◌≡◌, ℕ, zero, suc, ◌+◌, ◌<◌, ◌≤◌, Bool, true, false, cond, List, [], ◌∷◌, ◌++◌, map, length, take, drop, refl, sym, ap, subst, ◌∙◌, arith, append_assoc}
 use Rattle.std.proofs.lemmas.List.{map-append, take-append-drop}
-use Rattle.std.proofs.lemmas.List.Sorted.{IsPermutation-refl}
+use Rattle.std.proofs.lemmas.List.Sorted.{IsPermutation-refl, IsPermutation-cons, IsPermutation-trans, IsPermutation-middle}
 use Rattle.std.specs.List.{AllByRecursion}
 use Rattle.std.specs.List.Sorted.{IsPermutation}
 use Rattle.std.specs.FinMap as finite
-use Rattle.ds_disk.specs.Contents.{Contents, Becomes}
-use Rattle.ds_model.specs.declared.script.Op.{Op}
-use Rattle.ds_model.specs.declared.script.Op.TheVariants as op
 use Rattle.ds_model.specs.declared.script.Script.{Script}
-use Rattle.ds_model.specs.declared.log.LogRecord.{LogRecord}
-use Rattle.ds_model.specs.Rows.{Rows, listed}
-use Rattle.ds_model.specs.RecordBytes.{log_bytes, record_bytes}
-use Rattle.ds_model.specs.Effect.{after_ops, aborts, after_tran}
+use Rattle.ds_model.specs.declared.fate.Fate.TheVariants as fate
+use Rattle.ds_model.specs.declared.fate.Refusal.TheVariants as refusal
+use Rattle.ds_model.specs.declared.history.Entry.{Entry}
+use Rattle.ds_model.specs.Rows.{Rows}
+use Rattle.ds_model.specs.Effect.{after_ops, aborts, after_tran, reads_of}
+use Rattle.ds_model.specs.Scripts.{counted}
 use Rattle.ds_model.specs.Transactions.{Placed, placed}
-use Rattle.ds_model.specs.OneMember.{IsOneMember, IsOneMemberOp, counted}
-use Rattle.ds_model.specs.History.{Play, played, is_committed, replay, IsLegal, RiseAbove, IsInOrder}
-use Rattle.ds_model.specs.Logs.{StandFor}
+use Rattle.ds_model.specs.Serial.{IsCounted}
+use Rattle.ds_model.specs.History.{played, is_committed, replay, IsLegal, RiseAbove, IsInOrder}
 use Rattle.serial_run.specs.declared.state.State.{State}
-use Rattle.serial_run.specs.declared.run.Ran.{Ran}
-use Rattle.serial_run.specs.Steps.{next, records_of}
-use Rattle.serial_run.specs.Played.{appended}
-use Rattle.serial_run.specs.Progress.{state_after, contents_after, AreAllowed}
-use Rattle.serial_run.specs.Ran.{start, commits, stop, history_of, IsRunOf}
-use Rattle.serial_run.specs.Sounds.{HasEmptyLogs, IsSoundRun}
+use Rattle.serial_run.specs.Steps.{next}
+use Rattle.serial_run.specs.Progress.{state_after}
+use Rattle.serial_run.specs.Ran.{start, commits, refused, stop, history_of}
+use Rattle.serial_run.specs.Sounds.{replay_with_stopped}
+use Rattle.serial_run.proofs.Lists.{all_append}
 use Rattle.serial_run.proofs.Pushes.{rows_of_next}
-use Rattle.serial_run.proofs.Playable.{IsFirst, firsts, all_take}
-use Rattle.serial_run.proofs.GoodLog.{IsGoodLog, good_log_none, good_log_grows, stands_for}
+
+-- ---- one transaction of those that were played to their ends
+
+abbrev commit : Rows → Placed → Entry
+commit rows p = record { member = p.0; tran = p.1; fate = fate.Committed true (reads_of rows p.1.ops) }
+
+abbrev refuse : Placed → Entry
+refuse p = record { member = p.0; tran = p.1; fate = fate.Refused refusal.Aborted }
+
+commits_when : (b : Bool) (rows : Rows) (p : Placed) (ps : List Placed)
+    → cond b (commits rows ps) (commit rows p ∷ commits (after_ops rows p.1.ops) ps) ≡ cond b [] (commit rows p ∷ []) ++ commits (cond b rows (after_ops rows p.1.ops)) ps
+commits_when true rows p ps = refl
+commits_when false rows p ps = refl
+
+commits-cons : (rows : Rows) (p : Placed) (ps : List Placed) → commits rows (p ∷ ps) ≡ cond (aborts p.1.ops) [] (commit rows p ∷ []) ++ commits (after_tran rows p.1.ops) ps
+commits-cons rows p ps = commits_when (aborts p.1.ops) rows p ps
 
 -- ---- each once
 
-played-commits : (rows : Rows) (ps : List Placed) → map played (commits rows ps) ≡ ps
-played-commits rows [] = refl
-played-commits rows (p ∷ ps) = ap (λ (l : List Placed). p ∷ l) (played-commits (after_ops rows p.1.ops) ps)
+once_when : (b : Bool) (rows : Rows) (p : Placed) (us vs : List Entry) (ys zs : List Placed)
+    → IsPermutation (map played us ++ (map played vs ++ ys)) zs
+    → IsPermutation (map played (cond b [] (commit rows p ∷ []) ++ us) ++ (map played (cond b (refuse p ∷ vs) vs) ++ ys)) (p ∷ zs)
+once_when true rows p us vs ys zs h = IsPermutation-trans _ _ _ (IsPermutation-middle (map played us) p (map played vs ++ ys)) (IsPermutation-cons p _ _ h)
+once_when false rows p us vs ys zs h = IsPermutation-cons p _ _ h
+
+once : (rows : Rows) (xs ys : List Placed) → IsPermutation (map played (commits rows xs) ++ (map played (refused xs) ++ ys)) (xs ++ ys)
+once rows [] ys = IsPermutation-refl ys
+once rows (p ∷ xs) ys =
+    subst (λ (l : List Entry). IsPermutation (map played l ++ (map played (refused (p ∷ xs)) ++ ys)) (p ∷ (xs ++ ys))) (sym (commits-cons rows p xs))
+    (once_when (aborts p.1.ops) rows p (commits (after_tran rows p.1.ops) xs) (refused xs) ys (xs ++ ys) (once (after_tran rows p.1.ops) xs ys))
 
 played-stops : (ps : List Placed) → map played (map stop ps) ≡ ps
 played-stops [] = refl
 played-stops (p ∷ ps) = ap (λ (l : List Placed). p ∷ l) (played-stops ps)
 
-played-history : (ps : List Placed) (count : ℕ) → map played (history_of ps count) ≡ ps
-played-history ps count =
-    map-append played (commits finite.empty (take count ps)) (map stop (drop count ps))
-    ∙ ap (λ (l : List Placed). l ++ map played (map stop (drop count ps))) (played-commits finite.empty (take count ps))
-    ∙ ap (λ (l : List Placed). take count ps ++ l) (played-stops (drop count ps))
-    ∙ take-append-drop count ps
+pub each_once : (ps : List Placed) (count : ℕ) → IsPermutation (map played (history_of ps count)) ps
+each_once ps count =
+    let xs = take count ps in
+    let ys = drop count ps in
+    let split : map played (history_of ps count) ≡ map played (commits finite.empty xs) ++ (map played (refused xs) ++ ys) =
+    map-append played (commits finite.empty xs) (refused xs ++ map stop ys)
+    ∙ ap (λ (l : List Placed). map played (commits finite.empty xs) ++ l) (map-append played (refused xs) (map stop ys) ∙ ap (λ (l : List Placed). map played (refused xs) ++ l) (played-stops ys)) in
+    subst (λ (l : List Placed). IsPermutation l ps) (sym split)
+    (subst (λ (l : List Placed). IsPermutation (map played (commits finite.empty xs) ++ (map played (refused xs) ++ ys)) l) (take-append-drop count ps) (once finite.empty xs ys))
 
 -- ---- in order
 
-all_committed : (rows : Rows) (ps : List Placed) → AllByRecursion (λ (p : Play). is_committed p.fate ≡ true) (commits rows ps)
+committed_when : (b : Bool) (rows : Rows) (p : Placed) (us vs : List Entry) → AllByRecursion (λ (e : Entry). is_committed e.fate ≡ true) us → AllByRecursion (λ (e : Entry). is_committed e.fate ≡ true) vs
+    → AllByRecursion (λ (e : Entry). is_committed e.fate ≡ true) (cond b us (commit rows p ∷ vs))
+committed_when true rows p us vs h k = h
+committed_when false rows p us vs h k = (refl, k)
+
+all_committed : (rows : Rows) (ps : List Placed) → AllByRecursion (λ (e : Entry). is_committed e.fate ≡ true) (commits rows ps)
 all_committed rows [] = tt
-all_committed rows (p ∷ ps) = (refl, all_committed (after_ops rows p.1.ops) ps)
+all_committed rows (p ∷ ps) = committed_when (aborts p.1.ops) rows p (commits rows ps) (commits (after_ops rows p.1.ops) ps) (all_committed rows ps) (all_committed (after_ops rows p.1.ops) ps)
 
-none_committed : (ps : List Placed) → AllByRecursion (λ (p : Play). is_committed p.fate ≡ false) (map stop ps)
-none_committed [] = tt
-none_committed (p ∷ ps) = (refl, none_committed ps)
+others_when : (b : Bool) (p : Placed) (us : List Entry) → AllByRecursion (λ (e : Entry). is_committed e.fate ≡ false) us → AllByRecursion (λ (e : Entry). is_committed e.fate ≡ false) (cond b (refuse p ∷ us) us)
+others_when true p us h = (refl, h)
+others_when false p us h = h
 
-rises_weaker : (low : ℕ) (ns : List ℕ) → RiseAbove low ns → RiseAbove 0 ns
-rises_weaker low [] r = tt
-rises_weaker low (n ∷ ns) r = (omega (arith, r.0), r.1)
+all_refused : (ps : List Placed) → AllByRecursion (λ (e : Entry). is_committed e.fate ≡ false) (refused ps)
+all_refused [] = tt
+all_refused (p ∷ ps) = others_when (aborts p.1.ops) p (refused ps) (all_refused ps)
 
-rises_back : (low : ℕ) (xs ys : List ℕ) → RiseAbove low (xs ++ ys) → RiseAbove 0 ys
-rises_back low [] ys r = rises_weaker low ys r
-rises_back low (x ∷ xs) ys r = rises_back x xs ys r.1
+all_stopped : (ps : List Placed) → AllByRecursion (λ (e : Entry). is_committed e.fate ≡ false) (map stop ps)
+all_stopped [] = tt
+all_stopped (p ∷ ps) = (refl, all_stopped ps)
+
+abbrev number : Entry → ℕ
+number e = e.tran.number
+
+abbrev placed_number : Placed → ℕ
+placed_number p = p.1.number
+
+rises_lower : (low n : ℕ) (ns : List ℕ) → low ≤ n → RiseAbove n ns → RiseAbove low ns
+rises_lower low n [] le r = tt
+rises_lower low n (m ∷ ns) le r = (omega (arith, r.0), r.1)
 
 rises_counted : (low from n : ℕ) → low < from → RiseAbove low (counted from n)
 rises_counted low from zero lt = tt
 rises_counted low from (suc n) lt = (lt, rises_counted from (from + 1) n (omega arith))
 
-numbers_stopped : (ps : List Placed) → map (λ (p : Play). p.tran.number) (map stop ps) ≡ map (λ (p : Placed). p.1.number) ps
+numbers_stopped : (ps : List Placed) → map number (map stop ps) ≡ map placed_number ps
 numbers_stopped [] = refl
 numbers_stopped (p ∷ ps) = ap (λ (l : List ℕ). p.1.number ∷ l) (numbers_stopped ps)
 
-in_order : (s : Script) (count : ℕ) → IsOneMember s → IsInOrder (history_of (placed s) count)
+rises_when : (b : Bool) (low : ℕ) (p : Placed) (us ys : List Entry) → low < p.1.number → RiseAbove p.1.number (map number (us ++ ys)) → RiseAbove low (map number (cond b (refuse p ∷ us) us ++ ys))
+rises_when true low p us ys lt h = (lt, h)
+rises_when false low p us ys lt h = rises_lower low p.1.number (map number (us ++ ys)) (omega arith) h
+
+rises_others : (low : ℕ) (xs ys : List Placed) → RiseAbove low (map placed_number (xs ++ ys)) → RiseAbove low (map number (refused xs ++ map stop ys))
+rises_others low [] ys h = subst (RiseAbove low) (sym (numbers_stopped ys)) h
+rises_others low (p ∷ xs) ys h = rises_when (aborts p.1.ops) low p (refused xs) (map stop ys) h.0 (rises_others p.1.number xs ys h.1)
+
+pub in_order : (s : Script) (count : ℕ) → IsCounted s → IsInOrder (history_of (placed s) count)
 in_order s count is =
     let ps = placed s in
-    let numbers = λ (l : List Placed). map (λ (p : Placed). p.1.number) l in
-    let split : numbers (take count ps) ++ numbers (drop count ps) ≡ counted 1 (length ps) =
-    sym (map-append (λ (p : Placed). p.1.number) (take count ps) (drop count ps)) ∙ ap (λ (l : List Placed). map (λ (p : Placed). p.1.number) l) (take-append-drop count ps) ∙ is.numbers in
-    let rising : RiseAbove 0 (numbers (take count ps) ++ numbers (drop count ps)) = subst (RiseAbove 0) (sym split) (rises_counted 0 1 (length ps) (omega arith)) in
+    let xs = take count ps in
+    let ys = drop count ps in
+    let whole : map placed_number (xs ++ ys) ≡ counted 1 (length ps) = ap (λ (l : List Placed). map placed_number l) (take-append-drop count ps) ∙ is.numbers in
     record {
-      committed = commits finite.empty (take count ps);
-      others = map stop (drop count ps);
+      committed = commits finite.empty xs;
+      others = refused xs ++ map stop ys;
       whole = refl;
-      first = all_committed finite.empty (take count ps);
-      last = none_committed (drop count ps);
-      by_number = subst (RiseAbove 0) (sym (numbers_stopped (drop count ps))) (rises_back 0 (numbers (take count ps)) (numbers (drop count ps)) rising);
+      first = all_committed finite.empty xs;
+      last = all_append _ (refused xs) (map stop ys) (all_refused xs) (all_stopped ys);
+      by_number = rises_others 0 xs ys (subst (RiseAbove 0) (sym whole) (rises_counted 0 1 (length ps) (omega arith)));
     }
 
 -- ---- legal, and the rows
 
-no_abort : (ops : List Op) → AllByRecursion IsOneMemberOp ops → aborts ops ≡ false
-no_abort [] are = refl
-no_abort (op.Get table key ∷ ops) are = no_abort ops are.1
-no_abort (op.Put table key value ∷ ops) are = no_abort ops are.1
-no_abort (op.Del table key ∷ ops) are = absurd are.0
-no_abort (op.Scan table low high ∷ ops) are = absurd are.0
-no_abort (op.Raise flag ∷ ops) are = absurd are.0
-no_abort (op.Await flag ∷ ops) are = absurd are.0
-no_abort (op.LoseCache ∷ ops) are = absurd are.0
-no_abort (op.Abort ∷ ops) are = absurd are.0
+legal_when : (b : Bool) (rows : Rows) (p : Placed) (es : List Entry) → aborts p.1.ops ≡ b → IsLegal (after_tran rows p.1.ops) es → IsLegal rows (cond b [] (commit rows p ∷ []) ++ es)
+legal_when true rows p es e h = subst (λ (r : Rows). IsLegal r es) (ap (λ b. cond b rows (after_ops rows p.1.ops)) e) h
+legal_when false rows p es e h = (refl, h)
 
-tran_is : (rows : Rows) (ops : List Op) → AllByRecursion IsOneMemberOp ops → after_tran rows ops ≡ after_ops rows ops
-tran_is rows ops are = ap (λ b. cond b rows (after_ops rows ops)) (no_abort ops are)
+legal_commits : (rows : Rows) (ps : List Placed) (es : List Entry) → ((r : Rows) → IsLegal r es) → IsLegal rows (commits rows ps ++ es)
+legal_commits rows [] es h = h rows
+legal_commits rows (p ∷ ps) es h =
+    let b = cond (aborts p.1.ops) [] (commit rows p ∷ []) in
+    subst (IsLegal rows) (sym (ap (λ (l : List Entry). l ++ es) (commits-cons rows p ps) ∙ append_assoc b (commits (after_tran rows p.1.ops) ps) es))
+    (legal_when (aborts p.1.ops) rows p (commits (after_tran rows p.1.ops) ps ++ es) refl (legal_commits (after_tran rows p.1.ops) ps es h))
+
+refused_legal : (b : Bool) (rows : Rows) (p : Placed) (us es : List Entry) → IsLegal rows (us ++ es) → IsLegal rows (cond b (refuse p ∷ us) us ++ es)
+refused_legal true rows p us es h = (tt, h)
+refused_legal false rows p us es h = h
 
 legal_stops : (rows : Rows) (ps : List Placed) → IsLegal rows (map stop ps)
 legal_stops rows [] = tt
 legal_stops rows (p ∷ ps) = (tt, legal_stops rows ps)
 
-legal_history : (rows : Rows) (ps : List Placed) (others : List Placed) → AllByRecursion IsFirst ps → IsLegal rows (commits rows ps ++ map stop others)
-legal_history rows [] others are = legal_stops rows others
-legal_history rows (p ∷ ps) others are = (
-  refl,
-  subst (λ (r : Rows). IsLegal r (commits (after_ops rows p.1.ops) ps ++ map stop others)) (sym (tran_is rows p.1.ops are.0.1.ops_are))
-      (legal_history (after_ops rows p.1.ops) ps others are.1),
-)
+legal_others : (xs ys : List Placed) (rows : Rows) → IsLegal rows (refused xs ++ map stop ys)
+legal_others [] ys rows = legal_stops rows ys
+legal_others (p ∷ xs) ys rows = refused_legal (aborts p.1.ops) rows p (refused xs) (map stop ys) (legal_others xs ys rows)
+
+pub legal_history : (ps : List Placed) (count : ℕ) → IsLegal finite.empty (history_of ps count)
+legal_history ps count = legal_commits finite.empty (take count ps) (refused (take count ps) ++ map stop (drop count ps)) (legal_others (take count ps) (drop count ps))
+
+replay_when : (b : Bool) (rows : Rows) (p : Placed) (es : List Entry) → aborts p.1.ops ≡ b → replay rows (cond b [] (commit rows p ∷ []) ++ es) ≡ replay (after_tran rows p.1.ops) es
+replay_when true rows p es e = ap (λ (r : Rows). replay r es) (sym (ap (λ b. cond b rows (after_ops rows p.1.ops)) e))
+replay_when false rows p es e = refl
+
+replay_commits : (s : State) (ps : List Placed) (es : List Entry) → replay s.rows (commits s.rows ps ++ es) ≡ replay (state_after s ps).rows es
+replay_commits s [] es = refl
+replay_commits s (p ∷ ps) es =
+    let b = cond (aborts p.1.ops) [] (commit s.rows p ∷ []) in
+    ap (replay s.rows) (ap (λ (l : List Entry). l ++ es) (commits-cons s.rows p ps) ∙ append_assoc b (commits (after_tran s.rows p.1.ops) ps) es)
+    ∙ replay_when (aborts p.1.ops) s.rows p (commits (after_tran s.rows p.1.ops) ps ++ es) refl
+    ∙ ap (λ (r : Rows). replay r (commits r ps ++ es)) (sym (rows_of_next s p.1.ops))
+    ∙ replay_commits (next s p.1.ops) ps es
+
+replay_refused : (b : Bool) (rows : Rows) (p : Placed) (us es : List Entry) → replay rows (cond b (refuse p ∷ us) us ++ es) ≡ replay rows (us ++ es)
+replay_refused true rows p us es = refl
+replay_refused false rows p us es = refl
 
 replay_stops : (rows : Rows) (ps : List Placed) → replay rows (map stop ps) ≡ rows
 replay_stops rows [] = refl
 replay_stops rows (p ∷ ps) = replay_stops rows ps
 
-replay_history : (s : State) (ps others : List Placed) → AllByRecursion IsFirst ps → replay s.rows (commits s.rows ps ++ map stop others) ≡ (state_after s ps).rows
-replay_history s [] others are = replay_stops s.rows others
-replay_history s (p ∷ ps) others are =
-    let e = rows_of_next s p.1.ops in
-    ap (λ (r : Rows). replay r (commits (after_ops s.rows p.1.ops) ps ++ map stop others)) (tran_is s.rows p.1.ops are.0.1.ops_are)
-    ∙ ap (λ (r : Rows). replay r (commits r ps ++ map stop others)) (sym e)
-    ∙ replay_history (next s p.1.ops) ps others are.1
+replay_others : (rows : Rows) (xs ys : List Placed) → replay rows (refused xs ++ map stop ys) ≡ rows
+replay_others rows [] ys = replay_stops rows ys
+replay_others rows (p ∷ xs) ys = replay_refused (aborts p.1.ops) rows p (refused xs) (map stop ys) ∙ replay_others rows xs ys
 
--- ---- the logs
+pub replay_history : (ps : List Placed) (count : ℕ) → replay finite.empty (history_of ps count) ≡ (state_after start (take count ps)).rows
+replay_history ps count = replay_commits start (take count ps) _ ∙ replay_others (state_after start (take count ps)).rows (take count ps) (drop count ps)
 
--- the first log has these records, and the others are empty
-abbrev Has : Contents → List LogRecord → Type 0
-Has c log = c.logs ≡ log_bytes log ∷ replicate 31 []
+-- ---- the rows with the first that is stopped
 
-has_more : (c : Contents) (log more : List LogRecord) (member : ℕ) → member ≡ 1 → Has c log → Has (appended member more c) (log ++ more)
-has_more c log more member its has =
-    ap (λ (m : ℕ). (appended m more c).logs) its
-    ∙ ap (λ (logs : List (List ℕ)). set logs 0 (get_or logs 0 [] ++ log_bytes more)) has
-    ∙ ap (λ (l : List ℕ). l ∷ replicate 31 []) (sym (flat_map-append record_bytes log more))
+stopped_when : (b : Bool) (rows : Rows) (p : Placed) (es : List Entry) → aborts p.1.ops ≡ b → replay_with_stopped rows (cond b [] (commit rows p ∷ []) ++ es) ≡ replay_with_stopped (after_tran rows p.1.ops) es
+stopped_when true rows p es e = ap (λ (r : Rows). replay_with_stopped r es) (sym (ap (λ b. cond b rows (after_ops rows p.1.ops)) e))
+stopped_when false rows p es e = refl
 
-logs_after : (s : State) (ps : List Placed) (c : Contents) (log : List LogRecord) → AllByRecursion IsFirst ps → AreAllowed s ps → IsGoodLog log s → Has c log
-    → StandFor (contents_after s ps c).logs (state_after s ps).rows
-logs_after s [] c log are allowed good has = subst (λ (logs : List (List ℕ)). StandFor logs s.rows) (sym has) (stands_for log s good)
-logs_after s (p ∷ ps) c log are allowed good has =
-    logs_after (next s p.1.ops) ps (appended p.0 (records_of s p.1.ops) c) (log ++ records_of s p.1.ops) are.1 allowed.1
-    (good_log_grows log s p.1.ops good are.0.1.ops_are allowed.0) (has_more c log (records_of s p.1.ops) p.0 are.0.0 has)
+stopped_commits : (s : State) (ps : List Placed) (es : List Entry) → replay_with_stopped s.rows (commits s.rows ps ++ es) ≡ replay_with_stopped (state_after s ps).rows es
+stopped_commits s [] es = refl
+stopped_commits s (p ∷ ps) es =
+    let b = cond (aborts p.1.ops) [] (commit s.rows p ∷ []) in
+    ap (replay_with_stopped s.rows) (ap (λ (l : List Entry). l ++ es) (commits-cons s.rows p ps) ∙ append_assoc b (commits (after_tran s.rows p.1.ops) ps) es)
+    ∙ stopped_when (aborts p.1.ops) s.rows p (commits (after_tran s.rows p.1.ops) ps ++ es) refl
+    ∙ ap (λ (r : Rows). replay_with_stopped r (commits r ps ++ es)) (sym (rows_of_next s p.1.ops))
+    ∙ stopped_commits (next s p.1.ops) ps es
 
-disk_stands : (s : Script) (count : ℕ) (before after : Option Contents) → IsOneMember s → AreAllowed start (take count (placed s))
-    → Becomes before after (λ c d. d ≡ contents_after start (take count (placed s)) c)
-    → Becomes before after (λ c d. HasEmptyLogs c → StandFor d.logs (state_after start (take count (placed s))).rows)
-disk_stands s count None after is allowed becomes = tt
-disk_stands s count (Some c) None is allowed becomes = becomes
-disk_stands s count (Some c) (Some d) is allowed becomes = λ empty.
-    subst (λ (x : Contents). StandFor x.logs (state_after start (take count (placed s))).rows) (sym becomes)
-    (logs_after start (take count (placed s)) c [] (all_take IsFirst count (placed s) (firsts s is)) allowed good_log_none empty)
+stopped_refused : (b : Bool) (rows : Rows) (p : Placed) (us es : List Entry) → replay_with_stopped rows (cond b (refuse p ∷ us) us ++ es) ≡ replay_with_stopped rows (us ++ es)
+stopped_refused true rows p us es = refl
+stopped_refused false rows p us es = refl
 
--- ---- the whole
+stopped_others : (rows : Rows) (xs : List Placed) (es : List Entry) → replay_with_stopped rows (refused xs ++ es) ≡ replay_with_stopped rows es
+stopped_others rows [] es = refl
+stopped_others rows (p ∷ xs) es = stopped_refused (aborts p.1.ops) rows p (refused xs) es ∙ stopped_others rows xs es
 
-pub sound_run : (s : Script) (ran : Ran) (alive : Bool) (before after : Option Contents) (f g : ℕ)
-    → IsOneMember s → IsRunOf s ran alive before after f g → IsSoundRun s ran alive before after
-sound_run s ran alive before after f g is run report entries rows =
-    let ps = placed s in
-    let first = all_take IsFirst run.count ps (firsts s is) in
-    let stand : replay finite.empty (history_of ps run.count) ≡ (state_after start (take run.count ps)).rows = replay_history start (take run.count ps) (drop run.count ps) first in
-    record {
-      history = history_of ps run.count;
-      sound = record {
-        each_once = subst (λ (l : List Placed). IsPermutation l ps) (sym (played-history ps run.count)) (IsPermutation-refl ps);
-        order = in_order s run.count is;
-        legal = legal_history finite.empty (take run.count ps) (drop run.count ps) first;
-      };
-      tells = record {
-        entries = entries ∙ run.entries_are;
-        rows = rows ∙ ap listed (run.rows_are ∙ sym stand);
-      };
-      stands = λ e. subst (λ (r : Rows). Becomes before after (λ c d. HasEmptyLogs c → StandFor d.logs r)) (sym stand) (disk_stands s run.count before after is run.allowed (run.log e));
-    }
+-- the first stopped one goes on from the rows of those before it
+pub replay_stopped : (ps rest : List Placed) (p : Placed) (count : ℕ) → drop count ps ≡ p ∷ rest
+    → replay_with_stopped finite.empty (history_of ps count) ≡ (next (state_after start (take count ps)) p.1.ops).rows
+replay_stopped ps rest p count is =
+    let s = state_after start (take count ps) in
+    stopped_commits start (take count ps) _
+    ∙ stopped_others s.rows (take count ps) (map stop (drop count ps))
+    ∙ ap (λ (l : List Placed). replay_with_stopped s.rows (map stop l)) is
+    ∙ sym (rows_of_next s p.1.ops)

@@ -1,16 +1,15 @@
 -- Changes that are taken back, the last first.
-use Rattle.std.proofs.Common.{◌≡◌, ℕ, ◌+◌, List, [], ◌∷◌, ◌++◌, Option, Some, None, refl, sym, ap, ◌∙◌}
+use Rattle.std.proofs.Common.{◌≡◌, ℕ, ◌+◌, true, false, cond, List, [], ◌∷◌, ◌++◌, Option, Some, None, refl, sym, ap, ◌∙◌}
 use Rattle.std.specs.FinMap as finite
 use Rattle.ds_model.specs.declared.script.Op.{Op}
 use Rattle.ds_model.specs.declared.script.Op.TheVariants as op
 use Rattle.ds_model.specs.declared.log.LogRecord.{LogRecord}
 use Rattle.ds_model.specs.Rows.{Rows}
+use Rattle.ds_model.specs.Effect.{aborts}
 use Rattle.ds_model.specs.Logs.{set_row}
-use Rattle.ds_model.specs.OneMember.{IsOneMemberOp}
-use Rattle.spot_map.specs.Undo.{insert-insert_back, remove-insert_new}
+use Rattle.spot_map.specs.Undo.{insert-insert_back, remove-insert_new, insert-remove_back, remove-absent}
 use Rattle.serial_run.specs.declared.state.State.{State}
-use Rattle.serial_run.specs.Steps.{after, after_all, added, changes, next, records_of, commit_record}
-use Rattle.std.specs.List.{AllByRecursion}
+use Rattle.serial_run.specs.Steps.{reached, after, after_all, added, removal, changes, next, rolled_back, committed, records_of, commit_record}
 use Rattle.serial_run.specs.Undo.{before_body, undone}
 
 pub undone-push : (rows : Rows) (rs : List LogRecord) (r : LogRecord) → undone rows (rs ++ r ∷ []) ≡ undone (before_body rows r.body) rs
@@ -25,28 +24,51 @@ one_undone rows now start rs left r is now_is before =
 
 -- ---- what the operations of a transaction did
 
-set_back : (m : Rows) (table key : ℕ) (v : List ℕ) (before : Option (List ℕ)) → finite.get m (table, key) ≡ before → set_row (finite.insert m (table, key) v) table key before ≡ m
-set_back m table key v None is = remove-insert_new m (table, key) v is
-set_back m table key v (Some w) is = insert-insert_back m (table, key) v w is
+put_back : (m : Rows) (table key : ℕ) (v : List ℕ) (before : Option (List ℕ)) → finite.get m (table, key) ≡ before → set_row (finite.insert m (table, key) v) table key before ≡ m
+put_back m table key v None is = remove-insert_new m (table, key) v is
+put_back m table key v (Some w) is = insert-insert_back m (table, key) v w is
 
--- one operation, of those that are played, is taken back
-undone-op : (tran : ℕ) (s : State) (o : Op) (rs : List LogRecord) (rows : Rows) → IsOneMemberOp o → undone rows rs ≡ (after s o).rows → undone rows (added tran s o ++ rs) ≡ s.rows
-undone-op tran s (op.Get table key) rs rows is e = e
-undone-op tran s (op.Put table key value) rs rows is e =
-    ap (λ (m : Rows). set_row m table key (finite.get s.rows (table, key))) e ∙ set_back s.rows table key value (finite.get s.rows (table, key)) refl
-undone-op tran s (op.Del table key) rs rows is e = absurd is
-undone-op tran s (op.Scan table low high) rs rows is e = absurd is
-undone-op tran s (op.Raise flag) rs rows is e = absurd is
-undone-op tran s (op.Await flag) rs rows is e = absurd is
-undone-op tran s op.LoseCache rs rows is e = absurd is
-undone-op tran s op.Abort rs rows is e = absurd is
+removed_back : (tran : ℕ) (s : State) (table key : ℕ) (rs : List LogRecord) (rows : Rows) (before : Option (List ℕ))
+    → finite.get s.rows (table, key) ≡ before → undone rows rs ≡ finite.remove s.rows (table, key) → undone rows (removal tran s table key before ++ rs) ≡ s.rows
+removed_back tran s table key rs rows None is e = e ∙ remove-absent s.rows (table, key) is
+removed_back tran s table key rs rows (Some w) is e =
+    ap (λ (m : Rows). set_row m table key (finite.get s.rows (table, key))) e
+    ∙ ap (set_row (finite.remove s.rows (table, key)) table key) is
+    ∙ insert-remove_back s.rows (table, key) w is
 
-undone-changes : (tran : ℕ) (s : State) (ops : List Op) → AllByRecursion IsOneMemberOp ops → undone (after_all s ops).rows (changes tran s ops) ≡ s.rows
-undone-changes tran s [] are = refl
-undone-changes tran s (o ∷ ops) are = undone-op tran s o (changes tran (after s o) ops) (after_all (after s o) ops).rows are.0 (undone-changes tran (after s o) ops are.1)
+-- one operation is taken back
+undone-op : (tran : ℕ) (s : State) (o : Op) (rs : List LogRecord) (rows : Rows) → undone rows rs ≡ (after s o).rows → undone rows (added tran s o ++ rs) ≡ s.rows
+undone-op tran s (op.Get table key) rs rows e = e
+undone-op tran s (op.Put table key value) rs rows e =
+    ap (λ (m : Rows). set_row m table key (finite.get s.rows (table, key))) e ∙ put_back s.rows table key value (finite.get s.rows (table, key)) refl
+undone-op tran s (op.Del table key) rs rows e = removed_back tran s table key rs rows (finite.get s.rows (table, key)) refl e
+undone-op tran s (op.Scan table low high) rs rows e = e
+undone-op tran s (op.Raise flag) rs rows e = e
+undone-op tran s (op.Await flag) rs rows e = e
+undone-op tran s op.LoseCache rs rows e = e
+undone-op tran s op.Abort rs rows e = e
+
+undone-changes : (tran : ℕ) (s : State) (ops : List Op) → undone (after_all s ops).rows (changes tran s ops) ≡ s.rows
+undone-changes tran s [] = refl
+undone-changes tran s (o ∷ ops) = undone-op tran s o (changes tran (after s o) ops) (after_all (after s o) ops).rows (undone-changes tran (after s o) ops)
+
+pub next-goes : (s : State) (ops : List Op) → aborts ops ≡ false → next s ops ≡ committed (after_all s ops)
+next-goes s ops e = ap (λ b. cond b (rolled_back s (after_all s (reached ops))) (committed (after_all s ops))) e
+
+pub next-aborts : (s : State) (ops : List Op) → aborts ops ≡ true → next s ops ≡ rolled_back s (after_all s (reached ops))
+next-aborts s ops e = ap (λ b. cond b (rolled_back s (after_all s (reached ops))) (committed (after_all s ops))) e
 
 -- a whole transaction is taken back: its commit changes no row
-pub undone-records : (s : State) (ops : List Op) → AllByRecursion IsOneMemberOp ops → undone (next s ops).rows (records_of s ops) ≡ s.rows
-undone-records s ops are =
-    undone-push (next s ops).rows (changes (s.last + 1) s ops) (commit_record (s.last + 1) ((after_all s ops).last + 1))
-    ∙ undone-changes (s.last + 1) s ops are
+pub undone-records : (s : State) (ops : List Op) → undone (after_all s ops).rows (records_of s ops) ≡ s.rows
+undone-records s ops =
+    undone-push (after_all s ops).rows (changes (s.last + 1) s ops) (commit_record (s.last + 1) ((after_all s ops).last + 1))
+    ∙ undone-changes (s.last + 1) s ops
+
+-- a transaction that aborts is rolled back
+pub rolls_back : (s now : State) (rows : Rows) (rs : List LogRecord) (ops : List Op)
+    → aborts ops ≡ true → now ≡ after_all s (reached ops) → rs ≡ changes (s.last + 1) s (reached ops) → rows ≡ undone now.rows rs
+    → rolled_back (record { rows = rows; places = now.places; counts = now.counts; last = now.last }) now ≡ next s ops
+rolls_back s now rows rs ops e now_is rs_are rows_are =
+    let whole : rows ≡ s.rows = rows_are ∙ ap (undone now.rows) rs_are ∙ ap (λ (t : State). undone t.rows (changes (s.last + 1) s (reached ops))) now_is ∙ undone-changes (s.last + 1) s (reached ops) in
+    ap (λ (m : Rows). rolled_back (record { rows = m; places = now.places; counts = now.counts; last = now.last }) now) whole
+    ∙ ap (λ (t : State). rolled_back s t) now_is ∙ sym (next-aborts s ops e)

@@ -1,5 +1,5 @@
 -- What one thread makes of the operations of a transaction: rows, places of keys, and log records.
-use Rattle.std.specs.Prelude.{ℕ, ◌+◌, ◌/◌, ◌%◌, List, [], ◌∷◌, ◌++◌, Option, Some, None, unwrap_or}
+use Rattle.std.specs.Prelude.{ℕ, ◌+◌, ◌-◌, ◌/◌, ◌%◌, cond, List, [], ◌∷◌, ◌++◌, Option, Some, None, unwrap_or, slice_index_or, slice_set}
 use Rattle.std.specs.FinMap as finite
 use Rattle.ds_base.specs.declared.names.Place.{Place}
 use Rattle.ds_model.specs.declared.script.Op.{Op}
@@ -10,50 +10,82 @@ use Rattle.ds_model.specs.declared.log.Body.{Body}
 use Rattle.ds_model.specs.declared.log.Body.TheVariants as body
 use Rattle.ds_model.specs.declared.report.ToldRead.{ToldRead}
 use Rattle.ds_model.specs.declared.report.ToldRead.TheVariants as read
-use Rattle.ds_model.specs.Rows.{Rows, Spot, spot_cmp}
-use Rattle.ds_model.specs.Effect.{after_op}
+use Rattle.ds_model.specs.Rows.{Rows, Spot, spot_cmp, scanned}
+use Rattle.ds_model.specs.Effect.{after_op, is_abort, aborts}
 use Rattle.serial_run.specs.declared.state.State.{State}
 
--- which of the new keys a key was, counted from 0
+-- the operations before the first abort, which are all where there is none
+abbrev pub reached : List Op → List Op
+reached [] = []
+reached (o ∷ ops) = cond (is_abort o) [] (o ∷ reached ops)
+
+-- ---- places
+
+-- which of the new keys of its table a key was, counted from 0
 abbrev pub Places : Type 0
 Places = finite.FinMap spot_cmp ℕ
 
--- the heap page and slot of the n-th new key: 31 slots a page, pages from 1
+-- the heap page and slot of a table's n-th new key: 31 slots a page, pages from 1
 abbrev pub place_at : ℕ → Place
 place_at n = record { page = 1 + n / 31; slot = n % 31 }
 
--- the number of a key, or that of the next new key
-abbrev pub number_in : Places → Spot → ℕ
-number_in places spot = unwrap_or (finite.get places spot) (finite.len places)
+-- how many keys of a table have places, of the counts for the tables 1, 2, ..
+abbrev pub count_in : List ℕ → ℕ → ℕ
+count_in counts table = slice_index_or counts (table - 1) 0
 
--- a key that has no place gets the next
-abbrev pub placed_as : Places → Spot → Option ℕ → Places
-placed_as places spot (Some n) = places
-placed_as places spot None = finite.insert places spot (finite.len places)
+-- the number of a key, or that of the next new key of its table
+abbrev pub number_in : State → ℕ → ℕ → ℕ
+number_in s table key = unwrap_or (finite.get s.places (table, key)) (count_in s.counts table)
 
-abbrev pub places_after : Places → Op → Places
-places_after places (op.Get table key) = places
-places_after places (op.Put table key value) = placed_as places (table, key) (finite.get places (table, key))
-places_after places (op.Del table key) = places
-places_after places (op.Scan table low high) = places
-places_after places (op.Raise flag) = places
-places_after places (op.Await flag) = places
-places_after places op.LoseCache = places
-places_after places op.Abort = places
+-- a key that has no place gets the next of its table
+abbrev pub placed_as : Places → Spot → ℕ → Option ℕ → Places
+placed_as places spot n (Some m) = places
+placed_as places spot n None = finite.insert places spot n
+
+abbrev pub counted_as : List ℕ → ℕ → Option ℕ → List ℕ
+counted_as counts table (Some m) = counts
+counted_as counts table None = slice_set counts (table - 1) (count_in counts table + 1)
+
+-- ---- the state behind an operation
+
+abbrev pub places_after : State → Op → Places
+places_after s (op.Get table key) = s.places
+places_after s (op.Put table key value) = placed_as s.places (table, key) (count_in s.counts table) (finite.get s.places (table, key))
+places_after s (op.Del table key) = s.places
+places_after s (op.Scan table low high) = s.places
+places_after s (op.Raise flag) = s.places
+places_after s (op.Await flag) = s.places
+places_after s op.LoseCache = s.places
+places_after s op.Abort = s.places
+
+abbrev pub counts_after : State → Op → List ℕ
+counts_after s (op.Get table key) = s.counts
+counts_after s (op.Put table key value) = counted_as s.counts table (finite.get s.places (table, key))
+counts_after s (op.Del table key) = s.counts
+counts_after s (op.Scan table low high) = s.counts
+counts_after s (op.Raise flag) = s.counts
+counts_after s (op.Await flag) = s.counts
+counts_after s op.LoseCache = s.counts
+counts_after s op.Abort = s.counts
+
+-- a row that is there is removed with a number, and one that isn't with none
+abbrev pub drawn_to_remove : Option (List ℕ) → ℕ
+drawn_to_remove (Some value) = 1
+drawn_to_remove None = 0
 
 -- how many numbers an operation draws
-abbrev pub drawn : Op → ℕ
-drawn (op.Get table key) = 0
-drawn (op.Put table key value) = 1
-drawn (op.Del table key) = 0
-drawn (op.Scan table low high) = 0
-drawn (op.Raise flag) = 0
-drawn (op.Await flag) = 0
-drawn op.LoseCache = 0
-drawn op.Abort = 0
+abbrev pub drawn : Rows → Op → ℕ
+drawn rows (op.Get table key) = 0
+drawn rows (op.Put table key value) = 1
+drawn rows (op.Del table key) = drawn_to_remove (finite.get rows (table, key))
+drawn rows (op.Scan table low high) = 0
+drawn rows (op.Raise flag) = 0
+drawn rows (op.Await flag) = 0
+drawn rows op.LoseCache = 0
+drawn rows op.Abort = 0
 
 abbrev pub after : State → Op → State
-after s o = record { rows = after_op s.rows o; places = places_after s.places o; last = s.last + drawn o }
+after s o = record { rows = after_op s.rows o; places = places_after s o; counts = counts_after s o; last = s.last + drawn s.rows o }
 
 abbrev pub after_all : State → List Op → State
 after_all s [] = s
@@ -61,11 +93,12 @@ after_all s (o ∷ ops) = after_all (after s o) ops
 
 -- ---- the log records
 
-abbrev pub change_record : ℕ → State → ℕ → ℕ → List ℕ → LogRecord
+-- a row gets a value, or goes
+abbrev pub change_record : ℕ → State → ℕ → ℕ → Option (List ℕ) → LogRecord
 change_record tran s table key value = record {
   lrsn = s.last + 1;
   tran = tran;
-  body = body.RowChange (record { table = table; key = key; place = place_at (number_in s.places (table, key)); before = finite.get s.rows (table, key); after = Some value });
+  body = body.RowChange (record { table = table; key = key; place = place_at (number_in s table key); before = finite.get s.rows (table, key); after = value });
 }
 
 abbrev pub commit_record : ℕ → ℕ → LogRecord
@@ -76,11 +109,16 @@ abbrev pub body_of : Option RowChange → Body
 body_of None = body.Commit
 body_of (Some change) = body.RowChange change
 
+-- a removal is logged where there was a row
+abbrev pub removal : ℕ → State → ℕ → ℕ → Option (List ℕ) → List LogRecord
+removal tran s table key (Some value) = change_record tran s table key None ∷ []
+removal tran s table key None = []
+
 -- the records of one operation
 abbrev pub added : ℕ → State → Op → List LogRecord
 added tran s (op.Get table key) = []
-added tran s (op.Put table key value) = change_record tran s table key value ∷ []
-added tran s (op.Del table key) = []
+added tran s (op.Put table key value) = change_record tran s table key (Some value) ∷ []
+added tran s (op.Del table key) = removal tran s table key (finite.get s.rows (table, key))
 added tran s (op.Scan table low high) = []
 added tran s (op.Raise flag) = []
 added tran s (op.Await flag) = []
@@ -91,17 +129,22 @@ abbrev pub changes : ℕ → State → List Op → List LogRecord
 changes tran s [] = []
 changes tran s (o ∷ ops) = added tran s o ++ changes tran (after s o) ops
 
--- the row changes of a transaction and then its commit, all with the number of the first
+-- the row changes of a transaction that commits and then its commit, all with the number of the first
 abbrev pub records_of : State → List Op → List LogRecord
 records_of s ops = changes (s.last + 1) s ops ++ commit_record (s.last + 1) ((after_all s ops).last + 1) ∷ []
 
--- the state behind a commit, which draws a number too
-abbrev pub committed : State → State
-committed s = record { rows = s.rows; places = s.places; last = s.last + 1 }
+-- ---- the state behind a transaction
 
--- the state behind a transaction
+-- a commit draws a number too
+abbrev pub committed : State → State
+committed s = record { rows = s.rows; places = s.places; counts = s.counts; last = s.last + 1 }
+
+-- the rows are as they were before, while keys keep their places, and numbers that were drawn aren't drawn again
+abbrev pub rolled_back : State → State → State
+rolled_back before s = record { rows = before.rows; places = s.places; counts = s.counts; last = s.last }
+
 abbrev pub next : State → List Op → State
-next s ops = committed (after_all s ops)
+next s ops = cond (aborts ops) (rolled_back s (after_all s (reached ops))) (committed (after_all s ops))
 
 -- ---- what is read, as it is printed
 
@@ -109,7 +152,7 @@ abbrev pub told_op : Rows → Op → List ToldRead
 told_op rows (op.Get table key) = read.Get table key (finite.get rows (table, key)) ∷ []
 told_op rows (op.Put table key value) = []
 told_op rows (op.Del table key) = []
-told_op rows (op.Scan table low high) = []
+told_op rows (op.Scan table low high) = read.Scan table low high (scanned rows table low high) ∷ []
 told_op rows (op.Raise flag) = []
 told_op rows (op.Await flag) = []
 told_op rows op.LoseCache = []

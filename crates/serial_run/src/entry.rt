@@ -2,9 +2,16 @@ ghost use Rattle.std.specs.Prelude.{◌≡◌, ◌++◌, map, OnOk, IfOk};
 ghost use Rattle.serial_run.specs.Entries.{entry_with, stop_entry};
 
 use crate::flatten::PlacedTran;
-use ds_base::{Bytes, NoMemory};
+use ds_base::{Bytes, NoMemory, Sequence};
 use ds_model::{ReportEntry, ReportEntryList, Told};
 use std::alloc::Global;
+
+/// The entries of a report so far: those of committed transactions, and all others.
+#[derive(Drop)]
+pub struct Entries {
+    pub committed: ReportEntryList,
+    pub others: ReportEntryList,
+}
 
 /// The entry of a transaction with this fate.
 pub fn entry_of(alloc: Global, item: &PlacedTran, told: Told) -> Result<ReportEntry, NoMemory>
@@ -30,4 +37,15 @@ pub fn stop_all(
         entries.push(entry_of(alloc, item, Told::Stopped)?)?;
     }
     Ok(())
+}
+
+/// All entries, the committed ones first.
+pub fn gather(entries: Entries) -> Result<ReportEntryList, NoMemory>
+    ensures { IfOk result (λ all. all ≡ entries.committed ++ entries.others) }
+{
+    let mut all = entries.committed;
+    for entry in entries.others.into_vec() {
+        all.push(entry)?;
+    }
+    Ok(all)
 }

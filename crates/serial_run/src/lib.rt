@@ -7,9 +7,14 @@ mod entry;
 mod flatten;
 mod place;
 mod run;
+mod serial;
 mod state;
 mod step;
 mod tran;
 mod undo;
 
 pub use run::{Ran, run_script};
+pub use serial::plays;
+
+#[cfg(test)]
+mod tests;

@@ -1,11 +1,11 @@
 ghost use Rattle.std.specs.Prelude.{◌≡◌, ℕ, ◌+◌, ◌<◌, ◌≤◌, ◌^◌, OnOk, IfOk};
 ghost use Rattle.std.specs.FinMap as finite;
-ghost use Rattle.serial_run.specs.Steps.{place_at, number_in, placed_as};
+ghost use Rattle.serial_run.specs.Steps.{place_at, number_in, count_in, placed_as, counted_as};
 
+use crate::state::State;
 use ds_base::{Key, NoMemory, Place, TableId};
-use spot_map::SpotMap;
 
-/// The heap page and the slot of the n-th new key, counted from 0.
+/// The heap page and the slot of a table's n-th new key, counted from 0.
 pub fn place_of(n: u32) -> Place
     ensures { result ≡ place_at n }
 {
@@ -15,19 +15,26 @@ pub fn place_of(n: u32) -> Place
     }
 }
 
-/// The number of a key, which gets the next where it has none.
-pub fn number_key(places: &mut SpotMap<u32>, table: TableId, key: Key) -> Result<u32, NoMemory>
-    requires { finite.len places.old < 2 ^ 32 }
-    ensures number { IfOk result (λ n. n ≡ number_in places.old (table, key)) }
-    ensures after { OnOk result (places.new ≡ placed_as places.old (table, key) (finite.get places.old (table, key))) }
-    ensures few { OnOk result (finite.len places.new ≤ finite.len places.old + 1) }
+/// The number of a key, or that of the next new key of its table.
+pub fn number_of(state: &State, table: TableId, key: Key) -> u32
+    ensures { result ≡ number_in state.now table key }
 {
-    match places.get(table, key) {
-        Some(n) => Ok(n),
-        None => {
-            let n = places.len() as u32;
-            places.insert(table, key, n)?;
-            Ok(n)
-        }
+    match state.places.get(table, key) {
+        Some(n) => n,
+        None => state.counts[table.number() as usize - 1],
     }
+}
+
+/// Gives a key the next place of its table where it has none.
+pub fn give_place(state: &mut State, table: TableId, key: Key) -> Result<(), NoMemory>
+    requires { count_in state.old.counts table + 1 < 2 ^ 32 }
+    ensures { OnOk result (state.new ≡ record { rows = state.old.rows; places = placed_as state.old.places (table, key) (count_in state.old.counts table) (finite.get state.old.places (table, key)); counts = counted_as state.old.counts table (finite.get state.old.places (table, key)); last = state.old.last }) }
+{
+    if state.places.get(table, key).is_none() {
+        let at = table.number() as usize - 1;
+        let n = state.counts[at];
+        state.places.insert(table, key, n)?;
+        state.counts[at] = n + 1;
+    }
+    Ok(())
 }

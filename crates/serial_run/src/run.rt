@@ -1,17 +1,17 @@
 ghost use Rattle.std.specs.Prelude.{◌≡◌, ℕ, ◌*◌, ◌<◌, ◌≤◌, true, length, IfOk, All};
-ghost use Rattle.ds_model.specs.OneMember.{IsOneMember};
+ghost use Rattle.ds_model.specs.Serial.{IsSerial, IsCounted, IsShortTran};
 ghost use Rattle.serial_run.specs.Played.{HasRoom};
-ghost use Rattle.serial_run.specs.Progress.{IsPlayable, HasPlayed};
+ghost use Rattle.serial_run.specs.Progress.{HasPlayed};
 ghost use Rattle.serial_run.specs.Ran.{IsRunOf};
 ghost use Rattle.serial_run.specs.Sounds.{IsSoundRun};
 
-use crate::entry::{entry_of, stop_all};
+use crate::entry::{Entries, entry_of, gather, stop_all};
 use crate::flatten::{PlacedTran, flatten};
 use crate::state::State;
-use crate::tran::play_tran;
+use crate::tran::{Outcome, play_tran};
 use ds_base::{NoMemory, Sequence, Value};
 use ds_disk::Disk;
-use ds_model::{ReportEntryList, Script, Told};
+use ds_model::{ReportEntryList, Script, Told, ToldRefusal};
 use spot_map::SpotMap;
 use std::alloc::Global;
 
@@ -23,15 +23,15 @@ pub struct Ran {
     pub failed: bool,
 }
 
-/// Plays transactions until an append fails, and answers how many have committed.
+/// Plays transactions until an append fails, and answers how many were played to their ends.
 fn play_trans<D: Disk>(
     alloc: Global,
     disk: &mut D,
     state: &mut State,
     items: &[PlacedTran],
-    entries: &mut ReportEntryList,
+    entries: &mut Entries,
 ) -> Result<usize, NoMemory>
-    requires playable { All IsPlayable items.now }
+    requires short { All IsShortTran items.now }
     requires room { HasRoom state.old (65 * length items.now) }
     requires alive { D.alive disk.old ≡ true }
     ensures played { IfOk result (λ count. HasPlayed items.now count state.old state.new entries.old entries.new (D.alive disk.new) (D.contents disk.old) (D.contents disk.new) (D.faults disk.old) (D.faults disk.new)) }
@@ -39,13 +39,17 @@ fn play_trans<D: Disk>(
 {
     for (i, item) in items.iter().enumerate() {
         match play_tran(alloc, disk, item.0, state, item.1.ops.as_slice())? {
-            None => return Ok(i),
-            Some(reads) => {
+            Outcome::Stopped => return Ok(i),
+            Outcome::Aborted => {
+                let told = Told::Refused(ToldRefusal::Aborted);
+                entries.others.push(entry_of(alloc, item, told)?)?;
+            }
+            Outcome::Committed { reads } => {
                 let told = Told::Committed {
                     answered: true,
                     reads,
                 };
-                entries.push(entry_of(alloc, item, told)?)?;
+                entries.committed.push(entry_of(alloc, item, told)?)?;
             }
         }
     }
@@ -55,7 +59,8 @@ fn play_trans<D: Disk>(
 /// Plays the transactions of a script, one after the other in the order of the script. Where an append
 /// fails, that transaction and all behind it are stopped.
 pub fn run_script<D: Disk>(alloc: Global, disk: &mut D, script: Script) -> Result<Ran, NoMemory>
-    requires one_member { IsOneMember script }
+    requires serial { IsSerial script }
+    requires counted { IsCounted script }
     requires alive { D.alive disk.old ≡ true }
     ensures ran { IfOk result (λ ran. IsRunOf script ran (D.alive disk.new) (D.contents disk.old) (D.contents disk.new) (D.faults disk.old) (D.faults disk.new)) }
     ensures sound { IfOk result (λ ran. IsSoundRun script ran (D.alive disk.new) (D.contents disk.old) (D.contents disk.new)) }
@@ -65,14 +70,18 @@ pub fn run_script<D: Disk>(alloc: Global, disk: &mut D, script: Script) -> Resul
     let mut state = State {
         rows: SpotMap::new(alloc),
         places: SpotMap::new(alloc),
+        counts: [0; 64],
         last: 0,
     };
-    let mut entries = Sequence::new(alloc);
+    let mut entries = Entries {
+        committed: Sequence::new(alloc),
+        others: Sequence::new(alloc),
+    };
     let count = play_trans(alloc, disk, &mut state, &items, &mut entries)?;
-    stop_all(alloc, &items[count..], &mut entries)?;
+    stop_all(alloc, &items[count..], &mut entries.others)?;
     Ok(Ran {
         rows: state.rows,
-        entries,
+        entries: gather(entries)?,
         failed: count < items.len(),
     })
 }

@@ -1,14 +1,16 @@
-ghost use Rattle.std.specs.Prelude.{◌≡◌, ℕ, ◌+◌, ◌-◌, ◌<◌, ◌≤◌, ◌^◌, [], ◌∷◌, ◌++◌, length, OnOk, All};
+ghost use Rattle.std.specs.Prelude.{◌≡◌, ℕ, ◌+◌, ◌-◌, ◌<◌, ◌≤◌, ◌^◌, [], ◌∷◌, ◌++◌, length, OnOk, IfOk, Some, None};
 ghost use Rattle.ds_base.specs.Ids.{IsLrsn};
 ghost use Rattle.ds_model.specs.declared.script.Op.TheVariants as op;
-ghost use Rattle.ds_model.specs.OneMember.{IsOneMemberOp};
-ghost use Rattle.serial_run.specs.Steps.{after, after_all, added, changes, told_op, told_all, committed, commit_record, body_of};
+ghost use Rattle.ds_model.specs.Effect as effect;
+ghost use Rattle.serial_run.specs.Steps.{reached, after, after_all, added, removal, drawn_to_remove, changes, change_record, told_op, told_all, committed, commit_record, body_of};
 ghost use Rattle.serial_run.specs.Played.{HasRoom};
+ghost use Rattle.std.specs.FinMap as finite;
 
-use crate::place::{number_key, place_of};
+use crate::place::{give_place, number_of, place_of};
 use crate::state::State;
 use ds_base::{Key, Lrsn, NoMemory, TableId, Value};
 use ds_model::{Body, LogRecord, Op, RecordList, RowChange, ToldRead, ToldReads};
+use std::alloc::Global;
 
 /// What a transaction has read and would log.
 #[derive(Drop)]
@@ -40,6 +42,33 @@ fn log(draft: &mut Draft, lrsn: Lrsn, tran: Lrsn, change: Option<RowChange>) -> 
     draft.records.push(LogRecord { lrsn, tran, body })
 }
 
+// Logs the change of a row that is to get a value or to go.
+fn log_change(
+    state: &mut State,
+    draft: &mut Draft,
+    tran: Lrsn,
+    table: TableId,
+    key: Key,
+    after: Option<Value>,
+) -> Result<(), NoMemory>
+    requires { HasRoom state.old 1 }
+    ensures state { OnOk result (state.new ≡ record { rows = state.old.rows; places = state.old.places; counts = state.old.counts; last = state.old.last + 1 }) }
+    ensures reads { OnOk result (draft.new.reads ≡ draft.old.reads) }
+    ensures records { OnOk result (draft.new.records ≡ draft.old.records ++ change_record tran state.old table key after ∷ []) }
+{
+    let lrsn = lrsn_of(state.last + 1);
+    let change = RowChange {
+        table,
+        key,
+        place: place_of(number_of(state, table, key)),
+        before: state.rows.get(table, key),
+        after,
+    };
+    log(draft, lrsn, tran, Some(change))?;
+    state.last += 1;
+    Ok(())
+}
+
 fn put(
     state: &mut State,
     draft: &mut Draft,
@@ -54,24 +83,57 @@ fn put(
     ensures reads { OnOk result (draft.new.reads ≡ draft.old.reads) }
     ensures records { OnOk result (draft.new.records ≡ draft.old.records ++ added tran state.old (op.Put table key value)) }
 {
-    let lrsn = lrsn_of(state.last + 1);
-    let before = state.rows.get(table, key);
-    let place = place_of(number_key(&mut state.places, table, key)?);
-    state.rows.insert(table, key, value)?;
-    state.last += 1;
-    let change = RowChange {
-        table,
-        key,
-        place,
-        before,
-        after: Some(value),
-    };
-    log(draft, lrsn, tran, Some(change))
+    log_change(state, draft, tran, table, key, Some(value))?;
+    give_place(state, table, key)?;
+    state.rows.insert(table, key, value)
 }
 
-fn take_op(state: &mut State, draft: &mut Draft, tran: Lrsn, op: &Op) -> Result<(), NoMemory>
-    requires one_member { IsOneMemberOp op.now }
-    requires room { HasRoom state.old 1 }
+fn del(
+    state: &mut State,
+    draft: &mut Draft,
+    tran: Lrsn,
+    table: TableId,
+    key: Key,
+) -> Result<(), NoMemory>
+    requires { HasRoom state.old 1 }
+    ensures state { OnOk result (state.new ≡ after state.old (op.Del table key)) }
+    ensures few { OnOk result (HasRoom state.new 0) }
+    ensures reads { OnOk result (draft.new.reads ≡ draft.old.reads) }
+    ensures records { OnOk result (draft.new.records ≡ draft.old.records ++ added tran state.old (op.Del table key)) }
+{
+    if state.rows.get(table, key).is_some() {
+        log_change(state, draft, tran, table, key, None)?;
+    }
+    state.rows.remove(table, key);
+    Ok(())
+}
+
+fn scan(
+    alloc: Global,
+    state: &State,
+    table: TableId,
+    low: Key,
+    high: Key,
+) -> Result<ToldRead, NoMemory>
+    ensures { IfOk result (λ r. told_op state.now.rows (op.Scan table low high) ≡ r ∷ []) }
+{
+    let rows = state.rows.scan(alloc, table, low, high)?;
+    Ok(ToldRead::Scan {
+        table,
+        low,
+        high,
+        rows,
+    })
+}
+
+fn take_op(
+    alloc: Global,
+    state: &mut State,
+    draft: &mut Draft,
+    tran: Lrsn,
+    op: &Op,
+) -> Result<(), NoMemory>
+    requires { HasRoom state.old 1 }
     ensures state { OnOk result (state.new ≡ after state.old op.now) }
     ensures few { OnOk result (HasRoom state.new 0) }
     ensures reads { OnOk result (draft.new.reads ≡ draft.old.reads ++ told_op state.old.rows op.now) }
@@ -87,7 +149,13 @@ fn take_op(state: &mut State, draft: &mut Draft, tran: Lrsn, op: &Op) -> Result<
             })
         }
         Op::Put { table, key, value } => put(state, draft, tran, *table, *key, *value),
-        _ => unreachable!(),
+        Op::Del { table, key } => del(state, draft, tran, *table, *key),
+        Op::Scan { table, low, high } => {
+            let read = scan(alloc, state, *table, *low, *high)?;
+            draft.reads.push(read)
+        }
+        // One thread has no flag to wait for, and no cache to lose.
+        Op::Raise { .. } | Op::Await { .. } | Op::LoseCache | Op::Abort => Ok(()),
     }
 }
 
@@ -105,23 +173,36 @@ pub fn commit(state: &mut State, draft: &mut Draft, tran: Lrsn) -> Result<(), No
     Ok(())
 }
 
-/// Does the operations one after the other.
+fn is_abort(op: &Op) -> bool
+    ensures { result ≡ effect.is_abort op.now }
+{
+    match op {
+        Op::Abort => true,
+        _ => false,
+    }
+}
+
+/// Does the operations one after the other up to the first abort, and answers whether there is one.
 pub fn take_ops(
+    alloc: Global,
     state: &mut State,
     draft: &mut Draft,
     tran: Lrsn,
     ops: &[Op],
-) -> Result<(), NoMemory>
-    requires one_member { All IsOneMemberOp ops.now }
+) -> Result<bool, NoMemory>
     requires room { HasRoom state.old (length ops.now) }
-    ensures state { OnOk result (state.new ≡ after_all state.old ops.now) }
+    ensures aborts { IfOk result (λ b. b ≡ effect.aborts ops.now) }
+    ensures state { OnOk result (state.new ≡ after_all state.old (reached ops.now)) }
     ensures few { OnOk result (HasRoom state.new 0) }
     ensures drawn { OnOk result (state.new.last ≤ state.old.last + length ops.now) }
-    ensures reads { OnOk result (draft.new.reads ≡ draft.old.reads ++ told_all state.old.rows ops.now) }
-    ensures records { OnOk result (draft.new.records ≡ draft.old.records ++ changes tran state.old ops.now) }
+    ensures reads { OnOk result (draft.new.reads ≡ draft.old.reads ++ told_all state.old.rows (reached ops.now)) }
+    ensures records { OnOk result (draft.new.records ≡ draft.old.records ++ changes tran state.old (reached ops.now)) }
 {
     for op in ops {
-        take_op(state, draft, tran, op)?;
+        if is_abort(op) {
+            return Ok(true);
+        }
+        take_op(alloc, state, draft, tran, op)?;
     }
-    Ok(())
+    Ok(false)
 }

@@ -1,7 +1,6 @@
-ghost use Rattle.std.specs.Prelude.{◌≡◌, ◌+◌, ◌≤◌, ◌<◌, ◌^◌, length, IfOk, OnOk, All};
-ghost use Rattle.ds_model.specs.OneMember.{IsOneMemberOp};
-ghost use Rattle.serial_run.specs.Steps.{records_of, next, told_all, after_all};
-ghost use Rattle.serial_run.specs.Played.{HasRoom, Plays};
+ghost use Rattle.std.specs.Prelude.{◌≡◌, ◌+◌, ◌≤◌, ◌<◌, ◌^◌, length, IfOk, OnOk};
+ghost use Rattle.serial_run.specs.Steps.{next};
+ghost use Rattle.serial_run.specs.Played.{HasRoom, IsDraftOf, Plays};
 
 use crate::state::State;
 use crate::step::{Draft, commit, lrsn_of, take_ops};
@@ -12,49 +11,61 @@ use ds_model::{Op, ToldReads};
 use log_record::records_bytes;
 use std::alloc::Global;
 
-/// Does a transaction's operations and makes its records, the commit last.
-fn draft_of(alloc: Global, state: &mut State, ops: &[Op]) -> Result<Draft, NoMemory>
-    requires one_member { All IsOneMemberOp ops.now }
+/// What became of a transaction that was played.
+#[derive(Drop)]
+pub enum Outcome {
+    Committed { reads: ToldReads },
+    Aborted,
+    Stopped,
+}
+
+/// Does a transaction's operations and makes its records, the commit last. One that aborts is rolled back, and
+/// has none.
+fn draft_of(alloc: Global, state: &mut State, ops: &[Op]) -> Result<Option<Draft>, NoMemory>
     requires room { HasRoom state.old (length ops.now + 1) }
+    ensures draft { IfOk result (λ d. IsDraftOf state.old ops.now d) }
     ensures state { OnOk result (state.new ≡ next state.old ops.now) }
     ensures few { OnOk result (HasRoom state.new 0) }
     ensures drawn { OnOk result (state.new.last ≤ state.old.last + length ops.now + 1) }
-    ensures reads { IfOk result (λ d. d.reads ≡ told_all state.old.rows ops.now) }
-    ensures records { IfOk result (λ d. d.records ≡ records_of state.old ops.now) }
 {
     let mut draft = Draft {
         reads: Sequence::new(alloc),
         records: Sequence::new(alloc),
     };
     let tran = lrsn_of(state.last + 1);
-    take_ops(state, &mut draft, tran, ops)?;
+    if take_ops(alloc, state, &mut draft, tran, ops)? {
+        undo(&mut state.rows, draft.records.into_vec())?;
+        return Ok(None);
+    }
     commit(state, &mut draft, tran)?;
-    Ok(draft)
+    Ok(Some(draft))
 }
 
-/// Plays a transaction: its records are one append. Answers what it has read, or `None` where the append failed.
+/// Plays a transaction: its records are one append. Where that fails the transaction is stopped.
 pub fn play_tran<D: Disk>(
     alloc: Global,
     disk: &mut D,
     member: MemberId,
     state: &mut State,
     ops: &[Op],
-) -> Result<Option<ToldReads>, NoMemory>
-    requires one_member { All IsOneMemberOp ops.now }
+) -> Result<Outcome, NoMemory>
     requires room { HasRoom state.old (length ops.now + 1) }
-    ensures plays { IfOk result (λ told. Plays member state.old state.new ops.now told (D.alive disk.old) (D.alive disk.new) (D.contents disk.old) (D.contents disk.new) (D.faults disk.old) (D.faults disk.new)) }
+    ensures plays { IfOk result (λ outcome. Plays member state.old state.new ops.now outcome (D.alive disk.old) (D.alive disk.new) (D.contents disk.old) (D.contents disk.new) (D.faults disk.old) (D.faults disk.new)) }
     ensures few { OnOk result (HasRoom state.new 0) }
     ensures drawn { OnOk result (state.new.last ≤ state.old.last + length ops.now + 1) }
     ensures later { D.faults disk.old ≤ D.faults disk.new }
 {
-    let draft = draft_of(alloc, state, ops)?;
+    let Some(draft) = draft_of(alloc, state, ops)? else {
+        return Ok(Outcome::Aborted);
+    };
+    prove!(member.number() != 0);
     let bytes = records_bytes(alloc, draft.records.as_slice())?;
     match disk.append_log(member, bytes.as_slice()) {
-        Ok(()) => Ok(Some(draft.reads)),
+        Ok(()) => Ok(Outcome::Committed { reads: draft.reads }),
         Err(DiskError::NoMemory) => Err(NoMemory),
         Err(DiskError::Failed) => {
             undo(&mut state.rows, draft.records.into_vec())?;
-            Ok(None)
+            Ok(Outcome::Stopped)
         }
     }
 }

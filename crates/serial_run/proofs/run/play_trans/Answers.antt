@@ -1,10 +1,25 @@
-use Rattle.std.proofs.Common.{◌+◌, ◌≤◌, List, [], ◌∷◌, ◌++◌, length, sym, ap, subst, ◌∙◌, arith}
+use Rattle.std.proofs.Common.{◌+◌, ◌≤◌, List, [], ◌∷◌, ◌++◌, length, refl, sym, ap, subst, ◌∙◌, arith}
 use Rattle.ds_model.specs.declared.script.Op.{Op}
 use Rattle.ds_model.specs.declared.report.ReportEntry.{ReportEntry}
-use Rattle.serial_run.specs.Played.{IsCommitted}
-use Rattle.serial_run.specs.Progress.{IsPlayable}
-use Rattle.serial_run.proofs.Going.{goes_on}
+use Rattle.ds_model.specs.Serial.{IsShortTran}
+use Rattle.serial_run.specs.declared.entry.Entries.{Entries}
+use Rattle.serial_run.specs.Played.{IsCommitted, IsAborted, IsStopped}
+use Rattle.serial_run.proofs.Going.{Going, commits_one, aborts_one, stops}
+use Rattle.serial_run.proofs.run.play_trans.Goals.{in-Aborted+in_ok-entry_of-in-Aborted+in_ok-push-in-Aborted, in-Committed+in_ok-entry_of-in-Committed+in_ok-push-in-Committed}
 use Rattle.serial_run.proofs.run.play_trans.Goals as goal
+
+pub returns-in-Stopped-clause-played : goal.returns-in-Stopped-clause-played
+returns-in-Stopped-clause-played g c =
+    let p = c.index-items-i.result in
+    let s = c.loop-i.state in
+    let now = c.play_tran.new.state in
+    let before = g.D.Disk.contents c.loop-i.disk in
+    let after = g.D.Disk.contents c.play_tran.new.disk in
+    let plays = rw c.in-Stopped.is at c.in_ok-play_tran.ensures.plays in
+    let stopped = subst (λ (o : List Op). IsStopped p.0 s now o (g.D.Disk.alive c.loop-i.disk) (g.D.Disk.alive c.play_tran.new.disk) before after (g.D.Disk.faults c.loop-i.disk) (g.D.Disk.faults c.play_tran.new.disk)) c.as_slice.ensures plays in
+    stops c.args.items.now c.loop-i.i p p c.args.state.now s now c.args.entries.now c.loop-i.entries
+    _ _ _ before after _ _ _
+    c.loop-i-test.true c.index-items-i.is c.loop-i.invariant stopped
 
 pub loop-i-preserved : goal.loop-i-preserved
 loop-i-preserved g c =
@@ -14,11 +29,27 @@ loop-i-preserved g c =
     let alive = g.D.Disk.alive c.play_tran.new.disk in
     let before = g.D.Disk.contents c.loop-i.disk in
     let after = g.D.Disk.contents c.play_tran.new.disk in
-    let plays = rw c.in-Some.is at c.in_ok-play_tran.ensures.plays in
-    let committed = subst (λ (o : List Op). IsCommitted p.0 s now o c.in-Some.reads alive before after) c.as_slice.ensures plays in
     let drawn : now.last ≤ s.last + length p.1.ops + 1 = omega (arith, c.in_ok-play_tran.ensures.drawn, ap length c.as_slice.ensures) in
-    let playable = subst IsPlayable (sym c.index-items-i.is) (c.requires.playable c.loop-i.i p c.loop-i-test.true) in
-    let pushed = c.in_ok-push-in-Some.ensures.ok ∙ ap (λ (e : ReportEntry). c.loop-i.entries ++ e ∷ []) c.in_ok-entry_of-in-Some.ensures in
-    goes_on c.args.items.now c.loop-i.i p p c.args.state.now s now c.args.entries.now c.loop-i.entries c.push.new.self c.in-Some.reads
-    _ alive _ before after _ _ _
-    c.loop-i-test.true c.index-items-i.is playable c.loop-i.invariant committed c.in_ok-play_tran.ensures.few drawn c.play_tran.ensures.later pushed
+    let short = subst IsShortTran (sym c.index-items-i.is) (c.requires.short c.loop-i.i p c.loop-i-test.true) in
+    let few = c.in_ok-play_tran.ensures.few in
+    let so_far = c.loop-i.entries in
+    elim c.match-branch-2.branch [
+      | in-Aborted+in_ok-entry_of-in-Aborted+in_ok-push-in-Aborted w ↦
+          (let plays = rw w.in-Aborted.is at c.in_ok-play_tran.ensures.plays in
+          let aborted = subst (λ (o : List Op). IsAborted s now o (g.D.Disk.alive c.loop-i.disk) alive before after) c.as_slice.ensures plays in
+          let more : Entries = record { committed = so_far.committed; others = w.push.new.self } in
+          let pushed = w.in_ok-push-in-Aborted.ensures.ok ∙ ap (λ (e : ReportEntry). so_far.others ++ e ∷ []) w.in_ok-entry_of-in-Aborted.ensures in
+          subst (λ (e : Entries). Going c.args.items.now (c.loop-i.i + 1) c.args.state.now now c.args.entries.now e alive (g.D.Disk.contents c.args.disk.now) after (g.D.Disk.faults c.args.disk.now) (g.D.Disk.faults c.play_tran.new.disk)) (sym w.entries-is)
+          (aborts_one c.args.items.now c.loop-i.i p p c.args.state.now s now c.args.entries.now so_far more
+          _ alive _ before after _ _ _
+          c.loop-i-test.true c.index-items-i.is short c.loop-i.invariant aborted few drawn c.play_tran.ensures.later refl pushed))
+      | in-Committed+in_ok-entry_of-in-Committed+in_ok-push-in-Committed w ↦
+          (let plays = rw w.in-Committed.is at c.in_ok-play_tran.ensures.plays in
+          let committed = subst (λ (o : List Op). IsCommitted p.0 s now o w.in-Committed.reads alive before after) c.as_slice.ensures plays in
+          let more : Entries = record { committed = w.push-in-Committed.new.self; others = so_far.others } in
+          let pushed = w.in_ok-push-in-Committed.ensures.ok ∙ ap (λ (e : ReportEntry). so_far.committed ++ e ∷ []) w.in_ok-entry_of-in-Committed.ensures in
+          subst (λ (e : Entries). Going c.args.items.now (c.loop-i.i + 1) c.args.state.now now c.args.entries.now e alive (g.D.Disk.contents c.args.disk.now) after (g.D.Disk.faults c.args.disk.now) (g.D.Disk.faults c.play_tran.new.disk)) (sym w.entries-is)
+          (commits_one c.args.items.now c.loop-i.i p p c.args.state.now s now c.args.entries.now so_far more w.in-Committed.reads
+          _ alive _ before after _ _ _
+          c.loop-i-test.true c.index-items-i.is short c.loop-i.invariant committed few drawn c.play_tran.ensures.later pushed refl))
+    ]
