@@ -1,0 +1,4 @@
+pub mod Modes
+pub mod Kept
+pub mod Runs
+pub mod Needed

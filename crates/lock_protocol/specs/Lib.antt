@@ -1,0 +1,5 @@
+pub mod Functions
+pub mod Machine
+pub mod Moves
+pub mod Sound
+pub mod Needed

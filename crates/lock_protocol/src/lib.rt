@@ -1,0 +1,31 @@
+//! The locks of a group as a pure machine: the lock table with its versions, the records, the claims of all
+//! owners, and the queries between members. What is proved of it holds for every list of moves, and so for
+//! every schedule of members that make no other moves.
+//!
+//! The crate has definitions and proofs alone. Its functions do nothing: their contracts are the theorems.
+#![tactic(auto)]
+
+ghost use Rattle.lock_protocol.specs.Sound.{AlwaysSound, KeepsSound, StartsSound};
+ghost use Rattle.lock_protocol.specs.Needed.{StampIsNeeded, RetainedIsNeeded, KeptInterestIsNeeded, NoClaimIsNeeded};
+
+/// In every state that moves lead to from the start no two claims conflict, each claim is covered by the interest of
+/// its live member or by a retained record, and each recorded claim by a record.
+pub fn sound_claims()
+    ensures { AlwaysSound }
+{}
+
+/// The start is sound, and each move keeps what is.
+pub fn keeps_sound()
+    ensures start { StartsSound }
+    ensures step { KeepsSound }
+{}
+
+/// Four guards of the moves without which claims come to conflict: a stale clean answer is refused, a failure
+/// retains the recorded claims, a release keeps the interest that other claims need, and a record is purged only when
+/// no claim on its name is left.
+pub fn guards_are_needed()
+    ensures stamp { StampIsNeeded }
+    ensures retained { RetainedIsNeeded }
+    ensures kept_interest { KeptInterestIsNeeded }
+    ensures no_claim { NoClaimIsNeeded }
+{}
