@@ -23,7 +23,7 @@ found Pages = refl
 found Seed = refl
 found Trace = refl
 
-names_tell : (a b : Setting) → bytes_eq (rule_of a).name (rule_of b).name ≡ true → a ≡ b
+pub names_tell : (a b : Setting) → bytes_eq (rule_of a).name (rule_of b).name ≡ true → a ≡ b
 names_tell a b h =
     let names : (rule_of a).name ≡ (rule_of b).name = (bytes_eq-Decides (rule_of a).name (rule_of b).name).0 h in
     let same : Some a ≡ Some b = rw (← found a, ← found b, names) refl in

@@ -5,6 +5,7 @@ use Rattle.std.specs.Global.{Global}
 use Rattle.std.specs.List.{list_all}
 use Rattle.std.specs.Str.{bytes_eq}
 use Rattle.std.specs.String.{string_bytes}
+use Rattle.ds_base.specs.Ids.{IsMember}
 use Rattle.ds_base.specs.declared.names.Sizes.{Sizes}
 use Rattle.number_text.specs.Numbers.{number_of}
 use Rattle.group_words.specs.Options.{given_of, number_given, number_for, are_allowed, suits_work}
@@ -74,6 +75,13 @@ may_be_options (word ∷ words) = list_all is_well_formed (word ∷ words)
 abbrev pub may_be_work : List (List ℕ) → Bool
 may_be_work [] = false
 may_be_work (number ∷ words) = is_some (number_of number) && may_be_options words
+
+-- a group that plays, or does measured work, has 1 to 32 members
+abbrev pub HasMembers : Order → Type 0
+HasMembers (Play sizes seed trace) = IsMember sizes.members
+HasMembers Show = Unit {0}
+HasMembers (Make n) = Unit {0}
+HasMembers (Work n sizes) = IsMember sizes.members
 
 -- the words are those of a command that takes options, and words that may be options stand behind it
 abbrev pub may_have_options : List (List ℕ) → Bool

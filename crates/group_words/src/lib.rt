@@ -2,6 +2,7 @@
 #![tactic(auto)]
 
 mod given;
+mod laws;
 mod order;
 mod parsed;
 mod read;
@@ -9,5 +10,6 @@ mod setting;
 #[cfg(test)]
 mod tests;
 
+pub use laws::member_laws;
 pub use order::{Order, WordsFault};
 pub use read::read_words;

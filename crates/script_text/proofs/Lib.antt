@@ -14,3 +14,4 @@ pub mod Spelled
 pub mod Cutting
 pub mod Runs
 pub mod Round
+mod Short

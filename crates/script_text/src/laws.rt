@@ -15,6 +15,11 @@ pub fn reading_script_laws()
     reading_laws();
 }
 
+/// Each text that is read is no longer than a script may be.
+pub fn short_script_laws()
+    ensures { (members : ℕ) (bytes : List ℕ) (s : Script) → script_of members bytes ≡ Ok s → length bytes ≤ 4194304 }
+{}
+
 /// The canonical text of a script is read as that script, where it isn't too long.
 pub fn canonical_script_laws()
     ensures { (members : ℕ) (s : Script) → members ≤ 32 → IsScript members s → length (script_text s) ≤ 4194304 → script_of members (script_text s) ≡ Ok s }

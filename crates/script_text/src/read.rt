@@ -6,7 +6,7 @@ ghost use Rattle.script_text.specs.Indexes.{IsIndexed, IsStep};
 ghost use Rattle.script_text.specs.Reading.{IsReadAs, Reads, error_at, script_of, step};
 ghost use Rattle.script_text.specs.TextLines.{line_of};
 
-use crate::laws::{canonical_script_laws, reading_script_laws};
+use crate::laws::{canonical_script_laws, reading_script_laws, short_script_laws};
 use crate::limits::TEXT_LIMIT;
 use crate::lines::{cut_line, line_of};
 use crate::reader::Reader;
@@ -87,9 +87,11 @@ pub fn read_script(alloc: Global, bytes: &[u8], members: u8) -> Result<Script, S
     requires { (1 ≤ members) × (members ≤ 32) }
     ensures read { Reads (script_of members bytes.now) result }
     ensures script { IfOk result (IsScript members) }
+    ensures short { OnOk result (length bytes.now ≤ 4194304) }
     ensures canonical { (s : Script) → IsScript members s → length (script_text s) ≤ 4194304 → bytes.now ≡ script_text s → IsReadAs s result }
 {
     reading_script_laws();
     canonical_script_laws();
+    short_script_laws();
     read_text(alloc, bytes, members)
 }
