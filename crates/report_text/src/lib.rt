@@ -6,8 +6,10 @@ mod refusals;
 mod report;
 #[cfg(test)]
 mod tests;
+mod trace;
 
 pub use ds_model::{
-    Name, NameList, Report, ReportEntry, ReportEntryList, Told, ToldRead, ToldReads, ToldRefusal,
+    CauseLine, CauseLineList, EventLine, EventLineList, Name, NameList, Report, ReportEntry,
+    ReportEntryList, Told, ToldRead, ToldReads, ToldRefusal, Trace,
 };
 pub use report::write_report;

@@ -6,6 +6,7 @@ ghost use Rattle.ds_model.specs.ReportText.{who_text, entry_text, report_text};
 
 use crate::reads::{put_number, put_reads, put_rows};
 use crate::refusals::put_refusal;
+use crate::trace::put_trace;
 use ds_base::{Bytes, NoMemory};
 use ds_model::{Report, ReportEntry, Told};
 use std::alloc::Global;
@@ -55,7 +56,7 @@ fn put_entries(alloc: Global, out: &mut Bytes, entries: &[ReportEntry]) -> Resul
     Ok(())
 }
 
-/// The text of a report: its transactions with their answers, the rows afterwards, and the status.
+/// The text of a report: its transactions with their answers, its trace, the rows afterwards, and the status.
 ///
 /// Every line ends with a line feed, words are parted by one blank, and numbers are decimal with no leading zeros.
 pub fn write_report(alloc: Global, report: &Report) -> Result<Bytes, NoMemory>
@@ -64,6 +65,7 @@ pub fn write_report(alloc: Global, report: &Report) -> Result<Bytes, NoMemory>
     let mut out = Bytes::new(alloc);
     out.extend(b"dsgroup 1\n")?;
     put_entries(alloc, &mut out, report.entries.as_slice())?;
+    put_trace(alloc, &mut out, &report.trace)?;
     put_number(alloc, &mut out, b"rows ", report.rows.len() as u64)?;
     out.extend(b"\n")?;
     put_rows(alloc, &mut out, report.rows.as_slice())?;

@@ -105,6 +105,39 @@ fn refusals(alloc: Global) -> Result<Vec<ToldRefusal>, Fail> {
     ]?)
 }
 
+fn event(
+    alloc: Global,
+    place: u64,
+    member: u8,
+    choice: u64,
+    command: &str,
+) -> Result<EventLine, Fail> {
+    Ok(EventLine {
+        place,
+        member,
+        choice,
+        command: name(alloc, command)?,
+        reply: name(alloc, "none")?,
+    })
+}
+
+fn trace(alloc: Global) -> Result<Trace, Fail> {
+    let first = CauseLine {
+        name: name(alloc, "r")?,
+        place: 1,
+    };
+    let second = CauseLine {
+        name: name(alloc, "r")?,
+        place: 2,
+    };
+    let begun = event(alloc, 1, 0, 0, "none")?;
+    let taken = event(alloc, 2, 32, 17, "take")?;
+    Ok(Trace {
+        causes: Sequence::from_vec(vec![in alloc; first, second]?),
+        events: Sequence::from_vec(vec![in alloc; begun, taken]?),
+    })
+}
+
 const WHOLE: &str = "dsgroup 1
 committed a M1 answered
 read 1 10 =a=b
@@ -126,6 +159,10 @@ refused r M2 lrsn-end 281474959933440
 refused r M2 memory
 refused r M2 aborted
 stopped c M3
+cause r 1
+cause r 2
+event 1 0 0 none none
+event 2 32 17 take none
 rows 2
 row 1 10 =a=b
 row 64 0 =x
@@ -152,6 +189,7 @@ fn each_kind_of_line_is_spelled_once(rt: HostRuntime) -> Result<(), Fail> {
     entries.push(entry(alloc, "c", 3, Told::Stopped)?)?;
     let report = Report {
         entries,
+        trace: trace(alloc)?,
         rows: Sequence::from_vec(vec![in alloc;
             row(alloc, 1, 10, "a=b")?,
             row(alloc, 64, 0, "x")?,
@@ -168,6 +206,10 @@ fn a_report_of_nothing_has_three_lines(rt: HostRuntime) -> Result<(), Fail> {
     let alloc = rt.alloc();
     let report = Report {
         entries: Sequence::new(alloc),
+        trace: Trace {
+            causes: Sequence::new(alloc),
+            events: Sequence::new(alloc),
+        },
         rows: Sequence::new(alloc),
         status: 0,
     };
