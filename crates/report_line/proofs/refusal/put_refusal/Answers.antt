@@ -1,4 +1,4 @@
-use Rattle.report_text.proofs.refusals.put_refusal.Goals as goal
+use Rattle.report_line.proofs.refusal.put_refusal.Goals as goal
 
 pub returns-in-SpaceFull : goal.returns-in-SpaceFull
 returns-in-SpaceFull c = rw (c.in-SpaceFull.is, ← c.number-in-SpaceFull.ensures.value) c.put_numbers.ensures
