@@ -7,10 +7,10 @@ use Rattle.ds_model.specs.declared.report.ReportEntry.{ReportEntry}
 use Rattle.report_text.specs.Grammar.{is_before}
 use Rattle.report_text.specs.Steps.{may_follow, last_with, told_with}
 
-pub last_with-push : (es : List ReportEntry) (e : ReportEntry) (x : ToldRead) → last_with (es ++ e ∷ []) x ≡ es ++ (record e { told = told_with e.told x }) ∷ []
-last_with-push [] e x = refl
-last_with-push (a ∷ []) e x = refl
-last_with-push (a ∷ b ∷ es) e x = ap (λ rest. a ∷ rest) (last_with-push (b ∷ es) e x)
+pub last_with_push : (es : List ReportEntry) (e : ReportEntry) (x : ToldRead) → last_with (es ++ e ∷ []) x ≡ es ++ (record e { told = told_with e.told x }) ∷ []
+last_with_push [] e x = refl
+last_with_push (a ∷ []) e x = refl
+last_with_push (a ∷ b ∷ es) e x = ap (λ rest. a ∷ rest) (last_with-push (b ∷ es) e x)
 
 pub follows_last : (rows : List Row) (last row : Row) → slice_get rows (length rows - 1) ≡ Some last → may_follow rows row ≡ is_before last row
 follows_last rows last row e = ?

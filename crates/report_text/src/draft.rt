@@ -126,7 +126,7 @@ fn told_with(told: Told, read: ToldRead) -> Result<Told, NoMemory>
 }
 
 // The entries with one read more in the last of them.
-#[tactic(auto, using(crate::proofs::Lists::last_with-push))]
+#[tactic(auto, using(crate::proofs::Lists::last_with_push))]
 fn last_with(entries: ReportEntryList, read: ToldRead) -> Result<ReportEntryList, NoMemory>
     ensures { IfOk result (λ found. found ≡ spec.last_with entries read) }
 {
