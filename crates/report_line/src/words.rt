@@ -1,6 +1,6 @@
 //! The words of a line, which blanks part.
 
-ghost use Rattle.std.specs.Prelude.{◌≡◌, ◌==◌, ◌<◌, ℕ, List, [], ◌∷◌, drop, length, IfOk, IfSome};
+ghost use Rattle.std.specs.Prelude.{◌≡◌, ◌==◌, ◌<◌, ℕ, List, [], ◌∷◌, drop, length, IfNone, IfOk, IfSome};
 ghost use Rattle.std.specs.List.{list_any, slice_split, position};
 ghost use Rattle.std.specs.Str.{bytes_eq};
 ghost use Rattle.report_line.specs.Cuts.{parts_left};
@@ -21,6 +21,7 @@ fn first_place(text: &[u8], separator: u8) -> Option<usize>
 #[tactic(auto, using(crate::proofs::Parts::split_found, crate::proofs::Parts::split_missing))]
 pub fn cut(text: &[u8], separator: u8) -> (&[u8], Option<&[u8]>)
     ensures parts { slice_split (λ (b : ℕ). b == separator) text.now ≡ result.0.now ∷ parts_left separator result.1 }
+    ensures whole { IfNone result.1 (result.0.now ≡ text.now) }
     ensures shorter { IfSome result.1 (λ rest. length rest.now < length text.now) }
 {
     match first_place(text, separator) {

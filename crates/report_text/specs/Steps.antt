@@ -171,10 +171,14 @@ abbrev pub report_then : ℕ → Option Draft → (Draft → Result Report ℕ) 
 report_then n None go = Err n
 report_then n (Some d) go = go d
 
--- the report, or the number of the first line that may not stand where it does; the last part is what stands behind the last line feed
+-- the end of the text, with what stands behind its last line feed
+abbrev pub finished : ℕ → Draft → List ℕ → Result Report ℕ
+finished n d last = if (length last == 0) && is_done d.stage then Ok d.report else Err n
+
+-- the report, or the number of the first line that may not stand where it does
 abbrev pub report_from : ℕ → Draft → List (List ℕ) → Result Report ℕ
 report_from n d [] = Err n
-report_from n d (last ∷ []) = if (length last == 0) && is_done d.stage then Ok d.report else Err n
+report_from n d (last ∷ []) = finished n d last
 report_from n d (text ∷ next ∷ texts) = report_then n (step_text d text) (λ later. report_from (next_number n) later (next ∷ texts))
 
 abbrev pub empty_report : Report
@@ -183,8 +187,12 @@ empty_report = record { entries = []; trace = record { causes = []; events = [] 
 abbrev pub start : Draft
 start = draft_at stage.Start empty_report
 
+-- the lines, and what stands behind the last line feed
+abbrev pub lines_in : List ℕ → List (List ℕ)
+lines_in bytes = slice_split (λ (b : ℕ). b == 10) bytes
+
 unfoldable pub report_of : List ℕ → Result Report ℕ
-report_of bytes = report_from 1 start (slice_split (λ (b : ℕ). b == 10) bytes)
+report_of bytes = report_from 1 start (lines_in bytes)
 
 -- what a reader may answer where this is the reading
 abbrev pub Gives : Result Report ReportError → Result Report ℕ → Type 0

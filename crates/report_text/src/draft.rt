@@ -192,6 +192,25 @@ fn scanning(
     }
 }
 
+// A scan with one row more, or `None` where it may not have it.
+fn scanned(
+    report: Report,
+    table: TableId,
+    low: Key,
+    high: Key,
+    count: u64,
+    mut rows: RowList,
+    row: Row,
+) -> Result<Option<Draft>, NoMemory>
+    ensures { IfOk result (λ found. found ≡ spec.scanned report table low high count rows row) }
+{
+    if row.table.number() != table.number() || !may_follow(rows.as_slice(), &row) {
+        return Ok(None);
+    }
+    rows.push(row)?;
+    Ok(Some(scanning(report, table, low, high, count, rows)?))
+}
+
 impl Draft {
     pub fn new(alloc: Global) -> Draft
         ensures { result ≡ spec.start }
@@ -273,31 +292,28 @@ impl Draft {
     ) -> Result<Option<Draft>, NoMemory>
         ensures { IfOk result (λ found. found ≡ spec.read_at self.report self.stage table key value) }
     {
-        match (self.stage, value) {
-            (Stage::Reads, value) => {
+        let Draft { stage, report } = self;
+        match stage {
+            Stage::Reads => {
                 let get = ToldRead::Get { table, key, value };
                 Ok(Some(Draft {
                     stage: Stage::Reads,
-                    report: with_read(self.report, get)?,
+                    report: with_read(report, get)?,
                 }))
             }
-            (
-                Stage::Scan {
-                    table: of,
-                    low,
-                    high,
-                    count,
-                    mut rows,
-                },
-                Some(value),
-            ) => {
-                let row = Row { table, key, value };
-                if table.number() != of.number() || !may_follow(rows.as_slice(), &row) {
-                    return Ok(None);
+            Stage::Scan {
+                table: of,
+                low,
+                high,
+                count,
+                rows,
+            } => match value {
+                Some(value) => {
+                    let row = Row { table, key, value };
+                    scanned(report, of, low, high, count, rows, row)
                 }
-                rows.push(row)?;
-                Ok(Some(scanning(self.report, of, low, high, count, rows)?))
-            }
+                None => Ok(None),
+            },
             _ => Ok(None),
         }
     }

@@ -1,13 +1,34 @@
 //! The lines of a text, one after the other.
 
-ghost use Rattle.std.specs.Prelude.{◌≡◌};
-ghost use Rattle.report_text.specs.Steps.{Gives, report_of};
+ghost use Rattle.std.specs.Prelude.{◌≡◌, ◌<◌, [], ◌∷◌, length, MatchOption};
+ghost use Rattle.report_text.specs.Steps.{Gives, finished, lines_in, report_of};
 
 use crate::draft::Draft;
 use crate::error::ReportError;
 use ds_model::Report;
 use report_line::cut;
 use std::alloc::Global;
+
+// The first line, without its line feed, and what stands behind that.
+fn next_line(rest: &[u8]) -> Option<(&[u8], &[u8])>
+    ensures { MatchOption result (lines_in rest.now ≡ rest.now ∷ []) (λ found. (lines_in rest.now ≡ found.0.now ∷ lines_in found.1.now) × (length found.1.now < length rest.now)) }
+{
+    match cut(rest, b'\n') {
+        (text, Some(after)) => Some((text, after)),
+        (_, None) => None,
+    }
+}
+
+// The end of the text, with what stands behind its last line feed.
+fn finished(number: u32, draft: Draft, last: &[u8]) -> Result<Report, ReportError>
+    ensures { Gives result (finished number draft last.now) }
+{
+    if last.is_empty() && draft.stage.is_done() {
+        Ok(draft.report)
+    } else {
+        Err(ReportError::Bad { line: number })
+    }
+}
 
 /// The report that a text spells.
 ///
@@ -19,7 +40,7 @@ pub fn read_report(alloc: Global, bytes: &[u8]) -> Result<Report, ReportError>
     let mut draft = Draft::new(alloc);
     let mut number: u32 = 1;
     let mut rest = bytes;
-    while let (text, Some(after)) = cut(rest, b'\n') {
+    while let Some((text, after)) = next_line(rest) {
         match draft.step_text(alloc, text)? {
             Some(next) => draft = next,
             None => return Err(ReportError::Bad { line: number }),
@@ -27,9 +48,5 @@ pub fn read_report(alloc: Global, bytes: &[u8]) -> Result<Report, ReportError>
         rest = after;
         number = number.saturating_add(1);
     }
-    if rest.is_empty() && draft.stage.is_done() {
-        Ok(draft.report)
-    } else {
-        Err(ReportError::Bad { line: number })
-    }
+    finished(number, draft, rest)
 }
