@@ -1,6 +1,8 @@
 //! The lines of a text, one after the other.
 
-ghost use Rattle.std.specs.Prelude.{◌≡◌, ◌<◌, [], ◌∷◌, length, MatchOption};
+ghost use Rattle.std.specs.Prelude.{◌≡◌, ◌<◌, [], ◌∷◌, length, true, IfOk, MatchOption};
+ghost use Rattle.ds_model.specs.ReportText.{report_text};
+ghost use Rattle.report_text.specs.Grammar.{is_report};
 ghost use Rattle.report_text.specs.Steps.{Gives, finished, lines_in, report_of};
 
 use crate::draft::Draft;
@@ -30,12 +32,8 @@ fn finished(number: u32, draft: Draft, last: &[u8]) -> Result<Report, ReportErro
     }
 }
 
-/// The report that a text spells.
-///
-/// Refused is the first line that may not stand where it does. Where a count is too great, that is the first line which
-/// isn't one of those counted.
-pub fn read_report(alloc: Global, bytes: &[u8]) -> Result<Report, ReportError>
-    ensures exact { Gives result (report_of bytes.now) }
+fn reading(alloc: Global, bytes: &[u8]) -> Result<Report, ReportError>
+    ensures { Gives result (report_of bytes.now) }
 {
     let mut draft = Draft::new(alloc);
     let mut number: u32 = 1;
@@ -49,4 +47,15 @@ pub fn read_report(alloc: Global, bytes: &[u8]) -> Result<Report, ReportError>
         number = number.saturating_add(1);
     }
     finished(number, draft, rest)
+}
+
+/// The report that a text spells.
+///
+/// Refused is the first line that may not stand where it does. Where a count is too great, that is the first line which
+/// isn't one of those counted.
+pub fn read_report(alloc: Global, bytes: &[u8]) -> Result<Report, ReportError>
+    ensures exact { Gives result (report_of bytes.now) }
+    ensures found { IfOk result (λ report. (bytes.now ≡ report_text report) × (is_report report ≡ true)) }
+{
+    reading(alloc, bytes)
 }
