@@ -3,6 +3,7 @@
 //! A line is judged here by itself. Where it may stand is another matter.
 #![tactic(auto)]
 
+mod laws;
 mod line;
 mod lock;
 mod read;
@@ -12,6 +13,7 @@ mod trace_words;
 mod values;
 mod words;
 
+pub use laws::line_laws;
 pub use line::ReportLine;
 pub use read::read_line;
 pub use words::cut;
