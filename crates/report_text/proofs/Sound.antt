@@ -131,18 +131,18 @@ at_head stage.Causes r t = refl
 at_head stage.Events r t = refl
 at_head s r t = absurd (cc)
 
-others_too : (s : Stage) → takes_committed s ≡ true → takes_others s ≡ true
+pub others_too : (s : Stage) → takes_committed s ≡ true → takes_others s ≡ true
 others_too stage.Committed t = refl
 others_too stage.Reads t = refl
 others_too s t = absurd (cc)
 
-causes_too : (s : Stage) → takes_others s ≡ true → takes_causes s ≡ true
+pub causes_too : (s : Stage) → takes_others s ≡ true → takes_causes s ≡ true
 causes_too stage.Committed t = refl
 causes_too stage.Reads t = refl
 causes_too stage.Others t = refl
 causes_too s t = absurd (cc)
 
-events_too : (s : Stage) → takes_causes s ≡ true → takes_events s ≡ true
+pub events_too : (s : Stage) → takes_causes s ≡ true → takes_events s ≡ true
 events_too stage.Committed t = refl
 events_too stage.Reads t = refl
 events_too stage.Others t = refl

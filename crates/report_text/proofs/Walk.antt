@@ -6,7 +6,7 @@ use Rattle.ds_model.specs.declared.report.Report.{Report}
 use Rattle.report_text.specs.declared.draft.Draft.{Draft}
 use Rattle.report_text.specs.Steps.{report_from, report_then, next_number, step_text, lines_in, finished}
 
-from_more : (n : ℕ) (d : Draft) (text : List ℕ) (parts : List (List ℕ)) → 0 < length parts → report_from n d (text ∷ parts) ≡ report_then n (step_text d text) (λ later. report_from (next_number n) later parts)
+pub from_more : (n : ℕ) (d : Draft) (text : List ℕ) (parts : List (List ℕ)) → 0 < length parts → report_from n d (text ∷ parts) ≡ report_then n (step_text d text) (λ later. report_from (next_number n) later parts)
 from_more n d text [] h = absurd (omega arith)
 from_more n d text (next ∷ parts) h = refl
 

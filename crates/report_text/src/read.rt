@@ -1,6 +1,7 @@
 //! The lines of a text, one after the other.
 
 ghost use Rattle.std.specs.Prelude.{◌≡◌, ◌<◌, [], ◌∷◌, length, true, IfOk, MatchOption};
+ghost use Rattle.ds_model.specs.declared.report.Report.{Report};
 ghost use Rattle.ds_model.specs.ReportText.{report_text};
 ghost use Rattle.report_text.specs.Grammar.{is_report};
 ghost use Rattle.report_text.specs.Steps.{Gives, finished, lines_in, report_of};
@@ -8,7 +9,7 @@ ghost use Rattle.report_text.specs.Steps.{Gives, finished, lines_in, report_of};
 use crate::draft::Draft;
 use crate::error::ReportError;
 use ds_model::Report;
-use report_line::cut;
+use report_line::{cut, line_laws};
 use std::alloc::Global;
 
 // The first line, without its line feed, and what stands behind that.
@@ -56,6 +57,8 @@ fn reading(alloc: Global, bytes: &[u8]) -> Result<Report, ReportError>
 pub fn read_report(alloc: Global, bytes: &[u8]) -> Result<Report, ReportError>
     ensures exact { Gives result (report_of bytes.now) }
     ensures found { IfOk result (λ report. (bytes.now ≡ report_text report) × (is_report report ≡ true)) }
+    ensures only { (report : Report) → is_report report ≡ true → bytes.now ≡ report_text report → Gives result (Ok report) }
 {
+    line_laws();
     reading(alloc, bytes)
 }
