@@ -105,6 +105,39 @@ fn refusals(alloc: Global) -> Result<Vec<ToldRefusal>, Fail> {
     ]?)
 }
 
+fn event(
+    alloc: Global,
+    place: u64,
+    member: u8,
+    choice: u64,
+    command: &str,
+) -> Result<EventLine, Fail> {
+    Ok(EventLine {
+        place,
+        member,
+        choice,
+        command: name(alloc, command)?,
+        reply: name(alloc, "none")?,
+    })
+}
+
+fn trace(alloc: Global) -> Result<Trace, Fail> {
+    let first = CauseLine {
+        name: name(alloc, "r")?,
+        place: 1,
+    };
+    let second = CauseLine {
+        name: name(alloc, "r")?,
+        place: 2,
+    };
+    let begun = event(alloc, 1, 0, 0, "none")?;
+    let taken = event(alloc, 2, 32, 17, "take")?;
+    Ok(Trace {
+        causes: Sequence::from_vec(vec![in alloc; first, second]?),
+        events: Sequence::from_vec(vec![in alloc; begun, taken]?),
+    })
+}
+
 const WHOLE: &str = "dsgroup 1
 committed a M1 answered
 read 1 10 =a=b
@@ -126,6 +159,10 @@ refused r M2 lrsn-end 281474959933440
 refused r M2 memory
 refused r M2 aborted
 stopped c M3
+cause r 1
+cause r 2
+event 1 0 0 none none
+event 2 32 17 take none
 rows 2
 row 1 10 =a=b
 row 64 0 =x
@@ -152,6 +189,7 @@ fn each_kind_of_line_is_spelled_once(rt: HostRuntime) -> Result<(), Fail> {
     entries.push(entry(alloc, "c", 3, Told::Stopped)?)?;
     let report = Report {
         entries,
+        trace: trace(alloc)?,
         rows: Sequence::from_vec(vec![in alloc;
             row(alloc, 1, 10, "a=b")?,
             row(alloc, 64, 0, "x")?,
@@ -168,10 +206,102 @@ fn a_report_of_nothing_has_three_lines(rt: HostRuntime) -> Result<(), Fail> {
     let alloc = rt.alloc();
     let report = Report {
         entries: Sequence::new(alloc),
+        trace: Trace {
+            causes: Sequence::new(alloc),
+            events: Sequence::new(alloc),
+        },
         rows: Sequence::new(alloc),
         status: 0,
     };
     let text = write_report(alloc, &report)?;
     assert_eq!(rt; text.as_slice(), b"dsgroup 1\nrows 0\nend 0\n".as_slice());
+    Ok(())
+}
+
+const TWO: &str = "dsgroup 1
+committed a M1 answered
+committed b M2 answered
+scan 1 0 18446744073709551615 2
+read 1 0 =a
+read 1 18446744073709551615 =z
+rows 2
+row 1 0 =a
+row 1 18446744073709551615 =z
+end 0
+";
+
+// The line that is refused, or 0 where the text is read and written back the same.
+fn refused_line(alloc: Global, text: &str) -> Result<u32, Fail> {
+    match read_report(alloc, text.as_bytes()) {
+        Ok(report) => {
+            let again = write_report(alloc, &report)?;
+            if again.as_slice() == text.as_bytes() {
+                Ok(0)
+            } else {
+                Ok(u32::MAX)
+            }
+        }
+        Err(ReportError::Bad { line }) => Ok(line),
+        Err(ReportError::NoMemory) => Err("no memory".into()),
+    }
+}
+
+#[test]
+fn what_was_written_is_read(rt: HostRuntime) -> Result<(), Fail> {
+    let alloc = rt.alloc();
+    assert_eq!(rt; refused_line(alloc, WHOLE)?, 0);
+    assert_eq!(rt; refused_line(alloc, TWO)?, 0);
+    assert_eq!(rt; refused_line(alloc, "dsgroup 1\nrows 0\nend 255\n")?, 0);
+    Ok(())
+}
+
+// Texts with the line that may not stand where it does.
+const FAULTY: [(&str, u32); 30] = [
+    ("", 1),
+    ("dsgroup 1", 1),
+    ("dsgroup 2\nrows 0\nend 0\n", 1),
+    ("dsgroup 1\n", 2),
+    ("dsgroup 1\nrows 0\n", 3),
+    ("dsgroup 1\nrows 0\nend 0", 3),
+    ("dsgroup 1\nrows 0\nend 0\n\n", 4),
+    ("dsgroup 1\nrows 0\nend 0\nx", 4),
+    ("dsgroup 1\nrows 0\nend 256\n", 3),
+    ("dsgroup 1\nrows 00\nend 0\n", 2),
+    ("dsgroup 1\nrows 1\nend 0\n", 3),
+    ("dsgroup 1\nrows 0\nrow 1 1 =a\nend 0\n", 3),
+    ("dsgroup 1\nrows 2\nrow 1 2 =a\nrow 1 2 =a\nend 0\n", 4),
+    ("dsgroup 1\nrows 2\nrow 2 1 =a\nrow 1 2 =a\nend 0\n", 4),
+    ("dsgroup 1\nrows 1\nrow 65 1 =a\nend 0\n", 3),
+    ("dsgroup 1\nrows 1\nrow 1 18446744073709551616 =a\nend 0\n", 3),
+    ("dsgroup 1\nrows 1\nrow 1 1 -\nend 0\n", 3),
+    ("dsgroup 1\nstopped a M1\ncommitted b M1 unanswered\nrows 0\nend 0\n", 3),
+    ("dsgroup 1\ncommitted a M33 answered\nrows 0\nend 0\n", 2),
+    ("dsgroup 1\ncommitted a  M1 answered\nrows 0\nend 0\n", 2),
+    ("dsgroup 1\ncommitted abcdefghijklmnopq M1 answered\nrows 0\nend 0\n", 2),
+    ("dsgroup 1\ncommitted a M1 unanswered\nread 1 1 -\nrows 0\nend 0\n", 3),
+    ("dsgroup 1\ncommitted a M1 answered\nscan 1 0 9 1\nread 2 1 =a\nrows 0\nend 0\n", 4),
+    ("dsgroup 1\ncommitted a M1 answered\nscan 1 0 9 2\nread 1 1 =a\nread 1 1 =a\nrows 0\nend 0\n", 5),
+    ("dsgroup 1\ncommitted a M1 answered\nscan 1 0 9 1\nrows 0\nend 0\n", 4),
+    ("dsgroup 1\nrefused a M1 deadlock\nrows 0\nend 0\n", 2),
+    ("dsgroup 1\nrefused a M1 held row 1 by b\nrows 0\nend 0\n", 2),
+    ("dsgroup 1\nevent 2 1 1 none none\nrows 0\nend 0\n", 2),
+    ("dsgroup 1\nevent 1 1 1 none maybe\nrows 0\nend 0\n", 2),
+    ("dsgroup 1\nevent 1 1 1 none none\ncause a 1\nrows 0\nend 0\n", 3),
+];
+
+#[test]
+fn the_first_bad_line_is_named(rt: HostRuntime) -> Result<(), Fail> {
+    let alloc = rt.alloc();
+    for (text, line) in FAULTY {
+        assert_eq!(rt; refused_line(alloc, text)?, line);
+    }
+    Ok(())
+}
+
+#[test]
+fn a_read_behind_the_rows_of_a_scan_is_a_get(rt: HostRuntime) -> Result<(), Fail> {
+    let alloc = rt.alloc();
+    let text = "dsgroup 1\ncommitted a M1 answered\nscan 1 0 9 0\nread 2 1 -\nrows 0\nend 0\n";
+    assert_eq!(rt; refused_line(alloc, text)?, 0);
     Ok(())
 }

@@ -1,0 +1,9 @@
+pub mod Bools
+pub mod Complete
+pub mod Growth
+pub mod Lists
+pub mod Reach
+pub mod Runs
+pub mod Sound
+pub mod Spelling
+pub mod Walk
