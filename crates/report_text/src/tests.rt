@@ -272,21 +272,48 @@ const FAULTY: [(&str, u32); 30] = [
     ("dsgroup 1\nrows 2\nrow 1 2 =a\nrow 1 2 =a\nend 0\n", 4),
     ("dsgroup 1\nrows 2\nrow 2 1 =a\nrow 1 2 =a\nend 0\n", 4),
     ("dsgroup 1\nrows 1\nrow 65 1 =a\nend 0\n", 3),
-    ("dsgroup 1\nrows 1\nrow 1 18446744073709551616 =a\nend 0\n", 3),
+    (
+        "dsgroup 1\nrows 1\nrow 1 18446744073709551616 =a\nend 0\n",
+        3,
+    ),
     ("dsgroup 1\nrows 1\nrow 1 1 -\nend 0\n", 3),
-    ("dsgroup 1\nstopped a M1\ncommitted b M1 unanswered\nrows 0\nend 0\n", 3),
+    (
+        "dsgroup 1\nstopped a M1\ncommitted b M1 unanswered\nrows 0\nend 0\n",
+        3,
+    ),
     ("dsgroup 1\ncommitted a M33 answered\nrows 0\nend 0\n", 2),
     ("dsgroup 1\ncommitted a  M1 answered\nrows 0\nend 0\n", 2),
-    ("dsgroup 1\ncommitted abcdefghijklmnopq M1 answered\nrows 0\nend 0\n", 2),
-    ("dsgroup 1\ncommitted a M1 unanswered\nread 1 1 -\nrows 0\nend 0\n", 3),
-    ("dsgroup 1\ncommitted a M1 answered\nscan 1 0 9 1\nread 2 1 =a\nrows 0\nend 0\n", 4),
-    ("dsgroup 1\ncommitted a M1 answered\nscan 1 0 9 2\nread 1 1 =a\nread 1 1 =a\nrows 0\nend 0\n", 5),
-    ("dsgroup 1\ncommitted a M1 answered\nscan 1 0 9 1\nrows 0\nend 0\n", 4),
+    (
+        "dsgroup 1\ncommitted abcdefghijklmnopq M1 answered\nrows 0\nend 0\n",
+        2,
+    ),
+    (
+        "dsgroup 1\ncommitted a M1 unanswered\nread 1 1 -\nrows 0\nend 0\n",
+        3,
+    ),
+    (
+        "dsgroup 1\ncommitted a M1 answered\nscan 1 0 9 1\nread 2 1 =a\nrows 0\nend 0\n",
+        4,
+    ),
+    (
+        "dsgroup 1\ncommitted a M1 answered\nscan 1 0 9 2\nread 1 1 =a\nread 1 1 =a\nrows 0\nend 0\n",
+        5,
+    ),
+    (
+        "dsgroup 1\ncommitted a M1 answered\nscan 1 0 9 1\nrows 0\nend 0\n",
+        4,
+    ),
     ("dsgroup 1\nrefused a M1 deadlock\nrows 0\nend 0\n", 2),
-    ("dsgroup 1\nrefused a M1 held row 1 by b\nrows 0\nend 0\n", 2),
+    (
+        "dsgroup 1\nrefused a M1 held row 1 by b\nrows 0\nend 0\n",
+        2,
+    ),
     ("dsgroup 1\nevent 2 1 1 none none\nrows 0\nend 0\n", 2),
     ("dsgroup 1\nevent 1 1 1 none maybe\nrows 0\nend 0\n", 2),
-    ("dsgroup 1\nevent 1 1 1 none none\ncause a 1\nrows 0\nend 0\n", 3),
+    (
+        "dsgroup 1\nevent 1 1 1 none none\ncause a 1\nrows 0\nend 0\n",
+        3,
+    ),
 ];
 
 #[test]
