@@ -1,15 +1,13 @@
 -- Lines are spelled by their words, and read from them again.
-use Rattle.std.proofs.Common.{◌≡◌, ℕ, ◌+◌, ◌^◌, ◌<◌, ◌≤◌, Bool, true, false, not, ◌&&◌, ◌==◌, nat_lt, nat_le, List, [], ◌∷◌, ◌++◌, length, Option, Some, None, refl, ap, sym, ◌∙◌, subst, arith, append_assoc, decimal, codes}
-use Rattle.std.specs.List.{list_all, flat_map, join_with_byte}
-use Rattle.ds_model.specs.declared.lock.Name.{Name}
+use Rattle.std.proofs.Common.{◌≡◌, ℕ, true, false, List, [], ◌∷◌, ◌++◌, Some, None, refl, ap, sym, ◌∙◌, append_assoc, decimal, codes}
+use Rattle.std.specs.List.{flat_map, join_with_byte}
 use Rattle.ds_model.specs.declared.lock.Name.TheVariants as lock
-use Rattle.ds_model.specs.declared.report.ToldRefusal.{ToldRefusal}
 use Rattle.ds_model.specs.declared.report.ToldRefusal.TheVariants as refusal
 use Rattle.ds_model.specs.ReportText.{cycle_text}
 use Rattle.report_line.specs.declared.line.ReportLine.{ReportLine}
 use Rattle.report_line.specs.declared.line.ReportLine.TheVariants as lines
 use Rattle.report_line.specs.Lines.{line_text}
-use Rattle.report_line.specs.Bodies.{line_words, line_body}
+use Rattle.report_line.specs.Bodies.{line_body}
 
 join_names : (w : List ℕ) (ws : List (List ℕ)) → join_with_byte 32 (w ∷ ws) ≡ w ++ flat_map cycle_text ws
 join_names [] [] = refl

@@ -1,12 +1,12 @@
 -- Numbers in digits, read again.
-use Rattle.std.proofs.Common.{◌≡◌, ℕ, zero, suc, ◌+◌, ◌-◌, ◌*◌, ◌/◌, ◌%◌, ◌^◌, ◌<◌, ◌≤◌, Bool, true, false, ◌&&◌, nat_lt, nat_le, if◌then◌else◌, List, [], ◌∷◌, ◌++◌, length, Option, Some, None, refl, ap, sym, ◌∙◌, arith, decimal}
+use Rattle.std.proofs.Common.{◌≡◌, ℕ, ◌+◌, ◌-◌, ◌*◌, ◌/◌, ◌%◌, ◌^◌, ◌<◌, ◌≤◌, Bool, true, false, ◌&&◌, nat_lt, nat_le, if◌then◌else◌, List, [], ◌∷◌, ◌++◌, length, Some, None, refl, ◌∙◌, arith, decimal}
 use Rattle.std.proofs.lemmas.Bool.Decides.{nat_tests}
 use Rattle.std.proofs.lemmas.Fmt.{decimal_by_steps, decimal_nonempty, length-decimal-le}
 use Rattle.std.specs.Option.{unwrap_or}
 use Rattle.std.specs.List.{list_all}
 use Rattle.std.specs.Str.{all_ascii_digits}
 use Rattle.std.specs.Char.{is_ascii_digit}
-use Rattle.number_text.specs.Numbers.{spelled, spelled_after, is_number, number_of}
+use Rattle.number_text.specs.Numbers.{spelled, spelled_after, is_number}
 use Rattle.report_line.specs.Reading.{number}
 use Rattle.report_line.proofs.Tests.{and_left, and_right, and_true}
 
@@ -68,6 +68,6 @@ number_again n h =
     let some : 0 < length (decimal n) = decimal_nonempty n h in
     let few : length (decimal n) ≤ 20 = length-decimal-le 20 n (omega arith) (omega arith) h in
     let test = and_true (nat_le 1 (length (decimal n))) (nat_le (length (decimal n)) 20 && (all_ascii_digits (decimal n) && nat_lt (spelled (decimal n)) (2 ^ 64))) (grind (arith, nat_tests))
-      (and_true (nat_le (length (decimal n)) 20) (all_ascii_digits (decimal n) && nat_lt (spelled (decimal n)) (2 ^ 64)) (grind (arith, nat_tests))
-      (and_true (all_ascii_digits (decimal n)) (nat_lt (spelled (decimal n)) (2 ^ 64)) d.digits (grind (arith, nat_tests)))) in
+    (and_true (nat_le (length (decimal n)) 20) (all_ascii_digits (decimal n) && nat_lt (spelled (decimal n)) (2 ^ 64)) (grind (arith, nat_tests))
+    (and_true (all_ascii_digits (decimal n)) (nat_lt (spelled (decimal n)) (2 ^ 64)) d.digits (grind (arith, nat_tests)))) in
     some_of (is_number (decimal n)) (spelled (decimal n)) test ∙ value

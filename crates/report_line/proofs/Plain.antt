@@ -1,21 +1,14 @@
 -- The words of a line hold neither blanks nor line feeds, and so are its words again.
-use Rattle.std.proofs.Common.{◌≡◌, ℕ, ◌+◌, ◌^◌, ◌<◌, ◌≤◌, Bool, true, false, ◌&&◌, ◌||◌, ◌==◌, nat_lt, nat_le, List, [], ◌∷◌, ◌++◌, length, get_or, Option, Some, None, refl, ap, sym, ◌∙◌, subst, arith, decimal, codes}
+use Rattle.std.proofs.Common.{◌≡◌, ℕ, ◌<◌, Bool, true, false, ◌||◌, ◌==◌, nat_le, List, [], ◌∷◌, length, refl, ap, ◌∙◌, arith}
 use Rattle.std.proofs.lemmas.Bool.Decides.{nat_tests}
 use Rattle.std.proofs.lemmas.List.Sums.{AllPass-from_list_all}
 use Rattle.std.proofs.lemmas.List.Splits.{slice_split_at, slice_split_none}
 use Rattle.std.specs.List.{list_all, list_any, slice_split, join_with_byte, All}
 use Rattle.std.specs.Str.{bytes_eq}
-use Rattle.ds_model.specs.declared.lock.Name.{Name}
-use Rattle.ds_model.specs.declared.lock.Name.TheVariants as lock
-use Rattle.ds_model.specs.declared.report.ToldRefusal.{ToldRefusal}
-use Rattle.ds_model.specs.declared.report.ToldRefusal.TheVariants as refusal
-use Rattle.report_line.specs.declared.line.ReportLine.{ReportLine}
-use Rattle.report_line.specs.declared.line.ReportLine.TheVariants as lines
-use Rattle.report_line.specs.Lines.{is_blank, is_between, is_name_byte, is_name, is_value, is_member, is_table, has_bits, command_words, reply_words, is_command, is_reply, is_told_value, is_lock, are_names, is_refusal, is_who, is_line}
-use Rattle.report_line.specs.Bodies.{member_word, answered_word, told_value_word, lock_words, refusal_words, line_words, line_body}
+use Rattle.report_line.specs.Lines.{is_blank, is_between, is_name_byte, is_name, is_value, command_words, reply_words, is_command, is_reply}
 use Rattle.report_line.specs.Reading.{words_of}
 use Rattle.report_line.proofs.Tests.{and_left, and_right, and_true}
-use Rattle.report_line.proofs.Numbers.{is_plain_byte, is_plain, plain_append, decimal_digits}
+use Rattle.report_line.proofs.Numbers.{is_plain_byte, is_plain}
 
 abbrev pub are_plain : List (List ℕ) → Bool
 are_plain words = list_all is_plain words

@@ -1,7 +1,7 @@
 -- What the words of a line say is the line.
-use Rattle.std.proofs.Common.{◌≡◌, ℕ, ◌+◌, ◌-◌, ◌^◌, ◌<◌, ◌≤◌, Bool, true, false, ◌&&◌, ◌==◌, nat_lt, nat_le, if◌then◌else◌, List, [], ◌∷◌, ◌++◌, length, drop, Option, Some, None, refl, ap, sym, ◌∙◌, subst, arith, decimal, codes}
+use Rattle.std.proofs.Common.{◌≡◌, ℕ, ◌-◌, ◌^◌, ◌<◌, Bool, true, false, ◌&&◌, ◌==◌, nat_le, List, [], ◌∷◌, ◌++◌, length, drop, Option, Some, None, refl, ap, sym, ◌∙◌, subst, arith, decimal, codes}
 use Rattle.std.proofs.lemmas.Bool.Decides.{nat_tests}
-use Rattle.std.specs.List.{list_all, slice_index_or, join_with_byte}
+use Rattle.std.specs.List.{slice_index_or}
 use Rattle.std.specs.Str.{bytes_eq}
 use Rattle.ds_model.specs.declared.lock.Name.{Name}
 use Rattle.ds_model.specs.declared.lock.Name.TheVariants as lock
@@ -10,9 +10,9 @@ use Rattle.ds_model.specs.declared.report.ToldRefusal.TheVariants as refusal
 use Rattle.ds_model.specs.ScriptText.{line}
 use Rattle.report_line.specs.declared.line.ReportLine.{ReportLine}
 use Rattle.report_line.specs.declared.line.ReportLine.TheVariants as lines
-use Rattle.report_line.specs.Lines.{is_between, is_name, is_value, is_member, is_table, has_bits, is_command, is_reply, is_told_value, is_lock, is_refusal, is_who, is_line, line_text}
-use Rattle.report_line.specs.Bodies.{member_word, answered_word, told_value_word, lock_words, refusal_words, line_words, line_body}
-use Rattle.report_line.specs.Reading.{words_of, word, number, number_at, member_at, by_place, lock_said, refusal_said, line_said, later_said, kept, is_spelled, line_in}
+use Rattle.report_line.specs.Lines.{is_between, is_name, is_value, is_member, is_table, has_bits, is_command, is_reply, is_told_value, is_lock, is_refusal, is_who, is_line}
+use Rattle.report_line.specs.Bodies.{member_word, lock_words, refusal_words, line_words, line_body}
+use Rattle.report_line.specs.Reading.{words_of, word, number, number_at, member_at, by_place, lock_said, refusal_said, line_said, kept, is_spelled, line_in}
 use Rattle.report_line.proofs.Tests.{and_left, and_right, and_true}
 use Rattle.report_line.proofs.Numbers.{number_again}
 use Rattle.report_line.proofs.Plain.{words_again}

@@ -1,5 +1,5 @@
 -- The words of a line that may stand in a report are plain.
-use Rattle.std.proofs.Common.{◌≡◌, ℕ, ◌+◌, ◌-◌, ◌^◌, ◌<◌, ◌≤◌, Bool, true, false, not, ◌&&◌, ◌==◌, nat_lt, nat_le, List, [], ◌∷◌, ◌++◌, length, Option, Some, None, refl, ap, sym, ◌∙◌, arith, decimal, codes}
+use Rattle.std.proofs.Common.{◌≡◌, ℕ, ◌-◌, ◌^◌, ◌<◌, ◌≤◌, Bool, true, false, not, ◌&&◌, ◌==◌, nat_lt, nat_le, List, [], ◌∷◌, ◌++◌, length, Option, Some, None, refl, ap, arith, decimal, codes}
 use Rattle.std.proofs.lemmas.Bool.Decides.{nat_tests}
 use Rattle.std.specs.List.{list_all, join_with_byte}
 use Rattle.ds_model.specs.declared.lock.Name.{Name}
@@ -8,7 +8,7 @@ use Rattle.ds_model.specs.declared.report.ToldRefusal.{ToldRefusal}
 use Rattle.ds_model.specs.declared.report.ToldRefusal.TheVariants as refusal
 use Rattle.report_line.specs.declared.line.ReportLine.{ReportLine}
 use Rattle.report_line.specs.declared.line.ReportLine.TheVariants as lines
-use Rattle.report_line.specs.Lines.{is_between, is_name, is_value, is_member, is_table, has_bits, is_command, is_reply, is_told_value, is_lock, are_names, is_refusal, is_who, is_line}
+use Rattle.report_line.specs.Lines.{is_between, is_name, is_value, is_member, is_table, has_bits, is_command, is_reply, is_told_value, is_lock, is_refusal, is_who, is_line}
 use Rattle.report_line.specs.Bodies.{member_word, answered_word, told_value_word, lock_words, refusal_words, line_words, line_body, is_inner_byte}
 use Rattle.report_line.proofs.Tests.{and_left, and_right, and_true}
 use Rattle.report_line.proofs.Numbers.{is_plain_byte, is_plain, decimal_digits}

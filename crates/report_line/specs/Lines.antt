@@ -1,5 +1,5 @@
 -- What a line of a report may hold, and its spelling.
-use Rattle.std.specs.Prelude.{ℕ, ◌==◌, ◌-◌, ◌^◌, Bool, true, ◌&&◌, ◌||◌, nat_lt, nat_le, List, [], ◌∷◌, ◌++◌, length, Option, Some, None, codes, decimal}
+use Rattle.std.specs.Prelude.{ℕ, ◌==◌, ◌-◌, ◌^◌, Bool, true, ◌&&◌, ◌||◌, nat_lt, nat_le, List, ◌++◌, length, Option, Some, None, codes, decimal}
 use Rattle.std.specs.List.{list_all, list_any, slice_split}
 use Rattle.std.specs.Str.{bytes_eq}
 use Rattle.ds_model.specs.declared.lock.Name.{Name}

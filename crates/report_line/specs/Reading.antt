@@ -1,5 +1,5 @@
 -- What a line of text says.
-use Rattle.std.specs.Prelude.{ℕ, Bool, ◌&&◌, ◌||◌, if◌then◌else◌, List, [], ◌∷◌, ◌++◌, drop, Option, Some, None, codes}
+use Rattle.std.specs.Prelude.{ℕ, Bool, ◌&&◌, ◌||◌, if◌then◌else◌, List, [], drop, Option, Some, None, codes}
 use Rattle.std.specs.Option.{unwrap_or}
 use Rattle.std.specs.List.{slice_index_or, slice_split}
 use Rattle.std.specs.Str.{bytes_eq}

@@ -16,8 +16,8 @@ mod words;
 pub use laws::line_laws;
 pub use line::ReportLine;
 pub use read::read_line;
-pub use words::cut;
 pub use spell::{
     put_cause, put_committed, put_count, put_event, put_get, put_line, put_refused, put_row,
     put_scan, put_stopped,
 };
+pub use words::cut;

@@ -68,7 +68,7 @@ causes_run (c ∷ cs) s es front t =
       to = later.to;
       fits = later.fits;
       ran = first (lines.Cause c) (map lines.Cause cs) (draft_at s (so es front [] [])) (draft_at stage.Causes (so es (front ++ c ∷ []) [] [])) (draft_at later.to (so es ((front ++ c ∷ []) ++ cs) [] [])) (step_cause s (so es front [] []) c t) later.ran
-        ∙ ap (λ (all : List CauseLine). Some (draft_at later.to (so es all [] []))) (append_assoc front (c ∷ []) cs);
+          ∙ ap (λ (all : List CauseLine). Some (draft_at later.to (so es all [] []))) (append_assoc front (c ∷ []) cs);
     }
 
 events_run : (vs : List EventLine) (s : Stage) (es : List ReportEntry) (cs : List CauseLine) (front : List EventLine) → takes_events s ≡ true → are_counted (length front + 1) vs ≡ true → Ran takes_events (draft_at s (so es cs front [])) (map lines.Event vs) (so es cs (front ++ vs) [])
@@ -82,7 +82,7 @@ events_run (v ∷ vs) s es cs front t h =
       to = later.to;
       fits = later.fits;
       ran = first (lines.Event v) (map lines.Event vs) (draft_at s (so es cs front [])) (draft_at stage.Events (so es cs (front ++ v ∷ []) [])) (draft_at later.to (so es cs ((front ++ v ∷ []) ++ vs) [])) (step_event s (so es cs front []) v takes) later.ran
-        ∙ ap (λ (all : List EventLine). Some (draft_at later.to (so es cs all []))) (append_assoc front (v ∷ []) vs);
+          ∙ ap (λ (all : List EventLine). Some (draft_at later.to (so es cs all []))) (append_assoc front (v ∷ []) vs);
     }
 
 -- ---- the rows

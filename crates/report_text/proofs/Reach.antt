@@ -65,7 +65,7 @@ over n s so_far r l text rest go (Some d) g spell is all e on =
     let later = on d g.good (subst (λ (ls : List ReportLine). list_all is_line ls ≡ true) (sym g.more) (all_push is_line (lines_at s so_far) l all is)) e in
     let front = flat_map line_text (lines_at s so_far) in
     let joined : flat_map line_text (lines_at d.stage d.report) ≡ front ++ ((text ++ 10 ∷ []) ++ []) =
-        ap (λ (ls : List ReportLine). flat_map line_text ls) g.more ∙ flat_map-append line_text (lines_at s so_far) (l ∷ []) ∙ ap (λ (t : List ℕ). front ++ (t ++ [])) spell in
+    ap (λ (ls : List ReportLine). flat_map line_text ls) g.more ∙ flat_map-append line_text (lines_at s so_far) (l ∷ []) ∙ ap (λ (t : List ℕ). front ++ (t ++ [])) spell in
     (regroup front text rest ∙ ap (λ (t : List ℕ). t ++ rest) (sym joined) ∙ later.0, later.1)
 
 through : (n : ℕ) (s : Stage) (so_far r : Report) (text rest : List ℕ) (go : Draft → Result Report ℕ) (found : Option ReportLine) → line_in text ≡ found
@@ -107,9 +107,10 @@ closed n s so_far r last g all e =
     let same = ok_is ((length last == 0) && is_done s) n so_far r e in
     let done = done_lines s so_far (and_right (length last == 0) (is_done s) both) in
     let empty = nothing last (and_left (length last == 0) (is_done s) both) in
-    let front = flat_map line_text (lines_at s so_far) in
-    (ap (λ (t : List ℕ). front ++ t) empty ∙ append_nil front ∙ ap (λ (ls : List ReportLine). flat_map line_text ls) done ∙ spelled so_far ∙ ap report_text same,
-     subst (λ (q : Report). is_report q ≡ true) same (whole_report so_far g.base (subst (λ (ls : List ReportLine). list_all is_line ls ≡ true) done all)))
+    let front = flat_map line_text (lines_at s so_far) in (
+      ap (λ (t : List ℕ). front ++ t) empty ∙ append_nil front ∙ ap (λ (ls : List ReportLine). flat_map line_text ls) done ∙ spelled so_far ∙ ap report_text same,
+      subst (λ (q : Report). is_report q ≡ true) same (whole_report so_far g.base (subst (λ (ls : List ReportLine). list_all is_line ls ≡ true) done all)),
+    )
 
 reaches : (parts : List (List ℕ)) (n : ℕ) (s : Stage) (so_far r : Report) → Good s so_far → list_all is_line (lines_at s so_far) ≡ true → report_from n (draft_at s so_far) parts ≡ Ok r → Read r s so_far (join_with_byte 10 parts)
 reaches [] n s so_far r g all e = cc

@@ -158,7 +158,7 @@ reads_run [] reads front name member h = ap (λ (all : List ToldRead). Some (dra
 reads_run (x ∷ xs) reads front name member h =
     let r = so (front ++ answered name member reads ∷ []) [] [] [] in
     let one = read_runs r x (and_left (is_whole_read x) (list_all is_whole_read xs) h)
-      ∙ ap (λ (es : List ReportEntry). Some (draft_at stage.Reads (so es [] [] []))) (last_with_push front (answered name member reads) x) in
+    ∙ ap (λ (es : List ReportEntry). Some (draft_at stage.Reads (so es [] [] []))) (last_with_push front (answered name member reads) x) in
     let rest = reads_run xs (reads ++ x ∷ []) front name member (and_right (is_whole_read x) (list_all is_whole_read xs) h) in
     joined (read_lines x) (flat_map read_lines xs) (draft_at stage.Reads r) (draft_at stage.Reads (so (front ++ answered name member (reads ++ x ∷ []) ∷ []) [] [] [])) (draft_at stage.Reads (so (front ++ answered name member ((reads ++ x ∷ []) ++ xs) ∷ []) [] [] [])) one rest
     ∙ ap (λ (all : List ToldRead). Some (draft_at stage.Reads (so (front ++ answered name member all ∷ []) [] [] []))) (append_assoc reads (x ∷ []) xs)
@@ -175,7 +175,7 @@ one_more d here front e es ls now later = record {
   to = later.to;
   fits = later.fits;
   ran = joined ls (flat_map entry_lines es) d (draft_at here (so (front ++ e ∷ []) [] [] [])) (draft_at later.to (so ((front ++ e ∷ []) ++ es) [] [] [])) now later.ran
-    ∙ ap (λ (all : List ReportEntry). Some (draft_at later.to (so all [] [] []))) (append_assoc front (e ∷ []) es);
+      ∙ ap (λ (all : List ReportEntry). Some (draft_at later.to (so all [] [] []))) (append_assoc front (e ∷ []) es);
 }
 
 lone : (name : List ℕ) (member : ℕ) (t : Told) → is_committed t ≡ false → (l : ReportLine) × (told_lines name member t ≡ l ∷ [])

@@ -232,7 +232,7 @@ scanning_by true r table low high count rows e b k =
     record {
       good = with_read_good r (read.Scan table low high rows) b k.answered (and_both (list_all (λ (row : Row). row.table == table) rows) (is_rising rows) k.of k.rises);
       is = head_read r (read.Scan table low high rows) k.answered.fresh.causes k.answered.fresh.events k.answered.ends
-        ∙ ap (λ (n : ℕ). head_lines r ++ (lines.Scan table low high n ∷ map scanned_line rows)) (same_number (length rows) count e);
+          ∙ ap (λ (n : ℕ). head_lines r ++ (lines.Scan table low high n ∷ map scanned_line rows)) (same_number (length rows) count e);
     }
 scanning_by false r table low high count rows e b k = record { good = record { base = b; extra = k }; is = refl }
 
@@ -251,7 +251,7 @@ grows_scanned r table low high count rows row g =
     record {
       good = s.good;
       more = s.is ∙ ap (λ (rest : List ReportLine). head_lines r ++ (lines.Scan table low high count ∷ rest)) (map-append scanned_line rows (row ∷ []))
-        ∙ sym (append_assoc (head_lines r) (lines.Scan table low high count ∷ map scanned_line rows) (scanned_line row ∷ []));
+          ∙ sym (append_assoc (head_lines r) (lines.Scan table low high count ∷ map scanned_line rows) (scanned_line row ∷ []));
     })
 
 grows_read : (s : Stage) (r : Report) (table key : ℕ) (value : Option (List ℕ)) → Good s r → Grows s r (lines.Read table key value) (read_at r s table key value)
@@ -306,7 +306,7 @@ grows_end : (s : Stage) (r : Report) (status : ℕ) → Good s r → Grows s r (
 grows_end (stage.Rows count) r status g = grows_if (stage.Rows count) r (lines.End status) (length r.rows == count) (draft_at stage.Done (record r { status = status })) (λ t. record {
   good = record { base = record { whole = g.base.whole; first = g.base.first; counted = g.base.counted; rising = g.base.rising }; extra = tt };
   more = ap (λ (n : ℕ). head_lines r ++ (lines.Rows n ∷ (map lines.Row r.rows ++ lines.End status ∷ []))) (same_number (length r.rows) count t)
-    ∙ sym (append_assoc (head_lines r) (lines.Rows count ∷ map lines.Row r.rows) (lines.End status ∷ []));
+      ∙ sym (append_assoc (head_lines r) (lines.Rows count ∷ map lines.Row r.rows) (lines.End status ∷ []));
 })
 grows_end s r status g = tt
 

@@ -36,7 +36,9 @@ pub enum Stage {
     /// An event.
     Events,
     /// The count of the rows.
-    Rows { count: u64 },
+    Rows {
+        count: u64,
+    },
     /// The whole report.
     Done,
 }
@@ -284,12 +286,7 @@ impl Draft {
         Ok(Some(self.with_entry(Stage::Others, entry)?))
     }
 
-    fn read(
-        self,
-        table: TableId,
-        key: Key,
-        value: Option<Value>,
-    ) -> Result<Option<Draft>, NoMemory>
+    fn read(self, table: TableId, key: Key, value: Option<Value>) -> Result<Option<Draft>, NoMemory>
         ensures { IfOk result (λ found. found ≡ spec.read_at self.report self.stage table key value) }
     {
         let Draft { stage, report } = self;

@@ -231,11 +231,11 @@ end 0
 ";
 
 // The line that is refused, or 0 where the text is read and written back the same.
-fn refused_line(alloc: Global, text: &str) -> Result<u32, Fail> {
-    match read_report(alloc, text.as_bytes()) {
+fn refused_line(alloc: Global, text: &[u8]) -> Result<u32, Fail> {
+    match read_report(alloc, text) {
         Ok(report) => {
             let again = write_report(alloc, &report)?;
-            if again.as_slice() == text.as_bytes() {
+            if again.as_slice() == text {
                 Ok(0)
             } else {
                 Ok(u32::MAX)
@@ -249,51 +249,64 @@ fn refused_line(alloc: Global, text: &str) -> Result<u32, Fail> {
 #[test]
 fn what_was_written_is_read(rt: HostRuntime) -> Result<(), Fail> {
     let alloc = rt.alloc();
-    assert_eq!(rt; refused_line(alloc, WHOLE)?, 0);
-    assert_eq!(rt; refused_line(alloc, TWO)?, 0);
-    assert_eq!(rt; refused_line(alloc, "dsgroup 1\nrows 0\nend 255\n")?, 0);
+    assert_eq!(rt; refused_line(alloc, WHOLE.as_bytes())?, 0);
+    assert_eq!(rt; refused_line(alloc, TWO.as_bytes())?, 0);
+    assert_eq!(rt;
+        refused_line(alloc, "dsgroup 1\nrows 0\nend 255\n".as_bytes())?,
+        0
+    );
     Ok(())
 }
 
-// Texts with the line that may not stand where it does.
-const FAULTY: [(&str, u32); 30] = [
-    ("", 1),
-    ("dsgroup 1", 1),
-    ("dsgroup 2\nrows 0\nend 0\n", 1),
-    ("dsgroup 1\n", 2),
-    ("dsgroup 1\nrows 0\n", 3),
-    ("dsgroup 1\nrows 0\nend 0", 3),
-    ("dsgroup 1\nrows 0\nend 0\n\n", 4),
-    ("dsgroup 1\nrows 0\nend 0\nx", 4),
-    ("dsgroup 1\nrows 0\nend 256\n", 3),
-    ("dsgroup 1\nrows 00\nend 0\n", 2),
-    ("dsgroup 1\nrows 1\nend 0\n", 3),
-    ("dsgroup 1\nrows 0\nrow 1 1 =a\nend 0\n", 3),
-    ("dsgroup 1\nrows 2\nrow 1 2 =a\nrow 1 2 =a\nend 0\n", 4),
-    ("dsgroup 1\nrows 2\nrow 2 1 =a\nrow 1 2 =a\nend 0\n", 4),
-    ("dsgroup 1\nrows 1\nrow 65 1 =a\nend 0\n", 3),
-    ("dsgroup 1\nrows 1\nrow 1 18446744073709551616 =a\nend 0\n", 3),
-    ("dsgroup 1\nrows 1\nrow 1 1 -\nend 0\n", 3),
-    ("dsgroup 1\nstopped a M1\ncommitted b M1 unanswered\nrows 0\nend 0\n", 3),
-    ("dsgroup 1\ncommitted a M33 answered\nrows 0\nend 0\n", 2),
-    ("dsgroup 1\ncommitted a  M1 answered\nrows 0\nend 0\n", 2),
-    ("dsgroup 1\ncommitted abcdefghijklmnopq M1 answered\nrows 0\nend 0\n", 2),
-    ("dsgroup 1\ncommitted a M1 unanswered\nread 1 1 -\nrows 0\nend 0\n", 3),
-    ("dsgroup 1\ncommitted a M1 answered\nscan 1 0 9 1\nread 2 1 =a\nrows 0\nend 0\n", 4),
-    ("dsgroup 1\ncommitted a M1 answered\nscan 1 0 9 2\nread 1 1 =a\nread 1 1 =a\nrows 0\nend 0\n", 5),
-    ("dsgroup 1\ncommitted a M1 answered\nscan 1 0 9 1\nrows 0\nend 0\n", 4),
-    ("dsgroup 1\nrefused a M1 deadlock\nrows 0\nend 0\n", 2),
-    ("dsgroup 1\nrefused a M1 held row 1 by b\nrows 0\nend 0\n", 2),
-    ("dsgroup 1\nevent 2 1 1 none none\nrows 0\nend 0\n", 2),
-    ("dsgroup 1\nevent 1 1 1 none maybe\nrows 0\nend 0\n", 2),
-    ("dsgroup 1\nevent 1 1 1 none none\ncause a 1\nrows 0\nend 0\n", 3),
-];
+// Texts with the line that may not stand where it does: the line's number, and then the text, with / for a line feed.
+const FAULTY: &str = "1 
+1 dsgroup 1
+1 dsgroup 2/rows 0/end 0/
+2 dsgroup 1/
+3 dsgroup 1/rows 0/
+3 dsgroup 1/rows 0/end 0
+4 dsgroup 1/rows 0/end 0//
+4 dsgroup 1/rows 0/end 0/x
+3 dsgroup 1/rows 0/end 256/
+2 dsgroup 1/rows 00/end 0/
+3 dsgroup 1/rows 1/end 0/
+3 dsgroup 1/rows 0/row 1 1 =a/end 0/
+4 dsgroup 1/rows 2/row 1 2 =a/row 1 2 =a/end 0/
+4 dsgroup 1/rows 2/row 2 1 =a/row 1 2 =a/end 0/
+3 dsgroup 1/rows 1/row 65 1 =a/end 0/
+3 dsgroup 1/rows 1/row 1 18446744073709551616 =a/end 0/
+3 dsgroup 1/rows 1/row 1 1 -/end 0/
+3 dsgroup 1/stopped a M1/committed b M1 unanswered/rows 0/end 0/
+2 dsgroup 1/committed a M33 answered/rows 0/end 0/
+2 dsgroup 1/committed a  M1 answered/rows 0/end 0/
+2 dsgroup 1/committed abcdefghijklmnopq M1 answered/rows 0/end 0/
+3 dsgroup 1/committed a M1 unanswered/read 1 1 -/rows 0/end 0/
+4 dsgroup 1/committed a M1 answered/scan 1 0 9 1/read 2 1 =a/rows 0/end 0/
+5 dsgroup 1/committed a M1 answered/scan 1 0 9 2/read 1 1 =a/read 1 1 =a/rows 0/end 0/
+4 dsgroup 1/committed a M1 answered/scan 1 0 9 1/rows 0/end 0/
+2 dsgroup 1/refused a M1 deadlock/rows 0/end 0/
+2 dsgroup 1/refused a M1 held row 1 by b/rows 0/end 0/
+2 dsgroup 1/event 2 1 1 none none/rows 0/end 0/
+2 dsgroup 1/event 1 1 1 none maybe/rows 0/end 0/
+3 dsgroup 1/event 1 1 1 none none/cause a 1/rows 0/end 0/";
+
+// The text with a line feed for each /.
+fn with_feeds(alloc: Global, folded: &str) -> Result<Vec<u8>, Fail> {
+    let mut text = Vec::new(alloc);
+    for byte in folded.as_bytes() {
+        text.push(if *byte == b'/' { b'\n' } else { *byte })?;
+    }
+    Ok(text)
+}
 
 #[test]
 fn the_first_bad_line_is_named(rt: HostRuntime) -> Result<(), Fail> {
     let alloc = rt.alloc();
-    for (text, line) in FAULTY {
-        assert_eq!(rt; refused_line(alloc, text)?, line);
+    for case in FAULTY.lines() {
+        let (number, folded) = case.split_once(' ').ok_or("no number")?;
+        let number = number.parse::<u32>().ok().ok_or("no number")?;
+        let text = with_feeds(alloc, folded)?;
+        assert_eq!(rt; refused_line(alloc, &text)?, number);
     }
     Ok(())
 }
@@ -302,6 +315,6 @@ fn the_first_bad_line_is_named(rt: HostRuntime) -> Result<(), Fail> {
 fn a_read_behind_the_rows_of_a_scan_is_a_get(rt: HostRuntime) -> Result<(), Fail> {
     let alloc = rt.alloc();
     let text = "dsgroup 1\ncommitted a M1 answered\nscan 1 0 9 0\nread 2 1 -\nrows 0\nend 0\n";
-    assert_eq!(rt; refused_line(alloc, text)?, 0);
+    assert_eq!(rt; refused_line(alloc, text.as_bytes())?, 0);
     Ok(())
 }

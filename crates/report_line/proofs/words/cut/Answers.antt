@@ -1,4 +1,4 @@
-use Rattle.std.proofs.Common.{◌≡◌, ◌==◌, ◌+◌, ◌-◌, ℕ, arith, sym, drop, length, length-drop}
+use Rattle.std.proofs.Common.{◌==◌, ◌+◌, ◌-◌, ℕ, arith, sym, drop, length, length-drop}
 use Rattle.std.proofs.lemmas.List.{take_all}
 use Rattle.report_line.proofs.Parts.{split_found}
 use Rattle.report_line.proofs.words.cut.Goals as goal

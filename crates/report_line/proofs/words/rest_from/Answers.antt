@@ -1,4 +1,4 @@
-use Rattle.std.proofs.Common.{◌≡◌, drop, ap, ◌∙◌, arith}
+use Rattle.std.proofs.Common.{drop, ap, ◌∙◌}
 use Rattle.std.proofs.lemmas.List.{drop-drop}
 use Rattle.report_line.specs.Reading.{words_of}
 use Rattle.report_line.proofs.words.rest_from.Goals as goal
