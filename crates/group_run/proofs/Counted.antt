@@ -1,11 +1,11 @@
 -- The transactions of a script are few and short.
-use Rattle.std.proofs.Common.{◌≡◌, ℕ, List, [], ◌∷◌, ◌++◌, map}
+use Rattle.std.proofs.Common.{ℕ, List, [], ◌∷◌, ◌++◌, map}
 use Rattle.std.specs.List.{AllByRecursion, flat_map}
 use Rattle.ds_model.specs.declared.script.Tran.{Tran}
 use Rattle.ds_model.specs.declared.script.Part.{Part}
 use Rattle.ds_model.specs.declared.script.Phase.{Phase}
 use Rattle.ds_model.specs.declared.script.Script.{Script}
-use Rattle.ds_model.specs.Transactions.{Placed, placed_part, placed_phase, placed}
+use Rattle.ds_model.specs.Transactions.{Placed, placed_part, placed_phase}
 use Rattle.ds_model.specs.Scripts.{IsTran, AreParts, ArePhases, IsScript, part_raises, phase_fails}
 use Rattle.ds_model.specs.Serial.{IsShortTran, IsCounted}
 

@@ -14,7 +14,7 @@ use Rattle.script_text.specs.Reading.{script_of}
 use Rattle.group_run.specs.Opening.{IsOpening, IsNoOpening}
 use Rattle.group_run.specs.Outside.{Outside}
 use Rattle.group_run.specs.Played.{Spells, IsRead}
-use Rattle.group_run.specs.Ends.{MetByPlay, MetByShow, MetBy}
+use Rattle.group_run.specs.Ends.{MetByPlay, MetByShow}
 
 -- ---- bytes and the disk alone
 

@@ -13,4 +13,3 @@ mod top;
 pub use gate::{Gate, OpenGate};
 pub use status::Status;
 pub use top::{Finished, play};
-

@@ -91,7 +91,11 @@ fn show<K: Sink>(alloc: Global, sink: &mut K) -> Result<(Status, Report), NoMemo
 fn wanting(alloc: Global, opened: bool) -> (Status, bool, Report)
     ensures { result ≡ (Status.NoMemory, opened, empty_report 6) }
 {
-    (Status::NoMemory, opened, empty_report(alloc, Status::NoMemory.number()))
+    (
+        Status::NoMemory,
+        opened,
+        empty_report(alloc, Status::NoMemory.number()),
+    )
 }
 
 // All that a call does, with the status, whether a run opened, and the report.

@@ -44,11 +44,7 @@ fn failures_of(
 ) -> Result<Vec<DiskFailure>, Fail> {
     let mut failures = Vec::new(alloc);
     if let Some((call, number, dies)) = disk {
-        failures.push(DiskFailure {
-            call,
-            number,
-            dies,
-        })?;
+        failures.push(DiskFailure { call, number, dies })?;
     }
     Ok(failures)
 }
@@ -104,56 +100,66 @@ fn all_play<R: Threads + Wait + Sync + Abort>(
 
 #[test]
 fn scripts_are_reported_as_one_thread_plays_them(rt: HostRuntime) -> Result<(), Fail> {
-    let long = "=xxxxxxxxxxxxxxxxxxxxxxxxxxxxxxxxxxxxxxxxxxxxxxxxxxxxxxxxxxxxxxxxxxxxxxxxxxxxxxxxxxxxxxxxxxxxxxxxxxxx";
+    let long =
+        "=xxxxxxxxxxxxxxxxxxxxxxxxxxxxxxxxxxxxxxxxxxxxxxxxxxxxxxxxxxxxxxxxxxxxxxxxxxxxxxxxxxxxxxxxxxxxxxxxxxxx";
     let alloc = rt.alloc();
     let put = format!(in alloc; "phase\nmember 1\ntran a\nput 1 1 {long}\nend")?;
-    let put_report =
-        format!(in alloc; "dsgroup 1\ncommitted a M1 answered\nrows 1\nrow 1 1 {long}\nend 0\n")?;
+    let put_report = format!(in alloc;
+        "dsgroup 1\ncommitted a M1 answered\nrows 1\nrow 1 1 {long}\nend 0\n"
+    )?;
     let longer = format!(in alloc; "phase\nmember 1\ntran a\nput 1 1 {long}x\nend")?;
-    all_play(&rt, alloc, &[
-        ("play", HELLO, 0, HELLO_REPORT),
-        ("play", "", 0, "dsgroup 1\nrows 0\nend 0\n"),
-        ("play", put.as_str(), 0, put_report.as_str()),
-        ("play", longer.as_str(), 2, "script refused line 4 value\n"),
-        ("play", ENDS, 0, ENDS_REPORT),
-        ("play --seed=5 --trace --members 4", ROWS, 0, ROWS_REPORT),
-        (
-            "play",
-            "phase\nmember 1\ntran a\nput 1 1 =x\nabort\nend\n",
-            0,
-            "dsgroup 1\nrefused a M1 aborted\nrows 0\nend 0\n",
-        ),
-        ("show", HELLO, 0, "dsgroup 1\nrows 0\nend 0\n"),
-    ])
+    all_play(
+        &rt,
+        alloc,
+        &[
+            ("play", HELLO, 0, HELLO_REPORT),
+            ("play", "", 0, "dsgroup 1\nrows 0\nend 0\n"),
+            ("play", put.as_str(), 0, put_report.as_str()),
+            ("play", longer.as_str(), 2, "script refused line 4 value\n"),
+            ("play", ENDS, 0, ENDS_REPORT),
+            ("play --seed=5 --trace --members 4", ROWS, 0, ROWS_REPORT),
+            (
+                "play",
+                "phase\nmember 1\ntran a\nput 1 1 =x\nabort\nend\n",
+                0,
+                "dsgroup 1\nrefused a M1 aborted\nrows 0\nend 0\n",
+            ),
+            ("show", HELLO, 0, "dsgroup 1\nrows 0\nend 0\n"),
+        ],
+    )
 }
 
 #[test]
 fn what_is_not_in_order_is_told_first(rt: HostRuntime) -> Result<(), Fail> {
     let refused = "words refused\n";
     let flags = "phase\nmember 1\ntran a\nraise 1\nend\n";
-    all_play(&rt, rt.alloc(), &[
-        ("play --members 33", HELLO, 1, refused),
-        ("play --cache 15", HELLO, 1, refused),
-        ("make", HELLO, 1, refused),
-        ("", HELLO, 1, refused),
-        ("show --members 4", HELLO, 1, refused),
-        ("play --help", HELLO, 1, refused),
-        ("make 5", HELLO, 8, "not yet\n"),
-        ("work 7", HELLO, 8, "not yet\n"),
-        ("play", flags, 8, "not yet\n"),
-        (
-            "play",
-            "phase\nmember 1\ntran a\ngett 1 1\nend\n",
-            2,
-            "script refused line 4 word\n",
-        ),
-        (
-            "play --members 2",
-            "phase\nmember 3\n",
-            2,
-            "script refused line 2 member\n",
-        ),
-    ])
+    all_play(
+        &rt,
+        rt.alloc(),
+        &[
+            ("play --members 33", HELLO, 1, refused),
+            ("play --cache 15", HELLO, 1, refused),
+            ("make", HELLO, 1, refused),
+            ("", HELLO, 1, refused),
+            ("show --members 4", HELLO, 1, refused),
+            ("play --help", HELLO, 1, refused),
+            ("make 5", HELLO, 8, "not yet\n"),
+            ("work 7", HELLO, 8, "not yet\n"),
+            ("play", flags, 8, "not yet\n"),
+            (
+                "play",
+                "phase\nmember 1\ntran a\ngett 1 1\nend\n",
+                2,
+                "script refused line 4 word\n",
+            ),
+            (
+                "play --members 2",
+                "phase\nmember 3\n",
+                2,
+                "script refused line 2 member\n",
+            ),
+        ],
+    )
 }
 
 #[test]
@@ -224,7 +230,12 @@ fn a_report_that_was_printed_is_read_back(rt: HostRuntime) -> Result<(), Fail> {
     assert_eq!(rt; report.entries.len(), 2);
     assert_eq!(rt; report.rows.len(), 2);
     assert_eq!(rt; report.status, 0);
-    assert!(rt; matches!(read_report(alloc, b"dsgroup 1\nrows 1\nend 0\n"), Err(ReportError::Bad { line: 3 })));
+    assert!(rt;
+        matches!(
+            read_report(alloc, b"dsgroup 1\nrows 1\nend 0\n"),
+            Err(ReportError::Bad { line: 3 })
+        )
+    );
     Ok(())
 }
 

@@ -45,7 +45,7 @@ unfolding total
 read_short members n before d [] s low e = omega arith
 read_short members n before d (p ∷ ps) s low e =
     behind_test (nat_lt 4194304 (before + length p)) n (λ next. read_lines members (n + 1) next (lines_behind (before + length p) ps)) (step_bytes members d (line_of p)) s e
-      (λ small next went. omega (arith, read_short members (n + 1) (before + length p) next ps s (fits 4194304 (before + length p) small) went))
+    (λ small next went. omega (arith, read_short members (n + 1) (before + length p) next ps s (fits 4194304 (before + length p) small) went))
 
 pub short : (members : ℕ) (text : List ℕ) (s : Script) → script_of members text ≡ Ok s → length text ≤ 4194304
 unfolding script_of

@@ -1,4 +1,4 @@
-use Rattle.std.proofs.Common.{◌≡◌, sym, ap, ◌∙◌, subst, Some, IfOk}
+use Rattle.std.proofs.Common.{sym, ap, ◌∙◌, subst, Some, IfOk}
 use Rattle.group_words.specs.Orders.{texts, HasMembers}
 use Rattle.group_run.specs.Outside.{outside}
 use Rattle.group_run.specs.Prepares.{IsPrepared}

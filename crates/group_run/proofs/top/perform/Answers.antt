@@ -2,7 +2,7 @@ use Rattle.std.proofs.Common.{◌≡◌, true, false, ap, refl}
 use Rattle.ds_model.specs.declared.report.Report.{Report}
 use Rattle.group_run.specs.Ends.{ordered, met_by}
 use Rattle.group_run.specs.Statuses.{short_text}
-use Rattle.group_run.proofs.Played.{counted_by, serial_by, ran_by, shown_by, not_wanting, met_by_order, no_sink_met, short_not_wanting}
+use Rattle.group_run.proofs.Played.{counted_by, serial_by, ran_by, shown_by, not_wanting, met_by_order, short_not_wanting}
 use Rattle.group_run.proofs.top.perform.Goals as goal
 
 pub run_ready-requires-clause-counted : goal.run_ready-requires-clause-counted
