@@ -53,14 +53,13 @@ fn no_line_is_behind_the_longest_text(rt: HostRuntime) -> Result<(), Fail> {
     let alloc = rt.alloc();
     let mut text = Vec::new(alloc);
     for _ in 0..65_536usize {
-        text.extend_from_slice(b"#aaaaaaaaaaaaaaaaaaaaaaaaaaaaaaaaaaaaaaaaaaaaaaaaaaaaaaaaaaaaaa\n")?;
+        text.extend_from_slice(
+            b"#aaaaaaaaaaaaaaaaaaaaaaaaaaaaaaaaaaaaaaaaaaaaaaaaaaaaaaaaaaaaaa\n",
+        )?;
     }
     assert_eq!(rt; fault_of(alloc, &text)?, None);
     text.push(b'\n')?;
-    assert_eq!(rt;
-        fault_of(alloc, &text)?,
-        fault(65_537, FaultKind::TooLong)
-    );
+    assert_eq!(rt; fault_of(alloc, &text)?, fault(65_537, FaultKind::TooLong));
     Ok(())
 }
 
