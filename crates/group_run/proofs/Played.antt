@@ -18,7 +18,10 @@ use Rattle.group_words.specs.declared.order.Order.{Order}
 use Rattle.group_words.specs.declared.order.Order.TheVariants as order
 use Rattle.ds_model.specs.Serial.{IsSerial, IsCounted}
 use Rattle.group_run.proofs.Counted.{counted}
-use Rattle.group_run.specs.Ends.{MetBy, RanByPlay, RanBy, Tells, TellsReport, met_by}
+use Rattle.group_run.specs.Ends.{MetBy, text_for, RanByPlay, RanBy, Tells, TellsReport, met_by}
+use Rattle.group_run.specs.Statuses.{short_text}
+use Rattle.ds_model.specs.ScriptText.{script_text}
+use Rattle.work_maker.specs.Made.{made}
 use Rattle.group_run.proofs.Opened.{opening_same}
 
 -- a step of an opened disk is a step of the disk before
@@ -107,14 +110,14 @@ pub counted_by : (o : Option Order) (script : Script) (before after : Outside) �
 counted_by None script before after h = let f : prepared.Play script ≡ prepared.Ended status.WordsRefused = h in cc
 counted_by (Some (order.Play sizes seed trace)) script before after h = counted sizes.members script h.read.spelled.has_rules
 counted_by (Some order.Show) script before after h = absurd h
-counted_by (Some (order.Make n)) script before after h = let f : prepared.Play script ≡ prepared.Ended status.NotYet = h in cc
+counted_by (Some (order.Make n)) script before after h = let f : prepared.Play script ≡ prepared.Make n = h in cc
 counted_by (Some (order.Work n sizes)) script before after h = let f : prepared.Play script ≡ prepared.Ended status.NotYet = h in cc
 
 pub serial_by : (o : Option Order) (script : Script) (before after : Outside) → IsPrepared o (prepared.Play script) before after → IsSerial script
 serial_by None script before after h = let f : prepared.Play script ≡ prepared.Ended status.WordsRefused = h in cc
 serial_by (Some (order.Play sizes seed trace)) script before after h = h.serial
 serial_by (Some order.Show) script before after h = absurd h
-serial_by (Some (order.Make n)) script before after h = let f : prepared.Play script ≡ prepared.Ended status.NotYet = h in cc
+serial_by (Some (order.Make n)) script before after h = let f : prepared.Play script ≡ prepared.Make n = h in cc
 serial_by (Some (order.Work n sizes)) script before after h = let f : prepared.Play script ≡ prepared.Ended status.NotYet = h in cc
 
 pub ran_by : (o : Option Order) (before mid after : Outside) (script : Script) (report : Report)
@@ -124,7 +127,7 @@ pub ran_by : (o : Option Order) (before mid after : Outside) (script : Script) (
 ran_by None before mid after script report h same le run = let f : prepared.Play script ≡ prepared.Ended status.WordsRefused = h in cc
 ran_by (Some (order.Play sizes seed trace)) before mid after script report h same le run = has_ran sizes.members before after report (is_played sizes.members before mid after script report h same le run)
 ran_by (Some order.Show) before mid after script report h same le run = absurd h
-ran_by (Some (order.Make n)) before mid after script report h same le run = let f : prepared.Play script ≡ prepared.Ended status.NotYet = h in cc
+ran_by (Some (order.Make n)) before mid after script report h same le run = let f : prepared.Play script ≡ prepared.Make n = h in cc
 ran_by (Some (order.Work n sizes)) before mid after script report h same le run = let f : prepared.Play script ≡ prepared.Ended status.NotYet = h in cc
 
 met_shown : (report : Report) → report ≡ empty_report 0 → met_by report ≡ status.Done
@@ -134,29 +137,47 @@ pub shown_by : (o : Option Order) (before after : Outside) (report : Report) →
 shown_by None before after report h e = let f : prepared.Show ≡ prepared.Ended status.WordsRefused = h in cc
 shown_by (Some (order.Play sizes seed trace)) before after report h e = absurd h
 shown_by (Some order.Show) before after report h e = (is_shown before after report h e, met_shown report e)
-shown_by (Some (order.Make n)) before after report h e = let f : prepared.Show ≡ prepared.Ended status.NotYet = h in cc
+shown_by (Some (order.Make n)) before after report h e = let f : prepared.Show ≡ prepared.Make n = h in cc
 shown_by (Some (order.Work n sizes)) before after report h e = let f : prepared.Show ≡ prepared.Ended status.NotYet = h in cc
+
+-- what was prepared is told by the text of its status, or as the script of a number
+pub told_as : (o : Option Order) (met : Status) (before after : Outside) → IsPrepared o (prepared.Ended met) before after → text_for o met ≡ short_text met
+told_as None met before after h = refl
+told_as (Some (order.Play sizes seed trace)) met before after h = refl
+told_as (Some order.Show) met before after h = refl
+told_as (Some (order.Make n)) met before after h = let f : prepared.Ended met ≡ prepared.Make n = h in cc
+told_as (Some (order.Work n sizes)) met before after h = refl
+
+same_number : (n k : ℕ) → prepared.Make n ≡ prepared.Make k → n ≡ k
+same_number n k e = cc
+
+pub made_by : (o : Option Order) (n : ℕ) (before after : Outside) → IsPrepared o (prepared.Make n) before after → MetBy o status.Done before after × (text_for o status.Done ≡ script_text (made n))
+made_by None n before after h = let f : prepared.Make n ≡ prepared.Ended status.WordsRefused = h in cc
+made_by (Some (order.Play sizes seed trace)) n before after h = absurd h
+made_by (Some order.Show) n before after h = absurd h
+made_by (Some (order.Make k)) n before after h = (refl, ap (λ i. script_text (made i)) (sym (same_number n k h)))
+made_by (Some (order.Work k sizes)) n before after h = let f : prepared.Make n ≡ prepared.Ended status.NotYet = h in cc
 
 -- before a run opened, what was prepared has met its status
 pub met_by_order : (o : Option Order) (met : Status) (before after : Outside) → IsPrepared o (prepared.Ended met) before after → MetBy o met before after
 met_by_order None met before after h = cc
 met_by_order (Some (order.Play sizes seed trace)) met before after h = h
 met_by_order (Some order.Show) met before after h = h
-met_by_order (Some (order.Make n)) met before after h = cc
+met_by_order (Some (order.Make n)) met before after h = let f : prepared.Ended met ≡ prepared.Make n = h in cc
 met_by_order (Some (order.Work n sizes)) met before after h = cc
 
 meets_no_want : (o : Option Order) (before after : Outside) → MetBy o status.NoMemory before after → ⊥
 meets_no_want None before after h = let f : status.NoMemory ≡ status.WordsRefused = h in cc
 meets_no_want (Some (order.Play sizes seed trace)) before after h = h
 meets_no_want (Some order.Show) before after h = h
-meets_no_want (Some (order.Make n)) before after h = let f : status.NoMemory ≡ status.NotYet = h in cc
+meets_no_want (Some (order.Make n)) before after h = let f : status.NoMemory ≡ status.Done = h in cc
 meets_no_want (Some (order.Work n sizes)) before after h = let f : status.NoMemory ≡ status.NotYet = h in cc
 
 meets_no_sink : (o : Option Order) (before after : Outside) → MetBy o status.SinkFailed before after → ⊥
 meets_no_sink None before after h = let f : status.SinkFailed ≡ status.WordsRefused = h in cc
 meets_no_sink (Some (order.Play sizes seed trace)) before after h = h
 meets_no_sink (Some order.Show) before after h = h
-meets_no_sink (Some (order.Make n)) before after h = let f : status.SinkFailed ≡ status.NotYet = h in cc
+meets_no_sink (Some (order.Make n)) before after h = let f : status.SinkFailed ≡ status.Done = h in cc
 meets_no_sink (Some (order.Work n sizes)) before after h = let f : status.SinkFailed ≡ status.NotYet = h in cc
 
 pub no_sink_met : (o : Option Order) (met : Status) (before after : Outside) → MetBy o met before after → met ≡ status.SinkFailed → ⊥

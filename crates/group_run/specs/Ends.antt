@@ -7,7 +7,9 @@ use Rattle.ds_disk.specs.Contents.{Becomes}
 use Rattle.ds_model.specs.declared.script.Script.{Script}
 use Rattle.ds_model.specs.declared.script.ScriptFault.{ScriptFault}
 use Rattle.ds_model.specs.declared.report.Report.{Report}
+use Rattle.ds_model.specs.ScriptText.{script_text}
 use Rattle.ds_model.specs.ReportText.{report_text}
+use Rattle.work_maker.specs.Made.{made}
 use Rattle.ds_model.specs.Serial.{IsSerial}
 use Rattle.script_text.specs.Reading.{script_of}
 use Rattle.group_words.specs.declared.order.Order.{Order}
@@ -59,8 +61,16 @@ abbrev pub MetBy : Option Order → Status → Outside → Outside → Type 0
 MetBy None met before after = met ≡ status.WordsRefused
 MetBy (Some (order.Play sizes seed trace)) met before after = MetByPlay sizes.members met before after
 MetBy (Some order.Show) met before after = MetByShow met before after
-MetBy (Some (order.Make n)) met before after = met ≡ status.NotYet
+MetBy (Some (order.Make n)) met before after = met ≡ status.Done
 MetBy (Some (order.Work n sizes)) met before after = met ≡ status.NotYet
+
+-- what is written where no run opened: the script of a number, or the text of the status
+abbrev pub text_for : Option Order → Status → List ℕ
+text_for None met = short_text met
+text_for (Some (order.Play sizes seed trace)) met = short_text met
+text_for (Some order.Show) met = short_text met
+text_for (Some (order.Make n)) met = script_text (made n)
+text_for (Some (order.Work n sizes)) met = short_text met
 
 -- ---- what holds where a run has opened and ended with a status
 
@@ -98,7 +108,7 @@ TellsReport ended report taken taken_now faults faults_now = Tells (met_by repor
 -- before a run opened: a status was met, and its text was told
 abbrev pub EndsShort : Option Order → Outside → Outside → Status → Option (List ℕ) → Option (List ℕ) → ℕ → ℕ → Type 0
 EndsShort o before after ended taken taken_now faults faults_now =
-    (met : Status) × MetBy o met before after × Tells met ended (short_text met) taken taken_now faults faults_now
+    (met : Status) × MetBy o met before after × Tells met ended (text_for o met) taken taken_now faults faults_now
 
 -- a run ended with a status, and its report was told
 abbrev pub EndsLong : Option Order → Outside → Outside → Status → Report → Option (List ℕ) → Option (List ℕ) → ℕ → ℕ → Type 0

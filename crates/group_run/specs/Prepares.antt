@@ -22,6 +22,7 @@ use Rattle.group_run.specs.Ends.{MetByPlay, MetByShow}
 abbrev pub OpensToPlay : ℕ → Prepared → List ℕ → Bool → Option Contents → Option Contents → ℕ → ℕ → Type 0
 OpensToPlay members (prepared.Play script) bytes alive before after faults faults_now = Spells members bytes script × IsSerial script × Becomes before after IsOpening × (alive ≡ true)
 OpensToPlay members prepared.Show bytes alive before after faults faults_now = ⊥
+OpensToPlay members (prepared.Make n) bytes alive before after faults faults_now = ⊥
 OpensToPlay members (prepared.Ended status.Done) bytes alive before after faults faults_now = ⊥
 OpensToPlay members (prepared.Ended status.WordsRefused) bytes alive before after faults faults_now = ⊥
 OpensToPlay members (prepared.Ended (status.ScriptRefused fault)) bytes alive before after faults faults_now = script_of members bytes ≡ Err fault
@@ -48,11 +49,13 @@ pub record IsReady (members : ℕ) (before after : Outside) (script : Script) : 
 abbrev pub IsPreparedToPlay : ℕ → Prepared → Outside → Outside → Type 0
 IsPreparedToPlay members (prepared.Play script) before after = IsReady members before after script
 IsPreparedToPlay members prepared.Show before after = ⊥
+IsPreparedToPlay members (prepared.Make n) before after = ⊥
 IsPreparedToPlay members (prepared.Ended met) before after = MetByPlay members met before after
 
 abbrev pub IsPreparedToShow : Prepared → Outside → Outside → Type 0
 IsPreparedToShow (prepared.Play script) before after = ⊥
 IsPreparedToShow prepared.Show before after = IsOpened before after
+IsPreparedToShow (prepared.Make n) before after = ⊥
 IsPreparedToShow (prepared.Ended met) before after = MetByShow met before after
 
 abbrev pub IsEndedAs : Status → Prepared → Type 0
@@ -62,5 +65,5 @@ abbrev pub IsPrepared : Option Order → Prepared → Outside → Outside → Ty
 IsPrepared None p before after = IsEndedAs status.WordsRefused p
 IsPrepared (Some (order.Play sizes seed trace)) p before after = IsPreparedToPlay sizes.members p before after
 IsPrepared (Some order.Show) p before after = IsPreparedToShow p before after
-IsPrepared (Some (order.Make n)) p before after = IsEndedAs status.NotYet p
+IsPrepared (Some (order.Make n)) p before after = p ≡ prepared.Make n
 IsPrepared (Some (order.Work n sizes)) p before after = IsEndedAs status.NotYet p

@@ -21,6 +21,8 @@ use std::alloc::Global;
 pub enum Prepared {
     Play(Script),
     Show,
+    /// The script of this number is to be written.
+    Make(u64),
     Ended(Status),
 }
 
@@ -105,6 +107,7 @@ pub fn prepare<S: Source, D: Disk>(
         Err(WordsFault::Refused) => Ok(Prepared::Ended(Status::WordsRefused)),
         Ok(Order::Play { sizes, .. }) => prepare_to_play(alloc, source, disk, sizes.members),
         Ok(Order::Show) => prepare_to_show(disk),
-        Ok(Order::Make { .. } | Order::Work { .. }) => Ok(Prepared::Ended(Status::NotYet)),
+        Ok(Order::Make { n }) => Ok(Prepared::Make(n)),
+        Ok(Order::Work { .. }) => Ok(Prepared::Ended(Status::NotYet)),
     }
 }

@@ -2,6 +2,8 @@ ghost use Rattle.std.specs.Prelude.{◌≡◌, ◌≤◌, true, [], IfOk, OnErr}
 ghost use Rattle.group_run.specs.Outside.{outside};
 ghost use Rattle.group_run.specs.Statuses.{short_text};
 ghost use Rattle.group_run.specs.Ends.{ordered, Tells, TellsReport, Ends};
+ghost use Rattle.ds_model.specs.ScriptText.{script_text};
+ghost use Rattle.work_maker.specs.Made.{made};
 ghost use Rattle.group_run.specs.Reports.{HasRun, empty_report};
 ghost use Rattle.ds_model.specs.Serial.{IsSerial, IsCounted};
 
@@ -14,9 +16,11 @@ use ds_base::{NoMemory, RowList, Sequence, Sink, Source};
 use ds_disk::Disk;
 use ds_model::{Report, Script};
 use report_text::write_report;
+use script_text::script_bytes;
 use std::alloc::Global;
 use std::sync::Wait;
 use std::thread::Threads;
+use work_maker::make_script;
 
 /// What a call leaves.
 ///
@@ -87,6 +91,16 @@ fn show<K: Sink>(alloc: Global, sink: &mut K) -> Result<(Status, Report), NoMemo
     Ok((tell(sink, Status::Done, text.as_slice()), report))
 }
 
+// Writes the script of a number.
+fn make<K: Sink>(alloc: Global, sink: &mut K, n: u64) -> Result<Status, NoMemory>
+    ensures told { IfOk result (λ status. Tells Status.Done status (script_text (made n)) (K.taken sink.old) (K.taken sink.new) (K.faults sink.old) (K.faults sink.new)) }
+    ensures err { OnErr result (K.taken sink.new ≡ K.taken sink.old) }
+{
+    let script = make_script(alloc, n)?;
+    let text = script_bytes(alloc, &script)?;
+    Ok(tell(sink, Status::Done, text.as_slice()))
+}
+
 // What is left where memory was wanting.
 fn wanting(alloc: Global, opened: bool) -> (Status, bool, Report)
     ensures { result ≡ (Status.NoMemory, opened, empty_report 6) }
@@ -118,6 +132,10 @@ fn perform<S: Source, K: Sink, D: Disk>(
             Err(NoMemory) => wanting(alloc, false),
             Ok(status) => (status, false, empty_report(alloc, status.number())),
         },
+        Ok(Prepared::Make(n)) => match make(alloc, sink, n) {
+            Err(NoMemory) => wanting(alloc, false),
+            Ok(status) => (status, false, empty_report(alloc, status.number())),
+        },
         Ok(Prepared::Show) => match show(alloc, sink) {
             Err(NoMemory) => wanting(alloc, true),
             Ok((status, report)) => (status, true, report),
@@ -130,7 +148,7 @@ fn perform<S: Source, K: Sink, D: Disk>(
 }
 
 /// Does what the words order: plays the script of the source on the disk, or shows the disk, and writes the
-/// report to the sink.
+/// report to the sink; or writes the script of a number.
 ///
 /// The words are the command line without the program's name. For a script the source is read to its end, or to
 /// the first byte past the longest script; then the logs are looked at; then the script is run. The sink gets the

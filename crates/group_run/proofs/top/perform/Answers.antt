@@ -1,8 +1,9 @@
-use Rattle.std.proofs.Common.{◌≡◌, true, false, ap, refl}
+use Rattle.std.proofs.Common.{◌≡◌, ℕ, List, true, false, sym, ap, subst, refl}
 use Rattle.ds_model.specs.declared.report.Report.{Report}
-use Rattle.group_run.specs.Ends.{ordered, met_by}
+use Rattle.group_run.specs.Ends.{Tells, ordered, met_by}
+use Rattle.group_run.specs.declared.status.Status.TheVariants as status
 use Rattle.group_run.specs.Statuses.{short_text}
-use Rattle.group_run.proofs.Played.{counted_by, serial_by, ran_by, shown_by, not_wanting, met_by_order, short_not_wanting}
+use Rattle.group_run.proofs.Played.{counted_by, serial_by, ran_by, shown_by, not_wanting, made_by, met_by_order, told_as, short_not_wanting}
 use Rattle.group_run.proofs.top.perform.Goals as goal
 
 pub run_ready-requires-clause-counted : goal.run_ready-requires-clause-counted
@@ -41,13 +42,29 @@ returns-in-Ok-run_ready g c =
 
 pub returns-in-Ok : goal.returns-in-Ok
 returns-in-Ok g c =
-    let met = met_by_order (ordered c.args.words.now) c.in-Ok-Ended.met _ _ (rw c.in-Ok-Ended.field-0-is at c.in-Ok-Ended.ensures.prepared) in
-    let told = c.in-Ok.ensures.told in
+    let order = ordered c.args.words.now in
+    let prepared = rw c.in-Ok-Ended.field-0-is at c.in-Ok-Ended.ensures.prepared in
+    let met = met_by_order order c.in-Ok-Ended.met _ _ prepared in
+    let told = subst (λ (text : List ℕ). Tells c.in-Ok-Ended.met c.in-Ok.status text (g.K.Sink.taken c.args.sink.now) (g.K.Sink.taken c.tell_short.new.sink) (g.K.Sink.faults c.args.sink.now) (g.K.Sink.faults c.tell_short.new.sink)) (sym (told_as order c.in-Ok-Ended.met _ _ prepared)) c.in-Ok.ensures.told in
     record {
       long = λ e. let f : false ≡ true = e in cc;
       short = λ e not. (c.in-Ok-Ended.met, met, told);
-      wanting = λ e. absurd (short_not_wanting (ordered c.args.words.now) c.in-Ok-Ended.met c.in-Ok.status _ _ (short_text c.in-Ok-Ended.met) _ _ _ _ met told e);
+      wanting = λ e. absurd (short_not_wanting order c.in-Ok-Ended.met c.in-Ok.status _ _ (short_text c.in-Ok-Ended.met) _ _ _ _ met c.in-Ok.ensures.told e);
       same = λ e. c.prepare.ensures.same;
       unreported = λ e. ap (λ (r : Report). r.entries) c.empty_report.ensures;
+      unread = c.prepare.ensures.unread;
+    }
+
+pub returns-in-Ok-make : goal.returns-in-Ok-make
+returns-in-Ok-make g c =
+    let order = ordered c.args.words.now in
+    let made = made_by order c.in-Ok-Make.n _ _ (rw c.in-Ok-Make.field-0-is at c.in-Ok-Make.ensures.prepared) in
+    let told = subst (λ (text : List ℕ). Tells status.Done c.in-Ok-make.status text (g.K.Sink.taken c.args.sink.now) (g.K.Sink.taken c.make.new.sink) (g.K.Sink.faults c.args.sink.now) (g.K.Sink.faults c.make.new.sink)) (sym made.1) c.in-Ok-make.ensures.told in
+    record {
+      long = λ e. let f : false ≡ true = e in cc;
+      short = λ e not. (status.Done, made.0, told);
+      wanting = λ e. absurd (short_not_wanting order status.Done c.in-Ok-make.status _ _ _ _ _ _ _ made.0 told e);
+      same = λ e. c.prepare.ensures.same;
+      unreported = λ e. ap (λ (r : Report). r.entries) c.empty_report-in-Ok-make.ensures;
       unread = c.prepare.ensures.unread;
     }
