@@ -1,0 +1,5 @@
+pub mod Page
+pub mod Coherent
+pub mod Group
+pub mod Down
+pub mod Links
