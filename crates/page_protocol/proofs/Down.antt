@@ -1,19 +1,24 @@
-use Rattle.std.proofs.Common.{◌≡◌, ℕ, ◌+◌, ◌<◌, ◌≤◌, refl, arith, Bool, true, false, Option, Some, None}
-use Rattle.page_protocol.specs.Page.{Page, Others, Frame, Up, Failed, put, AllStable}
+-- Group failure and group restart, at one page.
+use Rattle.std.proofs.Common.{◌≡◌, ℕ, ◌+◌, ◌<◌, ◌≤◌, arith, true, false, Some, None}
+use Rattle.page_protocol.specs.Page.{Page, Group, put, AllStable, all_fail, brought_forward, compensate, risen}
+use Rattle.page_protocol.specs.Moves.{IsWholeCut, all_failed, longer, all_up}
 use Rattle.page_protocol.specs.Coherent.{Coherent}
-use Rattle.page_protocol.specs.Down.{Grounded, IsWholeCut, all_fail, down_rest, compensate, longer, up_rest}
+use Rattle.page_protocol.specs.Down.{Grounded}
 
-pub falls : (g : Others) (p : Page) (n : ℕ) → Coherent g p → IsWholeCut g p n → Grounded (down_rest g) (all_fail p n)
+pub falls : (g : Group) (p : Page) (n : ℕ) → Coherent g p → IsWholeCut g p n → Grounded (all_failed g) (all_fail p n)
 falls g p n s cut = grind arith
 
-pub redoes : (g : Others) (p : Page) (v : ℕ) → Grounded g p → p.disk ≤ v → v ≤ p.last → Grounded g (record p { disk = v })
-redoes g p v s low high = grind arith
+pub falls_again : (g : Group) (p : Page) (n : ℕ) → Grounded g p → IsWholeCut g p n → Grounded (all_failed g) (all_fail p n)
+falls_again g p n s cut = grind arith
 
-pub compensates : (g : Others) (p : Page) (m : ℕ) → Grounded g p → Grounded (longer g m) (compensate p m (g.stable m))
+pub forwards : (g : Group) (p : Page) (v : ℕ) → Grounded g p → p.disk ≤ v → v ≤ p.last → Grounded g (brought_forward p v)
+forwards g p v s low high = grind arith
+
+pub compensates : (g : Group) (p : Page) (m : ℕ) → Grounded g p → Grounded (longer g m) (compensate p m (g.stable m))
 compensates g p m s = grind arith
 
-pub waits : (g : Others) (p : Page) (m : ℕ) → Grounded g p → Grounded (longer g m) p
+pub waits : (g : Group) (p : Page) (m : ℕ) → Grounded g p → Grounded (longer g m) p
 waits g p m s = grind arith
 
-pub rises : (g : Others) (p : Page) → Grounded g p → ((i : ℕ) → i < p.last → p.place i < g.written (p.author i)) → p.disk ≡ p.last → Coherent (up_rest g) (record p { shared = p.last })
-rises g p s w done = grind arith
+pub rises : (g : Group) (p : Page) → Grounded g p → p.disk ≡ p.last → Coherent (all_up g) (risen p)
+rises g p s done = grind arith

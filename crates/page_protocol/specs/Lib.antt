@@ -1,5 +1,5 @@
 pub mod Page
+pub mod Moves
 pub mod Coherent
-pub mod Group
 pub mod Down
-pub mod Links
+pub mod Always

@@ -1,10 +1,14 @@
 -- One page in the group: its chain of changes, the disk, the cache structure and the members' frames.
-use Rattle.std.specs.Prelude.{◌≡◌, ◌≢◌, ℕ, ◌+◌, ◌<◌, ◌≤◌, max, Bool, true, false, Option, Some, None, if◌then◌else◌, ◌==◌, ◌⊎◌, unwrap_or}
+--
+-- Members, pages, versions and places in logs are numbers. Version v of a page is the page of zeros after the first v
+-- changes of its chain, and the chain is over all logs: it has each change that stands on disk or in a log buffer.
+use Rattle.std.specs.Prelude.{◌≡◌, ℕ, ◌+◌, ◌<◌, Bool, true, false, Option, Some, None, if◌then◌else◌, ◌==◌, unwrap_or}
 
 -- a function with another value at one number
 abbrev pub put : {A : Type 0} → (ℕ → A) → ℕ → A → ℕ → A
 put f k x q = if q == k then x else f q
 
+-- ---- what there is
 pub data Status : Type 0 where
   Up : Status
   Failed : Status
@@ -12,7 +16,8 @@ pub data Status : Type 0 where
 
 pub record Frame : Type 0 where
   pub filled : Bool
-  pub marked : Bool
+  pub marked : Bool  -- changed since it was last written
+  pub direct : Bool  -- filled from disk under its whole page set, and written to disk
   pub version : ℕ
 
 pub record Page : Type 0 where
@@ -21,46 +26,51 @@ pub record Page : Type 0 where
   pub place : ℕ → ℕ  -- by change: where it stands in that log
   pub disk : ℕ  -- the version on disk
   pub bytes : Option ℕ  -- the version in the cache structure
-  pub changed : Bool
-  pub written_since : Bool  -- written written_since the castout lock was taken
-  pub castout : Option ℕ
-  pub buffer : ℕ  -- the castout's copy
-  pub sent : Bool  -- the copy was written to disk
-  pub bit : ℕ → Bool  -- by member
+  pub changed : Bool  -- the cache's bytes weren't cast out since they were written
+  pub written_since : Bool  -- the page was written since the castout lock was taken
+  pub castout : Option ℕ  -- the member that holds the castout lock
+  pub buffer : ℕ  -- the version in the castout's buffer
+  pub sent : Bool  -- the buffer was written to disk under this castout lock
+  pub bit : ℕ → Bool  -- by member: its frame of the page is registered and was not invalidated
   pub frame : ℕ → Frame  -- by member
-  pub owner : Option ℕ
+  pub owner : Option ℕ  -- the member whose page lock, or whose page set as sole user, is held or retained
+  pub sole : Bool  -- the owner has the page by its whole page set
   pub shared : ℕ  -- the greatest version that was ever the group's copy
 
--- the rest of the group, as a page sees it
-pub record Others : Type 0 where
-  pub stable : ℕ → ℕ  -- by member: the length of its log on disk
-  pub written : ℕ → ℕ  -- by member: the same with its buffer
+-- the group, as a page sees it
+pub record Group : Type 0 where
+  pub stable : ℕ → ℕ  -- by member: how many records of its log are on disk
+  pub written : ℕ → ℕ  -- by member: the same with its log buffer
+  pub read : ℕ → ℕ  -- by member: how many of its records a rebuild has, which has read each log after the loss
   pub status : ℕ → Status
-  pub lost : Bool
+  pub lost : Bool  -- the cache structure is lost, and its rebuild hasn't ended
 
+-- the cache's bytes, or else the disk's page
 abbrev pub group_copy : Page → ℕ
 group_copy p = unwrap_or p.bytes p.disk
 
-abbrev pub unfilled : ℕ → Frame
-unfilled v = record { filled = false; marked = false; version = v }
+-- the changes below the version stand in logs on disk
+abbrev pub AllStable : Group → Page → ℕ → Type 0
+AllStable g p v = (i : ℕ) → i < v → p.place i < g.stable (p.author i)
+
+abbrev pub unfilled : ℕ → Bool → Frame
+unfilled v direct = record { filled = false; marked = false; direct = direct; version = v }
 
 abbrev pub holding : ℕ → Frame
-holding v = record { filled = true; marked = false; version = v }
+holding v = record { filled = true; marked = false; direct = false; version = v }
 
-abbrev pub dirty : ℕ → Frame
-dirty v = record { filled = true; marked = true; version = v }
+-- ---- what moves leave of a page
+abbrev pub after_read : Option ℕ → Bool → Frame → Frame
+after_read (Some v) direct f = if f.marked then f else holding v
+after_read None direct f = if f.marked then record f { direct = direct } else unfilled f.version direct
 
-abbrev pub after_read : Option ℕ → Frame → Frame
-after_read (Some v) f = if f.marked then f else holding v
-after_read None f = if f.marked then f else unfilled f.version
-
--- ---- what each event leaves of the page
-abbrev pub read : Page → ℕ → Page
-read p m = record p { bit = put p.bit m true; frame = put p.frame m (after_read p.bytes (p.frame m)) }
+abbrev pub read : Page → ℕ → Bool → Page
+read p m direct = record p { bit = put p.bit m true; frame = put p.frame m (after_read p.bytes direct (p.frame m)) }
 
 abbrev pub read_disk : Page → ℕ → Page
-read_disk p m = record p { frame = put p.frame m (holding p.disk) }
+read_disk p m = record p { frame = put p.frame m (record (p.frame m) { filled = true; version = p.disk }) }
 
+-- a write to the cache invalidates all other frames
 abbrev pub write : Page → ℕ → Page
 write p m = record p {
   bytes = Some (p.frame m).version;
@@ -71,12 +81,19 @@ write p m = record p {
   shared = (p.frame m).version;
 }
 
+abbrev pub write_direct : Page → ℕ → Page
+write_direct p m = record p {
+  disk = (p.frame m).version;
+  frame = put p.frame m (record (p.frame m) { marked = false });
+  shared = (p.frame m).version;
+}
+
 abbrev pub change : Page → ℕ → ℕ → Page
 change p m at = record p {
   last = p.last + 1;
   author = put p.author p.last m;
   place = put p.place p.last at;
-  frame = put p.frame m (dirty ((p.frame m).version + 1));
+  frame = put p.frame m (record (p.frame m) { marked = true; version = (p.frame m).version + 1 });
 }
 
 abbrev pub castout_read : Page → ℕ → ℕ → Page
@@ -88,59 +105,51 @@ castout_write p = record p { disk = p.buffer; sent = true }
 abbrev pub castout_done : Page → Page
 castout_done p = record p { castout = None; changed = p.written_since }
 
+-- an entry of the cache that isn't changed is used for another page
 abbrev pub reclaim : Page → Page
 reclaim p = record p { bytes = None; bit = λ k. false }
 
 abbrev pub drop_frame : Page → ℕ → Page
-drop_frame p m = record p { bit = put p.bit m false; frame = put p.frame m (unfilled 0) }
+drop_frame p m = record p { bit = put p.bit m false; frame = put p.frame m (unfilled 0 false) }
 
+-- the member's own log brings its frame to the last version
 abbrev pub redo : Page → ℕ → Page
-redo p m = record p { frame = put p.frame m (dirty p.last) }
+redo p m = record p { frame = put p.frame m (record { filled = true; marked = true; direct = false; version = p.last }) }
 
 abbrev pub rebuild : Page → ℕ → Page
-rebuild p n = record p { disk = n; shared = max p.shared n }
+rebuild p n = record p { disk = n; shared = n }
 
 abbrev pub lose : Page → Page
 lose p = record p { bytes = None; changed = false; castout = None; bit = λ k. false }
 
+-- a failure takes the member's frame, registration and castout lock, and what its log hadn't on disk
 abbrev pub fail : Page → ℕ → ℕ → Page
 fail p m n = record p {
   last = n;
   castout = if (unwrap_or p.castout (m + 1)) == m then None else p.castout;
   bit = put p.bit m false;
-  frame = put p.frame m (unfilled 0);
+  frame = put p.frame m (unfilled 0 false);
 }
 
-pub data PageMove : Type 0 where
-  Read : ℕ → PageMove
-  ReadDisk : ℕ → PageMove
-  Write : ℕ → PageMove
-  CastoutRead : ℕ → ℕ → PageMove
-  CastoutWrite : ℕ → PageMove
-  CastoutDone : ℕ → PageMove
-  Reclaim : PageMove
-  DropFrame : ℕ → PageMove
-  Lock : ℕ → PageMove
-  Unlock : ℕ → PageMove
-  Redo : ℕ → PageMove
-  Purge : ℕ → PageMove
-  Rebuild : ℕ → PageMove
+abbrev pub owned : Page → ℕ → Page
+owned p m = record p { owner = Some m }
 
--- the changes below the version stand in logs on disk
-abbrev pub AllStable : Others → Page → ℕ → Type 0
-AllStable g p v = (i : ℕ) → i < v → p.place i < g.stable (p.author i)
+abbrev pub owned_whole : Page → ℕ → Page
+owned_whole p m = record p { owner = Some m; sole = true }
 
-abbrev pub PageStep : Others → Page → PageMove → Page → Type 0
-PageStep g p (Read m) q = (g.lost ≡ false) × (g.status m ≢ Failed) × (q ≡ read p m)
-PageStep g p (ReadDisk m) q = (g.status m ≢ Failed) × ((p.frame m).filled ≡ false) × (q ≡ read_disk p m)
-PageStep g p (Write m) q = (g.lost ≡ false) × (g.status m ≢ Failed) × ((p.frame m).marked ≡ true) × AllStable g p (p.frame m).version × (q ≡ write p m)
-PageStep g p (CastoutRead m v) q = (g.lost ≡ false) × (p.changed ≡ true) × (p.bytes ≡ Some v) × ((p.castout ≡ None) ⊎ (p.castout ≡ Some m)) × (q ≡ castout_read p m v)
-PageStep g p (CastoutWrite m) q = (p.castout ≡ Some m) × (q ≡ castout_write p)
-PageStep g p (CastoutDone m) q = (p.castout ≡ Some m) × (p.sent ≡ true) × (q ≡ castout_done p)
-PageStep g p Reclaim q = (p.changed ≡ false) × (p.castout ≡ None) × (q ≡ reclaim p)
-PageStep g p (DropFrame m) q = ((p.frame m).marked ≡ false) × (q ≡ drop_frame p m)
-PageStep g p (Lock m) q = (p.owner ≡ None) × (g.status m ≢ Failed) × (q ≡ record p { owner = Some m })
-PageStep g p (Unlock m) q = (p.owner ≡ Some m) × (g.status m ≡ Up) × ((p.frame m).marked ≡ false) × (q ≡ record p { owner = None })
-PageStep g p (Redo m) q = (p.owner ≡ Some m) × (g.status m ≡ Restarting) × (q ≡ redo p m)
-PageStep g p (Purge m) q = (p.owner ≡ Some m) × (g.status m ≡ Restarting) × ((p.frame m).marked ≡ false) × ((i : ℕ) → p.shared ≤ i → i < p.last → p.author i ≢ m) × (q ≡ record p { owner = None })
-PageStep g p (Rebuild n) q = (g.lost ≡ true) × (p.disk ≤ n) × (n ≤ p.last) × AllStable g p n × (q ≡ rebuild p n)
+abbrev pub given_up : Page → Page
+given_up p = record p { owner = None; sole = false }
+
+-- ---- what a failure of all members and of the cache leaves, and what group restart does
+abbrev pub all_fail : Page → ℕ → Page
+all_fail p n = record p { last = n; bytes = None; changed = false; castout = None; bit = λ m. false; frame = λ m. unfilled 0 false; owner = None; sole = false }
+
+abbrev pub brought_forward : Page → ℕ → Page
+brought_forward p v = record p { disk = v }
+
+-- a compensation in the log of m, stable at once
+abbrev pub compensate : Page → ℕ → ℕ → Page
+compensate p m at = record p { last = p.last + 1; author = put p.author p.last m; place = put p.place p.last at }
+
+abbrev pub risen : Page → Page
+risen p = record p { shared = p.last }
