@@ -3,3 +3,5 @@ pub mod Whole
 pub mod Down
 pub mod Order
 pub mod Runs
+pub mod Words
+pub mod Later

@@ -67,10 +67,10 @@ fall : (b : Bool) (g : Group) (p : Page) (n : ℕ) → Stands b g p → IsWholeC
 fall true g p n s cut = falls_again g p n s cut
 fall false g p n s cut = falls g p n s cut
 
-all_running : (w : World) → w.down ≡ false → Good w → (n : ℕ) → Coherent w.group (w.pages n)
+pub all_running : (w : World) → w.down ≡ false → Good w → (n : ℕ) → Coherent w.group (w.pages n)
 all_running w up s n = running w.down w.group (w.pages n) up (s.stands n)
 
-all_fallen : (w : World) → w.down ≡ true → Good w → (n : ℕ) → Grounded w.group (w.pages n)
+pub all_fallen : (w : World) → w.down ≡ true → Good w → (n : ℕ) → Grounded w.group (w.pages n)
 all_fallen w up s n = fallen w.down w.group (w.pages n) up (s.stands n)
 
 -- a change stands behind all that its log has of the page

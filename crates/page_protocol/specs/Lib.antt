@@ -3,3 +3,4 @@ pub mod Moves
 pub mod Coherent
 pub mod Down
 pub mod Always
+pub mod Words

@@ -1,0 +1,57 @@
+-- What coherence gives.
+use Rattle.std.proofs.Common.{◌≡◌, ℕ, ◌+◌, ◌<◌, ◌≤◌, refl, sym, ◌∙◌, arith, Bool, true, false, inl, inr, ◌⊎◌, Option, Some, None}
+use Rattle.std.proofs.lemmas.Bool.{cases_Bool}
+use Rattle.page_protocol.specs.Page.{Page, Group, Up, Failed, AllStable, group_copy}
+use Rattle.page_protocol.specs.Coherent.{Coherent, IsCasting}
+use Rattle.page_protocol.specs.Words.{AreVersions, IsUsable, NewestAllowed, FindsOwn, AreTheOwners, StableBeforeShared, DiskIsNoLater, BufferIsNew, Gives, CoherentGives}
+
+cache_old : (g : Group) (p : Page) (v : ℕ) → Coherent g p → p.bytes ≡ Some v → v ≡ p.shared
+cache_old g p v s e = grind arith
+
+frame_old : (g : Group) (p : Page) (m : ℕ) → Coherent g p → (p.frame m).filled ≡ true → (p.frame m).version ≤ p.last
+frame_old g p m s filled = let a = s.marked_last m in let b = s.old m filled in let c = s.within in grind (arith, a, b, c)
+
+copy_old : (g : Group) (p : Page) → Coherent g p → group_copy p ≤ p.shared
+copy_old g p s = grind arith
+
+newest : (g : Group) (p : Page) → Coherent g p → NewestAllowed g p
+newest g p s m use-it = elim (cases_Bool (p.frame m).marked) [
+    inl h ↦ inr (s.marked_own m h, s.marked_last m h)
+  | inr h ↦ elim use-it.1 [ inl b ↦ inl (s.valid m use-it.0 b h) | inr q ↦ inl (s.sole_valid m q.0 q.1 q.2 use-it.0 h) ]
+]
+
+own_found : (g : Group) (p : Page) (m i : ℕ) → Coherent g p → g.status m ≡ Up → ((p.frame m).version ≡ p.shared) ⊎ ((p.owner ≡ Some m) × ((p.frame m).version ≡ p.last)) → (p.frame m).filled ≡ true
+    → (i < p.shared) ⊎ ((i < p.last) × (p.author i ≡ m)) → i < (p.frame m).version
+own_found g p m i s up is filled has = let a = s.own i in let b = s.newest m in let c = s.marked_last m in let d = s.within in grind (arith, a, b, c, d, is, has)
+
+pub gives : CoherentGives
+gives g p s = record {
+  versions = record {
+    disk = let a = s.disk_old in let b = s.within in omega (arith, a, b);
+    cache = λ v e. let a = cache_old g p v s e in let b = s.within in omega (arith, a, b);
+    frames = λ m filled. frame_old g p m s filled;
+    buffer = λ m held. let a = (s.casting m held).shared in let b = s.within in omega (arith, a, b);
+  };
+  newest_allowed = newest g p s;
+  finds_own = λ m i use-it up has. own_found g p m i s up (newest g p s m use-it) use-it.0 has;
+  unshared = record {
+    author = s.own;
+    in_log = λ i a b. s.written i b;
+    in_frame = λ m own more up. let h = s.newest m own more up in (s.marked_filled m h, s.marked_last m h);
+    on_disk = λ m own failed. s.failed_stable m failed own;
+  };
+  stable_before_shared = (λ i lt. let a = copy_old g p s in s.stable i (omega (arith, a, lt)), λ i lt. let a = s.disk_old in s.stable i (omega (arith, a, lt)));
+  disk_is_no_later = record {
+    no_later = λ v e. let a = cache_old g p v s e in let b = s.disk_old in omega (arith, a, b);
+    equal = s.clean;
+  };
+  buffer_is_new = record {
+    no_older = λ m held. (s.casting m held).no_older;
+    whole = λ m held since. (s.casting m held).whole since ∙ sym (held_copy m held);
+  };
+  newest_shared = s.group;
+  lost_bits = s.lost_bits;
+}
+  where
+    held_copy : (m : ℕ) → p.castout ≡ Some m → group_copy p ≡ p.shared
+    held_copy m held = let a = s.lost_castout in let b = s.group in grind (arith, a, b, held)
