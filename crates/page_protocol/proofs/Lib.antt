@@ -5,3 +5,4 @@ pub mod Order
 pub mod Runs
 pub mod Words
 pub mod Later
+pub mod Possible

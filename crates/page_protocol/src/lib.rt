@@ -2,7 +2,7 @@
 #![tactic(auto)]
 
 ghost use Rattle.page_protocol.specs.Always.{StartsGood, KeepsGood, AlwaysGood};
-ghost use Rattle.page_protocol.specs.Words.{CoherentGives, NeverGoesBack, NoEarlierCopy};
+ghost use Rattle.page_protocol.specs.Words.{CoherentGives, NeverGoesBack, NoEarlierCopy, FailureIsPossible, RebuildIsPossible, GroupFailureIsPossible};
 
 /// The start is coherent, each move keeps what is, and so does every list of moves.
 pub fn coherent_pages()
@@ -16,4 +16,12 @@ pub fn newest_copies()
     ensures gives { CoherentGives }
     ensures never_back { NeverGoesBack }
     ensures no_earlier_copy { NoEarlierCopy }
+{}
+
+/// What stands in the logs is a prefix of each page's chain, so that a failure, a rebuild and a group failure are always
+/// possible, and a rebuild by what was read beside running members leads to a version that is no earlier than any shared one.
+pub fn logs_have_prefixes()
+    ensures failure { FailureIsPossible }
+    ensures rebuild { RebuildIsPossible }
+    ensures group_failure { GroupFailureIsPossible }
 {}
