@@ -6,3 +6,4 @@ pub mod Runs
 pub mod Words
 pub mod Later
 pub mod Possible
+pub mod Redo

@@ -4,3 +4,4 @@ pub mod Coherent
 pub mod Down
 pub mod Always
 pub mod Words
+pub mod Redo

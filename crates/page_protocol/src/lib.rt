@@ -3,6 +3,7 @@
 
 ghost use Rattle.page_protocol.specs.Always.{StartsGood, KeepsGood, AlwaysGood};
 ghost use Rattle.page_protocol.specs.Words.{CoherentGives, NeverGoesBack, NoEarlierCopy, FailureIsPossible, RebuildIsPossible, GroupFailureIsPossible};
+ghost use Rattle.page_protocol.specs.Redo.{OwnLogSuffices, MergedLogsSuffice, RedoneOnce};
 
 /// The start is coherent, each move keeps what is, and so does every list of moves.
 pub fn coherent_pages()
@@ -24,4 +25,12 @@ pub fn logs_have_prefixes()
     ensures failure { FailureIsPossible }
     ensures rebuild { RebuildIsPossible }
     ensures group_failure { GroupFailureIsPossible }
+{}
+
+/// Redo with comparison of numbers: the owner's log alone leads from the group's copy to the last version, the merged
+/// logs do so from any version that a checkpoint doesn't lie beyond, and a second redo changes nothing.
+pub fn redo_laws()
+    ensures own_log { OwnLogSuffices }
+    ensures merged_logs { MergedLogsSuffice }
+    ensures once { RedoneOnce }
 {}
