@@ -7,3 +7,4 @@ pub mod Words
 pub mod Later
 pub mod Possible
 pub mod Redo
+pub mod Needed

@@ -5,3 +5,4 @@ pub mod Down
 pub mod Always
 pub mod Words
 pub mod Redo
+pub mod Needed

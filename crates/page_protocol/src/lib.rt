@@ -3,6 +3,7 @@
 
 ghost use Rattle.page_protocol.specs.Always.{StartsGood, KeepsGood, AlwaysGood};
 ghost use Rattle.page_protocol.specs.Words.{CoherentGives, NeverGoesBack, NoEarlierCopy, FailureIsPossible, RebuildIsPossible, GroupFailureIsPossible};
+ghost use Rattle.page_protocol.specs.Needed.{InvalidationIsNeeded, StableIsNeeded, WrittenIsNeeded, BitIsNeeded, CastoutLockIsNeeded, AllLogsAreNeeded, CacheIsNeeded, ComparisonIsNeeded};
 ghost use Rattle.page_protocol.specs.Redo.{OwnLogSuffices, MergedLogsSuffice, RedoneOnce};
 
 /// The start is coherent, each move keeps what is, and so does every list of moves.
@@ -33,4 +34,19 @@ pub fn redo_laws()
     ensures own_log { OwnLogSuffices }
     ensures merged_logs { MergedLogsSuffice }
     ensures once { RedoneOnce }
+{}
+
+/// Guards without which pages don't stay coherent: a write invalidates all other frames, a page is written only when its
+/// log records are stable, it is given up only when it was written, it is changed only where the bit is set, a castout's
+/// disk write is done under its lock, a rebuild merges all logs, a sole user writes to disk only while the cache is
+/// there, and redo compares numbers.
+pub fn guards_are_needed()
+    ensures invalidation { InvalidationIsNeeded }
+    ensures stable { StableIsNeeded }
+    ensures written { WrittenIsNeeded }
+    ensures bit { BitIsNeeded }
+    ensures castout_lock { CastoutLockIsNeeded }
+    ensures all_logs { AllLogsAreNeeded }
+    ensures cache { CacheIsNeeded }
+    ensures comparison { ComparisonIsNeeded }
 {}
