@@ -14,7 +14,7 @@ falls_again g p n s cut = grind arith
 pub forwards : (g : Group) (p : Page) (v : ℕ) → Grounded g p → p.disk ≤ v → v ≤ p.last → Grounded g (brought_forward p v)
 forwards g p v s low high = grind arith
 
-pub compensates : (g : Group) (p : Page) (m : ℕ) → Grounded g p → Grounded (longer g m) (compensate p m (g.stable m))
+pub compensates : (g : Group) (p : Page) (m : ℕ) → Grounded g p → Grounded (longer g m) (compensate p m (g.stable m) (g.counter + 1))
 compensates g p m s = grind arith
 
 pub waits : (g : Group) (p : Page) (m : ℕ) → Grounded g p → Grounded (longer g m) p

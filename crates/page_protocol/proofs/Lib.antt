@@ -8,3 +8,4 @@ pub mod Later
 pub mod Possible
 pub mod Redo
 pub mod Needed
+pub mod Bytes

@@ -40,10 +40,10 @@ has_last g p m s may = elim (cases_Bool (p.frame m).marked) [
   | inr h ↦ version_of g p m s may.own may.filled may.usable h ∙ nothing_beyond g p m s may.own may.newest h
 ]
 
-changed : (g : Group) (p : Page) (m : ℕ) → Coherent g p → p.owner ≡ Some m → g.status m ≢ Failed → (p.frame m).filled ≡ true → (p.frame m).version ≡ p.last → Coherent (drawn g m) (change p m (g.written m))
+changed : (g : Group) (p : Page) (m : ℕ) → Coherent g p → p.owner ≡ Some m → g.status m ≢ Failed → (p.frame m).filled ≡ true → (p.frame m).version ≡ p.last → Coherent (drawn g m) (change p m (g.written m) (g.counter + 1))
 changed g p m s own live filled last = grind arith
 
-pub kept_change : (g : Group) (p : Page) (m : ℕ) → Coherent g p → MayChange g p m → Coherent (drawn g m) (change p m (g.written m))
+pub kept_change : (g : Group) (p : Page) (m : ℕ) → Coherent g p → MayChange g p m → Coherent (drawn g m) (change p m (g.written m) (g.counter + 1))
 kept_change g p m s may = changed g p m s may.own may.live may.filled (has_last g p m s may)
 
 -- a log record that doesn't change the page

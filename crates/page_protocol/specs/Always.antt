@@ -13,9 +13,16 @@ Stands false g p = Coherent g p
 abbrev pub Ordered : Page → Type 0
 Ordered p = (i j : ℕ) → i < j → j < p.last → p.author i ≡ p.author j → p.place i < p.place j
 
+-- the numbers rise along the chain
+pub record Numbered (g : Group) (p : Page) : Type 0 where
+  pub rise : (i j : ℕ) → i < j → j < p.last → p.lrsn i < p.lrsn j
+  pub drawn : (i : ℕ) → i < p.last → p.lrsn i ≤ g.counter
+  pub positive : (i : ℕ) → i < p.last → 0 < p.lrsn i
+
 pub record Good (w : World) : Type 0 where
   pub stands : (n : ℕ) → Stands w.down w.group (w.pages n)
   pub ordered : (n : ℕ) → Ordered (w.pages n)
+  pub numbered : (n : ℕ) → Numbered w.group (w.pages n)
 
 abbrev pub StartsGood : Type 0
 StartsGood = Good start

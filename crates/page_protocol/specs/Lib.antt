@@ -6,3 +6,4 @@ pub mod Always
 pub mod Words
 pub mod Redo
 pub mod Needed
+pub mod Bytes

@@ -124,7 +124,7 @@ pub record MayPurge (g : Group) (p : Page) (m : ℕ) : Type 0 where
 
 -- ---- what moves leave of the group
 abbrev pub drawn : Group → ℕ → Group
-drawn g m = record g { written = put g.written m (g.written m + 1) }
+drawn g m = record g { written = put g.written m (g.written m + 1); counter = g.counter + 1 }
 
 abbrev pub forced : Group → ℕ → ℕ → Group
 forced g m k = record g { stable = put g.stable m k }
@@ -152,7 +152,7 @@ all_failed g = record g { written = g.stable; status = λ m. Failed; lost = true
 
 -- a record of the log of m, stable at once
 abbrev pub longer : Group → ℕ → Group
-longer g m = record g { stable = put g.stable m (g.stable m + 1); written = put g.written m (g.stable m + 1) }
+longer g m = record g { stable = put g.stable m (g.stable m + 1); written = put g.written m (g.stable m + 1); counter = g.counter + 1 }
 
 abbrev pub all_up : Group → Group
 all_up g = record g { status = λ m. Up; lost = false }
@@ -162,7 +162,7 @@ abbrev pub Step : (ℕ → ℕ) → World → Move → World → Type 0
 Step set w (At n e) v = (w.down ≡ false) × ((q : Page) × PageStep w.group (w.pages n) e q × (v ≡ record { down = false; group = w.group; pages = put w.pages n q }))
 Step set w (Draw m touched) v =
     (w.down ≡ false) × ((n : ℕ) → touched n ≡ true → MayChange w.group (w.pages n) m)
-    × (v ≡ record { down = false; group = drawn w.group m; pages = λ n. if touched n then change (w.pages n) m (w.group.written m) else w.pages n })
+    × (v ≡ record { down = false; group = drawn w.group m; pages = λ n. if touched n then change (w.pages n) m (w.group.written m) (w.group.counter + 1) else w.pages n })
 Step set w (Force m k) v = (w.down ≡ false) × (w.group.stable m ≤ k) × (k ≤ w.group.written m) × (v ≡ record { down = false; group = forced w.group m k; pages = w.pages })
 Step set w (TakeSet s m) v =
     (w.down ≡ false) × (w.group.status m ≡ Up) × ((n : ℕ) → (set n == s) ≡ true → IsUnused (w.pages n))
@@ -189,7 +189,7 @@ Step set w (GroupFail cut) v = ((n : ℕ) → IsWholeCut w.group (w.pages n) (cu
 Step set w (Forward n k) v =
     (w.down ≡ true) × ((w.pages n).disk ≤ k) × (k ≤ (w.pages n).last)
     × (v ≡ record { down = true; group = w.group; pages = put w.pages n (brought_forward (w.pages n) k) })
-Step set w (Compensate n m) v = (w.down ≡ true) × (v ≡ record { down = true; group = longer w.group m; pages = put w.pages n (compensate (w.pages n) m (w.group.stable m)) })
+Step set w (Compensate n m) v = (w.down ≡ true) × (v ≡ record { down = true; group = longer w.group m; pages = put w.pages n (compensate (w.pages n) m (w.group.stable m) (w.group.counter + 1)) })
 Step set w (Append m) v = (w.down ≡ true) × (v ≡ record { down = true; group = longer w.group m; pages = w.pages })
 Step set w Rise v =
     (w.down ≡ true) × ((n : ℕ) → (w.pages n).disk ≡ (w.pages n).last)
@@ -204,6 +204,7 @@ blank = record {
   last = 0;
   author = λ i. 0;
   place = λ i. 0;
+  lrsn = λ i. 0;
   disk = 0;
   bytes = None;
   changed = false;
@@ -220,4 +221,4 @@ blank = record {
 
 -- an empty disk; a disk with pages and logs is reached by the moves that made them
 abbrev pub start : World
-start = record { down = false; group = record { stable = λ m. 0; written = λ m. 0; read = λ m. 0; status = λ m. Up; lost = false }; pages = λ n. blank }
+start = record { down = false; group = record { stable = λ m. 0; written = λ m. 0; read = λ m. 0; status = λ m. Up; counter = 0; lost = false }; pages = λ n. blank }

@@ -7,7 +7,7 @@ use Rattle.page_protocol.specs.Redo.{Patch, Change, page_after, redone, is_of, A
 
 -- all members are up, and so many records of each log are on disk and in hand
 abbrev pub all_up_with : ℕ → ℕ → Group
-all_up_with stable written = record { stable = λ m. stable; written = λ m. written; read = λ m. 0; status = λ m. Up; lost = false }
+all_up_with stable written = record { stable = λ m. stable; written = λ m. written; read = λ m. 0; status = λ m. Up; counter = 2; lost = false }
 
 abbrev pub changed_frame : ℕ → Frame
 changed_frame v = record { filled = true; marked = true; direct = false; version = v }
@@ -18,6 +18,7 @@ in_hand = record {
   last = 2;
   author = λ i. 1;
   place = λ i. i;
+  lrsn = λ i. i + 1;
   disk = 0;
   bytes = Some 1;
   changed = true;
@@ -73,7 +74,7 @@ pub record BitIsNeeded : Type 0 where
   pub coherent : Coherent (all_up_with 2 2) taken_over
   pub own : taken_over.owner ≡ Some 2
   pub filled : (taken_over.frame 2).filled ≡ true
-  pub breaks : Coherent (drawn (all_up_with 2 2) 2) (change taken_over 2 2) → ⊥
+  pub breaks : Coherent (drawn (all_up_with 2 2) 2) (change taken_over 2 2 3) → ⊥
 
 -- ---- the castout lock is held at the castout's disk write
 

@@ -24,6 +24,7 @@ pub record Page : Type 0 where
   pub last : ℕ  -- how many changes the chain has
   pub author : ℕ → ℕ  -- by change: the member whose log has it
   pub place : ℕ → ℕ  -- by change: where it stands in that log
+  pub lrsn : ℕ → ℕ  -- by change: its number over all logs
   pub disk : ℕ  -- the version on disk
   pub bytes : Option ℕ  -- the version in the cache structure
   pub changed : Bool  -- the cache's bytes weren't cast out since they were written
@@ -43,6 +44,7 @@ pub record Group : Type 0 where
   pub written : ℕ → ℕ  -- by member: the same with its log buffer
   pub read : ℕ → ℕ  -- by member: how many of its records a rebuild has, which has read each log after the loss
   pub status : ℕ → Status
+  pub counter : ℕ  -- the greatest number that was drawn
   pub lost : Bool  -- the cache structure is lost, and its rebuild hasn't ended
 
 -- the cache's bytes, or else the disk's page
@@ -88,11 +90,12 @@ write_direct p m = record p {
   shared = (p.frame m).version;
 }
 
-abbrev pub change : Page → ℕ → ℕ → Page
-change p m at = record p {
+abbrev pub change : Page → ℕ → ℕ → ℕ → Page
+change p m at number = record p {
   last = p.last + 1;
   author = put p.author p.last m;
   place = put p.place p.last at;
+  lrsn = put p.lrsn p.last number;
   frame = put p.frame m (record (p.frame m) { marked = true; version = (p.frame m).version + 1 });
 }
 
@@ -148,8 +151,8 @@ abbrev pub brought_forward : Page → ℕ → Page
 brought_forward p v = record p { disk = v }
 
 -- a compensation in the log of m, stable at once
-abbrev pub compensate : Page → ℕ → ℕ → Page
-compensate p m at = record p { last = p.last + 1; author = put p.author p.last m; place = put p.place p.last at }
+abbrev pub compensate : Page → ℕ → ℕ → ℕ → Page
+compensate p m at number = record p { last = p.last + 1; author = put p.author p.last m; place = put p.place p.last at; lrsn = put p.lrsn p.last number }
 
 abbrev pub risen : Page → Page
 risen p = record p { shared = p.last }

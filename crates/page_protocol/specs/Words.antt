@@ -70,6 +70,7 @@ pub record IsLater (p q : Page) : Type 0 where
   pub disk : p.disk ≤ q.disk
   pub author : (i : ℕ) → i < p.shared → q.author i ≡ p.author i
   pub place : (i : ℕ) → i < p.shared → q.place i ≡ p.place i
+  pub lrsn : (i : ℕ) → i < p.shared → q.lrsn i ≡ p.lrsn i
 
 abbrev pub NeverGoesBack : Type 0
 NeverGoesBack = (set : ℕ → ℕ) (moves : List Move) (w v : World) → Good w → Run set w moves v → (n : ℕ) → IsLater (w.pages n) (v.pages n)

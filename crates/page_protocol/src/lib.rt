@@ -3,6 +3,7 @@
 
 ghost use Rattle.page_protocol.specs.Always.{StartsGood, KeepsGood, AlwaysGood};
 ghost use Rattle.page_protocol.specs.Words.{CoherentGives, NeverGoesBack, NoEarlierCopy, FailureIsPossible, RebuildIsPossible, GroupFailureIsPossible};
+ghost use Rattle.page_protocol.specs.Bytes.{RestartReachesLast, RebuildReachesRead, GroupRestartReachesLast};
 ghost use Rattle.page_protocol.specs.Needed.{InvalidationIsNeeded, StableIsNeeded, WrittenIsNeeded, BitIsNeeded, CastoutLockIsNeeded, AllLogsAreNeeded, CacheIsNeeded, ComparisonIsNeeded};
 ghost use Rattle.page_protocol.specs.Redo.{OwnLogSuffices, MergedLogsSuffice, RedoneOnce};
 
@@ -49,4 +50,12 @@ pub fn guards_are_needed()
     ensures all_logs { AllLogsAreNeeded }
     ensures cache { CacheIsNeeded }
     ensures comparison { ComparisonIsNeeded }
+{}
+
+/// Redo in the group: a restarting owner comes from the shared version of its page to the last one by its own log, a
+/// rebuild comes from the disk's version to what it has read of all logs, and group restart to the last version.
+pub fn redo_reaches()
+    ensures restart { RestartReachesLast }
+    ensures rebuild { RebuildReachesRead }
+    ensures group_restart { GroupRestartReachesLast }
 {}
