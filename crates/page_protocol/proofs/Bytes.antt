@@ -13,8 +13,10 @@ use Rattle.page_protocol.proofs.Redo as redo
 use Rattle.page_protocol.proofs.Steps.{no_earlier}
 
 split : (c : ℕ → Change) (i a b : ℕ) → changes c i (a + b) ≡ changes c i a ++ changes c (i + a) b
-split c i zero b = ap (λ x. changes c x b) (omega arith)
-split c i (suc a) b = ap (λ xs. c i ∷ xs) (split c (suc i) a b ∙ ap (λ x. changes c (suc i) a ++ changes c x b) (omega arith))
+split c i zero b = let e : 0 + b ≡ b = omega arith in ap (λ x. changes c i x) e ∙ ap (λ x. changes c x b) (omega arith)
+split c i (suc a) b =
+    let e : suc a + b ≡ suc (a + b) = omega arith in
+    ap (λ x. changes c i x) e ∙ ap (λ xs. c i ∷ xs) (split c (suc i) a b ∙ ap (λ x. changes c (suc i) a ++ changes c x b) (omega arith))
 
 front : (c : ℕ → Change) (n k : ℕ) → n ≤ k → changes c 0 k ≡ changes c 0 n ++ changes c n (k - n)
 front c n k le = ap (λ x. changes c 0 x) (omega (arith, le)) ∙ split c 0 n (k - n) ∙ ap (λ x. changes c 0 n ++ changes c x (k - n)) (omega arith)
@@ -55,9 +57,11 @@ merged_out p c lengths i zero lacks = refl
 merged_out p c lengths i (suc d) lacks = cond-false (nat_lt (p.place i) (lengths (p.author i))) _ _ (le-ltb _ _ (lacks i (omega arith) (omega arith))) ∙ merged_out p c lengths (suc i) d (λ j a b. lacks j (omega (arith, a)) (omega (arith, b)))
 
 merged_split : (p : Page) (c : ℕ → Change) (lengths : ℕ → ℕ) (i a b : ℕ) → ((j : ℕ) → j < i + a → p.place j < lengths (p.author j)) → ((j : ℕ) → i + a ≤ j → j < i + a + b → lengths (p.author j) ≤ p.place j) → merged p c lengths i (a + b) ≡ changes c i a
-merged_split p c lengths i zero b has lacks = merged_out p c lengths i b (λ j x y. lacks j (omega (arith, x)) (omega (arith, y)))
+merged_split p c lengths i zero b has lacks = let e : 0 + b ≡ b = omega arith in ap (merged p c lengths i) e ∙ merged_out p c lengths i b (λ j x y. lacks j (omega (arith, x)) (omega (arith, y)))
 merged_split p c lengths i (suc a) b has lacks =
-    cond-true (nat_lt (p.place i) (lengths (p.author i))) _ _ (lt-ltb _ _ (has i (omega arith)))
+    let e : suc a + b ≡ suc (a + b) = omega arith in
+    ap (merged p c lengths i) e
+    ∙ cond-true (nat_lt (p.place i) (lengths (p.author i))) _ _ (lt-ltb _ _ (has i (omega arith)))
     ∙ ap (λ xs. c i ∷ xs) (merged_split p c lengths (suc i) a b (λ j lt. has j (omega (arith, lt))) (λ j x y. lacks j (omega (arith, x)) (omega (arith, y))))
 
 merged_is : (p : Page) (c : ℕ → Change) (lengths : ℕ → ℕ) (n : ℕ) → n ≤ p.last → ((i : ℕ) → i < n → p.place i < lengths (p.author i)) → ((i : ℕ) → n ≤ i → i < p.last → lengths (p.author i) ≤ p.place i) → merged p c lengths 0 p.last ≡ changes c 0 n
