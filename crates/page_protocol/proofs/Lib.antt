@@ -9,3 +9,4 @@ pub mod Possible
 pub mod Redo
 pub mod Needed
 pub mod Bytes
+pub mod Opening

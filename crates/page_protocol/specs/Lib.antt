@@ -7,3 +7,4 @@ pub mod Words
 pub mod Redo
 pub mod Needed
 pub mod Bytes
+pub mod Opening

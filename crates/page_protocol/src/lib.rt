@@ -2,14 +2,17 @@
 #![tactic(auto)]
 
 ghost use Rattle.page_protocol.specs.Always.{StartsGood, KeepsGood, AlwaysGood};
+ghost use Rattle.page_protocol.specs.Opening.{OpensGood};
 ghost use Rattle.page_protocol.specs.Words.{CoherentGives, NeverGoesBack, NoEarlierCopy, FailureIsPossible, RebuildIsPossible, GroupFailureIsPossible};
 ghost use Rattle.page_protocol.specs.Bytes.{RestartReachesLast, RebuildReachesRead, GroupRestartReachesLast};
 ghost use Rattle.page_protocol.specs.Needed.{InvalidationIsNeeded, StableIsNeeded, WrittenIsNeeded, BitIsNeeded, CastoutLockIsNeeded, AllLogsAreNeeded, CacheIsNeeded, ComparisonIsNeeded};
 ghost use Rattle.page_protocol.specs.Redo.{OwnLogSuffices, MergedLogsSuffice, RedoneOnce};
 
-/// The start is coherent, each move keeps what is, and so does every list of moves.
+/// The start over empty disks is coherent, the opening over any sound disk is ready for group restart, each move keeps
+/// what is, and so does every list of moves.
 pub fn coherent_pages()
     ensures start { StartsGood }
+    ensures opening { OpensGood }
     ensures step { KeepsGood }
     ensures run { AlwaysGood }
 {}
