@@ -8,3 +8,4 @@ pub mod Redo
 pub mod Needed
 pub mod Bytes
 pub mod Opening
+pub mod Links
