@@ -11,3 +11,4 @@ pub mod Needed
 pub mod Bytes
 pub mod Opening
 pub mod Links
+pub mod LinkRuns

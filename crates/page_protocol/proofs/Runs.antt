@@ -90,7 +90,7 @@ pub all_fallen : (w : World) → w.down ≡ true → Good w → (n : ℕ) → Gr
 all_fallen w up s n = fallen w.down w.group (w.pages n) up (s.stands n)
 
 -- a change stands behind all that its log has of the page
-behind : (g : Group) (p : Page) (m : ℕ) → Coherent g p → (i : ℕ) → i < p.last → p.author i ≡ m → p.place i < g.written m
+pub behind : (g : Group) (p : Page) (m : ℕ) → Coherent g p → (i : ℕ) → i < p.last → p.author i ≡ m → p.place i < g.written m
 behind g p m s i lt e = subst (λ a. p.place i < g.written a) e (s.written i lt)
 
 behind_stable : (g : Group) (p : Page) (m : ℕ) → Grounded g p → (i : ℕ) → i < p.last → p.author i ≡ m → p.place i < g.stable m
