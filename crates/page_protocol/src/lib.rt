@@ -4,6 +4,7 @@
 ghost use Rattle.page_protocol.specs.Always.{StartsGood, KeepsGood, AlwaysGood};
 ghost use Rattle.page_protocol.specs.Opening.{OpensGood};
 ghost use Rattle.page_protocol.specs.Words.{CoherentGives, NeverGoesBack, NoEarlierCopy, FailureIsPossible, RebuildIsPossible, GroupFailureIsPossible};
+ghost use Rattle.page_protocol.specs.Links.{AlwaysLinked, LinksLead};
 ghost use Rattle.page_protocol.specs.Bytes.{RestartReachesLast, RebuildReachesRead, GroupRestartReachesLast};
 ghost use Rattle.page_protocol.specs.Needed.{InvalidationIsNeeded, StableIsNeeded, WrittenIsNeeded, BitIsNeeded, CastoutLockIsNeeded, AllLogsAreNeeded, CacheIsNeeded, ComparisonIsNeeded};
 ghost use Rattle.page_protocol.specs.Redo.{OwnLogSuffices, MergedLogsSuffice, RedoneOnce};
@@ -61,4 +62,11 @@ pub fn redo_reaches()
     ensures restart { RestartReachesLast }
     ensures rebuild { RebuildReachesRead }
     ensures group_restart { GroupRestartReachesLast }
+{}
+
+/// Pointers between pages: where pages are written in the order of their pointers, a shared pointer leads to a shared
+/// page through every list of moves, and a pointer in a frame that a member may use leads to what it was made for.
+pub fn pointers_lead()
+    ensures run { AlwaysLinked }
+    ensures lead { LinksLead }
 {}
