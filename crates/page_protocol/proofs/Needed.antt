@@ -1,10 +1,13 @@
 -- The states that show the guards' need.
-use Rattle.std.proofs.Common.{◌≡◌, ℕ, zero, suc, ◌<◌, ◌≤◌, arith, refl, ap, Bool, true, false, List, [], ◌∷◌, Option, Some, None}
-use Rattle.std.specs.Prelude.{◌≢◌, ◌==◌}
+use Rattle.std.proofs.Common.{◌≡◌, ℕ, zero, suc, ◌<◌, ◌≤◌, ◌∙◌, inl, inr, arith, refl, ap, Bool, true, false, List, [], ◌∷◌, Option, Some, None}
+use Rattle.std.specs.Prelude.{◌≢◌, ◌==◌, ◌&&◌, if◌then◌else◌}
+use Rattle.std.proofs.lemmas.Bool.{cases_Bool, cond-true, cond-false}
 use Rattle.page_protocol.specs.Page.{Page, Group, put, group_copy}
 use Rattle.page_protocol.specs.Moves.{IsRead}
 use Rattle.page_protocol.specs.Coherent.{Coherent}
-use Rattle.page_protocol.specs.Needed.{all_up_with, in_hand, taken_over, after_rebuild, lost_with_two, while_lost, without_log, direct_while_lost, read_before, InvalidationIsNeeded, StableIsNeeded, WrittenIsNeeded, BitIsNeeded, CastoutLockIsNeeded, AllLogsAreNeeded, CacheIsNeeded, ComparisonIsNeeded}
+use Rattle.page_protocol.specs.Needed.{all_up_with, in_hand, taken_over, after_rebuild, lost_with_two, while_lost, without_log, direct_while_lost, read_before, InvalidationIsNeeded, StableIsNeeded, WrittenIsNeeded, BitIsNeeded, CastoutLockIsNeeded, AllLogsAreNeeded, CacheIsNeeded, ComparisonIsNeeded, both_in_hand, one_link, OrderIsNeeded}
+use Rattle.page_protocol.specs.Always.{Good}
+use Rattle.page_protocol.specs.Links.{Link, Links, LinkHolds, Linked}
 
 two_stable : Coherent (all_up_with 2 2) in_hand
 two_stable = grind arith
@@ -47,3 +50,28 @@ cache = record { coherent = direct; direct = refl; stable = grind arith; read = 
 
 pub comparison : ComparisonIsNeeded
 comparison = record { rise = (omega arith, (omega arith, tt)); own_log = refl; breaks = λ e. absurd (let x = ap (λ (b : Rattle.page_protocol.specs.Redo.Bytes). b.lrsn) e in omega (arith, x)) }
+
+good : Good both_in_hand
+good = record { stands = λ n. two_stable; ordered = λ n i j a b e. grind arith; numbered = λ n. grind arith }
+
+one_holds : (i c : ℕ) → i ≡ 1 → c ≡ 1 → LinkHolds false false in_hand in_hand i c
+one_holds i c a b = record { there = grind (arith, a, b); made = grind (arith, a, b); shared = grind (arith, a, b) }
+
+linked : Linked one_link both_in_hand
+linked n i l is = elim (cases_Bool ((n == 0) && (i == 1))) [
+    inl here ↦ let e = cond-true ((n == 0) && (i == 1)) (Some link) None here in let f : Some link ≡ Some l = Rattle.std.proofs.Common.sym e ∙ is in one_holds i l.change (index n i here) (change_of l f)
+  | inr other ↦ absurd (let e = cond-false ((n == 0) && (i == 1)) (Some link) None other in let f : None ≡ Some l = Rattle.std.proofs.Common.sym e ∙ is in cc)
+]
+  where
+    link : Link
+    link = record { page = 1; change = 1 }
+    index : (n i : ℕ) → ((n == 0) && (i == 1)) ≡ true → i ≡ 1
+    index n i h = grind (arith, h)
+    change_of : (l : Link) → Some link ≡ Some l → l.change ≡ 1
+    change_of l e = grind (arith, e)
+
+pub order : OrderIsNeeded
+order = record { good = good; linked = linked; marked = refl; stable = grind arith; breaks = λ s. absurd (no (s 0 1 (record { page = 1; change = 1 }) refl)) }
+  where
+    no : LinkHolds false false (put both_in_hand.pages 0 (Rattle.page_protocol.specs.Page.write in_hand 1) 0) (put both_in_hand.pages 0 (Rattle.page_protocol.specs.Page.write in_hand 1) 1) 1 1 → ⊥
+    no k = elim (k.shared refl refl (omega arith)) [ inl lt ↦ (let x : 1 < 1 = lt in omega (arith, x)) | inr e ↦ (let x : false ≡ true = e in cc) ]

@@ -1,7 +1,9 @@
 -- Guards without which a coherent state is left: for each a state and a move that lacks it.
-use Rattle.std.specs.Prelude.{◌≡◌, ◌≢◌, ℕ, ◌+◌, ◌<◌, ◌≤◌, Bool, true, false, List, [], ◌∷◌, ◌++◌, filter, Option, Some, None, if◌then◌else◌, ◌==◌, ◌⊎◌}
+use Rattle.std.specs.Prelude.{◌≡◌, ◌≢◌, ℕ, ◌+◌, ◌<◌, ◌≤◌, Bool, true, false, List, [], ◌∷◌, ◌++◌, filter, Option, Some, None, if◌then◌else◌, ◌==◌, ◌⊎◌, ◌&&◌}
 use Rattle.page_protocol.specs.Page.{Page, Group, Frame, Up, put, AllStable, unfilled, holding, write, write_direct, change, castout_write, given_up, rebuild}
-use Rattle.page_protocol.specs.Moves.{IsRead, with_cache, drawn}
+use Rattle.page_protocol.specs.Moves.{World, IsRead, with_cache, drawn}
+use Rattle.page_protocol.specs.Always.{Good}
+use Rattle.page_protocol.specs.Links.{Links, Linked}
 use Rattle.page_protocol.specs.Coherent.{Coherent}
 use Rattle.page_protocol.specs.Redo.{Patch, Change, page_after, redone, is_of, AreOf, Rise, zeros}
 
@@ -157,3 +159,19 @@ pub record ComparisonIsNeeded : Type 0 where
   pub rise : Rise 0 (first_change ∷ second_change ∷ [])
   pub own_log : filter (is_of 1) (first_change ∷ second_change ∷ []) ≡ first_change ∷ []
   pub breaks : page_after replaced (page_after replaced zeros (first_change ∷ second_change ∷ [])) (first_change ∷ []) ≢ page_after replaced zeros (first_change ∷ second_change ∷ [])
+
+-- ---- a page is written only after each page that it points to
+
+-- member 1 has changed two pages, and the second change of page 0 points to the second change of page 1
+abbrev pub both_in_hand : World
+both_in_hand = record { down = false; group = all_up_with 2 2; pages = λ n. in_hand }
+
+abbrev pub one_link : Links
+one_link n i = if (n == 0) && (i == 1) then Some (record { page = 1; change = 1 }) else None
+
+pub record OrderIsNeeded : Type 0 where
+  pub good : Good both_in_hand
+  pub linked : Linked one_link both_in_hand
+  pub marked : ((both_in_hand.pages 0).frame 1).marked ≡ true
+  pub stable : AllStable both_in_hand.group (both_in_hand.pages 0) ((both_in_hand.pages 0).frame 1).version
+  pub breaks : Linked one_link (record both_in_hand { pages = put both_in_hand.pages 0 (write in_hand 1) }) → ⊥

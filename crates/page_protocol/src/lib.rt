@@ -6,7 +6,7 @@ ghost use Rattle.page_protocol.specs.Opening.{OpensGood};
 ghost use Rattle.page_protocol.specs.Words.{CoherentGives, NeverGoesBack, NoEarlierCopy, FailureIsPossible, RebuildIsPossible, GroupFailureIsPossible};
 ghost use Rattle.page_protocol.specs.Links.{AlwaysLinked, LinksLead};
 ghost use Rattle.page_protocol.specs.Bytes.{RestartReachesLast, RebuildReachesRead, GroupRestartReachesLast};
-ghost use Rattle.page_protocol.specs.Needed.{InvalidationIsNeeded, StableIsNeeded, WrittenIsNeeded, BitIsNeeded, CastoutLockIsNeeded, AllLogsAreNeeded, CacheIsNeeded, ComparisonIsNeeded};
+ghost use Rattle.page_protocol.specs.Needed.{InvalidationIsNeeded, StableIsNeeded, WrittenIsNeeded, BitIsNeeded, CastoutLockIsNeeded, AllLogsAreNeeded, CacheIsNeeded, ComparisonIsNeeded, OrderIsNeeded};
 ghost use Rattle.page_protocol.specs.Redo.{OwnLogSuffices, MergedLogsSuffice, RedoneOnce};
 
 /// The start over empty disks is coherent, the opening over any sound disk is ready for group restart, each move keeps
@@ -44,7 +44,7 @@ pub fn redo_laws()
 /// Guards without which pages don't stay coherent: a write invalidates all other frames, a page is written only when its
 /// log records are stable, it is given up only when it was written, it is changed only where the bit is set, a castout's
 /// disk write is done under its lock, a rebuild merges all logs, a sole user writes to disk only while the cache is
-/// there, and redo compares numbers.
+/// there, redo compares numbers, and a page is written after the pages that it points to.
 pub fn guards_are_needed()
     ensures invalidation { InvalidationIsNeeded }
     ensures stable { StableIsNeeded }
@@ -54,6 +54,7 @@ pub fn guards_are_needed()
     ensures all_logs { AllLogsAreNeeded }
     ensures cache { CacheIsNeeded }
     ensures comparison { ComparisonIsNeeded }
+    ensures order { OrderIsNeeded }
 {}
 
 /// Redo in the group: a restarting owner comes from the shared version of its page to the last one by its own log, a
