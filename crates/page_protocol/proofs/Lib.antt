@@ -12,3 +12,4 @@ pub mod Bytes
 pub mod Opening
 pub mod Links
 pub mod LinkRuns
+pub mod Frames

@@ -9,3 +9,4 @@ pub mod Needed
 pub mod Bytes
 pub mod Opening
 pub mod Links
+pub mod Frames

@@ -4,6 +4,7 @@
 ghost use Rattle.page_protocol.specs.Always.{StartsGood, KeepsGood, AlwaysGood};
 ghost use Rattle.page_protocol.specs.Opening.{OpensGood};
 ghost use Rattle.page_protocol.specs.Words.{CoherentGives, NeverGoesBack, NoEarlierCopy, FailureIsPossible, RebuildIsPossible, GroupFailureIsPossible};
+ghost use Rattle.page_protocol.specs.Frames.{TestTells, Places, TakesOut, Registers, Unregisters, Drops, Empties};
 ghost use Rattle.page_protocol.specs.Links.{AlwaysLinked, LinksLead};
 ghost use Rattle.page_protocol.specs.Bytes.{RestartReachesLast, RebuildReachesRead, GroupRestartReachesLast};
 ghost use Rattle.page_protocol.specs.Needed.{InvalidationIsNeeded, StableIsNeeded, WrittenIsNeeded, BitIsNeeded, CastoutLockIsNeeded, AllLogsAreNeeded, CacheIsNeeded, ComparisonIsNeeded, OrderIsNeeded};
@@ -70,4 +71,16 @@ pub fn redo_reaches()
 pub fn pointers_lead()
     ensures run { AlwaysLinked }
     ensures lead { LinksLead }
+{}
+
+/// Frames and registrations by index: a test of the frame that has a page tells the page's bit, and what is done to
+/// frames and registrations does to the bits by page exactly what the moves of pages say.
+pub fn bits_by_frame()
+    ensures test { TestTells }
+    ensures places { Places }
+    ensures takes_out { TakesOut }
+    ensures registers { Registers }
+    ensures unregisters { Unregisters }
+    ensures drops { Drops }
+    ensures empties { Empties }
 {}
