@@ -109,8 +109,8 @@ less_some pages touched f new n = cond_both (touched n) (f (pages n)) (pages n) 
 same_some : (pages : ℕ → Page) (touched : ℕ → Bool) (f : Page → Page) → ((n : ℕ) → (f (pages n)).shared ≡ (pages n).shared) → (n : ℕ) → (if touched n then f (pages n) else pages n).shared ≡ (pages n).shared
 same_some pages touched f new n = cond_both (touched n) (f (pages n)) (pages n) (λ x. x.shared ≡ (pages n).shared) (λ e. new n) (λ e. refl)
 
-written_whole : (g : Group) (p : Page) (m : ℕ) → Coherent g p → p.owner ≡ Some m → IsWritten p m → p.shared ≡ p.last
-written_whole g p m s own done = let n = s.own p.shared in let w = s.within in let d = done p.shared in grind (arith, n, w, d, own)
+written_whole : (g : Group) (p : Page) (m : ℕ) → Coherent g p → p.owner ≡ Some m → IsWritten g p m → p.shared ≡ p.last
+written_whole g p m s own done = let n = s.own p.shared in let w = s.within in let d = done p.shared in let l = s.lost_copy in grind (arith, n, w, d, l, own)
 
 clean_whole : (g : Group) (p : Page) (m : ℕ) → Coherent g p → p.owner ≡ Some m → g.status m ≡ Up → (p.frame m).marked ≡ false → p.shared ≡ p.last
 clean_whole g p m s own up clean = let n = s.newest m own in let w = s.within in grind (arith, n, w, up, clean)

@@ -29,10 +29,10 @@ version_of : (g : Group) (p : Page) (m : ℕ) → Coherent g p → p.owner ≡ S
 version_of g p m s own filled (inl bit) unmarked = s.valid m filled bit unmarked
 version_of g p m s own filled (inr sole) unmarked = s.sole_valid m sole.0 own sole.1 filled unmarked
 
-nothing_beyond : (g : Group) (p : Page) (m : ℕ) → Coherent g p → p.owner ≡ Some m → (g.status m ≡ Up) ⊎ ((p.frame m).marked ≡ true) ⊎ IsWritten p m → (p.frame m).marked ≡ false → p.shared ≡ p.last
+nothing_beyond : (g : Group) (p : Page) (m : ℕ) → Coherent g p → p.owner ≡ Some m → (g.status m ≡ Up) ⊎ ((p.frame m).marked ≡ true) ⊎ IsWritten g p m → (p.frame m).marked ≡ false → p.shared ≡ p.last
 nothing_beyond g p m s own (inl up) unmarked = let n = s.newest m own in let w = s.within in grind (arith, n, w, up, unmarked)
 nothing_beyond g p m s own (inr (inl marked)) unmarked = absurd (both_ways _ unmarked marked)
-nothing_beyond g p m s own (inr (inr done)) unmarked = let n = s.own p.shared in let w = s.within in let d = done p.shared in grind (arith, n, w, d, own)
+nothing_beyond g p m s own (inr (inr done)) unmarked = let n = s.own p.shared in let w = s.within in let d = done p.shared in let l = s.lost_copy in grind (arith, n, w, d, l, own)
 
 pub has_last : (g : Group) (p : Page) (m : ℕ) → Coherent g p → MayChange g p m → (p.frame m).version ≡ p.last
 has_last g p m s may = elim (cases_Bool (p.frame m).marked) [

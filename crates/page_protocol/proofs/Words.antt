@@ -1,7 +1,7 @@
 -- What coherence gives.
 use Rattle.std.proofs.Common.{◌≡◌, ℕ, ◌+◌, ◌<◌, ◌≤◌, refl, sym, ◌∙◌, arith, Bool, true, false, inl, inr, ◌⊎◌, Option, Some, None}
 use Rattle.std.proofs.lemmas.Bool.{cases_Bool}
-use Rattle.page_protocol.specs.Page.{Page, Group, Up, Failed, AllStable, group_copy}
+use Rattle.page_protocol.specs.Page.{Page, Group, Up, Failed, AllStable, group_copy, copy_before}
 use Rattle.page_protocol.specs.Coherent.{Coherent, IsCasting}
 use Rattle.page_protocol.specs.Words.{AreVersions, IsUsable, NewestAllowed, FindsOwn, AreTheOwners, StableBeforeShared, DiskIsNoLater, BufferIsNew, Gives, CoherentGives}
 
@@ -35,9 +35,9 @@ gives g p s = record {
   newest_allowed = newest g p s;
   finds_own = λ m i use-it up has. own_found g p m i s up (newest g p s m use-it) use-it.0 has;
   unshared = record {
-    author = s.own;
+    author = λ i a b. beyond i a b;
     in_log = λ i a b. s.written i b;
-    in_frame = λ m own more up. let h = s.newest m own more up in (s.marked_filled m h, s.marked_last m h);
+    in_frame = λ m own more up. let h = in_hand m own more up in (s.marked_filled m h, s.marked_last m h);
     on_disk = λ m own failed. s.failed_stable m failed own;
   };
   stable_before_shared = (λ i lt. let a = copy_old g p s in s.stable i (omega (arith, a, lt)), λ i lt. let a = s.disk_old in s.stable i (omega (arith, a, lt)));
@@ -53,5 +53,9 @@ gives g p s = record {
   lost_bits = s.lost_bits;
 }
   where
+    beyond : (i : ℕ) → copy_before g p ≤ i → i < p.last → p.owner ≡ Some (p.author i)
+    beyond i a b = let x = s.own i in let y = s.lost_own i in grind (arith, x, y, a, b)
+    in_hand : (m : ℕ) → p.owner ≡ Some m → copy_before g p < p.last → g.status m ≡ Up → (p.frame m).marked ≡ true
+    in_hand m own more up = let x = s.newest m in let y = s.lost_newest m in grind (arith, x, y, own, more, up)
     held_copy : (m : ℕ) → p.castout ≡ Some m → group_copy p ≡ p.shared
     held_copy m held = let a = s.lost_castout in let b = s.group in grind (arith, a, b, held)

@@ -18,6 +18,9 @@ pub record Coherent (g : Group) (p : Page) : Type 0 where
   pub group : g.lost ≡ false → group_copy p ≡ p.shared
   pub lost_bytes : g.lost ≡ true → p.bytes ≡ None
   pub lost_castout : g.lost ≡ true → p.castout ≡ None
+  pub lost_copy : g.lost ≡ true → p.at_loss ≤ p.shared
+  pub lost_own : (i : ℕ) → g.lost ≡ true → p.at_loss ≤ i → i < p.last → p.owner ≡ Some (p.author i)
+  pub lost_newest : (m : ℕ) → g.lost ≡ true → p.owner ≡ Some m → p.at_loss < p.last → g.status m ≡ Up → (p.frame m).marked ≡ true
   pub lost_bits : (m : ℕ) → g.lost ≡ true → p.bit m ≡ false
   -- logs: what is shared is stable, and a rebuild reads it
   pub stable : AllStable g p p.shared

@@ -1,7 +1,7 @@
 -- The moves of pages, logs and members, and the lists of moves. Beside each move stands who knows what its guard says:
 -- the member that makes it, the facility in that event, or the lock world.
 use Rattle.std.specs.Prelude.{◌≡◌, ◌≢◌, ℕ, ◌+◌, ◌<◌, ◌≤◌, Bool, true, false, List, [], ◌∷◌, Some, None, ◌⊎◌, if◌then◌else◌, ◌==◌}
-use Rattle.page_protocol.specs.Page.{Page, Group, Up, Failed, Restarting, AllStable, put, unfilled, read, read_disk, write, write_direct, change, castout_read, castout_write, castout_done, reclaim, drop_frame, redo, rebuild, lose, fail, owned, owned_whole, given_up, all_fail, brought_forward, compensate, risen}
+use Rattle.page_protocol.specs.Page.{Page, Group, Up, Failed, Restarting, AllStable, copy_before, put, unfilled, read, read_disk, write, write_direct, change, castout_read, castout_write, castout_done, reclaim, drop_frame, redo, rebuild, lose, fail, owned, owned_whole, given_up, all_fail, brought_forward, compensate, risen}
 
 pub record World : Type 0 where
   pub down : Bool  -- the group failed, and its restart hasn't ended
@@ -56,9 +56,9 @@ MayFill g p m = p.sole ≡ true → (p.owner ≡ Some m) × (g.status m ≡ Up �
 abbrev pub MayBeDirect : Group → Page → ℕ → Bool → Type 0
 MayBeDirect g p m direct = direct ≡ true → (p.sole ≡ true) × (p.owner ≡ Some m) × (g.status m ≡ Up)
 
--- no change of the member is missing in the group's copy
-abbrev pub IsWritten : Page → ℕ → Type 0
-IsWritten p m = (i : ℕ) → p.shared ≤ i → i < p.last → p.author i ≢ m
+-- no change of the member is missing in the group's copy, nor in the one that stood before a loss
+abbrev pub IsWritten : Group → Page → ℕ → Type 0
+IsWritten g p m = (i : ℕ) → copy_before g p ≤ i → i < p.last → p.author i ≢ m
 
 -- the version that the read part of the logs leads to: it has what was read and nothing else
 pub record IsRead (g : Group) (p : Page) (n : ℕ) : Type 0 where
@@ -94,7 +94,7 @@ PageStep g p (Unlock m) q = (p.owner ≡ Some m) × (p.sole ≡ false) × (g.sta
 -- forward recovery of a page or set that the restarting member retains, over a frame that is registered and filled
 PageStep g p (Redo m) q = (p.owner ≡ Some m) × (g.status m ≡ Restarting) × ((p.frame m).filled ≡ true) × (p.bit m ≡ true) × (q ≡ redo p m)
 -- a restart gives a page up: its own log's changes of it are in the group's copy, as their numbers show
-PageStep g p (Purge m) q = (p.owner ≡ Some m) × (p.sole ≡ false) × (g.status m ≡ Restarting) × ((p.frame m).marked ≡ false) × IsWritten p m × (q ≡ given_up p)
+PageStep g p (Purge m) q = (p.owner ≡ Some m) × (p.sole ≡ false) × (g.status m ≡ Restarting) × ((p.frame m).marked ≡ false) × IsWritten g p m × (q ≡ given_up p)
 -- the claimant of the rebuild, by redo of the records that it read after the loss
 PageStep g p (Rebuild n) q = (g.lost ≡ true) × IsRead g p n × (q ≡ rebuild p n)
 
@@ -102,7 +102,7 @@ PageStep g p (Rebuild n) q = (g.lost ≡ true) × IsRead g p n × (q ≡ rebuild
 pub record MayChange (g : Group) (p : Page) (m : ℕ) : Type 0 where
   pub own : p.owner ≡ Some m
   pub live : g.status m ≢ Failed
-  pub newest : (g.status m ≡ Up) ⊎ ((p.frame m).marked ≡ true) ⊎ IsWritten p m
+  pub newest : (g.status m ≡ Up) ⊎ ((p.frame m).marked ≡ true) ⊎ IsWritten g p m
   pub filled : (p.frame m).filled ≡ true
   pub usable : (p.bit m ≡ true) ⊎ ((p.sole ≡ true) × (g.status m ≡ Up))
 
@@ -137,7 +137,7 @@ pub record MayPurge (g : Group) (p : Page) (m : ℕ) : Type 0 where
   pub sole : p.sole ≡ true
   pub restarting : g.status m ≡ Restarting
   pub clean : (p.frame m).marked ≡ false
-  pub written : IsWritten p m
+  pub written : IsWritten g p m
 
 -- ---- what moves leave of the group
 abbrev pub drawn : Group → ℕ → Group
@@ -248,6 +248,7 @@ blank = record {
   owner = None;
   sole = false;
   shared = 0;
+  at_loss = 0;
 }
 
 -- over empty disks

@@ -33,6 +33,7 @@ in_hand = record {
   owner = Some 1;
   sole = false;
   shared = 1;
+  at_loss = 1;
 }
 
 -- ---- a write invalidates all other frames
@@ -103,7 +104,7 @@ pub record CastoutLockIsNeeded : Type 0 where
 
 -- the cache was lost with version 2, whose changes are in the log of member 1
 abbrev pub lost_with_two : Page
-lost_with_two = record after_rebuild { disk = 0 }
+lost_with_two = record after_rebuild { disk = 0; at_loss = 2 }
 
 abbrev pub while_lost : Group
 while_lost = record (all_up_with 2 2) { lost = true; read = λ m. 2 }

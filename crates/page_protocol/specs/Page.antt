@@ -37,6 +37,7 @@ pub record Page : Type 0 where
   pub owner : Option ℕ  -- the member whose page lock, or whose page set as sole user, is held or retained
   pub sole : Bool  -- the owner has the page by its whole page set
   pub shared : ℕ  -- the greatest version that was ever the group's copy
+  pub at_loss : ℕ  -- the same at the latest loss of the cache
 
 -- the group, as a page sees it
 pub record Group : Type 0 where
@@ -50,6 +51,10 @@ pub record Group : Type 0 where
 -- the cache's bytes, or else the disk's page
 abbrev pub group_copy : Page → ℕ
 group_copy p = unwrap_or p.bytes p.disk
+
+-- the group's copy, or while the cache is lost the one that stood before the loss
+abbrev pub copy_before : Group → Page → ℕ
+copy_before g p = if g.lost then p.at_loss else p.shared
 
 -- the changes below the version stand in logs on disk
 abbrev pub AllStable : Group → Page → ℕ → Type 0
@@ -123,7 +128,7 @@ abbrev pub rebuild : Page → ℕ → Page
 rebuild p n = record p { disk = n; shared = n }
 
 abbrev pub lose : Page → Page
-lose p = record p { bytes = None; changed = false; castout = None; bit = λ k. false }
+lose p = record p { bytes = None; changed = false; castout = None; bit = λ k. false; at_loss = p.shared }
 
 -- a failure takes the member's frame, registration and castout lock, and what its log hadn't on disk
 abbrev pub fail : Page → ℕ → ℕ → Page
