@@ -13,3 +13,4 @@ pub mod Opening
 pub mod Links
 pub mod LinkRuns
 pub mod Frames
+pub mod Sets

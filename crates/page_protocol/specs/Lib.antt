@@ -10,3 +10,4 @@ pub mod Bytes
 pub mod Opening
 pub mod Links
 pub mod Frames
+pub mod Sets

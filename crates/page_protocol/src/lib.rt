@@ -4,6 +4,7 @@
 ghost use Rattle.page_protocol.specs.Always.{StartsGood, KeepsGood, AlwaysGood};
 ghost use Rattle.page_protocol.specs.Opening.{OpensGood};
 ghost use Rattle.page_protocol.specs.Words.{CoherentGives, NeverGoesBack, NoEarlierCopy, FailureIsPossible, RebuildIsPossible, GroupFailureIsPossible};
+ghost use Rattle.page_protocol.specs.Sets.{AlwaysAgree};
 ghost use Rattle.page_protocol.specs.Frames.{TestTells, Places, TakesOut, Registers, Unregisters, Drops, Empties};
 ghost use Rattle.page_protocol.specs.Links.{AlwaysLinked, LinksLead};
 ghost use Rattle.page_protocol.specs.Bytes.{RestartReachesLast, RebuildReachesRead, GroupRestartReachesLast};
@@ -83,4 +84,9 @@ pub fn bits_by_frame()
     ensures unregisters { Unregisters }
     ensures drops { Drops }
     ensures empties { Empties }
+{}
+
+/// A sole user has each page of its page set, through every list of moves.
+pub fn whole_sets()
+    ensures { AlwaysAgree }
 {}
