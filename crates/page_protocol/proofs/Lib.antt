@@ -14,3 +14,4 @@ pub mod Links
 pub mod LinkRuns
 pub mod Frames
 pub mod Sets
+pub mod Rows

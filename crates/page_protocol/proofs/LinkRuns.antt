@@ -112,7 +112,7 @@ same_some pages touched f new n = cond_both (touched n) (f (pages n)) (pages n) 
 written_whole : (g : Group) (p : Page) (m : ℕ) → Coherent g p → p.owner ≡ Some m → IsWritten g p m → p.shared ≡ p.last
 written_whole g p m s own done = let n = s.own p.shared in let w = s.within in let d = done p.shared in let l = s.lost_copy in grind (arith, n, w, d, l, own)
 
-clean_whole : (g : Group) (p : Page) (m : ℕ) → Coherent g p → p.owner ≡ Some m → g.status m ≡ Up → (p.frame m).marked ≡ false → p.shared ≡ p.last
+pub clean_whole : (g : Group) (p : Page) (m : ℕ) → Coherent g p → p.owner ≡ Some m → g.status m ≡ Up → (p.frame m).marked ≡ false → p.shared ≡ p.last
 clean_whole g p m s own up clean = let n = s.newest m own in let w = s.within in grind (arith, n, w, up, clean)
 
 quiet : (w v : World) (links : Links) → Linked links w → v.down ≡ w.down → v.group.lost ≡ w.group.lost → ((n : ℕ) → IsNoLess (w.pages n) (v.pages n)) → ((n : ℕ) → (v.pages n).shared ≡ (w.pages n).shared) → ((n : ℕ) → (v.pages n).shared ≤ (v.pages n).last) → Linked links v

@@ -11,3 +11,4 @@ pub mod Opening
 pub mod Links
 pub mod Frames
 pub mod Sets
+pub mod Rows

@@ -4,6 +4,7 @@
 ghost use Rattle.page_protocol.specs.Always.{StartsGood, KeepsGood, AlwaysGood};
 ghost use Rattle.page_protocol.specs.Opening.{OpensGood};
 ghost use Rattle.page_protocol.specs.Words.{CoherentGives, NeverGoesBack, NoEarlierCopy, FailureIsPossible, RebuildIsPossible, GroupFailureIsPossible};
+ghost use Rattle.page_protocol.specs.Rows.{ReadsLastValue, KeepsClaimed};
 ghost use Rattle.page_protocol.specs.Sets.{AlwaysAgree};
 ghost use Rattle.page_protocol.specs.Frames.{TestTells, Places, TakesOut, Registers, Unregisters, Drops, Empties};
 ghost use Rattle.page_protocol.specs.Links.{AlwaysLinked, LinksLead};
@@ -89,4 +90,11 @@ pub fn bits_by_frame()
 /// A sole user has each page of its page set, through every list of moves.
 pub fn whole_sets()
     ensures { AlwaysAgree }
+{}
+
+/// Rows in pages: a transaction that claims a row finds its last value in any frame that its member may use, where each
+/// change that isn't shared is of a transaction that claims its row; and what keeps that so.
+pub fn rows_in_pages()
+    ensures reads { ReadsLastValue }
+    ensures claimed { KeepsClaimed }
 {}
