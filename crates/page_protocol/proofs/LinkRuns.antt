@@ -244,7 +244,7 @@ always_linked set [] links ends w v s k run = λ n i l is. subst (λ (x : World)
 always_linked set (a ∷ acts) links ends w v s k run = always_linked set acts (links_after links w a.makes a.move) ends run.0 v (kept_step set w run.0 a.move s run.1) (linked_step set w run.0 links a.makes a.move s k run.1 run.2) run.3
 
 -- ---- where pointers lead
-last_of_sole : (g : Group) (p : Page) (m : ℕ) → Coherent g p → g.status m ≡ Up → IsUsable g p m → p.sole ≡ true → (p.frame m).version ≡ p.last
+pub last_of_sole : (g : Group) (p : Page) (m : ℕ) → Coherent g p → g.status m ≡ Up → IsUsable g p m → p.sole ≡ true → (p.frame m).version ≡ p.last
 last_of_sole g p m s up use-it sole =
     let a = s.alone_bit in let b = s.sole_valid m in let c = s.newest m in let d = s.marked_last m in let e = s.within in let f = s.unowned in
     elim (cases_Bool (p.frame m).marked) [
