@@ -1,13 +1,13 @@
 -- Every run keeps the pointers between pages.
 use Rattle.std.proofs.Common.{◌≡◌, ℕ, ◌+◌, ◌<◌, ◌≤◌, refl, sym, ap, ◌∙◌, subst, arith, Bool, true, false, inl, inr, ◌⊎◌, List, [], ◌∷◌, Option, Some, None}
 use Rattle.std.specs.Prelude.{◌≢◌, ◌==◌, ◌&&◌, if◌then◌else◌}
-use Rattle.std.proofs.lemmas.Bool.{cond_both, eqb-true, cases_eq, cases_lt, cases_Bool, both_ways}
+use Rattle.std.proofs.lemmas.Bool.{cond_both, eqb-true, cases_eq, cases_lt, cases_Bool, both_ways, cond-true, cond-false, eq-eqb}
 use Rattle.page_protocol.specs.Page.{Page, Group, Up, put, read, read_disk, write, write_direct, change, castout_read, castout_write, castout_done, reclaim, drop_frame, redo, rebuild, lose, fail, owned, owned_whole, given_up, all_fail, brought_forward, compensate, risen}
 use Rattle.page_protocol.specs.Moves.{World, PageMove, Move, Read, ReadDisk, Write, WriteDirect, CastoutRead, CastoutWrite, CastoutDone, Reclaim, DropFrame, Lock, Unlock, Redo, Purge, Rebuild, At, Draw, Force, TakeSet, YieldSet, PurgeSet, Lose, ReadLog, Rebuilt, Fail, Restart, Open, GroupFail, Forward, Compensate, Append, Rise, PageStep, Step, IsRead, IsWholeCut, IsWritten}
 use Rattle.page_protocol.specs.Coherent.{Coherent}
 use Rattle.page_protocol.specs.Down.{Grounded}
 use Rattle.page_protocol.specs.Always.{Stands, Good}
-use Rattle.page_protocol.specs.Words.{IsUsable}
+use Rattle.page_protocol.specs.Words.{IsUsable, Gives}
 use Rattle.page_protocol.specs.Links.{Link, Links, LinkHolds, Linked, Act, MayLink, IsInOrder, PageLinkGuard, LinkGuard, links_after, LinkRun, AlwaysLinked, LinksLead}
 use Rattle.page_protocol.proofs.Steps.{no_earlier}
 use Rattle.page_protocol.proofs.Whole.{all_read}
@@ -167,26 +167,26 @@ drawn_link w m touched makes links n i l s up k may is = elim (cases_Bool (touch
     inl new ↦
       let b = both_true (touched n) (i == (w.pages n).last) new in
       let at : i ≡ (w.pages n).last = eqb-true i (w.pages n).last b.1 in
-      let made : makes n ≡ Some l = sym (Rattle.std.proofs.lemmas.Bool.cond-true (touched n && (i == (w.pages n).last)) (makes n) (links n i) new) ∙ is in
+      let made : makes n ≡ Some l = sym (cond-true (touched n && (i == (w.pages n).last)) (makes n) (links n i) new) ∙ is in
       subst (λ x. LinkHolds w.down w.group.lost x (if touched l.page then change (w.pages l.page) m (w.group.written m) (w.group.counter + 1) else w.pages l.page) i l.change)
-          (sym (Rattle.std.proofs.lemmas.Bool.cond-true (touched n) (change (w.pages n) m (w.group.written m) (w.group.counter + 1)) (w.pages n) b.0))
+          (sym (cond-true (touched n) (change (w.pages n) m (w.group.written m) (w.group.counter + 1)) (w.pages n) b.0))
           (subst (λ x. LinkHolds w.down w.group.lost (change (w.pages n) m (w.group.written m) (w.group.counter + 1)) (if touched l.page then change (w.pages l.page) m (w.group.written m) (w.group.counter + 1) else w.pages l.page) x l.change) (sym at)
               (new_link w.down w.group.lost (w.pages n) (w.pages l.page) m (w.group.written m) (w.group.counter + 1) l.change (touched l.page) (all_running w up s n).within (behind w.group (w.pages l.page) m (all_running w up s l.page)) (may n l b.0 made)))
   | inr old ↦
-      let was : links n i ≡ Some l = sym (Rattle.std.proofs.lemmas.Bool.cond-false (touched n && (i == (w.pages n).last)) (makes n) (links n i) old) ∙ is in
+      let was : links n i ≡ Some l = sym (cond-false (touched n && (i == (w.pages n).last)) (makes n) (links n i) old) ∙ is in
       old_link w.down w.group.lost (w.pages n) (w.pages l.page) m (w.group.written m) (w.group.counter + 1) i l.change (touched n) (touched l.page)
-          (λ t e. both_ways _ (at_last (touched n) (i == (w.pages n).last) _ refl old t) (Rattle.std.proofs.lemmas.Bool.eq-eqb i (w.pages n).last e)) (all_running w up s n).within (all_running w up s l.page).within (k n i l was)
+          (λ t e. both_ways _ (at_last (touched n) (i == (w.pages n).last) _ refl old t) (eq-eqb i (w.pages n).last e)) (all_running w up s n).within (all_running w up s l.page).within (k n i l was)
 ]
 
 compensated : (w : World) (links : Links) (p m n i : ℕ) (l : Link) → Good w → w.down ≡ true → Linked links w
     → (if (n == p) && (i == (w.pages n).last) then None else links n i) ≡ Some l
     → LinkHolds true w.group.lost (if n == p then compensate (w.pages n) m (w.group.stable m) (w.group.counter + 1) else w.pages n) (if l.page == p then compensate (w.pages l.page) m (w.group.stable m) (w.group.counter + 1) else w.pages l.page) i l.change
 compensated w links p m n i l s up k is = elim (cases_Bool ((n == p) && (i == (w.pages n).last))) [
-    inl new ↦ absurd (none (sym (Rattle.std.proofs.lemmas.Bool.cond-true ((n == p) && (i == (w.pages n).last)) None (links n i) new) ∙ is))
+    inl new ↦ absurd (none (sym (cond-true ((n == p) && (i == (w.pages n).last)) None (links n i) new) ∙ is))
   | inr old ↦
-      let was : links n i ≡ Some l = sym (Rattle.std.proofs.lemmas.Bool.cond-false ((n == p) && (i == (w.pages n).last)) None (links n i) old) ∙ is in
+      let was : links n i ≡ Some l = sym (cond-false ((n == p) && (i == (w.pages n).last)) None (links n i) old) ∙ is in
       compensated_link w.down w.group.lost true w.group.lost (w.pages n) (w.pages l.page) m (w.group.stable m) (w.group.counter + 1) i l.change (n == p) (l.page == p) refl
-          (λ t e. both_ways _ (at_last (n == p) (i == (w.pages n).last) _ refl old t) (Rattle.std.proofs.lemmas.Bool.eq-eqb i (w.pages n).last e)) (all_fallen w up s l.page).shared (k n i l was)
+          (λ t e. both_ways _ (at_last (n == p) (i == (w.pages n).last) _ refl old t) (eq-eqb i (w.pages n).last e)) (all_fallen w up s l.page).shared (k n i l was)
 ]
   where
     none : None ≡ Some l → ⊥
@@ -290,7 +290,7 @@ lead w m n i l s up live from to k lt =
     cached : Coherent w.group (w.pages l.page) → (w.pages l.page).sole ≡ false → ((w.pages l.page).bit m ≡ true) ⊎ (((w.pages l.page).sole ≡ true) × ((w.pages l.page).owner ≡ Some m) × (w.group.status m ≡ Up)) → w.group.lost ≡ false
     cached sq part (inr h) = absurd (both_ways _ part h.0)
     cached sq part (inl h) = elim (cases_Bool w.group.lost) [ inl gone ↦ absurd (both_ways _ (sq.lost_bits m gone) h) | inr there ↦ there ]
-    mine : Coherent w.group (w.pages n) → Rattle.page_protocol.specs.Words.Gives w.group (w.pages n) → IsUsable w.group (w.pages n) m → (w.pages n).shared ≤ i → i < (w.pages n).last → i < ((w.pages n).frame m).version → (w.pages n).author i ≡ m
+    mine : Coherent w.group (w.pages n) → Gives w.group (w.pages n) → IsUsable w.group (w.pages n) m → (w.pages n).shared ≤ i → i < (w.pages n).last → i < ((w.pages n).frame m).version → (w.pages n).author i ≡ m
     mine sp gp from unshared low lt = elim (gp.newest_allowed m from) [
         inl e ↦ absurd (let x : i < (w.pages n).shared = omega (arith, e, lt) in omega (arith, x, unshared))
       | inr h ↦ let a = sp.own i unshared low in let b = h.0 in cc

@@ -6,6 +6,7 @@ use Rattle.page_protocol.specs.Moves.{IsCut, IsWholeCut, IsRead}
 use Rattle.page_protocol.specs.Coherent.{Coherent}
 use Rattle.page_protocol.specs.Down.{Grounded}
 use Rattle.page_protocol.specs.Links.{LinkHolds}
+use Rattle.std.proofs.lemmas.Bool.{both_ways}
 
 -- the page that is pointed to is shared no less, and reached by its sole user alone or wholly shared where it was so reached
 pub record IsNoLess (p q : Page) : Type 0 where
@@ -60,7 +61,7 @@ pub whole_cut_link : (down lost d l : Bool) (g : Group) (p q : Page) (a b i c : 
 whole_cut_link down lost d l g p q a b i c is s cp cq k = record {
   there = λ lt. let x = k.there in let y = k.made in let z = cq.gone c in let t = cp.kept i lt in let u = cp.short in let w = s c in grind (arith, x, y, z, t, u, w, lt);
   made = λ lt. let u = cp.short in k.made (omega (arith, lt, u));
-  shared = λ e. absurd (Rattle.std.proofs.lemmas.Bool.both_ways d e is);
+  shared = λ e. absurd (both_ways d e is);
 }
 
 -- ---- the end of a rebuild, and of group restart
@@ -81,14 +82,14 @@ risen_link down lost d l g p q i c s k = record {
 -- ---- a compensation of group restart
 pub compensated_link : (down lost d l : Bool) (p q : Page) (m at number i c : ℕ) (tp tq : Bool) → d ≡ true → (tp ≡ true → i ≢ p.last) → q.shared ≤ q.last → LinkHolds down lost p q i c
     → LinkHolds d l (if tp then compensate p m at number else p) (if tq then compensate q m at number else q) i c
-compensated_link down lost d l p q m at number i c true true is ne b k = let x = k.there in let y = k.made in let n = ne refl in record { there = grind (arith, x, n, b); made = grind (arith, x, y, n, b); shared = λ e. absurd (Rattle.std.proofs.lemmas.Bool.both_ways d e is) }
-compensated_link down lost d l p q m at number i c true false is ne b k = let x = k.there in let y = k.made in let n = ne refl in record { there = grind (arith, x, n, b); made = grind (arith, x, y, n, b); shared = λ e. absurd (Rattle.std.proofs.lemmas.Bool.both_ways d e is) }
-compensated_link down lost d l p q m at number i c false true is ne b k = let x = k.there in let y = k.made in record { there = grind (arith, x, b); made = grind (arith, x, y, b); shared = λ e. absurd (Rattle.std.proofs.lemmas.Bool.both_ways d e is) }
-compensated_link down lost d l p q m at number i c false false is ne b k = record { there = k.there; made = k.made; shared = λ e. absurd (Rattle.std.proofs.lemmas.Bool.both_ways d e is) }
+compensated_link down lost d l p q m at number i c true true is ne b k = let x = k.there in let y = k.made in let n = ne refl in record { there = grind (arith, x, n, b); made = grind (arith, x, y, n, b); shared = λ e. absurd (both_ways d e is) }
+compensated_link down lost d l p q m at number i c true false is ne b k = let x = k.there in let y = k.made in let n = ne refl in record { there = grind (arith, x, n, b); made = grind (arith, x, y, n, b); shared = λ e. absurd (both_ways d e is) }
+compensated_link down lost d l p q m at number i c false true is ne b k = let x = k.there in let y = k.made in record { there = grind (arith, x, b); made = grind (arith, x, y, b); shared = λ e. absurd (both_ways d e is) }
+compensated_link down lost d l p q m at number i c false false is ne b k = record { there = k.there; made = k.made; shared = λ e. absurd (both_ways d e is) }
 
 -- a regime in which nothing is promised of shared pointers
 pub regime_link : (down lost d l : Bool) (p q : Page) (i c : ℕ) → (d ≡ true) ⊎ (l ≡ true) → LinkHolds down lost p q i c → LinkHolds d l p q i c
 regime_link down lost d l p q i c is k = record { there = k.there; made = k.made; shared = λ e f. absurd (none e f) }
   where
     none : d ≡ false → l ≡ false → ⊥
-    none e f = elim is [ inl h ↦ Rattle.std.proofs.lemmas.Bool.both_ways d e h | inr h ↦ Rattle.std.proofs.lemmas.Bool.both_ways l f h ]
+    none e f = elim is [ inl h ↦ both_ways d e h | inr h ↦ both_ways l f h ]

@@ -1,13 +1,14 @@
 -- The states that show the guards' need.
-use Rattle.std.proofs.Common.{◌≡◌, ℕ, zero, suc, ◌<◌, ◌≤◌, ◌∙◌, inl, inr, arith, refl, ap, Bool, true, false, List, [], ◌∷◌, Option, Some, None}
+use Rattle.std.proofs.Common.{◌≡◌, ℕ, zero, suc, ◌<◌, ◌≤◌, ◌∙◌, inl, inr, arith, refl, ap, Bool, true, false, List, [], ◌∷◌, Option, Some, None, sym}
 use Rattle.std.specs.Prelude.{◌≢◌, ◌==◌, ◌&&◌, if◌then◌else◌}
 use Rattle.std.proofs.lemmas.Bool.{cases_Bool, cond-true, cond-false}
-use Rattle.page_protocol.specs.Page.{Page, Group, put, group_copy}
+use Rattle.page_protocol.specs.Page.{Page, Group, put, group_copy, write}
 use Rattle.page_protocol.specs.Moves.{IsRead}
 use Rattle.page_protocol.specs.Coherent.{Coherent}
 use Rattle.page_protocol.specs.Needed.{all_up_with, in_hand, taken_over, after_rebuild, lost_with_two, while_lost, without_log, direct_while_lost, read_before, InvalidationIsNeeded, StableIsNeeded, WrittenIsNeeded, BitIsNeeded, CastoutLockIsNeeded, AllLogsAreNeeded, CacheIsNeeded, ComparisonIsNeeded, both_in_hand, one_link, OrderIsNeeded}
 use Rattle.page_protocol.specs.Always.{Good}
 use Rattle.page_protocol.specs.Links.{Link, Links, LinkHolds, Linked}
+use Rattle.page_protocol.specs.Redo.{Bytes}
 
 two_stable : Coherent (all_up_with 2 2) in_hand
 two_stable = grind arith
@@ -49,7 +50,7 @@ pub cache : CacheIsNeeded
 cache = record { coherent = direct; direct = refl; stable = grind arith; read = grind arith; breaks = λ s. absurd (let e = s.read_shared 1 refl (omega arith) in omega (arith, e)) }
 
 pub comparison : ComparisonIsNeeded
-comparison = record { rise = (omega arith, (omega arith, tt)); own_log = refl; breaks = λ e. absurd (let x = ap (λ (b : Rattle.page_protocol.specs.Redo.Bytes). b.lrsn) e in omega (arith, x)) }
+comparison = record { rise = (omega arith, (omega arith, tt)); own_log = refl; breaks = λ e. absurd (let x = ap (λ (b : Bytes). b.lrsn) e in omega (arith, x)) }
 
 good : Good both_in_hand
 good = record { stands = λ n. two_stable; ordered = λ n i j a b e. grind arith; numbered = λ n. grind arith }
@@ -59,8 +60,8 @@ one_holds i c a b = record { there = grind (arith, a, b); made = grind (arith, a
 
 linked : Linked one_link both_in_hand
 linked n i l is = elim (cases_Bool ((n == 0) && (i == 1))) [
-    inl here ↦ let e = cond-true ((n == 0) && (i == 1)) (Some link) None here in let f : Some link ≡ Some l = Rattle.std.proofs.Common.sym e ∙ is in one_holds i l.change (index n i here) (change_of l f)
-  | inr other ↦ absurd (let e = cond-false ((n == 0) && (i == 1)) (Some link) None other in let f : None ≡ Some l = Rattle.std.proofs.Common.sym e ∙ is in cc)
+    inl here ↦ let e = cond-true ((n == 0) && (i == 1)) (Some link) None here in let f : Some link ≡ Some l = sym e ∙ is in one_holds i l.change (index n i here) (change_of l f)
+  | inr other ↦ absurd (let e = cond-false ((n == 0) && (i == 1)) (Some link) None other in let f : None ≡ Some l = sym e ∙ is in cc)
 ]
   where
     link : Link
@@ -73,5 +74,5 @@ linked n i l is = elim (cases_Bool ((n == 0) && (i == 1))) [
 pub order : OrderIsNeeded
 order = record { good = good; linked = linked; marked = refl; stable = grind arith; breaks = λ s. absurd (no (s 0 1 (record { page = 1; change = 1 }) refl)) }
   where
-    no : LinkHolds false false (put both_in_hand.pages 0 (Rattle.page_protocol.specs.Page.write in_hand 1) 0) (put both_in_hand.pages 0 (Rattle.page_protocol.specs.Page.write in_hand 1) 1) 1 1 → ⊥
+    no : LinkHolds false false (put both_in_hand.pages 0 (write in_hand 1) 0) (put both_in_hand.pages 0 (write in_hand 1) 1) 1 1 → ⊥
     no k = elim (k.shared refl refl (omega arith)) [ inl lt ↦ (let x : 1 < 1 = lt in omega (arith, x)) | inr e ↦ (let x : false ≡ true = e in cc) ]

@@ -2,7 +2,7 @@
 use Rattle.std.proofs.Common.{◌≡◌, ℕ, zero, suc, ◌+◌, ◌-◌, ◌<◌, ◌≤◌, refl, sym, ap, ◌∙◌, subst, arith, Bool, true, false, inl, inr, ◌⊎◌, Option, Some, None}
 use Rattle.std.specs.Prelude.{◌≢◌}
 use Rattle.std.proofs.lemmas.Bool.{cases_eq, cases_lt}
-use Rattle.page_protocol.specs.Page.{Page, Group, AllStable}
+use Rattle.page_protocol.specs.Page.{Page, Group, AllStable, put}
 use Rattle.page_protocol.specs.Moves.{World, IsCut, IsWholeCut, IsRead}
 use Rattle.page_protocol.specs.Coherent.{Coherent}
 use Rattle.page_protocol.specs.Down.{Grounded}
@@ -79,7 +79,7 @@ group_failure w s n = whole w.down w.group (w.pages n) (s.stands n) (s.ordered n
 
 -- the lengths of the logs after a failure of one member
 abbrev cut_lengths : Group → ℕ → ℕ → ℕ
-cut_lengths g m = Rattle.page_protocol.specs.Page.put g.written m (g.stable m)
+cut_lengths g m = put g.written m (g.stable m)
 
 below_cut : (g : Group) (p : Page) (m i : ℕ) → Coherent g p → i < p.shared → p.place i < cut_lengths g m (p.author i)
 below_cut g p m i s lt = let a = s.stable i lt in let b = s.forced (p.author i) in grind (arith, a, b)

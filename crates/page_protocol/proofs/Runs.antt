@@ -2,7 +2,7 @@
 use Rattle.std.proofs.Common.{◌≡◌, ℕ, ◌+◌, ◌<◌, ◌≤◌, refl, sym, subst, ap, arith, Bool, true, false, List, [], ◌∷◌, Option, Some, None}
 use Rattle.std.specs.Prelude.{◌≢◌, ◌==◌, if◌then◌else◌}
 use Rattle.std.proofs.lemmas.Bool.{cond_both}
-use Rattle.page_protocol.specs.Page.{Page, Group, Failed, put, read, change, compensate}
+use Rattle.page_protocol.specs.Page.{Page, Group, Failed, put, read, change, compensate, owned_whole, given_up}
 use Rattle.page_protocol.specs.Moves.{World, PageMove, Move, Read, ReadDisk, Write, WriteDirect, CastoutRead, CastoutWrite, CastoutDone, Reclaim, DropFrame, Lock, Unlock, Redo, Purge, Rebuild, At, Draw, Force, TakeSet, YieldSet, PurgeSet, Lose, ReadLog, Rebuilt, Fail, Restart, Open, GroupFail, Forward, Compensate, Append, Rise, PageStep, Step, Run, MayUse, MayBeDirect, MayChange, IsWholeCut, drawn, all_failed, start, blank}
 use Rattle.page_protocol.specs.Page.{all_fail}
 use Rattle.page_protocol.specs.Coherent.{Coherent}
@@ -109,19 +109,19 @@ kept_step set w v (Draw m touched) s st = subst Good (sym st.2) (record {
 })
 kept_step set w v (Force m k) s st = subst Good (sym st.3) (record { stands = λ n. kept_force w.group (w.pages n) m k (all_running w st.0 s n) st.1 st.2; ordered = s.ordered; numbered = λ n. numbered_same w.group _ (w.pages n) _ refl (omega arith) refl (s.numbered n) })
 kept_step set w v (TakeSet t m) s st = subst Good (sym st.3) (record {
-  stands = at_pages (Coherent w.group) w.pages (λ n. set n == t) (λ p. Rattle.page_protocol.specs.Page.owned_whole p m) (λ n is. kept_take_set w.group (w.pages n) m (all_running w st.0 s n) st.1 (st.2 n is)) (all_running w st.0 s);
-  ordered = at_pages Ordered w.pages (λ n. set n == t) (λ p. Rattle.page_protocol.specs.Page.owned_whole p m) (λ n is. s.ordered n) s.ordered;
-  numbered = at_pages (Numbered w.group) w.pages (λ n. set n == t) (λ p. Rattle.page_protocol.specs.Page.owned_whole p m) (λ n is. numbered_same w.group w.group (w.pages n) _ refl (omega arith) refl (s.numbered n)) s.numbered;
+  stands = at_pages (Coherent w.group) w.pages (λ n. set n == t) (λ p. owned_whole p m) (λ n is. kept_take_set w.group (w.pages n) m (all_running w st.0 s n) st.1 (st.2 n is)) (all_running w st.0 s);
+  ordered = at_pages Ordered w.pages (λ n. set n == t) (λ p. owned_whole p m) (λ n is. s.ordered n) s.ordered;
+  numbered = at_pages (Numbered w.group) w.pages (λ n. set n == t) (λ p. owned_whole p m) (λ n is. numbered_same w.group w.group (w.pages n) _ refl (omega arith) refl (s.numbered n)) s.numbered;
 })
 kept_step set w v (YieldSet t m) s st = subst Good (sym st.2) (record {
-  stands = at_pages (Coherent w.group) w.pages (λ n. set n == t) Rattle.page_protocol.specs.Page.given_up (λ n is. kept_yield_set w.group (w.pages n) m (all_running w st.0 s n) (st.1 n is)) (all_running w st.0 s);
-  ordered = at_pages Ordered w.pages (λ n. set n == t) Rattle.page_protocol.specs.Page.given_up (λ n is. s.ordered n) s.ordered;
-  numbered = at_pages (Numbered w.group) w.pages (λ n. set n == t) Rattle.page_protocol.specs.Page.given_up (λ n is. numbered_same w.group w.group (w.pages n) _ refl (omega arith) refl (s.numbered n)) s.numbered;
+  stands = at_pages (Coherent w.group) w.pages (λ n. set n == t) given_up (λ n is. kept_yield_set w.group (w.pages n) m (all_running w st.0 s n) (st.1 n is)) (all_running w st.0 s);
+  ordered = at_pages Ordered w.pages (λ n. set n == t) given_up (λ n is. s.ordered n) s.ordered;
+  numbered = at_pages (Numbered w.group) w.pages (λ n. set n == t) given_up (λ n is. numbered_same w.group w.group (w.pages n) _ refl (omega arith) refl (s.numbered n)) s.numbered;
 })
 kept_step set w v (PurgeSet t m) s st = subst Good (sym st.2) (record {
-  stands = at_pages (Coherent w.group) w.pages (λ n. set n == t) Rattle.page_protocol.specs.Page.given_up (λ n is. kept_purge_set w.group (w.pages n) m (all_running w st.0 s n) (st.1 n is)) (all_running w st.0 s);
-  ordered = at_pages Ordered w.pages (λ n. set n == t) Rattle.page_protocol.specs.Page.given_up (λ n is. s.ordered n) s.ordered;
-  numbered = at_pages (Numbered w.group) w.pages (λ n. set n == t) Rattle.page_protocol.specs.Page.given_up (λ n is. numbered_same w.group w.group (w.pages n) _ refl (omega arith) refl (s.numbered n)) s.numbered;
+  stands = at_pages (Coherent w.group) w.pages (λ n. set n == t) given_up (λ n is. kept_purge_set w.group (w.pages n) m (all_running w st.0 s n) (st.1 n is)) (all_running w st.0 s);
+  ordered = at_pages Ordered w.pages (λ n. set n == t) given_up (λ n is. s.ordered n) s.ordered;
+  numbered = at_pages (Numbered w.group) w.pages (λ n. set n == t) given_up (λ n is. numbered_same w.group w.group (w.pages n) _ refl (omega arith) refl (s.numbered n)) s.numbered;
 })
 kept_step set w v Lose s st = subst Good (sym st.2) (record { stands = λ n. kept_lose w.group (w.pages n) (all_running w st.0 s n); ordered = s.ordered; numbered = λ n. numbered_same w.group _ (w.pages n) _ refl (omega arith) refl (s.numbered n) })
 kept_step set w v (ReadLog m) s st = subst Good (sym st.2) (record { stands = λ n. kept_log_read w.group (w.pages n) m (all_running w st.0 s n); ordered = s.ordered; numbered = λ n. numbered_same w.group _ (w.pages n) _ refl (omega arith) refl (s.numbered n) })
@@ -163,4 +163,4 @@ pub starts : Good start
 starts = record { stands = λ n. kept_start; ordered = λ n i j a b. absurd (none j b); numbered = λ n. record { rise = λ i j a b. absurd (none j b); drawn = λ i b. absurd (none i b); positive = λ i b. absurd (none i b) } }
   where
     none : (j : ℕ) → j < 0 → ⊥
-    none j h = omega (Rattle.std.proofs.Common.arith, h)
+    none j h = omega (arith, h)

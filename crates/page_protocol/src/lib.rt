@@ -1,4 +1,9 @@
-//! The pages of a group as a pure machine.
+//! The pages of a group as a pure machine: for each page its chain of changes over all logs, the disk's, the cache
+//! structure's and the frames' versions, registrations, ownership by page locks and by whole page sets, castout, loss and
+//! rebuild of the cache, failure and restart of members and of the whole group. What is proved of it holds for every list
+//! of moves, and so for every schedule of members that make no other moves.
+//!
+//! The crate has definitions and proofs alone. Its functions do nothing: their contracts are the theorems.
 #![tactic(auto)]
 
 ghost use Rattle.page_protocol.specs.Always.{StartsGood, KeepsGood, AlwaysGood};
