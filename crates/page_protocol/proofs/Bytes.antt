@@ -1,13 +1,10 @@
 -- Versions in bytes.
-use Rattle.std.proofs.Common.{◌≡◌, ℕ, zero, suc, ◌+◌, ◌-◌, ◌<◌, ◌≤◌, refl, sym, ap, ◌∙◌, subst, arith, Bool, true, false, List, [], ◌∷◌, ◌++◌, Some, inl, inr}
-use Rattle.std.specs.Prelude.{filter, nat_lt, nat_eq}
+use Rattle.std.proofs.Common.{◌≡◌, ℕ, zero, suc, ◌+◌, ◌-◌, ◌<◌, ◌≤◌, refl, sym, ap, ◌∙◌, subst, arith, [], ◌∷◌, ◌++◌}
+use Rattle.std.specs.Prelude.{filter, nat_lt}
 use Rattle.std.proofs.lemmas.Bool.{cond-true, cond-false, lt-ltb, le-ltb, eq-eqb}
 use Rattle.page_protocol.specs.Page.{Page, Group}
-use Rattle.page_protocol.specs.Moves.{IsRead}
-use Rattle.page_protocol.specs.Coherent.{Coherent}
-use Rattle.page_protocol.specs.Down.{Grounded}
 use Rattle.page_protocol.specs.Always.{Numbered}
-use Rattle.page_protocol.specs.Redo.{Patch, Change, Bytes, page_after, redone, Rise, is_of, AreOf, zeros}
+use Rattle.page_protocol.specs.Redo.{Patch, Change, page_after, redone, Rise, is_of, AreOf, zeros}
 use Rattle.page_protocol.specs.Bytes.{changes, version_bytes, AreRecordsOf, merged, RestartReachesLast, RebuildReachesRead, GroupRestartReachesLast}
 use Rattle.page_protocol.proofs.Redo as redo
 use Rattle.page_protocol.proofs.Steps.{no_earlier}

@@ -1,6 +1,6 @@
 -- Group failure and group restart, at one page.
-use Rattle.std.proofs.Common.{◌≡◌, ℕ, ◌+◌, ◌<◌, ◌≤◌, arith, true, false, Some, None}
-use Rattle.page_protocol.specs.Page.{Page, Group, put, AllStable, all_fail, brought_forward, compensate, risen}
+use Rattle.std.proofs.Common.{◌≡◌, ℕ, ◌+◌, ◌≤◌, arith}
+use Rattle.page_protocol.specs.Page.{Page, Group, all_fail, brought_forward, compensate, risen}
 use Rattle.page_protocol.specs.Moves.{IsWholeCut, all_failed, longer, all_up}
 use Rattle.page_protocol.specs.Coherent.{Coherent}
 use Rattle.page_protocol.specs.Down.{Grounded}

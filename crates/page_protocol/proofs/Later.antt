@@ -1,13 +1,13 @@
 -- The shared version and the disk's never go back.
-use Rattle.std.proofs.Common.{◌≡◌, ℕ, ◌+◌, ◌<◌, ◌≤◌, refl, sym, ◌∙◌, subst, arith, Bool, true, false, List, [], ◌∷◌, Option, Some, None}
+use Rattle.std.proofs.Common.{◌≡◌, ℕ, ◌+◌, ◌≤◌, refl, sym, ◌∙◌, subst, arith, Bool, true, [], ◌∷◌, Some}
 use Rattle.std.specs.Prelude.{◌==◌, if◌then◌else◌}
 use Rattle.std.proofs.lemmas.Bool.{cond_both, eqb-true}
-use Rattle.page_protocol.specs.Page.{Page, Group, put, group_copy, read, read_disk, write, write_direct, change, castout_read, castout_write, castout_done, reclaim, drop_frame, redo, rebuild, lose, fail, owned, owned_whole, given_up, all_fail, brought_forward, compensate, risen}
-use Rattle.page_protocol.specs.Moves.{World, PageMove, Move, Read, ReadDisk, Write, WriteDirect, CastoutRead, CastoutWrite, CastoutDone, Reclaim, DropFrame, Lock, Unlock, Redo, Purge, Rebuild, At, Draw, Force, TakeSet, YieldSet, PurgeSet, Lose, ReadLog, Rebuilt, Fail, Restart, Open, GroupFail, Forward, Compensate, Append, Rise, PageStep, Step, Run, IsRead}
+use Rattle.page_protocol.specs.Page.{Page, Group, put, read, read_disk, write, write_direct, change, castout_read, castout_write, castout_done, reclaim, drop_frame, redo, rebuild, lose, fail, owned, owned_whole, given_up, all_fail, brought_forward, compensate, risen}
+use Rattle.page_protocol.specs.Moves.{World, PageMove, Move, Read, ReadDisk, Write, WriteDirect, CastoutRead, CastoutWrite, CastoutDone, Reclaim, DropFrame, Lock, Unlock, Redo, Purge, Rebuild, At, Draw, Force, TakeSet, YieldSet, PurgeSet, Lose, ReadLog, Rebuilt, Fail, Restart, Open, GroupFail, Forward, Compensate, Append, Rise, PageStep, Step}
 use Rattle.page_protocol.specs.Coherent.{Coherent}
 use Rattle.page_protocol.specs.Down.{Grounded}
 use Rattle.page_protocol.specs.Always.{Good}
-use Rattle.page_protocol.specs.Words.{IsLater, NeverGoesBack, NoEarlierCopy, IsWhole}
+use Rattle.page_protocol.specs.Words.{IsLater, NeverGoesBack, NoEarlierCopy}
 use Rattle.page_protocol.proofs.Steps.{no_earlier}
 use Rattle.page_protocol.proofs.Runs.{kept_step, all_running, all_fallen, always}
 

@@ -1,14 +1,13 @@
 -- Every run keeps the pointers between pages.
-use Rattle.std.proofs.Common.{◌≡◌, ℕ, ◌+◌, ◌<◌, ◌≤◌, refl, sym, ap, ◌∙◌, subst, arith, Bool, true, false, inl, inr, ◌⊎◌, List, [], ◌∷◌, Option, Some, None}
-use Rattle.std.specs.Prelude.{◌≢◌, ◌==◌, ◌&&◌, if◌then◌else◌}
+use Rattle.std.proofs.Common.{◌≡◌, ℕ, ◌+◌, ◌<◌, ◌≤◌, refl, sym, ap, ◌∙◌, subst, arith, Bool, true, false, inl, inr, ◌⊎◌, [], ◌∷◌, Option, Some, None}
+use Rattle.std.specs.Prelude.{◌==◌, ◌&&◌, if◌then◌else◌}
 use Rattle.std.proofs.lemmas.Bool.{cond_both, eqb-true, cases_eq, cases_lt, cases_Bool, both_ways, cond-true, cond-false, eq-eqb}
-use Rattle.page_protocol.specs.Page.{Page, Group, Up, put, read, read_disk, write, write_direct, change, castout_read, castout_write, castout_done, reclaim, drop_frame, redo, rebuild, lose, fail, owned, owned_whole, given_up, all_fail, brought_forward, compensate, risen}
-use Rattle.page_protocol.specs.Moves.{World, PageMove, Move, Read, ReadDisk, Write, WriteDirect, CastoutRead, CastoutWrite, CastoutDone, Reclaim, DropFrame, Lock, Unlock, Redo, Purge, Rebuild, At, Draw, Force, TakeSet, YieldSet, PurgeSet, Lose, ReadLog, Rebuilt, Fail, Restart, Open, GroupFail, Forward, Compensate, Append, Rise, PageStep, Step, IsRead, IsWholeCut, IsWritten}
+use Rattle.page_protocol.specs.Page.{Page, Group, Up, put, read, read_disk, write, write_direct, change, castout_read, castout_write, castout_done, reclaim, drop_frame, redo, rebuild, lose, fail, owned, owned_whole, given_up, brought_forward, compensate}
+use Rattle.page_protocol.specs.Moves.{World, PageMove, Move, Read, ReadDisk, Write, WriteDirect, CastoutRead, CastoutWrite, CastoutDone, Reclaim, DropFrame, Lock, Unlock, Redo, Purge, Rebuild, At, Draw, Force, TakeSet, YieldSet, PurgeSet, Lose, ReadLog, Rebuilt, Fail, Restart, Open, GroupFail, Forward, Compensate, Append, Rise, PageStep, Step, IsWritten}
 use Rattle.page_protocol.specs.Coherent.{Coherent}
-use Rattle.page_protocol.specs.Down.{Grounded}
 use Rattle.page_protocol.specs.Always.{Stands, Good}
 use Rattle.page_protocol.specs.Words.{IsUsable, Gives}
-use Rattle.page_protocol.specs.Links.{Link, Links, LinkHolds, Linked, Act, MayLink, IsInOrder, PageLinkGuard, LinkGuard, links_after, LinkRun, AlwaysLinked, LinksLead}
+use Rattle.page_protocol.specs.Links.{Link, Links, LinkHolds, Linked, MayLink, IsInOrder, PageLinkGuard, LinkGuard, links_after, AlwaysLinked, LinksLead}
 use Rattle.page_protocol.proofs.Steps.{no_earlier}
 use Rattle.page_protocol.proofs.Whole.{all_read}
 use Rattle.page_protocol.proofs.Runs.{kept_step, all_running, all_fallen, behind}

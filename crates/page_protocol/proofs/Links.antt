@@ -1,7 +1,7 @@
 -- What each move keeps of the pointers between pages.
-use Rattle.std.proofs.Common.{◌≡◌, ℕ, ◌+◌, ◌<◌, ◌≤◌, refl, sym, ap, ◌∙◌, subst, arith, Bool, true, false, inl, inr, ◌⊎◌, Option, Some, None}
-use Rattle.std.specs.Prelude.{◌≢◌, ◌==◌, if◌then◌else◌}
-use Rattle.page_protocol.specs.Page.{Page, Group, Up, put, change, compensate, fail, all_fail, risen}
+use Rattle.std.proofs.Common.{◌≡◌, ℕ, ◌<◌, ◌≤◌, refl, ap, ◌∙◌, arith, Bool, true, false, inl, inr, ◌⊎◌}
+use Rattle.std.specs.Prelude.{◌≢◌, if◌then◌else◌}
+use Rattle.page_protocol.specs.Page.{Page, Group, change, compensate, fail, all_fail, risen}
 use Rattle.page_protocol.specs.Moves.{IsCut, IsWholeCut, IsRead}
 use Rattle.page_protocol.specs.Coherent.{Coherent}
 use Rattle.page_protocol.specs.Down.{Grounded}

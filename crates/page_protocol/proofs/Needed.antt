@@ -1,13 +1,12 @@
 -- The states that show the guards' need.
-use Rattle.std.proofs.Common.{◌≡◌, ℕ, zero, suc, ◌<◌, ◌≤◌, ◌∙◌, inl, inr, arith, refl, ap, Bool, true, false, List, [], ◌∷◌, Option, Some, None, sym}
-use Rattle.std.specs.Prelude.{◌≢◌, ◌==◌, ◌&&◌, if◌then◌else◌}
+use Rattle.std.proofs.Common.{◌≡◌, ℕ, ◌<◌, ◌∙◌, inl, inr, arith, refl, ap, true, false, Some, None, sym}
+use Rattle.std.specs.Prelude.{◌==◌, ◌&&◌}
 use Rattle.std.proofs.lemmas.Bool.{cases_Bool, cond-true, cond-false}
-use Rattle.page_protocol.specs.Page.{Page, Group, put, group_copy, write}
-use Rattle.page_protocol.specs.Moves.{IsRead}
+use Rattle.page_protocol.specs.Page.{put, write}
 use Rattle.page_protocol.specs.Coherent.{Coherent}
-use Rattle.page_protocol.specs.Needed.{all_up_with, in_hand, taken_over, after_rebuild, lost_with_two, while_lost, without_log, direct_while_lost, read_before, InvalidationIsNeeded, StableIsNeeded, WrittenIsNeeded, BitIsNeeded, CastoutLockIsNeeded, AllLogsAreNeeded, CacheIsNeeded, ComparisonIsNeeded, both_in_hand, one_link, OrderIsNeeded}
+use Rattle.page_protocol.specs.Needed.{all_up_with, in_hand, taken_over, after_rebuild, lost_with_two, while_lost, direct_while_lost, read_before, InvalidationIsNeeded, StableIsNeeded, WrittenIsNeeded, BitIsNeeded, CastoutLockIsNeeded, AllLogsAreNeeded, CacheIsNeeded, ComparisonIsNeeded, both_in_hand, one_link, OrderIsNeeded}
 use Rattle.page_protocol.specs.Always.{Good}
-use Rattle.page_protocol.specs.Links.{Link, Links, LinkHolds, Linked}
+use Rattle.page_protocol.specs.Links.{Link, LinkHolds, Linked}
 use Rattle.page_protocol.specs.Redo.{Bytes}
 
 two_stable : Coherent (all_up_with 2 2) in_hand

@@ -1,6 +1,5 @@
 -- The opening over a sound disk is good.
-use Rattle.std.proofs.Common.{◌≡◌, ℕ, ◌<◌, ◌≤◌, refl, arith}
-use Rattle.page_protocol.specs.Moves.{World}
+use Rattle.std.proofs.Common.{ℕ, arith}
 use Rattle.page_protocol.specs.Down.{Grounded}
 use Rattle.page_protocol.specs.Opening.{Disk, IsSound, opening, OpensGood}
 

@@ -1,7 +1,7 @@
 -- Each move keeps the order of a page's changes in each log.
 use Rattle.std.proofs.Common.{◌≡◌, ℕ, ◌+◌, ◌<◌, ◌≤◌, sym, subst, arith}
 use Rattle.page_protocol.specs.Page.{Page, Group, change, fail, all_fail, compensate}
-use Rattle.page_protocol.specs.Moves.{IsCut, IsWholeCut, drawn, longer}
+use Rattle.page_protocol.specs.Moves.{drawn, longer}
 use Rattle.page_protocol.specs.Always.{Ordered, Numbered}
 
 pub ordered_change : (p : Page) (m at number : ℕ) → ((i : ℕ) → i < p.last → p.author i ≡ m → p.place i < at) → Ordered p → Ordered (change p m at number)

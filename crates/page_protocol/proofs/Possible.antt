@@ -1,12 +1,10 @@
 -- What stands in logs of given lengths is a prefix of each chain, so failures and rebuilds are always possible.
-use Rattle.std.proofs.Common.{◌≡◌, ℕ, zero, suc, ◌+◌, ◌-◌, ◌<◌, ◌≤◌, refl, sym, ap, ◌∙◌, subst, arith, Bool, true, false, inl, inr, ◌⊎◌, Option, Some, None}
-use Rattle.std.specs.Prelude.{◌≢◌}
+use Rattle.std.proofs.Common.{◌≡◌, ℕ, zero, suc, ◌+◌, ◌-◌, ◌<◌, ◌≤◌, refl, sym, subst, arith, Bool, true, false, inl, inr}
 use Rattle.std.proofs.lemmas.Bool.{cases_eq, cases_lt}
-use Rattle.page_protocol.specs.Page.{Page, Group, AllStable, put}
-use Rattle.page_protocol.specs.Moves.{World, IsCut, IsWholeCut, IsRead}
+use Rattle.page_protocol.specs.Page.{Page, Group, put}
+use Rattle.page_protocol.specs.Moves.{IsCut, IsWholeCut}
 use Rattle.page_protocol.specs.Coherent.{Coherent}
-use Rattle.page_protocol.specs.Down.{Grounded}
-use Rattle.page_protocol.specs.Always.{Stands, Ordered, Good}
+use Rattle.page_protocol.specs.Always.{Stands, Ordered}
 use Rattle.page_protocol.specs.Words.{FailureIsPossible, RebuildIsPossible, GroupFailureIsPossible}
 use Rattle.page_protocol.proofs.Runs.{all_running}
 

@@ -1,5 +1,5 @@
 -- The redo leads to the last version.
-use Rattle.std.proofs.Common.{◌≡◌, ℕ, ◌<◌, ◌≤◌, refl, sym, ap, ◌∙◌, subst, arith, Bool, List, [], ◌∷◌, ◌++◌, inl, inr}
+use Rattle.std.proofs.Common.{◌≡◌, ℕ, ◌≤◌, refl, sym, ap, ◌∙◌, subst, arith, Bool, List, [], ◌∷◌, ◌++◌, inl, inr}
 use Rattle.std.specs.Prelude.{filter, nat_lt}
 use Rattle.std.proofs.lemmas.Bool.{cond-true, cond-false, lt-ltb, le-ltb, cases_Bool, cases_lt}
 use Rattle.page_protocol.specs.Redo.{Change, Bytes, Patch, apply, page_after, redone, AreBelow, Rise, is_of, AreOf, zeros, OwnLogSuffices, MergedLogsSuffice, RedoneOnce}

@@ -1,13 +1,12 @@
 -- Rows in pages.
-use Rattle.std.proofs.Common.{◌≡◌, ℕ, zero, suc, ◌+◌, ◌-◌, ◌<◌, ◌≤◌, refl, sym, ap, ◌∙◌, subst, arith, Bool, true, false, inl, inr, ◌⊎◌, Option, Some, None}
+use Rattle.std.proofs.Common.{◌≡◌, ℕ, zero, suc, ◌+◌, ◌-◌, ◌<◌, ◌≤◌, sym, ap, ◌∙◌, arith, true, false, inl, inr, ◌⊎◌, Option, Some, None}
 use Rattle.std.specs.Prelude.{◌≢◌}
-use Rattle.std.proofs.lemmas.Bool.{cases_eq, cases_lt, cases_Bool, both_ways}
-use Rattle.page_protocol.specs.Page.{Page, Group, Up, put, change, write, write_direct, rebuild, fail, given_up}
+use Rattle.std.proofs.lemmas.Bool.{cases_eq, cases_Bool, both_ways}
+use Rattle.page_protocol.specs.Page.{Page, Group, Up, change, write, write_direct, rebuild, fail, given_up}
 use Rattle.page_protocol.specs.Moves.{IsCut}
 use Rattle.page_protocol.specs.Coherent.{Coherent}
 use Rattle.page_protocol.specs.Words.{IsUsable}
-use Rattle.page_protocol.specs.Rows.{Tags, value_at, Claim, Claims, Changes, AreSound, AreClaimed, ReadsLastValue, tagged, KeepsClaimed}
-use Rattle.page_protocol.proofs.Words.{gives}
+use Rattle.page_protocol.specs.Rows.{Tags, value_at, Claims, Changes, AreSound, AreClaimed, ReadsLastValue, tagged, KeepsClaimed}
 use Rattle.page_protocol.proofs.LinkRuns.{clean_whole, last_of_sole}
 
 -- where no change from v on is of the row

@@ -1,5 +1,5 @@
 -- What each move of a page keeps.
-use Rattle.std.proofs.Common.{◌≡◌, ℕ, ◌<◌, ◌≤◌, arith, Bool, true, false, Some, None}
+use Rattle.std.proofs.Common.{◌≡◌, ℕ, ◌≤◌, arith, Bool, true, false, Some, None}
 use Rattle.std.specs.Prelude.{◌≢◌}
 use Rattle.page_protocol.specs.Page.{Page, Group, Up, Failed, Restarting, read, read_disk, write, write_direct, castout_read, castout_write, castout_done, reclaim, drop_frame, redo, rebuild, lose, owned, owned_whole, given_up, AllStable}
 use Rattle.page_protocol.specs.Moves.{MayUse, MayFill, MayBeDirect, IsWritten, IsRead, IsUnused, MayYield, MayPurge, without_cache}

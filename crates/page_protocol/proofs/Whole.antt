@@ -1,8 +1,8 @@
 -- Moves that change the group, at one page.
-use Rattle.std.proofs.Common.{◌≡◌, ℕ, ◌+◌, ◌<◌, ◌≤◌, ◌∙◌, arith, true, false, inl, inr, ◌⊎◌, Some}
+use Rattle.std.proofs.Common.{◌≡◌, ℕ, ◌+◌, ◌≤◌, ◌∙◌, arith, true, false, inl, inr, ◌⊎◌, Some}
 use Rattle.std.proofs.lemmas.Bool.{cases_Bool, both_ways}
 use Rattle.std.specs.Prelude.{◌≢◌}
-use Rattle.page_protocol.specs.Page.{Page, Group, Up, Failed, Restarting, put, change, fail}
+use Rattle.page_protocol.specs.Page.{Page, Group, Up, Failed, Restarting, change, fail}
 use Rattle.page_protocol.specs.Coherent.{Coherent}
 use Rattle.page_protocol.specs.Moves.{IsCut, IsRead, IsWritten, MayChange, drawn, forced, log_read, with_cache, failed, restarting, opened, blank, start}
 

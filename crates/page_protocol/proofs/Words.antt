@@ -1,9 +1,10 @@
 -- What coherence gives.
-use Rattle.std.proofs.Common.{◌≡◌, ℕ, ◌+◌, ◌<◌, ◌≤◌, refl, sym, ◌∙◌, arith, Bool, true, false, inl, inr, ◌⊎◌, Option, Some, None}
+use Rattle.std.proofs.Common.{◌≡◌, ℕ, ◌<◌, ◌≤◌, sym, ◌∙◌, arith, true, inl, inr, ◌⊎◌, Some}
 use Rattle.std.proofs.lemmas.Bool.{cases_Bool}
-use Rattle.page_protocol.specs.Page.{Page, Group, Up, Failed, AllStable, group_copy, copy_before}
-use Rattle.page_protocol.specs.Coherent.{Coherent, IsCasting}
-use Rattle.page_protocol.specs.Words.{AreVersions, IsUsable, NewestAllowed, FindsOwn, AreTheOwners, StableBeforeShared, DiskIsNoLater, BufferIsNew, Gives, CoherentGives}
+use Rattle.page_protocol.specs.Page.{Page, Group, Up, group_copy, copy_before}
+use Rattle.page_protocol.specs.Coherent.{Coherent}
+use Rattle.page_protocol.specs.Down.{Grounded}
+use Rattle.page_protocol.specs.Words.{AreVersions, NewestAllowed, CoherentGives, FallenGives}
 
 cache_old : (g : Group) (p : Page) (v : ℕ) → Coherent g p → p.bytes ≡ Some v → v ≡ p.shared
 cache_old g p v s e = grind arith
@@ -59,3 +60,12 @@ gives g p s = record {
     in_hand m own more up = let x = s.newest m in let y = s.lost_newest m in grind (arith, x, y, own, more, up)
     held_copy : (m : ℕ) → p.castout ≡ Some m → group_copy p ≡ p.shared
     held_copy m held = let a = s.lost_castout in let b = s.group in grind (arith, a, b, held)
+
+fallen_versions : (g : Group) (p : Page) → Grounded g p → AreVersions p
+fallen_versions g p s = grind arith
+
+fallen_copy : (g : Group) (p : Page) → Grounded g p → group_copy p ≤ p.last
+fallen_copy g p s = grind arith
+
+pub fallen_gives : FallenGives
+fallen_gives g p s = (fallen_versions g p s, (λ i lt. let a = fallen_copy g p s in s.all_stable i (omega (arith, a, lt)), λ i lt. let a = s.within in s.all_stable i (omega (arith, a, lt))))

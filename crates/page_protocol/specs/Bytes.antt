@@ -1,6 +1,6 @@
 -- A version of a page in bytes, and what redo by the logs makes of it.
-use Rattle.std.specs.Prelude.{◌≡◌, ℕ, zero, suc, ◌+◌, ◌<◌, ◌≤◌, Bool, true, false, List, [], ◌∷◌, Some, if◌then◌else◌, nat_lt, filter}
-use Rattle.page_protocol.specs.Page.{Page, Group, put}
+use Rattle.std.specs.Prelude.{◌≡◌, ℕ, zero, suc, ◌<◌, true, List, [], ◌∷◌, Some, if◌then◌else◌, nat_lt, filter}
+use Rattle.page_protocol.specs.Page.{Page, Group}
 use Rattle.page_protocol.specs.Moves.{IsRead}
 use Rattle.page_protocol.specs.Coherent.{Coherent}
 use Rattle.page_protocol.specs.Down.{Grounded}

@@ -1,5 +1,5 @@
 -- What holds of each page after a failure of all members and of the cache, until group restart has ended.
-use Rattle.std.specs.Prelude.{◌≡◌, ℕ, ◌<◌, ◌≤◌, true, false, None}
+use Rattle.std.specs.Prelude.{◌≡◌, ℕ, ◌<◌, ◌≤◌, false, None}
 use Rattle.page_protocol.specs.Page.{Page, Group, AllStable}
 
 pub record Grounded (g : Group) (p : Page) : Type 0 where

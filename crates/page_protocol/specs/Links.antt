@@ -1,6 +1,6 @@
 -- Pages that point to pages: a change that makes a page point to another page, and the change that made the other ready.
 use Rattle.std.specs.Prelude.{◌≡◌, ◌≢◌, ℕ, ◌<◌, ◌≤◌, ◌⊎◌, Bool, true, false, ◌&&◌, ◌==◌, if◌then◌else◌, List, [], ◌∷◌, Option, Some, None}
-use Rattle.page_protocol.specs.Page.{Page, Group, Up}
+use Rattle.page_protocol.specs.Page.{Page, Up}
 use Rattle.page_protocol.specs.Moves.{World, Move, PageMove, At, Draw, Compensate, Write, WriteDirect, Step}
 use Rattle.page_protocol.specs.Always.{Good}
 use Rattle.page_protocol.specs.Words.{IsUsable}

@@ -1,11 +1,11 @@
 -- Guards without which a coherent state is left: for each a state and a move that lacks it.
-use Rattle.std.specs.Prelude.{◌≡◌, ◌≢◌, ℕ, ◌+◌, ◌<◌, ◌≤◌, Bool, true, false, List, [], ◌∷◌, ◌++◌, filter, Option, Some, None, if◌then◌else◌, ◌==◌, ◌⊎◌, ◌&&◌}
-use Rattle.page_protocol.specs.Page.{Page, Group, Frame, Up, put, AllStable, unfilled, holding, write, write_direct, change, castout_write, given_up, rebuild}
+use Rattle.std.specs.Prelude.{◌≡◌, ◌≢◌, ℕ, ◌+◌, true, false, [], ◌∷◌, filter, Some, None, if◌then◌else◌, ◌==◌, ◌&&◌}
+use Rattle.page_protocol.specs.Page.{Page, Group, Frame, Up, put, AllStable, unfilled, holding, write, write_direct, change, castout_write, given_up}
 use Rattle.page_protocol.specs.Moves.{World, IsRead, with_cache, drawn}
 use Rattle.page_protocol.specs.Always.{Good}
 use Rattle.page_protocol.specs.Links.{Links, Linked}
 use Rattle.page_protocol.specs.Coherent.{Coherent}
-use Rattle.page_protocol.specs.Redo.{Patch, Change, page_after, redone, is_of, AreOf, Rise, zeros}
+use Rattle.page_protocol.specs.Redo.{Patch, Change, page_after, is_of, Rise, zeros}
 
 -- all members are up, and so many records of each log are on disk and in hand
 abbrev pub all_up_with : ℕ → ℕ → Group

@@ -1,6 +1,6 @@
 -- The group over any sound disk, before group restart has brought its pages forward.
-use Rattle.std.specs.Prelude.{◌≡◌, ℕ, ◌<◌, ◌≤◌, true, false, None}
-use Rattle.page_protocol.specs.Page.{Page, Group, Failed, unfilled}
+use Rattle.std.specs.Prelude.{◌≡◌, ℕ, ◌<◌, ◌≤◌, true}
+use Rattle.page_protocol.specs.Page.{Failed}
 use Rattle.page_protocol.specs.Moves.{World, blank}
 use Rattle.page_protocol.specs.Always.{Good}
 

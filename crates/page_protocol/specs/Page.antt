@@ -2,7 +2,7 @@
 --
 -- Members, pages, versions and places in logs are numbers. Version v of a page is the page of zeros after the first v
 -- changes of its chain, and the chain is over all logs: it has each change that stands on disk or in a log buffer.
-use Rattle.std.specs.Prelude.{◌≡◌, ℕ, ◌+◌, ◌<◌, Bool, true, false, Option, Some, None, if◌then◌else◌, ◌==◌, unwrap_or}
+use Rattle.std.specs.Prelude.{ℕ, ◌+◌, ◌<◌, Bool, true, false, Option, Some, None, if◌then◌else◌, ◌==◌, unwrap_or}
 
 -- a function with another value at one number
 abbrev pub put : {A : Type 0} → (ℕ → A) → ℕ → A → ℕ → A

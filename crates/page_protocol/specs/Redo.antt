@@ -2,7 +2,7 @@
 --
 -- A version of a page is the page of zeros after a prefix of its chain. What a change does to the bytes is given by a
 -- function, and is any function.
-use Rattle.std.specs.Prelude.{◌≡◌, ℕ, ◌<◌, ◌≤◌, Bool, true, false, List, [], ◌∷◌, ◌++◌, if◌then◌else◌, nat_lt, nat_eq, filter}
+use Rattle.std.specs.Prelude.{◌≡◌, ℕ, ◌<◌, ◌≤◌, Bool, true, List, [], ◌∷◌, ◌++◌, if◌then◌else◌, nat_lt, nat_eq, filter}
 
 pub record Change : Type 0 where
   pub lrsn : ℕ

@@ -1,5 +1,5 @@
 -- A sole user has a page set whole.
-use Rattle.std.specs.Prelude.{◌≡◌, ℕ, Bool, true, false, List}
+use Rattle.std.specs.Prelude.{◌≡◌, ℕ, true, List}
 use Rattle.page_protocol.specs.Moves.{World, Move, Run}
 use Rattle.page_protocol.specs.Always.{Good}
 

@@ -1,9 +1,10 @@
 -- What coherence gives to the layers above, each fact by its name.
-use Rattle.std.specs.Prelude.{◌≡◌, ◌≢◌, ℕ, ◌<◌, ◌≤◌, ◌⊎◌, Bool, true, false, List, Option, Some, None}
+use Rattle.std.specs.Prelude.{◌≡◌, ℕ, ◌<◌, ◌≤◌, ◌⊎◌, true, false, List, Some}
 use Rattle.page_protocol.specs.Page.{Page, Group, Up, Failed, AllStable, group_copy, copy_before}
 use Rattle.page_protocol.specs.Moves.{World, Move, Run, IsRead, IsCut, IsWholeCut}
 use Rattle.page_protocol.specs.Coherent.{Coherent}
-use Rattle.page_protocol.specs.Always.{Good, Stands}
+use Rattle.page_protocol.specs.Down.{Grounded}
+use Rattle.page_protocol.specs.Always.{Good}
 
 -- ---- one page at one moment
 
@@ -62,6 +63,10 @@ pub record Gives (g : Group) (p : Page) : Type 0 where
 
 abbrev pub CoherentGives : Type 0
 CoherentGives = (g : Group) (p : Page) → Coherent g p → Gives g p
+
+-- while the group is down each page on disk is a version still, and no record that it rests on can be missing
+abbrev pub FallenGives : Type 0
+FallenGives = (g : Group) (p : Page) → Grounded g p → AreVersions p × StableBeforeShared g p
 
 -- ---- one page over time
 

@@ -8,7 +8,7 @@
 
 ghost use Rattle.page_protocol.specs.Always.{StartsGood, KeepsGood, AlwaysGood};
 ghost use Rattle.page_protocol.specs.Opening.{OpensGood};
-ghost use Rattle.page_protocol.specs.Words.{CoherentGives, NeverGoesBack, NoEarlierCopy, FailureIsPossible, RebuildIsPossible, GroupFailureIsPossible};
+ghost use Rattle.page_protocol.specs.Words.{CoherentGives, FallenGives, NeverGoesBack, NoEarlierCopy, FailureIsPossible, RebuildIsPossible, GroupFailureIsPossible};
 ghost use Rattle.page_protocol.specs.Rows.{ReadsLastValue, KeepsClaimed};
 ghost use Rattle.page_protocol.specs.Sets.{AlwaysAgree};
 ghost use Rattle.page_protocol.specs.Frames.{TestTells, Places, TakesOut, Registers, Unregisters, Drops, Empties};
@@ -29,6 +29,7 @@ pub fn coherent_pages()
 /// What coherence gives of each page, and what no list of moves takes back.
 pub fn newest_copies()
     ensures gives { CoherentGives }
+    ensures fallen { FallenGives }
     ensures never_back { NeverGoesBack }
     ensures no_earlier_copy { NoEarlierCopy }
 {}
