@@ -4,7 +4,7 @@ use Rattle.std.specs.Prelude.{◌==◌, ◌&&◌}
 use Rattle.std.proofs.lemmas.Bool.{cases_Bool, cond-true, cond-false}
 use Rattle.page_protocol.specs.Page.{put, write}
 use Rattle.page_protocol.specs.Coherent.{Coherent}
-use Rattle.page_protocol.specs.Needed.{all_up_with, in_hand, taken_over, after_rebuild, lost_with_two, while_lost, direct_while_lost, read_before, InvalidationIsNeeded, StableIsNeeded, WrittenIsNeeded, BitIsNeeded, CastoutLockIsNeeded, AllLogsAreNeeded, CacheIsNeeded, ComparisonIsNeeded, both_in_hand, one_link, OrderIsNeeded}
+use Rattle.page_protocol.specs.Needed.{all_up_with, in_hand, taken_over, after_rebuild, lost_with_two, while_lost, direct_while_lost, read_before, InvalidationIsNeeded, StableIsNeeded, WrittenIsNeeded, BitIsNeeded, CastoutLockIsNeeded, AllLogsAreNeeded, CacheIsNeeded, ComparisonIsNeeded, both_in_hand, one_link, OrderIsNeeded, valid_elsewhere, UnusedIsNeeded, one_restarting, to_recover, RecoveryIsNeeded}
 use Rattle.page_protocol.specs.Always.{Good}
 use Rattle.page_protocol.specs.Links.{Link, LinkHolds, Linked}
 use Rattle.page_protocol.specs.Redo.{Bytes}
@@ -75,3 +75,15 @@ order = record { good = good; linked = linked; marked = refl; stable = grind ari
   where
     no : LinkHolds false false (put both_in_hand.pages 0 (write in_hand 1) 0) (put both_in_hand.pages 0 (write in_hand 1) 1) 1 1 → ⊥
     no k = elim (k.shared refl refl (omega arith)) [ inl lt ↦ (let x : 1 < 1 = lt in omega (arith, x)) | inr e ↦ (let x : false ≡ true = e in cc) ]
+
+elsewhere : Coherent (all_up_with 2 2) valid_elsewhere
+elsewhere = grind arith
+
+pub unused : UnusedIsNeeded
+unused = record { coherent = elsewhere; free = refl; breaks = λ s. absurd (let e = s.alone_frame 1 2 refl refl (omega arith) in cc) }
+
+recovering : Coherent one_restarting to_recover
+recovering = grind arith
+
+pub recovery : RecoveryIsNeeded
+recovery = record { coherent = recovering; breaks = λ s. absurd (let e = s.newest 1 refl (omega arith) refl in cc) }

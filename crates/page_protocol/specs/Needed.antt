@@ -1,7 +1,7 @@
 -- Guards without which a coherent state is left: for each a state and a move that lacks it.
 use Rattle.std.specs.Prelude.{◌≡◌, ◌≢◌, ℕ, ◌+◌, true, false, [], ◌∷◌, filter, Some, None, if◌then◌else◌, ◌==◌, ◌&&◌}
-use Rattle.page_protocol.specs.Page.{Page, Group, Frame, Up, put, AllStable, unfilled, holding, write, write_direct, change, castout_write, given_up}
-use Rattle.page_protocol.specs.Moves.{World, IsRead, with_cache, drawn}
+use Rattle.page_protocol.specs.Page.{Page, Group, Frame, Up, put, AllStable, unfilled, holding, write, write_direct, change, castout_write, given_up, owned_whole}
+use Rattle.page_protocol.specs.Moves.{World, IsRead, with_cache, drawn, restarting, opened}
 use Rattle.page_protocol.specs.Always.{Good}
 use Rattle.page_protocol.specs.Links.{Links, Linked}
 use Rattle.page_protocol.specs.Coherent.{Coherent}
@@ -176,3 +176,39 @@ pub record OrderIsNeeded : Type 0 where
   pub marked : ((both_in_hand.pages 0).frame 1).marked ≡ true
   pub stable : AllStable both_in_hand.group (both_in_hand.pages 0) ((both_in_hand.pages 0).frame 1).version
   pub breaks : Linked one_link (record both_in_hand { pages = put both_in_hand.pages 0 (write in_hand 1) }) → ⊥
+
+-- ---- a page set is taken as sole user only where no other has frames of it
+
+-- member 2 has the shared version in a registered frame; a sole user's write to disk would leave it as it is
+abbrev pub valid_elsewhere : Page
+valid_elsewhere = record in_hand {
+  last = 1;
+  disk = 1;
+  bytes = None;
+  changed = false;
+  written_since = false;
+  bit = put (λ k. false) 2 true;
+  frame = put (λ k. unfilled 0 false) 2 (holding 1);
+  owner = None;
+}
+
+pub record UnusedIsNeeded : Type 0 where
+  pub coherent : Coherent (all_up_with 2 2) valid_elsewhere
+  pub free : valid_elsewhere.owner ≡ None
+  pub breaks : Coherent (all_up_with 2 2) (owned_whole valid_elsewhere 1) → ⊥
+
+-- ---- a member opens only when its forward recovery has ended
+
+-- member 1 failed with a change that isn't shared, and is restarting
+abbrev pub to_recover : Page
+to_recover = record in_hand {
+  bit = put (λ k. false) 2 true;
+  frame = put (λ k. unfilled 0 false) 2 (holding 1);
+}
+
+abbrev pub one_restarting : Group
+one_restarting = restarting (all_up_with 2 2) 1
+
+pub record RecoveryIsNeeded : Type 0 where
+  pub coherent : Coherent one_restarting to_recover
+  pub breaks : Coherent (opened one_restarting 1) to_recover → ⊥
