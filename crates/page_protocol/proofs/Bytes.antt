@@ -39,7 +39,7 @@ restart patch g p c m s o r own =
     let rise = subst (Rise 0) e (all_rise g p c p.last o r (omega arith)) in
     let w = s.within in
     subst (λ xs. redone patch (version_bytes patch c p.shared) (filter (is_of m) xs) ≡ page_after patch zeros xs) (sym e)
-        (redo.own patch (changes c 0 p.shared) (changes c p.shared (p.last - p.shared)) m rise (are_of p c m p.shared (p.last - p.shared) r (omega (arith, w)) (λ j a b. mine j a b)))
+    (redo.own patch (changes c 0 p.shared) (changes c p.shared (p.last - p.shared)) m rise (are_of p c m p.shared (p.last - p.shared) r (omega (arith, w)) (λ j a b. mine j a b)))
   where
     mine : (j : ℕ) → p.shared ≤ j → j < p.last → p.author j ≡ m
     mine j a b = let x = s.own j a b in cc

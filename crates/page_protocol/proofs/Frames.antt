@@ -51,7 +51,7 @@ both k n a m e f = grind (arith, e, f)
 
 registers_bits : (f : Frames) (m n i k a : ℕ) → ArePlaced f → f.at m n ≡ Some i → bit_of (registered f m n i) k a ≡ (if (k == n) && (a == m) then true else bit_of f k a)
 registers_bits f m n i k a s at = elim (cases_Bool ((k == n) && (a == m))) [
-    inl h ↦ let e : k ≡ n = grind (arith, h) in let g : a ≡ m = grind (arith, h) in subst (λ k'. bit_of (registered f m n i) k' a ≡ (if (k' == n) && (a == m) then true else bit_of f k' a)) (sym e) (subst (λ a'. bit_of (registered f m n i) n a' ≡ (if (n == n) && (a' == m) then true else bit_of f n a')) (sym g) (reg_here f m n i (f.at m n) (Some n) at ∙ is_same n ∙ sym (cond-true ((n == n) && (m == m)) true (bit_of f n m) (both n n m m refl refl))))
+  | inl h ↦ let e : k ≡ n = grind (arith, h) in let g : a ≡ m = grind (arith, h) in subst (λ k'. bit_of (registered f m n i) k' a ≡ (if (k' == n) && (a == m) then true else bit_of f k' a)) (sym e) (subst (λ a'. bit_of (registered f m n i) n a' ≡ (if (n == n) && (a' == m) then true else bit_of f n a')) (sym g) (reg_here f m n i (f.at m n) (Some n) at ∙ is_same n ∙ sym (cond-true ((n == n) && (m == m)) true (bit_of f n m) (both n n m m refl refl))))
   | inr h ↦ reg_other f m n i k a (f.at a k) (Some n) s at refl (λ g e. both_ways _ h (both k n a m e g)) ∙ sym (cond-false ((k == n) && (a == m)) true (bit_of f k a) h)
 ]
 
@@ -63,7 +63,7 @@ unregisters_keeps f m n i s at = record { once = s.once; placed = λ a b c x. le
 
 unregisters_bits : (f : Frames) (m n i k a : ℕ) → ArePlaced f → f.at m n ≡ Some i → bit_of (unregistered f m i) k a ≡ (if (k == n) && (a == m) then false else bit_of f k a)
 unregisters_bits f m n i k a s at = elim (cases_Bool ((k == n) && (a == m))) [
-    inl h ↦ let e : k ≡ n = grind (arith, h) in let g : a ≡ m = grind (arith, h) in subst (λ k'. bit_of (unregistered f m i) k' a ≡ (if (k' == n) && (a == m) then false else bit_of f k' a)) (sym e) (subst (λ a'. bit_of (unregistered f m i) n a' ≡ (if (n == n) && (a' == m) then false else bit_of f n a')) (sym g) (reg_here f m n i (f.at m n) None at ∙ sym (cond-true ((n == n) && (m == m)) false (bit_of f n m) (both n n m m refl refl))))
+  | inl h ↦ let e : k ≡ n = grind (arith, h) in let g : a ≡ m = grind (arith, h) in subst (λ k'. bit_of (unregistered f m i) k' a ≡ (if (k' == n) && (a == m) then false else bit_of f k' a)) (sym e) (subst (λ a'. bit_of (unregistered f m i) n a' ≡ (if (n == n) && (a' == m) then false else bit_of f n a')) (sym g) (reg_here f m n i (f.at m n) None at ∙ sym (cond-true ((n == n) && (m == m)) false (bit_of f n m) (both n n m m refl refl))))
   | inr h ↦ reg_other f m n i k a (f.at a k) None s at refl (λ g e. both_ways _ h (both k n a m e g)) ∙ sym (cond-false ((k == n) && (a == m)) false (bit_of f k a) h)
 ]
 

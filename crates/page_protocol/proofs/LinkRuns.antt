@@ -72,11 +72,11 @@ new_lost w n q links gone k i l is h lost lt = absurd (both_ways _ lost gone)
 
 new_written : (w : World) (n : ℕ) (q : Page) (links : Links) → q.shared ≡ (w.pages n).last → q.sole ≡ (w.pages n).sole → IsInOrder links w n → Newly w n q links
 new_written w n q links e f order k i l is h lost lt = elim (cases_eq k n) [
-    inl here ↦
+  | inl here ↦
       let low : i < (w.pages n).last = grind (arith, e, here, lt) in
       let there : l.change < (w.pages l.page).last = h.there (subst (λ x. i < (w.pages x).last) (sym here) low) in
       elim (cases_eq l.page n) [
-          inl self ↦ inr (inl (grind (arith, e, self, there)))
+        | inl self ↦ inr (inl (grind (arith, e, self, there)))
         | inr other ↦ inr (elim (order i l (subst (λ x. links x i ≡ Some l) here is) low other) [ inl a ↦ inl (grind (arith, other, a)) | inr a ↦ inr (grind (arith, other, a)) ])
       ]
   | inr ne ↦ inl (grind (arith, ne, lt))
@@ -117,12 +117,12 @@ clean_whole g p m s own up clean = let n = s.newest m own in let w = s.within in
 quiet : (w v : World) (links : Links) → Linked links w → v.down ≡ w.down → v.group.lost ≡ w.group.lost → ((n : ℕ) → IsNoLess (w.pages n) (v.pages n)) → ((n : ℕ) → (v.pages n).shared ≡ (w.pages n).shared) → ((n : ℕ) → (v.pages n).shared ≤ (v.pages n).last) → Linked links v
 quiet w v links s d g less shared low n i l is =
     subst (λ b. LinkHolds b v.group.lost (v.pages n) (v.pages l.page) i l.change) (sym d) (subst (λ b. LinkHolds w.down b (v.pages n) (v.pages l.page) i l.change) (sym g)
-        (grown w.down w.group.lost (w.pages n) (v.pages n) (w.pages l.page) (v.pages l.page) i l.change (less n) (less l.page) (λ _ lt. inl (let e = shared n in omega (arith, e, lt))) (low n) (s n i l is)))
+    (grown w.down w.group.lost (w.pages n) (v.pages n) (w.pages l.page) (v.pages l.page) i l.change (less n) (less l.page) (λ _ lt. inl (let e = shared n in omega (arith, e, lt))) (low n) (s n i l is)))
 
 unchanged : (w v : World) (links : Links) → Linked links w → v.down ≡ w.down → v.group.lost ≡ w.group.lost → v.pages ≡ w.pages → Linked links v
 unchanged w v links s d g e n i l is =
     subst (λ b. LinkHolds b v.group.lost (v.pages n) (v.pages l.page) i l.change) (sym d) (subst (λ b. LinkHolds w.down b (v.pages n) (v.pages l.page) i l.change) (sym g)
-        (subst (λ (f : ℕ → Page). LinkHolds w.down w.group.lost (f n) (f l.page) i l.change) (sym e) (s n i l is)))
+    (subst (λ (f : ℕ → Page). LinkHolds w.down w.group.lost (f n) (f l.page) i l.change) (sym e) (s n i l is)))
 
 low_after : (set : ℕ → ℕ) (w v : World) (e : Move) → Good w → Step set w e v → (n : ℕ) → (v.pages n).shared ≤ (v.pages n).last
 low_after set w v e s st n = within v.down v.group (v.pages n) ((kept_step set w v e s st).stands n)
@@ -134,9 +134,9 @@ link_at set w v n e links s k st guard a i l is =
     let less = less_at w.pages n st.1.0 (less_page w.group (w.pages n) st.1.0 e (all_running w st.0 s n) st.1.1) in
     let low' : (put w.pages n st.1.0 a).shared ≤ (put w.pages n st.1.0 a).last = subst (λ (x : World). (x.pages a).shared ≤ (x.pages a).last) st.1.2 (low a) in
     subst (λ (x : World). LinkHolds x.down x.group.lost (x.pages a) (x.pages l.page) i l.change) (sym st.1.2)
-        (subst (λ b. LinkHolds b w.group.lost (put w.pages n st.1.0 a) (put w.pages n st.1.0 l.page) i l.change) st.0
-            (grown w.down w.group.lost (w.pages a) (put w.pages n st.1.0 a) (w.pages l.page) (put w.pages n st.1.0 l.page) i l.change (less a) (less l.page)
-                (newly w n st.1.0 e links (all_running w st.0 s n) st.1.1 guard a i l is (k a i l is)) low' (k a i l is)))
+    (subst (λ b. LinkHolds b w.group.lost (put w.pages n st.1.0 a) (put w.pages n st.1.0 l.page) i l.change) st.0
+    (grown w.down w.group.lost (w.pages a) (put w.pages n st.1.0 a) (w.pages l.page) (put w.pages n st.1.0 l.page) i l.change (less a) (less l.page)
+    (newly w n st.1.0 e links (all_running w st.0 s n) st.1.1 guard a i l is (k a i l is)) low' (k a i l is)))
 
 -- ---- several pages, sharing nothing
 link_some : (set : ℕ → ℕ) (w v : World) (e : Move) (links : Links) (touched : ℕ → Bool) (f : Page → Page) → Good w → Linked links w → Step set w e v → w.down ≡ false
@@ -144,9 +144,9 @@ link_some : (set : ℕ → ℕ) (w v : World) (e : Move) (links : Links) (touche
     → ((n : ℕ) → touched n ≡ true → IsNoLess (w.pages n) (f (w.pages n))) → ((n : ℕ) → (f (w.pages n)).shared ≡ (w.pages n).shared) → Linked links v
 link_some set w v e links touched f s k st up is less shared =
     quiet w v links k (ap (λ (x : World). x.down) is ∙ sym up) (ap (λ (x : World). x.group.lost) is)
-        (λ n. subst (λ (x : World). IsNoLess (w.pages n) (x.pages n)) (sym is) (less_some w.pages touched f less n))
-        (λ n. subst (λ (x : World). (x.pages n).shared ≡ (w.pages n).shared) (sym is) (same_some w.pages touched f shared n))
-        (low_after set w v e s st)
+    (λ n. subst (λ (x : World). IsNoLess (w.pages n) (x.pages n)) (sym is) (less_some w.pages touched f less n))
+    (λ n. subst (λ (x : World). (x.pages n).shared ≡ (w.pages n).shared) (sym is) (same_some w.pages touched f shared n))
+    (low_after set w v e s st)
 
 -- ---- a log record
 at_last : (t a b : Bool) → (t && a) ≡ b → b ≡ false → t ≡ true → a ≡ false
@@ -163,29 +163,29 @@ drawn_link : (w : World) (m : ℕ) (touched : ℕ → Bool) (makes : ℕ → Opt
     → links_after links w makes (Draw m touched) n i ≡ Some l
     → LinkHolds w.down w.group.lost (if touched n then change (w.pages n) m (w.group.written m) (w.group.counter + 1) else w.pages n) (if touched l.page then change (w.pages l.page) m (w.group.written m) (w.group.counter + 1) else w.pages l.page) i l.change
 drawn_link w m touched makes links n i l s up k may is = elim (cases_Bool (touched n && (i == (w.pages n).last))) [
-    inl new ↦
+  | inl new ↦
       let b = both_true (touched n) (i == (w.pages n).last) new in
       let at : i ≡ (w.pages n).last = eqb-true i (w.pages n).last b.1 in
       let made : makes n ≡ Some l = sym (cond-true (touched n && (i == (w.pages n).last)) (makes n) (links n i) new) ∙ is in
       subst (λ x. LinkHolds w.down w.group.lost x (if touched l.page then change (w.pages l.page) m (w.group.written m) (w.group.counter + 1) else w.pages l.page) i l.change)
-          (sym (cond-true (touched n) (change (w.pages n) m (w.group.written m) (w.group.counter + 1)) (w.pages n) b.0))
-          (subst (λ x. LinkHolds w.down w.group.lost (change (w.pages n) m (w.group.written m) (w.group.counter + 1)) (if touched l.page then change (w.pages l.page) m (w.group.written m) (w.group.counter + 1) else w.pages l.page) x l.change) (sym at)
-              (new_link w.down w.group.lost (w.pages n) (w.pages l.page) m (w.group.written m) (w.group.counter + 1) l.change (touched l.page) (all_running w up s n).within (behind w.group (w.pages l.page) m (all_running w up s l.page)) (may n l b.0 made)))
+      (sym (cond-true (touched n) (change (w.pages n) m (w.group.written m) (w.group.counter + 1)) (w.pages n) b.0))
+      (subst (λ x. LinkHolds w.down w.group.lost (change (w.pages n) m (w.group.written m) (w.group.counter + 1)) (if touched l.page then change (w.pages l.page) m (w.group.written m) (w.group.counter + 1) else w.pages l.page) x l.change) (sym at)
+      (new_link w.down w.group.lost (w.pages n) (w.pages l.page) m (w.group.written m) (w.group.counter + 1) l.change (touched l.page) (all_running w up s n).within (behind w.group (w.pages l.page) m (all_running w up s l.page)) (may n l b.0 made)))
   | inr old ↦
       let was : links n i ≡ Some l = sym (cond-false (touched n && (i == (w.pages n).last)) (makes n) (links n i) old) ∙ is in
       old_link w.down w.group.lost (w.pages n) (w.pages l.page) m (w.group.written m) (w.group.counter + 1) i l.change (touched n) (touched l.page)
-          (λ t e. both_ways _ (at_last (touched n) (i == (w.pages n).last) _ refl old t) (eq-eqb i (w.pages n).last e)) (all_running w up s n).within (all_running w up s l.page).within (k n i l was)
+      (λ t e. both_ways _ (at_last (touched n) (i == (w.pages n).last) _ refl old t) (eq-eqb i (w.pages n).last e)) (all_running w up s n).within (all_running w up s l.page).within (k n i l was)
 ]
 
 compensated : (w : World) (links : Links) (p m n i : ℕ) (l : Link) → Good w → w.down ≡ true → Linked links w
     → (if (n == p) && (i == (w.pages n).last) then None else links n i) ≡ Some l
     → LinkHolds true w.group.lost (if n == p then compensate (w.pages n) m (w.group.stable m) (w.group.counter + 1) else w.pages n) (if l.page == p then compensate (w.pages l.page) m (w.group.stable m) (w.group.counter + 1) else w.pages l.page) i l.change
 compensated w links p m n i l s up k is = elim (cases_Bool ((n == p) && (i == (w.pages n).last))) [
-    inl new ↦ absurd (none (sym (cond-true ((n == p) && (i == (w.pages n).last)) None (links n i) new) ∙ is))
+  | inl new ↦ absurd (none (sym (cond-true ((n == p) && (i == (w.pages n).last)) None (links n i) new) ∙ is))
   | inr old ↦
       let was : links n i ≡ Some l = sym (cond-false ((n == p) && (i == (w.pages n).last)) None (links n i) old) ∙ is in
       compensated_link w.down w.group.lost true w.group.lost (w.pages n) (w.pages l.page) m (w.group.stable m) (w.group.counter + 1) i l.change (n == p) (l.page == p) refl
-          (λ t e. both_ways _ (at_last (n == p) (i == (w.pages n).last) _ refl old t) (eq-eqb i (w.pages n).last e)) (all_fallen w up s l.page).shared (k n i l was)
+      (λ t e. both_ways _ (at_last (n == p) (i == (w.pages n).last) _ refl old t) (eq-eqb i (w.pages n).last e)) (all_fallen w up s l.page).shared (k n i l was)
 ]
   where
     none : None ≡ Some l → ⊥
@@ -205,20 +205,20 @@ linked_step : (set : ℕ → ℕ) (w v : World) (links : Links) (makes : ℕ →
 linked_step set w v links makes (At n e) s k st g = link_at set w v n e links s k st g
 linked_step set w v links makes (Draw m touched) s k st g = λ n i l is. subst (λ (x : World). LinksAt links x n i l) (sym st.2)
     (subst (λ b. LinkHolds b w.group.lost (if touched n then change (w.pages n) m (w.group.written m) (w.group.counter + 1) else w.pages n) (if touched l.page then change (w.pages l.page) m (w.group.written m) (w.group.counter + 1) else w.pages l.page) i l.change) st.0
-        (drawn_link w m touched makes links n i l s st.0 k g is))
+    (drawn_link w m touched makes links n i l s st.0 k g is))
 linked_step set w v links makes (Force m a) s k st g = unchanged w v links k (ap (λ (x : World). x.down) st.3 ∙ sym st.0) (ap (λ (x : World). x.group.lost) st.3) (ap (λ (x : World). x.pages) st.3)
 linked_step set w v links makes (TakeSet t m) s k st g = link_some set w v (TakeSet t m) links (λ n. set n == t) (λ p. owned_whole p m) s k st st.0 st.3 (λ n is. less_sole (w.pages n) m) (λ n. refl)
 linked_step set w v links makes (YieldSet t m) s k st g = link_some set w v (YieldSet t m) links (λ n. set n == t) given_up s k st st.0 st.2 (λ n is. less_whole (w.pages n) (clean_whole w.group (w.pages n) m (all_running w st.0 s n) (st.1 n is).own (st.1 n is).up (st.1 n is).clean)) (λ n. refl)
 linked_step set w v links makes (PurgeSet t m) s k st g = link_some set w v (PurgeSet t m) links (λ n. set n == t) given_up s k st st.0 st.2 (λ n is. less_whole (w.pages n) (written_whole w.group (w.pages n) m (all_running w st.0 s n) (st.1 n is).own (st.1 n is).written)) (λ n. refl)
 linked_step set w v links makes Lose s k st g = λ n i l is. subst (λ (x : World). LinksAt links x n i l) (sym st.2)
     (regime_link w.down w.group.lost false true (lose (w.pages n)) (lose (w.pages l.page)) i l.change (inr refl)
-        (grown w.down w.group.lost (w.pages n) (lose (w.pages n)) (w.pages l.page) (lose (w.pages l.page)) i l.change (no_less _ _ refl refl refl refl refl) (no_less _ _ refl refl refl refl refl) (λ _ lt. inl lt) (all_running w st.0 s n).within (k n i l is)))
+    (grown w.down w.group.lost (w.pages n) (lose (w.pages n)) (w.pages l.page) (lose (w.pages l.page)) i l.change (no_less _ _ refl refl refl refl refl) (no_less _ _ refl refl refl refl refl) (λ _ lt. inl lt) (all_running w st.0 s n).within (k n i l is)))
 linked_step set w v links makes (ReadLog m) s k st g = unchanged w v links k (ap (λ (x : World). x.down) st.2 ∙ sym st.0) (ap (λ (x : World). x.group.lost) st.2) (ap (λ (x : World). x.pages) st.2)
 linked_step set w v links makes Rebuilt s k st g = λ n i l is. subst (λ (x : World). LinksAt links x n i l) (sym st.3)
     (rebuilt_link w.down w.group.lost false false w.group (w.pages n) (w.pages l.page) i l.change (all_running w st.0 s n) (all_running w st.0 s l.page) st.1 (all_read w.group (w.pages l.page) (all_running w st.0 s l.page) st.1 (st.2 l.page)) (st.2 l.page) (k n i l is))
 linked_step set w v links makes (Fail m cut) s k st g = λ n i l is. subst (λ (x : World). LinksAt links x n i l) (sym st.2)
     (subst (λ b. LinkHolds b w.group.lost (fail (w.pages n) m (cut n)) (fail (w.pages l.page) m (cut l.page)) i l.change) st.0
-        (cut_link w.down w.group.lost w.group (w.pages n) (w.pages l.page) m (cut n) (cut l.page) i l.change (all_running w st.0 s l.page) (st.1 n) (st.1 l.page) (k n i l is)))
+    (cut_link w.down w.group.lost w.group (w.pages n) (w.pages l.page) m (cut n) (cut l.page) i l.change (all_running w st.0 s l.page) (st.1 n) (st.1 l.page) (k n i l is)))
 linked_step set w v links makes (Restart m) s k st g = unchanged w v links k (ap (λ (x : World). x.down) st.2 ∙ sym st.0) (ap (λ (x : World). x.group.lost) st.2) (ap (λ (x : World). x.pages) st.2)
 linked_step set w v links makes (Open m) s k st g = unchanged w v links k (ap (λ (x : World). x.down) st.3 ∙ sym st.0) (ap (λ (x : World). x.group.lost) st.3) (ap (λ (x : World). x.pages) st.3)
 linked_step set w v links makes (GroupFail cut) s k st g = λ n i l is. subst (λ (x : World). LinksAt links x n i l) (sym st.1)
@@ -232,8 +232,8 @@ linked_step set w v links makes (Forward p a) s k st g = quiet w v links k (ap (
     same_put pages p q e n = elim (cases_eq n p) [ inl h ↦ grind (arith, e, h) | inr h ↦ grind (arith, e, h) ]
 linked_step set w v links makes (Compensate p m) s k st g = λ n i l is. subst (λ (x : World). LinksAt links x n i l) (sym st.1)
     (subst (λ x. LinkHolds true w.group.lost x (put w.pages p (compensate (w.pages p) m (w.group.stable m) (w.group.counter + 1)) l.page) i l.change) (put_is w.pages p (λ q. compensate q m (w.group.stable m) (w.group.counter + 1)) n)
-        (subst (λ x. LinkHolds true w.group.lost (if n == p then compensate (w.pages n) m (w.group.stable m) (w.group.counter + 1) else w.pages n) x i l.change) (put_is w.pages p (λ q. compensate q m (w.group.stable m) (w.group.counter + 1)) l.page)
-            (compensated w links p m n i l s st.0 k is)))
+    (subst (λ x. LinkHolds true w.group.lost (if n == p then compensate (w.pages n) m (w.group.stable m) (w.group.counter + 1) else w.pages n) x i l.change) (put_is w.pages p (λ q. compensate q m (w.group.stable m) (w.group.counter + 1)) l.page)
+    (compensated w links p m n i l s st.0 k is)))
 linked_step set w v links makes (Append m) s k st g = unchanged w v links k (ap (λ (x : World). x.down) st.1 ∙ sym st.0) (ap (λ (x : World). x.group.lost) st.1) (ap (λ (x : World). x.pages) st.1)
 linked_step set w v links makes Rise s k st g = λ n i l is. subst (λ (x : World). LinksAt links x n i l) (sym st.2)
     (risen_link w.down w.group.lost false false w.group (w.pages n) (w.pages l.page) i l.change (all_fallen w st.0 s l.page) (k n i l is))
@@ -247,8 +247,8 @@ pub last_of_sole : (g : Group) (p : Page) (m : ℕ) → Coherent g p → g.statu
 last_of_sole g p m s up use-it sole =
     let a = s.alone_bit in let b = s.sole_valid m in let c = s.newest m in let d = s.marked_last m in let e = s.within in let f = s.unowned in
     elim (cases_Bool (p.frame m).marked) [
-      inl h ↦ d h
-    | inr h ↦ let own : p.owner ≡ Some m = owner use-it.1 in b sole own up use-it.0 h ∙ whole own h
+      | inl h ↦ d h
+      | inr h ↦ let own : p.owner ≡ Some m = owner use-it.1 in b sole own up use-it.0 h ∙ whole own h
     ]
   where
     owner : (p.bit m ≡ true) ⊎ ((p.sole ≡ true) × (p.owner ≡ Some m) × (g.status m ≡ Up)) → p.owner ≡ Some m
@@ -258,6 +258,7 @@ last_of_sole g p m s up use-it sole =
         held : (o : Option ℕ) → p.owner ≡ o → p.owner ≡ Some m
         held None e = absurd (both_ways p.sole (s.unowned e) sole)
         held (Some k) e = elim (cases_eq m k) [ inl q ↦ e ∙ ap Some (sym q) | inr ne ↦ absurd (both_ways (p.bit m) (s.alone_bit k m sole e ne) h) ]
+
     whole : p.owner ≡ Some m → (p.frame m).marked ≡ false → p.shared ≡ p.last
     whole own h = let n = s.newest m own in let w = s.within in grind (arith, n, w, h, up)
 
@@ -273,12 +274,12 @@ lead w m n i l s up live from to k lt =
     let low : i < p.last = let x = gp.versions.frames m from.0 in omega (arith, x, lt) in
     let found = λ (h : (l.change < q.shared) ⊎ ((l.change < q.last) × (q.author l.change ≡ m))). gq.finds_own m l.change to live h in
     elim (cases_Bool q.sole) [
-      inl sole ↦ let e = last_of_sole w.group q m sq live to sole in let x = k.there low in omega (arith, e, x)
-    | inr part ↦ elim (cases_lt i p.shared) [
-        inl is ↦ found (inl (reached (k.shared up (cached sq part to.1) is) part))
-      | inr unshared ↦ elim (k.made low) [
-          inl is ↦ found (inl is)
-        | inr same-one ↦ found (inr (k.there low, sym same-one.0 ∙ mine sp gp from unshared low lt))
+      | inl sole ↦ let e = last_of_sole w.group q m sq live to sole in let x = k.there low in omega (arith, e, x)
+      | inr part ↦ elim (cases_lt i p.shared) [
+        | inl is ↦ found (inl (reached (k.shared up (cached sq part to.1) is) part))
+        | inr unshared ↦ elim (k.made low) [
+          | inl is ↦ found (inl is)
+          | inr same-one ↦ found (inr (k.there low, sym same-one.0 ∙ mine sp gp from unshared low lt))
         ]
       ]
     ]
@@ -286,12 +287,14 @@ lead w m n i l s up live from to k lt =
     reached : (l.change < (w.pages l.page).shared) ⊎ ((w.pages l.page).sole ≡ true) → (w.pages l.page).sole ≡ false → l.change < (w.pages l.page).shared
     reached (inl h) part = h
     reached (inr h) part = absurd (both_ways _ part h)
+
     cached : Coherent w.group (w.pages l.page) → (w.pages l.page).sole ≡ false → ((w.pages l.page).bit m ≡ true) ⊎ (((w.pages l.page).sole ≡ true) × ((w.pages l.page).owner ≡ Some m) × (w.group.status m ≡ Up)) → w.group.lost ≡ false
     cached sq part (inr h) = absurd (both_ways _ part h.0)
     cached sq part (inl h) = elim (cases_Bool w.group.lost) [ inl gone ↦ absurd (both_ways _ (sq.lost_bits m gone) h) | inr there ↦ there ]
+
     mine : Coherent w.group (w.pages n) → Gives w.group (w.pages n) → IsUsable w.group (w.pages n) m → (w.pages n).shared ≤ i → i < (w.pages n).last → i < ((w.pages n).frame m).version → (w.pages n).author i ≡ m
     mine sp gp from unshared low lt = elim (gp.newest_allowed m from) [
-        inl e ↦ absurd (let x : i < (w.pages n).shared = omega (arith, e, lt) in omega (arith, x, unshared))
+      | inl e ↦ absurd (let x : i < (w.pages n).shared = omega (arith, e, lt) in omega (arith, x, unshared))
       | inr h ↦ let a = sp.own i unshared low in let b = h.0 in cc
     ]
 

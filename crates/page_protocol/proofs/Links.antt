@@ -21,14 +21,16 @@ grown down lost p p' q q' i c a b newly within k = record { there = there; made 
   where
     there : i < p'.last → c < q'.last
     there lt = let x = k.there in let y = a.last in let z = b.last in grind (arith, x, y, z)
+
     made : i < p'.last → (c < q'.shared) ⊎ ((p'.author i ≡ q'.author c) × (q'.place c ≤ p'.place i))
     made lt = let x = k.made in let y = a.last in let z = b.shared in let s = a.author i in let t = a.place i in let u = b.author c in let v = b.place c in grind (arith, x, y, z, s, t, u, v)
+
     shared : down ≡ false → lost ≡ false → i < p'.shared → (c < q'.shared) ⊎ (q'.sole ≡ true)
     shared d l lt = elim (newly l lt) [
-        inl old ↦ elim (k.shared d l old) [
-            inl is ↦ inl (let z = b.shared in omega (arith, z, is))
-          | inr sole ↦ elim (b.sole sole) [ inl h ↦ inr h | inr h ↦ inl (let x = there (omega (arith, lt, within)) in omega (arith, h, x)) ]
-        ]
+      | inl old ↦ elim (k.shared d l old) [
+        | inl is ↦ inl (let z = b.shared in omega (arith, z, is))
+        | inr sole ↦ elim (b.sole sole) [ inl h ↦ inr h | inr h ↦ inl (let x = there (omega (arith, lt, within)) in omega (arith, h, x)) ]
+      ]
       | inr is ↦ is
     ]
 

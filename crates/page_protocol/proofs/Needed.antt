@@ -59,14 +59,16 @@ one_holds i c a b = record { there = grind (arith, a, b); made = grind (arith, a
 
 linked : Linked one_link both_in_hand
 linked n i l is = elim (cases_Bool ((n == 0) && (i == 1))) [
-    inl here ↦ let e = cond-true ((n == 0) && (i == 1)) (Some link) None here in let f : Some link ≡ Some l = sym e ∙ is in one_holds i l.change (index n i here) (change_of l f)
+  | inl here ↦ let e = cond-true ((n == 0) && (i == 1)) (Some link) None here in let f : Some link ≡ Some l = sym e ∙ is in one_holds i l.change (index n i here) (change_of l f)
   | inr other ↦ absurd (let e = cond-false ((n == 0) && (i == 1)) (Some link) None other in let f : None ≡ Some l = sym e ∙ is in cc)
 ]
   where
     link : Link
     link = record { page = 1; change = 1 }
+
     index : (n i : ℕ) → ((n == 0) && (i == 1)) ≡ true → i ≡ 1
     index n i h = grind (arith, h)
+
     change_of : (l : Link) → Some link ≡ Some l → l.change ≡ 1
     change_of l e = grind (arith, e)
 

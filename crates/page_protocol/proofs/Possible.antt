@@ -56,6 +56,7 @@ prefix g p lengths s o below =
   where
     none : (i : ℕ) → p.last ≤ i → i < p.last → ⊥
     none i a b = omega (arith, a, b)
+
     one_author : (g : Group) (p : Page) → Coherent g p → OneAuthor p p.shared
     one_author g p s i j a b c d = let x = s.own i a b in let y = s.own j c d in cc
 

@@ -70,14 +70,14 @@ merged t before older newer rise =
 page_grows : (t : Patch) (b : Bytes) (xs : List Change) → b.lrsn ≤ (redone t b xs).lrsn
 page_grows t b [] = omega arith
 page_grows t b (c ∷ xs) = elim (cases_lt b.lrsn c.lrsn) [
-    inl lt ↦ let ih = page_grows t (apply t b c) xs in subst (λ (x : Bytes). b.lrsn ≤ x.lrsn) (sym (cond-true (nat_lt b.lrsn c.lrsn) _ _ (lt-ltb b.lrsn c.lrsn lt))) (omega (arith, ih, lt))
+  | inl lt ↦ let ih = page_grows t (apply t b c) xs in subst (λ (x : Bytes). b.lrsn ≤ x.lrsn) (sym (cond-true (nat_lt b.lrsn c.lrsn) _ _ (lt-ltb b.lrsn c.lrsn lt))) (omega (arith, ih, lt))
   | inr ge ↦ subst (λ (x : Bytes). b.lrsn ≤ x.lrsn) (sym (cond-false (nat_lt b.lrsn c.lrsn) _ _ (le-ltb b.lrsn c.lrsn ge))) (page_grows t b xs)
 ]
 
 all_below : (t : Patch) (b : Bytes) (xs : List Change) → AreBelow (redone t b xs).lrsn xs
 all_below t b [] = tt
 all_below t b (c ∷ xs) = elim (cases_lt b.lrsn c.lrsn) [
-    inl lt ↦ subst (λ (x : Bytes). AreBelow x.lrsn (c ∷ xs)) (sym (cond-true (nat_lt b.lrsn c.lrsn) _ _ (lt-ltb b.lrsn c.lrsn lt))) (page_grows t (apply t b c) xs, all_below t (apply t b c) xs)
+  | inl lt ↦ subst (λ (x : Bytes). AreBelow x.lrsn (c ∷ xs)) (sym (cond-true (nat_lt b.lrsn c.lrsn) _ _ (lt-ltb b.lrsn c.lrsn lt))) (page_grows t (apply t b c) xs, all_below t (apply t b c) xs)
   | inr ge ↦ subst (λ (x : Bytes). AreBelow x.lrsn (c ∷ xs)) (sym (cond-false (nat_lt b.lrsn c.lrsn) _ _ (le-ltb b.lrsn c.lrsn ge))) (let g = page_grows t b xs in omega (arith, ge, g), all_below t b xs)
 ]
 

@@ -26,9 +26,9 @@ version_of : (g : Group) (p : Page) (m : ℕ) → Coherent g p → g.status m �
 version_of g p m s up may = elim (cases_Bool (p.frame m).marked) [
   | inl h ↦ inl (s.marked_last m h)
   | inr h ↦ elim may.1 [
-      | inl bit ↦ inr (s.valid m may.0 bit h, λ own. clean_whole g p m s own up h)
-      | inr sole ↦ inr (s.sole_valid m sole.0 sole.1 up may.0 h, λ own. clean_whole g p m s own up h)
-    ]
+    | inl bit ↦ inr (s.valid m may.0 bit h, λ own. clean_whole g p m s own up h)
+    | inr sole ↦ inr (s.sole_valid m sole.0 sole.1 up may.0 h, λ own. clean_whole g p m s own up h)
+  ]
 ]
 
 -- no change beyond the shared version is of a row that another transaction claims
@@ -49,7 +49,7 @@ reads_part g p tags home claims t r m s u alone at up may has part = elim (versi
 
 pub reads_last : ReadsLastValue
 reads_last g p tags home claims t r m s u alone at up may has = elim (cases_Bool p.sole) [
-    inl sole ↦ ap (λ n. value_at tags n r) (last_of_sole g p m s up may sole)
+  | inl sole ↦ ap (λ n. value_at tags n r) (last_of_sole g p m s up may sole)
   | inr part ↦ reads_part g p tags home claims t r m s u alone at up may has part
 ]
 

@@ -36,7 +36,7 @@ nothing_beyond g p m s own (inr (inr done)) unmarked = let n = s.own p.shared in
 
 pub has_last : (g : Group) (p : Page) (m : ℕ) → Coherent g p → MayChange g p m → (p.frame m).version ≡ p.last
 has_last g p m s may = elim (cases_Bool (p.frame m).marked) [
-    inl h ↦ s.marked_last m h
+  | inl h ↦ s.marked_last m h
   | inr h ↦ version_of g p m s may.own may.filled may.usable h ∙ nothing_beyond g p m s may.own may.newest h
 ]
 

@@ -17,7 +17,7 @@ copy_old g p s = grind arith
 
 newest : (g : Group) (p : Page) → Coherent g p → NewestAllowed g p
 newest g p s m use-it = elim (cases_Bool (p.frame m).marked) [
-    inl h ↦ inr (s.marked_own m h, s.marked_last m h)
+  | inl h ↦ inr (s.marked_own m h, s.marked_last m h)
   | inr h ↦ elim use-it.1 [ inl b ↦ inl (s.valid m use-it.0 b h) | inr q ↦ inl (s.sole_valid m q.0 q.1 q.2 use-it.0 h) ]
 ]
 
@@ -56,8 +56,10 @@ gives g p s = record {
   where
     beyond : (i : ℕ) → copy_before g p ≤ i → i < p.last → p.owner ≡ Some (p.author i)
     beyond i a b = let x = s.own i in let y = s.lost_own i in grind (arith, x, y, a, b)
+
     in_hand : (m : ℕ) → p.owner ≡ Some m → copy_before g p < p.last → g.status m ≡ Up → (p.frame m).marked ≡ true
     in_hand m own more up = let x = s.newest m in let y = s.lost_newest m in grind (arith, x, y, own, more, up)
+
     held_copy : (m : ℕ) → p.castout ≡ Some m → group_copy p ≡ p.shared
     held_copy m held = let a = s.lost_castout in let b = s.group in grind (arith, a, b, held)
 

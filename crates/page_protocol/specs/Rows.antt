@@ -53,5 +53,5 @@ pub record KeepsClaimed : Type 0 where
   pub by_rebuild : (p : Page) (tags : Tags) (home : ℕ → ℕ) (claims : Claims) (n : ℕ) → p.shared ≤ n → AreClaimed p tags home claims → AreClaimed (rebuild p n) tags home claims
   pub by_fail : (g : Group) (p : Page) (tags : Tags) (home : ℕ → ℕ) (claims : Claims) (m n : ℕ) → IsCut g m p n → AreClaimed p tags home claims → AreClaimed (fail p m n) tags home claims
   pub by_release : (g : Group) (p : Page) (tags : Tags) (home : ℕ → ℕ) (claims after : Claims) (t m : ℕ) → Coherent g p → AreClaimed p tags home claims → home t ≡ m → g.status m ≡ Up
-    → ((i : ℕ) → i < p.last → tags.tran i ≡ t → ((p.frame m).marked ≡ false) ⊎ (p.sole ≡ true)) → ((u r : ℕ) → u ≢ t → after u r ≡ claims u r) → AreClaimed p tags home after
+      → ((i : ℕ) → i < p.last → tags.tran i ≡ t → ((p.frame m).marked ≡ false) ⊎ (p.sole ≡ true)) → ((u r : ℕ) → u ≢ t → after u r ≡ claims u r) → AreClaimed p tags home after
   pub by_giving_up : (p : Page) (tags : Tags) (home : ℕ → ℕ) (claims : Claims) → p.shared ≡ p.last → AreClaimed (given_up p) tags home claims
