@@ -1,0 +1,17 @@
+pub mod Steps
+pub mod Whole
+pub mod Down
+pub mod Order
+pub mod Runs
+pub mod Words
+pub mod Later
+pub mod Possible
+pub mod Redo
+pub mod Needed
+pub mod Bytes
+pub mod Opening
+pub mod Links
+pub mod LinkRuns
+pub mod Frames
+pub mod Sets
+pub mod Rows

@@ -1,0 +1,14 @@
+pub mod Page
+pub mod Moves
+pub mod Coherent
+pub mod Down
+pub mod Always
+pub mod Words
+pub mod Redo
+pub mod Needed
+pub mod Bytes
+pub mod Opening
+pub mod Links
+pub mod Frames
+pub mod Sets
+pub mod Rows
