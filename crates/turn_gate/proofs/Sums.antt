@@ -1,10 +1,8 @@
 -- Sums over lists that change at one place, and the events of one caller.
-use Rattle.std.proofs.Common.{◌≡◌, ℕ, zero, suc, ◌+◌, ◌<◌, ◌≤◌, ◌≢◌, List, [], ◌∷◌, ◌++◌, length, set, get_or, drop, sym, refl, ap, ◌∙◌, arith, eqb, eq-eqb, ne_eqb, Bool, true, false}
-use mathlib.Core.Logic.{dite}
-use native.Mathlib.Decide.{ℕ_discrete}
+use Rattle.std.proofs.Common.{◌≡◌, ℕ, zero, suc, ◌+◌, ◌≤◌, ◌≢◌, List, [], ◌∷◌, ◌++◌, length, set, get_or, drop, sym, refl, ap, ◌∙◌, arith, eqb, eq-eqb, ne_eqb, Bool, true, false, true≢false}
 use mathlib.Core.Option.{some, some-injective, some-ne-none}
 use lib.ListN.{get_elem?}
-use Rattle.turn_gate.specs.Lists.{total, when, only, put_if, calls_by, Stand, Begins, own_of, first_of, others_of, choose}
+use Rattle.turn_gate.specs.Lists.{total, when, only, put_if, events_by, Begins, first_of, others_of}
 
 pub append_nil : {A : Type 0} → (l : List A) → l ++ [] ≡ l
 append_nil [] = refl
@@ -67,59 +65,31 @@ pub length_first_others : {A : Type 0} (l : List A) → length (first_of l) + le
 length_first_others [] = refl
 length_first_others (x ∷ xs) = omega arith
 
-pub begins_choose : {A : Type 0} (b : Bool) (xs ys log : List A) → Begins xs log → Begins ys log → Begins (choose b xs ys) log
-begins_choose true xs ys log h k = h
-begins_choose false xs ys log h k = k
+pub when_le : (a b : Bool) → (a ≡ true → b ≡ true) → when a 1 ≤ when b 1
+when_le true true h = omega arith
+when_le true false h = absurd (true≢false (sym (h refl)))
+when_le false true h = omega arith
+when_le false false h = omega arith
+
+-- what a list begins with, a longer one begins with too
+pub begins_more : {A : Type 0} (xs ys zs : List A) → Begins xs ys → Begins xs (ys ++ zs)
+begins_more xs ys zs b = (b.0 ++ zs, ap (λ l. l ++ zs) b.1 ∙ append_assoc xs b.0 zs)
+
+pub begins_whole : {A : Type 0} (xs ys : List A) → xs ≡ ys → Begins xs ys
+begins_whole xs ys same = ([], sym same ∙ sym (append_nil xs))
 
 module _ {E : Type 0} (caller : E → ℕ) where
-  pub calls_by-append : (c : ℕ) (l m : List E) → calls_by caller c (l ++ m) ≡ calls_by caller c l ++ calls_by caller c m
-  calls_by-append c [] m = refl
-  calls_by-append c (e ∷ es) m = put_more (eqb (caller e) c) (calls_by-append c es m)
+  pub events_by-append : (c : ℕ) (l m : List E) → events_by caller c (l ++ m) ≡ events_by caller c l ++ events_by caller c m
+  events_by-append c [] m = refl
+  events_by-append c (e ∷ es) m = put_more (eqb (caller e) c) (events_by-append c es m)
     where
-      put_more : (b : Bool) → calls_by caller c (es ++ m) ≡ calls_by caller c es ++ calls_by caller c m → put_if b e (calls_by caller c (es ++ m)) ≡ put_if b e (calls_by caller c es) ++ calls_by caller c m
+      put_more : (b : Bool) → events_by caller c (es ++ m) ≡ events_by caller c es ++ events_by caller c m → put_if b e (events_by caller c (es ++ m)) ≡ put_if b e (events_by caller c es) ++ events_by caller c m
       put_more true h = ap (λ l. e ∷ l) h
       put_more false h = h
 
   -- an event of c
-  pub calls_by_one : (c : ℕ) (e : E) (l : List E) → caller e ≡ c → calls_by caller c (l ++ e ∷ []) ≡ calls_by caller c l ++ e ∷ []
-  calls_by_one c e l h = calls_by-append c l (e ∷ []) ∙ ap (λ b. calls_by caller c l ++ put_if b e []) (eq-eqb (caller e) c h)
+  pub events_by_one : (c : ℕ) (e : E) (l : List E) → caller e ≡ c → events_by caller c (l ++ e ∷ []) ≡ events_by caller c l ++ e ∷ []
+  events_by_one c e l h = events_by-append c l (e ∷ []) ∙ ap (λ b. events_by caller c l ++ put_if b e []) (eq-eqb (caller e) c h)
 
-  pub calls_by_else : (c : ℕ) (e : E) (l : List E) → ¬ (caller e ≡ c) → calls_by caller c (l ++ e ∷ []) ≡ calls_by caller c l
-  calls_by_else c e l h = calls_by-append c l (e ∷ []) ∙ (ap (λ b. calls_by caller c l ++ put_if b e []) (ne_eqb (caller e) c h) ∙ append_nil (calls_by caller c l))
-
-  -- the event of a caller that is not among them
-  pub stand_else : (log : List E) (e : E) (own : List (ℕ × List E)) → total (λ (p : ℕ × List E). only (caller e) p.0) own ≡ 0 → Stand caller log own → Stand caller (log ++ e ∷ []) own
-  stand_else log e [] none h = tt
-  stand_else log e (p ∷ ps) none h =
-      dite (ℕ_discrete p.0 (caller e))
-      (λ same. let one : only (caller e) p.0 ≡ 1 = ap (only (caller e)) same ∙ only_same (caller e) in absurd (omega arith))
-      (λ other. (calls_by_else p.0 e log (λ s. other (sym s)) ∙ h.0, stand_else log e ps (omega arith) h.1))
-
-  pub stand-append : (log : List E) (a b : List (ℕ × List E)) → Stand caller log a → Stand caller log b → Stand caller log (a ++ b)
-  stand-append log [] b h k = k
-  stand-append log (p ∷ ps) b h k = (h.0, stand-append log ps b h.1 k)
-
-  pub stand_first : (log : List E) (own : List (ℕ × List E)) → Stand caller log own → Stand caller log (first_of own)
-  stand_first log [] h = tt
-  stand_first log (p ∷ ps) h = (h.0, tt)
-
-  pub stand_others : (log : List E) (own : List (ℕ × List E)) → Stand caller log own → Stand caller log (others_of own)
-  stand_others log [] h = tt
-  stand_others log (p ∷ ps) h = h.1
-
-  pub stand_own_of : (log : List E) (k m : ℕ) → Stand caller log (own_of caller log k m)
-  stand_own_of log k zero = tt
-  stand_own_of log k (suc m) = (refl, stand_own_of log (suc k) m)
-
-  pub length-own_of : (log : List E) (k m : ℕ) → length (own_of caller log k m) ≡ m
-  length-own_of log k zero = refl
-  length-own_of log k (suc m) = ap suc (length-own_of log (suc k) m)
-
-  -- no caller is twice among them
-  pub once_own_of : (log : List E) (c k m : ℕ) → (total (λ (p : ℕ × List E). only c p.0) (own_of caller log k m) ≤ 1) × (c < k → total (λ (p : ℕ × List E). only c p.0) (own_of caller log k m) ≡ 0)
-  once_own_of log c k zero = (omega arith, λ _. refl)
-  once_own_of log c k (suc m) =
-      let more = once_own_of log c (suc k) m in
-      dite (ℕ_discrete k c)
-      (λ same. let none = more.1 (omega arith) in let one : only c k ≡ 1 = ap (only c) same ∙ only_same c in (omega arith, λ h. absurd (omega arith)))
-      (λ other. let zero_here = only_else c k other in (omega (arith, more.0), λ h. omega (arith, more.1 (omega arith))))
+  pub events_by_else : (c : ℕ) (e : E) (l : List E) → ¬ (caller e ≡ c) → events_by caller c (l ++ e ∷ []) ≡ events_by caller c l
+  events_by_else c e l h = events_by-append c l (e ∷ []) ∙ (ap (λ b. events_by caller c l ++ put_if b e []) (ne_eqb (caller e) c h) ∙ append_nil (events_by caller c l))

@@ -1,141 +1,115 @@
 //! Turns at a shared machine.
-ghost use Rattle.std.specs.Prelude.{◌≡◌, ℕ, ◌+◌, ◌^◌, ◌<◌, ◌≤◌, IfErr, vec_capacity, List, [], ◌∷◌, ◌++◌, length, map, IfOk, Some};
-ghost use Rattle.turn_gate.specs.Lists.{Begins, Stand, own_of};
-ghost use Rattle.turn_gate.specs.Seats.{IsIdle, IsSame, IsGate};
-ghost use Rattle.turn_gate.specs.Sat.{Sat, sat_of, IsSat, sats, HasAll, AreOf, entry_of};
+ghost use Rattle.std.specs.Prelude.{◌≡◌, ◌⊎◌, ℕ, ◌^◌, ◌<◌, ◌≤◌, List, [], ◌∷◌, length, map, true, false, vec_capacity, IfOk, IfErr, Some};
+ghost use Rattle.turn_gate.specs.declared.answer.Look.TheVariants as looked;
+ghost use Rattle.turn_gate.specs.Known.{newcomers};
+ghost use Rattle.turn_gate.specs.Places.{IsGate};
 ghost use Rattle.turn_gate.specs.Ruled.{sits};
+ghost use Rattle.turn_gate.specs.Seated.{Gate, gate_code, Sat, first_seats, AreOf, HasAll, NoneEnded, knowledge_of};
+ghost use Rattle.turn_gate.specs.Turns.{IfRan, IfRefused, is_refused, Follows, HasRun};
 
+use crate::answer::{Look, Turned};
 use crate::kept::Kept;
-use crate::machine::{Look, Machine, NoMemory};
-use crate::rule::{Key, Law, OffFirst, Place, Together, Top};
+use crate::machine::Machine;
+use crate::rule::{Key, Knows, Law, OffFirst, Place, SERVING, Together, Top};
 use crate::seat::Seat;
-use crate::steps::{draw, finish, leave, take_out, wait_for};
-use crate::view::View;
+use crate::visit::{look_in_turn, run_in_turn};
 use atomic_table::{Refused, Table};
+use ds_base::{NoMemory, Sequence};
 use std::alloc::Global;
+use std::marker::Model;
 use std::snapshot::Snapshot;
 use std::sync::Wait;
 
-// One turn of a seat, without the waking.
-pub(crate) fn run_turn<M: Machine, R: Wait>(
-    rt: &R,
-    top: &Top<M>,
-    place: &mut Place<M>,
-    part: &mut M::Part,
-    event: u64,
-) -> Result<u64, NoMemory>
-    requires table { (place.old.table_id ≡ top.now.table_id) × IsGate top.now.table_id }
-    requires idle { IsIdle place.old }
-    requires one { (mine : List M.Entry) × (place.old.me.0.own ≡ (M.caller event, mine) ∷ []) }
-    requires all { Stand (λ x. M.caller (M.event_of x)) place.old.me.0.seen place.old.me.0.own }
-    requires part { M.parted (M.caller event) part.old place.old.me.0.seen }
-    ensures same { IsSame place.old place.new }
-    ensures idle { IsIdle place.new }
-    ensures one { (mine : List M.Entry) × (place.new.me.0.own ≡ (M.caller event, mine) ∷ []) }
-    ensures all { Stand (λ x. M.caller (M.event_of x)) place.new.me.0.seen place.new.me.0.own }
-    ensures seen { Begins place.old.me.0.seen place.new.me.0.seen }
-    ensures ran { IfOk result (λ at. (before : List M.Entry) × (x : M.Entry) × Begins place.old.me.0.seen before × (at ≡ length before) × (M.event_of x ≡ event) × (place.new.me.0.seen ≡ before ++ x ∷ []) × M.parted (M.caller event) part.new place.new.me.0.seen × ((mine : List M.Entry) → place.old.me.0.own ≡ (M.caller event, mine) ∷ [] → place.new.me.0.own ≡ (M.caller event, mine ++ x ∷ []) ∷ [])) }
-{
-    let ticket = draw(top, place);
-    wait_for(rt, top, place, ticket);
-    let mut kept = take_out(top, place);
-    if kept.ended || kept.journal.reserve(1).is_err() {
-        kept.ended = true;
-        leave(top, place, kept);
-        return Err(NoMemory);
-    }
-    let at = kept.journal.len() as u64;
-    let ran = kept.machine.run(part, event);
-    kept.journal.push_reserved(event);
-    kept.ended = ran.is_err();
-    finish(top, place, kept, event);
-    ran?;
-    Ok(at)
-}
+/// The event numbers that a machine has run, in order.
+pub type Journal = Sequence<u64>;
 
-pub(crate) fn run_look<M: Machine, R: Wait>(
-    rt: &R,
-    top: &Top<M>,
-    place: &mut Place<M>,
-    part: &M::Part,
-    from: u64,
-) -> Look
-    requires table { (place.old.table_id ≡ top.now.table_id) × IsGate top.now.table_id }
-    requires idle { IsIdle place.old }
-    requires one { (by : ℕ) × (mine : List M.Entry) × (place.old.me.0.own ≡ (by, mine) ∷ []) × M.parted by part.now place.old.me.0.seen }
-    requires all { Stand (λ x. M.caller (M.event_of x)) place.old.me.0.seen place.old.me.0.own }
-    ensures same { IsSame place.old place.new × (place.new.me.0.own ≡ place.old.me.0.own) }
-    ensures idle { IsIdle place.new }
-    ensures all { Stand (λ x. M.caller (M.event_of x)) place.new.me.0.seen place.new.me.0.own }
-    ensures seen { Begins place.old.me.0.seen place.new.me.0.seen }
-{
-    let ticket = draw(top, place);
-    wait_for(rt, top, place, ticket);
-    let kept = take_out(top, place);
-    let looked = if kept.ended {
-        Look::Over
-    } else {
-        kept.machine.look(part, from)
-    };
-    leave(top, place, kept);
-    looked
-}
-
+/// A machine with its journal, at which seats take turns. Threads share it by reference.
 #[derive(Drop)]
-/// A machine with its journal, at which seats take turns.
 pub struct Turn<M: Machine> {
-    pub(crate) table: Table<Option<Kept<M>>, View<<M as Machine>::Entry>, Key<M>, Law<M>, Global>,
-    pub(crate) seats: u64,
-    ghost gate: { IsGate table.shared.table_id },
-    ghost counted: { seats ≡ table.shared.key.0 },
+    table: Table<Option<Kept<M>>, Knows<M>, Key<M>, Law<M>, Global>,
+    seats: u64,
+}
+
+impl<M: Machine> Model for Turn<M> {
+    ghost Value = { Gate M.Start };
+
+    ghost coded = { gate_code M.Start.code };
+
+    ghost view = { λ t. record { id = t.table.shared.table_id; seats = t.seats; start = M.start t.table.shared.key.1.value } };
+
+    ghost invariant = { λ t. IsGate t.table.shared.table_id × (t.seats ≡ t.table.shared.key.0) × (1 ≤ t.seats) };
 }
 
 impl<M: Machine> Turn<M> {
     // Wakes as many as may wait.
     fn wake(&self) {
         for _ in 0..self.seats {
-            self.table.shared.wake_one(1);
+            self.table.shared.wake_one(SERVING);
         }
     }
 
-    // The seats, cut off one by one.
-    fn seat_all(
+    // The seats of the callers from 1 on, cut off one by one.
+    fn deal(
         table: &Top<M>,
+        about: &Snapshot<M>,
         mut place: Place<M>,
-        mut row: Vec<Seat<M>, Global>,
+        mut row: Vec<Seat<M>>,
         count: u64,
-    ) -> Vec<Seat<M>, Global>
+    ) -> Vec<Seat<M>>
         requires table { (place.table_id ≡ table.now.table_id) × IsGate table.now.table_id }
         requires room { (1 ≤ count) × (row.items ≡ []) × (count ≤ vec_capacity row) }
-        requires first { place.me ≡ (sits place.me.0.seen (own_of (λ x. M.caller (M.event_of x)) place.me.0.seen 1 count), []) }
-        ensures { result.items ≡ sats (λ x. M.caller (M.event_of x)) table.now.table_id place.me.0.seen 1 count }
+        requires first { place.me ≡ (sits (newcomers (λ x. M.caller (M.event_of x)) (M.start about.now.value) (M.story about.now.value) 1 count), []) }
+        ensures { result.items ≡ first_seats (λ x. M.caller (M.event_of x)) table.now.table_id (M.start about.now.value) (M.story about.now.value) count }
     {
         for _ in 1..count {
             let next = table.split_seat::<OffFirst>(&mut place);
-            row.push_reserved(Seat::at(place));
+            row.push_reserved(Seat::at(place, about));
             place = next;
         }
-        row.push_reserved(Seat::at(place));
+        row.push_reserved(Seat::at(place, about));
         row
     }
 
-    /// The seats are those of the callers from 1 on.
+    /// A turn at the machine, and a seat for each part: the k-th, counted from 1, is caller k's.
+    ///
+    /// The refusal comes for want of memory alone, and hands the machine and the journal back as they were.
     pub fn new(
         alloc: Global,
         machine: M,
-        journal: Vec<u64, Global>,
-        count: u64,
-    ) -> Result<(Turn<M>, Vec<Seat<M>, Global>), (M, Vec<u64, Global>)>
-        requires { (1 ≤ count) × (count < 2 ^ 32) × M.sound machine × (journal.items ≡ map M.event_of (M.story machine)) }
-        ensures ok { IfOk result (λ r. (r.1.items ≡ sats (λ x. M.caller (M.event_of x)) r.0.table.shared.table_id (M.story machine) 1 count) × (r.0.seats ≡ count)) }
-        ensures err { IfErr result (λ r. (r.0 ≡ machine) × (r.1.items ≡ journal.items)) }
+        journal: Journal,
+        parts: &[M::Part],
+    ) -> Result<(Turn<M>, Vec<Seat<M>>), (NoMemory, M, Journal)>
+        requires parts { (1 ≤ length parts.now) × (length parts.now < 2 ^ 32) }
+        requires stands { M.sound machine × (journal ≡ map M.event_of (M.story machine)) }
+        ensures turn { IfOk result (λ r. (r.0.seats ≡ length parts.now) × (r.0.start ≡ M.start machine)) }
+        ensures seats { IfOk result (λ r. r.1.items ≡ first_seats (λ x. M.caller (M.event_of x)) r.0.id (M.start machine) (M.story machine) (length parts.now)) }
+        ensures err { IfErr result (λ r. (r.1 ≡ machine) × (r.2 ≡ journal)) }
     {
-        let Ok(row) = Vec::with_capacity(alloc, count as usize) else {
-            return Err((machine, journal));
+        let Ok(row) = Vec::with_capacity(alloc, parts.len()) else {
+            return Err((NoMemory, machine, journal));
         };
-        let Ok(mut slots) = Vec::with_capacity(alloc, 1) else {
-            return Err((machine, journal));
+        let Ok(slots) = Vec::with_capacity(alloc, 1) else {
+            return Err((NoMemory, machine, journal));
         };
+        Turn::seated(alloc, machine, journal.into_vec(), parts.len() as u64, row, slots)
+    }
+
+    // The turn over the slot, once there is room for the seats.
+    fn seated(
+        alloc: Global,
+        machine: M,
+        journal: Vec<u64>,
+        count: u64,
+        row: Vec<Seat<M>>,
+        mut slots: Vec<Option<Kept<M>>>,
+    ) -> Result<(Turn<M>, Vec<Seat<M>>), (NoMemory, M, Journal)>
+        requires count { (1 ≤ count) × (count < 2 ^ 32) }
+        requires room { (row.items ≡ []) × (count ≤ vec_capacity row) × (slots.items ≡ []) × (1 ≤ vec_capacity slots) }
+        requires stands { M.sound machine × (journal.items ≡ map M.event_of (M.story machine)) }
+        ensures turn { IfOk result (λ r. (r.0.seats ≡ count) × (r.0.start ≡ M.start machine)) }
+        ensures seats { IfOk result (λ r. r.1.items ≡ first_seats (λ x. M.caller (M.event_of x)) r.0.id (M.start machine) (M.story machine) count) }
+        ensures err { IfErr result (λ r. (r.1 ≡ machine) × (r.2 ≡ journal.items)) }
+    {
         let about = (count, Snapshot::of(&machine));
         let words = [0, 0, journal.len() as u64];
         slots.push_reserved(Some(Kept {
@@ -145,7 +119,7 @@ impl<M: Machine> Turn<M> {
         }));
         match Table::new(alloc, &words, slots, &about) {
             Ok((table, place)) => {
-                let seats = Turn::seat_all(&table.shared, place, row, count);
+                let seats = Turn::deal(&table.shared, &about.1, place, row, count);
                 Ok((
                     Turn {
                         table,
@@ -158,13 +132,26 @@ impl<M: Machine> Turn<M> {
         }
     }
 
+    // What was to lie in the slot.
+    fn given_back(refused: Refused<Option<Kept<M>>, Global>) -> (NoMemory, M, Journal)
+        requires { (kept : Kept M) × (refused.slots.items ≡ Some kept ∷ []) }
+        ensures { (kept : Kept M) → refused.slots.items ≡ Some kept ∷ [] → (result.1 ≡ kept.machine) × (result.2 ≡ kept.journal.items) }
+    {
+        let Refused { mut slots } = refused;
+        let Some(Some(kept)) = slots.pop() else {
+            unreachable!()
+        };
+        slots.destroy_empty();
+        let (machine, journal) = kept.into_parts();
+        (NoMemory, machine, journal)
+    }
+
     // The seats, joined into one.
-    fn gather(table: &Top<M>, mut seats: Vec<Seat<M>, Global>) -> Place<M>
+    fn gather(table: &Top<M>, mut seats: Vec<Seat<M>>) -> Place<M>
         requires table { IsGate table.now.table_id }
         requires seats { (1 ≤ length seats.items) × AreOf table.now.table_id seats.items }
         ensures table { result.table_id ≡ table.now.table_id }
-        ensures idle { IsIdle result }
-        ensures own { result.me.0.own ≡ map entry_of seats.items }
+        ensures all { result.me ≡ (sits (map knowledge_of seats.items), []) }
     {
         let Some(last) = seats.pop() else {
             unreachable!()
@@ -179,11 +166,13 @@ impl<M: Machine> Turn<M> {
         place
     }
 
-    /// The machine stands for the journal, which has the events of each seat.
-    pub fn close(self, seats: Vec<Seat<M>, Global>) -> (M, Vec<u64, Global>)
-        requires { (length seats.items ≡ self.seats) × (1 ≤ self.seats) × AreOf self.table.shared.table_id seats.items }
-        ensures stands { result.1.items ≡ map M.event_of (M.story result.0) }
+    /// Gives the machine back, with the journal that leads to it. It takes all the turn's seats.
+    pub fn close(self, seats: Vec<Seat<M>>) -> (M, Journal)
+        requires { (length seats.items ≡ self.seats) × AreOf self.id seats.items }
+        ensures start { M.start result.0 ≡ self.start }
+        ensures stands { result.1 ≡ map M.event_of (M.story result.0) }
         ensures own { HasAll (λ x. M.caller (M.event_of x)) (M.story result.0) seats.items }
+        ensures sound { NoneEnded seats.items → M.sound result.0 }
     {
         let place = Turn::gather(&self.table.shared, seats);
         let Turn { table, seats: _ } = self;
@@ -192,62 +181,53 @@ impl<M: Machine> Turn<M> {
             unreachable!()
         };
         closed.free();
-        let Kept {
-            machine,
-            journal,
-            ended: _,
-        } = kept;
-        (machine, journal)
-    }
-
-    fn given_back(refused: Refused<Option<Kept<M>>, Global>) -> (M, Vec<u64, Global>)
-        requires { (kept : Kept M) × (refused.slots.items ≡ Some kept ∷ []) }
-        ensures { (kept : Kept M) → refused.slots.items ≡ Some kept ∷ [] → (result.0 ≡ kept.machine) × (result.1.items ≡ kept.journal.items) }
-    {
-        let Refused { mut slots } = refused;
-        let Some(Some(kept)) = slots.pop() else {
-            unreachable!()
-        };
-        slots.destroy_empty();
-        let Kept {
-            machine,
-            journal,
-            ended: _,
-        } = kept;
-        (machine, journal)
+        kept.into_parts()
     }
 }
 
 impl<M: Machine> Seat<M> {
-    /// Runs one event of the seat's caller, after all events so far.
+    /// Runs one event of the seat's caller, after all events so far. It may wait for the turns of other seats.
+    ///
+    /// Room in the journal is taken first; where there is none, nothing is done. Where memory runs out while the event is run,
+    /// the event is the journal's last, and the part is used no more. After either, every later turn answers `NoMemory`.
     pub fn take_turn<R: Wait>(
         &mut self,
         rt: &R,
+        alloc: Global,
         turn: &Turn<M>,
         part: &mut M::Part,
         event: u64,
-    ) -> Result<u64, NoMemory>
-        requires turn { self.old.turn ≡ turn.now.table.shared.table_id }
-        requires mine { M.caller event ≡ self.old.caller }
-        requires part { M.parted self.old.caller part.old self.old.seen }
-        ensures same { (self.new.turn ≡ self.old.turn) × (self.new.caller ≡ self.old.caller) }
-        ensures seen { Begins self.old.seen self.new.seen }
-        ensures ran { IfOk result (λ at. (before : List M.Entry) × (x : M.Entry) × Begins self.old.seen before × (at ≡ length before) × (M.event_of x ≡ event) × (self.new.seen ≡ before ++ x ∷ []) × M.parted self.old.caller part.new self.new.seen × (self.new.mine ≡ self.old.mine ++ x ∷ [])) }
+    ) -> Turned
+        requires turn { self.old.turn ≡ turn.now.id }
+        requires mine { M.caller event ≡ self.old.knows.caller }
+        requires part { self.old.knows.ended ≡ false → M.parted self.old.knows.caller part.old self.old.knows.start self.old.knows.seen }
+        ensures turn { self.new.turn ≡ self.old.turn }
+        ensures knows { Follows self.old.knows self.new.knows }
+        ensures ran { IfRan result (λ place. HasRun M.event_of self.old.knows self.new.knows event place) }
+        ensures part { IfRan result (λ place. M.parted self.new.knows.caller part.new self.new.knows.start self.new.knows.seen) }
+        ensures ended { self.new.knows.ended ≡ is_refused result }
+        ensures refused { IfRefused result (((self.new.knows.own ≡ self.old.knows.own) × (part.new ≡ part.old)) ⊎ ((place : ℕ) × HasRun M.event_of self.old.knows self.new.knows event place)) }
+        ensures lasts { self.old.knows.ended ≡ true → part.new ≡ part.old }
     {
-        let ran = run_turn(rt, &turn.table.shared, &mut self.inner, part, event);
+        let turned = run_in_turn(rt, alloc, &turn.table.shared, &mut self.inner, part, event);
         turn.wake();
-        ran
+        turned
     }
 
-    /// What the machine answers after all events so far.
+    /// What the machine answers after all events so far: which event the part's caller can run, from `from` on.
+    /// It may wait for the turns of other seats, and adds no event. After a turn that answered `NoMemory` it is `Over`.
     pub fn look<R: Wait>(&mut self, rt: &R, turn: &Turn<M>, part: &M::Part, from: u64) -> Look
-        requires turn { self.old.turn ≡ turn.now.table.shared.table_id }
-        requires part { M.parted self.old.caller part.now self.old.seen }
-        ensures same { (self.new.turn ≡ self.old.turn) × (self.new.caller ≡ self.old.caller) × (self.new.mine ≡ self.old.mine) }
-        ensures seen { Begins self.old.seen self.new.seen }
+        requires turn { self.old.turn ≡ turn.now.id }
+        requires part { self.old.knows.ended ≡ false → M.parted self.old.knows.caller part.now self.old.knows.start self.old.knows.seen }
+        ensures turn { self.new.turn ≡ self.old.turn }
+        ensures knows { Follows self.old.knows self.new.knows }
+        ensures own { self.new.knows.own ≡ self.old.knows.own }
+        ensures over { self.new.knows.ended ≡ true → result ≡ looked.Over }
+        ensures answer { self.new.knows.ended ≡ false → M.answers self.new.knows.start self.new.knows.seen part.now from result }
+        ensures part { self.new.knows.ended ≡ false → M.parted self.new.knows.caller part.now self.new.knows.start self.new.knows.seen }
     {
-        let looked = run_look(rt, &turn.table.shared, &mut self.inner, part, from);
+        let found = look_in_turn(rt, &turn.table.shared, &mut self.inner, part, from);
         turn.wake();
-        looked
+        found
     }
 }

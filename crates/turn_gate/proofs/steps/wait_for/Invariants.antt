@@ -1,5 +1,5 @@
 use Rattle.std.proofs.Common.{◌≡◌}
-use Rattle.turn_gate.specs.Seats.{IsSame}
+use Rattle.turn_gate.specs.Places.{IsSame}
 use Rattle.turn_gate.proofs.steps.wait_for.Given as goal
 
 abbrev pub invariant-loop : goal.invariant-loop

@@ -1,25 +1,58 @@
-use Rattle.std.proofs.Common.{◌≡◌, [], ◌∷◌, ◌++◌, sym, ap, ◌∙◌, subst}
-use Rattle.turn_gate.specs.Sat.{first_caller}
-use Rattle.std.proofs.lemmas.Result.{IfOk-weaker}
-use Rattle.turn_gate.specs.Lists.{Begins}
+use Rattle.std.proofs.Common.{◌≡◌, ◌⊎◌, ℕ, [], ◌∷◌, sym, ap, ◌∙◌, subst}
+use Rattle.turn_gate.specs.Ruled.{sits}
+use Rattle.turn_gate.specs.Seated.{sole_seat}
+use Rattle.turn_gate.specs.Turns.{IfRan, IfRefused, is_refused, Follows, HasRun}
+use Rattle.turn_gate.proofs.Reaches.{ran_then}
 use Rattle.turn_gate.proofs.seat.Seat.take_turn.Goals as goal
+
+pub run_in_turn-turned-requires-clause-idle : goal.run_in_turn-turned-requires-clause-idle
+run_in_turn-turned-requires-clause-idle g c =
+    let k = c.args.self.now.knows in
+    (k, c.self.invariant ∙ ap (λ s. (sits (s.knows ∷ []), [])) c.self.view_is, c.requires.mine, c.requires.part)
 
 pub invariant_of-self : goal.invariant_of-self
 invariant_of-self g c =
-    let one = c.run_turn-ran.ensures.one in
-    (c.run_turn-ran.ensures.idle, one.1 ∙ ap (λ own. first_caller own ∷ []) (sym one.1), c.run_turn-ran.ensures.all)
+    let b = g.M.Machine.start c.self.inside.about.value.value in
+    let done = c.run_in_turn-turned.ensures.done c.args.self.now.knows (c.self.invariant ∙ ap (λ s. (sits (s.knows ∷ []), [])) c.self.view_is) in
+    done.1 ∙ ap (λ m. (sits (sole_seat b m.0.seats ∷ []), [])) (sym done.1)
 
-pub returns-clause-same : goal.returns-clause-same
-returns-clause-same g c =
-    let one = c.run_turn-ran.ensures.one in
-    (c.run_turn-ran.ensures.same.0 ∙ ap (λ s. s.turn) c.self.view_is, ap (λ own. (first_caller own).0) one.1 ∙ c.requires.mine)
+pub returns-clause-knows : goal.returns-clause-knows
+returns-clause-knows g c =
+    let b = g.M.Machine.start c.self.inside.about.value.value in
+    let done = c.run_in_turn-turned.ensures.done c.args.self.now.knows (c.self.invariant ∙ ap (λ s. (sits (s.knows ∷ []), [])) c.self.view_is) in
+    subst (Follows c.args.self.now.knows) (ap (λ m. sole_seat b m.0.seats) (sym done.1)) done.2
+
+pub returns-clause-ended : goal.returns-clause-ended
+returns-clause-ended g c =
+    let b = g.M.Machine.start c.self.inside.about.value.value in
+    let done = c.run_in_turn-turned.ensures.done c.args.self.now.knows (c.self.invariant ∙ ap (λ s. (sits (s.knows ∷ []), [])) c.self.view_is) in
+    subst (λ q. q.ended ≡ is_refused c.run_in_turn-turned.result) (ap (λ m. sole_seat b m.0.seats) (sym done.1)) done.3
 
 pub returns-clause-ran : goal.returns-clause-ran
 returns-clause-ran g c =
-    let was = c.self.inside.inner.me.0.own in
-    let mine = (first_caller was).1 in
-    let by : (first_caller was).0 ≡ g.M.Machine.caller c.args.event = ap (λ s. s.caller) c.self.view_is ∙ sym c.requires.mine in
-    let own : was ≡ (g.M.Machine.caller c.args.event, mine) ∷ [] = c.self.invariant.1 ∙ ap (λ k. (k, mine) ∷ []) by in
-    let same = ap (λ s. s.mine) c.self.view_is in
-    let seen = ap (λ s. s.seen) c.self.view_is in
-    IfOk-weaker c.run_turn-ran.result _ _ (λ _ h. (h.0, h.1, subst (λ l. Begins l h.0) seen h.2, h.3, h.4, h.5, subst (λ b. g.M.Machine.parted b c.run_turn-ran.new.part c.run_turn-ran.new.place.me.0.seen) c.requires.mine h.6, ap (λ l. (first_caller l).1) (h.7 mine own) ∙ ap (λ l. l ++ h.1 ∷ []) same)) c.run_turn-ran.ensures.ran
+    let M = g.M.Machine in
+    let b = M.start c.self.inside.about.value.value in
+    let old = c.args.self.now.knows in
+    let done = c.run_in_turn-turned.ensures.done old (c.self.invariant ∙ ap (λ s. (sits (s.knows ∷ []), [])) c.self.view_is) in
+    subst (λ q. IfRan c.run_in_turn-turned.result (λ place. HasRun M.event_of old q c.args.event place)) (ap (λ m. sole_seat b m.0.seats) (sym done.1)) (ran_then c.run_in_turn-turned.result _ _ (λ place h. h.0) done.4)
+
+pub returns-clause-part : goal.returns-clause-part
+returns-clause-part g c =
+    let M = g.M.Machine in
+    let b = M.start c.self.inside.about.value.value in
+    let old = c.args.self.now.knows in
+    let done = c.run_in_turn-turned.ensures.done old (c.self.invariant ∙ ap (λ s. (sits (s.knows ∷ []), [])) c.self.view_is) in
+    subst (λ q. IfRan c.run_in_turn-turned.result (λ place. M.parted q.caller c.run_in_turn-turned.new.part q.start q.seen)) (ap (λ m. sole_seat b m.0.seats) (sym done.1)) (ran_then c.run_in_turn-turned.result _ _ (λ place h. h.1) done.4)
+
+pub returns-clause-refused : goal.returns-clause-refused
+returns-clause-refused g c =
+    let M = g.M.Machine in
+    let b = M.start c.self.inside.about.value.value in
+    let old = c.args.self.now.knows in
+    let done = c.run_in_turn-turned.ensures.done old (c.self.invariant ∙ ap (λ s. (sits (s.knows ∷ []), [])) c.self.view_is) in
+    subst (λ q. IfRefused c.run_in_turn-turned.result (((q.own ≡ old.own) × (c.run_in_turn-turned.new.part ≡ c.args.part.now)) ⊎ ((place : ℕ) × HasRun M.event_of old q c.args.event place))) (ap (λ m. sole_seat b m.0.seats) (sym done.1)) done.5
+
+pub returns-clause-lasts : goal.returns-clause-lasts
+returns-clause-lasts g c =
+    let done = c.run_in_turn-turned.ensures.done c.args.self.now.knows (c.self.invariant ∙ ap (λ s. (sits (s.knows ∷ []), [])) c.self.view_is) in
+    done.6
