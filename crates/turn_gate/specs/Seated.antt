@@ -8,9 +8,13 @@ use Rattle.turn_gate.specs.Known.{newcomers}
 use Rattle.turn_gate.specs.Ruled.{sits}
 use Rattle.turn_gate.specs.Places.{Place}
 
+-- which turn it is, among all
+abbrev pub TurnId : Type 0
+TurnId = TableId
+
 -- which turn it is, how many seats it has, and what stood before the machine's first event
 pub record Gate (B : Type 0) : Type 0 where
-  pub id : TableId
+  pub id : TurnId
   pub seats : ℕ
   pub start : B
 
@@ -19,7 +23,7 @@ gate_code {B} c = code_by (TableId × (ℕ × B)) (coded× table_id_coded (coded
 
 -- the turn that the seat is of, and what the seat knows
 pub record Sat (B E : Type 0) : Type 0 where
-  pub turn : TableId
+  pub turn : TurnId
   pub knows : Knowledge B E
 
 abbrev pub sat_code : {B E : Type 0} → Coded B → Coded E → Coded (Sat B E)
@@ -42,16 +46,16 @@ abbrev pub IsSat : {T B E : Type 0} → B → Place T B E → Type 0
 IsSat b s = s.me ≡ (sits (sole_seat b s.me.0.seats ∷ []), [])
 
 -- the seats of the turn z, with this knowledge
-abbrev pub sats : {B E : Type 0} → TableId → List (Knowledge B E) → List (Sat B E)
+abbrev pub sats : {B E : Type 0} → TurnId → List (Knowledge B E) → List (Sat B E)
 sats z [] = []
 sats z (k ∷ ks) = record { turn = z; knows = k } ∷ sats z ks
 
 -- the seats that a turn begins with: one for each of n callers, from 1 on, that has seen this journal
-abbrev pub first_seats : {B E : Type 0} → (E → ℕ) → TableId → B → List E → ℕ → List (Sat B E)
+abbrev pub first_seats : {B E : Type 0} → (E → ℕ) → TurnId → B → List E → ℕ → List (Sat B E)
 first_seats caller z start log n = sats z (newcomers caller start log 1 n)
 
 -- each of these seats is of the turn z
-abbrev pub AreOf : {B E : Type 0} → TableId → List (Sat B E) → Type 0
+abbrev pub AreOf : {B E : Type 0} → TurnId → List (Sat B E) → Type 0
 AreOf z [] = Unit {0}
 AreOf z (s ∷ ss) = (s.turn ≡ z) × AreOf z ss
 
