@@ -10,6 +10,11 @@ use crate::kept::Kept;
 use crate::machine::Machine;
 use crate::rule::{COUNT, Draw, LookServed, Pass, Place, Raise, SERVING, TICKET, Top};
 use std::sync::Wait;
+use std::sync::atomic::{AtomicU64, Ordering};
+use std::thread;
+
+/// How often a seat looks before it parks.
+const LOOKS: u32 = 64;
 
 // Draws a ticket.
 fn draw<M: Machine>(top: &Top<M>, place: &mut Place<M>) -> u64
@@ -21,19 +26,40 @@ fn draw<M: Machine>(top: &Top<M>, place: &mut Place<M>) -> u64
     top.fetch_add::<Draw<M>>(place, TICKET, 1)
 }
 
+// Parks while this ticket is served. Who passes the turn on then sees that a seat is parked, or the ticket has changed before.
+fn rest<M: Machine, R: Wait>(rt: &R, top: &Top<M>, parked: &AtomicU64, served: u64)
+    requires table { IsGate top.now.table_id }
+{
+    parked.fetch_add(1, Ordering::SeqCst);
+    top.park(rt, SERVING, (served % 4294967296) as u32);
+    parked.fetch_sub(1, Ordering::SeqCst);
+}
+
 // Waits until the ticket is served, and takes the slot.
-fn wait_for<M: Machine, R: Wait>(rt: &R, top: &Top<M>, place: &mut Place<M>, ticket: u64)
+fn wait_for<M: Machine, R: Wait>(
+    rt: &R,
+    top: &Top<M>,
+    parked: &AtomicU64,
+    place: &mut Place<M>,
+    ticket: u64,
+)
     requires table { (place.old.table_id ≡ top.now.table_id) × IsGate top.now.table_id }
     requires waits { Waits place.old place.old.me.0.ticket × (place.old.me.0.ticket % 2 ^ 64 ≡ ticket) }
     ensures same { IsSame place.old place.new }
     ensures has { (start : M.Start) × (log : List M.Entry) × (kept : Kept M) × Has place.new (Some kept) × Good M.event_of M.start M.story M.sound (Some kept) start log × AllSo (λ x. M.caller (M.event_of x)) start log kept.ended place.old.me.0.seats × (place.new.me.0.seats ≡ map (sees log kept.ended) place.old.me.0.seats) }
 {
+    let mut looks = 0;
     for _ in rt.forever() {
         let served = top.load::<LookServed<M>>(place, SERVING);
         if served == ticket {
             return;
         }
-        top.park(rt, SERVING, (served % 4294967296) as u32);
+        if looks < LOOKS {
+            looks += 1;
+            thread::yield_now();
+        } else {
+            rest(rt, top, parked, served);
+        }
     }
     unreachable!()
 }
@@ -53,7 +79,12 @@ fn take_out<M: Machine>(top: &Top<M>, place: &mut Place<M>) -> Kept<M>
 }
 
 // Draws a ticket, waits for it, and takes the value out. The seat has then seen the whole journal.
-pub(crate) fn enter<M: Machine, R: Wait>(rt: &R, top: &Top<M>, place: &mut Place<M>) -> Kept<M>
+pub(crate) fn enter<M: Machine, R: Wait>(
+    rt: &R,
+    top: &Top<M>,
+    parked: &AtomicU64,
+    place: &mut Place<M>,
+) -> Kept<M>
     requires table { (place.old.table_id ≡ top.now.table_id) × IsGate top.now.table_id }
     requires idle { IsIdle place.old × (1 ≤ length place.old.me.0.seats) }
     ensures same { IsSame place.old place.new }
@@ -61,7 +92,7 @@ pub(crate) fn enter<M: Machine, R: Wait>(rt: &R, top: &Top<M>, place: &mut Place
     ensures value { (start : M.Start) × (log : List M.Entry) × Good M.event_of M.start M.story M.sound (Some result) start log × AllSo (λ x. M.caller (M.event_of x)) start log result.ended place.old.me.0.seats × (place.new.me.0.seats ≡ map (sees log result.ended) place.old.me.0.seats) }
 {
     let ticket = draw(top, place);
-    wait_for(rt, top, place, ticket);
+    wait_for(rt, top, parked, place, ticket);
     take_out(top, place)
 }
 

@@ -19,6 +19,7 @@ use std::alloc::Global;
 use std::marker::Model;
 use std::snapshot::Snapshot;
 use std::sync::Wait;
+use std::sync::atomic::{AtomicU64, Ordering};
 
 /// The event numbers that a machine has run, in order.
 pub type Journal = Sequence<u64>;
@@ -28,6 +29,7 @@ pub type Journal = Sequence<u64>;
 pub struct Turn<M: Machine> {
     table: Table<Option<Kept<M>>, Knows<M>, Key<M>, Law<M>, Global>,
     seats: u64,
+    parked: AtomicU64,
 }
 
 impl<M: Machine> Model for Turn<M> {
@@ -41,8 +43,11 @@ impl<M: Machine> Model for Turn<M> {
 }
 
 impl<M: Machine> Turn<M> {
-    // Wakes as many as may wait.
+    // Wakes one thread for each seat, if a seat may be parked. A seat that parks later finds that the turn was passed on.
     fn wake(&self) {
+        if self.parked.load(Ordering::SeqCst) == 0 {
+            return;
+        }
         for _ in 0..self.seats {
             self.table.shared.wake_one(SERVING);
         }
@@ -124,6 +129,7 @@ impl<M: Machine> Turn<M> {
                     Turn {
                         table,
                         seats: count,
+                        parked: AtomicU64::new(0),
                     },
                     seats,
                 ))
@@ -175,7 +181,11 @@ impl<M: Machine> Turn<M> {
         ensures sound { NoneEnded seats.items → M.sound result.0 }
     {
         let place = Turn::gather(&self.table.shared, seats);
-        let Turn { table, seats: _ } = self;
+        let Turn {
+            table,
+            seats: _,
+            parked: _,
+        } = self;
         let mut closed = table.close_with(place);
         let Some(kept) = closed.take(0) else {
             unreachable!()
@@ -209,7 +219,7 @@ impl<M: Machine> Seat<M> {
         ensures refused { IfRefused result (((self.new.knows.own ≡ self.old.knows.own) × (part.new ≡ part.old)) ⊎ ((place : ℕ) × HasRun M.event_of self.old.knows self.new.knows event place)) }
         ensures lasts { self.old.knows.ended ≡ true → part.new ≡ part.old }
     {
-        let turned = run_in_turn(rt, alloc, &turn.table.shared, &mut self.inner, part, event);
+        let turned = run_in_turn(rt, alloc, &turn.table.shared, &turn.parked, &mut self.inner, part, event);
         turn.wake();
         turned
     }
@@ -226,7 +236,7 @@ impl<M: Machine> Seat<M> {
         ensures answer { self.new.knows.ended ≡ false → M.answers self.new.knows.start self.new.knows.seen part.now from result }
         ensures part { self.new.knows.ended ≡ false → M.parted self.new.knows.caller part.now self.new.knows.start self.new.knows.seen }
     {
-        let found = look_in_turn(rt, &turn.table.shared, &mut self.inner, part, from);
+        let found = look_in_turn(rt, &turn.table.shared, &turn.parked, &mut self.inner, part, from);
         turn.wake();
         found
     }

@@ -13,12 +13,14 @@ use crate::steps::{enter, finish, leave};
 use ds_base::NoMemory;
 use std::alloc::Global;
 use std::sync::Wait;
+use std::sync::atomic::AtomicU64;
 
 // Runs an event in the seat's next turn.
 pub(crate) fn run_in_turn<M: Machine, R: Wait>(
     rt: &R,
     alloc: Global,
     top: &Top<M>,
+    parked: &AtomicU64,
     place: &mut Place<M>,
     part: &mut M::Part,
     event: u64,
@@ -28,7 +30,7 @@ pub(crate) fn run_in_turn<M: Machine, R: Wait>(
     ensures same { IsSame place.old place.new }
     ensures done { (k : Knowledge M.Start M.Entry) → place.old.me ≡ (sits (k ∷ []), []) → (new : Knowledge M.Start M.Entry) × (place.new.me ≡ (sits (new ∷ []), [])) × Follows k new × (new.ended ≡ is_refused result) × IfRan result (λ place. HasRun M.event_of k new event place × M.parted new.caller part.new new.start new.seen) × IfRefused result (((new.own ≡ k.own) × (part.new ≡ part.old)) ⊎ ((place : ℕ) × HasRun M.event_of k new event place)) × (k.ended ≡ true → part.new ≡ part.old) }
 {
-    let mut kept = enter(rt, top, place);
+    let mut kept = enter(rt, top, parked, place);
     match kept.run(alloc, part, event) {
         Ok(turned) => {
             finish(top, place, kept);
@@ -45,6 +47,7 @@ pub(crate) fn run_in_turn<M: Machine, R: Wait>(
 pub(crate) fn look_in_turn<M: Machine, R: Wait>(
     rt: &R,
     top: &Top<M>,
+    parked: &AtomicU64,
     place: &mut Place<M>,
     part: &M::Part,
     from: u64,
@@ -54,7 +57,7 @@ pub(crate) fn look_in_turn<M: Machine, R: Wait>(
     ensures same { IsSame place.old place.new }
     ensures done { (k : Knowledge M.Start M.Entry) → place.old.me ≡ (sits (k ∷ []), []) → (new : Knowledge M.Start M.Entry) × (place.new.me ≡ (sits (new ∷ []), [])) × Follows k new × (new.own ≡ k.own) × (new.ended ≡ true → result ≡ looked.Over) × (new.ended ≡ false → M.answers new.start new.seen part.now from result × M.parted new.caller part.now new.start new.seen) }
 {
-    let kept = enter(rt, top, place);
+    let kept = enter(rt, top, parked, place);
     let found = kept.look(part, from);
     leave(top, place, kept);
     found
