@@ -25,6 +25,7 @@ none_ended {B} {E} o l told none = let z = nobody l none in is_false o (omega ar
     nobody : (m : List (Sat B E)) → NoneEnded m → total (λ (k : Knowledge B E). when k.ended 1) (map knowledge_of m) ≡ 0
     nobody [] h = refl
     nobody (s ∷ ss) h = let here : when s.knows.ended 1 ≡ 0 = ap (λ e. when e 1) h.0 in let ih = nobody ss h.1 in omega arith
+
     is_false : (p : Bool) → when p 1 ≤ 0 → p ≡ false
     is_false true h = absurd (omega arith)
     is_false false h = refl

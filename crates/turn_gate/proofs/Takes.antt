@@ -62,5 +62,5 @@ module _ {T B E : Type 0} where
       entered ks ls m m' value same took slot still =
           let is : took.2 ≡ value = one_value took.2 value (sym (ap (λ (q : My T B E). q.1) took.3) ∙ slot) in
           let all = subst (λ (q : Kept T × List (Knowledge B E)). Good event_of start story sound (Some q.0) took.0 took.1 × AllSo caller took.0 took.1 q.0.ended q.1 × (m'.0.seats ≡ map (sees took.1 q.0.ended) q.1)) (λ i. (is i, same i))
-              (took.4, took.5, ap (λ (v : View B E). v.seats) still ∙ took.6) in
+          (took.4, took.5, ap (λ (v : View B E). v.seats) still ∙ took.6) in
           (took.0, took.1, all.0, all.1, all.2)

@@ -100,7 +100,7 @@ module _ {S B E : Type 0} (Good : S → B → List E → Type 0) (ended_of : S �
   Looked st m n m' =
       (m.0.ticket % 2 ^ 64 ≢ n → m' ≡ m)
       × (m.0.ticket % 2 ^ 64 ≡ n → (start : B) × (log : List E) × (y : S) × Good y start log × AllSo caller start log (ended_of y) m.0.seats
-          × (m' ≡ (holder m.0.ticket (map (sees log (ended_of y)) m.0.seats), (0, y) ∷ m.1)))
+      × (m' ≡ (holder m.0.ticket (map (sees log (ended_of y)) m.0.seats), (0, y) ∷ m.1)))
 
   -- the count was raised, by an event of the one caller
   abbrev pub Raised : Step S → Me S (View B E) → ℕ → Me S (View B E) → Type 0

@@ -96,7 +96,14 @@ impl<M: Machine> Turn<M> {
         let Ok(slots) = Vec::with_capacity(alloc, 1) else {
             return Err((NoMemory, machine, journal));
         };
-        Turn::seated(alloc, machine, journal.into_vec(), parts.len() as u64, row, slots)
+        Turn::seated(
+            alloc,
+            machine,
+            journal.into_vec(),
+            parts.len() as u64,
+            row,
+            slots,
+        )
     }
 
     // The turn over the slot, once there is room for the seats.
@@ -219,7 +226,15 @@ impl<M: Machine> Seat<M> {
         ensures refused { IfRefused result (((self.new.knows.own ≡ self.old.knows.own) × (part.new ≡ part.old)) ⊎ ((place : ℕ) × HasRun M.event_of self.old.knows self.new.knows event place)) }
         ensures lasts { self.old.knows.ended ≡ true → part.new ≡ part.old }
     {
-        let turned = run_in_turn(rt, alloc, &turn.table.shared, &turn.parked, &mut self.inner, part, event);
+        let turned = run_in_turn(
+            rt,
+            alloc,
+            &turn.table.shared,
+            &turn.parked,
+            &mut self.inner,
+            part,
+            event,
+        );
         turn.wake();
         turned
     }
@@ -236,7 +251,14 @@ impl<M: Machine> Seat<M> {
         ensures answer { self.new.knows.ended ≡ false → M.answers self.new.knows.start self.new.knows.seen part.now from result }
         ensures part { self.new.knows.ended ≡ false → M.parted self.new.knows.caller part.now self.new.knows.start self.new.knows.seen }
     {
-        let found = look_in_turn(rt, &turn.table.shared, &turn.parked, &mut self.inner, part, from);
+        let found = look_in_turn(
+            rt,
+            &turn.table.shared,
+            &turn.parked,
+            &mut self.inner,
+            part,
+            from,
+        );
         turn.wake();
         found
     }

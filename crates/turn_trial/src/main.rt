@@ -3,10 +3,9 @@
 
 mod rates;
 mod recorder;
-mod trial;
-
 #[cfg(test)]
 mod tests;
+mod trial;
 
 use crate::rates::print_rates;
 use crate::trial::run;

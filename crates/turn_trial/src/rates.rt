@@ -5,16 +5,15 @@ use crate::recorder::Recorder;
 use crate::trial::run;
 use ds_base::NoMemory;
 use std::alloc::Global;
-use std::io;
 use std::io::Print;
 use std::rt::Clock;
 use std::sync::{Mutex, Wait};
-use std::thread;
 use std::thread::Threads;
 use std::time::{Duration, Instant};
+use std::{io, thread};
 
 /// How many events all seats run together.
-const EVENTS: u64 = 80_000;
+const EVENTS: u64 = 800_000;
 
 /// What the lock keeps in place of the turn.
 #[derive(Drop)]
@@ -73,7 +72,10 @@ fn a_second(events: u64, took: Duration) -> u128
 }
 
 /// Prints the rates of 1, 2, 4 and 8 seats.
-pub fn print_rates<R: Threads + Wait + Sync + Clock + Print>(rt: &R, alloc: Global) -> io::Result<()> {
+pub fn print_rates<R: Threads + Wait + Sync + Clock + Print>(
+    rt: &R,
+    alloc: Global,
+) -> io::Result<()> {
     for seats in [1usize, 2, 4, 8] {
         let count = EVENTS / seats as u64;
         let start = Instant::now(rt)?;

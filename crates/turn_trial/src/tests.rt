@@ -1,5 +1,10 @@
+ghost use Rattle.std.specs.Prelude.{◌<◌, ◌≤◌};
+
 use crate::trial::run;
+use std::alloc::Global;
+use std::sync::Wait;
 use std::test::*;
+use std::thread::Threads;
 
 // How often the caller changes from an event to the next, where each caller has `count` events, in its order.
 fn changes(journal: &[u64], seats: usize, count: u64) -> Option<u64> {
@@ -26,20 +31,33 @@ fn changes(journal: &[u64], seats: usize, count: u64) -> Option<u64> {
     Some(changes)
 }
 
+// Runs until the events of the seats are seen to interleave, since a thread may have run all its events before another began.
+// None: they were not, or an event was lost or misplaced.
+fn interleaved<R: Threads + Wait + Sync>(rt: &R, alloc: Global, seats: usize) -> Option<usize>
+    requires { (1 ≤ seats) × (seats < 64) }
+{
+    for _ in 0..200u32 {
+        let (recorder, journal) = run(rt, alloc, seats, 10000)?;
+        if recorder.events.as_slice() != journal.as_slice() {
+            return None;
+        }
+        if changes(journal.as_slice(), seats, 10000)? > seats as u64 {
+            return Some(journal.len());
+        }
+    }
+    None
+}
+
 #[test]
-fn two_threads_have_all_their_events_in_order(rt: HostRuntime) -> Result<(), Fail> {
-    let (recorder, journal) = run(&rt, rt.alloc(), 2, 10000).ok_or("memory")?;
-    assert!(rt; recorder.lost.is_none() && recorder.events.as_slice() == journal.as_slice());
-    let changes = changes(journal.as_slice(), 2, 10000).ok_or("an event is missing or misplaced")?;
-    assert!(rt; journal.len() == 20000 && changes > 2, "the events of two threads stand in {changes} runs");
+fn two_threads_interleave_and_have_all_their_events_in_order(rt: HostRuntime) -> Result<(), Fail> {
+    assert!(rt; interleaved(&rt, rt.alloc(), 2) == Some(20000));
     Ok(())
 }
 
 #[test]
-fn eight_threads_have_all_their_events_in_order(rt: HostRuntime) -> Result<(), Fail> {
-    let (recorder, journal) = run(&rt, rt.alloc(), 8, 10000).ok_or("memory")?;
-    assert!(rt; recorder.lost.is_none() && recorder.events.as_slice() == journal.as_slice());
-    let changes = changes(journal.as_slice(), 8, 10000).ok_or("an event is missing or misplaced")?;
-    assert!(rt; journal.len() == 80000 && changes > 8, "the events of eight threads stand in {changes} runs");
+fn eight_threads_interleave_and_have_all_their_events_in_order(
+    rt: HostRuntime,
+) -> Result<(), Fail> {
+    assert!(rt; interleaved(&rt, rt.alloc(), 8) == Some(80000));
     Ok(())
 }

@@ -18,8 +18,7 @@ for_each_mut-requires-clause-accepts g c κs within i p less is =
 pub returns : goal.returns
 returns g c =
     let z = c.args.turn.now.id in
-    let same : length c.for_each_mut.new.s ≡ length c.args.seats.now = search rules in
-    (
+    let same : length c.for_each_mut.new.s ≡ length c.args.seats.now = search rules in (
       all_of z c.for_each_mut.new.s (λ i d less. let h = (c.for_each_mut.ensures i d (subst (λ n. i < n) same less)).1 in ap (λ s. s.turn) (sym h.left) ∙ h.call),
       same,
     )

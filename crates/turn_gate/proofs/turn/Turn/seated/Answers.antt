@@ -22,10 +22,10 @@ new-requires g c =
     let counted : c.len.result ≡ length c.args.journal.items = search rules in
     let len : c.len.result ≡ length log = counted ∙ (ap length c.requires.stands.1 ∙ length-map log M.event_of) in
     subst
-        (λ (q : ℕ × (List (Option (Kept g.row.M.Denot)) × g.row.M.Denot)).
-            Ruled (Good M.event_of M.start M.story M.sound) ended_of caller n (M.start q.1.1) (opening (0 ∷ 0 ∷ q.0 ∷ []) q.1.0 (sits (newcomers caller (M.start q.1.1) (M.story q.1.1) 1 n))))
-        (λ i. (sym len i, (sym items i, sym same i)))
-        (starts (Good M.event_of M.start M.story M.sound) ended_of caller n b log (Some k) (refl, refl, c.requires.stands.1, λ _. c.requires.stands.0) refl few)
+    (λ (q : ℕ × (List (Option (Kept g.row.M.Denot)) × g.row.M.Denot)).
+    Ruled (Good M.event_of M.start M.story M.sound) ended_of caller n (M.start q.1.1) (opening (0 ∷ 0 ∷ q.0 ∷ []) q.1.0 (sits (newcomers caller (M.start q.1.1) (M.story q.1.1) 1 n))))
+    (λ i. (sym len i, (sym items i, sym same i)))
+    (starts (Good M.event_of M.start M.story M.sound) ended_of caller n b log (Some k) (refl, refl, c.requires.stands.1, λ _. c.requires.stands.0) refl few)
 
 pub given_back-requires : goal.given_back-requires
 given_back-requires g c =
