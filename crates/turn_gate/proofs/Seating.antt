@@ -1,13 +1,14 @@
 -- How the seats are dealt out, and taken back.
-use Rattle.std.proofs.Common.{◌≡◌, ℕ, zero, suc, ◌+◌, ◌-◌, ◌<◌, ◌≤◌, List, [], ◌∷◌, ◌++◌, length, map, Bool, true, false, refl, sym, ap, ◌∙◌, arith}
+use Rattle.std.proofs.Common.{◌≡◌, ℕ, zero, suc, ◌+◌, ◌-◌, ◌<◌, ◌≤◌, List, [], ◌∷◌, ◌++◌, length, map, Bool, true, false, refl, sym, ap, ◌∙◌, subst, arith}
 use Rattle.atomic_table.specs.Seated.{TableId}
 use Rattle.turn_gate.specs.declared.view.Knowledge.{Knowledge}
 use Rattle.turn_gate.specs.Lists.{total, when, events_by}
-use Rattle.turn_gate.specs.Known.{AllSo, newcomers}
+use Rattle.turn_gate.specs.Known.{IsSo, AllSo, newcomers}
 use Rattle.turn_gate.specs.Ruled.{sits, kept_part, given_part}
 use Rattle.turn_gate.specs.Places.{Place}
-use Rattle.turn_gate.specs.Seated.{Sat, sole_seat, sat_of, IsSat, sats, AreOf, HasAll, NoneEnded, knowledge_of}
+use Rattle.turn_gate.specs.Seated.{Sat, sole_seat, sat_of, IsSat, sats, AreOf, HasAll, PartsReach, NoneEnded, knowledge_of}
 use Rattle.turn_gate.proofs.Takes.{My}
+use Rattle.turn_gate.proofs.Reaches.{reaches}
 
 pub are_of_last : {B E : Type 0} (z : TableId) (l : List (Sat B E)) (s : Sat B E) → AreOf z (l ++ s ∷ []) → AreOf z l × (s.turn ≡ z)
 are_of_last z [] s h = (tt, h.0)
@@ -17,6 +18,14 @@ are_of_last z (x ∷ xs) s h = let t = are_of_last z xs s h.1 in ((h.0, t.0), t.
 pub has_all : {B E : Type 0} (caller : E → ℕ) (b : B) (log : List E) (o : Bool) (l : List (Sat B E)) → AllSo caller b log o (map knowledge_of l) → HasAll caller log l
 has_all caller b log o [] h = tt
 has_all caller b log o (s ∷ ss) h = ((h.0.has, h.0.begins, λ e. (h.0.over e).1), has_all caller b log o ss h.1)
+
+-- and so each part reaches the journal
+pub parts_reach : {P B E : Type 0} (caller : E → ℕ) (parted : ℕ → P → B → List E → Type 0) → ((by : ℕ) (e : E) (p : P) (b : B) (log : List E) → ¬ (caller e ≡ by) → parted by p b log → parted by p b (log ++ e ∷ [])) → (b : B) (log : List E) (o : Bool) (l : List (Sat B E))
+    → AllSo caller b log o (map knowledge_of l) → PartsReach parted log l
+parts_reach caller parted leaves b log o [] h = tt
+parts_reach caller parted leaves b log o (s ∷ ss) h =
+    let so : IsSo caller s.knows.start log o s.knows = subst (λ x. IsSo caller x log o s.knows) (sym h.0.began) h.0 in
+    ((λ p was. reaches caller parted leaves log o s.knows p so was), parts_reach caller parted leaves b log o ss h.1)
 
 -- where no seat knows of an end, there was none
 pub none_ended : {B E : Type 0} (o : Bool) (l : List (Sat B E)) → when o 1 ≤ total (λ (k : Knowledge B E). when k.ended 1) (map knowledge_of l) → NoneEnded l → o ≡ false

@@ -74,3 +74,8 @@ NoneEnded (s ∷ ss) = (s.knows.ended ≡ false) × NoneEnded ss
 
 abbrev pub knowledge_of : {B E : Type 0} → Sat B E → Knowledge B E
 knowledge_of s = s.knows
+
+-- a part that was its caller's after what the seat has seen is its caller's after this journal too
+abbrev pub PartsReach : {P B E : Type 0} → (ℕ → P → B → List E → Type 0) → List E → List (Sat B E) → Type 0
+PartsReach parted log [] = Unit {0}
+PartsReach {P} parted log (s ∷ ss) = ((p : P) → parted s.knows.caller p s.knows.start s.knows.seen → parted s.knows.caller p s.knows.start log) × PartsReach parted log ss

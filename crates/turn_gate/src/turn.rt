@@ -4,7 +4,7 @@ ghost use Rattle.turn_gate.specs.declared.answer.Look.TheVariants as looked;
 ghost use Rattle.turn_gate.specs.Known.{newcomers};
 ghost use Rattle.turn_gate.specs.Places.{IsGate};
 ghost use Rattle.turn_gate.specs.Ruled.{sits};
-ghost use Rattle.turn_gate.specs.Seated.{Gate, gate_code, Sat, first_seats, AreOf, HasAll, NoneEnded, knowledge_of};
+ghost use Rattle.turn_gate.specs.Seated.{Gate, gate_code, Sat, first_seats, AreOf, HasAll, PartsReach, NoneEnded, knowledge_of};
 ghost use Rattle.turn_gate.specs.Turns.{IfRan, IfRefused, is_refused, Follows, HasRun};
 
 use crate::answer::{Look, Turned};
@@ -185,6 +185,7 @@ impl<M: Machine> Turn<M> {
         ensures start { M.start result.0 ≡ self.start }
         ensures stands { result.1 ≡ map M.event_of (M.story result.0) }
         ensures own { HasAll (λ x. M.caller (M.event_of x)) (M.story result.0) seats.items }
+        ensures parts { PartsReach M.parted (M.story result.0) seats.items }
         ensures sound { NoneEnded seats.items → M.sound result.0 }
     {
         let place = Turn::gather(&self.table.shared, seats);

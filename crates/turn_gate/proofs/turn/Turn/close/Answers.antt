@@ -2,9 +2,9 @@ use Rattle.std.proofs.Common.{◌≡◌, map, length, Some, false, sym, ap, ◌�
 use mathlib.Core.Option.{some-injective}
 use lib.ListN.{length-map}
 use Rattle.turn_gate.specs.Told.{Good, ended_of}
-use Rattle.turn_gate.specs.Seated.{HasAll, knowledge_of}
+use Rattle.turn_gate.specs.Seated.{HasAll, PartsReach, knowledge_of}
 use Rattle.turn_gate.proofs.Moves.{closes}
-use Rattle.turn_gate.proofs.Seating.{has_all, none_ended}
+use Rattle.turn_gate.proofs.Seating.{has_all, parts_reach, none_ended}
 use Rattle.turn_gate.proofs.turn.Turn.close.Goals as goal
 
 pub unreachable-requires : goal.unreachable-requires
@@ -57,6 +57,19 @@ returns-clause-own g c =
     let same : t.0 ≡ Some c.in-Some.kept = some-injective _ _ (sym (f.4 0 t.0 t.2) ∙ c.in-Some.ensures.value) in
     let good = subst (λ y. Good M.event_of M.start M.story M.sound y (M.start key.1.value) t.1) same t.3 in
     subst (λ l. HasAll caller l c.args.seats.items) (sym good.1 ∙ sym (ap M.story c.into_parts.ensures.0)) (has_all caller (M.start key.1.value) t.1 (ended_of t.0) c.args.seats.items t.4)
+
+pub returns-clause-parts : goal.returns-clause-parts
+returns-clause-parts g c =
+    let M = g.M.Machine in
+    let caller = λ (e : g.row.M-Entry.Denot). M.caller (M.event_of e) in
+    let key = c.self.inside.table.shared.key in
+    let p = c.gather-place.result in
+    let f = c.close_with-closed.ensures.values.2 in
+    let all : length (map knowledge_of c.args.seats.items) ≡ key.0 = length-map c.args.seats.items knowledge_of ∙ (c.requires.0 ∙ (sym (ap (λ t. t.seats) c.self.view_is) ∙ c.self.invariant.1)) in
+    let t = closes (Good M.event_of M.start M.story M.sound) ended_of caller key.0 (M.start key.1.value) f.0 p.id p.me.0 _ f.1.0 f.1.1 (ap (λ m. m.0) c.gather-place.ensures.all) all in
+    let same : t.0 ≡ Some c.in-Some.kept = some-injective _ _ (sym (f.4 0 t.0 t.2) ∙ c.in-Some.ensures.value) in
+    let good = subst (λ y. Good M.event_of M.start M.story M.sound y (M.start key.1.value) t.1) same t.3 in
+    subst (λ l. PartsReach M.parted l c.args.seats.items) (sym good.1 ∙ sym (ap M.story c.into_parts.ensures.0)) (parts_reach caller M.parted g.met.M.Machine.leaves (M.start key.1.value) t.1 (ended_of t.0) c.args.seats.items t.4)
 
 pub returns-clause-sound : goal.returns-clause-sound
 returns-clause-sound g c none =
