@@ -1,5 +1,5 @@
 -- A seat that has taken no turn.
-use Rattle.std.specs.Prelude.{◌≡◌, ℕ, List, []}
+use Rattle.std.specs.Prelude.{◌≡◌, ℕ, []}
 use Rattle.turn_gate.specs.Seated.{TurnId, Sat}
 
 -- the seat of this caller in the turn z, before any event

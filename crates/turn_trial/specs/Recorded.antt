@@ -1,5 +1,5 @@
 -- A machine that keeps its event numbers alone.
-use Rattle.std.specs.Prelude.{◌≡◌, ℕ, ◌+◌, ◌*◌, ◌%◌, ◌^◌, ◌<◌, ◌≤◌, leb, List, [], ◌∷◌, ◌++◌, Bool, true, false, length, Option, None, option_to_list, zero, suc}
+use Rattle.std.specs.Prelude.{◌≡◌, ℕ, ◌+◌, ◌*◌, ◌%◌, ◌^◌, List, [], ◌∷◌, ◌++◌, Bool, true, false, length, zero, suc}
 use Rattle.turn_gate.specs.declared.answer.Look.{Look}
 use Rattle.turn_gate.specs.declared.answer.Look.TheVariants as looked
 use Rattle.turn_gate.specs.Lists.{events_by}

@@ -1,4 +1,4 @@
-use Rattle.std.proofs.Common.{rules, ◌≡◌, ℕ, ◌<◌, ◌≤◌, List, [], ◌++◌, length, take, drop, option_to_list, sym, ap, ◌∙◌, subst, arith}
+use Rattle.std.proofs.Common.{rules, ◌≡◌, ◌<◌, ◌≤◌, [], ◌++◌, length, option_to_list, sym, ap, ◌∙◌, subst, arith}
 use Rattle.turn_gate.specs.Seated.{first_seats, AreOf}
 use Rattle.turn_gate.proofs.Seating.{length-first_seats}
 use Rattle.turn_trial.specs.Recorded.{caller_of}

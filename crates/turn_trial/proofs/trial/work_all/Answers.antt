@@ -1,4 +1,4 @@
-use Rattle.std.proofs.Common.{rules, ◌≡◌, ℕ, ◌+◌, ◌<◌, [], length, slice_index_or, sym, ap, ◌∙◌, subst, arith}
+use Rattle.std.proofs.Common.{rules, ◌≡◌, ◌+◌, ◌<◌, length, slice_index_or, sym, ap, ◌∙◌, subst, arith}
 use Rattle.turn_trial.specs.Fresh.{IsFresh}
 use Rattle.turn_trial.proofs.Seats.{fresh_at, all_of}
 use Rattle.turn_trial.proofs.trial.work_all.Goals as goal
