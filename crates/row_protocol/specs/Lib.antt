@@ -1,0 +1,6 @@
+pub mod Functions
+pub mod Rows
+pub mod Log
+pub mod Machine
+pub mod Moves
+pub mod Legal
