@@ -103,3 +103,7 @@ mark_kept (Some l) lost k n h = let d = n l in grind (arith, d)
 pub undone_without : (cs : List Change) (lost : ℕ → ℕ → Bool) (u k : ℕ) → ((l : ℕ) → l ≤ k → lost u l ≡ false) → all_undone_by cs u k ≡ true → all_undone_by (without cs lost) u k ≡ true
 undone_without [] lost u k n h = h
 undone_without (c ∷ cs) lost u k n h = let ih = undone_without cs lost u k n in let m = mark_kept c.undone (lost u) k n in grind (arith, ih, m)
+
+pub none_stand : (cs : List Change) (u : ℕ) → has cs u ≡ false → all_stand cs u ≡ true
+none_stand [] u h = refl
+none_stand (c ∷ cs) u h = let ih = none_stand cs u in grind (arith, ih)
