@@ -28,10 +28,10 @@ covered_now home w r h t e = covered_at (w.changes r) t (w.flushed (home t)) (w.
 whole_now : (home : ℕ → ℕ) (opening : ℕ → Option ℕ) (w : World) (r : ℕ) → IsCovered w → rows_of_logs home opening w r ≡ plain_now home opening w r
 whole_now home opening w r h = whole (w.changes r) (λ t. w.flushed (home t)) (λ t. is_committed home w t) (opening r) (covered_now home w r h)
 
-stands_from : (home : ℕ → ℕ) (opening : ℕ → Option ℕ) (w : World) → IsCovered w → ((r : ℕ) → plain_now home opening w r ≡ replay w.history opening r) → (r : ℕ) → rows_of_logs home opening w r ≡ replay w.history opening r
+pub stands_from : (home : ℕ → ℕ) (opening : ℕ → Option ℕ) (w : World) → IsCovered w → ((r : ℕ) → plain_now home opening w r ≡ replay w.history opening r) → (r : ℕ) → rows_of_logs home opening w r ≡ replay w.history opening r
 stands_from home opening w h p r = whole_now home opening w r h ∙ p r
 
-plain_stands : (home : ℕ → ℕ) (opening : ℕ → Option ℕ) (w : World) → Legal home opening w → (r : ℕ) → plain_now home opening w r ≡ replay w.history opening r
+pub plain_stands : (home : ℕ → ℕ) (opening : ℕ → Option ℕ) (w : World) → Legal home opening w → (r : ℕ) → plain_now home opening w r ≡ replay w.history opening r
 plain_stands home opening w s r = sym (whole_now home opening w r s.covered) ∙ s.stands r
 
 -- ---- what a transaction with a claim on a row sees
@@ -269,6 +269,119 @@ kept_stop home opening w t s go bare = record {
   own = grind (arith, s.own);
   ended = grind (arith, s.ended);
   legal = grind (arith, s.legal);
+  history = s.history;
+  stands = s.stands;
+}
+
+undo_own : (home : ℕ → ℕ) (opening : ℕ → Option ℕ) (w : World) (t r : ℕ) → Legal home opening w → w.stage t ≡ Undoing → (u q : ℕ) → writes (w.active u) q ≡ true → row_now opening (undone w t r) q ≡ row_now opening w q
+undo_own home opening w t r s back u q h = let g = s.running u q (writes_touches (w.active u) q h) in let v = value_compensated (w.changes q) t u (w.counter + 1) (opening q) in let k = s.standing u q g in let l = s.last u q h in grind (arith, g, v, k, l)
+
+undo_last : (home : ℕ → ℕ) (opening : ℕ → Option ℕ) (w : World) (t r : ℕ) → Legal home opening w → w.stage t ≡ Undoing → (u q : ℕ) → writes (w.active u) q ≡ true → is_top ((undone w t r).changes q) u ≡ true
+undo_last home opening w t r s back u q h = let g = s.running u q (writes_touches (w.active u) q h) in let v = top_compensated (w.changes q) t u (w.counter + 1) in let l = s.last u q h in grind (arith, g, v, l)
+
+undo_has : (w : World) (t r u q : ℕ) → has ((undone w t r).changes q) u ≡ has (w.changes q) u
+undo_has w t r u q = let h = has_compensated (w.changes q) t u (w.counter + 1) in grind (arith, h)
+
+undo_drawn : (w : World) (t r u q l : ℕ) → drawn_by ((undone w t r).changes q) u l ≡ drawn_by (w.changes q) u l
+undo_drawn w t r u q l = let h = drawn_compensated (w.changes q) t u (w.counter + 1) l in grind (arith, h)
+
+undo_standing : (home : ℕ → ℕ) (opening : ℕ → Option ℕ) (w : World) (t r : ℕ) → Legal home opening w → w.stage t ≡ Undoing → (u q : ℕ) → w.stage u ≡ Forward → all_stand ((undone w t r).changes q) u ≡ true
+undo_standing home opening w t r s back u q go = let h = stand_compensated (w.changes q) t u (w.counter + 1) in let k = s.standing u q go in grind (arith, h, k)
+
+undo_ended : (home : ℕ → ℕ) (opening : ℕ → Option ℕ) (w : World) (t r : ℕ) → Legal home opening w → w.stage t ≡ Undoing → (u q : ℕ) → w.stage u ≡ Ended → all_undone_by ((undone w t r).changes q) u (w.flushed (home u)) ≡ true
+undo_ended home opening w t r s back u q go = let h = undone_compensated (w.changes q) t u (w.counter + 1) (w.flushed (home u)) in let k = s.ended u q go in grind (arith, h, k)
+
+undo_plain : (home : ℕ → ℕ) (opening : ℕ → Option ℕ) (w : World) (t r q : ℕ) → plain_now home opening (undone w t r) q ≡ plain_now home opening w q
+undo_plain home opening w t r q = let h = plain_compensated (w.changes q) t (w.counter + 1) (λ u. is_committed home w u) (opening q) in grind (arith, h)
+
+pub kept_undo : (home : ℕ → ℕ) (opening : ℕ → Option ℕ) (w : World) (t r : ℕ) → Legal home opening w → w.stage t ≡ Undoing → Legal home opening (undone w t r)
+kept_undo home opening w t r s back = record {
+  flushed = grind (arith, s.flushed);
+  drawn = λ u q. undo_drawn w t r u q (w.counter + 1) ∙ drawn_more (w.changes q) u w.counter (w.counter + 1) (omega arith) (s.drawn u q);
+  decided = grind (arith, s.decided);
+  covered = λ u q l e. undo_drawn w t r u q l ∙ s.covered u q l e;
+  deciding = s.deciding;
+  fresh = λ u q e. undo_has w t r u q ∙ s.fresh u q e;
+  running = s.running;
+  unanswered = s.unanswered;
+  touched = s.touched;
+  written = s.written;
+  held = λ u q up h d. s.held u q up (sym (undo_has w t r u q) ∙ h) d;
+  standing = undo_standing home opening w t r s back;
+  only = λ u q h g d. s.only u q (sym (undo_has w t r u q) ∙ h) g d;
+  last = undo_last home opening w t r s back;
+  own = λ u q h. undo_own home opening w t r s back u q h ∙ s.own u q h;
+  ended = undo_ended home opening w t r s back;
+  legal = s.legal;
+  history = s.history;
+  stands = stands_from home opening (undone w t r) (λ u q l e. undo_drawn w t r u q l ∙ s.covered u q l e) (λ q. undo_plain home opening w t r q ∙ plain_stands home opening w s q);
+}
+
+pub kept_end : (home : ℕ → ℕ) (opening : ℕ → Option ℕ) (w : World) (t : ℕ) → Legal home opening w → w.stage t ≡ Undoing → ((r : ℕ) → all_undone_by (w.changes r) t (w.flushed (home t)) ≡ true) → Legal home opening (ended w t)
+kept_end home opening w t s back all = record {
+  flushed = s.flushed;
+  drawn = s.drawn;
+  decided = s.decided;
+  covered = s.covered;
+  deciding = grind (arith, s.deciding);
+  fresh = grind (arith, s.fresh);
+  running = grind (arith, s.running);
+  unanswered = s.unanswered;
+  touched = s.touched;
+  written = s.written;
+  held = grind (arith, s.held);
+  standing = grind (arith, s.standing);
+  only = grind (arith, s.only);
+  last = s.last;
+  own = s.own;
+  ended = grind (arith, s.ended);
+  legal = s.legal;
+  history = s.history;
+  stands = s.stands;
+}
+
+pub kept_claims : (home : ℕ → ℕ) (opening : ℕ → Option ℕ) (w : World) (claim : ℕ → ℕ → Option Mode) → Legal home opening w → KeepsClaims home w claim → Legal home opening (record w { claim = claim })
+kept_claims home opening w claim s keeps = record {
+  flushed = s.flushed;
+  drawn = s.drawn;
+  decided = s.decided;
+  covered = s.covered;
+  deciding = s.deciding;
+  fresh = s.fresh;
+  running = s.running;
+  unanswered = s.unanswered;
+  touched = keeps.0;
+  written = λ t r h. keeps.1 t r (top_has (w.changes r) t (s.last t r h)) (let g = s.running t r (writes_touches (w.active t) r h) in let c = s.unanswered t r (writes_touches (w.active t) r h) in grind (arith, g, c));
+  held = λ t r up h d. keeps.1 t r h d;
+  standing = s.standing;
+  only = s.only;
+  last = s.last;
+  own = s.own;
+  ended = s.ended;
+  legal = s.legal;
+  history = s.history;
+  stands = s.stands;
+}
+
+pub kept_reopen : (home : ℕ → ℕ) (opening : ℕ → Option ℕ) (w : World) → Legal home opening w → ((t r : ℕ) → has (w.changes r) t ≡ true → is_done home w t ≡ true) → Legal home opening (reopened w)
+kept_reopen home opening w s all = record {
+  flushed = s.flushed;
+  drawn = s.drawn;
+  decided = s.decided;
+  covered = s.covered;
+  deciding = s.deciding;
+  fresh = s.fresh;
+  running = s.running;
+  unanswered = s.unanswered;
+  touched = s.touched;
+  written = s.written;
+  held = λ t r up h d. let e = all t r h in grind (arith, e, d);
+  standing = s.standing;
+  only = s.only;
+  last = s.last;
+  own = s.own;
+  ended = s.ended;
+  legal = s.legal;
   history = s.history;
   stands = s.stands;
 }

@@ -1,3 +1,5 @@
 pub mod Frames
 pub mod Lists
 pub mod Kept
+pub mod Failures
+pub mod Runs

@@ -110,27 +110,23 @@ stage_after Forward is_kept = if is_kept then Forward else Undoing
 stage_after Undoing is_kept = Undoing
 stage_after Ended is_kept = Ended
 
--- A member failed: the records of its buffer are lost, and its transactions are stopped that haven't committed. The
--- claims that go with it are a move of their own.
-abbrev pub failed : (ℕ → ℕ) → World → ℕ → World
-failed home w m = record w {
-  changes = λ r. without (w.changes r) (λ t l. (home t == m) && not (on_disk home w t l));
-  commit = λ t. if home t == m then kept_mark (w.commit t) (λ l. not (on_disk home w t l)) else w.commit t;
-  stage = λ t. if home t == m then stage_after (w.stage t) (is_committed home w t) else w.stage t;
-  active = λ t. if home t == m then [] else w.active t;
+-- Members fail: the records of their buffers are lost, and those of their transactions are stopped that haven't
+-- committed.
+abbrev pub cut_off : (ℕ → ℕ) → World → (ℕ → Bool) → World
+cut_off home w fails = record w {
+  changes = λ r. without (w.changes r) (λ t l. fails (home t) && not (on_disk home w t l));
+  commit = λ t. if fails (home t) then kept_mark (w.commit t) (λ l. not (on_disk home w t l)) else w.commit t;
+  stage = λ t. if fails (home t) then stage_after (w.stage t) (is_committed home w t) else w.stage t;
+  active = λ t. if fails (home t) then [] else w.active t;
 }
 
--- The group failed: all buffers are lost, and all claims. LRSNs are drawn anew above those on disk.
+-- a member failed; the claims that go with it are a move of their own
+abbrev pub failed : (ℕ → ℕ) → World → ℕ → World
+failed home w m = cut_off home w (λ k. k == m)
+
+-- the group failed: all members did, all claims are gone, and LRSNs are drawn anew above those on disk
 abbrev pub group_failed : (ℕ → ℕ) → World → ℕ → World
-group_failed home w counter = record w {
-  changes = λ r. without (w.changes r) (λ t l. not (on_disk home w t l));
-  commit = λ t. kept_mark (w.commit t) (λ l. not (on_disk home w t l));
-  stage = λ t. stage_after (w.stage t) (is_committed home w t);
-  active = λ t. [];
-  counter = counter;
-  claim = λ t r. None;
-  down = true;
-}
+group_failed home w counter = record (cut_off home w (λ k. true)) { counter = counter; claim = λ t r. None; down = true }
 
 abbrev pub reopened : World → World
 reopened w = record w { down = false }
