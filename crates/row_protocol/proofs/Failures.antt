@@ -67,7 +67,7 @@ not_lost home w fails t l le = grind arith
 not_hit : (home : ℕ → ℕ) (w : World) (fails : ℕ → Bool) (t l : ℕ) → fails (home t) ≡ false → lost_of home w fails t l ≡ false
 not_hit home w fails t l h = grind arith
 
-cut_same : (home : ℕ → ℕ) (w : World) (fails : ℕ → Bool) (u : ℕ) → is_committed home (cut_off home w fails) u ≡ is_committed home w u
+pub cut_same : (home : ℕ → ℕ) (w : World) (fails : ℕ → Bool) (u : ℕ) → is_committed home (cut_off home w fails) u ≡ is_committed home w u
 cut_same home w fails u = let k = kept_stable (w.commit u) (w.flushed (home u)) in grind (arith, k)
 
 cut_commit : (home : ℕ → ℕ) (w : World) (fails : ℕ → Bool) (t l : ℕ) → (cut_off home w fails).commit t ≡ Some l → w.commit t ≡ Some l
@@ -134,6 +134,8 @@ kept_cut home opening w fails s = record {
   last = λ t r h. cut_last home opening w fails s t r (cut_away home w fails t r h) (cut_writes home w fails t r h);
   own = cut_after home opening w fails s;
   ended = λ t r e. undone_without (w.changes r) (lost_of home w fails) t (w.flushed (home t)) (λ l le. not_lost home w fails t l le) (s.ended t r (cut_ended home w fails t e));
+  listed = λ t. s.listed t ∙ sym (cut_same home w fails t);
+  once = s.once;
   legal = λ t. let k = s.legal t in grind (arith, k);
   history = s.history;
   stands = stands_from home opening (cut_off home w fails) (cut_covered home opening w fails s) (λ r. cut_plain home opening w fails s r ∙ plain_stands home opening w s r);
@@ -161,6 +163,8 @@ kept_group_failed home opening w counter s top = let k : Legal home opening (cut
   last = k.last;
   own = k.own;
   ended = k.ended;
+  listed = k.listed;
+  once = k.once;
   legal = k.legal;
   history = k.history;
   stands = k.stands;

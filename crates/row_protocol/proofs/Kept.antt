@@ -3,7 +3,7 @@ use Rattle.std.proofs.Common.{◌≡◌, ℕ, ◌+◌, ◌≤◌, ◌<◌, refl,
 use Rattle.std.specs.Prelude.{◌≢◌, leb, not, ◌&&◌, ◌||◌, if◌then◌else◌, ◌==◌}
 use Rattle.std.proofs.lemmas.Bool.{cases_eq, cases_Bool, cond-true, cond-false, eq-eqb, ne_eqb}
 use Rattle.row_protocol.specs.Functions.{put}
-use Rattle.row_protocol.specs.Rows.{rows_after, IsLegal, writes, touches, replay, IsLegalHistory}
+use Rattle.row_protocol.specs.Rows.{rows_after, IsLegal, writes, touches, replay, IsLegalHistory, is_listed, is_once}
 use Rattle.row_protocol.specs.Log.{Change, value, logged, has, is_top, all_stand, drawn_by, undone_by, all_undone_by, compensated, without}
 use Rattle.row_protocol.specs.Machine.{World, Mode, X, Waiting, Forward, Undoing, Ended, is_committed, is_stable, is_done, is_ended, row_now, rows_of_logs, on_disk, begun, got, changed, decided, forced, committed, stopped, undone, ended, failed, group_failed, reopened, start}
 use Rattle.row_protocol.specs.Moves.{IsAlone, NoCommit, NoOtherCommit, KeepsClaims}
@@ -99,6 +99,8 @@ kept_put home opening w t r x s alone up go bare mine = record {
   last = put_last home opening w t r x s alone mine;
   own = put_own home opening w t r x s alone mine;
   ended = grind (arith, s.ended);
+  listed = s.listed;
+  once = s.once;
   legal = grind (arith, s.legal);
   history = s.history;
   stands = put_stands home opening w t r x s;
@@ -108,7 +110,7 @@ kept_put home opening w t r x s alone up go bare mine = record {
 decide_covered : (home : ℕ → ℕ) (opening : ℕ → Option ℕ) (w : World) (t : ℕ) → Legal home opening w → IsCovered (decided w t)
 decide_covered home opening w t s u r l = let d = s.drawn u r in let m = drawn_more (w.changes r) u w.counter (w.counter + 1) in let c = s.covered u r l in grind (arith, d, m, c)
 
-decide_same : (home : ℕ → ℕ) (opening : ℕ → Option ℕ) (w : World) (t : ℕ) → Legal home opening w → w.commit t ≡ None → (u : ℕ) → is_committed home (decided w t) u ≡ is_committed home w u
+pub decide_same : (home : ℕ → ℕ) (opening : ℕ → Option ℕ) (w : World) (t : ℕ) → Legal home opening w → w.commit t ≡ None → (u : ℕ) → is_committed home (decided w t) u ≡ is_committed home w u
 decide_same home opening w t s bare u = let f = s.flushed (home u) in grind (arith, f)
 
 pub kept_decide : (home : ℕ → ℕ) (opening : ℕ → Option ℕ) (w : World) (t : ℕ) → Legal home opening w → w.stage t ≡ Forward → w.commit t ≡ None → Legal home opening (decided w t)
@@ -129,13 +131,15 @@ kept_decide home opening w t s go bare = let same = decide_same home opening w t
   last = s.last;
   own = s.own;
   ended = s.ended;
+  listed = λ u. s.listed u ∙ sym (same u);
+  once = s.once;
   legal = s.legal;
   history = s.history;
   stands = stands_from home opening (decided w t) (decide_covered home opening w t s) (λ r. plain_agree (w.changes r) _ _ (opening r) (λ u h. same u) ∙ plain_stands home opening w s r);
 }
 
 -- ---- a log is on disk further, with no commit record among the new ones
-force_same : (home : ℕ → ℕ) (w : World) (m l : ℕ) → w.flushed m ≤ l → NoCommit home w m l → (u : ℕ) → is_committed home (forced w m l) u ≡ is_committed home w u
+pub force_same : (home : ℕ → ℕ) (w : World) (m l : ℕ) → w.flushed m ≤ l → NoCommit home w m l → (u : ℕ) → is_committed home (forced w m l) u ≡ is_committed home w u
 force_same home w m l le none u = let n = none u in grind (arith, n)
 
 force_ended : (home : ℕ → ℕ) (opening : ℕ → Option ℕ) (w : World) (m l : ℕ) → Legal home opening w → w.flushed m ≤ l → (t r : ℕ) → w.stage t ≡ Ended → all_undone_by (w.changes r) t ((forced w m l).flushed (home t)) ≡ true
@@ -159,21 +163,23 @@ kept_force home opening w m l s le top none = let same = force_same home w m l l
   last = s.last;
   own = s.own;
   ended = force_ended home opening w m l s le;
+  listed = λ u. s.listed u ∙ sym (same u);
+  once = s.once;
   legal = s.legal;
   history = s.history;
   stands = stands_from home opening (forced w m l) s.covered (λ r. plain_agree (w.changes r) _ _ (opening r) (λ u h. same u) ∙ plain_stands home opening w s r);
 }
 
 -- ---- a commit record is on disk
-record Commits (home : ℕ → ℕ) (w : World) (t l : ℕ) : Type 0 where
-  record_at : w.commit t ≡ Some l
-  above : w.flushed (home t) < l
-  alone : NoOtherCommit home w (home t) t l
+pub record Commits (home : ℕ → ℕ) (w : World) (t l : ℕ) : Type 0 where
+  pub record_at : w.commit t ≡ Some l
+  pub above : w.flushed (home t) < l
+  pub alone : NoOtherCommit home w (home t) t l
 
-commit_same : (home : ℕ → ℕ) (w : World) (t l : ℕ) → Commits home w t l → (u : ℕ) → u ≢ t → is_committed home (committed home w t l) u ≡ is_committed home w u
+pub commit_same : (home : ℕ → ℕ) (w : World) (t l : ℕ) → Commits home w t l → (u : ℕ) → u ≢ t → is_committed home (committed home w t l) u ≡ is_committed home w u
 commit_same home w t l g u ne = let n = g.alone u in let f = g.above in grind (arith, n, f)
 
-commit_now : (home : ℕ → ℕ) (w : World) (t l : ℕ) → Commits home w t l → is_committed home (committed home w t l) t ≡ true
+pub commit_now : (home : ℕ → ℕ) (w : World) (t l : ℕ) → Commits home w t l → is_committed home (committed home w t l) t ≡ true
 commit_now home w t l g = let e = g.record_at in grind (arith, e)
 
 commit_not_yet : (home : ℕ → ℕ) (w : World) (t l : ℕ) → Commits home w t l → is_committed home w t ≡ false
@@ -225,6 +231,9 @@ commit_unanswered home opening w t l s g u r = let e = commit_same home w t l g 
 commit_ended : (home : ℕ → ℕ) (opening : ℕ → Option ℕ) (w : World) (t l : ℕ) → Legal home opening w → Commits home w t l → (u r : ℕ) → w.stage u ≡ Ended → all_undone_by (w.changes r) u ((committed home w t l).flushed (home u)) ≡ true
 commit_ended home opening w t l s g u r h = undone_more (w.changes r) u (w.flushed (home u)) ((committed home w t l).flushed (home u)) (let f = g.above in grind (arith, f)) (s.ended u r h)
 
+commit_listed : (home : ℕ → ℕ) (opening : ℕ → Option ℕ) (w : World) (t l : ℕ) → Legal home opening w → Commits home w t l → (u : ℕ) → is_listed (committed home w t l).history u ≡ is_committed home (committed home w t l) u
+commit_listed home opening w t l s g u = let e = commit_now home w t l g in let n = commit_same home w t l g u in let k = s.listed u in grind (arith, e, n, k)
+
 pub kept_commit : (home : ℕ → ℕ) (opening : ℕ → Option ℕ) (w : World) (t l : ℕ) → Legal home opening w → IsAlone w.claim → w.commit t ≡ Some l → w.flushed (home t) < l → NoOtherCommit home w (home t) t l → Legal home opening (committed home w t l)
 unfolding replay
 kept_commit home opening w t l s alone at above none = let g : Commits home w t l = record { record_at = at; above = above; alone = none } in record {
@@ -244,6 +253,8 @@ kept_commit home opening w t l s alone at above none = let g : Commits home w t 
   last = grind (arith, s.last);
   own = λ u r. commit_own home opening w t u r s alone;
   ended = commit_ended home opening w t l s g;
+  listed = commit_listed home opening w t l s g;
+  once = let n = commit_not_yet home w t l g in let k = s.listed t in grind (arith, n, k, s.once);
   legal = λ u. commit_legal home opening w t u s alone;
   history = (s.legal t, s.history);
   stands = stands_from home opening (committed home w t l) s.covered (commit_stands home opening w t l s g);
@@ -268,6 +279,8 @@ kept_stop home opening w t s go bare = record {
   last = grind (arith, s.last);
   own = grind (arith, s.own);
   ended = grind (arith, s.ended);
+  listed = s.listed;
+  once = s.once;
   legal = grind (arith, s.legal);
   history = s.history;
   stands = s.stands;
@@ -312,6 +325,8 @@ kept_undo home opening w t r s back = record {
   last = undo_last home opening w t r s back;
   own = λ u q h. undo_own home opening w t r s back u q h ∙ s.own u q h;
   ended = undo_ended home opening w t r s back;
+  listed = s.listed;
+  once = s.once;
   legal = s.legal;
   history = s.history;
   stands = stands_from home opening (undone w t r) (λ u q l e. undo_drawn w t r u q l ∙ s.covered u q l e) (λ q. undo_plain home opening w t r q ∙ plain_stands home opening w s q);
@@ -335,6 +350,8 @@ kept_end home opening w t s back all = record {
   last = s.last;
   own = s.own;
   ended = grind (arith, s.ended);
+  listed = s.listed;
+  once = s.once;
   legal = s.legal;
   history = s.history;
   stands = s.stands;
@@ -358,6 +375,8 @@ kept_claims home opening w claim s keeps = record {
   last = s.last;
   own = s.own;
   ended = s.ended;
+  listed = s.listed;
+  once = s.once;
   legal = s.legal;
   history = s.history;
   stands = s.stands;
@@ -381,6 +400,8 @@ kept_reopen home opening w s all = record {
   last = s.last;
   own = s.own;
   ended = s.ended;
+  listed = s.listed;
+  once = s.once;
   legal = s.legal;
   history = s.history;
   stands = s.stands;

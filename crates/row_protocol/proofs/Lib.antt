@@ -3,3 +3,5 @@ pub mod Lists
 pub mod Kept
 pub mod Failures
 pub mod Runs
+pub mod Given
+pub mod Needed

@@ -22,7 +22,7 @@ kept_step home opening w v (Fail m) s alone st = subst (Legal home opening) (sym
 kept_step home opening w v (GroupFail counter) s alone st = subst (Legal home opening) (sym st.1) (kept_group_failed home opening w counter s st.0)
 kept_step home opening w v Reopen s alone st = subst (Legal home opening) (sym st.1) (kept_reopen home opening w s st.0)
 
-kept_run : (home : ℕ → ℕ) (opening : ℕ → Option ℕ) (es : List Move) (w v : World) → Legal home opening w → IsAlone w.claim → Run home opening w es v → Legal home opening v
+pub kept_run : (home : ℕ → ℕ) (opening : ℕ → Option ℕ) (es : List Move) (w v : World) → Legal home opening w → IsAlone w.claim → Run home opening w es v → Legal home opening v
 kept_run home opening [] w v s alone run = subst (Legal home opening) (sym run) s
 kept_run home opening (e ∷ es) w v s alone run = kept_run home opening es run.0 v (kept_step home opening w run.0 e s alone run.1) run.2 run.3
 

@@ -1,6 +1,6 @@
 -- What holds of rows, logs and history after every move.
 use Rattle.std.specs.Prelude.{◌≡◌, ◌≢◌, ℕ, ◌≤◌, Bool, true, false, List, [], ◌∷◌, Option, Some, None}
-use Rattle.row_protocol.specs.Rows.{rows_after, IsLegal, writes, touches, replay, IsLegalHistory}
+use Rattle.row_protocol.specs.Rows.{rows_after, IsLegal, writes, touches, replay, IsLegalHistory, is_listed, is_once}
 use Rattle.row_protocol.specs.Log.{has, is_top, all_stand, drawn_by, all_undone_by}
 use Rattle.row_protocol.specs.Machine.{World, X, Waiting, Forward, Ended, is_committed, is_done, row_now, rows_of_logs, start}
 use Rattle.row_protocol.specs.Moves.{Move, Step, Run, IsAlone}
@@ -28,6 +28,9 @@ pub record Legal (home : ℕ → ℕ) (opening : ℕ → Option ℕ) (w : World)
   pub own : (t r : ℕ) → writes (w.active t) r ≡ true → row_now opening w r ≡ rows_after (w.active t) (replay w.history opening) r
   -- those of one that has ended: all undone, on disk
   pub ended : (t r : ℕ) → w.stage t ≡ Ended → all_undone_by (w.changes r) t (w.flushed (home t)) ≡ true
+  -- the history has each transaction once whose commit record is on disk
+  pub listed : (t : ℕ) → is_listed w.history t ≡ is_committed home w t
+  pub once : is_once w.history ≡ true
   -- each read of a transaction that goes forward is what it would get if it were the next of the history
   pub legal : (t : ℕ) → IsLegal (w.active t) (replay w.history opening)
   pub history : IsLegalHistory w.history opening

@@ -4,3 +4,5 @@ pub mod Log
 pub mod Machine
 pub mod Moves
 pub mod Legal
+pub mod Given
+pub mod Needed

@@ -2,7 +2,7 @@
 --
 -- Rows, transactions and members are numbers; a row is absent or has a value. A list of operations and a history stand
 -- newest first.
-use Rattle.std.specs.Prelude.{◌≡◌, ℕ, Bool, true, false, ◌||◌, List, [], ◌∷◌, Option, if◌then◌else◌, ◌==◌}
+use Rattle.std.specs.Prelude.{◌≡◌, ℕ, Bool, true, false, ◌&&◌, ◌||◌, not, List, [], ◌∷◌, Option, if◌then◌else◌, ◌==◌}
 use Rattle.row_protocol.specs.Functions.{put}
 
 pub data Op : Type 0 where
@@ -47,3 +47,12 @@ replay (t ∷ ts) rows = rows_after t.ops (replay ts rows)
 abbrev pub IsLegalHistory : List Committed → (ℕ → Option ℕ) → Type 0
 IsLegalHistory [] rows = Unit {0}
 IsLegalHistory (t ∷ ts) rows = IsLegal t.ops (replay ts rows) × IsLegalHistory ts rows
+
+abbrev pub is_listed : List Committed → ℕ → Bool
+is_listed [] t = false
+is_listed (c ∷ cs) t = (c.tran == t) || is_listed cs t
+
+-- no transaction is listed twice
+abbrev pub is_once : List Committed → Bool
+is_once [] = true
+is_once (c ∷ cs) = not (is_listed cs c.tran) && is_once cs

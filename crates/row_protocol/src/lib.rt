@@ -6,6 +6,8 @@
 #![tactic(auto)]
 
 ghost use Rattle.row_protocol.specs.Legal.{AlwaysLegal, KeepsLegal, StartsLegal};
+ghost use Rattle.row_protocol.specs.Needed.{CommitRecordIsNeeded, StableBeforeReleaseIsNeeded, UndoBeforeReleaseIsNeeded, UndoBeforeReopenIsNeeded};
+ghost use Rattle.row_protocol.specs.Given.{AppendsStand, CommitsStay, HistoryGrows, HistoryIsLegal, LogsAreReplay, UndoneFirst};
 
 /// In every state that moves lead to from the start the history is legal and the rows of the logs are its replay.
 pub fn legal_history()
@@ -16,4 +18,27 @@ pub fn legal_history()
 pub fn keeps_legal()
     ensures start { StartsLegal }
     ensures step { KeepsLegal }
+{}
+
+/// What the layers above get. In every state that moves lead to from the start the history is legal, and the rows of
+/// the logs are its replay; so they are at each moment inside an append, with the commits that are on disk by then. A
+/// commit is never taken back, and the history only grows. A row that a transaction has changed is read and changed by
+/// no other before that transaction has committed or its changes are undone for good.
+pub fn gives()
+    ensures history { HistoryIsLegal }
+    ensures logs { LogsAreReplay }
+    ensures appends { AppendsStand }
+    ensures commits { CommitsStay }
+    ensures grows { HistoryGrows }
+    ensures undone_first { UndoneFirst }
+{}
+
+/// Four guards without which a read or the rows of the logs come to be wrong: a refused transaction's changes are
+/// undone before its claims go, a committing one's claims go after its commit record is on disk, the logs stand for
+/// transactions with a commit record alone, and after a group failure all else is undone before anyone begins.
+pub fn guards_are_needed()
+    ensures undo_before_release { UndoBeforeReleaseIsNeeded }
+    ensures stable_before_release { StableBeforeReleaseIsNeeded }
+    ensures commit_record { CommitRecordIsNeeded }
+    ensures undo_before_reopen { UndoBeforeReopenIsNeeded }
 {}
