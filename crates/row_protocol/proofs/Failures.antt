@@ -88,7 +88,7 @@ cut_ended home w fails t = let k = stage_ended (w.stage t) (is_committed home w 
 cut_going : (home : ℕ → ℕ) (w : World) (fails : ℕ → Bool) (t : ℕ) → (cut_off home w fails).stage t ≡ Forward → is_committed home w t ≡ false → fails (home t) ≡ false
 cut_going home w fails t e n = let k = stage_kept (w.stage t) (is_committed home w t) in grind (arith, k)
 
-cut_done : (home : ℕ → ℕ) (w : World) (fails : ℕ → Bool) (t : ℕ) → is_done home (cut_off home w fails) t ≡ is_done home w t
+pub cut_done : (home : ℕ → ℕ) (w : World) (fails : ℕ → Bool) (t : ℕ) → is_done home (cut_off home w fails) t ≡ is_done home w t
 cut_done home w fails t = let e = ended_same (w.stage t) (is_committed home w t) in let c = cut_same home w fails t in grind (arith, e, c)
 
 cut_active : (home : ℕ → ℕ) (w : World) (fails : ℕ → Bool) (t r : ℕ) → touches ((cut_off home w fails).active t) r ≡ true → fails (home t) ≡ false

@@ -3,5 +3,7 @@ pub mod Lists
 pub mod Kept
 pub mod Failures
 pub mod Runs
+pub mod Order
+pub mod Ordered
 pub mod Given
 pub mod Needed

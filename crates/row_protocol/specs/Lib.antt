@@ -4,5 +4,6 @@ pub mod Log
 pub mod Machine
 pub mod Moves
 pub mod Legal
+pub mod Ordered
 pub mod Given
 pub mod Needed

@@ -6,6 +6,7 @@
 #![tactic(auto)]
 
 ghost use Rattle.row_protocol.specs.Legal.{AlwaysLegal, KeepsLegal, StartsLegal};
+ghost use Rattle.row_protocol.specs.Ordered.{AlwaysOrdered, KeepsOrdered, OneIsOpen, StartsOrdered, UndoSetsBack};
 ghost use Rattle.row_protocol.specs.Needed.{CommitRecordIsNeeded, StableBeforeReleaseIsNeeded, UndoBeforeReleaseIsNeeded, UndoBeforeReopenIsNeeded};
 ghost use Rattle.row_protocol.specs.Given.{AppendsStand, CommitsStay, HistoryGrows, HistoryIsLegal, LogsAreReplay, UndoneFirst};
 
@@ -41,4 +42,16 @@ pub fn guards_are_needed()
     ensures stable_before_release { StableBeforeReleaseIsNeeded }
     ensures commit_record { CommitRecordIsNeeded }
     ensures undo_before_reopen { UndoBeforeReopenIsNeeded }
+{}
+
+/// In every state that moves lead to from the start each row's records stand in order: older ones below, of the same
+/// transaction or of transactions that are done; and each change's value before it is what the row was at its LRSN.
+/// So at most one transaction has changes of a row that may still be undone, and an undo finds the row as its change
+/// left it and leaves it as the change found it.
+pub fn ordered_records()
+    ensures start { StartsOrdered }
+    ensures step { KeepsOrdered }
+    ensures always { AlwaysOrdered }
+    ensures one_is_open { OneIsOpen }
+    ensures sets_back { UndoSetsBack }
 {}
