@@ -1,3 +1,4 @@
+pub mod Claims
 pub mod Frames
 pub mod Lists
 pub mod Kept
@@ -7,3 +8,4 @@ pub mod Order
 pub mod Ordered
 pub mod Given
 pub mod Needed
+pub mod Example

@@ -2,11 +2,11 @@
 use Rattle.std.proofs.Common.{◌≡◌, ℕ, ◌+◌, ◌≤◌, ◌<◌, refl, sym, ◌∙◌, subst, arith, Bool, true, false, List, [], ◌∷◌, Option, Some, None, inl, inr}
 use Rattle.std.specs.Prelude.{◌≢◌, not, ◌&&◌, ◌||◌, leb, if◌then◌else◌, ◌==◌}
 use Rattle.std.proofs.lemmas.Bool.{cases_Bool}
-use Rattle.row_protocol.specs.Log.{Change, value, has, all_stand, drawn_by, all_undone_by, compensated, without}
-use Rattle.row_protocol.specs.Machine.{World, X, Forward, Undoing, Ended, is_committed, is_done, is_ended, on_disk, row_now, changed, decided, forced, committed, undone, ended, cut_off, group_failed, start}
+use Rattle.row_protocol.specs.Log.{Change, value, logged, has, all_stand, drawn_by, all_undone_by, compensated, without}
+use Rattle.row_protocol.specs.Machine.{World, X, Forward, Undoing, Ended, is_committed, is_done, is_ended, on_disk, row_now, rows_of_logs, changed, decided, forced, committed, undone, ended, cut_off, group_failed, start}
 use Rattle.row_protocol.specs.Moves.{Move, Begin, Get, Put, Decide, Force, Commit, Stop, Undo, End, Claims, Fail, GroupFail, Reopen, Step, Run, IsAlone}
 use Rattle.row_protocol.specs.Legal.{Legal}
-use Rattle.row_protocol.specs.Ordered.{value_at, IsChained, marks_by, all_below, is_ordered, Ordered, AlwaysOrdered, OneIsOpen, next_undo, SetsBack, UndoSetsBack}
+use Rattle.row_protocol.specs.Ordered.{value_at, IsChained, marks_by, all_below, is_ordered, Ordered, AlwaysOrdered, OneIsOpen, next_undo, SetsBack, UndoSetsBack, IsIn, counts, LogsByLrsn}
 use Rattle.row_protocol.proofs.Lists.{drawn_compensated}
 use Rattle.row_protocol.proofs.Kept.{kept_start, decide_same, force_same, Commits, commit_same, commit_now, covered_now}
 use Rattle.row_protocol.proofs.Failures.{cut_same, cut_done}
@@ -147,4 +147,30 @@ pub undo_sets_back : UndoSetsBack
 undo_sets_back home opening w t r c o n e = record {
   finds = undo_finds (w.changes r) (λ x. is_done home w x) t (opening r) c (o.ordered r) n e;
   leaves = now_undone opening w t r ∙ undo_leaves (w.changes r) (λ x. is_done home w x) t (w.counter + 1) (opening r) c (o.ordered r) (o.chained r) n e;
+}
+
+-- ---- the rows of the logs by LRSN
+below_in : (cs : List Change) (c d : Change) (f : ℕ → Bool) → all_below cs c f ≡ true → IsIn cs d → d.lrsn < c.lrsn
+below_in [] c d f h i = absurd i
+below_in (e ∷ es) c d f h (inl p) = grind (arith, h, p)
+below_in (e ∷ es) c d f h (inr i) = below_in es c d f (grind (arith, h)) i
+
+greatest : (cs : List Change) (on : ℕ → ℕ → Bool) (done_by f : ℕ → Bool) (v : Option ℕ) (c : Change) → is_ordered cs f ≡ true → IsIn cs c → (on c.tran c.lrsn && done_by c.tran) ≡ true
+    → ((d : Change) → IsIn cs d → (on d.tran d.lrsn && done_by d.tran) ≡ true → d.lrsn ≤ c.lrsn) → logged cs on done_by v ≡ c.after
+greatest [] on done_by f v c o i k top = absurd i
+greatest (d ∷ ds) on done_by f v c o (inl e) k top = grind (arith, e, k)
+greatest (d ∷ ds) on done_by f v c o (inr i) k top =
+    let low = below_in ds d c f (grind (arith, o)) i in
+    let high = top d (inl refl) in
+    let ih = greatest ds on done_by f v c (grind (arith, o)) i k (λ x j q. top x (inr j) q) in
+    grind (arith, low, high, ih)
+
+none_counts : (cs : List Change) (on : ℕ → ℕ → Bool) (done_by : ℕ → Bool) (v : Option ℕ) → ((d : Change) → IsIn cs d → (on d.tran d.lrsn && done_by d.tran) ≡ false) → logged cs on done_by v ≡ v
+none_counts [] on done_by v h = refl
+none_counts (d ∷ ds) on done_by v h = let e = h d (inl refl) in let ih = none_counts ds on done_by v (λ x j. h x (inr j)) in grind (arith, e, ih)
+
+pub logs_by_lrsn : LogsByLrsn
+logs_by_lrsn home opening w r o = record {
+  greatest = λ c i k top. greatest (w.changes r) (λ t l. on_disk home w t l) (λ t. is_committed home w t) (λ t. is_done home w t) (opening r) c (o.ordered r) i k top;
+  none = λ h. none_counts (w.changes r) (λ t l. on_disk home w t l) (λ t. is_committed home w t) (opening r) h;
 }

@@ -3,7 +3,9 @@ pub mod Rows
 pub mod Log
 pub mod Machine
 pub mod Moves
+pub mod Claims
 pub mod Legal
 pub mod Ordered
 pub mod Given
 pub mod Needed
+pub mod Example

@@ -1,7 +1,7 @@
 -- How the records of a row stand in the logs, and what undo makes of the row.
-use Rattle.std.specs.Prelude.{◌≡◌, ◌≢◌, ℕ, Bool, true, false, ◌&&◌, ◌||◌, leb, ltb, List, [], ◌∷◌, Option, Some, None, if◌then◌else◌, ◌==◌}
+use Rattle.std.specs.Prelude.{◌≡◌, ◌≢◌, ◌⊎◌, ℕ, ◌≤◌, Bool, true, false, ◌&&◌, ◌||◌, leb, ltb, List, [], ◌∷◌, Option, Some, None, if◌then◌else◌, ◌==◌}
 use Rattle.row_protocol.specs.Log.{Change, stands, undone_by, has}
-use Rattle.row_protocol.specs.Machine.{World, Undoing, is_done, row_now, undone, start}
+use Rattle.row_protocol.specs.Machine.{World, is_committed, is_done, on_disk, row_now, rows_of_logs, undone, start}
 use Rattle.row_protocol.specs.Moves.{Move, Step, Run, IsAlone}
 use Rattle.row_protocol.specs.Legal.{Legal}
 
@@ -74,3 +74,21 @@ pub record SetsBack (opening : ℕ → Option ℕ) (w : World) (t r : ℕ) (c : 
 
 abbrev pub UndoSetsBack : Type 0
 UndoSetsBack = (home : ℕ → ℕ) (opening : ℕ → Option ℕ) (w : World) (t r : ℕ) (c : Change) → Ordered home opening w → is_done home w t ≡ false → next_undo (w.changes r) t ≡ Some c → SetsBack opening w t r c
+
+-- ---- the rows of the logs by LRSN alone, whatever order the records are read in
+
+abbrev pub IsIn : List Change → Change → Type 0
+IsIn [] c = ⊥
+IsIn (d ∷ ds) c = (c ≡ d) ⊎ IsIn ds c
+
+-- the record is on disk, and so is the commit record of its transaction
+abbrev pub counts : (ℕ → ℕ) → World → Change → Bool
+counts home w c = on_disk home w c.tran c.lrsn && is_committed home w c.tran
+
+-- the record that counts with the greatest LRSN gives the row, and where none counts the row is as it was at first
+pub record ByLrsn (home : ℕ → ℕ) (opening : ℕ → Option ℕ) (w : World) (r : ℕ) : Type 0 where
+  pub greatest : (c : Change) → IsIn (w.changes r) c → counts home w c ≡ true → ((d : Change) → IsIn (w.changes r) d → counts home w d ≡ true → d.lrsn ≤ c.lrsn) → rows_of_logs home opening w r ≡ c.after
+  pub none : ((d : Change) → IsIn (w.changes r) d → counts home w d ≡ false) → rows_of_logs home opening w r ≡ opening r
+
+abbrev pub LogsByLrsn : Type 0
+LogsByLrsn = (home : ℕ → ℕ) (opening : ℕ → Option ℕ) (w : World) (r : ℕ) → Ordered home opening w → ByLrsn home opening w r

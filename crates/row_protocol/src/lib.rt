@@ -5,9 +5,11 @@
 //! The crate has definitions and proofs alone. Its functions do nothing: their contracts are the theorems.
 #![tactic(auto)]
 
+ghost use Rattle.row_protocol.specs.Claims.{LocksGiveAlone};
 ghost use Rattle.row_protocol.specs.Legal.{AlwaysLegal, KeepsLegal, StartsLegal};
-ghost use Rattle.row_protocol.specs.Ordered.{AlwaysOrdered, KeepsOrdered, OneIsOpen, StartsOrdered, UndoSetsBack};
+ghost use Rattle.row_protocol.specs.Ordered.{AlwaysOrdered, KeepsOrdered, LogsByLrsn, OneIsOpen, StartsOrdered, UndoSetsBack};
 ghost use Rattle.row_protocol.specs.Needed.{CommitRecordIsNeeded, StableBeforeReleaseIsNeeded, UndoBeforeReleaseIsNeeded, UndoBeforeReopenIsNeeded};
+ghost use Rattle.row_protocol.specs.Example.{RunsThrough};
 ghost use Rattle.row_protocol.specs.Given.{AppendsStand, CommitsStay, HistoryGrows, HistoryIsLegal, LogsAreReplay, UndoneFirst};
 
 /// In every state that moves lead to from the start the history is legal and the rows of the logs are its replay.
@@ -47,11 +49,25 @@ pub fn guards_are_needed()
 /// In every state that moves lead to from the start each row's records stand in order: older ones below, of the same
 /// transaction or of transactions that are done; and each change's value before it is what the row was at its LRSN.
 /// So at most one transaction has changes of a row that may still be undone, and an undo finds the row as its change
-/// left it and leaves it as the change found it.
+/// left it and leaves it as the change found it; and the rows of the logs are told by LRSNs alone, in whatever order
+/// the logs are read.
 pub fn ordered_records()
     ensures start { StartsOrdered }
     ensures step { KeepsOrdered }
     ensures always { AlwaysOrdered }
     ensures one_is_open { OneIsOpen }
     ensures sets_back { UndoSetsBack }
+    ensures by_lrsn { LogsByLrsn }
+{}
+
+/// Where no two transactions have conflicting locks of a row or of a table space, a row that one of them may change by
+/// its locks is no other's.
+pub fn alone_by_locks()
+    ensures { LocksGiveAlone }
+{}
+
+/// The moves lead somewhere: a run in which a failed member's open change is undone by its restart, and another
+/// transaction then changes the row and commits for good.
+pub fn runs_through()
+    ensures { RunsThrough }
 {}
