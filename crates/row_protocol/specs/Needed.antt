@@ -1,11 +1,11 @@
 -- Guards without which a legal state is left: for each a state and a move that lacks it.
 --
 -- Member 1 runs transaction 1 and member 2 transaction 2. Row 7 was absent; transaction 1 has given it the value 5.
-use Rattle.std.specs.Prelude.{◌≡◌, ◌≢◌, ℕ, Bool, true, false, List, [], ◌∷◌, Option, Some, None, if◌then◌else◌, ◌==◌}
+use Rattle.std.specs.Prelude.{◌≡◌, ◌≢◌, ℕ, Bool, true, false, ◌&&◌, List, [], ◌∷◌, Option, Some, None, if◌then◌else◌, ◌==◌}
 use Rattle.row_protocol.specs.Functions.{put}
 use Rattle.row_protocol.specs.Rows.{Wrote, IsLegal, replay}
 use Rattle.row_protocol.specs.Log.{Change, logged}
-use Rattle.row_protocol.specs.Machine.{World, Mode, S, X, Forward, Undoing, on_disk, changed, got, decided, stopped, forced, reopened, group_failed, start}
+use Rattle.row_protocol.specs.Machine.{World, Mode, S, X, Forward, Undoing, on_disk, is_committed, row_now, changed, got, decided, stopped, undone, ended, forced, committed, failed, reopened, group_failed, start}
 use Rattle.row_protocol.specs.Moves.{IsAlone}
 use Rattle.row_protocol.specs.Legal.{Legal}
 
@@ -72,3 +72,28 @@ fallen = group_failed at_home change_on_disk 1
 pub record UndoBeforeReopenIsNeeded : Type 0 where
   pub legal : Legal at_home empty_rows fallen
   pub breaks : ReadsWrong (reopened fallen)
+
+-- ---- a refused transaction has ended only when its compensations are on disk
+-- The compensation is in the buffer. If the claims went now and the member failed, the change would stand again, with no
+-- transaction left that is to undo it.
+abbrev pub half_undone : World
+half_undone = undone (stopped change_on_disk 1) 1 7
+
+pub record UndoOnDiskIsNeeded : Type 0 where
+  pub legal : Legal at_home empty_rows half_undone
+  pub breaks : row_now empty_rows (failed at_home (ended half_undone 1) 1) 7 ≢ replay half_undone.history empty_rows 7
+
+-- ---- the rows of the logs need the logs of all members
+-- Transaction 1 has committed; transaction 2 has then given row 7 the value 6 and committed too.
+abbrev pub first_commit : World
+first_commit = committed at_home (decided changed_7 1) 1 2
+
+abbrev pub second_commit : World
+second_commit = committed at_home (decided (changed empty_rows (record first_commit { claim = only_claim 2 X }) 2 7 (Some 6)) 2) 2 4
+
+abbrev pub rows_of_member : ℕ → World → ℕ → Option ℕ
+rows_of_member m w r = logged (w.changes r) (λ t l. (at_home t == m) && on_disk at_home w t l) (λ t. is_committed at_home w t) None
+
+pub record AllLogsAreNeeded : Type 0 where
+  pub legal : Legal at_home empty_rows second_commit
+  pub breaks : rows_of_member 1 second_commit 7 ≢ replay second_commit.history empty_rows 7

@@ -8,7 +8,7 @@
 ghost use Rattle.row_protocol.specs.Claims.{LocksGiveAlone};
 ghost use Rattle.row_protocol.specs.Legal.{AlwaysLegal, KeepsLegal, StartsLegal};
 ghost use Rattle.row_protocol.specs.Ordered.{AlwaysOrdered, KeepsOrdered, LogsByLrsn, OneIsOpen, StartsOrdered, UndoSetsBack};
-ghost use Rattle.row_protocol.specs.Needed.{CommitRecordIsNeeded, StableBeforeReleaseIsNeeded, UndoBeforeReleaseIsNeeded, UndoBeforeReopenIsNeeded};
+ghost use Rattle.row_protocol.specs.Needed.{AllLogsAreNeeded, CommitRecordIsNeeded, StableBeforeReleaseIsNeeded, UndoBeforeReleaseIsNeeded, UndoBeforeReopenIsNeeded, UndoOnDiskIsNeeded};
 ghost use Rattle.row_protocol.specs.Example.{RunsThrough};
 ghost use Rattle.row_protocol.specs.Given.{AppendsStand, CommitsStay, HistoryGrows, HistoryIsLegal, LogsAreReplay, UndoneFirst};
 
@@ -36,14 +36,17 @@ pub fn gives()
     ensures undone_first { UndoneFirst }
 {}
 
-/// Four guards without which a read or the rows of the logs come to be wrong: a refused transaction's changes are
-/// undone before its claims go, a committing one's claims go after its commit record is on disk, the logs stand for
-/// transactions with a commit record alone, and after a group failure all else is undone before anyone begins.
+/// Six guards without which a read, a row or the rows of the logs come to be wrong: a refused transaction's changes are
+/// undone before its claims go, and on disk; a committing one's claims go after its commit record is on disk; the logs
+/// stand for transactions with a commit record alone, and only all logs together do; and after a group failure all
+/// that is open is undone before anyone begins.
 pub fn guards_are_needed()
     ensures undo_before_release { UndoBeforeReleaseIsNeeded }
     ensures stable_before_release { StableBeforeReleaseIsNeeded }
     ensures commit_record { CommitRecordIsNeeded }
     ensures undo_before_reopen { UndoBeforeReopenIsNeeded }
+    ensures undo_on_disk { UndoOnDiskIsNeeded }
+    ensures all_logs { AllLogsAreNeeded }
 {}
 
 /// In every state that moves lead to from the start each row's records stand in order: older ones below, of the same
