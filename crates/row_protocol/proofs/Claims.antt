@@ -1,5 +1,5 @@
 -- Locks that do not conflict give claims that are alone.
-use Rattle.std.proofs.Common.{◌≡◌, ℕ, refl, arith, true, Option, Some, None}
+use Rattle.std.proofs.Common.{◌≡◌, refl, arith, true, Option, Some, None}
 use Rattle.lock_names.specs.declared.mode.Mode as locks
 use Rattle.lock_names.specs.declared.mode.Mode.TheVariants as lock
 use Rattle.lock_names.specs.Modes.{are_compatible}

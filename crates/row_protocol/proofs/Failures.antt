@@ -1,12 +1,12 @@
 -- What failures keep.
-use Rattle.std.proofs.Common.{◌≡◌, ℕ, ◌+◌, ◌≤◌, ◌<◌, refl, sym, ◌∙◌, subst, arith, Bool, true, false, List, [], ◌∷◌, Option, Some, None, inl, inr}
-use Rattle.std.specs.Prelude.{◌≢◌, leb, not, ◌&&◌, ◌||◌, if◌then◌else◌, ◌==◌}
-use Rattle.row_protocol.specs.Rows.{rows_after, IsLegal, writes, touches, replay, IsLegalHistory}
-use Rattle.row_protocol.specs.Log.{Change, value, logged, has, is_top, all_stand, drawn_by, undone_by, all_undone_by, compensated, without, kept_mark}
-use Rattle.row_protocol.specs.Machine.{World, Mode, Stage, X, Waiting, Forward, Undoing, Ended, stage_after, is_committed, is_stable, is_done, is_ended, row_now, rows_of_logs, on_disk, cut_off, failed, group_failed}
+use Rattle.std.proofs.Common.{◌≡◌, ℕ, ◌≤◌, refl, sym, ◌∙◌, arith, Bool, true, false, Option, Some, None}
+use Rattle.std.specs.Prelude.{leb, not, ◌&&◌}
+use Rattle.row_protocol.specs.Rows.{rows_after, writes, touches, replay}
+use Rattle.row_protocol.specs.Log.{is_top, kept_mark}
+use Rattle.row_protocol.specs.Machine.{World, Stage, Waiting, Forward, Undoing, Ended, stage_after, is_committed, is_stable, is_done, is_ended, row_now, on_disk, cut_off, group_failed}
 use Rattle.row_protocol.specs.Legal.{Legal}
 use Rattle.row_protocol.proofs.Frames.{writes_touches}
-use Rattle.row_protocol.proofs.Lists.{plain, plain_agree, plain_without, top_without, value_without, has_without, stand_without, drawn_without, drawn_left, undone_without}
+use Rattle.row_protocol.proofs.Lists.{plain_agree, plain_without, top_without, value_without, has_without, stand_without, drawn_without, drawn_left, undone_without}
 use Rattle.row_protocol.proofs.Kept.{IsCovered, covered_now, plain_now, plain_stands, stands_from}
 
 -- ---- a commit record

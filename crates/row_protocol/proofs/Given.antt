@@ -1,13 +1,11 @@
 -- What the layers above get.
-use Rattle.std.proofs.Common.{◌≡◌, ℕ, refl, sym, ◌∙◌, ap, subst, arith, true, false, List, [], ◌∷◌, ◌++◌, append_assoc, Option}
-use Rattle.std.specs.Prelude.{◌≢◌, ◌==◌}
-use Rattle.std.proofs.lemmas.Bool.{cases_eq}
+use Rattle.std.proofs.Common.{◌≡◌, ℕ, refl, sym, ◌∙◌, ap, subst, arith, true, List, [], ◌∷◌, ◌++◌, append_assoc, Option}
+use Rattle.std.specs.Prelude.{◌==◌}
 use Rattle.row_protocol.specs.Rows.{Committed, replay}
-use Rattle.row_protocol.specs.Log.{has}
-use Rattle.row_protocol.specs.Machine.{World, is_committed, is_done, rows_of_logs, start, forced, committed}
-use Rattle.row_protocol.specs.Moves.{Move, Begin, Get, Put, Decide, Force, Commit, Stop, Undo, End, Claims, Fail, GroupFail, Reopen, Step, Run, IsAlone}
+use Rattle.row_protocol.specs.Machine.{World, is_committed, committed}
+use Rattle.row_protocol.specs.Moves.{Move, Begin, Get, Put, Decide, Force, Commit, Stop, Undo, End, Claims, Fail, GroupFail, Reopen, Step, Run}
 use Rattle.row_protocol.specs.Legal.{Legal}
-use Rattle.row_protocol.specs.Given.{HistoryIsLegal, LogsAreReplay, CommitsStay, HistoryGrows, NoOtherUses, UndoneFirst, is_append, IsAppend, appended, AppendsStand}
+use Rattle.row_protocol.specs.Given.{HistoryIsLegal, LogsAreReplay, CommitsStay, HistoryGrows, UndoneFirst, IsAppend, appended, AppendsStand}
 use Rattle.row_protocol.proofs.Kept.{decide_same, force_same, Commits, commit_same, commit_now}
 use Rattle.row_protocol.proofs.Failures.{cut_same}
 use Rattle.row_protocol.proofs.Runs.{kept_step, kept_run, always}

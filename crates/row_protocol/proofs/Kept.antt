@@ -1,15 +1,15 @@
 -- What each move keeps.
-use Rattle.std.proofs.Common.{◌≡◌, ℕ, ◌+◌, ◌≤◌, ◌<◌, refl, sym, ◌∙◌, subst, arith, Bool, true, false, List, [], ◌∷◌, Option, Some, None, inl, inr}
-use Rattle.std.specs.Prelude.{◌≢◌, leb, not, ◌&&◌, ◌||◌, if◌then◌else◌, ◌==◌}
+use Rattle.std.proofs.Common.{◌≡◌, ℕ, ◌+◌, ◌≤◌, ◌<◌, refl, sym, ◌∙◌, arith, true, false, List, [], Option, Some, None, inl, inr}
+use Rattle.std.specs.Prelude.{◌≢◌}
 use Rattle.std.proofs.lemmas.Bool.{cases_eq, cases_Bool, cond-true, cond-false, eq-eqb, ne_eqb}
 use Rattle.row_protocol.specs.Functions.{put}
-use Rattle.row_protocol.specs.Rows.{rows_after, IsLegal, writes, touches, replay, IsLegalHistory, is_listed, is_once}
-use Rattle.row_protocol.specs.Log.{Change, value, logged, has, is_top, all_stand, drawn_by, undone_by, all_undone_by, compensated, without}
-use Rattle.row_protocol.specs.Machine.{World, Mode, X, Waiting, Forward, Undoing, Ended, is_committed, is_stable, is_done, is_ended, row_now, rows_of_logs, on_disk, begun, got, changed, decided, forced, committed, stopped, undone, ended, failed, group_failed, reopened, start}
+use Rattle.row_protocol.specs.Rows.{rows_after, IsLegal, writes, touches, replay, is_listed}
+use Rattle.row_protocol.specs.Log.{Change, has, is_top, all_stand, drawn_by, all_undone_by}
+use Rattle.row_protocol.specs.Machine.{World, Mode, X, Waiting, Forward, Undoing, Ended, is_committed, is_stable, is_done, row_now, rows_of_logs, begun, got, changed, decided, forced, committed, stopped, undone, ended, reopened, start}
 use Rattle.row_protocol.specs.Moves.{IsAlone, NoCommit, NoOtherCommit, KeepsClaims}
 use Rattle.row_protocol.specs.Legal.{Legal}
 use Rattle.row_protocol.proofs.Frames.{after_unwritten, writes_touches, after_agree, legal_agree}
-use Rattle.row_protocol.proofs.Lists.{plain, whole, plain_agree, plain_compensated, plain_without, settled, top_plain, top_has, top_compensated, value_compensated, top_without, value_without, has_compensated, has_without, stand_compensated, stand_without, drawn_more, drawn_compensated, drawn_without, drawn_left, undone_more, undone_compensated, undone_without, none_stand}
+use Rattle.row_protocol.proofs.Lists.{plain, whole, plain_agree, plain_compensated, settled, top_plain, top_has, top_compensated, value_compensated, has_compensated, stand_compensated, drawn_more, drawn_compensated, undone_more, undone_compensated, none_stand}
 
 -- ---- the rows of the logs, by committed transactions alone
 abbrev pub plain_now : (ℕ → ℕ) → (ℕ → Option ℕ) → World → ℕ → Option ℕ

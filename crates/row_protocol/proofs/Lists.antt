@@ -1,7 +1,7 @@
 -- Laws of a row's records.
-use Rattle.std.proofs.Common.{◌≡◌, ℕ, ◌≤◌, ◌<◌, refl, sym, ◌∙◌, arith, Bool, true, false, List, [], ◌∷◌, Option, Some, None}
-use Rattle.std.specs.Prelude.{◌≢◌, not, leb, if◌then◌else◌, ◌||◌, ◌&&◌, ◌==◌}
-use Rattle.row_protocol.specs.Log.{Change, stands, value, logged, has, is_top, all_stand, drawn_by, undone_by, all_undone_by, compensated, kept_mark, without}
+use Rattle.std.proofs.Common.{◌≡◌, ℕ, ◌≤◌, refl, arith, Bool, true, false, List, [], ◌∷◌, Option, Some, None}
+use Rattle.std.specs.Prelude.{◌≢◌, leb, if◌then◌else◌}
+use Rattle.row_protocol.specs.Log.{Change, value, logged, has, is_top, all_stand, drawn_by, undone_by, all_undone_by, compensated, kept_mark, without}
 
 -- the value of the newest record of a committed transaction, on disk or not
 abbrev pub plain : List Change → (ℕ → Bool) → Option ℕ → Option ℕ

@@ -1,10 +1,10 @@
 -- The states that show the guards' need.
-use Rattle.std.proofs.Common.{◌≡◌, ℕ, arith, refl, true, false, Some, None}
+use Rattle.std.proofs.Common.{arith, refl, Some}
 use Rattle.row_protocol.specs.Rows.{replay}
-use Rattle.row_protocol.specs.Machine.{World, X, Forward, Waiting, decided, changed, stopped}
+use Rattle.row_protocol.specs.Machine.{World, X, decided, changed, stopped}
 use Rattle.row_protocol.specs.Moves.{IsAlone, KeepsClaims}
 use Rattle.row_protocol.specs.Legal.{Legal}
-use Rattle.row_protocol.specs.Needed.{at_home, empty_rows, only_claim, both_run, changed_7, refused, in_buffer, change_on_disk, fallen, UndoBeforeReleaseIsNeeded, StableBeforeReleaseIsNeeded, CommitRecordIsNeeded, UndoBeforeReopenIsNeeded, half_undone, first_commit, second_commit, UndoOnDiskIsNeeded, AllLogsAreNeeded}
+use Rattle.row_protocol.specs.Needed.{at_home, empty_rows, only_claim, both_run, changed_7, change_on_disk, UndoBeforeReleaseIsNeeded, StableBeforeReleaseIsNeeded, CommitRecordIsNeeded, UndoBeforeReopenIsNeeded, half_undone, first_commit, second_commit, UndoOnDiskIsNeeded, AllLogsAreNeeded}
 use Rattle.row_protocol.proofs.Kept.{kept_put, kept_decide, kept_stop, kept_force, kept_undo, kept_commit, kept_claims}
 use Rattle.row_protocol.proofs.Failures.{kept_group_failed}
 

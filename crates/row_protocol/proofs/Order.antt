@@ -1,7 +1,7 @@
 -- Laws of the order of a row's records.
-use Rattle.std.proofs.Common.{◌≡◌, ℕ, ◌≤◌, ◌<◌, refl, sym, ◌∙◌, arith, Bool, true, false, List, [], ◌∷◌, Option, Some, None, inl, inr}
-use Rattle.std.specs.Prelude.{◌≢◌, not, leb, ltb, if◌then◌else◌, ◌||◌, ◌&&◌, ◌==◌}
-use Rattle.std.proofs.lemmas.Bool.{cases_eq, cases_Bool}
+use Rattle.std.proofs.Common.{◌≡◌, ℕ, ◌≤◌, ◌<◌, refl, arith, Bool, true, false, List, [], ◌∷◌, Option, Some, None, inl, inr}
+use Rattle.std.specs.Prelude.{◌≢◌, not, ◌||◌, ◌&&◌, ◌==◌}
+use Rattle.std.proofs.lemmas.Bool.{cases_eq}
 use Rattle.row_protocol.specs.Log.{Change, stands, value, has, all_stand, drawn_by, undone_by, all_undone_by, compensated, kept_mark, without}
 use Rattle.row_protocol.specs.Ordered.{value_at, IsChained, mark_by, marks_by, marks_nest, fits_below, all_below, is_ordered, next_undo}
 
@@ -166,9 +166,9 @@ at_without [] c f lost v r n h w = refl
 at_without (d ∷ ds) c f lost v r n h w =
     let fits : fits_below d c f ≡ true = grind (arith, h) in
     at_step d ds lost c.lrsn v
-      (head_kept d c f lost r n fits (λ e. head_whole d ds lost (w d.tran e)))
-      (head_mark d c f lost r n fits (λ e. head_whole d ds lost (w d.tran e)))
-      (at_without ds c f lost v r n (grind (arith, h)) (λ u e. let k = w u e in grind (arith, k)))
+    (head_kept d c f lost r n fits (λ e. head_whole d ds lost (w d.tran e)))
+    (head_mark d c f lost r n fits (λ e. head_whole d ds lost (w d.tran e)))
+    (at_without ds c f lost v r n (grind (arith, h)) (λ u e. let k = w u e in grind (arith, k)))
 
 pub chained_without : (cs : List Change) (f : ℕ → Bool) (lost : ℕ → ℕ → Bool) (v : Option ℕ) → Rises lost → is_ordered cs f ≡ true → ((u : ℕ) → f u ≡ true → is_whole cs u lost ≡ true) → IsChained cs v → IsChained (without cs lost) v
 chained_without [] f lost v r o w h = tt

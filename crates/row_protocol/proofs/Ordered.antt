@@ -1,15 +1,14 @@
 -- Every run keeps the records of each row in order.
 use Rattle.std.proofs.Common.{◌≡◌, ℕ, ◌+◌, ◌≤◌, ◌<◌, refl, sym, ◌∙◌, subst, arith, Bool, true, false, List, [], ◌∷◌, Option, Some, None, inl, inr}
-use Rattle.std.specs.Prelude.{◌≢◌, not, ◌&&◌, ◌||◌, leb, if◌then◌else◌, ◌==◌}
+use Rattle.std.specs.Prelude.{◌≢◌, not, ◌&&◌, ◌==◌}
 use Rattle.std.proofs.lemmas.Bool.{cases_Bool}
-use Rattle.row_protocol.specs.Log.{Change, value, logged, has, all_stand, drawn_by, all_undone_by, compensated, without}
-use Rattle.row_protocol.specs.Machine.{World, X, Forward, Undoing, Ended, is_committed, is_done, is_ended, on_disk, row_now, rows_of_logs, changed, decided, forced, committed, undone, ended, cut_off, group_failed, start}
+use Rattle.row_protocol.specs.Log.{Change, value, logged, has, drawn_by, compensated, without}
+use Rattle.row_protocol.specs.Machine.{World, X, Undoing, is_committed, is_done, on_disk, row_now, changed, decided, forced, committed, undone, cut_off, group_failed, start}
 use Rattle.row_protocol.specs.Moves.{Move, Begin, Get, Put, Decide, Force, Commit, Stop, Undo, End, Claims, Fail, GroupFail, Reopen, Step, Run, IsAlone}
 use Rattle.row_protocol.specs.Legal.{Legal}
-use Rattle.row_protocol.specs.Ordered.{value_at, IsChained, marks_by, all_below, is_ordered, Ordered, AlwaysOrdered, OneIsOpen, next_undo, SetsBack, UndoSetsBack, IsIn, counts, LogsByLrsn}
-use Rattle.row_protocol.proofs.Lists.{drawn_compensated}
+use Rattle.row_protocol.specs.Ordered.{IsChained, marks_by, all_below, is_ordered, Ordered, AlwaysOrdered, OneIsOpen, UndoSetsBack, IsIn, LogsByLrsn}
 use Rattle.row_protocol.proofs.Kept.{kept_start, decide_same, force_same, Commits, commit_same, commit_now, covered_now}
-use Rattle.row_protocol.proofs.Failures.{cut_same, cut_done}
+use Rattle.row_protocol.proofs.Failures.{cut_done}
 use Rattle.row_protocol.proofs.Order.{Rises, is_whole, below_new, value_now, ordered_more, one_open, ordered_compensated, marks_more, marks_compensated, chained_compensated, undo_leaves, undo_finds, ordered_without, marks_without, marks_left, chained_without, whole_stand, whole_undone}
 use Rattle.row_protocol.proofs.Runs.{kept_step}
 

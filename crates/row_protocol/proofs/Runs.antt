@@ -1,5 +1,5 @@
 -- Every run keeps rows, logs and history legal.
-use Rattle.std.proofs.Common.{◌≡◌, ℕ, refl, sym, subst, List, [], ◌∷◌, Option}
+use Rattle.std.proofs.Common.{ℕ, refl, sym, subst, List, [], ◌∷◌, Option}
 use Rattle.std.specs.Prelude.{◌==◌}
 use Rattle.row_protocol.specs.Machine.{World, start}
 use Rattle.row_protocol.specs.Moves.{Move, Begin, Get, Put, Decide, Force, Commit, Stop, Undo, End, Claims, Fail, GroupFail, Reopen, Step, Run, IsAlone}

@@ -1,8 +1,8 @@
 -- A run, to see that the moves lead somewhere: a member fails with an open change on disk, its restart undoes it, and
 -- another transaction reads and changes the row and commits; then its member fails too, and nothing is lost.
-use Rattle.std.specs.Prelude.{◌≡◌, ℕ, List, [], ◌∷◌, Option, Some, None}
-use Rattle.row_protocol.specs.Rows.{Read, Wrote, Committed}
-use Rattle.row_protocol.specs.Machine.{World, X, S, row_now, rows_of_logs, begun, changed, got, decided, forced, committed, undone, ended, failed, start}
+use Rattle.std.specs.Prelude.{◌≡◌, List, [], ◌∷◌, Some, None}
+use Rattle.row_protocol.specs.Rows.{Read, Wrote}
+use Rattle.row_protocol.specs.Machine.{World, X, row_now, rows_of_logs, begun, changed, got, decided, forced, committed, undone, ended, failed, start}
 use Rattle.row_protocol.specs.Moves.{Move, Begin, Get, Put, Decide, Force, Commit, Undo, End, Claims, Fail, Run}
 use Rattle.row_protocol.specs.Needed.{at_home, empty_rows, only_claim}
 

@@ -1,5 +1,5 @@
 -- What the layers above get from it, each by itself.
-use Rattle.std.specs.Prelude.{◌≡◌, ◌≢◌, ℕ, Bool, true, false, List, [], ◌∷◌, ◌++◌, Option}
+use Rattle.std.specs.Prelude.{◌≡◌, ◌≢◌, ℕ, true, false, List, [], ◌∷◌, ◌++◌, Option}
 use Rattle.row_protocol.specs.Functions.{put}
 use Rattle.row_protocol.specs.Rows.{Op, Committed, replay, IsLegalHistory}
 use Rattle.row_protocol.specs.Log.{has}

@@ -1,5 +1,5 @@
 -- What holds of rows, logs and history after every move.
-use Rattle.std.specs.Prelude.{◌≡◌, ◌≢◌, ℕ, ◌≤◌, Bool, true, false, List, [], ◌∷◌, Option, Some, None}
+use Rattle.std.specs.Prelude.{◌≡◌, ◌≢◌, ℕ, ◌≤◌, true, false, List, Option, Some, None}
 use Rattle.row_protocol.specs.Rows.{rows_after, IsLegal, writes, touches, replay, IsLegalHistory, is_listed, is_once}
 use Rattle.row_protocol.specs.Log.{has, is_top, all_stand, drawn_by, all_undone_by}
 use Rattle.row_protocol.specs.Machine.{World, X, Waiting, Forward, Ended, is_committed, is_done, row_now, rows_of_logs, start}

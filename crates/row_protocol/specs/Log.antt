@@ -1,5 +1,5 @@
 -- The records of one row in the logs of all members, newest first, in falling LRSN.
-use Rattle.std.specs.Prelude.{◌≡◌, ℕ, Bool, true, false, ◌&&◌, ◌||◌, not, leb, ltb, List, [], ◌∷◌, Option, Some, None, if◌then◌else◌, ◌==◌}
+use Rattle.std.specs.Prelude.{ℕ, Bool, true, false, ◌&&◌, ◌||◌, not, leb, List, [], ◌∷◌, Option, Some, None, if◌then◌else◌, ◌==◌}
 
 -- A change of the row by a transaction, and the LRSN of the compensation record that undoes it where there is one. The
 -- compensation record has the change's value before it.

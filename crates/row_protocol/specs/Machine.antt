@@ -2,7 +2,7 @@
 --
 -- Each transaction runs at one member, its home, and has its records in that member's log. A log is on disk up to an
 -- LRSN; its records above it are in the member's buffer.
-use Rattle.std.specs.Prelude.{◌≡◌, ℕ, ◌+◌, Bool, true, false, ◌&&◌, ◌||◌, not, leb, ltb, List, [], ◌∷◌, Option, Some, None, if◌then◌else◌, ◌==◌}
+use Rattle.std.specs.Prelude.{ℕ, ◌+◌, Bool, true, false, ◌&&◌, ◌||◌, not, leb, List, [], ◌∷◌, Option, Some, None, if◌then◌else◌, ◌==◌}
 use Rattle.row_protocol.specs.Functions.{put}
 use Rattle.row_protocol.specs.Rows.{Op, Read, Wrote, Committed}
 use Rattle.row_protocol.specs.Log.{Change, value, logged, compensated, kept_mark, without}

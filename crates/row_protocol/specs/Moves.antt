@@ -1,6 +1,6 @@
 -- The moves of transactions and logs, each with what must hold before it.
-use Rattle.std.specs.Prelude.{◌≡◌, ◌≢◌, ℕ, ◌<◌, ◌≤◌, Bool, true, false, List, [], ◌∷◌, Option, Some, None}
-use Rattle.row_protocol.specs.Rows.{touches, writes}
+use Rattle.std.specs.Prelude.{◌≡◌, ◌≢◌, ℕ, ◌<◌, ◌≤◌, true, false, List, [], ◌∷◌, Option, Some, None}
+use Rattle.row_protocol.specs.Rows.{touches}
 use Rattle.row_protocol.specs.Log.{has, all_undone_by}
 use Rattle.row_protocol.specs.Machine.{World, Mode, X, Waiting, Forward, Undoing, is_done, begun, got, changed, decided, forced, committed, stopped, undone, ended, failed, group_failed, reopened}
 

@@ -1,11 +1,11 @@
 -- Guards without which a legal state is left: for each a state and a move that lacks it.
 --
 -- Member 1 runs transaction 1 and member 2 transaction 2. Row 7 was absent; transaction 1 has given it the value 5.
-use Rattle.std.specs.Prelude.{◌≡◌, ◌≢◌, ℕ, Bool, true, false, ◌&&◌, List, [], ◌∷◌, Option, Some, None, if◌then◌else◌, ◌==◌}
+use Rattle.std.specs.Prelude.{◌≢◌, ℕ, true, ◌&&◌, Option, Some, None, if◌then◌else◌, ◌==◌}
 use Rattle.row_protocol.specs.Functions.{put}
-use Rattle.row_protocol.specs.Rows.{Wrote, IsLegal, replay}
-use Rattle.row_protocol.specs.Log.{Change, logged}
-use Rattle.row_protocol.specs.Machine.{World, Mode, S, X, Forward, Undoing, on_disk, is_committed, row_now, changed, got, decided, stopped, undone, ended, forced, committed, failed, reopened, group_failed, start}
+use Rattle.row_protocol.specs.Rows.{IsLegal, replay}
+use Rattle.row_protocol.specs.Log.{logged}
+use Rattle.row_protocol.specs.Machine.{World, Mode, S, X, Forward, on_disk, is_committed, row_now, changed, got, decided, stopped, undone, ended, forced, committed, failed, reopened, group_failed, start}
 use Rattle.row_protocol.specs.Moves.{IsAlone}
 use Rattle.row_protocol.specs.Legal.{Legal}
 

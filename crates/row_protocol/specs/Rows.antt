@@ -2,7 +2,7 @@
 --
 -- Rows, transactions and members are numbers; a row is absent or has a value. A list of operations and a history stand
 -- newest first.
-use Rattle.std.specs.Prelude.{◌≡◌, ℕ, Bool, true, false, ◌&&◌, ◌||◌, not, List, [], ◌∷◌, Option, if◌then◌else◌, ◌==◌}
+use Rattle.std.specs.Prelude.{◌≡◌, ℕ, Bool, true, false, ◌&&◌, ◌||◌, not, List, [], ◌∷◌, Option, ◌==◌}
 use Rattle.row_protocol.specs.Functions.{put}
 
 pub data Op : Type 0 where
