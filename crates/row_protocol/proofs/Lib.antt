@@ -6,6 +6,7 @@ pub mod Failures
 pub mod Runs
 pub mod Order
 pub mod Ordered
+pub mod Opening
 pub mod Given
 pub mod Needed
 pub mod Example

@@ -128,7 +128,7 @@ keeps_step home opening w v Reopen s o alone st = subst (Ordered home opening) (
 pub keeps_start : (home : ℕ → ℕ) (opening : ℕ → Option ℕ) → Ordered home opening start
 keeps_start home opening = grind arith
 
-keeps_run : (home : ℕ → ℕ) (opening : ℕ → Option ℕ) (es : List Move) (w v : World) → Legal home opening w → Ordered home opening w → IsAlone w.claim → Run home opening w es v → Ordered home opening v
+pub keeps_run : (home : ℕ → ℕ) (opening : ℕ → Option ℕ) (es : List Move) (w v : World) → Legal home opening w → Ordered home opening w → IsAlone w.claim → Run home opening w es v → Ordered home opening v
 keeps_run home opening [] w v s o alone run = subst (Ordered home opening) (sym run) o
 keeps_run home opening (e ∷ es) w v s o alone run = keeps_run home opening es run.0 v (kept_step home opening w run.0 e s alone run.1) (keeps_step home opening w run.0 e s o alone run.1) run.2 run.3
 

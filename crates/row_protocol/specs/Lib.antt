@@ -6,6 +6,7 @@ pub mod Moves
 pub mod Claims
 pub mod Legal
 pub mod Ordered
+pub mod Opening
 pub mod Given
 pub mod Needed
 pub mod Example

@@ -8,6 +8,7 @@
 ghost use Rattle.row_protocol.specs.Claims.{LocksGiveAlone};
 ghost use Rattle.row_protocol.specs.Legal.{AlwaysLegal, KeepsLegal, StartsLegal};
 ghost use Rattle.row_protocol.specs.Ordered.{AlwaysOrdered, KeepsOrdered, LogsByLrsn, OneIsOpen, StartsOrdered, UndoSetsBack};
+ghost use Rattle.row_protocol.specs.Opening.{AlwaysFromOpening, OpensLegal};
 ghost use Rattle.row_protocol.specs.Needed.{AllLogsAreNeeded, CommitRecordIsNeeded, StableBeforeReleaseIsNeeded, UndoBeforeReleaseIsNeeded, UndoBeforeReopenIsNeeded, UndoOnDiskIsNeeded};
 ghost use Rattle.row_protocol.specs.Example.{RunsThrough};
 ghost use Rattle.row_protocol.specs.Given.{AppendsStand, CommitsStay, HistoryGrows, HistoryIsLegal, LogsAreReplay, UndoneFirst};
@@ -21,6 +22,13 @@ pub fn legal_history()
 pub fn keeps_legal()
     ensures start { StartsLegal }
     ensures step { KeepsLegal }
+{}
+
+/// A run may open with changes that earlier runs left open on a sound disk: group restart undoes them before anyone
+/// begins, and all that is said of runs from the start holds of runs from there.
+pub fn opens_on_sound_disk()
+    ensures opens { OpensLegal }
+    ensures always { AlwaysFromOpening }
 {}
 
 /// What the layers above get. In every state that moves lead to from the start the history is legal, and the rows of
