@@ -70,7 +70,7 @@ not_hit home w fails t l h = grind arith
 pub cut_same : (home : ℕ → ℕ) (w : World) (fails : ℕ → Bool) (u : ℕ) → is_committed home (cut_off home w fails) u ≡ is_committed home w u
 cut_same home w fails u = let k = kept_stable (w.commit u) (w.flushed (home u)) in grind (arith, k)
 
-cut_commit : (home : ℕ → ℕ) (w : World) (fails : ℕ → Bool) (t l : ℕ) → (cut_off home w fails).commit t ≡ Some l → w.commit t ≡ Some l
+pub cut_commit : (home : ℕ → ℕ) (w : World) (fails : ℕ → Bool) (t l : ℕ) → (cut_off home w fails).commit t ≡ Some l → w.commit t ≡ Some l
 cut_commit home w fails t l = let k = kept_some (w.commit t) (λ l. not (on_disk home w t l)) l in grind (arith, k)
 
 cut_deciding : (home : ℕ → ℕ) (opening : ℕ → Option ℕ) (w : World) (fails : ℕ → Bool) → Legal home opening w → (t l : ℕ) → (cut_off home w fails).commit t ≡ Some l → (cut_off home w fails).stage t ≡ Forward

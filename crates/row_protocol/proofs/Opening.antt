@@ -1,13 +1,12 @@
 -- A sound disk opens well.
-use Rattle.std.proofs.Common.{◌≡◌, ℕ, refl, arith, Bool, true, false, List, [], ◌∷◌, Option}
-use Rattle.std.specs.Prelude.{◌&&◌}
+use Rattle.std.proofs.Common.{◌≡◌, ℕ, refl, arith, Bool, false, List, [], ◌∷◌, Option}
 use Rattle.row_protocol.specs.Rows.{replay}
-use Rattle.row_protocol.specs.Log.{Change, logged, has}
-use Rattle.row_protocol.specs.Machine.{is_committed, is_done, on_disk, rows_of_logs}
+use Rattle.row_protocol.specs.Log.{Change, logged}
+use Rattle.row_protocol.specs.Machine.{on_disk}
 use Rattle.row_protocol.specs.Legal.{Legal}
 use Rattle.row_protocol.specs.Ordered.{Ordered}
 use Rattle.row_protocol.specs.Opening.{Found, opened, IsSound, OpensLegal, AlwaysFromOpening}
-use Rattle.row_protocol.proofs.Order.{ordered_more}
+use Rattle.row_protocol.proofs.Order.{after_none, ordered_more}
 use Rattle.row_protocol.proofs.Ordered.{keeps_run}
 use Rattle.row_protocol.proofs.Runs.{kept_run}
 
@@ -42,7 +41,7 @@ opens_legal home opening f s = record {
 }
 
 opens_ordered : (home : ℕ → ℕ) (opening : ℕ → Option ℕ) (f : Found) → IsSound opening f → Ordered home opening (opened f)
-opens_ordered home opening f s = record { ordered = λ r. ordered_more (f.changes r) _ _ (λ u h. cc) (s.ordered r); marked = s.marked; chained = s.chained }
+opens_ordered home opening f s = record { ordered = λ r. ordered_more (f.changes r) _ _ (λ u h. cc) (s.ordered r); after_commits = λ r. after_none (f.changes r); marked = s.marked; chained = s.chained }
 
 pub opens : OpensLegal
 opens home opening f s = record { legal = opens_legal home opening f s; in_order = opens_ordered home opening f s; alone = λ t u r ne h. refl }

@@ -2,8 +2,9 @@
 use Rattle.std.proofs.Common.{◌≡◌, ℕ, ◌≤◌, ◌<◌, refl, arith, Bool, true, false, List, [], ◌∷◌, Option, Some, None, inl, inr}
 use Rattle.std.specs.Prelude.{◌≢◌, not, ◌||◌, ◌&&◌, ◌==◌}
 use Rattle.std.proofs.lemmas.Bool.{cases_eq}
+use Rattle.row_protocol.specs.Functions.{put}
 use Rattle.row_protocol.specs.Log.{Change, stands, value, has, all_stand, drawn_by, undone_by, all_undone_by, compensated, kept_mark, without}
-use Rattle.row_protocol.specs.Ordered.{value_at, IsChained, mark_by, marks_by, marks_nest, fits_below, all_below, is_ordered, next_undo}
+use Rattle.row_protocol.specs.Ordered.{value_at, IsChained, mark_by, marks_by, marks_nest, fits_below, all_below, is_ordered, next_undo, is_before, follows_commits, is_after_commits}
 
 abbrev pub Drawn : List Change → ℕ → Type 0
 Drawn cs n = (u : ℕ) → drawn_by cs u n ≡ true
@@ -70,12 +71,9 @@ at_compensated : (cs : List Change) (t l k : ℕ) (v : Option ℕ) → k < l →
 at_compensated [] t l k v lt = refl
 at_compensated (c ∷ cs) t l k v lt = let ih = at_compensated cs t l k v lt in grind (arith, ih)
 
-chain_marked : (cs : List Change) (t l n : ℕ) (v : Option ℕ) → n < l → Drawn cs n → IsChained cs v → IsChained (compensated cs t l) v
-chain_marked [] t l n v lt d h = tt
-chain_marked (c ∷ cs) t l n v lt d h = let ih = chain_marked cs t l n v lt (drawn_tail c cs n d) h.1 in let k = drawn_head c cs n d in let a = at_compensated cs t l c.lrsn v in grind (arith, ih, k, a, h)
-
 pub chained_compensated : (cs : List Change) (t l n : ℕ) (v : Option ℕ) → n < l → Drawn cs n → IsChained cs v → IsChained (compensated cs t l) v
-chained_compensated cs t l n v lt d h = chain_marked cs t l n v lt d h
+chained_compensated [] t l n v lt d h = tt
+chained_compensated (c ∷ cs) t l n v lt d h = let ih = chained_compensated cs t l n v lt (drawn_tail c cs n d) h.1 in let k = drawn_head c cs n d in let a = at_compensated cs t l c.lrsn v in grind (arith, ih, k, a, h)
 
 next_has : (cs : List Change) (t : ℕ) (c : Change) → next_undo cs t ≡ Some c → has cs t ≡ true
 next_has [] t c e = cc
@@ -189,3 +187,52 @@ mark_undone (Some l) b lost k h = let a = k l in grind (arith, a)
 pub whole_undone : (cs : List Change) (u b : ℕ) (lost : ℕ → ℕ → Bool) → ((l : ℕ) → l ≤ b → lost u l ≡ false) → all_undone_by cs u b ≡ true → is_whole cs u lost ≡ true
 whole_undone [] u b lost k h = refl
 whole_undone (c ∷ cs) u b lost k h = let ih = whole_undone cs u b lost k in let a = k c.lrsn in let m = mark_undone c.undone b (lost u) k in grind (arith, ih, a, m)
+
+-- ---- commits
+before_later : (m : Option ℕ) (n l : ℕ) → n < l → ((k : ℕ) → m ≡ Some k → k ≤ n) → is_before m l ≡ true
+before_later None n l lt h = refl
+before_later (Some k) n l lt h = let a = h k refl in grind (arith, a)
+
+pub follows_new : (cs : List Change) (c : Change) (commit : ℕ → Option ℕ) (n : ℕ) → n < c.lrsn → ((u k : ℕ) → commit u ≡ Some k → k ≤ n) → follows_commits cs c commit ≡ true
+follows_new [] c commit n lt h = refl
+follows_new (d ∷ ds) c commit n lt h = let ih = follows_new ds c commit n lt h in let a = before_later (commit d.tran) n c.lrsn lt (h d.tran) in grind (arith, ih, a)
+
+follows_decided : (cs : List Change) (c : Change) (f : ℕ → Bool) (commit : ℕ → Option ℕ) (t l : ℕ) → f t ≡ false → all_below cs c f ≡ true → follows_commits cs c commit ≡ true → follows_commits cs c (put commit t (Some l)) ≡ true
+follows_decided [] c f commit t l bad h k = refl
+follows_decided (d ∷ ds) c f commit t l bad h k = let ih = follows_decided ds c f commit t l bad in grind (arith, ih)
+
+pub after_decided : (cs : List Change) (f : ℕ → Bool) (commit : ℕ → Option ℕ) (t l : ℕ) → f t ≡ false → is_ordered cs f ≡ true → is_after_commits cs commit ≡ true → is_after_commits cs (put commit t (Some l)) ≡ true
+after_decided [] f commit t l bad h k = refl
+after_decided (c ∷ cs) f commit t l bad h k = let ih = after_decided cs f commit t l bad in let a = follows_decided cs c f commit t l bad in grind (arith, ih, a)
+
+follows_compensated : (cs : List Change) (c : Change) (commit : ℕ → Option ℕ) (t l : ℕ) → follows_commits (compensated cs t l) c commit ≡ follows_commits cs c commit
+follows_compensated [] c commit t l = refl
+follows_compensated (d ∷ ds) c commit t l = let ih = follows_compensated ds c commit t l in grind (arith, ih)
+
+follows_marked : (cs : List Change) (c : Change) (commit : ℕ → Option ℕ) (m : Option ℕ) → follows_commits cs (record c { undone = m }) commit ≡ follows_commits cs c commit
+follows_marked [] c commit m = refl
+follows_marked (d ∷ ds) c commit m = let ih = follows_marked ds c commit m in grind (arith, ih)
+
+pub after_compensated : (cs : List Change) (commit : ℕ → Option ℕ) (t l : ℕ) → is_after_commits cs commit ≡ true → is_after_commits (compensated cs t l) commit ≡ true
+after_compensated [] commit t l h = refl
+after_compensated (c ∷ cs) commit t l h = let ih = after_compensated cs commit t l in let a = follows_compensated cs c commit t l in let b = follows_marked cs c commit (Some l) in grind (arith, ih, a, b)
+
+before_less : (a b : Option ℕ) (n : ℕ) → ((l : ℕ) → a ≡ Some l → b ≡ Some l) → is_before b n ≡ true → is_before a n ≡ true
+before_less None b n h k = refl
+before_less (Some l) b n h k = let e = h l refl in grind (arith, e, k)
+
+follows_without : (cs : List Change) (c : Change) (lost : ℕ → ℕ → Bool) (commit left : ℕ → Option ℕ) → ((u l : ℕ) → left u ≡ Some l → commit u ≡ Some l) → follows_commits cs c commit ≡ true → follows_commits (without cs lost) c left ≡ true
+follows_without [] c lost commit left h k = refl
+follows_without (d ∷ ds) c lost commit left h k = let ih = follows_without ds c lost commit left h in let a = before_less (left d.tran) (commit d.tran) c.lrsn (h d.tran) in grind (arith, ih, a)
+
+pub after_without : (cs : List Change) (lost : ℕ → ℕ → Bool) (commit left : ℕ → Option ℕ) → ((u l : ℕ) → left u ≡ Some l → commit u ≡ Some l) → is_after_commits cs commit ≡ true → is_after_commits (without cs lost) left ≡ true
+after_without [] lost commit left h k = refl
+after_without (c ∷ cs) lost commit left h k = let ih = after_without cs lost commit left h in let a = follows_without cs c lost commit left h in let b = follows_marked (without cs lost) c left (kept_mark c.undone (lost c.tran)) in grind (arith, ih, a, b)
+
+follows_none : (cs : List Change) (c : Change) → follows_commits cs c (λ t. None) ≡ true
+follows_none [] c = refl
+follows_none (d ∷ ds) c = let ih = follows_none ds c in grind (arith, ih)
+
+pub after_none : (cs : List Change) → is_after_commits cs (λ t. None) ≡ true
+after_none [] = refl
+after_none (c ∷ cs) = let ih = after_none cs in let a = follows_none cs c in grind (arith, ih, a)

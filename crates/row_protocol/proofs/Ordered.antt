@@ -3,13 +3,13 @@ use Rattle.std.proofs.Common.{◌≡◌, ℕ, ◌+◌, ◌≤◌, ◌<◌, refl,
 use Rattle.std.specs.Prelude.{◌≢◌, not, ◌&&◌, ◌==◌}
 use Rattle.std.proofs.lemmas.Bool.{cases_Bool}
 use Rattle.row_protocol.specs.Log.{Change, value, logged, has, drawn_by, compensated, without}
-use Rattle.row_protocol.specs.Machine.{World, X, Undoing, is_committed, is_done, on_disk, row_now, changed, decided, forced, committed, undone, cut_off, group_failed, start}
+use Rattle.row_protocol.specs.Machine.{World, X, Forward, Undoing, is_committed, is_done, on_disk, row_now, changed, decided, forced, committed, undone, cut_off, group_failed, start}
 use Rattle.row_protocol.specs.Moves.{Move, Begin, Get, Put, Decide, Force, Commit, Stop, Undo, End, Claims, Fail, GroupFail, Reopen, Step, Run, IsAlone}
 use Rattle.row_protocol.specs.Legal.{Legal}
-use Rattle.row_protocol.specs.Ordered.{IsChained, marks_by, all_below, is_ordered, Ordered, AlwaysOrdered, OneIsOpen, UndoSetsBack, IsIn, LogsByLrsn}
+use Rattle.row_protocol.specs.Ordered.{is_after_commits, IsChained, marks_by, all_below, is_ordered, Ordered, AlwaysOrdered, OneIsOpen, UndoSetsBack, IsIn, LogsByLrsn}
 use Rattle.row_protocol.proofs.Kept.{kept_start, decide_same, force_same, Commits, commit_same, commit_now, covered_now}
-use Rattle.row_protocol.proofs.Failures.{cut_done}
-use Rattle.row_protocol.proofs.Order.{Rises, is_whole, below_new, value_now, ordered_more, one_open, ordered_compensated, marks_more, marks_compensated, chained_compensated, undo_leaves, undo_finds, ordered_without, marks_without, marks_left, chained_without, whole_stand, whole_undone}
+use Rattle.row_protocol.proofs.Failures.{cut_commit, cut_done}
+use Rattle.row_protocol.proofs.Order.{follows_new, after_decided, after_compensated, after_without, Rises, is_whole, below_new, value_now, ordered_more, one_open, ordered_compensated, marks_more, marks_compensated, chained_compensated, undo_leaves, undo_finds, ordered_without, marks_without, marks_left, chained_without, whole_stand, whole_undone}
 use Rattle.row_protocol.proofs.Runs.{kept_step}
 
 -- ---- a change
@@ -27,8 +27,13 @@ put_marked w opening t r x h q = let k = marks_more (w.changes q) w.counter (w.c
 put_chained : (w : World) (opening : ℕ → Option ℕ) (t r : ℕ) (x : Option ℕ) → ((q : ℕ) → marks_by (w.changes q) w.counter ≡ true) → ((q : ℕ) → IsChained (w.changes q) (opening q)) → (q : ℕ) → IsChained ((changed opening w t r x).changes q) (opening q)
 put_chained w opening t r x m h q = let v = value_now (w.changes r) w.counter (w.counter + 1) (opening r) (m r) (omega arith) in let k = h q in let e = h r in grind (arith, v, k, e)
 
+put_after : (home : ℕ → ℕ) (opening : ℕ → Option ℕ) (w : World) (t r : ℕ) (x : Option ℕ) → Legal home opening w → Ordered home opening w → (q : ℕ) → is_after_commits ((changed opening w t r x).changes q) w.commit ≡ true
+put_after home opening w t r x s o q =
+    let b = follows_new (w.changes r) (record { lrsn = w.counter + 1; tran = t; before = row_now opening w r; after = x; undone = None }) w.commit w.counter (omega arith) s.decided in
+    let k = o.after_commits q in let e = o.after_commits r in grind (arith, b, k, e)
+
 pub keeps_put : (home : ℕ → ℕ) (opening : ℕ → Option ℕ) (w : World) (t r : ℕ) (x : Option ℕ) → Legal home opening w → Ordered home opening w → IsAlone w.claim → w.down ≡ false → w.claim t r ≡ Some X → Ordered home opening (changed opening w t r x)
-keeps_put home opening w t r x s o alone up mine = record { ordered = put_ordered home opening w t r x s o alone up mine; marked = put_marked w opening t r x o.marked; chained = put_chained w opening t r x o.marked o.chained }
+keeps_put home opening w t r x s o alone up mine = record { ordered = put_ordered home opening w t r x s o alone up mine; after_commits = put_after home opening w t r x s o; marked = put_marked w opening t r x o.marked; chained = put_chained w opening t r x o.marked o.chained }
 
 -- ---- more transactions are done, or LRSNs drawn
 abbrev Done : (ℕ → ℕ) → World → World → Type 0
@@ -43,18 +48,22 @@ force_done home w m l same u = let e = same u in grind (arith, e)
 commit_done : (home : ℕ → ℕ) (w : World) (t l : ℕ) → Commits home w t l → Done home w (committed home w t l)
 commit_done home w t l g u = let e = commit_now home w t l g in let n = commit_same home w t l g u in grind (arith, e, n)
 
-pub keeps_decide : (home : ℕ → ℕ) (opening : ℕ → Option ℕ) (w : World) (t : ℕ) → Legal home opening w → Ordered home opening w → w.commit t ≡ None → Ordered home opening (decided w t)
-keeps_decide home opening w t s o bare = record { ordered = λ r. ordered_more (w.changes r) _ _ (decide_done home opening w t s bare) (o.ordered r); marked = λ r. marks_more (w.changes r) w.counter (w.counter + 1) (omega arith) (o.marked r); chained = o.chained }
+forward_open : (home : ℕ → ℕ) (w : World) (t : ℕ) → w.stage t ≡ Forward → w.commit t ≡ None → is_done home w t ≡ false
+forward_open home w t go bare = grind (arith, go, bare)
+
+pub keeps_decide : (home : ℕ → ℕ) (opening : ℕ → Option ℕ) (w : World) (t : ℕ) → Legal home opening w → Ordered home opening w → w.stage t ≡ Forward → w.commit t ≡ None → Ordered home opening (decided w t)
+keeps_decide home opening w t s o go bare = record { ordered = λ r. ordered_more (w.changes r) _ _ (decide_done home opening w t s bare) (o.ordered r); after_commits = λ r. after_decided (w.changes r) (λ u. is_done home w u) w.commit t (w.counter + 1) (forward_open home w t go bare) (o.ordered r) (o.after_commits r); marked = λ r. marks_more (w.changes r) w.counter (w.counter + 1) (omega arith) (o.marked r); chained = o.chained }
 
 pub keeps_force : (home : ℕ → ℕ) (opening : ℕ → Option ℕ) (w : World) (m l : ℕ) → Ordered home opening w → ((u : ℕ) → is_committed home (forced w m l) u ≡ is_committed home w u) → Ordered home opening (forced w m l)
-keeps_force home opening w m l o same = record { ordered = λ r. ordered_more (w.changes r) _ _ (force_done home w m l same) (o.ordered r); marked = o.marked; chained = o.chained }
+keeps_force home opening w m l o same = record { ordered = λ r. ordered_more (w.changes r) _ _ (force_done home w m l same) (o.ordered r); after_commits = o.after_commits; marked = o.marked; chained = o.chained }
 
 pub keeps_commit : (home : ℕ → ℕ) (opening : ℕ → Option ℕ) (w : World) (t l : ℕ) → Ordered home opening w → Commits home w t l → Ordered home opening (committed home w t l)
-keeps_commit home opening w t l o g = record { ordered = λ r. ordered_more (w.changes r) _ _ (commit_done home w t l g) (o.ordered r); marked = o.marked; chained = o.chained }
+keeps_commit home opening w t l o g = record { ordered = λ r. ordered_more (w.changes r) _ _ (commit_done home w t l g) (o.ordered r); after_commits = o.after_commits; marked = o.marked; chained = o.chained }
 
 -- the stages have changed, and those that had ended still have
-pub keeps_stages : (home : ℕ → ℕ) (opening : ℕ → Option ℕ) (w v : World) → Ordered home opening w → Done home w v → v.changes ≡ w.changes → v.counter ≡ w.counter → Ordered home opening v
-keeps_stages home opening w v o done e k = record {
+pub keeps_stages : (home : ℕ → ℕ) (opening : ℕ → Option ℕ) (w v : World) → Ordered home opening w → Done home w v → v.changes ≡ w.changes → v.counter ≡ w.counter → v.commit ≡ w.commit → Ordered home opening v
+keeps_stages home opening w v o done e k m = record {
+  after_commits = λ r. subst (λ c. is_after_commits (c r) v.commit ≡ true) (sym e) (subst (λ c. is_after_commits (w.changes r) c ≡ true) (sym m) (o.after_commits r));
   ordered = λ r. subst (λ c. is_ordered (c r) (λ u. is_done home v u) ≡ true) (sym e) (ordered_more (w.changes r) _ _ done (o.ordered r));
   marked = λ r. subst (λ c. marks_by (c r) v.counter ≡ true) (sym e) (subst (λ n. marks_by (w.changes r) n ≡ true) (sym k) (o.marked r));
   chained = λ r. subst (λ c. IsChained (c r) (opening r)) (sym e) (o.chained r);
@@ -73,8 +82,11 @@ undo_marked w t r h q = let k = marks_more (w.changes q) w.counter (w.counter + 
 undo_chained : (w : World) (opening : ℕ → Option ℕ) (t r : ℕ) → ((u q : ℕ) → drawn_by (w.changes q) u w.counter ≡ true) → ((q : ℕ) → IsChained (w.changes q) (opening q)) → (q : ℕ) → IsChained ((undone w t r).changes q) (opening q)
 undo_chained w opening t r d h q = let k = h q in let e = chained_compensated (w.changes q) t (w.counter + 1) w.counter (opening q) (omega arith) (λ u. d u q) k in grind (arith, k, e)
 
+undo_after : (w : World) (t r : ℕ) → ((q : ℕ) → is_after_commits (w.changes q) w.commit ≡ true) → (q : ℕ) → is_after_commits ((undone w t r).changes q) w.commit ≡ true
+undo_after w t r h q = let k = h q in let e = after_compensated (w.changes q) w.commit t (w.counter + 1) k in grind (arith, k, e)
+
 pub keeps_undo : (home : ℕ → ℕ) (opening : ℕ → Option ℕ) (w : World) (t r : ℕ) → Legal home opening w → Ordered home opening w → w.stage t ≡ Undoing → Ordered home opening (undone w t r)
-keeps_undo home opening w t r s o back = record { ordered = undo_ordered home opening w t r o (undoing_open home opening w t s back); marked = undo_marked w t r o.marked; chained = undo_chained w opening t r s.drawn o.chained }
+keeps_undo home opening w t r s o back = record { ordered = undo_ordered home opening w t r o (undoing_open home opening w t s back); after_commits = undo_after w t r o.after_commits; marked = undo_marked w t r o.marked; chained = undo_chained w opening t r s.drawn o.chained }
 
 -- ---- failures
 abbrev lost_of : (ℕ → ℕ) → World → (ℕ → Bool) → ℕ → ℕ → Bool
@@ -95,6 +107,7 @@ cut_more home w fails u h = cut_done home w fails u ∙ h
 pub keeps_cut : (home : ℕ → ℕ) (opening : ℕ → Option ℕ) (w : World) (fails : ℕ → Bool) → Legal home opening w → Ordered home opening w → Ordered home opening (cut_off home w fails)
 keeps_cut home opening w fails s o = record {
   ordered = λ r. ordered_more (without (w.changes r) (lost_of home w fails)) _ _ (cut_more home w fails) (ordered_without (w.changes r) (λ u. is_done home w u) (lost_of home w fails) (rises home w fails) (o.ordered r));
+  after_commits = λ r. after_without (w.changes r) (lost_of home w fails) w.commit (cut_off home w fails).commit (λ u l e. cut_commit home w fails u l e) (o.after_commits r);
   marked = λ r. marks_without (w.changes r) (lost_of home w fails) w.counter (o.marked r);
   chained = λ r. chained_without (w.changes r) (λ u. is_done home w u) (lost_of home w fails) (opening r) (rises home w fails) (o.ordered r) (done_whole home opening w fails r s) (o.chained r);
 }
@@ -105,25 +118,26 @@ left_below home w counter h t l e = let f = h (home t) in grind (arith, f, e)
 pub keeps_group_failed : (home : ℕ → ℕ) (opening : ℕ → Option ℕ) (w : World) (counter : ℕ) → Legal home opening w → Ordered home opening w → ((m : ℕ) → w.flushed m ≤ counter) → Ordered home opening (group_failed home w counter)
 keeps_group_failed home opening w counter s o top = let k : Ordered home opening (cut_off home w (λ k. true)) = keeps_cut home opening w (λ k. true) s o in record {
   ordered = k.ordered;
+  after_commits = k.after_commits;
   marked = λ r. marks_left (w.changes r) (lost_of home w (λ k. true)) counter (left_below home w counter top);
   chained = k.chained;
 }
 
 -- ---- all moves
 pub keeps_step : (home : ℕ → ℕ) (opening : ℕ → Option ℕ) (w v : World) (e : Move) → Legal home opening w → Ordered home opening w → IsAlone w.claim → Step home opening w e v → Ordered home opening v
-keeps_step home opening w v (Begin t) s o alone st = subst (Ordered home opening) (sym st.2) (keeps_stages home opening w _ o (let wait = st.1 in grind (arith, wait)) refl refl)
-keeps_step home opening w v (Get t r) s o alone st = subst (Ordered home opening) (sym st.4) (record { ordered = o.ordered; marked = o.marked; chained = o.chained })
+keeps_step home opening w v (Begin t) s o alone st = subst (Ordered home opening) (sym st.2) (keeps_stages home opening w _ o (let wait = st.1 in grind (arith, wait)) refl refl refl)
+keeps_step home opening w v (Get t r) s o alone st = subst (Ordered home opening) (sym st.4) (record { ordered = o.ordered; after_commits = o.after_commits; marked = o.marked; chained = o.chained })
 keeps_step home opening w v (Put t r x) s o alone st = subst (Ordered home opening) (sym st.4) (keeps_put home opening w t r x s o alone st.0 st.3)
-keeps_step home opening w v (Decide t) s o alone st = subst (Ordered home opening) (sym st.2) (keeps_decide home opening w t s o st.1)
+keeps_step home opening w v (Decide t) s o alone st = subst (Ordered home opening) (sym st.2) (keeps_decide home opening w t s o st.0 st.1)
 keeps_step home opening w v (Force m l) s o alone st = subst (Ordered home opening) (sym st.3) (keeps_force home opening w m l o (force_same home w m l st.0 st.2))
 keeps_step home opening w v (Commit t l) s o alone st = subst (Ordered home opening) (sym st.3) (keeps_commit home opening w t l o (record { record_at = st.0; above = st.1; alone = st.2 }))
-keeps_step home opening w v (Stop t) s o alone st = subst (Ordered home opening) (sym st.2) (keeps_stages home opening w _ o (let go = st.0 in grind (arith, go)) refl refl)
+keeps_step home opening w v (Stop t) s o alone st = subst (Ordered home opening) (sym st.2) (keeps_stages home opening w _ o (let go = st.0 in grind (arith, go)) refl refl refl)
 keeps_step home opening w v (Undo t r) s o alone st = subst (Ordered home opening) (sym st.1) (keeps_undo home opening w t r s o st.0)
-keeps_step home opening w v (End t) s o alone st = subst (Ordered home opening) (sym st.2) (keeps_stages home opening w _ o (let back = st.0 in grind (arith, back)) refl refl)
-keeps_step home opening w v (Claims claim) s o alone st = subst (Ordered home opening) (sym st.2) (record { ordered = o.ordered; marked = o.marked; chained = o.chained })
+keeps_step home opening w v (End t) s o alone st = subst (Ordered home opening) (sym st.2) (keeps_stages home opening w _ o (let back = st.0 in grind (arith, back)) refl refl refl)
+keeps_step home opening w v (Claims claim) s o alone st = subst (Ordered home opening) (sym st.2) (record { ordered = o.ordered; after_commits = o.after_commits; marked = o.marked; chained = o.chained })
 keeps_step home opening w v (Fail m) s o alone st = subst (Ordered home opening) (sym st) (keeps_cut home opening w (λ k. k == m) s o)
 keeps_step home opening w v (GroupFail counter) s o alone st = subst (Ordered home opening) (sym st.1) (keeps_group_failed home opening w counter s o st.0)
-keeps_step home opening w v Reopen s o alone st = subst (Ordered home opening) (sym st.1) (record { ordered = o.ordered; marked = o.marked; chained = o.chained })
+keeps_step home opening w v Reopen s o alone st = subst (Ordered home opening) (sym st.1) (record { ordered = o.ordered; after_commits = o.after_commits; marked = o.marked; chained = o.chained })
 
 pub keeps_start : (home : ℕ → ℕ) (opening : ℕ → Option ℕ) → Ordered home opening start
 keeps_start home opening = grind arith

@@ -1,5 +1,5 @@
 -- What a run opens with: the records that earlier runs left open in the logs.
-use Rattle.std.specs.Prelude.{◌≡◌, ℕ, ◌≤◌, Bool, true, false, List, [], Option, Some, None, if◌then◌else◌}
+use Rattle.std.specs.Prelude.{◌≡◌, ℕ, ◌≤◌, Bool, true, false, List, [], Option, None, if◌then◌else◌}
 use Rattle.row_protocol.specs.Log.{Change, has, drawn_by}
 use Rattle.row_protocol.specs.Machine.{World, Waiting, Undoing}
 use Rattle.row_protocol.specs.Moves.{Move, Run, IsAlone}

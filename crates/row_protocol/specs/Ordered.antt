@@ -44,8 +44,23 @@ abbrev pub is_ordered : List Change → (ℕ → Bool) → Bool
 is_ordered [] done = true
 is_ordered (c ∷ cs) done = all_below cs c done && is_ordered cs done
 
+-- the commit record with this LRSN, where there is one, is older
+abbrev pub is_before : Option ℕ → ℕ → Bool
+is_before None l = true
+is_before (Some k) l = ltb k l
+
+abbrev pub follows_commits : List Change → Change → (ℕ → Option ℕ) → Bool
+follows_commits [] c commit = true
+follows_commits (d ∷ ds) c commit = ((d.tran == c.tran) || is_before (commit d.tran) c.lrsn) && follows_commits ds c commit
+
+-- below a change stand, of other transactions that have committed, those alone whose commit record is older
+abbrev pub is_after_commits : List Change → (ℕ → Option ℕ) → Bool
+is_after_commits [] commit = true
+is_after_commits (c ∷ cs) commit = follows_commits cs c commit && is_after_commits cs commit
+
 pub record Ordered (home : ℕ → ℕ) (opening : ℕ → Option ℕ) (w : World) : Type 0 where
   pub ordered : (r : ℕ) → is_ordered (w.changes r) (λ t. is_done home w t) ≡ true
+  pub after_commits : (r : ℕ) → is_after_commits (w.changes r) w.commit ≡ true
   pub marked : (r : ℕ) → marks_by (w.changes r) w.counter ≡ true
   pub chained : (r : ℕ) → IsChained (w.changes r) (opening r)
 

@@ -58,7 +58,7 @@ pub fn guards_are_needed()
 {}
 
 /// In every state that moves lead to from the start each row's records stand in order: older ones below, of the same
-/// transaction or of transactions that are done; and each change's value before it is what the row was at its LRSN.
+/// transaction or of transactions that are done, with older commit records; and each change's value before it is what the row was at its LRSN.
 /// So at most one transaction has changes of a row that may still be undone, and an undo finds the row as its change
 /// left it and leaves it as the change found it; and the rows of the logs are told by LRSNs alone, in whatever order
 /// the logs are read.
