@@ -57,11 +57,11 @@ pub fn guards_are_needed()
     ensures all_logs { AllLogsAreNeeded }
 {}
 
-/// In every state that moves lead to from the start each row's records stand in order: older ones below, of the same
-/// transaction or of transactions that are done, with older commit records; and each change's value before it is what the row was at its LRSN.
-/// So at most one transaction has changes of a row that may still be undone, and an undo finds the row as its change
-/// left it and leaves it as the change found it; and the rows of the logs are told by LRSNs alone, in whatever order
-/// the logs are read.
+/// In every state that moves lead to from the start each row's records stand in order: below a change stand older ones
+/// alone, of its own transaction or of transactions that are done, those that have committed with an older commit
+/// record; and each change's value before it is what the row was at its LRSN. So at most one transaction has changes of
+/// a row that may still be undone, an undo finds the row as its change left it and leaves it as the change found it,
+/// and the rows of the logs are told by LRSNs alone, in whatever order the logs are read.
 pub fn ordered_records()
     ensures start { StartsOrdered }
     ensures step { KeepsOrdered }
