@@ -1,0 +1,12 @@
+pub mod Claims
+pub mod Frames
+pub mod Lists
+pub mod Kept
+pub mod Failures
+pub mod Runs
+pub mod Order
+pub mod Ordered
+pub mod Opening
+pub mod Given
+pub mod Needed
+pub mod Example

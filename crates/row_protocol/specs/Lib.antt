@@ -1,0 +1,12 @@
+pub mod Functions
+pub mod Rows
+pub mod Log
+pub mod Machine
+pub mod Moves
+pub mod Claims
+pub mod Legal
+pub mod Ordered
+pub mod Opening
+pub mod Given
+pub mod Needed
+pub mod Example
