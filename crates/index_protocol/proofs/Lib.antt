@@ -1,16 +1,3 @@
 pub mod Laws
-pub mod Moves
 pub mod Leaf_moves
-pub mod Settles
-pub mod Undo
-pub mod Fail
-pub mod Homes
-pub mod Runs
-pub mod Search
-pub mod Later
-pub mod Partition
-pub mod Whole_search
-pub mod Logs_cut
-pub mod Example
-pub mod Each
-pub mod Settled_search
+pub mod Moves

@@ -1,102 +1,84 @@
 -- What holds of each page, in each of its versions, after every move.
-use Rattle.std.specs.Prelude.{◌≡◌, ◌≢◌, ℕ, ◌<◌, ◌≤◌, true, false, Some, None}
+use Rattle.std.specs.Prelude.{◌≡◌, ◌≢◌, ℕ, ◌<◌, ◌≤◌, true, false, List, [], ◌∷◌, Some, None}
 use Rattle.index_protocol.specs.Index.{Rest, Page, Link, World, Move, Step, start, Unmade, Leaf, Branch, beyond}
-
-pub record Homes (g : Rest) : Type 0 where
-  pub home_leaf : (k : ℕ) → g.kind (g.home k) ≡ Leaf
-  pub hidden : (n : ℕ) → g.kind n ≡ Unmade → g.shown n ≡ 0
 
 pub record Roots (g : Rest) : Type 0 where
   pub root_kind : g.kind 1 ≡ Branch
   pub root_low : g.low 1 ≡ 0
   pub root_shown : 1 ≤ g.shown 1
-  pub root_born : g.split_at 1 ≡ 0
+  pub root_open : (q : ℕ) → g.parted_at 1 q ≡ 0
   pub leaf_kind : g.kind 2 ≡ Leaf
   pub leaf_low : g.low 2 ≡ 0
   pub leaf_shown : 1 ≤ g.shown 2
 
--- the splits that made the pages, and the leaves that given_at the keys
-pub record Births (g : Rest) : Type 0 where
-  -- a split that is shown on its left is shown on its right
-  pub settled : (n : ℕ) → g.kind n ≢ Unmade → g.split_at n ≤ g.shown (g.split_of n) → 1 ≤ g.shown n
-  pub from_kind : (n : ℕ) → g.kind n ≢ Unmade → 1 ≤ g.split_at n → g.kind (g.split_of n) ≡ g.kind n
-  pub from_shown : (n : ℕ) → g.kind n ≢ Unmade → 1 ≤ g.split_at n → 1 ≤ g.shown (g.split_of n)
-  pub from_left : (n : ℕ) → g.kind n ≢ Unmade → 1 ≤ g.split_at n → g.split_at (g.split_of n) ≤ g.shown (g.split_of (g.split_of n))
-  pub from_low : (n : ℕ) → g.kind n ≢ Unmade → 1 ≤ g.split_at n → g.low (g.split_of n) < g.low n
-  pub taken_leaf : (k x : ℕ) → g.given k ≡ Some x → g.kind (g.given_in k) ≡ Leaf
-  pub taken_shown : (k x : ℕ) → g.given k ≡ Some x → 1 ≤ g.shown (g.given_in k)
-  pub home_low : (k : ℕ) → g.low (g.home k) ≤ k
+-- the versions in which pages gave up the keys of others are there
+pub record Paths (g : Rest) (last : ℕ → ℕ) : Type 0 where
+  pub made : (n q : ℕ) → g.kind n ≢ Unmade → g.parted_at n q ≤ last q
+  pub self : (n : ℕ) → g.kind n ≢ Unmade → g.parted_at n n ≡ 0
 
--- the links and the entries of branches
+-- the links and the entries of branches, in each version
 pub record Shape (g : Rest) (n : ℕ) (p : Page) : Type 0 where
   pub unmade : g.kind n ≡ Unmade → p.last ≡ 0
   pub made : g.kind n ≢ Unmade → 1 ≤ p.last
   pub seen : g.shown n ≤ p.last
-  -- links, in each version
   pub above : (v : ℕ) (l : Link) → 1 ≤ v → v ≤ p.last → p.link v ≡ Some l → g.low n < l.high
   pub right_low : (v : ℕ) (l : Link) → 1 ≤ v → v ≤ p.last → p.link v ≡ Some l → g.low l.right ≡ l.high
   pub right_kind : (v : ℕ) (l : Link) → 1 ≤ v → v ≤ p.last → p.link v ≡ Some l → g.kind l.right ≡ g.kind n
-  pub right_shown : (v : ℕ) (l : Link) → 1 ≤ v → v ≤ g.shown n → p.link v ≡ Some l → 1 ≤ g.shown l.right
+  pub right_own : (v : ℕ) (l : Link) → 1 ≤ v → v ≤ p.last → p.link v ≡ Some l → g.parted_at l.right n ≤ v
+  pub right_other : (v q : ℕ) (l : Link) → 1 ≤ v → v ≤ p.last → p.link v ≡ Some l → q ≢ n → g.parted_at l.right q ≤ g.parted_at n q
+  pub right_shown : (v : ℕ) (l : Link) → 1 ≤ v → v ≤ p.last → p.link v ≡ Some l → g.shown l.right ≡ 0 → g.shown n < v
+  pub right_writer : (v : ℕ) (l : Link) → 1 ≤ v → v ≤ p.last → p.link v ≡ Some l → g.shown l.right ≡ 0 → g.writer l.right ≡ g.writer n
   pub falls : (v w k : ℕ) → 1 ≤ v → v ≤ w → w ≤ p.last → beyond (p.link v) k ≡ true → beyond (p.link w) k ≡ true
-  -- branches, in each version
   pub child : (v k c : ℕ) → g.kind n ≡ Branch → 1 ≤ v → v ≤ p.last → p.entry v k ≡ Some c → g.kind c ≡ Leaf
   pub child_low : (v k c : ℕ) → g.kind n ≡ Branch → 1 ≤ v → v ≤ p.last → p.entry v k ≡ Some c → g.low c ≡ k
-  pub child_shown : (v k c : ℕ) → g.kind n ≡ Branch → 1 ≤ v → v ≤ p.last → p.entry v k ≡ Some c → 1 ≤ g.shown c
-  pub child_settled : (v k c : ℕ) → g.kind n ≡ Branch → 1 ≤ v → v ≤ p.last → p.entry v k ≡ Some c → g.split_at c ≤ g.shown (g.split_of c)
+  pub child_shown : (v k c : ℕ) → g.kind n ≡ Branch → 1 ≤ v → v ≤ p.last → p.entry v k ≡ Some c → g.shown c ≡ 0 → g.shown n < v
+  pub child_writer : (v k c : ℕ) → g.kind n ≡ Branch → 1 ≤ v → v ≤ p.last → p.entry v k ≡ Some c → g.shown c ≡ 0 → g.writer c ≡ g.writer n
+  pub child_open : (v k c q : ℕ) → g.kind n ≡ Branch → 1 ≤ v → v ≤ p.last → p.entry v k ≡ Some c → g.shown q < g.parted_at c q → g.shown n < v
+  pub child_opener : (v k c q : ℕ) → g.kind n ≡ Branch → 1 ≤ v → v ≤ p.last → p.entry v k ≡ Some c → g.shown q < g.parted_at c q → g.writer q ≡ g.writer n
   pub first : (v : ℕ) → g.kind n ≡ Branch → 1 ≤ v → v ≤ p.last → p.entry v (g.low n) ≢ None
 
+-- the keys of a leaf, in each version
 pub record Leaves (g : Rest) (n : ℕ) (p : Page) : Type 0 where
-  pub since_old : (k : ℕ) → p.since k ≤ p.last
-  -- in the last version: the home of a key is the leaf that covers it, and alone has it
-  pub home_low : (k : ℕ) → g.kind n ≡ Leaf → g.home k ≡ n → g.low n ≤ k
-  pub home_high : (k : ℕ) → g.kind n ≡ Leaf → g.home k ≡ n → beyond (p.link p.last) k ≡ false
-  pub is_home : (k : ℕ) → g.kind n ≡ Leaf → g.low n ≤ k → beyond (p.link p.last) k ≡ false → g.home k ≡ n
-  pub has : (k : ℕ) → g.kind n ≡ Leaf → g.home k ≡ n → p.entry p.last k ≡ g.given k
-  pub has_not : (k : ℕ) → g.kind n ≡ Leaf → g.home k ≢ n → p.entry p.last k ≡ None
-  -- in each version
+  -- the leaf that took a key covered it
+  pub given_leaf : (k x : ℕ) → g.given k ≡ Some x → g.given_in k ≡ n → g.kind n ≡ Leaf
+  pub given_from : (k x : ℕ) → g.given k ≡ Some x → g.given_in k ≡ n → 1 ≤ g.given_at k
+  pub given_last : (k x : ℕ) → g.given k ≡ Some x → g.given_in k ≡ n → g.given_at k ≤ p.last
+  pub given_low : (k x : ℕ) → g.given k ≡ Some x → g.given_in k ≡ n → g.low n ≤ k
+  pub given_covered : (k x : ℕ) → g.given k ≡ Some x → g.given_in k ≡ n → beyond (p.link (g.given_at k)) k ≡ false
+  -- a version has the keys that it covers and that were given before it, and these alone
   pub place : (v k x : ℕ) → g.kind n ≡ Leaf → 1 ≤ v → v ≤ p.last → p.entry v k ≡ Some x → g.given k ≡ Some x
-  pub lost : (v k : ℕ) → g.kind n ≡ Leaf → 1 ≤ v → v ≤ p.last → g.given k ≡ None → g.low n ≤ k → beyond (p.link v) k ≡ false → p.since k ≤ v → beyond (p.link p.last) k ≡ false
-  pub finds : (v k x : ℕ) → g.kind n ≡ Leaf → 1 ≤ v → v ≤ p.last → g.given k ≡ Some x → g.low n ≤ k → beyond (p.link v) k ≡ false → p.since k ≤ v → p.entry v k ≡ Some x
-
--- the splits of a page, and the changes of its keys that readers cannot see
-pub record Settles (g : Rest) (n : ℕ) (p : Page) : Type 0 where
-  pub birth : (r : ℕ) → g.kind r ≢ Unmade → g.split_of r ≡ n → 1 ≤ g.split_at r → g.split_at r ≤ p.last
-  pub birth_link : (r : ℕ) → g.kind r ≢ Unmade → g.split_of r ≡ n → 1 ≤ g.split_at r → p.link (g.split_at r) ≡ Some (record { high = g.low r; right = r })
-  -- a key that is not given was lost by a shown version, or to the leaf that covers it now
-  pub near_from : (k : ℕ) → g.kind n ≡ Leaf → g.given k ≡ None → g.shown n < p.since k → g.split_of (g.home k) ≡ n
-  pub near_born : (k : ℕ) → g.kind n ≡ Leaf → g.given k ≡ None → g.shown n < p.since k → p.since k ≡ g.split_at (g.home k)
-  pub taken_since : (k x : ℕ) → g.kind n ≡ Leaf → g.given k ≡ Some x → g.given_in k ≡ n → p.since k ≡ g.given_at k
-  pub other_since : (k x : ℕ) → g.kind n ≡ Leaf → g.given k ≡ Some x → g.given_in k ≢ n → p.since k ≤ g.shown n
-
--- what a failure that takes unshown versions away leaves: where a key was before, and what a kept version rests on
-pub record Undo (g : Rest) (n : ℕ) (p : Page) : Type 0 where
-  -- a link to a page that is not settled: of a split of this page, or of its left page before the split that made this page
-  pub link_own : (v : ℕ) (l : Link) → 1 ≤ v → v ≤ p.last → p.link v ≡ Some l → g.shown (g.split_of l.right) < g.split_at l.right → g.split_of l.right ≡ n → g.split_at l.right ≤ v
-  pub link_left : (v : ℕ) (l : Link) → 1 ≤ v → v ≤ p.last → p.link v ≡ Some l → g.shown (g.split_of l.right) < g.split_at l.right → g.split_of l.right ≢ n → g.split_of l.right ≡ g.split_of n
-  pub link_born : (v : ℕ) (l : Link) → 1 ≤ v → v ≤ p.last → p.link v ≡ Some l → g.shown (g.split_of l.right) < g.split_at l.right → g.split_of l.right ≢ n → g.split_at l.right ≤ g.split_at n
-  -- the versions before a split that is not shown cover its keys, and no others that the last does not
-  pub before : (v k : ℕ) → g.kind n ≡ Leaf → g.split_of (g.home k) ≡ n → 1 ≤ v → g.shown n ≤ v → v < g.split_at (g.home k) → beyond (p.link v) k ≡ false
-  pub after_from : (v k : ℕ) → g.kind n ≡ Leaf → 1 ≤ v → v ≤ p.last → g.shown n ≤ v → g.low n ≤ k → beyond (p.link v) k ≡ false → beyond (p.link p.last) k ≡ true → g.split_of (g.home k) ≡ n
-  pub after_born : (v k : ℕ) → g.kind n ≡ Leaf → 1 ≤ v → v ≤ p.last → g.shown n ≤ v → g.low n ≤ k → beyond (p.link v) k ≡ false → beyond (p.link p.last) k ≡ true → v < g.split_at (g.home k)
-  pub since_covers : (v k : ℕ) → g.kind n ≡ Leaf → 1 ≤ v → v < p.since k → beyond (p.link v) k ≡ false
-  -- entries
-  pub not_yet : (v k x : ℕ) → g.kind n ≡ Leaf → 1 ≤ v → v ≤ p.last → g.given k ≡ Some x → g.given_in k ≡ n → v < g.given_at k → p.entry v k ≡ None
   pub out_low : (v k : ℕ) → g.kind n ≡ Leaf → 1 ≤ v → v ≤ p.last → k < g.low n → p.entry v k ≡ None
   pub out_high : (v k : ℕ) → g.kind n ≡ Leaf → 1 ≤ v → v ≤ p.last → beyond (p.link v) k ≡ true → p.entry v k ≡ None
-  pub origin : (v k x : ℕ) → g.kind n ≡ Leaf → 1 ≤ v → v ≤ p.last → p.entry v k ≡ Some x → g.given_in k ≢ n → g.shown (g.given_in k) < g.given_at k → g.given_in k ≡ g.split_of n
-  pub origin_took : (v k x : ℕ) → g.kind n ≡ Leaf → 1 ≤ v → v ≤ p.last → p.entry v k ≡ Some x → g.given_in k ≢ n → g.shown (g.given_in k) < g.given_at k → g.given_at k < g.split_at n
+  pub has : (v k x : ℕ) → g.kind n ≡ Leaf → 1 ≤ v → v ≤ p.last → g.given k ≡ Some x → g.low n ≤ k → beyond (p.link v) k ≡ false
+      → (n ≡ g.given_in k → g.given_at k ≤ v) → (n ≢ g.given_in k → g.given_at k < g.parted_at n (g.given_in k)) → p.entry v k ≡ Some x
+  pub not_yet : (v k x : ℕ) → g.kind n ≡ Leaf → 1 ≤ v → v ≤ p.last → g.given k ≡ Some x → n ≡ g.given_in k → v < g.given_at k → p.entry v k ≡ None
+  pub not_here : (v k x : ℕ) → g.kind n ≡ Leaf → 1 ≤ v → v ≤ p.last → g.given k ≡ Some x → n ≢ g.given_in k → g.parted_at n (g.given_in k) ≤ g.given_at k → p.entry v k ≡ None
+  -- a version that readers may have and that covers a given key has it, but for a page that the key's giver has yet to write
+  pub finds : (v k x : ℕ) → g.kind n ≡ Leaf → 1 ≤ v → g.shown n ≤ v → v ≤ p.last → g.given k ≡ Some x → g.low n ≤ k → beyond (p.link v) k ≡ false
+      → g.giver k ≢ Some (g.writer n) → p.entry v k ≡ Some x
+  pub unshown : (k x : ℕ) → g.given k ≡ Some x → g.given_in k ≡ n → g.shown n < g.given_at k → g.giver k ≡ Some (g.writer n)
+
+-- two leaves cover a key only in versions that the split between them keeps apart
+abbrev pub Apart : Rest → ℕ → ℕ → Page → Page → Type 0
+Apart g n q p r = (v u k : ℕ) → g.kind n ≡ Leaf → g.kind q ≡ Leaf → 1 ≤ v → v ≤ p.last → 1 ≤ u → u ≤ r.last → g.low n ≤ k → g.low q ≤ k
+    → beyond (p.link v) k ≡ false → beyond (r.link u) k ≡ false → g.parted_at n q ≤ u → g.parted_at q n ≤ v → n ≡ q
 
 pub record WholeIndex (w : World) : Type 0 where
-  pub whole : Homes w.rest
   pub roots : Roots w.rest
-  pub births : Births w.rest
+  pub paths : Paths w.rest (λ q. (w.pages q).last)
   pub shape : (n : ℕ) → Shape w.rest n (w.pages n)
   pub leaves : (n : ℕ) → Leaves w.rest n (w.pages n)
-  pub settles : (n : ℕ) → Settles w.rest n (w.pages n)
-  pub undo : (n : ℕ) → Undo w.rest n (w.pages n)
+  pub apart : (n q : ℕ) → Apart w.rest n q (w.pages n) (w.pages q)
 
 abbrev pub KeepsWhole : Type 0
 KeepsWhole = (w v : World) (e : Move) → WholeIndex w → Step w e v → WholeIndex v
 
 abbrev pub StartsWhole : Type 0
 StartsWhole = WholeIndex start
+
+abbrev pub Run : World → List Move → World → Type 0
+Run w [] v = v ≡ w
+Run w (e ∷ es) v = (mid : World) × Step w e mid × Run mid es v
+
+abbrev pub AlwaysWhole : Type 0
+AlwaysWhole = (moves : List Move) (w : World) → Run start moves w → WholeIndex w

@@ -1,24 +1,15 @@
-// The moves of a two-level index keep every version of every page good for a search, through failures too.
+//! The index of a table as a pure machine: branch and leaf pages, each with all its versions, and the moves that give a key
+//! its place, split a page, enter a page in its branch, write a page to the group's copy, end a transaction, and fail.
+//! What is proved of it holds for every list of moves.
+//!
+//! The crate has definitions and proofs alone. Its functions do nothing: their contracts are the theorems.
 #![tactic(auto)]
 
-ghost use Rattle.index_protocol.specs.Whole.{KeepsWhole, StartsWhole};
-ghost use Rattle.index_protocol.specs.Search.{SearchBegins, EachVersionLeads, SearchLeads, SearchSettles, CurrentFinds, MovesKeep};
-ghost use Rattle.index_protocol.specs.Partition.{Partitions};
-ghost use Rattle.index_protocol.specs.Whole_search.{SearchEnds, SearchFinds};
-ghost use Rattle.index_protocol.specs.Logs_cut.{FailureIsCut};
+ghost use Rattle.index_protocol.specs.Whole.{AlwaysWhole, KeepsWhole, StartsWhole};
 
-/// A move keeps the index good; in a good index the leaves part the keys, and each search through shown copies ends at a leaf.
+/// The start is whole, each move keeps what is, and so every list of moves does.
 pub fn whole_index()
     ensures start { StartsWhole }
     ensures step { KeepsWhole }
-    ensures later { MovesKeep }
-    ensures parts { Partitions }
-    ensures begins { SearchBegins }
-    ensures each { EachVersionLeads }
-    ensures leads { SearchLeads }
-    ensures settles { SearchSettles }
-    ensures current { CurrentFinds }
-    ensures ends { SearchEnds }
-    ensures finds { SearchFinds }
-    ensures failure { FailureIsCut }
+    ensures always { AlwaysWhole }
 {}
