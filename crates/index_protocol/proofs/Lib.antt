@@ -3,3 +3,4 @@ pub mod Leaf_moves
 pub mod Moves
 pub mod Paths
 pub mod Runs
+pub mod Search
