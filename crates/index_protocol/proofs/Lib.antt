@@ -3,4 +3,7 @@ pub mod Leaf_moves
 pub mod Moves
 pub mod Paths
 pub mod Runs
+pub mod Partition
 pub mod Search
+pub mod Later
+pub mod Whole_search

@@ -43,7 +43,7 @@ grows_one : (w : World) (n k x q : ℕ) → (w.pages q).last ≤ (if q == n then
 grows_one w n k x q = grind arith
 
 -- ---- a Give
-ungiven : (w : World) (n k : ℕ) → WholeIndex w → MayGive w.rest n (w.pages n) k → w.rest.given k ≡ None
+pub ungiven : (w : World) (n k : ℕ) → WholeIndex w → MayGive w.rest n (w.pages n) k → w.rest.given k ≡ None
 ungiven w n k s may = plain (w.rest.given k) (λ x is. has_last w n k x s may.leaf is may.from_low may.covered)
   where
     plain : (o : Rattle.std.proofs.Common.Option ℕ) → ((x : ℕ) → o ≡ Some x → (w.pages n).entry (w.pages n).last k ≡ Some x) → o ≡ None

@@ -1,3 +1,5 @@
 pub mod Index
 pub mod Whole
+pub mod Partition
 pub mod Search
+pub mod Whole_search
