@@ -1,5 +1,5 @@
 -- Each move, over the splits between pages; and the start.
-use Rattle.std.proofs.Common.{◌≡◌, ℕ, ◌+◌, ◌<◌, ◌≤◌, arith, refl, true, false, None, Some, inl, inr}
+use Rattle.std.proofs.Common.{◌≡◌, ℕ, zero, suc, ◌+◌, ◌<◌, ◌≤◌, arith, refl, sym, ◌∙◌, subst, true, false, None, Some, inl, inr}
 use Rattle.std.specs.Prelude.{◌≢◌, ◌==◌, if◌then◌else◌}
 use Rattle.std.proofs.lemmas.Bool.{cond_both, cases_eq, cases_lt}
 use Rattle.index_protocol.specs.Index.{Rest, Page, World, Unmade, Leaf, beyond, with_place, split_left, split_right, given_rest, split_rest, failed_rest, failed_page, entered_rest, written_rest, start_rest, start, MayGive, MaySplit, MayWrite, MayFail}
@@ -8,16 +8,77 @@ use Rattle.index_protocol.proofs.Laws.{below, beyond_some}
 
 -- ---- the versions in which keys were given up
 pub paths_grow : (g : Rest) (a b : ℕ → ℕ) → ((q : ℕ) → a q ≤ b q) → Paths g a → Paths g b
-paths_grow g a b le s = record { made = λ n q made. (let x = s.made n q made in let y = le q in omega (arith, x, y)); self = s.self }
+paths_grow g a b le s = record { made = λ n q made. (let x = s.made n q made in let y = le q in omega (arith, x, y)); self = s.self; kinds = s.kinds; first = s.first; chain = s.chain; left_low = s.left_low }
 
-pub paths_split : (g : Rest) (m n : ℕ) (p : Page) (new low : ℕ) (a b : ℕ → ℕ) → Paths g a → g.kind n ≢ Unmade → n ≢ new → a n ≡ p.last → a new ≡ 0 → b n ≡ p.last + 1 → b new ≡ 1 → ((q : ℕ) → q ≢ n → q ≢ new → b q ≡ a q) → Paths (split_rest g m n p new low) b
-paths_split g m n p new low a b s made ne x y z u o = record { made = grind arith; self = grind arith }
+split_made : (g : Rest) (m n : ℕ) (p : Page) (new low aq bq r q : ℕ) → (g.kind r ≢ Unmade → g.parted_at r q ≤ aq) → g.parted_at n q ≤ aq → n ≢ new
+    → (q ≡ n → bq ≡ p.last + 1) → (q ≡ n → aq ≡ p.last) → (q ≡ new → aq ≡ 0) → (q ≢ n → q ≢ new → bq ≡ aq) → (split_rest g m n p new low).kind r ≢ Unmade → (split_rest g m n p new low).parted_at r q ≤ bq
+split_made g m n p new low aq bq r q x y ne b c d e made = grind arith
 
-pub paths_fail : (g : Rest) (m : ℕ) (c : ℕ → ℕ) (w : World) → ((n : ℕ) → MayFail g m c n (w.pages n)) → Paths g (λ q. (w.pages q).last) → Paths (failed_rest g c) c
-paths_fail g m c w may s = record { made = λ n q. made n q (may n).stays; self = grind (arith, s.self) }
+split_kinds : (g : Rest) (m n : ℕ) (p : Page) (new low r q : ℕ) → (g.kind r ≢ Unmade → 1 ≤ g.parted_at r q → g.kind q ≡ g.kind r) → (1 ≤ g.parted_at n q → g.kind q ≡ g.kind n)
+    → g.kind new ≡ Unmade → g.kind n ≢ Unmade → n ≢ new → (split_rest g m n p new low).kind r ≢ Unmade → 1 ≤ (split_rest g m n p new low).parted_at r q → (split_rest g m n p new low).kind q ≡ (split_rest g m n p new low).kind r
+split_kinds g m n p new low r q x y fresh old ne made some = grind arith
+
+split_first : (g : Rest) (m n : ℕ) (p : Page) (new low r q : ℕ) → (g.kind r ≢ Unmade → g.parted_at r (g.split_of r) ≡ 0 → g.parted_at r q ≡ 0)
+    → (split_rest g m n p new low).kind r ≢ Unmade → (split_rest g m n p new low).parted_at r ((split_rest g m n p new low).split_of r) ≡ 0 → (split_rest g m n p new low).parted_at r q ≡ 0
+split_first g m n p new low r q x made none = grind arith
+
+split_chain : (g : Rest) (m n : ℕ) (p : Page) (new low r q : ℕ) → (g.kind r ≢ Unmade → 1 ≤ g.parted_at r (g.split_of r) → q ≢ g.split_of r → g.parted_at r q ≡ g.parted_at (g.split_of r) q)
+    → (g.kind r ≢ Unmade → 1 ≤ g.parted_at r (g.split_of r) → g.split_of r ≢ new) → n ≢ new
+    → (split_rest g m n p new low).kind r ≢ Unmade → 1 ≤ (split_rest g m n p new low).parted_at r ((split_rest g m n p new low).split_of r) → q ≢ (split_rest g m n p new low).split_of r
+    → (split_rest g m n p new low).parted_at r q ≡ (split_rest g m n p new low).parted_at ((split_rest g m n p new low).split_of r) q
+split_chain g m n p new low r q x y ne made some off = grind arith
+
+split_low : (g : Rest) (m n : ℕ) (p : Page) (new low r : ℕ) → (g.kind r ≢ Unmade → 1 ≤ g.parted_at r (g.split_of r) → g.low (g.split_of r) < g.low r)
+    → (g.kind r ≢ Unmade → 1 ≤ g.parted_at r (g.split_of r) → g.split_of r ≢ new) → n ≢ new → g.low n < low
+    → (split_rest g m n p new low).kind r ≢ Unmade → 1 ≤ (split_rest g m n p new low).parted_at r ((split_rest g m n p new low).split_of r)
+    → (split_rest g m n p new low).low ((split_rest g m n p new low).split_of r) < (split_rest g m n p new low).low r
+split_low g m n p new low r x y ne up made some = grind arith
+
+split_off : (g : Rest) (a : ℕ → ℕ) (new r : ℕ) → Paths g a → g.kind new ≡ Unmade → g.kind r ≢ Unmade → 1 ≤ g.parted_at r (g.split_of r) → g.split_of r ≢ new
+split_off g a new r s fresh made some e = made (sym (s.kinds r (g.split_of r) made some) ∙ subst (λ z. g.kind z ≡ Unmade) (sym e) fresh)
+
+pub paths_split : (g : Rest) (m n : ℕ) (p : Page) (new low : ℕ) (a b : ℕ → ℕ) → Paths g a → g.kind new ≡ Unmade → g.low n < low → g.kind n ≢ Unmade → n ≢ new → a n ≡ p.last → a new ≡ 0 → b n ≡ p.last + 1 → b new ≡ 1 → ((q : ℕ) → q ≢ n → q ≢ new → b q ≡ a q) → Paths (split_rest g m n p new low) b
+paths_split g m n p new low a b s fresh up made ne x y z u o = record {
+  made = λ r q. split_made g m n p new low (a q) (b q) r q (s.made r q) (s.made n q made) ne (λ e. grind (arith, e, z)) (λ e. grind (arith, e, x)) (λ e. grind (arith, e, y)) (o q);
+  self = λ r. self r (s.self r);
+  kinds = λ r q. split_kinds g m n p new low r q (s.kinds r q) (s.kinds n q made) fresh made ne;
+  first = λ r q. split_first g m n p new low r q (s.first r q);
+  chain = λ r q. split_chain g m n p new low r q (s.chain r q) (split_off g a new r s fresh) ne;
+  left_low = λ r. split_low g m n p new low r (s.left_low r) (split_off g a new r s fresh) ne up;
+}
   where
-    made : (n q : ℕ) → ((q : ℕ) → g.kind n ≢ Unmade → 1 ≤ c n → g.parted_at n q ≤ c q) → (failed_rest g c).kind n ≢ Unmade → g.parted_at n q ≤ c q
-    made n q stays is = grind arith
+    self : (r : ℕ) → (g.kind r ≢ Unmade → g.parted_at r r ≡ 0) → (split_rest g m n p new low).kind r ≢ Unmade → (split_rest g m n p new low).parted_at r r ≡ 0
+    self r old is = let hid = s.made n new made in grind (arith, old, is, hid, y, ne)
+
+-- where each page that stays has its own split, it has each split that leads to it
+pub stays_all : (g : Rest) (a c : ℕ → ℕ) (f n q : ℕ) → Paths g a → ((r : ℕ) → g.kind r ≢ Unmade → 1 ≤ c r → g.parted_at r (g.split_of r) ≤ c (g.split_of r)) → g.low n < f → g.kind n ≢ Unmade → 1 ≤ c n → g.parted_at n q ≤ c q
+stays_all g a c zero n q s stays room made some = absurd (omega (arith, room))
+stays_all g a c (suc f) n q s stays room made some = elim (cases_lt 0 (g.parted_at n (g.split_of n))) [
+  | inl lt ↦ elim (cases_eq q (g.split_of n)) [
+    | inl e ↦ subst (λ z. g.parted_at n z ≤ c z) (sym e) (stays n made some)
+    | inr ne ↦ (
+        let kind = s.kinds n (g.split_of n) made lt in
+        let here = stays n made some in
+        let low = s.left_low n made lt in
+        let up = s.chain n q made lt ne in
+        let more = stays_all g a c f (g.split_of n) q s stays (omega (arith, low, room)) (λ e. made (sym kind ∙ e)) (omega (arith, lt, here)) in
+        omega (arith, up, more))
+  ]
+  | inr ge ↦ (let none = s.first n q made (omega (arith, ge)) in omega (arith, none))
+]
+
+pub paths_fail : (g : Rest) (a c : ℕ → ℕ) → ((n q : ℕ) → g.kind n ≢ Unmade → 1 ≤ c n → g.parted_at n q ≤ c q) → Paths g a → Paths (failed_rest g c) c
+paths_fail g a c stays s = record {
+  made = grind (arith, stays);
+  self = grind (arith, s.self);
+  kinds = λ n q. kinds n q (stays n q) (s.kinds n q);
+  first = grind (arith, s.first);
+  chain = grind (arith, s.chain);
+  left_low = grind (arith, s.left_low);
+}
+  where
+    kinds : (n q : ℕ) → (g.kind n ≢ Unmade → 1 ≤ c n → g.parted_at n q ≤ c q) → (g.kind n ≢ Unmade → 1 ≤ g.parted_at n q → g.kind q ≡ g.kind n) → (failed_rest g c).kind n ≢ Unmade → 1 ≤ g.parted_at n q → (failed_rest g c).kind q ≡ (failed_rest g c).kind n
+    kinds n q a b is some = grind arith
 
 -- ---- two leaves
 pub flip : (g : Rest) (n q : ℕ) (p r : Page) → Apart g n q p r → Apart g q n r p

@@ -1,12 +1,12 @@
 -- Each move keeps the whole index.
-use Rattle.std.proofs.Common.{◌≡◌, ℕ, ◌<◌, ◌≤◌, refl, sym, ◌∙◌, subst, arith, true, false, List, [], ◌∷◌, None, Some, inl, inr, Bool}
+use Rattle.std.proofs.Common.{◌≡◌, ℕ, suc, ◌<◌, ◌≤◌, refl, sym, ◌∙◌, subst, arith, true, false, List, [], ◌∷◌, None, Some, inl, inr, Bool}
 use Rattle.std.specs.Prelude.{◌≢◌, ◌==◌, if◌then◌else◌}
 use Rattle.std.proofs.lemmas.Bool.{cond_both, cases_eq, cases_lt, eqb-true, eqb-false}
 use Rattle.index_protocol.specs.Index.{Rest, Page, Link, World, Move, Unmade, Leaf, Branch, Give, Split, BranchEntry, Write, End, Fail, Step, beyond, with_place, split_left, split_right, given_rest, split_rest, entered_rest, written_rest, ended_rest, failed_rest, failed_page, given_world, split_world, entered_world, written_world, ended_world, failed_world, start, IsOpen, MayChange, MayGive, MaySplit, MayEnterBranch, MayWrite, MayEnd, MayFail}
 use Rattle.index_protocol.specs.Whole.{Roots, Paths, Shape, Leaves, Apart, WholeIndex, Run, AlwaysWhole}
 use Rattle.index_protocol.proofs.Moves.{PartedBy, shape_give, shape_give_other, shape_enter, shape_enter_other, shape_write, shape_write_other, shape_left, shape_right, shape_other, shape_fail, shape_end}
 use Rattle.index_protocol.proofs.Leaf_moves.{leaves_give, leaves_give_other, leaves_enter, leaves_enter_other, leaves_write, leaves_end, leaves_left, leaves_right, leaves_other, leaves_fail}
-use Rattle.index_protocol.proofs.Paths.{paths_grow, paths_split, paths_fail, flip, apart_changed, apart_same, apart_left, apart_new, apart_both, apart_far, apart_fail, shape_start, leaves_start, roots_start, paths_start, apart_start, roots_split, roots_write, roots_fail, has_last}
+use Rattle.index_protocol.proofs.Paths.{paths_grow, paths_split, stays_all, paths_fail, flip, apart_changed, apart_same, apart_left, apart_new, apart_both, apart_far, apart_fail, shape_start, leaves_start, roots_start, paths_start, apart_start, roots_split, roots_write, roots_fail, has_last}
 
 -- all that holds of one page
 record Page_whole (g : Rest) (n : ℕ) (p : Page) : Type 0 where
@@ -74,7 +74,7 @@ roots_give g m n p k x r = record { root_kind = r.root_kind; root_low = r.root_l
 kept_give : (w : World) (m n k x : ℕ) → WholeIndex w → MayGive w.rest n (w.pages n) k → MayChange w.rest m n (w.pages n) → IsOpen w.rest m n → WholeIndex (given_world w m n k x)
 kept_give w m n k x s may alone open' =
     let t = paths_grow w.rest (λ q. (w.pages q).last) (λ q. ((given_world w m n k x).pages q).last) (grows_one w n k x) s.paths in
-    all (given_world w m n k x) (roots_give w.rest m n (w.pages n) k x s.roots) (record { made = t.made; self = t.self })
+    all (given_world w m n k x) (roots_give w.rest m n (w.pages n) k x s.roots) (record { made = t.made; self = t.self; kinds = t.kinds; first = t.first; chain = t.chain; left_low = t.left_low })
     (one (given_rest w.rest m n (w.pages n) k x) w.pages n (with_place (w.pages n) k x) (give_new w m n k x s may alone) (give_old w m n k x s may alone open'))
     (apart_one w n k x s (made_leaf w n s may.leaf))
 
@@ -97,7 +97,7 @@ roots_enter g m n r = record { root_kind = r.root_kind; root_low = r.root_low; r
 kept_enter : (w : World) (m n k c : ℕ) → WholeIndex w → MayEnterBranch w.rest m n (w.pages n) k c → MayChange w.rest m n (w.pages n) → IsOpen w.rest m c → WholeIndex (entered_world w m n k c)
 kept_enter w m n k c s may alone open' =
     let t = paths_grow w.rest (λ q. (w.pages q).last) (λ q. ((entered_world w m n k c).pages q).last) (grows_one w n k c) s.paths in
-    all (entered_world w m n k c) (roots_enter w.rest m n s.roots) (record { made = t.made; self = t.self })
+    all (entered_world w m n k c) (roots_enter w.rest m n s.roots) (record { made = t.made; self = t.self; kinds = t.kinds; first = t.first; chain = t.chain; left_low = t.left_low })
     (one (entered_rest w.rest m n) w.pages n (with_place (w.pages n) k c) (enter_new w m n k c s may alone open') (enter_old w m n k c s may alone))
     (apart_one w n k c s (made_branch w n s may.branch))
 
@@ -115,7 +115,7 @@ write_page w n v s may q = elim (cases_eq q n) [
 ]
 
 kept_write : (w : World) (n v : ℕ) → WholeIndex w → MayWrite w.rest n (w.pages n) v → WholeIndex (written_world w n v)
-kept_write w n v s may = all (written_world w n v) (roots_write w.rest n v s.roots may.grows) (record { made = s.paths.made; self = s.paths.self }) (write_page w n v s may) s.apart
+kept_write w n v s may = all (written_world w n v) (roots_write w.rest n v s.roots may.grows) (record { made = s.paths.made; self = s.paths.self; kinds = s.paths.kinds; first = s.paths.first; chain = s.paths.chain; left_low = s.paths.left_low }) (write_page w n v s may) s.apart
 
 -- ---- the end of a transaction
 end_page : (w : World) (m : ℕ) (keys : ℕ → Bool) → WholeIndex w → MayEnd w m keys → (n : ℕ) → Page_whole (ended_rest w.rest keys) n (w.pages n)
@@ -128,9 +128,12 @@ roots_end : (g : Rest) (keys : ℕ → Bool) → Roots g → Roots (ended_rest g
 roots_end g keys r = record { root_kind = r.root_kind; root_low = r.root_low; root_shown = r.root_shown; root_open = r.root_open; leaf_kind = r.leaf_kind; leaf_low = r.leaf_low; leaf_shown = r.leaf_shown }
 
 kept_end : (w : World) (m : ℕ) (keys : ℕ → Bool) → WholeIndex w → MayEnd w m keys → WholeIndex (ended_world w keys)
-kept_end w m keys s may = all (ended_world w keys) (roots_end w.rest keys s.roots) (record { made = s.paths.made; self = s.paths.self }) (end_page w m keys s may) s.apart
+kept_end w m keys s may = all (ended_world w keys) (roots_end w.rest keys s.roots) (record { made = s.paths.made; self = s.paths.self; kinds = s.paths.kinds; first = s.paths.first; chain = s.paths.chain; left_low = s.paths.left_low }) (end_page w m keys s may) s.apart
 
 -- ---- a failure
+all_stay : (w : World) (m : ℕ) (c : ℕ → ℕ) → WholeIndex w → ((n : ℕ) → MayFail w.rest m c n (w.pages n)) → (n q : ℕ) → w.rest.kind n ≢ Unmade → 1 ≤ c n → w.rest.parted_at n q ≤ c q
+all_stay w m c s may n q made some = stays_all w.rest (λ r. (w.pages r).last) c (suc (w.rest.low n)) n q s.paths (λ r. (may r).stays) (omega arith) made some
+
 -- a page that a kept link leads to is kept
 right_kept : (w : World) (m : ℕ) (c : ℕ → ℕ) → WholeIndex w → ((n : ℕ) → MayFail w.rest m c n (w.pages n)) → (n v : ℕ) (l : Link) → 1 ≤ v → v ≤ c n → (w.pages n).link v ≡ Some l → 1 ≤ c l.right
 right_kept w m c s may n v l a b is =
@@ -139,7 +142,7 @@ right_kept w m c s may n v l a b is =
     let made : w.rest.kind n ≢ Unmade = λ e. (let u = (s.shape n).unmade e in omega (arith, a, le, u)) in
     let made_r : w.rest.kind l.right ≢ Unmade = λ e. made (sym kind ∙ e) in
     plain (c l.right) (w.rest.split_of l.right) ((may l.right).gone made_r) (λ e. (let own = (s.shape n).right_own v l a le is in grind (arith, e, own, b)))
-      (λ ne. (let other = (s.shape n).right_other v (w.rest.split_of l.right) l a le is ne in let st = (may n).stays (w.rest.split_of l.right) made (omega (arith, a, b)) in omega (arith, other, st)))
+      (λ ne. (let other = (s.shape n).right_other v (w.rest.split_of l.right) l a le is ne in let st = all_stay w m c s may n (w.rest.split_of l.right) made (omega (arith, a, b)) in omega (arith, other, st)))
   where
     plain : (cr q : ℕ) → (cr ≡ 0 → c q < w.rest.parted_at l.right q) → (q ≡ n → w.rest.parted_at l.right q ≤ c q) → (q ≢ n → w.rest.parted_at l.right q ≤ c q) → 1 ≤ cr
     plain cr q gone x y = elim (cases_eq q n) [
@@ -150,11 +153,11 @@ right_kept w m c s may n v l a b is =
 fail_page : (w : World) (m : ℕ) (c : ℕ → ℕ) → WholeIndex w → ((n : ℕ) → MayFail w.rest m c n (w.pages n)) → (n : ℕ) → Page_whole (failed_rest w.rest c) n (failed_page (w.pages n) (c n))
 fail_page w m c s may n = record {
   shape = shape_fail w.rest m c n (w.pages n) (s.shape n) (may n) (right_kept w m c s may n);
-  leaves = leaves_fail w.rest c n (w.pages n) (s.leaves n) (may n).short (may n).stays;
+  leaves = leaves_fail w.rest c n (w.pages n) (s.leaves n) (may n).short (all_stay w m c s may n);
 }
 
 kept_fail : (w : World) (m : ℕ) (c : ℕ → ℕ) → WholeIndex w → ((n : ℕ) → MayFail w.rest m c n (w.pages n)) → WholeIndex (failed_world w c)
-kept_fail w m c s may = all (failed_world w c) (roots_fail w.rest c s.roots (may 1).kept (may 2).kept) (paths_fail w.rest m c w may s.paths) (fail_page w m c s may) (λ n q. apart_fail w.rest c n q (w.pages n) (w.pages q) (s.apart n q) (may n).short (may q).short)
+kept_fail w m c s may = all (failed_world w c) (roots_fail w.rest c s.roots (may 1).kept (may 2).kept) (paths_fail w.rest (λ q. (w.pages q).last) c (all_stay w m c s may) s.paths) (fail_page w m c s may) (λ n q. apart_fail w.rest c n q (w.pages n) (w.pages q) (s.apart n q) (may n).short (may q).short)
 
 -- ---- a split
 split_new : (w : World) (m n new low : ℕ) → WholeIndex w → MaySplit w.rest n (w.pages n) new low → MayChange w.rest m n (w.pages n) → n ≢ new → w.rest.shown new ≡ 0 → Page_whole (split_rest w.rest m n (w.pages n) new low) new (split_right (w.pages n) low)
@@ -213,7 +216,7 @@ kept_split w m n new low s may alone =
     let none = (s.shape new).unmade may.fresh in
     let hid : w.rest.shown new ≡ 0 = let seen = (s.shape new).seen in omega (arith, seen, none) in
     all (split_world w m n new low) (roots_split w.rest m n (w.pages n) new low s.roots may)
-    (paths_split w.rest m n (w.pages n) new low (λ q. (w.pages q).last) (λ q. ((split_world w m n new low).pages q).last) s.paths may.made ne refl none (grind arith) (grind (arith, ne)) (λ q a b. grind (arith, a, b)))
+    (paths_split w.rest m n (w.pages n) new low (λ q. (w.pages q).last) (λ q. ((split_world w m n new low).pages q).last) s.paths may.fresh may.above may.made ne refl none (grind arith) (grind (arith, ne)) (λ q a b. grind (arith, a, b)))
     (three w n new low (λ q p. Page_whole (split_rest w.rest m n (w.pages n) new low) q p) ne (split_old w m n new low s may alone ne hid) (split_new w m n new low s may alone ne hid) (split_far w m n new low s may alone))
     (split_apart w m n new low s may ne)
 

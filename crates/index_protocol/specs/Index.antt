@@ -154,7 +154,7 @@ pub record MayFail (g : Rest) (m : ℕ) (c : ℕ → ℕ) (n : ℕ) (p : Page) :
   pub kept : g.shown n ≤ c n
   pub others : g.writer n ≢ m → c n ≡ p.last
   pub gone : g.kind n ≢ Unmade → c n ≡ 0 → c (g.split_of n) < g.parted_at n (g.split_of n)
-  pub stays : (q : ℕ) → g.kind n ≢ Unmade → 1 ≤ c n → g.parted_at n q ≤ c q
+  pub stays : g.kind n ≢ Unmade → 1 ≤ c n → g.parted_at n (g.split_of n) ≤ c (g.split_of n)
   pub child : (v k r : ℕ) → g.kind n ≡ Branch → 1 ≤ v → v ≤ c n → p.entry v k ≡ Some r → 1 ≤ c r
 
 -- what keeps other members from the keys is released only when every page that the member changed is shown
