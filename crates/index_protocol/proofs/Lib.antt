@@ -7,3 +7,4 @@ pub mod Partition
 pub mod Search
 pub mod Later
 pub mod Whole_search
+pub mod Order

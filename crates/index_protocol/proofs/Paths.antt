@@ -8,7 +8,7 @@ use Rattle.index_protocol.proofs.Laws.{below, beyond_some}
 
 -- ---- the versions in which keys were given up
 pub paths_grow : (g : Rest) (a b : ℕ → ℕ) → ((q : ℕ) → a q ≤ b q) → Paths g a → Paths g b
-paths_grow g a b le s = record { made = λ n q made. (let x = s.made n q made in let y = le q in omega (arith, x, y)); self = s.self; kinds = s.kinds; first = s.first; chain = s.chain; left_low = s.left_low }
+paths_grow g a b le s = record { made = λ n q made. (let x = s.made n q made in let y = le q in omega (arith, x, y)); self = s.self; kinds = s.kinds; first = s.first; root_shown = s.root_shown; chain = s.chain; left_low = s.left_low }
 
 split_made : (g : Rest) (m n : ℕ) (p : Page) (new low aq bq r q : ℕ) → (g.kind r ≢ Unmade → g.parted_at r q ≤ aq) → g.parted_at n q ≤ aq → n ≢ new
     → (q ≡ n → bq ≡ p.last + 1) → (q ≡ n → aq ≡ p.last) → (q ≡ new → aq ≡ 0) → (q ≢ n → q ≢ new → bq ≡ aq) → (split_rest g m n p new low).kind r ≢ Unmade → (split_rest g m n p new low).parted_at r q ≤ bq
@@ -21,6 +21,10 @@ split_kinds g m n p new low r q x y fresh old ne made some = grind arith
 split_first : (g : Rest) (m n : ℕ) (p : Page) (new low r q : ℕ) → (g.kind r ≢ Unmade → g.parted_at r (g.split_of r) ≡ 0 → g.parted_at r q ≡ 0)
     → (split_rest g m n p new low).kind r ≢ Unmade → (split_rest g m n p new low).parted_at r ((split_rest g m n p new low).split_of r) ≡ 0 → (split_rest g m n p new low).parted_at r q ≡ 0
 split_first g m n p new low r q x made none = grind arith
+
+split_root : (g : Rest) (m n : ℕ) (p : Page) (new low r : ℕ) → (g.kind r ≢ Unmade → g.parted_at r (g.split_of r) ≡ 0 → 1 ≤ g.shown r)
+    → (split_rest g m n p new low).kind r ≢ Unmade → (split_rest g m n p new low).parted_at r ((split_rest g m n p new low).split_of r) ≡ 0 → 1 ≤ (split_rest g m n p new low).shown r
+split_root g m n p new low r x made none = grind arith
 
 split_chain : (g : Rest) (m n : ℕ) (p : Page) (new low r q : ℕ) → (g.kind r ≢ Unmade → 1 ≤ g.parted_at r (g.split_of r) → q ≢ g.split_of r → g.parted_at r q ≡ g.parted_at (g.split_of r) q)
     → (g.kind r ≢ Unmade → 1 ≤ g.parted_at r (g.split_of r) → g.split_of r ≢ new) → n ≢ new
@@ -43,6 +47,7 @@ paths_split g m n p new low a b s fresh up made ne x y z u o = record {
   self = λ r. self r (s.self r);
   kinds = λ r q. split_kinds g m n p new low r q (s.kinds r q) (s.kinds n q made) fresh made ne;
   first = λ r q. split_first g m n p new low r q (s.first r q);
+  root_shown = λ r. split_root g m n p new low r (s.root_shown r);
   chain = λ r q. split_chain g m n p new low r q (s.chain r q) (split_off g a new r s fresh) ne;
   left_low = λ r. split_low g m n p new low r (s.left_low r) (split_off g a new r s fresh) ne up;
 }
@@ -73,6 +78,7 @@ paths_fail g a c stays s = record {
   self = grind (arith, s.self);
   kinds = λ n q. kinds n q (stays n q) (s.kinds n q);
   first = grind (arith, s.first);
+  root_shown = grind (arith, s.root_shown);
   chain = grind (arith, s.chain);
   left_low = grind (arith, s.left_low);
 }

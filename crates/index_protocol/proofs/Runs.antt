@@ -74,7 +74,7 @@ roots_give g m n p k x r = record { root_kind = r.root_kind; root_low = r.root_l
 kept_give : (w : World) (m n k x : ℕ) → WholeIndex w → MayGive w.rest n (w.pages n) k → MayChange w.rest m n (w.pages n) → IsOpen w.rest m n → WholeIndex (given_world w m n k x)
 kept_give w m n k x s may alone open' =
     let t = paths_grow w.rest (λ q. (w.pages q).last) (λ q. ((given_world w m n k x).pages q).last) (grows_one w n k x) s.paths in
-    all (given_world w m n k x) (roots_give w.rest m n (w.pages n) k x s.roots) (record { made = t.made; self = t.self; kinds = t.kinds; first = t.first; chain = t.chain; left_low = t.left_low })
+    all (given_world w m n k x) (roots_give w.rest m n (w.pages n) k x s.roots) (record { made = t.made; self = t.self; kinds = t.kinds; first = t.first; root_shown = t.root_shown; chain = t.chain; left_low = t.left_low })
     (one (given_rest w.rest m n (w.pages n) k x) w.pages n (with_place (w.pages n) k x) (give_new w m n k x s may alone) (give_old w m n k x s may alone open'))
     (apart_one w n k x s (made_leaf w n s may.leaf))
 
@@ -97,7 +97,7 @@ roots_enter g m n r = record { root_kind = r.root_kind; root_low = r.root_low; r
 kept_enter : (w : World) (m n k c : ℕ) → WholeIndex w → MayEnterBranch w.rest m n (w.pages n) k c → MayChange w.rest m n (w.pages n) → IsOpen w.rest m c → WholeIndex (entered_world w m n k c)
 kept_enter w m n k c s may alone open' =
     let t = paths_grow w.rest (λ q. (w.pages q).last) (λ q. ((entered_world w m n k c).pages q).last) (grows_one w n k c) s.paths in
-    all (entered_world w m n k c) (roots_enter w.rest m n s.roots) (record { made = t.made; self = t.self; kinds = t.kinds; first = t.first; chain = t.chain; left_low = t.left_low })
+    all (entered_world w m n k c) (roots_enter w.rest m n s.roots) (record { made = t.made; self = t.self; kinds = t.kinds; first = t.first; root_shown = t.root_shown; chain = t.chain; left_low = t.left_low })
     (one (entered_rest w.rest m n) w.pages n (with_place (w.pages n) k c) (enter_new w m n k c s may alone open') (enter_old w m n k c s may alone))
     (apart_one w n k c s (made_branch w n s may.branch))
 
@@ -114,8 +114,11 @@ write_page w n v s may q = elim (cases_eq q n) [
   }
 ]
 
+write_root : (w : World) (n v : ℕ) → WholeIndex w → MayWrite w.rest n (w.pages n) v → (q : ℕ) → w.rest.kind q ≢ Unmade → w.rest.parted_at q (w.rest.split_of q) ≡ 0 → 1 ≤ (written_rest w.rest n v).shown q
+write_root w n v s may q made none = let a = s.paths.root_shown q made none in let b = may.grows in grind (arith, a, b)
+
 kept_write : (w : World) (n v : ℕ) → WholeIndex w → MayWrite w.rest n (w.pages n) v → WholeIndex (written_world w n v)
-kept_write w n v s may = all (written_world w n v) (roots_write w.rest n v s.roots may.grows) (record { made = s.paths.made; self = s.paths.self; kinds = s.paths.kinds; first = s.paths.first; chain = s.paths.chain; left_low = s.paths.left_low }) (write_page w n v s may) s.apart
+kept_write w n v s may = all (written_world w n v) (roots_write w.rest n v s.roots may.grows) (record { made = s.paths.made; self = s.paths.self; kinds = s.paths.kinds; first = s.paths.first; root_shown = write_root w n v s may; chain = s.paths.chain; left_low = s.paths.left_low }) (write_page w n v s may) s.apart
 
 -- ---- the end of a transaction
 end_page : (w : World) (m : ℕ) (keys : ℕ → Bool) → WholeIndex w → MayEnd w m keys → (n : ℕ) → Page_whole (ended_rest w.rest keys) n (w.pages n)
@@ -128,7 +131,7 @@ roots_end : (g : Rest) (keys : ℕ → Bool) → Roots g → Roots (ended_rest g
 roots_end g keys r = record { root_kind = r.root_kind; root_low = r.root_low; root_shown = r.root_shown; root_open = r.root_open; leaf_kind = r.leaf_kind; leaf_low = r.leaf_low; leaf_shown = r.leaf_shown }
 
 kept_end : (w : World) (m : ℕ) (keys : ℕ → Bool) → WholeIndex w → MayEnd w m keys → WholeIndex (ended_world w keys)
-kept_end w m keys s may = all (ended_world w keys) (roots_end w.rest keys s.roots) (record { made = s.paths.made; self = s.paths.self; kinds = s.paths.kinds; first = s.paths.first; chain = s.paths.chain; left_low = s.paths.left_low }) (end_page w m keys s may) s.apart
+kept_end w m keys s may = all (ended_world w keys) (roots_end w.rest keys s.roots) (record { made = s.paths.made; self = s.paths.self; kinds = s.paths.kinds; first = s.paths.first; root_shown = s.paths.root_shown; chain = s.paths.chain; left_low = s.paths.left_low }) (end_page w m keys s may) s.apart
 
 -- ---- a failure
 all_stay : (w : World) (m : ℕ) (c : ℕ → ℕ) → WholeIndex w → ((n : ℕ) → MayFail w.rest m c n (w.pages n)) → (n q : ℕ) → w.rest.kind n ≢ Unmade → 1 ≤ c n → w.rest.parted_at n q ≤ c q

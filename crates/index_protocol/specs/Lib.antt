@@ -3,3 +3,4 @@ pub mod Whole
 pub mod Partition
 pub mod Search
 pub mod Whole_search
+pub mod Order

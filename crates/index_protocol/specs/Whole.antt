@@ -18,6 +18,7 @@ pub record Paths (g : Rest) (last : ℕ → ℕ) : Type 0 where
   pub kinds : (n q : ℕ) → g.kind n ≢ Unmade → 1 ≤ g.parted_at n q → g.kind q ≡ g.kind n
   -- a page's keys left its left page in the split that made it, and the others where the left page's did
   pub first : (n q : ℕ) → g.kind n ≢ Unmade → g.parted_at n (g.split_of n) ≡ 0 → g.parted_at n q ≡ 0
+  pub root_shown : (n : ℕ) → g.kind n ≢ Unmade → g.parted_at n (g.split_of n) ≡ 0 → 1 ≤ g.shown n
   pub chain : (n q : ℕ) → g.kind n ≢ Unmade → 1 ≤ g.parted_at n (g.split_of n) → q ≢ g.split_of n → g.parted_at n q ≡ g.parted_at (g.split_of n) q
   pub left_low : (n : ℕ) → g.kind n ≢ Unmade → 1 ≤ g.parted_at n (g.split_of n) → g.low (g.split_of n) < g.low n
 
