@@ -8,3 +8,4 @@ pub mod Search
 pub mod Later
 pub mod Whole_search
 pub mod Order
+pub mod Needed

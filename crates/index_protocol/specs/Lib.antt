@@ -4,3 +4,4 @@ pub mod Partition
 pub mod Search
 pub mod Whole_search
 pub mod Order
+pub mod Needed
