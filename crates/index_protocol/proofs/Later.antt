@@ -2,7 +2,7 @@
 use Rattle.std.proofs.Common.{◌≡◌, ℕ, ◌<◌, ◌≤◌, refl, sym, ◌∙◌, subst, arith, true, false, Bool, Some, None, inl, inr}
 use Rattle.std.specs.Prelude.{◌≢◌, ◌==◌, leb, if◌then◌else◌}
 use Rattle.std.proofs.lemmas.Bool.{cases_eq, cases_lt, leb-true}
-use Rattle.index_protocol.specs.Index.{Rest, Page, World, Move, Give, Split, BranchEntry, Write, End, Fail, Unmade, Leaf, Step, given_rest, split_rest, entered_rest, written_rest, ended_rest, failed_rest, given_world, split_world, entered_world, written_world, ended_world, failed_world, MayChange, MayGive, MaySplit, MayWrite, MayFail}
+use Rattle.index_protocol.specs.Index.{Rest, Page, World, Move, Give, Split, BranchEntry, Write, End, Fail, GroupRestart, Unmade, Leaf, Step, given_rest, split_rest, entered_rest, written_rest, ended_rest, failed_rest, given_world, split_world, entered_world, written_world, ended_world, failed_world, MayChange, MayGive, MaySplit, MayWrite, MayFail}
 use Rattle.index_protocol.specs.Whole.{Leaves, WholeIndex}
 use Rattle.index_protocol.specs.Search.{Reached, IsKnown, Later, Survives, MovesKeep}
 use Rattle.index_protocol.proofs.Runs.{ungiven}
@@ -90,6 +90,7 @@ moves_keep m w v (End o keys) s st lives = subst (Later m w) (sym st.1) (record 
   low = λ k q r. refl;
   known = λ k x r. end_known w.rest m k x keys r;
 })
+moves_keep m w v GroupRestart s st lives = absurd lives
 moves_keep m w v (Fail f c) s st lives = subst (Later m w) (sym st.1) (record {
   reached = λ k q r. fail_reached w.rest m k q c (fail_stays w.rest m f c q k (w.pages q) lives (st.0 q) (s.shape q).made r) r;
   kind = λ k q r. (let some = fail_stays w.rest m f c q k (w.pages q) lives (st.0 q) (s.shape q).made r in fail_kind q some);

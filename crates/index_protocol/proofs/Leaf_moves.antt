@@ -1,7 +1,7 @@
 -- Each move, over the keys of one leaf.
 use Rattle.std.proofs.Common.{◌≡◌, ℕ, ◌<◌, ◌≤◌, arith, true, false, Bool, Some, None}
 use Rattle.std.specs.Prelude.{◌≢◌}
-use Rattle.index_protocol.specs.Index.{Rest, Page, Unmade, Leaf, Branch, beyond, with_place, split_left, split_right, given_rest, split_rest, entered_rest, written_rest, ended_rest, failed_rest, failed_page, MayChange, MayGive, MaySplit, MayWrite, MayFail}
+use Rattle.index_protocol.specs.Index.{Rest, Page, Unmade, Leaf, Branch, beyond, with_place, split_left, split_right, given_rest, split_rest, entered_rest, written_rest, ended_rest, restarted_rest, failed_rest, failed_page, MayChange, MayGive, MaySplit, MayWrite, MayFail}
 use Rattle.index_protocol.specs.Whole.{Leaves}
 use Rattle.index_protocol.proofs.Laws.{below, beyond_some}
 
@@ -143,6 +143,23 @@ leaves_other g m n q p r new low s ne ne' = record {
 
 pub leaves_fail : (g : Rest) (c : ℕ → ℕ) (n : ℕ) (p : Page) → Leaves g n p → c n ≤ p.last → ((q : ℕ) → g.kind n ≢ Unmade → 1 ≤ c n → g.parted_at n q ≤ c q) → Leaves (failed_rest g c) n (failed_page p (c n))
 leaves_fail g c n p s short stays = record {
+  given_leaf = grind arith;
+  given_from = grind arith;
+  given_last = grind arith;
+  given_low = grind arith;
+  given_covered = grind arith;
+  place = grind arith;
+  out_low = grind arith;
+  out_high = grind arith;
+  has = grind arith;
+  not_yet = grind arith;
+  not_here = grind arith;
+  finds = grind arith;
+  unshown = grind arith;
+}
+
+pub leaves_restart : (g : Rest) (last : ℕ → ℕ) (n : ℕ) (p : Page) → Leaves g n p → HasLast g n p → last n ≡ p.last → Leaves (restarted_rest g last) n p
+leaves_restart g last n p s all is = record {
   given_leaf = grind arith;
   given_from = grind arith;
   given_last = grind arith;

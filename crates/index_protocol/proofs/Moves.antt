@@ -2,7 +2,7 @@
 use Rattle.std.proofs.Common.{◌≡◌, ℕ, ◌+◌, ◌<◌, ◌≤◌, sym, ◌∙◌, refl, subst, arith, true, false, Bool, Some, inl, inr}
 use Rattle.std.specs.Prelude.{◌≢◌, ◌==◌, leb, if◌then◌else◌}
 use Rattle.std.proofs.lemmas.Bool.{cond_both, cases_eq}
-use Rattle.index_protocol.specs.Index.{Rest, Page, Link, Unmade, Leaf, Branch, beyond, with_place, split_left, split_right, given_rest, split_rest, entered_rest, written_rest, ended_rest, failed_rest, failed_page, IsOpen, MayChange, MayGive, MaySplit, MayEnterBranch, MayWrite, MayFail}
+use Rattle.index_protocol.specs.Index.{Rest, Page, Link, Unmade, Leaf, Branch, beyond, with_place, split_left, split_right, given_rest, split_rest, entered_rest, written_rest, ended_rest, restarted_rest, failed_rest, failed_page, IsOpen, MayChange, MayGive, MaySplit, MayEnterBranch, MayWrite, MayFail}
 use Rattle.index_protocol.specs.Whole.{Shape}
 use Rattle.index_protocol.proofs.Laws.{below_high, beyond_some, apart}
 
@@ -322,4 +322,26 @@ shape_end g n p keys s = record {
   child_open = s.child_open;
   child_opener = s.child_opener;
   first = s.first;
+}
+
+pub shape_restart : (g : Rest) (last : ℕ → ℕ) (n : ℕ) (p : Page) → Shape g n p → last n ≡ p.last → ((q : ℕ) → g.kind q ≢ Unmade → 1 ≤ last q) → ((c q : ℕ) → g.kind c ≡ Leaf → g.parted_at c q ≤ last q) → Shape (restarted_rest g last) n p
+shape_restart g last n p s is some path = record {
+  unmade = grind arith;
+  made = grind arith;
+  seen = grind arith;
+  above = grind arith;
+  right_low = grind arith;
+  right_kind = grind arith;
+  right_own = grind arith;
+  right_other = grind arith;
+  right_shown = grind arith;
+  right_writer = grind arith;
+  falls = grind arith;
+  child = grind arith;
+  child_low = grind arith;
+  child_shown = grind arith;
+  child_writer = grind arith;
+  child_open = grind arith;
+  child_opener = grind arith;
+  first = grind arith;
 }

@@ -2,10 +2,10 @@
 use Rattle.std.proofs.Common.{◌≡◌, ℕ, suc, ◌<◌, ◌≤◌, refl, sym, ◌∙◌, subst, arith, true, false, List, [], ◌∷◌, None, Some, inl, inr, Bool}
 use Rattle.std.specs.Prelude.{◌≢◌, ◌==◌, if◌then◌else◌}
 use Rattle.std.proofs.lemmas.Bool.{cond_both, cases_eq, cases_lt, eqb-true, eqb-false}
-use Rattle.index_protocol.specs.Index.{Rest, Page, Link, World, Move, Unmade, Leaf, Branch, Give, Split, BranchEntry, Write, End, Fail, Step, beyond, with_place, split_left, split_right, given_rest, split_rest, entered_rest, written_rest, ended_rest, failed_rest, failed_page, given_world, split_world, entered_world, written_world, ended_world, failed_world, start, IsOpen, MayChange, MayGive, MaySplit, MayEnterBranch, MayWrite, MayEnd, MayFail}
+use Rattle.index_protocol.specs.Index.{Rest, Page, Link, World, Move, Unmade, Leaf, Branch, Give, Split, BranchEntry, Write, End, Fail, GroupRestart, Step, beyond, with_place, split_left, split_right, given_rest, split_rest, entered_rest, written_rest, ended_rest, restarted_rest, failed_rest, failed_page, given_world, split_world, entered_world, written_world, ended_world, restarted_world, failed_world, start, IsOpen, MayChange, MayGive, MaySplit, MayEnterBranch, MayWrite, MayEnd, MayFail}
 use Rattle.index_protocol.specs.Whole.{Roots, Paths, Shape, Leaves, Apart, WholeIndex, Run, AlwaysWhole}
-use Rattle.index_protocol.proofs.Moves.{PartedBy, shape_give, shape_give_other, shape_enter, shape_enter_other, shape_write, shape_write_other, shape_left, shape_right, shape_other, shape_fail, shape_end}
-use Rattle.index_protocol.proofs.Leaf_moves.{leaves_give, leaves_give_other, leaves_enter, leaves_enter_other, leaves_write, leaves_end, leaves_left, leaves_right, leaves_other, leaves_fail}
+use Rattle.index_protocol.proofs.Moves.{PartedBy, shape_give, shape_give_other, shape_enter, shape_enter_other, shape_write, shape_write_other, shape_left, shape_right, shape_other, shape_fail, shape_end, shape_restart}
+use Rattle.index_protocol.proofs.Leaf_moves.{leaves_give, leaves_give_other, leaves_enter, leaves_enter_other, leaves_write, leaves_end, leaves_left, leaves_right, leaves_other, leaves_fail, leaves_restart}
 use Rattle.index_protocol.proofs.Paths.{paths_grow, paths_split, stays_all, paths_fail, flip, apart_changed, apart_same, apart_left, apart_new, apart_both, apart_far, apart_fail, shape_start, leaves_start, roots_start, paths_start, apart_start, roots_split, roots_write, roots_fail, has_last}
 
 -- all that holds of one page
@@ -223,6 +223,19 @@ kept_split w m n new low s may alone =
     (three w n new low (λ q p. Page_whole (split_rest w.rest m n (w.pages n) new low) q p) ne (split_old w m n new low s may alone ne hid) (split_new w m n new low s may alone ne hid) (split_far w m n new low s may alone))
     (split_apart w m n new low s may ne)
 
+-- ---- the group's restart
+restart_page : (w : World) → WholeIndex w → (n : ℕ) → Page_whole (restarted_rest w.rest (λ q. (w.pages q).last)) n (w.pages n)
+restart_page w s n = record {
+  shape = shape_restart w.rest (λ q. (w.pages q).last) n (w.pages n) (s.shape n) refl (λ q made. (s.shape q).made made) (λ c q leaf. s.paths.made c q (λ e. cc));
+  leaves = leaves_restart w.rest (λ q. (w.pages q).last) n (w.pages n) (s.leaves n) (λ k x leaf is low in'. has_last w n k x s leaf is low in') refl;
+}
+
+kept_restart : (w : World) → WholeIndex w → WholeIndex (restarted_world w)
+kept_restart w s = all (restarted_world w)
+    (record { root_kind = s.roots.root_kind; root_low = s.roots.root_low; root_shown = (s.shape 1).made (λ e. (let k = s.roots.root_kind in cc)); root_open = s.roots.root_open; leaf_kind = s.roots.leaf_kind; leaf_low = s.roots.leaf_low; leaf_shown = (s.shape 2).made (λ e. (let k = s.roots.leaf_kind in cc)) })
+    (record { made = s.paths.made; self = s.paths.self; kinds = s.paths.kinds; first = s.paths.first; root_shown = λ n made none. (s.shape n).made made; chain = s.paths.chain; left_low = s.paths.left_low })
+    (restart_page w s) s.apart
+
 pub kept_step : (w v : World) (e : Move) → WholeIndex w → Step w e v → WholeIndex v
 kept_step w v (Give m n k x) s st = subst WholeIndex (sym st.3) (kept_give w m n k x s st.0 st.1 st.2)
 kept_step w v (Split m n new low) s st = subst WholeIndex (sym st.2) (kept_split w m n new low s st.0 st.1)
@@ -230,6 +243,7 @@ kept_step w v (BranchEntry m n k c) s st = subst WholeIndex (sym st.3) (kept_ent
 kept_step w v (Write n u) s st = subst WholeIndex (sym st.1) (kept_write w n u s st.0)
 kept_step w v (End m keys) s st = subst WholeIndex (sym st.1) (kept_end w m keys s st.0)
 kept_step w v (Fail m c) s st = subst WholeIndex (sym st.1) (kept_fail w m c s st.0)
+kept_step w v GroupRestart s st = subst WholeIndex (sym st) (kept_restart w s)
 
 pub kept_start : WholeIndex start
 kept_start = record { roots = roots_start; paths = paths_start; shape = shape_start; leaves = leaves_start; apart = apart_start }

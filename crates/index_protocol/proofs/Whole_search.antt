@@ -1,8 +1,10 @@
 -- A search ends at a leaf, after no more steps than low keys allow.
-use Rattle.std.proofs.Common.{◌≡◌, ℕ, zero, suc, ◌+◌, ◌<◌, ◌≤◌, refl, sym, ◌∙◌, arith, Option, Some, None}
+use Rattle.std.proofs.Common.{◌≡◌, ℕ, zero, suc, ◌+◌, ◌<◌, ◌≤◌, refl, sym, ◌∙◌, arith, Option, Some, None, true, false, inl, inr}
+use Rattle.std.specs.Prelude.{◌≢◌}
+use Rattle.std.proofs.lemmas.Bool.{cases_eq}
 use Rattle.index_protocol.specs.Index.{Rest, World, Kind, Unmade, Leaf, Branch}
 use Rattle.index_protocol.specs.Search.{Go, Right, Down, Here, Nowhere, Reached, IsKnown, Leads, Later}
-use Rattle.index_protocol.specs.Whole_search.{Found, on, search_from, Allowed, IsFound, IsPlace, SearchEnds, SearchFinds}
+use Rattle.index_protocol.specs.Whole_search.{Found, on, search_from, Allowed, IsFound, IsPlace, SearchEnds, SearchFinds, ClaimFinds}
 use Rattle.index_protocol.proofs.Search.{leads, begins, answers}
 
 -- steps enough
@@ -62,3 +64,9 @@ place_of worlds s copy k x (Some y) ok h f =
 
 pub finds : SearchFinds
 finds worlds s copy k x ok h = place_of worlds s copy k x _ ok h (ends worlds s copy k ok)
+
+pub claim_finds : ClaimFinds
+claim_finds worlds s copy keeps k x ok claims mine is = finds worlds s copy k x ok (record { given = is; free = λ o e. own o (claims k o e) (mine o) })
+  where
+    own : (o : ℕ) → keeps o k ≡ true → (o ≢ s → keeps o k ≡ false) → o ≡ s
+    own o a b = elim (cases_eq o s) [ inl e ↦ e | inr ne ↦ absurd (let c = b ne in cc) ]

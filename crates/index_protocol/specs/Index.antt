@@ -94,6 +94,10 @@ written_rest g n v = record g { shown = alter g.shown n (λ _. v) }
 abbrev pub ended_rest : Rest → (ℕ → Bool) → Rest
 ended_rest g keys = record g { giver = λ k. if keys k then None else g.giver k }
 
+-- every page is brought to its last version, and no lock is left
+abbrev pub restarted_rest : Rest → (ℕ → ℕ) → Rest
+restarted_rest g last = record g { shown = last; giver = λ k. None }
+
 -- a failure leaves each page its first changes
 abbrev pub failed_rest : Rest → (ℕ → ℕ) → Rest
 failed_rest g c = record g {
@@ -170,6 +174,7 @@ pub data Move : Type 0 where
   Write : ℕ → ℕ → Move  -- page, version
   End : ℕ → (ℕ → Bool) → Move  -- the keys whose locks are released, or the keys given under a sole use that ends
   Fail : ℕ → (ℕ → ℕ) → Move  -- by page: how many changes are left
+  GroupRestart : Move  -- after a failure of each member, and before any member reads
 
 abbrev pub given_world : World → ℕ → ℕ → ℕ → ℕ → World
 given_world w m n k x = record { rest = given_rest w.rest m n (w.pages n) k x; pages = λ q. if q == n then with_place (w.pages n) k x else w.pages q }
@@ -189,6 +194,9 @@ ended_world w keys = record w { rest = ended_rest w.rest keys }
 abbrev pub failed_world : World → (ℕ → ℕ) → World
 failed_world w c = record { rest = failed_rest w.rest c; pages = λ n. failed_page (w.pages n) (c n) }
 
+abbrev pub restarted_world : World → World
+restarted_world w = record w { rest = restarted_rest w.rest (λ n. (w.pages n).last) }
+
 abbrev pub Step : World → Move → World → Type 0
 Step w (Give m n k x) v = MayGive w.rest n (w.pages n) k × MayChange w.rest m n (w.pages n) × IsOpen w.rest m n × (v ≡ given_world w m n k x)
 Step w (Split m n new low) v = MaySplit w.rest n (w.pages n) new low × MayChange w.rest m n (w.pages n) × (v ≡ split_world w m n new low)
@@ -196,6 +204,7 @@ Step w (BranchEntry m n k c) v = MayEnterBranch w.rest m n (w.pages n) k c × Ma
 Step w (Write n u) v = MayWrite w.rest n (w.pages n) u × (v ≡ written_world w n u)
 Step w (End m keys) v = MayEnd w m keys × (v ≡ ended_world w keys)
 Step w (Fail m c) v = ((n : ℕ) → MayFail w.rest m c n (w.pages n)) × (v ≡ failed_world w c)
+Step w GroupRestart v = v ≡ restarted_world w
 
 -- ---- the start: page 1 is the first branch, page 2 the first leaf
 abbrev pub blank : Page

@@ -1,6 +1,6 @@
 -- A search through copies that may be old, and what it meets.
 use Rattle.std.specs.Prelude.{◌≡◌, ◌≢◌, ℕ, zero, suc, ◌<◌, ◌≤◌, false, Option, Some, None, if◌then◌else◌}
-use Rattle.index_protocol.specs.Index.{Rest, Page, Link, World, Move, Step, Fail, Give, Split, BranchEntry, Write, End, Kind, Unmade, Leaf, Branch, beyond, IsOpen}
+use Rattle.index_protocol.specs.Index.{Rest, Page, Link, World, Move, Step, Fail, Give, Split, BranchEntry, Write, End, GroupRestart, Kind, Unmade, Leaf, Branch, beyond, IsOpen}
 use Rattle.index_protocol.specs.Whole.{WholeIndex}
 
 pub data Go : Type 0 where
@@ -92,6 +92,7 @@ Survives m (Split _ _ _ _) = Unit {0}
 Survives m (BranchEntry _ _ _ _) = Unit {0}
 Survives m (Write _ _) = Unit {0}
 Survives m (End _ _) = Unit {0}
+Survives m GroupRestart = ⊥
 
 abbrev pub MovesKeep : Type 0
 MovesKeep = (m : ℕ) (w v : World) (e : Move) → WholeIndex w → Step w e v → Survives m e → Later m w v

@@ -1,5 +1,5 @@
 -- A whole search, while the index changes: each page is read in any copy that the member may have by then.
-use Rattle.std.specs.Prelude.{◌≡◌, ℕ, zero, suc, ◌+◌, ◌≤◌, false, Option, Some, None}
+use Rattle.std.specs.Prelude.{◌≡◌, ◌≢◌, ℕ, zero, suc, ◌+◌, ◌≤◌, Bool, true, false, Option, Some, None}
 use Rattle.index_protocol.specs.Index.{World, Leaf, beyond}
 use Rattle.index_protocol.specs.Whole.{WholeIndex}
 use Rattle.index_protocol.specs.Search.{Go, Right, Down, Here, Nowhere, look, Reached, IsCopy, IsKnown, Answers, Later}
@@ -47,3 +47,13 @@ IsPlace worlds k x (Some y) = ((worlds y.step).pages y.page).entry y.version k �
 abbrev pub SearchFinds : Type 0
 SearchFinds = (worlds : ℕ → World) (m : ℕ) (copy : ℕ → ℕ → ℕ) (k x : ℕ) → Allowed worlds m copy → IsKnown (worlds 0).rest m k x
     → IsPlace worlds k x (search_from worlds copy (k + k + 3) 0 1 k)
+
+-- ---- the claims that the locks' protocol keeps apart: by member and key, whether the member has a claim that keeps others from
+-- the key's row (its own X claim on the row, or its sole use of the table's pages)
+abbrev pub GiversClaim : World → (ℕ → ℕ → Bool) → Type 0
+GiversClaim w keeps = (k o : ℕ) → w.rest.giver k ≡ Some o → keeps o k ≡ true
+
+-- so a searcher whose claim on the row, or on the whole table, no other member's claim withstands finds the place
+abbrev pub ClaimFinds : Type 0
+ClaimFinds = (worlds : ℕ → World) (m : ℕ) (copy : ℕ → ℕ → ℕ) (keeps : ℕ → ℕ → Bool) (k x : ℕ) → Allowed worlds m copy → GiversClaim (worlds 0) keeps
+    → ((o : ℕ) → o ≢ m → keeps o k ≡ false) → (worlds 0).rest.given k ≡ Some x → IsPlace worlds k x (search_from worlds copy (k + k + 3) 0 1 k)

@@ -1,5 +1,5 @@
 //! The index of a table as a pure machine: branch and leaf pages, each with all its versions, and the moves that give a key
-//! its place, split a page, enter a page in its branch, write a page to the group's copy, end a transaction, and fail.
+//! its place, split a page, enter a page in its branch, write a page to the group's copy, end a transaction, fail, and restart the group.
 //! What is proved of it holds for every list of moves.
 //!
 //! The crate has definitions and proofs alone. Its functions do nothing: their contracts are the theorems.
@@ -10,7 +10,7 @@ ghost use Rattle.index_protocol.specs.Order.{FailureIsCut, OrderGives};
 ghost use Rattle.index_protocol.specs.Partition.{Partitions};
 ghost use Rattle.index_protocol.specs.Search.{CopyAnswers, MovesKeep, SearchBegins, SearchLeads};
 ghost use Rattle.index_protocol.specs.Whole.{AlwaysWhole, KeepsWhole, StartsWhole};
-ghost use Rattle.index_protocol.specs.Whole_search.{SearchEnds, SearchFinds};
+ghost use Rattle.index_protocol.specs.Whole_search.{ClaimFinds, SearchEnds, SearchFinds};
 
 /// The start is whole, each move keeps what is, and so every list of moves does.
 pub fn whole_index()
@@ -27,7 +27,7 @@ pub fn one_place()
 
 /// A search through copies that a member may have never meets a page that is not there, nor a key below a low key; it ends
 /// at a leaf that covers the key, which names no other place, and names the key's place wherever the key has one and no
-/// other member that gave it keeps it from others.
+/// other member that gave it keeps it from others: so a claim on the row, or on the table, finds it.
 pub fn sound_search()
     ensures begins { SearchBegins }
     ensures leads { SearchLeads }
@@ -35,6 +35,7 @@ pub fn sound_search()
     ensures later { MovesKeep }
     ensures ends { SearchEnds }
     ensures finds { SearchFinds }
+    ensures claims { ClaimFinds }
 {}
 
 /// The order in which a member writes its changed pages gives the guard of a write, and what the logs hold gives the guard
