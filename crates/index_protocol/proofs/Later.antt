@@ -1,10 +1,10 @@
 -- A move leaves a search of another member, or of its own, where it was.
-use Rattle.std.proofs.Common.{◌≡◌, ℕ, ◌<◌, ◌≤◌, refl, sym, ◌∙◌, subst, arith, true, false, Bool, Some, None, inl, inr}
-use Rattle.std.specs.Prelude.{◌≢◌, ◌==◌, leb, if◌then◌else◌}
-use Rattle.std.proofs.lemmas.Bool.{cases_eq, cases_lt, leb-true}
-use Rattle.index_protocol.specs.Index.{Rest, Page, World, Move, Give, Split, BranchEntry, Write, End, Fail, GroupRestart, Unmade, Leaf, Step, given_rest, split_rest, entered_rest, written_rest, ended_rest, failed_rest, given_world, split_world, entered_world, written_world, ended_world, failed_world, MayChange, MayGive, MaySplit, MayWrite, MayFail}
-use Rattle.index_protocol.specs.Whole.{Leaves, WholeIndex}
-use Rattle.index_protocol.specs.Search.{Reached, IsKnown, Later, Survives, MovesKeep}
+use Rattle.std.proofs.Common.{◌≡◌, ℕ, ◌<◌, ◌≤◌, refl, sym, ◌∙◌, subst, arith, Bool, Some, None, inl, inr}
+use Rattle.std.specs.Prelude.{◌≢◌}
+use Rattle.std.proofs.lemmas.Bool.{cases_eq, cases_lt}
+use Rattle.index_protocol.specs.Index.{Rest, Page, Give, Split, BranchEntry, Write, End, Fail, GroupRestart, Unmade, given_rest, split_rest, entered_rest, written_rest, ended_rest, failed_rest, MayChange, MayFail}
+use Rattle.index_protocol.specs.Whole.{Leaves}
+use Rattle.index_protocol.specs.Search.{Reached, IsKnown, Later, MovesKeep}
 use Rattle.index_protocol.proofs.Runs.{ungiven}
 
 -- a page that is changed, and that is not wholly shown, was its member's before

@@ -1,7 +1,7 @@
 -- Each move, over the keys of one leaf.
 use Rattle.std.proofs.Common.{◌≡◌, ℕ, ◌<◌, ◌≤◌, arith, true, false, Bool, Some, None}
 use Rattle.std.specs.Prelude.{◌≢◌}
-use Rattle.index_protocol.specs.Index.{Rest, Page, Unmade, Leaf, Branch, beyond, with_place, split_left, split_right, given_rest, split_rest, entered_rest, written_rest, ended_rest, restarted_rest, failed_rest, failed_page, MayChange, MayGive, MaySplit, MayWrite, MayFail}
+use Rattle.index_protocol.specs.Index.{Rest, Page, Unmade, Leaf, Branch, beyond, with_place, split_left, split_right, given_rest, split_rest, entered_rest, written_rest, ended_rest, restarted_rest, failed_rest, failed_page, MayChange, MayGive, MaySplit}
 use Rattle.index_protocol.specs.Whole.{Leaves}
 use Rattle.index_protocol.proofs.Laws.{below, beyond_some}
 

@@ -1,8 +1,8 @@
 -- Each move, over the links and the entries of branches of one page.
-use Rattle.std.proofs.Common.{◌≡◌, ℕ, ◌+◌, ◌<◌, ◌≤◌, sym, ◌∙◌, refl, subst, arith, true, false, Bool, Some, inl, inr}
-use Rattle.std.specs.Prelude.{◌≢◌, ◌==◌, leb, if◌then◌else◌}
-use Rattle.std.proofs.lemmas.Bool.{cond_both, cases_eq}
-use Rattle.index_protocol.specs.Index.{Rest, Page, Link, Unmade, Leaf, Branch, beyond, with_place, split_left, split_right, given_rest, split_rest, entered_rest, written_rest, ended_rest, restarted_rest, failed_rest, failed_page, IsOpen, MayChange, MayGive, MaySplit, MayEnterBranch, MayWrite, MayFail}
+use Rattle.std.proofs.Common.{◌≡◌, ℕ, ◌+◌, ◌<◌, ◌≤◌, subst, arith, true, false, Bool, Some, inl, inr}
+use Rattle.std.specs.Prelude.{◌≢◌}
+use Rattle.std.proofs.lemmas.Bool.{cases_eq}
+use Rattle.index_protocol.specs.Index.{Rest, Page, Link, Unmade, Leaf, Branch, beyond, with_place, split_left, split_right, given_rest, split_rest, entered_rest, written_rest, ended_rest, restarted_rest, failed_rest, failed_page, IsOpen, MayChange, MaySplit, MayEnterBranch, MayWrite, MayFail}
 use Rattle.index_protocol.specs.Whole.{Shape}
 use Rattle.index_protocol.proofs.Laws.{below_high, beyond_some, apart}
 

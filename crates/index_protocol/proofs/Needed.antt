@@ -1,10 +1,9 @@
 -- The states that show the guards' need.
-use Rattle.std.proofs.Common.{◌≡◌, ℕ, zero, suc, ◌<◌, ◌≤◌, refl, arith, true, false, Some, None}
-use Rattle.std.specs.Prelude.{◌≢◌}
-use Rattle.index_protocol.specs.Index.{World, Link, Move, Split, Give, BranchEntry, Write, End, Leaf, Branch, Unmade, Step, start, beyond, given_world, split_world, entered_world, written_world, ended_world, failed_world, IsOpen, MayChange, MayGive, MayEnd}
-use Rattle.index_protocol.specs.Whole.{WholeIndex, Run}
-use Rattle.index_protocol.specs.Search.{Right, Down, Here, look, greatest, IsKnown}
-use Rattle.index_protocol.specs.Needed.{was_split, was_given, entered_after, all_written, key_7, run_moves, SplitterGoesOn, left_first, RightFirstIsNeeded, was_entered, branch_first, ChildFirstIsNeeded, right_written, LeftBeforeBranchIsNeeded, half_shown, given_by_other, ReachedIsNeeded, WrittenBeforeEndIsNeeded, without_right, BothSidesIsNeeded, OneWriterIsNeeded}
+use Rattle.std.proofs.Common.{◌≡◌, ℕ, ◌<◌, refl, arith, Some, None}
+use Rattle.index_protocol.specs.Index.{World, Split, Give, BranchEntry, Write, End, Leaf, Unmade, Step, start, beyond, written_world, ended_world}
+use Rattle.index_protocol.specs.Whole.{WholeIndex}
+use Rattle.index_protocol.specs.Search.{greatest}
+use Rattle.index_protocol.specs.Needed.{was_split, was_given, entered_after, all_written, key_7, SplitterGoesOn, RightFirstIsNeeded, was_entered, ChildFirstIsNeeded, right_written, LeftBeforeBranchIsNeeded, half_shown, ReachedIsNeeded, WrittenBeforeEndIsNeeded, BothSidesIsNeeded, OneWriterIsNeeded}
 use Rattle.index_protocol.proofs.Runs.{kept_start, kept_step}
 
 step_split : Step start (Split 1 2 3 5) was_split

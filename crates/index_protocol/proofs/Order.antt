@@ -1,10 +1,10 @@
 -- The order of page writes gives the guard of a write, and the logs that of a failure.
-use Rattle.std.proofs.Common.{◌≡◌, ℕ, zero, suc, ◌+◌, ◌-◌, ◌<◌, ◌≤◌, refl, sym, ◌∙◌, subst, arith, Some, inl, inr}
+use Rattle.std.proofs.Common.{◌≡◌, ℕ, suc, ◌-◌, ◌<◌, ◌≤◌, sym, ◌∙◌, subst, arith, Some, inl, inr}
 use Rattle.std.specs.Prelude.{◌≢◌}
 use Rattle.std.proofs.lemmas.Bool.{cases_eq, cases_lt}
-use Rattle.index_protocol.specs.Index.{Rest, Page, Link, World, Unmade, Leaf, Branch, MayWrite, MayFail}
+use Rattle.index_protocol.specs.Index.{Link, World, Unmade, Branch}
 use Rattle.index_protocol.specs.Whole.{WholeIndex}
-use Rattle.index_protocol.specs.Order.{InOrder, OrderGives, Logs, IsCut, InLogs, FailureIsCut}
+use Rattle.index_protocol.specs.Order.{OrderGives, FailureIsCut}
 
 some_of : (w : World) (q : ℕ) → WholeIndex w → w.rest.kind q ≢ Unmade → (w.rest.shown q ≡ 0 → w.rest.shown q ≡ (w.pages q).last) → 1 ≤ w.rest.shown q
 some_of w q s made all = elim (cases_eq (w.rest.shown q) 0) [

@@ -1,9 +1,8 @@
 -- The links lead from the first leaf to the leaf that covers a key.
 use Rattle.std.proofs.Common.{◌≡◌, ℕ, zero, suc, ◌+◌, ◌<◌, ◌≤◌, refl, sym, ◌∙◌, arith, true, false, Option, Some, None, inl, inr}
-use Rattle.std.specs.Prelude.{◌≢◌, ◌==◌, if◌then◌else◌}
 use Rattle.std.proofs.lemmas.Bool.{cond_both, cases_lt, cases_Bool}
 use Rattle.index_protocol.specs.Index.{Link, World, Leaf, beyond}
-use Rattle.index_protocol.specs.Whole.{Shape, Leaves, WholeIndex}
+use Rattle.index_protocol.specs.Whole.{Shape, WholeIndex}
 use Rattle.index_protocol.specs.Partition.{right_of, last_link, last_entry, walk, IsHome, Partitions}
 use Rattle.index_protocol.proofs.Paths.{has_last}
 

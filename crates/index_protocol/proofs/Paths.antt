@@ -1,8 +1,8 @@
 -- Each move, over the splits between pages; and the start.
-use Rattle.std.proofs.Common.{◌≡◌, ℕ, zero, suc, ◌+◌, ◌<◌, ◌≤◌, arith, refl, sym, ◌∙◌, subst, true, false, None, Some, inl, inr}
-use Rattle.std.specs.Prelude.{◌≢◌, ◌==◌, if◌then◌else◌}
-use Rattle.std.proofs.lemmas.Bool.{cond_both, cases_eq, cases_lt}
-use Rattle.index_protocol.specs.Index.{Rest, Page, World, Unmade, Leaf, beyond, with_place, split_left, split_right, given_rest, split_rest, failed_rest, failed_page, entered_rest, written_rest, start_rest, start, MayGive, MaySplit, MayWrite, MayFail}
+use Rattle.std.proofs.Common.{◌≡◌, ℕ, zero, suc, ◌+◌, ◌<◌, ◌≤◌, arith, refl, sym, ◌∙◌, subst, false, Some, inl, inr}
+use Rattle.std.specs.Prelude.{◌≢◌}
+use Rattle.std.proofs.lemmas.Bool.{cases_eq, cases_lt}
+use Rattle.index_protocol.specs.Index.{Rest, Page, World, Unmade, Leaf, beyond, with_place, split_left, split_right, split_rest, failed_rest, failed_page, written_rest, start_rest, start, MaySplit}
 use Rattle.index_protocol.specs.Whole.{Roots, Paths, Shape, Leaves, Apart, WholeIndex}
 use Rattle.index_protocol.proofs.Laws.{below, beyond_some}
 
@@ -163,8 +163,8 @@ has_last w n k x s leaf is low in' =
     let last_a = own.given_last k x is refl in
     let made : 1 ≤ (w.pages n).last = (s.shape n).made (λ e. cc) in
     (s.leaves n).has (w.pages n).last k x leaf made (omega arith) is low in'
-      (λ e. (let last_n = (s.leaves n).given_last k x is (grind (arith, e)) in last_n))
-      (λ ne. elim (cases_lt t (w.rest.parted_at n a)) [
-        | inl lt ↦ lt
-        | inr ge ↦ absurd (ne (s.apart n a (w.pages n).last t k leaf leaf_a made (omega arith) (own.given_from k x is refl) last_a low (own.given_low k x is refl) in' (own.given_covered k x is refl) ge (s.paths.made a n (λ e. cc))))
-      ])
+    (λ e. (let last_n = (s.leaves n).given_last k x is (grind (arith, e)) in last_n))
+    (λ ne. elim (cases_lt t (w.rest.parted_at n a)) [
+      | inl lt ↦ lt
+      | inr ge ↦ absurd (ne (s.apart n a (w.pages n).last t k leaf leaf_a made (omega arith) (own.given_from k x is refl) last_a low (own.given_low k x is refl) in' (own.given_covered k x is refl) ge (s.paths.made a n (λ e. cc))))
+    ])

@@ -33,11 +33,11 @@ made_branch w n s leaf = (s.shape n).made (λ e. cc)
 apart_one : (w : World) (n k x : ℕ) → WholeIndex w → 1 ≤ (w.pages n).last → (a q : ℕ) → Apart w.rest a q (if a == n then with_place (w.pages n) k x else w.pages a) (if q == n then with_place (w.pages n) k x else w.pages q)
 apart_one w n k x s made a q = cond_both (a == n) _ _ (λ z. Apart w.rest a q z (if q == n then with_place (w.pages n) k x else w.pages q))
     (λ e. cond_both (q == n) _ _ (λ z. Apart w.rest a q (with_place (w.pages n) k x) z)
-      (λ f. subst (λ z. Apart w.rest a z (with_place (w.pages n) k x) (with_place (w.pages n) k x)) (eqb-true a n e ∙ sym (eqb-true q n f)) (apart_same w.rest a (with_place (w.pages n) k x) (with_place (w.pages n) k x)))
-      (λ f. subst (λ z. Apart w.rest z q (with_place (w.pages n) k x) (w.pages q)) (sym (eqb-true a n e)) (apart_changed w.rest n q (w.pages n) (w.pages q) k x (s.apart n q) made (parted_by w n s q))))
+    (λ f. subst (λ z. Apart w.rest a z (with_place (w.pages n) k x) (with_place (w.pages n) k x)) (eqb-true a n e ∙ sym (eqb-true q n f)) (apart_same w.rest a (with_place (w.pages n) k x) (with_place (w.pages n) k x)))
+    (λ f. subst (λ z. Apart w.rest z q (with_place (w.pages n) k x) (w.pages q)) (sym (eqb-true a n e)) (apart_changed w.rest n q (w.pages n) (w.pages q) k x (s.apart n q) made (parted_by w n s q))))
     (λ e. cond_both (q == n) _ _ (λ z. Apart w.rest a q (w.pages a) z)
-      (λ f. subst (λ z. Apart w.rest a z (w.pages a) (with_place (w.pages n) k x)) (sym (eqb-true q n f)) (flip w.rest n a (with_place (w.pages n) k x) (w.pages a) (apart_changed w.rest n a (w.pages n) (w.pages a) k x (s.apart n a) made (parted_by w n s a))))
-      (λ f. s.apart a q))
+    (λ f. subst (λ z. Apart w.rest a z (w.pages a) (with_place (w.pages n) k x)) (sym (eqb-true q n f)) (flip w.rest n a (with_place (w.pages n) k x) (w.pages a) (apart_changed w.rest n a (w.pages n) (w.pages a) k x (s.apart n a) made (parted_by w n s a))))
+    (λ f. s.apart a q))
 
 grows_one : (w : World) (n k x q : ℕ) → (w.pages q).last ≤ (if q == n then with_place (w.pages n) k x else w.pages q).last
 grows_one w n k x q = grind arith
@@ -145,7 +145,7 @@ right_kept w m c s may n v l a b is =
     let made : w.rest.kind n ≢ Unmade = λ e. (let u = (s.shape n).unmade e in omega (arith, a, le, u)) in
     let made_r : w.rest.kind l.right ≢ Unmade = λ e. made (sym kind ∙ e) in
     plain (c l.right) (w.rest.split_of l.right) ((may l.right).gone made_r) (λ e. (let own = (s.shape n).right_own v l a le is in grind (arith, e, own, b)))
-      (λ ne. (let other = (s.shape n).right_other v (w.rest.split_of l.right) l a le is ne in let st = all_stay w m c s may n (w.rest.split_of l.right) made (omega (arith, a, b)) in omega (arith, other, st)))
+    (λ ne. (let other = (s.shape n).right_other v (w.rest.split_of l.right) l a le is ne in let st = all_stay w m c s may n (w.rest.split_of l.right) made (omega (arith, a, b)) in omega (arith, other, st)))
   where
     plain : (cr q : ℕ) → (cr ≡ 0 → c q < w.rest.parted_at l.right q) → (q ≡ n → w.rest.parted_at l.right q ≤ c q) → (q ≢ n → w.rest.parted_at l.right q ≤ c q) → 1 ≤ cr
     plain cr q gone x y = elim (cases_eq q n) [
@@ -197,21 +197,21 @@ split_apart w m n new low s may ne a q = three w n new low (λ x p. Apart (split
 
     from_left : (q : ℕ) → Apart (split_rest w.rest m n (w.pages n) new low) n q (split_left (w.pages n) new low) ((split_world w m n new low).pages q)
     from_left = three w n new low (λ x p. Apart (split_rest w.rest m n (w.pages n) new low) n x (split_left (w.pages n) new low) p) ne
-      (apart_same (split_rest w.rest m n (w.pages n) new low) n (split_left (w.pages n) new low) (split_left (w.pages n) new low))
-      (flip (split_rest w.rest m n (w.pages n) new low) new n (split_right (w.pages n) low) (split_left (w.pages n) new low) (apart_both w.rest m n (w.pages n) new low ne))
-      (λ x off off'. apart_left w.rest m n x (w.pages n) (w.pages x) new low (s.apart n x) made (parted_by w n s x) ne off' may.covered)
+        (apart_same (split_rest w.rest m n (w.pages n) new low) n (split_left (w.pages n) new low) (split_left (w.pages n) new low))
+        (flip (split_rest w.rest m n (w.pages n) new low) new n (split_right (w.pages n) low) (split_left (w.pages n) new low) (apart_both w.rest m n (w.pages n) new low ne))
+        (λ x off off'. apart_left w.rest m n x (w.pages n) (w.pages x) new low (s.apart n x) made (parted_by w n s x) ne off' may.covered)
 
     from_right : (q : ℕ) → Apart (split_rest w.rest m n (w.pages n) new low) new q (split_right (w.pages n) low) ((split_world w m n new low).pages q)
     from_right = three w n new low (λ x p. Apart (split_rest w.rest m n (w.pages n) new low) new x (split_right (w.pages n) low) p) ne
-      (apart_both w.rest m n (w.pages n) new low ne)
-      (apart_same (split_rest w.rest m n (w.pages n) new low) new (split_right (w.pages n) low) (split_right (w.pages n) low))
-      (λ x off off'. apart_new w.rest m n x (w.pages n) (w.pages x) new low (s.apart n x) made (parted_by w n s x) ne off' off may.above)
+        (apart_both w.rest m n (w.pages n) new low ne)
+        (apart_same (split_rest w.rest m n (w.pages n) new low) new (split_right (w.pages n) low) (split_right (w.pages n) low))
+        (λ x off off'. apart_new w.rest m n x (w.pages n) (w.pages x) new low (s.apart n x) made (parted_by w n s x) ne off' off may.above)
 
     from_far : (x : ℕ) → x ≢ n → x ≢ new → (q : ℕ) → Apart (split_rest w.rest m n (w.pages n) new low) x q (w.pages x) ((split_world w m n new low).pages q)
     from_far x off off' = three w n new low (λ y p. Apart (split_rest w.rest m n (w.pages n) new low) x y (w.pages x) p) ne
-      (flip (split_rest w.rest m n (w.pages n) new low) n x (split_left (w.pages n) new low) (w.pages x) (apart_left w.rest m n x (w.pages n) (w.pages x) new low (s.apart n x) made (parted_by w n s x) ne off' may.covered))
-      (flip (split_rest w.rest m n (w.pages n) new low) new x (split_right (w.pages n) low) (w.pages x) (apart_new w.rest m n x (w.pages n) (w.pages x) new low (s.apart n x) made (parted_by w n s x) ne off' off may.above))
-      (λ y no' no''. apart_far w.rest m n x y (w.pages n) (w.pages x) (w.pages y) new low (s.apart x y) off' no'')
+        (flip (split_rest w.rest m n (w.pages n) new low) n x (split_left (w.pages n) new low) (w.pages x) (apart_left w.rest m n x (w.pages n) (w.pages x) new low (s.apart n x) made (parted_by w n s x) ne off' may.covered))
+        (flip (split_rest w.rest m n (w.pages n) new low) new x (split_right (w.pages n) low) (w.pages x) (apart_new w.rest m n x (w.pages n) (w.pages x) new low (s.apart n x) made (parted_by w n s x) ne off' off may.above))
+        (λ y no' no''. apart_far w.rest m n x y (w.pages n) (w.pages x) (w.pages y) new low (s.apart x y) off' no'')
 
 kept_split : (w : World) (m n new low : ℕ) → WholeIndex w → MaySplit w.rest n (w.pages n) new low → MayChange w.rest m n (w.pages n) → WholeIndex (split_world w m n new low)
 kept_split w m n new low s may alone =

@@ -1,9 +1,9 @@
 -- Each step of a search leads to a page whose low key is not above the key, and a leaf has what is known.
-use Rattle.std.proofs.Common.{◌≡◌, ◌≢◌, ℕ, zero, suc, ◌<◌, ◌≤◌, refl, sym, ◌∙◌, subst, arith, true, false, Option, Some, None, inl, inr}
-use Rattle.std.proofs.lemmas.Bool.{cond_both, cases_eq, cases_lt}
-use Rattle.index_protocol.specs.Index.{Rest, Page, Link, World, Kind, Unmade, Leaf, Branch, beyond, IsOpen}
-use Rattle.index_protocol.specs.Whole.{Shape, Leaves, WholeIndex}
-use Rattle.index_protocol.specs.Search.{Go, Right, Down, Here, Nowhere, greatest, or_else, down, inside, past, look, Reached, IsCopy, IsKnown, Answers, Leads, SearchBegins, SearchLeads, CopyAnswers}
+use Rattle.std.proofs.Common.{◌≡◌, ℕ, zero, suc, ◌<◌, ◌≤◌, refl, sym, ◌∙◌, subst, arith, true, false, Option, Some, None, inl, inr}
+use Rattle.std.proofs.lemmas.Bool.{cond_both, cases_eq}
+use Rattle.index_protocol.specs.Index.{Rest, Page, Link, World, Kind, Unmade, Leaf, Branch, beyond}
+use Rattle.index_protocol.specs.Whole.{Shape, WholeIndex}
+use Rattle.index_protocol.specs.Search.{greatest, or_else, down, inside, past, Reached, IsCopy, IsKnown, Leads, SearchBegins, SearchLeads, CopyAnswers}
 use Rattle.index_protocol.proofs.Paths.{has_last}
 
 -- the greatest entry is one, if there is any
@@ -36,13 +36,16 @@ leads_down : (g : Rest) (p : Page) (m k n v : ℕ) (o : Option ℕ) → Shape g 
 leads_down g p m k n v None s r c a is up = absurd (s.first v is a c.within (up (g.low n) r.low))
 leads_down g p m k n v (Some d) s r c a is up =
     let kind = s.child v up.0 d is a c.within up.2 in
-    let low = s.child_low v up.0 d is a c.within up.2 in
-    (record {
-      made = λ e. cc;
-      low = omega (arith, low, up.1);
-      there = λ none. s.child_writer v up.0 d is a c.within up.2 none ∙ c.later (s.child_shown v up.0 d is a c.within up.2 none);
-      opens = λ q less. s.child_opener v up.0 d q is a c.within up.2 less ∙ c.later (s.child_open v up.0 d q is a c.within up.2 less);
-    }, is, kind)
+    let low = s.child_low v up.0 d is a c.within up.2 in (
+      record {
+        made = λ e. cc;
+        low = omega (arith, low, up.1);
+        there = λ none. s.child_writer v up.0 d is a c.within up.2 none ∙ c.later (s.child_shown v up.0 d is a c.within up.2 none);
+        opens = λ q less. s.child_opener v up.0 d q is a c.within up.2 less ∙ c.later (s.child_open v up.0 d q is a c.within up.2 less);
+      },
+      is,
+      kind,
+    )
 
 leads_inside : (g : Rest) (p : Page) (m k n v : ℕ) (kind : Kind) → g.kind n ≡ kind → Shape g n p → Reached g m k n → IsCopy g m n p v → 1 ≤ v → beyond (p.link v) k ≡ false → Leads g p m k n v (inside kind (p.entry v) k)
 leads_inside g p m k n v Unmade is s r c a in' = absurd (r.made is)
@@ -56,16 +59,19 @@ leads_past g p m k n v (Some l) is s r c a out =
     let low = s.right_low v l a c.within is in
     let kind = s.right_kind v l a c.within is in
     let up = s.above v l a c.within is in
-    let made = r.made in
-    (record {
-      made = λ e. made (sym kind ∙ e);
-      low = grind (arith, low, out);
-      there = λ none. s.right_writer v l a c.within is none ∙ c.later (s.right_shown v l a c.within is none);
-      opens = λ q less. elim (cases_eq q n) [
-        | inl e ↦ (let own = s.right_own v l a c.within is in let less' = subst (λ z. g.shown z < g.parted_at l.right z) e less in subst (λ z. g.writer z ≡ m) (sym e) (c.later (omega (arith, own, less'))))
-        | inr ne ↦ (let other = s.right_other v q l a c.within is ne in r.opens q (omega (arith, other, less)))
-      ];
-    }, kind, omega (arith, low, up))
+    let made = r.made in (
+      record {
+        made = λ e. made (sym kind ∙ e);
+        low = grind (arith, low, out);
+        there = λ none. s.right_writer v l a c.within is none ∙ c.later (s.right_shown v l a c.within is none);
+        opens = λ q less. elim (cases_eq q n) [
+          | inl e ↦ (let own = s.right_own v l a c.within is in let less' = subst (λ z. g.shown z < g.parted_at l.right z) e less in subst (λ z. g.writer z ≡ m) (sym e) (c.later (omega (arith, own, less'))))
+          | inr ne ↦ (let other = s.right_other v q l a c.within is ne in r.opens q (omega (arith, other, less)))
+        ];
+      },
+      kind,
+      omega (arith, low, up),
+    )
 
 pub leads : SearchLeads
 leads w m k n v s r c =

@@ -1,5 +1,5 @@
 -- A run that has each move, and guards without which a whole index is left: for each a state and a move that lacks it.
-use Rattle.std.specs.Prelude.{◌≡◌, ℕ, ◌≤◌, Bool, List, [], ◌∷◌, Some, None, if◌then◌else◌, ◌==◌}
+use Rattle.std.specs.Prelude.{◌≡◌, ℕ, ◌≤◌, Bool, List, [], ◌∷◌, None, if◌then◌else◌, ◌==◌}
 use Rattle.index_protocol.specs.Index.{World, Move, Split, Give, BranchEntry, Write, End, start, given_world, split_world, entered_world, written_world, ended_world, failed_world, IsOpen, MayChange, MayGive}
 use Rattle.index_protocol.specs.Whole.{WholeIndex, Run}
 use Rattle.index_protocol.specs.Search.{Right, Down, Here, look, IsKnown}

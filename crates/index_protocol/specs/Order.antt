@@ -1,6 +1,6 @@
 -- What a member does and what its log holds, and that these give the guards of a write and of a failure.
 use Rattle.std.specs.Prelude.{◌≡◌, ◌≢◌, ℕ, suc, ◌<◌, ◌≤◌, Some}
-use Rattle.index_protocol.specs.Index.{Rest, Page, World, Unmade, Leaf, Branch, MayWrite, MayFail}
+use Rattle.index_protocol.specs.Index.{Page, World, Unmade, Leaf, Branch, MayWrite, MayFail}
 use Rattle.index_protocol.specs.Whole.{WholeIndex}
 
 -- ---- the order in which a member writes its changed pages: leaves by falling low key, then branches by falling low key

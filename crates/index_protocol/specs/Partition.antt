@@ -1,5 +1,5 @@
 -- The leaves in their last versions, as the links lead from the first leaf.
-use Rattle.std.specs.Prelude.{◌≡◌, ℕ, zero, suc, ◌+◌, ◌<◌, ◌≤◌, true, false, Option, Some, None, if◌then◌else◌}
+use Rattle.std.specs.Prelude.{◌≡◌, ℕ, zero, suc, ◌+◌, ◌≤◌, false, Option, Some, None, if◌then◌else◌}
 use Rattle.index_protocol.specs.Index.{Link, World, Leaf, beyond}
 use Rattle.index_protocol.specs.Whole.{WholeIndex}
 

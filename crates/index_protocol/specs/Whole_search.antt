@@ -2,7 +2,7 @@
 use Rattle.std.specs.Prelude.{◌≡◌, ◌≢◌, ℕ, zero, suc, ◌+◌, ◌≤◌, Bool, true, false, Option, Some, None}
 use Rattle.index_protocol.specs.Index.{World, Leaf, beyond}
 use Rattle.index_protocol.specs.Whole.{WholeIndex}
-use Rattle.index_protocol.specs.Search.{Go, Right, Down, Here, Nowhere, look, Reached, IsCopy, IsKnown, Answers, Later}
+use Rattle.index_protocol.specs.Search.{Go, Right, Down, Here, Nowhere, look, Reached, IsCopy, IsKnown, Later}
 
 -- the leaf at which a search ends: at which step, and in which version
 pub record Found : Type 0 where
