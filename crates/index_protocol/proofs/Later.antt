@@ -60,7 +60,7 @@ alone_of : (g : Rest) (o n : ℕ) (p : Page) → MayChange g o n p → g.shown n
 alone_of g o n p alone = grind (arith, alone)
 
 pub moves_keep : MovesKeep
-moves_keep m w v (Give o n j y) s st lives = subst (Later m w) (sym st.3) (record {
+moves_keep m w v (Give o n j y) s st lives = subst (Later m w) (sym st.4) (record {
   reached = λ k q r. give_reached w.rest m o n (w.pages n) j y k q (enter_reached w.rest m o n (w.pages n) k q (alone_of w.rest o n (w.pages n) st.1) ((s.shape n).made (λ e. (let l = st.0.leaf in cc))) (s.paths.made q n) r);
   kind = λ k q r. refl;
   low = λ k q r. refl;

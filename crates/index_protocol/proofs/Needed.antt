@@ -3,19 +3,31 @@ use Rattle.std.proofs.Common.{◌≡◌, ℕ, ◌<◌, refl, arith, Some, None}
 use Rattle.index_protocol.specs.Index.{World, Split, Give, BranchEntry, Write, End, Leaf, Unmade, Step, start, beyond, written_world, ended_world}
 use Rattle.index_protocol.specs.Whole.{WholeIndex}
 use Rattle.index_protocol.specs.Search.{greatest}
-use Rattle.index_protocol.specs.Needed.{was_split, was_given, entered_after, all_written, key_7, SplitterGoesOn, RightFirstIsNeeded, was_entered, ChildFirstIsNeeded, right_written, LeftBeforeBranchIsNeeded, half_shown, ReachedIsNeeded, WrittenBeforeEndIsNeeded, BothSidesIsNeeded, OneWriterIsNeeded}
+use Rattle.index_protocol.specs.Needed.{formatted, was_split, was_given, entered_after, all_written, key_7, SplitterGoesOn, RightFirstIsNeeded, was_entered, ChildFirstIsNeeded, right_written, LeftBeforeBranchIsNeeded, half_shown, ReachedIsNeeded, WrittenBeforeEndIsNeeded, BothSidesIsNeeded, OneWriterIsNeeded}
 use Rattle.index_protocol.proofs.Runs.{kept_start, kept_step}
 
-step_split : Step start (Split 1 2 3 5) was_split
+abbrev leaf_written : World
+leaf_written = written_world (start 1) 2 1
+
+step_leaf : Step (start 1) (Write 2 1) leaf_written
+step_leaf = (record { grows = omega arith; within = omega arith; right = λ u l a b e. grind arith; child = λ u k c e. absurd cc; parted = λ u k c q e. absurd cc }, refl)
+
+step_branch : Step leaf_written (Write 1 1) formatted
+step_branch = (record { grows = omega arith; within = omega arith; right = λ u l a b e. grind arith; child = λ u k c e a b is. grind arith; parted = λ u k c q e a b is. grind arith }, refl)
+
+formatted_whole : WholeIndex formatted
+formatted_whole = kept_step leaf_written formatted (Write 1 1) (kept_step (start 1) leaf_written (Write 2 1) (kept_start 1) step_leaf) step_branch
+
+step_split : Step formatted (Split 1 2 3 5) was_split
 unfolding beyond
 step_split = (record { made = λ e. cc; fresh = refl; above = omega arith; covered = refl; at_entry = λ e. cc }, (λ ne. absurd (ne refl)), refl)
 
 split_whole : WholeIndex was_split
-split_whole = kept_step start was_split (Split 1 2 3 5) kept_start step_split
+split_whole = kept_step formatted was_split (Split 1 2 3 5) formatted_whole step_split
 
 step_give : Step was_split (Give 1 3 7 70) was_given
 unfolding beyond
-step_give = (record { leaf = refl; from_low = omega arith; covered = refl; free = refl }, (λ ne. refl), (λ q less. grind (arith, less)), refl)
+step_give = (record { leaf = refl; from_low = omega arith; covered = refl; free = refl }, (λ ne. refl), (λ q less. grind (arith, less)), (λ e. refl), refl)
 
 given_whole : WholeIndex was_given
 given_whole = kept_step was_split was_given (Give 1 3 7 70) split_whole step_give
@@ -64,7 +76,7 @@ step7 = (record { own = λ k is. grind arith; all_shown = all_shown }, refl)
 
 pub goes_on : SplitterGoesOn
 goes_on = record {
-  run = (was_split, step_split, (was_given, step_give, (entered_after, step_enter, (w4, step4, (w5, step5, (all_written, step6, (ended_world all_written key_7, step7, refl)))))));
+  run = (leaf_written, step_leaf, (formatted, step_branch, (was_split, step_split, (was_given, step_give, (entered_after, step_enter, (w4, step4, (w5, step5, (all_written, step6, (ended_world all_written key_7, step7, refl)))))))));
   known = λ m. record { given = refl; free = λ o e. grind arith };
 }
 

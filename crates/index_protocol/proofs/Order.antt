@@ -46,7 +46,7 @@ order w n s o = record {
     ]
 
 pub failure : FailureIsCut
-failure w logs m stable c s one cut seen n = record {
+failure w logs m stable c s one cut seen one_kept two_kept n = record {
   short = (cut n).short;
   kept = seen n;
   others = others;
@@ -71,7 +71,10 @@ failure w logs m stable c s one cut seen n = record {
     pred_of b h = (b - 1, omega arith)
 
     shown_root : w.rest.kind n ≢ Unmade → c n ≡ 0 → w.rest.parted_at n (w.rest.split_of n) ≡ 0 → ⊥
-    shown_root made none is = let a = s.paths.root_shown n made is in let b = seen n in omega (arith, a, b, none)
+    shown_root made none is = elim (cases_eq n 1) [
+      | inl e ↦ (let a = subst (λ z. 1 ≤ c z) (sym e) one_kept in omega (arith, a, none))
+      | inr ne ↦ (let a = subst (λ z. 1 ≤ c z) (sym (s.paths.roots n made is ne)) two_kept in omega (arith, a, none))
+    ]
 
     gone : w.rest.kind n ≢ Unmade → c n ≡ 0 → (i : ℕ) × (w.rest.parted_at n (w.rest.split_of n) ≡ suc i) → c (w.rest.split_of n) < w.rest.parted_at n (w.rest.split_of n)
     gone made none i =

@@ -1,14 +1,14 @@
 -- Each move, over the splits between pages; and the start.
-use Rattle.std.proofs.Common.{◌≡◌, ℕ, zero, suc, ◌+◌, ◌<◌, ◌≤◌, arith, refl, sym, ◌∙◌, subst, false, Some, inl, inr}
+use Rattle.std.proofs.Common.{◌≡◌, Bool, true, ℕ, zero, suc, ◌+◌, ◌<◌, ◌≤◌, arith, refl, sym, ◌∙◌, subst, false, Some, inl, inr}
 use Rattle.std.specs.Prelude.{◌≢◌}
 use Rattle.std.proofs.lemmas.Bool.{cases_eq, cases_lt}
-use Rattle.index_protocol.specs.Index.{Rest, Page, World, Unmade, Leaf, beyond, with_place, split_left, split_right, split_rest, failed_rest, failed_page, written_rest, start_rest, start, MaySplit}
+use Rattle.index_protocol.specs.Index.{Rest, Page, World, Unmade, Leaf, beyond, with_place, split_left, split_right, IsThere, given_rest, split_rest, entered_rest, ended_rest, restarted_rest, failed_rest, failed_page, written_rest, start_rest, start, MaySplit}
 use Rattle.index_protocol.specs.Whole.{Roots, Paths, Shape, Leaves, Apart, WholeIndex}
 use Rattle.index_protocol.proofs.Laws.{below, beyond_some}
 
 -- ---- the versions in which keys were given up
 pub paths_grow : (g : Rest) (a b : ℕ → ℕ) → ((q : ℕ) → a q ≤ b q) → Paths g a → Paths g b
-paths_grow g a b le s = record { made = λ n q made. (let x = s.made n q made in let y = le q in omega (arith, x, y)); self = s.self; kinds = s.kinds; first = s.first; root_shown = s.root_shown; chain = s.chain; left_low = s.left_low }
+paths_grow g a b le s = record { made = λ n q made. (let x = s.made n q made in let y = le q in omega (arith, x, y)); self = s.self; kinds = s.kinds; first = s.first; roots = s.roots; chain = s.chain; left_low = s.left_low }
 
 split_made : (g : Rest) (m n : ℕ) (p : Page) (new low aq bq r q : ℕ) → (g.kind r ≢ Unmade → g.parted_at r q ≤ aq) → g.parted_at n q ≤ aq → n ≢ new
     → (q ≡ n → bq ≡ p.last + 1) → (q ≡ n → aq ≡ p.last) → (q ≡ new → aq ≡ 0) → (q ≢ n → q ≢ new → bq ≡ aq) → (split_rest g m n p new low).kind r ≢ Unmade → (split_rest g m n p new low).parted_at r q ≤ bq
@@ -22,9 +22,9 @@ split_first : (g : Rest) (m n : ℕ) (p : Page) (new low r q : ℕ) → (g.kind 
     → (split_rest g m n p new low).kind r ≢ Unmade → (split_rest g m n p new low).parted_at r ((split_rest g m n p new low).split_of r) ≡ 0 → (split_rest g m n p new low).parted_at r q ≡ 0
 split_first g m n p new low r q x made none = grind arith
 
-split_root : (g : Rest) (m n : ℕ) (p : Page) (new low r : ℕ) → (g.kind r ≢ Unmade → g.parted_at r (g.split_of r) ≡ 0 → 1 ≤ g.shown r)
-    → (split_rest g m n p new low).kind r ≢ Unmade → (split_rest g m n p new low).parted_at r ((split_rest g m n p new low).split_of r) ≡ 0 → 1 ≤ (split_rest g m n p new low).shown r
-split_root g m n p new low r x made none = grind arith
+split_root : (g : Rest) (m n : ℕ) (p : Page) (new low r : ℕ) → (g.kind r ≢ Unmade → g.parted_at r (g.split_of r) ≡ 0 → r ≢ 1 → r ≡ 2)
+    → (split_rest g m n p new low).kind r ≢ Unmade → (split_rest g m n p new low).parted_at r ((split_rest g m n p new low).split_of r) ≡ 0 → r ≢ 1 → r ≡ 2
+split_root g m n p new low r x made none ne = grind arith
 
 split_chain : (g : Rest) (m n : ℕ) (p : Page) (new low r q : ℕ) → (g.kind r ≢ Unmade → 1 ≤ g.parted_at r (g.split_of r) → q ≢ g.split_of r → g.parted_at r q ≡ g.parted_at (g.split_of r) q)
     → (g.kind r ≢ Unmade → 1 ≤ g.parted_at r (g.split_of r) → g.split_of r ≢ new) → n ≢ new
@@ -47,7 +47,7 @@ paths_split g m n p new low a b s fresh up made ne x y z u o = record {
   self = λ r. self r (s.self r);
   kinds = λ r q. split_kinds g m n p new low r q (s.kinds r q) (s.kinds n q made) fresh made ne;
   first = λ r q. split_first g m n p new low r q (s.first r q);
-  root_shown = λ r. split_root g m n p new low r (s.root_shown r);
+  roots = λ r. split_root g m n p new low r (s.roots r);
   chain = λ r q. split_chain g m n p new low r q (s.chain r q) (split_off g a new r s fresh) ne;
   left_low = λ r. split_low g m n p new low r (s.left_low r) (split_off g a new r s fresh) ne up;
 }
@@ -78,7 +78,7 @@ paths_fail g a c stays s = record {
   self = grind (arith, s.self);
   kinds = λ n q. kinds n q (stays n q) (s.kinds n q);
   first = grind (arith, s.first);
-  root_shown = grind (arith, s.root_shown);
+  roots = grind (arith, s.roots);
   chain = grind (arith, s.chain);
   left_low = grind (arith, s.left_low);
 }
@@ -127,31 +127,43 @@ pub apart_fail : (g : Rest) (c : ℕ → ℕ) (n q : ℕ) (p r : Page) → Apart
 apart_fail g c n q p r s a b v u j ka kb x y e f x' y' z w i o = s v u j (grind (arith, ka)) (grind (arith, kb)) x (omega (arith, y, a)) e (omega (arith, f, b)) x' y' z w i o
 
 -- ---- the start
-pub shape_start : (n : ℕ) → Shape start_rest n (start.pages n)
+pub shape_start : (m n : ℕ) → Shape (start_rest m) n ((start m).pages n)
 unfolding beyond
-shape_start n = grind arith
+shape_start m n = grind arith
 
-pub leaves_start : (n : ℕ) → Leaves start_rest n (start.pages n)
+pub leaves_start : (m n : ℕ) → Leaves (start_rest m) n ((start m).pages n)
 unfolding beyond
-leaves_start n = grind arith
+leaves_start m n = grind arith
 
-pub roots_start : Roots start_rest
-roots_start = grind arith
+pub roots_start : (m : ℕ) → Roots (start_rest m)
+roots_start m = grind arith
 
-pub paths_start : Paths start_rest (λ q. (start.pages q).last)
-paths_start = grind arith
+pub paths_start : (m : ℕ) → Paths (start_rest m) (λ q. ((start m).pages q).last)
+paths_start m = grind arith
 
-pub apart_start : (n q : ℕ) → Apart start_rest n q (start.pages n) (start.pages q)
-apart_start n q v u k a b = λ c d e f x' y z w i o. grind (arith, a, b)
+pub apart_start : (m n q : ℕ) → Apart (start_rest m) n q ((start m).pages n) ((start m).pages q)
+apart_start m n q v u k a b = λ c d e f x' y z w i o. grind (arith, a, b)
 
-pub roots_split : (g : Rest) (m n : ℕ) (p : Page) (new low : ℕ) → Roots g → MaySplit g n p new low → Roots (split_rest g m n p new low)
-roots_split g m n p new low r may = grind arith
+pub roots_give : (g : Rest) (m n : ℕ) (p : Page) (k x : ℕ) → Roots g → g.kind n ≡ Leaf → IsThere g m 1 → Roots (given_rest g m n p k x)
+roots_give g m n p k x r leaf there = grind arith
+
+pub roots_enter : (g : Rest) (m n : ℕ) (p : Page) → Roots g → (g.shown n < p.last → g.writer n ≡ m) → 1 ≤ p.last → Roots (entered_rest g m n)
+roots_enter g m n p r alone made = grind arith
+
+pub roots_split : (g : Rest) (m n : ℕ) (p : Page) (new low : ℕ) → Roots g → MaySplit g n p new low → (g.shown n < p.last → g.writer n ≡ m) → 1 ≤ p.last → Roots (split_rest g m n p new low)
+roots_split g m n p new low r may alone made = grind arith
 
 pub roots_write : (g : Rest) (n v : ℕ) → Roots g → g.shown n ≤ v → Roots (written_rest g n v)
 roots_write g n v r le = grind arith
 
-pub roots_fail : (g : Rest) (c : ℕ → ℕ) → Roots g → g.shown 1 ≤ c 1 → g.shown 2 ≤ c 2 → Roots (failed_rest g c)
+pub roots_end : (g : Rest) (m : ℕ) (keys : ℕ → Bool) → Roots g → ((k : ℕ) → keys k ≡ true → g.giver k ≡ Some m) → (g.writer 1 ≡ m → 1 ≤ g.shown 1) → Roots (ended_rest g keys)
+roots_end g m keys r own shown = grind arith
+
+pub roots_fail : (g : Rest) (c : ℕ → ℕ) → Roots g → 1 ≤ c 1 → 1 ≤ c 2 → Roots (failed_rest g c)
 roots_fail g c r a b = grind arith
+
+pub roots_restart : (g : Rest) (last : ℕ → ℕ) → Roots g → 1 ≤ last 1 → Roots (restarted_rest g last)
+roots_restart g last r a = grind arith
 
 -- ---- what the last versions have
 pub has_last : (w : World) (n k x : ℕ) → WholeIndex w → w.rest.kind n ≡ Leaf → w.rest.given k ≡ Some x → w.rest.low n ≤ k → beyond ((w.pages n).link (w.pages n).last) k ≡ false → (w.pages n).entry (w.pages n).last k ≡ Some x

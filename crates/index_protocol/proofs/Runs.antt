@@ -2,11 +2,11 @@
 use Rattle.std.proofs.Common.{◌≡◌, ℕ, suc, ◌<◌, ◌≤◌, refl, sym, ◌∙◌, subst, arith, true, false, List, [], ◌∷◌, None, Some, inl, inr, Bool}
 use Rattle.std.specs.Prelude.{◌≢◌, ◌==◌, if◌then◌else◌}
 use Rattle.std.proofs.lemmas.Bool.{cond_both, cases_eq, cases_lt, eqb-true, eqb-false}
-use Rattle.index_protocol.specs.Index.{Rest, Page, Link, World, Move, Unmade, Leaf, Branch, Give, Split, BranchEntry, Write, End, Fail, GroupRestart, Step, beyond, with_place, split_left, split_right, given_rest, split_rest, entered_rest, written_rest, ended_rest, restarted_rest, failed_rest, failed_page, given_world, split_world, entered_world, written_world, ended_world, restarted_world, failed_world, start, IsOpen, MayChange, MayGive, MaySplit, MayEnterBranch, MayWrite, MayEnd, MayFail}
+use Rattle.index_protocol.specs.Index.{Rest, Page, Link, World, Move, Unmade, Leaf, Branch, Give, Split, BranchEntry, Write, End, Fail, GroupRestart, Step, beyond, with_place, split_left, split_right, given_rest, split_rest, entered_rest, written_rest, ended_rest, restarted_rest, failed_rest, failed_page, given_world, split_world, entered_world, written_world, ended_world, restarted_world, failed_world, start, IsOpen, IsThere, MayChange, MayGive, MaySplit, MayEnterBranch, MayWrite, MayEnd, MayFail}
 use Rattle.index_protocol.specs.Whole.{Roots, Paths, Shape, Leaves, Apart, WholeIndex, Run, AlwaysWhole}
 use Rattle.index_protocol.proofs.Moves.{PartedBy, shape_give, shape_give_other, shape_enter, shape_enter_other, shape_write, shape_write_other, shape_left, shape_right, shape_other, shape_fail, shape_end, shape_restart}
 use Rattle.index_protocol.proofs.Leaf_moves.{leaves_give, leaves_give_other, leaves_enter, leaves_enter_other, leaves_write, leaves_end, leaves_left, leaves_right, leaves_other, leaves_fail, leaves_restart}
-use Rattle.index_protocol.proofs.Paths.{paths_grow, paths_split, stays_all, paths_fail, flip, apart_changed, apart_same, apart_left, apart_new, apart_both, apart_far, apart_fail, shape_start, leaves_start, roots_start, paths_start, apart_start, roots_split, roots_write, roots_fail, has_last}
+use Rattle.index_protocol.proofs.Paths.{paths_grow, paths_split, stays_all, paths_fail, flip, apart_changed, apart_same, apart_left, apart_new, apart_both, apart_far, apart_fail, shape_start, leaves_start, roots_start, paths_start, apart_start, roots_give, roots_enter, roots_split, roots_write, roots_end, roots_fail, roots_restart, has_last}
 
 -- all that holds of one page
 record Page_whole (g : Rest) (n : ℕ) (p : Page) : Type 0 where
@@ -28,6 +28,12 @@ made_leaf w n s leaf = (s.shape n).made (λ e. cc)
 
 made_branch : (w : World) (n : ℕ) → WholeIndex w → w.rest.kind n ≡ Branch → 1 ≤ (w.pages n).last
 made_branch w n s leaf = (s.shape n).made (λ e. cc)
+
+alone_of : (g : Rest) (m n : ℕ) (p : Page) → MayChange g m n p → g.shown n < p.last → g.writer n ≡ m
+alone_of g m n p alone = grind (arith, alone)
+
+root_made : (w : World) → WholeIndex w → 1 ≤ (w.pages 1).last
+root_made w s = made_branch w 1 s s.roots.root_kind
 
 -- ---- two leaves, where one page has one version more with the same link
 apart_one : (w : World) (n k x : ℕ) → WholeIndex w → 1 ≤ (w.pages n).last → (a q : ℕ) → Apart w.rest a q (if a == n then with_place (w.pages n) k x else w.pages a) (if q == n then with_place (w.pages n) k x else w.pages q)
@@ -68,13 +74,10 @@ give_old w m n k x s may alone open' q ne = record {
   leaves = leaves_give_other w.rest m n q (w.pages n) (w.pages q) k x (s.leaves q) (ungiven w n k s may) ne (parted_by w n s q) (λ v leaf a b c low in'. give_open w m n k q v s may open' ne leaf a b c low in');
 }
 
-roots_give : (g : Rest) (m n : ℕ) (p : Page) (k x : ℕ) → Roots g → Roots (given_rest g m n p k x)
-roots_give g m n p k x r = record { root_kind = r.root_kind; root_low = r.root_low; root_shown = r.root_shown; root_open = r.root_open; leaf_kind = r.leaf_kind; leaf_low = r.leaf_low; leaf_shown = r.leaf_shown }
-
-kept_give : (w : World) (m n k x : ℕ) → WholeIndex w → MayGive w.rest n (w.pages n) k → MayChange w.rest m n (w.pages n) → IsOpen w.rest m n → WholeIndex (given_world w m n k x)
-kept_give w m n k x s may alone open' =
+kept_give : (w : World) (m n k x : ℕ) → WholeIndex w → MayGive w.rest n (w.pages n) k → MayChange w.rest m n (w.pages n) → IsOpen w.rest m n → IsThere w.rest m 1 → WholeIndex (given_world w m n k x)
+kept_give w m n k x s may alone open' there =
     let t = paths_grow w.rest (λ q. (w.pages q).last) (λ q. ((given_world w m n k x).pages q).last) (grows_one w n k x) s.paths in
-    all (given_world w m n k x) (roots_give w.rest m n (w.pages n) k x s.roots) (record { made = t.made; self = t.self; kinds = t.kinds; first = t.first; root_shown = t.root_shown; chain = t.chain; left_low = t.left_low })
+    all (given_world w m n k x) (roots_give w.rest m n (w.pages n) k x s.roots may.leaf there) (record { made = t.made; self = t.self; kinds = t.kinds; first = t.first; roots = t.roots; chain = t.chain; left_low = t.left_low })
     (one (given_rest w.rest m n (w.pages n) k x) w.pages n (with_place (w.pages n) k x) (give_new w m n k x s may alone) (give_old w m n k x s may alone open'))
     (apart_one w n k x s (made_leaf w n s may.leaf))
 
@@ -91,13 +94,10 @@ enter_old w m n k c s may alone q ne = record {
   leaves = leaves_enter_other w.rest m n q (w.pages q) (s.leaves q) ne;
 }
 
-roots_enter : (g : Rest) (m n : ℕ) → Roots g → Roots (entered_rest g m n)
-roots_enter g m n r = record { root_kind = r.root_kind; root_low = r.root_low; root_shown = r.root_shown; root_open = r.root_open; leaf_kind = r.leaf_kind; leaf_low = r.leaf_low; leaf_shown = r.leaf_shown }
-
 kept_enter : (w : World) (m n k c : ℕ) → WholeIndex w → MayEnterBranch w.rest m n (w.pages n) k c → MayChange w.rest m n (w.pages n) → IsOpen w.rest m c → WholeIndex (entered_world w m n k c)
 kept_enter w m n k c s may alone open' =
     let t = paths_grow w.rest (λ q. (w.pages q).last) (λ q. ((entered_world w m n k c).pages q).last) (grows_one w n k c) s.paths in
-    all (entered_world w m n k c) (roots_enter w.rest m n s.roots) (record { made = t.made; self = t.self; kinds = t.kinds; first = t.first; root_shown = t.root_shown; chain = t.chain; left_low = t.left_low })
+    all (entered_world w m n k c) (roots_enter w.rest m n (w.pages n) s.roots (alone_of w.rest m n (w.pages n) alone) (made_branch w n s may.branch)) (record { made = t.made; self = t.self; kinds = t.kinds; first = t.first; roots = t.roots; chain = t.chain; left_low = t.left_low })
     (one (entered_rest w.rest m n) w.pages n (with_place (w.pages n) k c) (enter_new w m n k c s may alone open') (enter_old w m n k c s may alone))
     (apart_one w n k c s (made_branch w n s may.branch))
 
@@ -114,11 +114,8 @@ write_page w n v s may q = elim (cases_eq q n) [
   }
 ]
 
-write_root : (w : World) (n v : ℕ) → WholeIndex w → MayWrite w.rest n (w.pages n) v → (q : ℕ) → w.rest.kind q ≢ Unmade → w.rest.parted_at q (w.rest.split_of q) ≡ 0 → 1 ≤ (written_rest w.rest n v).shown q
-write_root w n v s may q made none = let a = s.paths.root_shown q made none in let b = may.grows in grind (arith, a, b)
-
 kept_write : (w : World) (n v : ℕ) → WholeIndex w → MayWrite w.rest n (w.pages n) v → WholeIndex (written_world w n v)
-kept_write w n v s may = all (written_world w n v) (roots_write w.rest n v s.roots may.grows) (record { made = s.paths.made; self = s.paths.self; kinds = s.paths.kinds; first = s.paths.first; root_shown = write_root w n v s may; chain = s.paths.chain; left_low = s.paths.left_low }) (write_page w n v s may) s.apart
+kept_write w n v s may = all (written_world w n v) (roots_write w.rest n v s.roots may.grows) (record { made = s.paths.made; self = s.paths.self; kinds = s.paths.kinds; first = s.paths.first; roots = s.paths.roots; chain = s.paths.chain; left_low = s.paths.left_low }) (write_page w n v s may) s.apart
 
 -- ---- the end of a transaction
 end_page : (w : World) (m : ℕ) (keys : ℕ → Bool) → WholeIndex w → MayEnd w m keys → (n : ℕ) → Page_whole (ended_rest w.rest keys) n (w.pages n)
@@ -127,11 +124,8 @@ end_page w m keys s may n = record {
   leaves = leaves_end w.rest m n (w.pages n) keys (s.leaves n) (λ k x leaf is low in'. has_last w n k x s leaf is low in') may.own (may.all_shown n);
 }
 
-roots_end : (g : Rest) (keys : ℕ → Bool) → Roots g → Roots (ended_rest g keys)
-roots_end g keys r = record { root_kind = r.root_kind; root_low = r.root_low; root_shown = r.root_shown; root_open = r.root_open; leaf_kind = r.leaf_kind; leaf_low = r.leaf_low; leaf_shown = r.leaf_shown }
-
 kept_end : (w : World) (m : ℕ) (keys : ℕ → Bool) → WholeIndex w → MayEnd w m keys → WholeIndex (ended_world w keys)
-kept_end w m keys s may = all (ended_world w keys) (roots_end w.rest keys s.roots) (record { made = s.paths.made; self = s.paths.self; kinds = s.paths.kinds; first = s.paths.first; root_shown = s.paths.root_shown; chain = s.paths.chain; left_low = s.paths.left_low }) (end_page w m keys s may) s.apart
+kept_end w m keys s may = all (ended_world w keys) (roots_end w.rest m keys s.roots may.own (λ e. (let a = may.all_shown 1 e in let b = root_made w s in omega (arith, a, b)))) (record { made = s.paths.made; self = s.paths.self; kinds = s.paths.kinds; first = s.paths.first; roots = s.paths.roots; chain = s.paths.chain; left_low = s.paths.left_low }) (end_page w m keys s may) s.apart
 
 -- ---- a failure
 all_stay : (w : World) (m : ℕ) (c : ℕ → ℕ) → WholeIndex w → ((n : ℕ) → MayFail w.rest m c n (w.pages n)) → (n q : ℕ) → w.rest.kind n ≢ Unmade → 1 ≤ c n → w.rest.parted_at n q ≤ c q
@@ -159,8 +153,11 @@ fail_page w m c s may n = record {
   leaves = leaves_fail w.rest c n (w.pages n) (s.leaves n) (may n).short (all_stay w m c s may n);
 }
 
+root_stays : (c : ℕ → ℕ) (n : ℕ) {a b : ℕ} → (c n ≡ 0 → a < b) → b ≡ 0 → 1 ≤ c n
+root_stays c n gone none = grind (arith, gone, none)
+
 kept_fail : (w : World) (m : ℕ) (c : ℕ → ℕ) → WholeIndex w → ((n : ℕ) → MayFail w.rest m c n (w.pages n)) → WholeIndex (failed_world w c)
-kept_fail w m c s may = all (failed_world w c) (roots_fail w.rest c s.roots (may 1).kept (may 2).kept) (paths_fail w.rest (λ q. (w.pages q).last) c (all_stay w m c s may) s.paths) (fail_page w m c s may) (λ n q. apart_fail w.rest c n q (w.pages n) (w.pages q) (s.apart n q) (may n).short (may q).short)
+kept_fail w m c s may = all (failed_world w c) (roots_fail w.rest c s.roots (root_stays c 1 ((may 1).gone (λ e. (let k = s.roots.root_kind in cc))) (s.roots.root_open (w.rest.split_of 1))) (root_stays c 2 ((may 2).gone (λ e. (let k = s.roots.leaf_kind in cc))) (s.roots.leaf_open (w.rest.split_of 2)))) (paths_fail w.rest (λ q. (w.pages q).last) c (all_stay w m c s may) s.paths) (fail_page w m c s may) (λ n q. apart_fail w.rest c n q (w.pages n) (w.pages q) (s.apart n q) (may n).short (may q).short)
 
 -- ---- a split
 split_new : (w : World) (m n new low : ℕ) → WholeIndex w → MaySplit w.rest n (w.pages n) new low → MayChange w.rest m n (w.pages n) → n ≢ new → w.rest.shown new ≡ 0 → Page_whole (split_rest w.rest m n (w.pages n) new low) new (split_right (w.pages n) low)
@@ -218,7 +215,7 @@ kept_split w m n new low s may alone =
     let ne : n ≢ new = λ e. may.made (subst (λ z. w.rest.kind z ≡ Unmade) (sym e) may.fresh) in
     let none = (s.shape new).unmade may.fresh in
     let hid : w.rest.shown new ≡ 0 = let seen = (s.shape new).seen in omega (arith, seen, none) in
-    all (split_world w m n new low) (roots_split w.rest m n (w.pages n) new low s.roots may)
+    all (split_world w m n new low) (roots_split w.rest m n (w.pages n) new low s.roots may (alone_of w.rest m n (w.pages n) alone) ((s.shape n).made may.made))
     (paths_split w.rest m n (w.pages n) new low (λ q. (w.pages q).last) (λ q. ((split_world w m n new low).pages q).last) s.paths may.fresh may.above may.made ne refl none (grind arith) (grind (arith, ne)) (λ q a b. grind (arith, a, b)))
     (three w n new low (λ q p. Page_whole (split_rest w.rest m n (w.pages n) new low) q p) ne (split_old w m n new low s may alone ne hid) (split_new w m n new low s may alone ne hid) (split_far w m n new low s may alone))
     (split_apart w m n new low s may ne)
@@ -232,12 +229,12 @@ restart_page w s n = record {
 
 kept_restart : (w : World) → WholeIndex w → WholeIndex (restarted_world w)
 kept_restart w s = all (restarted_world w)
-    (record { root_kind = s.roots.root_kind; root_low = s.roots.root_low; root_shown = (s.shape 1).made (λ e. (let k = s.roots.root_kind in cc)); root_open = s.roots.root_open; leaf_kind = s.roots.leaf_kind; leaf_low = s.roots.leaf_low; leaf_shown = (s.shape 2).made (λ e. (let k = s.roots.leaf_kind in cc)) })
-    (record { made = s.paths.made; self = s.paths.self; kinds = s.paths.kinds; first = s.paths.first; root_shown = λ n made none. (s.shape n).made made; chain = s.paths.chain; left_low = s.paths.left_low })
+    (roots_restart w.rest (λ q. (w.pages q).last) s.roots (root_made w s))
+    (record { made = s.paths.made; self = s.paths.self; kinds = s.paths.kinds; first = s.paths.first; roots = s.paths.roots; chain = s.paths.chain; left_low = s.paths.left_low })
     (restart_page w s) s.apart
 
 pub kept_step : (w v : World) (e : Move) → WholeIndex w → Step w e v → WholeIndex v
-kept_step w v (Give m n k x) s st = subst WholeIndex (sym st.3) (kept_give w m n k x s st.0 st.1 st.2)
+kept_step w v (Give m n k x) s st = subst WholeIndex (sym st.4) (kept_give w m n k x s st.0 st.1 st.2 st.3)
 kept_step w v (Split m n new low) s st = subst WholeIndex (sym st.2) (kept_split w m n new low s st.0 st.1)
 kept_step w v (BranchEntry m n k c) s st = subst WholeIndex (sym st.3) (kept_enter w m n k c s st.0 st.1 st.2)
 kept_step w v (Write n u) s st = subst WholeIndex (sym st.1) (kept_write w n u s st.0)
@@ -245,12 +242,12 @@ kept_step w v (End m keys) s st = subst WholeIndex (sym st.1) (kept_end w m keys
 kept_step w v (Fail m c) s st = subst WholeIndex (sym st.1) (kept_fail w m c s st.0)
 kept_step w v GroupRestart s st = subst WholeIndex (sym st) (kept_restart w s)
 
-pub kept_start : WholeIndex start
-kept_start = record { roots = roots_start; paths = paths_start; shape = shape_start; leaves = leaves_start; apart = apart_start }
+pub kept_start : (m : ℕ) → WholeIndex (start m)
+kept_start m = record { roots = roots_start m; paths = paths_start m; shape = shape_start m; leaves = leaves_start m; apart = apart_start m }
 
 run_from : (moves : List Move) (w v : World) → WholeIndex w → Run w moves v → WholeIndex v
 run_from [] w v s r = subst WholeIndex (sym r) s
 run_from (e ∷ es) w v s r = run_from es r.0 v (kept_step w r.0 e s r.1) r.2
 
 pub always : AlwaysWhole
-always moves w r = run_from moves start w kept_start r
+always m moves w r = run_from moves (start m) w (kept_start m) r

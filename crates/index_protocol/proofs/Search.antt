@@ -3,7 +3,7 @@ use Rattle.std.proofs.Common.{◌≡◌, ℕ, zero, suc, ◌<◌, ◌≤◌, ref
 use Rattle.std.proofs.lemmas.Bool.{cond_both, cases_eq}
 use Rattle.index_protocol.specs.Index.{Rest, Page, Link, World, Kind, Unmade, Leaf, Branch, beyond}
 use Rattle.index_protocol.specs.Whole.{Shape, WholeIndex}
-use Rattle.index_protocol.specs.Search.{greatest, or_else, down, inside, past, Reached, IsCopy, IsKnown, Leads, SearchBegins, SearchLeads, CopyAnswers}
+use Rattle.index_protocol.specs.Search.{greatest, or_else, down, inside, past, Reached, IsCopy, IsKnown, Leads, KnownBegins, SearchBegins, SearchLeads, CopyAnswers}
 use Rattle.index_protocol.proofs.Paths.{has_last}
 
 -- the greatest entry is one, if there is any
@@ -81,10 +81,10 @@ leads w m k n v s r c =
     (λ e. leads_inside w.rest (w.pages n) m k n v (w.rest.kind n) refl (s.shape n) r c a e)
 
 pub begins : SearchBegins
-begins w m k s = let t = s.roots in record {
+begins w m k s there = let t = s.roots in record {
   made = λ e. let q = t.root_kind in cc;
   low = omega (arith, t.root_low);
-  there = λ none. let h = t.root_shown in omega (arith, none, h);
+  there = there;
   opens = λ q less. let e = t.root_open q in omega (arith, e, less);
 }
 
@@ -100,3 +100,6 @@ answers w m k n v s leaf low a c in' = record {
   place = λ x e. (s.leaves n).place v k x leaf a c.within e;
   finds = λ x known. finds_at w m k n v x s leaf low a c in' known;
 }
+
+pub known_begins : KnownBegins
+known_begins w m k x s known none = known.free (w.rest.writer 1) (s.roots.formed k x known.given none)

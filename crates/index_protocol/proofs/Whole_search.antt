@@ -5,7 +5,7 @@ use Rattle.std.proofs.lemmas.Bool.{cases_eq}
 use Rattle.index_protocol.specs.Index.{Rest, World, Kind, Unmade, Leaf, Branch}
 use Rattle.index_protocol.specs.Search.{Go, Right, Down, Here, Nowhere, Reached, IsKnown, Leads, Later}
 use Rattle.index_protocol.specs.Whole_search.{Found, on, search_from, Allowed, IsFound, IsPlace, SearchEnds, SearchFinds, ClaimFinds}
-use Rattle.index_protocol.proofs.Search.{leads, begins, answers}
+use Rattle.index_protocol.proofs.Search.{leads, begins, answers, known_begins}
 
 -- steps enough
 record Room (g : Rest) (k n f : ℕ) : Type 0 where
@@ -46,7 +46,7 @@ ends_from worlds s copy (suc f) i n k ok r room = ends_on worlds s copy f i n k 
     (λ m r' room'. ends_from worlds s copy f (suc i) m k ok r' room')
 
 pub ends : SearchEnds
-ends worlds s copy k ok = ends_from worlds s copy (k + k + 3) 0 1 k ok (begins (worlds 0) s k (ok.whole 0)) (record {
+ends worlds s copy k ok there = ends_from worlds s copy (k + k + 3) 0 1 k ok (begins (worlds 0) s k (ok.whole 0) there) (record {
   leaf = λ e. let b = (ok.whole 0).roots.root_kind in absurd cc;
   branch = λ e. omega arith;
 })
@@ -63,7 +63,7 @@ place_of worlds s copy k x (Some y) ok h f =
     (answers (worlds y.step) s k y.page y.version (ok.whole y.step) f.1 f.0.low f.2 c f.4).finds x (known worlds s copy k x y.step ok h)
 
 pub finds : SearchFinds
-finds worlds s copy k x ok h = place_of worlds s copy k x _ ok h (ends worlds s copy k ok)
+finds worlds s copy k x ok h = place_of worlds s copy k x _ ok h (ends worlds s copy k ok (known_begins (worlds 0) s k x (ok.whole 0) h))
 
 pub claim_finds : ClaimFinds
 claim_finds worlds s copy keeps k x ok claims mine is = finds worlds s copy k x ok (record { given = is; free = λ o e. own o (claims k o e) (mine o) })

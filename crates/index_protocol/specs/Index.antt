@@ -112,6 +112,10 @@ failed_page p c = record p { last = c }
 abbrev pub IsOpen : Rest → ℕ → ℕ → Type 0
 IsOpen g m n = (q : ℕ) → g.shown q < g.parted_at n q → g.writer q ≡ m
 
+-- the page is shown, or waits to be written by this member
+abbrev pub IsThere : Rest → ℕ → ℕ → Type 0
+IsThere g m n = g.shown n ≡ 0 → g.writer n ≡ m
+
 -- ---- the guards, over the last version of one page
 
 -- changes that are not shown are of one member, which has the page lock: the pages' protocol gives it
@@ -152,7 +156,7 @@ pub record MayWrite (g : Rest) (n : ℕ) (p : Page) (v : ℕ) : Type 0 where
   pub parted : (u k c q : ℕ) → g.kind n ≡ Branch → g.shown n < u → u ≤ v → p.entry u k ≡ Some c → g.parted_at c q ≤ g.shown q
 
 -- what is shown stays, and what other members changed; a split is one log record, so it stays on both sides or on none; a
--- branch entry stands in the log behind its child's split
+-- branch entry stands in the log behind its child's split; a failure that loses the format loses all, and the index begins anew
 pub record MayFail (g : Rest) (m : ℕ) (c : ℕ → ℕ) (n : ℕ) (p : Page) : Type 0 where
   pub short : c n ≤ p.last
   pub kept : g.shown n ≤ c n
@@ -198,7 +202,7 @@ abbrev pub restarted_world : World → World
 restarted_world w = record w { rest = restarted_rest w.rest (λ n. (w.pages n).last) }
 
 abbrev pub Step : World → Move → World → Type 0
-Step w (Give m n k x) v = MayGive w.rest n (w.pages n) k × MayChange w.rest m n (w.pages n) × IsOpen w.rest m n × (v ≡ given_world w m n k x)
+Step w (Give m n k x) v = MayGive w.rest n (w.pages n) k × MayChange w.rest m n (w.pages n) × IsOpen w.rest m n × IsThere w.rest m 1 × (v ≡ given_world w m n k x)
 Step w (Split m n new low) v = MaySplit w.rest n (w.pages n) new low × MayChange w.rest m n (w.pages n) × (v ≡ split_world w m n new low)
 Step w (BranchEntry m n k c) v = MayEnterBranch w.rest m n (w.pages n) k c × MayChange w.rest m n (w.pages n) × IsOpen w.rest m c × (v ≡ entered_world w m n k c)
 Step w (Write n u) v = MayWrite w.rest n (w.pages n) u × (v ≡ written_world w n u)
@@ -206,7 +210,7 @@ Step w (End m keys) v = MayEnd w m keys × (v ≡ ended_world w keys)
 Step w (Fail m c) v = ((n : ℕ) → MayFail w.rest m c n (w.pages n)) × (v ≡ failed_world w c)
 Step w GroupRestart v = v ≡ restarted_world w
 
--- ---- the start: page 1 is the first branch, page 2 the first leaf
+-- ---- the start, where a member has just formatted the index, and nothing is written: page 1 is the first branch, page 2 the first leaf
 abbrev pub blank : Page
 blank = record { last = 0; link = λ v. None; entry = λ v k. None }
 
@@ -216,12 +220,12 @@ first_branch = record { last = 1; link = λ v. None; entry = λ v k. if k == 0 t
 abbrev pub first_leaf : Page
 first_leaf = record { last = 1; link = λ v. None; entry = λ v k. None }
 
-abbrev pub start_rest : Rest
-start_rest = record {
+abbrev pub start_rest : ℕ → Rest
+start_rest m = record {
   kind = λ n. if n == 1 then Branch else if n == 2 then Leaf else Unmade;
   low = λ n. 0;
-  shown = λ n. if (n == 1) || (n == 2) then 1 else 0;
-  writer = λ n. 0;
+  shown = λ n. 0;
+  writer = λ n. m;
   split_of = λ n. 0;
   parted_at = λ n q. 0;
   given = λ k. None;
@@ -230,5 +234,5 @@ start_rest = record {
   giver = λ k. None;
 }
 
-abbrev pub start : World
-start = record { rest = start_rest; pages = λ n. if n == 1 then first_branch else if n == 2 then first_leaf else blank }
+abbrev pub start : ℕ → World
+start m = record { rest = start_rest m; pages = λ n. if n == 1 then first_branch else if n == 2 then first_leaf else blank }

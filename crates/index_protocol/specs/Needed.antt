@@ -4,9 +4,13 @@ use Rattle.index_protocol.specs.Index.{World, Move, Split, Give, BranchEntry, Wr
 use Rattle.index_protocol.specs.Whole.{WholeIndex, Run}
 use Rattle.index_protocol.specs.Search.{Right, Down, Here, look, IsKnown}
 
--- member 1 splits leaf 2 at key 5; page 3 takes the keys from there
+-- member 1 formatted the index and wrote it, the leaf before the branch
+abbrev pub formatted : World
+formatted = written_world (written_world (start 1) 2 1) 1 1
+
+-- it splits leaf 2 at key 5; page 3 takes the keys from there
 abbrev pub was_split : World
-was_split = split_world start 1 2 3 5
+was_split = split_world formatted 1 2 3 5
 
 -- the splitter goes on at once: it gives key 7 in page 3
 abbrev pub was_given : World
@@ -23,10 +27,10 @@ abbrev pub key_7 : ℕ → Bool
 key_7 k = k == 7
 
 abbrev pub run_moves : List Move
-run_moves = Split 1 2 3 5 ∷ Give 1 3 7 70 ∷ BranchEntry 1 1 5 3 ∷ Write 3 2 ∷ Write 2 2 ∷ Write 1 2 ∷ End 1 key_7 ∷ []
+run_moves = Write 2 1 ∷ Write 1 1 ∷ Split 1 2 3 5 ∷ Give 1 3 7 70 ∷ BranchEntry 1 1 5 3 ∷ Write 3 2 ∷ Write 2 2 ∷ Write 1 2 ∷ End 1 key_7 ∷ []
 
 pub record SplitterGoesOn : Type 0 where
-  pub run : Run start run_moves (ended_world all_written key_7)
+  pub run : Run (start 1) run_moves (ended_world all_written key_7)
   pub known : (m : ℕ) → IsKnown (ended_world all_written key_7).rest m 7 70
 
 -- ---- a right page is written before its left page

@@ -35,4 +35,4 @@ pub record InLogs (w : World) (logs : Logs) : Type 0 where
 
 abbrev pub FailureIsCut : Type 0
 FailureIsCut = (w : World) (logs : Logs) (m stable : ℕ) (c : ℕ → ℕ) → WholeIndex w → InLogs w logs
-    → ((n : ℕ) → IsCut logs m stable n (w.pages n) (c n)) → ((n : ℕ) → w.rest.shown n ≤ c n) → (n : ℕ) → MayFail w.rest m c n (w.pages n)
+    → ((n : ℕ) → IsCut logs m stable n (w.pages n) (c n)) → ((n : ℕ) → w.rest.shown n ≤ c n) → 1 ≤ c 1 → 1 ≤ c 2 → (n : ℕ) → MayFail w.rest m c n (w.pages n)

@@ -1,6 +1,6 @@
 -- A search through copies that may be old, and what it meets.
 use Rattle.std.specs.Prelude.{◌≡◌, ◌≢◌, ℕ, zero, suc, ◌<◌, ◌≤◌, false, Option, Some, None, if◌then◌else◌}
-use Rattle.index_protocol.specs.Index.{Rest, Page, Link, World, Move, Step, Fail, Give, Split, BranchEntry, Write, End, GroupRestart, Kind, Unmade, Leaf, Branch, beyond, IsOpen}
+use Rattle.index_protocol.specs.Index.{Rest, Page, Link, World, Move, Step, Fail, Give, Split, BranchEntry, Write, End, GroupRestart, Kind, Unmade, Leaf, Branch, beyond, IsOpen, IsThere}
 use Rattle.index_protocol.specs.Whole.{WholeIndex}
 
 pub data Go : Type 0 where
@@ -55,8 +55,9 @@ Leads g p m k n v (Down c) = Reached g m k c × (g.kind n ≡ Branch) × (g.kind
 Leads g p m k n v Here = (g.kind n ≡ Leaf) × (1 ≤ v) × (beyond (p.link v) k ≡ false)
 Leads g p m k n v Nowhere = ⊥
 
+-- a search begins at page 1; where that is not there, it meets zeros, and no key is known
 abbrev pub SearchBegins : Type 0
-SearchBegins = (w : World) (m k : ℕ) → WholeIndex w → Reached w.rest m k 1
+SearchBegins = (w : World) (m k : ℕ) → WholeIndex w → IsThere w.rest m 1 → Reached w.rest m k 1
 
 -- each copy leads on to a page that the search may stand at, or is the leaf that it seeks; so a writer that came by
 -- copies may change what it reached
@@ -68,6 +69,9 @@ SearchLeads = (w : World) (m k n v : ℕ) → WholeIndex w → Reached w.rest m 
 pub record IsKnown (g : Rest) (m k x : ℕ) : Type 0 where
   pub given : g.given k ≡ Some x
   pub free : (o : ℕ) → g.giver k ≡ Some o → o ≡ m
+
+abbrev pub KnownBegins : Type 0
+KnownBegins = (w : World) (m k x : ℕ) → WholeIndex w → IsKnown w.rest m k x → IsThere w.rest m 1
 
 -- each copy of a leaf that covers a key names no place but the key's, and names it wherever it is known
 pub record Answers (g : Rest) (m k : ℕ) (e : Option ℕ) : Type 0 where

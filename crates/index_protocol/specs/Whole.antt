@@ -5,11 +5,12 @@ use Rattle.index_protocol.specs.Index.{Rest, Page, Link, World, Move, Step, star
 pub record Roots (g : Rest) : Type 0 where
   pub root_kind : g.kind 1 ≡ Branch
   pub root_low : g.low 1 ≡ 0
-  pub root_shown : 1 ≤ g.shown 1
   pub root_open : (q : ℕ) → g.parted_at 1 q ≡ 0
   pub leaf_kind : g.kind 2 ≡ Leaf
   pub leaf_low : g.low 2 ≡ 0
-  pub leaf_shown : 1 ≤ g.shown 2
+  pub leaf_open : (q : ℕ) → g.parted_at 2 q ≡ 0
+  -- until the format is shown, its writer alone gives keys
+  pub formed : (k x : ℕ) → g.given k ≡ Some x → g.shown 1 ≡ 0 → g.giver k ≡ Some (g.writer 1)
 
 -- the versions in which pages gave up the keys of others are there
 pub record Paths (g : Rest) (last : ℕ → ℕ) : Type 0 where
@@ -18,7 +19,7 @@ pub record Paths (g : Rest) (last : ℕ → ℕ) : Type 0 where
   pub kinds : (n q : ℕ) → g.kind n ≢ Unmade → 1 ≤ g.parted_at n q → g.kind q ≡ g.kind n
   -- a page's keys left its left page in the split that made it, and the others where the left page's did
   pub first : (n q : ℕ) → g.kind n ≢ Unmade → g.parted_at n (g.split_of n) ≡ 0 → g.parted_at n q ≡ 0
-  pub root_shown : (n : ℕ) → g.kind n ≢ Unmade → g.parted_at n (g.split_of n) ≡ 0 → 1 ≤ g.shown n
+  pub roots : (n : ℕ) → g.kind n ≢ Unmade → g.parted_at n (g.split_of n) ≡ 0 → n ≢ 1 → n ≡ 2
   pub chain : (n q : ℕ) → g.kind n ≢ Unmade → 1 ≤ g.parted_at n (g.split_of n) → q ≢ g.split_of n → g.parted_at n q ≡ g.parted_at (g.split_of n) q
   pub left_low : (n : ℕ) → g.kind n ≢ Unmade → 1 ≤ g.parted_at n (g.split_of n) → g.low (g.split_of n) < g.low n
 
@@ -80,11 +81,11 @@ abbrev pub KeepsWhole : Type 0
 KeepsWhole = (w v : World) (e : Move) → WholeIndex w → Step w e v → WholeIndex v
 
 abbrev pub StartsWhole : Type 0
-StartsWhole = WholeIndex start
+StartsWhole = (m : ℕ) → WholeIndex (start m)
 
 abbrev pub Run : World → List Move → World → Type 0
 Run w [] v = v ≡ w
 Run w (e ∷ es) v = (mid : World) × Step w e mid × Run mid es v
 
 abbrev pub AlwaysWhole : Type 0
-AlwaysWhole = (moves : List Move) (w : World) → Run start moves w → WholeIndex w
+AlwaysWhole = (m : ℕ) (moves : List Move) (w : World) → Run (start m) moves w → WholeIndex w

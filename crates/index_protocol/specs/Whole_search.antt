@@ -1,6 +1,6 @@
 -- A whole search, while the index changes: each page is read in any copy that the member may have by then.
 use Rattle.std.specs.Prelude.{◌≡◌, ◌≢◌, ℕ, zero, suc, ◌+◌, ◌≤◌, Bool, true, false, Option, Some, None}
-use Rattle.index_protocol.specs.Index.{World, Leaf, beyond}
+use Rattle.index_protocol.specs.Index.{World, Leaf, beyond, IsThere}
 use Rattle.index_protocol.specs.Whole.{WholeIndex}
 use Rattle.index_protocol.specs.Search.{Go, Right, Down, Here, Nowhere, look, Reached, IsCopy, IsKnown, Later}
 
@@ -36,7 +36,7 @@ IsFound worlds m copy k (Some x) = Reached (worlds x.step).rest m k x.page × ((
 
 -- a search from page 1 ends at a copy of a leaf that covers the key
 abbrev pub SearchEnds : Type 0
-SearchEnds = (worlds : ℕ → World) (m : ℕ) (copy : ℕ → ℕ → ℕ) (k : ℕ) → Allowed worlds m copy → IsFound worlds m copy k (search_from worlds copy (k + k + 3) 0 1 k)
+SearchEnds = (worlds : ℕ → World) (m : ℕ) (copy : ℕ → ℕ → ℕ) (k : ℕ) → Allowed worlds m copy → IsThere (worlds 0).rest m 1 → IsFound worlds m copy k (search_from worlds copy (k + k + 3) 0 1 k)
 
 abbrev pub IsPlace : (ℕ → World) → ℕ → ℕ → Option Found → Type 0
 IsPlace worlds k x None = ⊥

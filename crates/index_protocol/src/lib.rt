@@ -8,7 +8,7 @@
 ghost use Rattle.index_protocol.specs.Needed.{BothSidesIsNeeded, ChildFirstIsNeeded, LeftBeforeBranchIsNeeded, OneWriterIsNeeded, ReachedIsNeeded, RightFirstIsNeeded, SplitterGoesOn, WrittenBeforeEndIsNeeded};
 ghost use Rattle.index_protocol.specs.Order.{FailureIsCut, OrderGives};
 ghost use Rattle.index_protocol.specs.Partition.{Partitions};
-ghost use Rattle.index_protocol.specs.Search.{CopyAnswers, MovesKeep, SearchBegins, SearchLeads};
+ghost use Rattle.index_protocol.specs.Search.{CopyAnswers, KnownBegins, MovesKeep, SearchBegins, SearchLeads};
 ghost use Rattle.index_protocol.specs.Whole.{AlwaysWhole, KeepsWhole, StartsWhole};
 ghost use Rattle.index_protocol.specs.Whole_search.{ClaimFinds, SearchEnds, SearchFinds};
 
@@ -30,6 +30,7 @@ pub fn one_place()
 /// other member that gave it keeps it from others: so a claim on the row, or on the table, finds it.
 pub fn sound_search()
     ensures begins { SearchBegins }
+    ensures known { KnownBegins }
     ensures leads { SearchLeads }
     ensures answers { CopyAnswers }
     ensures later { MovesKeep }
