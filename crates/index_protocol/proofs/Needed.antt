@@ -3,7 +3,7 @@ use Rattle.std.proofs.Common.{◌≡◌, ℕ, ◌<◌, refl, arith, Some, None}
 use Rattle.index_protocol.specs.Index.{World, Split, Give, BranchEntry, Write, End, Leaf, Unmade, Step, start, beyond, written_world, ended_world}
 use Rattle.index_protocol.specs.Whole.{WholeIndex}
 use Rattle.index_protocol.specs.Search.{greatest}
-use Rattle.index_protocol.specs.Needed.{formatted, was_split, was_given, entered_after, all_written, key_7, SplitterGoesOn, RightFirstIsNeeded, was_entered, ChildFirstIsNeeded, right_written, LeftBeforeBranchIsNeeded, half_shown, ReachedIsNeeded, WrittenBeforeEndIsNeeded, BothSidesIsNeeded, OneWriterIsNeeded}
+use Rattle.index_protocol.specs.Needed.{formatted, was_split, was_given, entered_after, all_written, key_7, SplitterGoesOn, FailureIsPossible, RightFirstIsNeeded, was_entered, ChildFirstIsNeeded, right_written, LeftBeforeBranchIsNeeded, half_shown, ReachedIsNeeded, WrittenBeforeEndIsNeeded, BothSidesIsNeeded, OneWriterIsNeeded}
 use Rattle.index_protocol.proofs.Runs.{kept_start, kept_step}
 
 abbrev leaf_written : World
@@ -79,6 +79,9 @@ goes_on = record {
   run = (leaf_written, step_leaf, (formatted, step_branch, (was_split, step_split, (was_given, step_give, (entered_after, step_enter, (w4, step4, (w5, step5, (all_written, step6, (ended_world all_written key_7, step7, refl)))))))));
   known = λ m. record { given = refl; free = λ o e. grind arith };
 }
+
+pub failure_possible : FailureIsPossible
+failure_possible = record { split = λ n. grind arith; give = λ n. grind arith }
 
 -- ---- the guards
 pub right_first : RightFirstIsNeeded

@@ -1,10 +1,10 @@
 -- The order of page writes gives the guard of a write, and the logs that of a failure.
-use Rattle.std.proofs.Common.{◌≡◌, ℕ, suc, ◌-◌, ◌<◌, ◌≤◌, sym, ◌∙◌, subst, arith, Some, inl, inr}
+use Rattle.std.proofs.Common.{◌≡◌, refl, ℕ, suc, ◌-◌, ◌<◌, ◌≤◌, sym, ◌∙◌, subst, arith, Some, inl, inr}
 use Rattle.std.specs.Prelude.{◌≢◌}
 use Rattle.std.proofs.lemmas.Bool.{cases_eq, cases_lt}
 use Rattle.index_protocol.specs.Index.{Link, World, Unmade, Branch}
 use Rattle.index_protocol.specs.Whole.{WholeIndex}
-use Rattle.index_protocol.specs.Order.{OrderGives, FailureIsCut}
+use Rattle.index_protocol.specs.Order.{OrderGives, SearchMayEnter, SearchMayGive, FailureIsCut}
 
 some_of : (w : World) (q : ℕ) → WholeIndex w → w.rest.kind q ≢ Unmade → (w.rest.shown q ≡ 0 → w.rest.shown q ≡ (w.pages q).last) → 1 ≤ w.rest.shown q
 some_of w q s made all = elim (cases_eq (w.rest.shown q) 0) [
@@ -116,3 +116,9 @@ failure w logs m stable c s one cut seen one_kept two_kept n = record {
       | inl none ↦ absurd (let x = pred_of v a in child_at x.0 k r branch (let e = x.1 in omega (arith, e, b)) (subst (λ z. (w.pages n).entry z k ≡ Some r) x.1 is) (let q = seen r in omega (arith, q, none)) none)
       | inr ne ↦ omega (arith, ne)
     ]
+
+pub may_give : SearchMayGive
+may_give w m k n s root r leaf in' free = (record { leaf = leaf; from_low = r.low; covered = in'; free = free }, r.opens, root.there)
+
+pub may_enter : SearchMayEnter
+may_enter w m k n c s r leaf branch low in' = (record { branch = branch; child = leaf; low = refl; from_low = low; covered = in'; there = r.there }, r.opens)

@@ -1,6 +1,6 @@
 -- A run that has each move, and guards without which a whole index is left: for each a state and a move that lacks it.
 use Rattle.std.specs.Prelude.{◌≡◌, ℕ, ◌≤◌, Bool, List, [], ◌∷◌, None, if◌then◌else◌, ◌==◌}
-use Rattle.index_protocol.specs.Index.{World, Move, Split, Give, BranchEntry, Write, End, start, given_world, split_world, entered_world, written_world, ended_world, failed_world, IsOpen, MayChange, MayGive}
+use Rattle.index_protocol.specs.Index.{World, Move, Split, Give, BranchEntry, Write, End, start, given_world, split_world, entered_world, written_world, ended_world, failed_world, IsOpen, MayChange, MayFail, MayGive}
 use Rattle.index_protocol.specs.Whole.{WholeIndex, Run}
 use Rattle.index_protocol.specs.Search.{Right, Down, Here, look, IsKnown}
 
@@ -32,6 +32,11 @@ run_moves = Write 2 1 ∷ Write 1 1 ∷ Split 1 2 3 5 ∷ Give 1 3 7 70 ∷ Bran
 pub record SplitterGoesOn : Type 0 where
   pub run : Run (start 1) run_moves (ended_world all_written key_7)
   pub known : (m : ℕ) → IsKnown (ended_world all_written key_7).rest m 7 70
+
+-- a failure of the splitter may lose the split, which is not shown, or the give alone
+pub record FailureIsPossible : Type 0 where
+  pub split : (n : ℕ) → MayFail was_split.rest 1 (λ q. (formatted.pages q).last) n (was_split.pages n)
+  pub give : (n : ℕ) → MayFail was_given.rest 1 (λ q. (was_split.pages q).last) n (was_given.pages n)
 
 -- ---- a right page is written before its left page
 abbrev pub left_first : World

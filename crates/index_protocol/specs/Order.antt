@@ -1,7 +1,18 @@
--- What a member does and what its log holds, and that these give the guards of a write and of a failure.
-use Rattle.std.specs.Prelude.{◌≡◌, ◌≢◌, ℕ, suc, ◌<◌, ◌≤◌, Some}
-use Rattle.index_protocol.specs.Index.{Page, World, Unmade, Leaf, Branch, MayWrite, MayFail}
+-- What a member does and what its log holds, and that these give the guards of its moves and of its failure.
+use Rattle.std.specs.Prelude.{◌≡◌, ◌≢◌, ℕ, suc, ◌<◌, ◌≤◌, false, None, Some}
+use Rattle.index_protocol.specs.Index.{Page, World, Unmade, Leaf, Branch, beyond, IsOpen, IsThere, MayGive, MayEnterBranch, MayWrite, MayFail}
 use Rattle.index_protocol.specs.Whole.{WholeIndex}
+use Rattle.index_protocol.specs.Search.{Reached}
+
+-- ---- what a member's search gives: a leaf that it reached, and that it has locked and read in the last version
+abbrev pub SearchMayGive : Type 0
+SearchMayGive = (w : World) (m k n : ℕ) → WholeIndex w → Reached w.rest m k 1 → Reached w.rest m k n → w.rest.kind n ≡ Leaf → beyond ((w.pages n).link (w.pages n).last) k ≡ false → (w.pages n).entry (w.pages n).last k ≡ None
+    → MayGive w.rest n (w.pages n) k × IsOpen w.rest m n × IsThere w.rest m 1
+
+-- a leaf that it reached is entered in a branch that covers the leaf's low key
+abbrev pub SearchMayEnter : Type 0
+SearchMayEnter = (w : World) (m k n c : ℕ) → WholeIndex w → Reached w.rest m k c → w.rest.kind c ≡ Leaf → w.rest.kind n ≡ Branch → w.rest.low n ≤ w.rest.low c → beyond ((w.pages n).link (w.pages n).last) (w.rest.low c) ≡ false
+    → MayEnterBranch w.rest m n (w.pages n) (w.rest.low c) c × IsOpen w.rest m c
 
 -- ---- the order in which a member writes its changed pages: leaves by falling low key, then branches by falling low key
 pub record InOrder (w : World) (n : ℕ) : Type 0 where

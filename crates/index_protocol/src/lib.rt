@@ -5,8 +5,8 @@
 //! The crate has definitions and proofs alone. Its functions do nothing: their contracts are the theorems.
 #![tactic(auto)]
 
-ghost use Rattle.index_protocol.specs.Needed.{BothSidesIsNeeded, ChildFirstIsNeeded, LeftBeforeBranchIsNeeded, OneWriterIsNeeded, ReachedIsNeeded, RightFirstIsNeeded, SplitterGoesOn, WrittenBeforeEndIsNeeded};
-ghost use Rattle.index_protocol.specs.Order.{FailureIsCut, OrderGives};
+ghost use Rattle.index_protocol.specs.Needed.{BothSidesIsNeeded, ChildFirstIsNeeded, FailureIsPossible, LeftBeforeBranchIsNeeded, OneWriterIsNeeded, ReachedIsNeeded, RightFirstIsNeeded, SplitterGoesOn, WrittenBeforeEndIsNeeded};
+ghost use Rattle.index_protocol.specs.Order.{FailureIsCut, OrderGives, SearchMayEnter, SearchMayGive};
 ghost use Rattle.index_protocol.specs.Partition.{Partitions};
 ghost use Rattle.index_protocol.specs.Search.{CopyAnswers, KnownBegins, MovesKeep, SearchBegins, SearchLeads};
 ghost use Rattle.index_protocol.specs.Whole.{AlwaysWhole, KeepsWhole, StartsWhole};
@@ -39,18 +39,22 @@ pub fn sound_search()
     ensures claims { ClaimFinds }
 {}
 
-/// The order in which a member writes its changed pages gives the guard of a write, and what the logs hold gives the guard
-/// of a failure.
+/// A search gives the guards of a give and of a branch entry, the order in which a member writes its changed pages gives
+/// that of a write, and what the logs hold gives that of a failure.
 pub fn guards_are_met()
+    ensures gives { SearchMayGive }
+    ensures enters { SearchMayEnter }
     ensures order { OrderGives }
     ensures failure { FailureIsCut }
 {}
 
-/// A splitter can go on in a page that is not shown; and seven guards of the moves without which the index is not whole:
-/// the right page before its left page, the child before its branch, the left page before the branch, a give only in a
-/// page that was reached, every page written before the end, a split kept on both pages, one writer of an unshown page.
+/// A splitter can go on in a page that is not shown, a failure can lose what is not shown, and seven guards of the moves
+/// without which the index is not whole: the right page before its left page, the child before its branch, the left page
+/// before the branch, a give only in a page that was reached, every page written before the end, a split kept on both
+/// pages, one writer of an unshown page.
 pub fn guards_are_needed()
     ensures run { SplitterGoesOn }
+    ensures failure { FailureIsPossible }
     ensures right_first { RightFirstIsNeeded }
     ensures child_first { ChildFirstIsNeeded }
     ensures left_before { LeftBeforeBranchIsNeeded }
