@@ -1,0 +1,11 @@
+pub mod Laws
+pub mod Leaf_moves
+pub mod Moves
+pub mod Paths
+pub mod Runs
+pub mod Partition
+pub mod Search
+pub mod Later
+pub mod Whole_search
+pub mod Order
+pub mod Needed
