@@ -1,0 +1,4 @@
+pub mod Changes
+pub mod Layout
+pub mod Next
+pub mod Slots
