@@ -1,5 +1,5 @@
 -- What is read back of the image of a slot.
-use Rattle.std.proofs.Common.{◌≡◌, ◌≤◌, ◌<◌, ◌^◌, ◌+◌, ◌-◌, ℕ, zero, suc, Bool, true, nat_le, List, [], ◌∷◌, ◌++◌, length, take, drop, replicate, Option, Some, None, IfSome, All, refl, ap, ◌∙◌, arith}
+use Rattle.std.proofs.Common.{◌≡◌, ◌≤◌, ◌<◌, ◌^◌, ◌+◌, ◌-◌, ℕ, zero, suc, Bool, true, nat_le, List, [], ◌∷◌, length, take, drop, replicate, Option, Some, None, IfSome, All, refl, ap, ◌∙◌, arith}
 use Rattle.std.specs.Bool.{Decides}
 use Rattle.std.specs.List.{list_all}
 use Rattle.std.proofs.Math.Seq.{drop-append-add}

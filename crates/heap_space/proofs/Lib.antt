@@ -1,2 +1,4 @@
 mod Fronts
+mod Giving
 mod Images
+mod Parts

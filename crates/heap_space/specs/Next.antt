@@ -1,5 +1,5 @@
 -- Which slot is given next.
-use Rattle.std.specs.Prelude.{ℕ, ◌+◌, ◌==◌, nat_le, nat_lt, ◌&&◌, if◌then◌else◌, List, Result, Ok, Err}
+use Rattle.std.specs.Prelude.{ℕ, ◌+◌, ◌-◌, ◌^◌, ◌==◌, Bool, nat_le, nat_lt, ◌&&◌, if◌then◌else◌, List, Result, Ok, Err}
 use Rattle.ds_base.specs.declared.names.Place.{Place}
 use Rattle.page_format.specs.Fields.{number_in}
 use Rattle.page_format.specs.Header.{slots_per_page}
@@ -11,6 +11,9 @@ last_page_of header = number_in header last_page_at 4
 
 abbrev pub given_of : List ℕ → ℕ
 given_of header = number_in header given_at 2
+
+abbrev pub header_allowed : ℕ → ℕ → Bool
+header_allowed last given = nat_lt last (2 ^ 32 - 1) && nat_le given slots_per_page
 
 -- the place behind the last one that was given
 abbrev pub place_after : ℕ → ℕ → Place

@@ -94,7 +94,12 @@ fn slot_patch(alloc: Global, table: TableId, place: Place, key: Key) -> Result<P
     ensures { IfOk result (λ patch. patch ≡ slot_patch table place key) }
 {
     let page = heap_page(table, place.page);
-    patch_of(alloc, page, slot_at(place.slot) as u16, &slot_image(key, None))
+    patch_of(
+        alloc,
+        page,
+        slot_at(place.slot) as u16,
+        &slot_image(key, None),
+    )
 }
 
 // The first slot of a page formats it.

@@ -17,6 +17,6 @@ mod tests;
 
 pub use change::{format_heap, give};
 pub use image::slot_image;
-pub use laws::image_laws;
-pub use next::{SpaceFull, last_page, next_slot};
+pub use laws::{give_laws, image_laws};
+pub use next::{SpaceFull, header_is_allowed, last_page, next_slot};
 pub use slot::{Slot, row, slot_fault, slot_is_allowed};

@@ -1,7 +1,7 @@
-ghost use Rattle.std.specs.Prelude.{◌≡◌, ℕ, ◌+◌, ◌-◌, ◌^◌, ◌≤◌, ◌<◌, length, IfOk};
+ghost use Rattle.std.specs.Prelude.{◌≡◌, ℕ, ◌+◌, ◌-◌, ◌^◌, ◌≤◌, ◌<◌, true, length, IfOk};
 ghost use Rattle.page_format.specs.Fields.{page_size};
 ghost use Rattle.page_format.specs.Header.{slots_per_page};
-ghost use Rattle.heap_space.specs.Next.{last_page_of, given_of, next_place};
+ghost use Rattle.heap_space.specs.Next.{last_page_of, given_of, header_allowed, next_place};
 
 use crate::layout::{GIVEN_AT, LAST_PAGE_AT};
 use byteorder::{BigEndian, ByteOrder};
@@ -34,6 +34,15 @@ pub fn last_page(header: &Page) -> u32
     ensures { result ≡ last_page_of header.now }
 {
     read_last(header.bytes())
+}
+
+/// Whether the fields of the header page may stand there: at most 31 slots are given, and a page may follow the last.
+pub fn header_is_allowed(header: &Page) -> bool
+    ensures exact { result ≡ header_allowed (last_page_of header.now) (given_of header.now) }
+    ensures given { result ≡ true → given_of header.now ≤ slots_per_page }
+    ensures last { result ≡ true → last_page_of header.now < 2 ^ 32 - 1 }
+{
+    last_page(header) < u32::MAX && read_given(header.bytes()) <= SLOTS_PER_PAGE
 }
 
 /// The place that a new row gets, in a heap that may have `limit` pages of rows.

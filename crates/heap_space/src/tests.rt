@@ -1,9 +1,9 @@
 use crate::{
-    Slot, SpaceFull, format_heap, give, last_page, next_slot, row, slot_fault, slot_image,
-    slot_is_allowed,
+    Slot, SpaceFull, format_heap, give, header_is_allowed, last_page, next_slot, row, slot_fault,
+    slot_image, slot_is_allowed,
 };
 use ds_base::{Lrsn, PageId, Place, TableId, Value};
-use page_format::{Page, PageKind, Patch, Patches};
+use page_format::{Header, Page, PageKind, Patch, Patches};
 use std::alloc::Global;
 use std::test::Fail;
 
@@ -29,6 +29,15 @@ fn write_all(page: &mut Page, id: PageId, patches: &Patches) {
     }
 }
 
+/// What the header of a changed page says.
+fn stamped(kind: PageKind, count: u16) -> Header {
+    Header {
+        kind,
+        lrsn: Lrsn::new(9).unwrap(),
+        count,
+    }
+}
+
 /// A header page that names a last page, and how many of its slots are given.
 fn header_of(alloc: Global, last: u8, given: u8) -> Result<Page, Fail> {
     let mut page = Page::zero(alloc)?;
@@ -40,7 +49,7 @@ fn header_of(alloc: Global, last: u8, given: u8) -> Result<Page, Fail> {
 
 #[test]
 fn the_slot_of_a_value(rt: HostRuntime) -> Result<(), Fail> {
-    let value = Value::new(rt.alloc(), b"hello")?.unwrap();
+    let value = Value::new(rt.alloc(), b"hello")?.ok_or("a value")?;
     let mut expected = [0; 128];
     expected[0] = 2;
     expected[1] = 5;
@@ -64,6 +73,7 @@ fn the_next_slot(rt: HostRuntime) -> Result<(), Fail> {
     for (last, given, limit, next) in rows {
         let header = header_of(rt.alloc(), last, given)?;
         assert!(rt; last_page(&header) == last as u32);
+        assert!(rt; header_is_allowed(&header));
         assert!(rt; next_slot(&header, limit) == next);
     }
     Ok(())
@@ -74,7 +84,7 @@ fn the_first_slot_of_a_page_is_given(rt: HostRuntime) -> Result<(), Fail> {
     let table = TableId::new(3).unwrap();
     let mut header = Page::zero(rt.alloc())?;
     write_all(&mut header, HEADER, &format_heap(rt.alloc(), table)?);
-    assert!(rt; header.read_header(HEADER).unwrap().kind == PageKind::HeapHeader);
+    assert!(rt; header.read_header(HEADER) == Ok(stamped(PageKind::HeapHeader, 0)));
     assert!(rt; last_page(&header) == 0);
 
     let mut rows = Page::zero(rt.alloc())?;
@@ -83,8 +93,8 @@ fn the_first_slot_of_a_page_is_given(rt: HostRuntime) -> Result<(), Fail> {
     write_all(&mut header, HEADER, &patches);
     write_all(&mut rows, ROWS, &patches);
     assert!(rt; last_page(&header) == 7);
-    let found = rows.read_header(ROWS).unwrap();
-    assert!(rt; found.kind == PageKind::Heap && found.count == 1);
+    assert!(rt; rows.read_header(ROWS) == Ok(stamped(PageKind::Heap, 1)));
+    assert!(rt; slot_is_allowed(&rows, 0) && slot_is_allowed(&rows, 1));
     assert!(rt; row(&rows, 0) == Slot::Absent { key: 10 });
     assert!(rt; row(&rows, 1) == Slot::Never);
     Ok(())
@@ -101,7 +111,7 @@ fn the_fault_of_a_slot(rt: HostRuntime) -> Result<(), Fail> {
         (181, 1, Some(181)),
         (175, 255, None),
     ];
-    let value = Value::new(rt.alloc(), b"hello")?.unwrap();
+    let value = Value::new(rt.alloc(), b"hello")?.ok_or("a value")?;
     for (offset, byte, fault) in faults {
         let mut page = Page::zero(rt.alloc())?;
         let bytes = page.bytes_mut();
