@@ -1,0 +1,4 @@
+mod Fronts
+mod Giving
+mod Images
+mod Parts

@@ -1,0 +1,5 @@
+pub mod Changes
+pub mod Layout
+pub mod Next
+pub mod Slots
+pub mod Written
