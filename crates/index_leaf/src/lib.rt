@@ -1,0 +1,14 @@
+//! Pages of the index: the entries of branches and leaves, one step of a search, and what their changes write.
+#![tactic(auto)]
+
+mod changes;
+mod fields;
+mod layout;
+mod search;
+mod step;
+
+pub use changes::{format_index, next_page, take_next};
+pub use fields::{count, entry, high_key, low_key, right};
+pub use layout::Entry;
+pub use search::look;
+pub use step::Look;
