@@ -1,13 +1,15 @@
 -- What changes of the index write.
-use Rattle.std.specs.Prelude.{ℕ, ◌+◌, ◌*◌, leb, if◌then◌else◌, List, [], ◌∷◌, ◌++◌, slice_range}
+use Rattle.std.specs.Prelude.{◌≡◌, ℕ, ◌+◌, ◌*◌, leb, ◌==◌, if◌then◌else◌, List, [], ◌∷◌, ◌++◌, replicate, slice_range, slice_index}
 use Rattle.ds_base.specs.declared.names.PageId.{PageId}
 use Rattle.ds_base.specs.declared.names.Place.{Place}
 use Rattle.byteorder.specs.Endian.{big_bytes}
-use Rattle.page_format.specs.Fields.{set_at, number_at, count_at, number_in, patched}
-use Rattle.page_format.specs.Header.{mark}
+use Rattle.page_format.specs.Fields.{page_size, kind_at, set_at, number_at, count_at, number_in, patched}
+use Rattle.page_format.specs.Header.{mark, entries_per_page}
 use Rattle.page_format.specs.declared.patch.Patch.{Patch}
 use Rattle.index_leaf.specs.declared.layout.Entry.{Entry}
-use Rattle.index_leaf.specs.Entries.{first_entry_at, entry_width, count_of, entries_of}
+use Rattle.index_leaf.specs.declared.growth.Inserted.{Inserted}
+use Rattle.index_leaf.specs.declared.growth.Inserted.TheVariants.{MustSplit, Done}
+use Rattle.index_leaf.specs.Entries.{low_at, high_at, right_at, entry_in, first_entry_at, entry_width, count_of, entries_of}
 use Rattle.index_leaf.specs.Search.{how_many}
 
 -- ---- patches
@@ -68,6 +70,15 @@ abbrev pub entered : List Entry → Entry → List Entry
 entered [] e = e ∷ []
 entered (x ∷ xs) e = if leb x.key e.key then x ∷ entered xs e else e ∷ x ∷ xs
 
+-- what the insertion of an entry answers
+abbrev pub inserted : List ℕ → Entry → Inserted
+inserted page e = if count_of page == entries_per_page then MustSplit else Done (insert_patches page e)
+
+-- the patched page has the old entries and the new one
+abbrev pub Enters : List ℕ → Entry → Inserted → Type 0
+Enters page e MustSplit = Unit {0}
+Enters page e (Done patches) = entries_of (all_patched page patches) ≡ entered (entries_of page) e
+
 -- ---- a new index
 
 abbrev pub index_header : ℕ
@@ -105,4 +116,47 @@ format_patches table =
     ∷ count_patch (page_of table 1) 1
     ∷ patch_of (page_of table 1) first_entry_at (entry_bytes first_entry)
     ∷ front_patch leaf (page_of table 2)
+    ∷ []
+
+-- ---- the split of a full page
+
+-- the entries from this one on go to the right page
+abbrev pub half : ℕ
+half = 126
+
+abbrev pub low_of_split : List ℕ → ℕ
+low_of_split left = (entry_in left (entry_offset half)).key
+
+-- all keys are below the high key, and the others are in the page of this number
+unfoldable pub link_bytes : ℕ → ℕ → List ℕ
+link_bytes high right = spelt 8 high ++ 1 ∷ 0 ∷ 0 ∷ 0 ∷ [] ++ spelt 4 right
+
+unfoldable pub zeros : ℕ → List ℕ
+zeros count = replicate count 0
+
+-- the left page keeps its first half; the others are zeroed
+abbrev pub left_patches : List ℕ → ℕ → List Patch
+left_patches left right_number =
+    count_patch (id_of left) half
+    ∷ patch_of (id_of left) high_at (link_bytes (low_of_split left) right_number)
+    ∷ patch_of (id_of left) (entry_offset half) (zeros (entry_width * half))
+    ∷ []
+
+abbrev pub right_id : List ℕ → ℕ → PageId
+right_id left right_number = record { set = (id_of left).set; number = right_number }
+
+-- the fields of the right page: its low key, and the left page's old high key and right number
+unfoldable pub fields_bytes : List ℕ → List ℕ
+fields_bytes left = spelt 8 (low_of_split left) ++ slice_range left high_at (right_at + 4)
+
+-- the second half of the entries
+unfoldable pub half_bytes : List ℕ → List ℕ
+half_bytes left = slice_range left (entry_offset half) page_size
+
+abbrev pub right_patches : List ℕ → ℕ → List Patch
+right_patches left right_number =
+    front_patch (slice_index left kind_at) (right_id left right_number)
+    ∷ count_patch (right_id left right_number) half
+    ∷ patch_of (right_id left right_number) low_at (fields_bytes left)
+    ∷ patch_of (right_id left right_number) first_entry_at (half_bytes left)
     ∷ []

@@ -102,7 +102,7 @@ pub fn put_entry(bytes: &mut Bytes, entry: Entry) -> Result<(), NoMemory>
 
 // The patch that writes the header of a page of this kind.
 #[tactic(auto, unfolding(crate::specs::Changes::front_of))]
-fn front_patch(alloc: Global, kind: u8, page: PageId) -> Result<Patch, NoMemory>
+pub fn front_patch(alloc: Global, kind: u8, page: PageId) -> Result<Patch, NoMemory>
     ensures { IfOk result (λ p. p ≡ front_patch kind page) }
 {
     let mut bytes = Bytes::new(alloc);

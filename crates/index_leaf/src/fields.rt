@@ -1,5 +1,5 @@
 ghost use Rattle.std.specs.Prelude.{◌≡◌, ℕ, ◌+◌, ◌*◌, ◌<◌, ◌≤◌, length, slice_get};
-ghost use Rattle.page_format.specs.Fields.{number_in};
+ghost use Rattle.page_format.specs.Fields.{page_size, number_in};
 ghost use Rattle.page_format.specs.Header.{entries_per_page};
 ghost use Rattle.index_leaf.specs.Entries.{first_entry_at, entry_width, count_of, low_of, high_of, right_field, right_of, entry_in, entries_of};
 ghost use Rattle.index_leaf.specs.Search.{pair_of};
@@ -10,6 +10,14 @@ use crate::layout::{
 use byteorder::{BigEndian, ByteOrder};
 use ds_base::{Key, Place};
 use page_format::Page;
+
+// All bytes of the page.
+pub fn bytes_of(page: &Page) -> &[u8]
+    ensures value { result.now ≡ page.now }
+    ensures length { length page.now ≡ page_size }
+{
+    page.bytes()
+}
 
 // The number in the two bytes from an offset on.
 pub fn read_u16(page: &[u8], offset: usize) -> u16

@@ -3,12 +3,18 @@
 
 mod changes;
 mod fields;
+mod growth;
+mod halves;
+mod insertion;
 mod layout;
 mod search;
 mod step;
 
 pub use changes::{format_index, next_page, take_next};
 pub use fields::{count, entry, high_key, low_key, right};
+pub use growth::{Inserted, Split};
+pub use insertion::insert;
 pub use layout::Entry;
 pub use search::look;
+pub use halves::split;
 pub use step::Look;
