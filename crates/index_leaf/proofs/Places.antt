@@ -1,5 +1,5 @@
 -- The entries of a page by their places, and how a search by halves finds them.
-use Rattle.std.proofs.Common.{◌≡◌, ℕ, zero, suc, ◌+◌, ◌-◌, ◌*◌, ◌<◌, ◌≤◌, refl, sym, ap, ◌∙◌, inl, inr, arith, Bool, true, false, List, [], ◌∷◌, length, get_or, Option, Some, None, if◌then◌else◌}
+use Rattle.std.proofs.Common.{◌≡◌, ℕ, zero, suc, ◌+◌, ◌-◌, ◌*◌, ◌<◌, ◌≤◌, refl, sym, ap, ◌∙◌, subst, inl, inr, arith, Bool, true, false, List, [], ◌∷◌, length, get_or, Option, Some, None, if◌then◌else◌}
 use Rattle.std.proofs.lemmas.Bool.{leb-true, leb-false, cases_lt}
 use Rattle.std.specs.Prelude.{leb, ◌==◌, slice_get}
 use Rattle.index_leaf.specs.declared.layout.Entry.{Entry}
@@ -146,3 +146,45 @@ floor_some page offset n key (suc m) s is lt =
     ∙ ap (λ (k : ℕ). last_before k (entries_from page offset n) d) (sym is)
     ∙ ap Some (entry_is page offset n m d (omega (arith, le)))
     ∙ ap (λ (o : ℕ). Some (entry_in page o)) there
+
+-- ---- whether the keys rise
+
+above_more : (es : List Entry) (a b : ℕ) → a < b → AllAbove b es → AllAbove a es
+above_more [] a b lt h = tt
+above_more (e ∷ es) a b lt h = let here = h.0 in (omega arith, above_more es a b lt h.1)
+
+above_head : (page : List ℕ) (offset n a : ℕ) → (0 < n → a < (entry_in page offset).key) → IsRising (entries_from page offset n) → AllAbove a (entries_from page offset n)
+above_head page offset zero a h s = tt
+above_head page offset (suc n) a h s = (h (omega arith), above_more (entries_from page (offset + entry_width) n) a (entry_in page offset).key (h (omega arith)) s.0)
+
+pub rising_from : (page : List ℕ) (offset n : ℕ) → ((k : ℕ) → k + 1 < n → (entry_in page (offset + entry_width * k)).key < (entry_in page (offset + entry_width * (k + 1))).key) → IsRising (entries_from page offset n)
+rising_from page offset zero h = tt
+rising_from page offset (suc n) h =
+    let rest = rising_from page (offset + entry_width) n (λ k lt.
+    let x : offset + entry_width * (k + 1) ≡ offset + entry_width + entry_width * k = omega arith in
+    let y : offset + entry_width * (k + 1 + 1) ≡ offset + entry_width + entry_width * (k + 1) = omega arith in
+    let P : ℕ → Type 0 = λ o. (entry_in page o).key < (entry_in page (offset + entry_width * (k + 1 + 1))).key in
+    let Q : ℕ → Type 0 = λ o. (entry_in page (offset + entry_width + entry_width * k)).key < (entry_in page o).key in
+    subst Q y (subst P x (h (k + 1) (omega arith)))) in
+    (above_head page (offset + entry_width) n (entry_in page offset).key (λ lt.
+    let x : offset + entry_width * 0 ≡ offset = omega arith in
+    let y : offset + entry_width * (0 + 1) ≡ offset + entry_width = omega arith in
+    let P : ℕ → Type 0 = λ o. (entry_in page o).key < (entry_in page (offset + entry_width * (0 + 1))).key in
+    let Q : ℕ → Type 0 = λ o. (entry_in page offset).key < (entry_in page o).key in
+    subst Q y (subst P x (h 0 (omega arith)))) rest, rest)
+
+pub rising_at : (page : List ℕ) (offset n k : ℕ) → IsRising (entries_from page offset n) → k + 1 < n → (entry_in page (offset + entry_width * k)).key < (entry_in page (offset + entry_width * (k + 1))).key
+rising_at page offset zero k s h = absurd (omega arith)
+rising_at page offset (suc zero) k s h = absurd (omega arith)
+rising_at page offset (suc (suc n)) zero s h =
+    let x : offset ≡ offset + entry_width * 0 = omega arith in
+    let y : offset + entry_width ≡ offset + entry_width * (0 + 1) = omega arith in
+    let P : ℕ → Type 0 = λ o. (entry_in page o).key < (entry_in page (offset + entry_width)).key in
+    let Q : ℕ → Type 0 = λ o. (entry_in page (offset + entry_width * 0)).key < (entry_in page o).key in
+    subst Q y (subst P x s.0.0)
+rising_at page offset (suc (suc n)) (suc k) s h =
+    let x : offset + entry_width + entry_width * k ≡ offset + entry_width * suc k = omega arith in
+    let y : offset + entry_width + entry_width * (k + 1) ≡ offset + entry_width * (suc k + 1) = omega arith in
+    let P : ℕ → Type 0 = λ o. (entry_in page o).key < (entry_in page (offset + entry_width + entry_width * (k + 1))).key in
+    let Q : ℕ → Type 0 = λ o. (entry_in page (offset + entry_width * suc k)).key < (entry_in page o).key in
+    subst Q y (subst P x (rising_at page (offset + entry_width) (suc n) k s.1 (omega arith)))

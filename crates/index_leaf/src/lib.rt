@@ -15,6 +15,6 @@ pub use fields::{count, entry, high_key, low_key, right};
 pub use growth::{Inserted, Split};
 pub use insertion::insert;
 pub use layout::Entry;
-pub use search::look;
+pub use search::{keys_rise, look};
 pub use halves::split;
 pub use step::Look;

@@ -1,4 +1,4 @@
-ghost use Rattle.std.specs.Prelude.{◌≡◌, ℕ, ◌≤◌, length};
+ghost use Rattle.std.specs.Prelude.{◌≡◌, ℕ, ◌≤◌, ◌↔◌, IsTrue};
 ghost use Rattle.page_format.specs.Fields.{page_size};
 ghost use Rattle.page_format.specs.Header.{entries_per_page};
 ghost use Rattle.index_leaf.specs.Entries.{count_of, entries_of, IsRising};
@@ -9,6 +9,24 @@ use crate::layout::{Entry, KIND_AT};
 use crate::step::Look;
 use ds_base::Key;
 use page_format::Page;
+
+/// Whether the keys of the page rise, as those of each sound branch or leaf do.
+#[tactic(auto, using(crate::proofs::Places::rising_from, crate::proofs::Places::rising_at))]
+pub fn keys_rise(page: &Page) -> bool
+    requires { count_of page.now ≤ entries_per_page }
+    ensures { IsTrue result ↔ IsRising (entries_of page.now) }
+{
+    let bytes = page.bytes();
+    let count = count(page) as usize;
+    let mut at = 1;
+    while at < count {
+        if entry_at(bytes, at - 1).key >= entry_at(bytes, at).key {
+            return false;
+        }
+        at += 1;
+    }
+    true
+}
 
 #[tactic(auto, using(crate::proofs::Places::page_end, crate::proofs::Places::page_below, crate::proofs::Places::page_upto))]
 // How many entries have keys that are not above this one.
