@@ -1,9 +1,10 @@
-ghost use Rattle.std.specs.Prelude.{◌≡◌, ℕ, ◌+◌, ◌*◌, ◌-◌, ◌^◌, ◌<◌, ◌≤◌, [], ◌∷◌, ◌++◌, OnOk, OnErr, IfOk};
+ghost use Rattle.std.specs.Prelude.{◌≡◌, ℕ, ◌+◌, ◌*◌, ◌-◌, ◌^◌, ◌<◌, ◌≤◌, [], ◌∷◌, ◌++◌, length, OnOk, OnErr, IfOk};
+ghost use Rattle.page_format.specs.Fields.{page_size};
 ghost use Rattle.page_format.specs.Header.{entries_per_page};
 ghost use Rattle.index_leaf.specs.Entries.{first_entry_at, count_of, entries_of, IsRising};
 ghost use Rattle.index_leaf.specs.Changes.{id_of, patch_of, spelt, next_page_of, next_patch, count_patch, entry_bytes, front_of, front_patch, page_of, first_entry, index_header, branch, leaf, format_patches};
 
-use crate::fields::{read_u16, read_u32};
+use crate::fields::{bytes_of, read_u16, read_u32};
 use crate::layout::{
     COUNT_AT, Entry, FIRST_ENTRY_AT, FIRST_LEAF, NEXT_AT, NUMBER_AT, ROOT, SET_AT, VERSION,
 };
@@ -14,9 +15,10 @@ use std::alloc::Global;
 // The name that the page's header gives.
 #[tactic(auto, unfolding(crate::specs::Changes::id_of))]
 pub fn id_of(page: &Page) -> PageId
-    ensures { result ≡ id_of page.now }
+    ensures value { result ≡ id_of page.now }
+    ensures whole { length page.now ≡ page_size }
 {
-    let bytes = page.bytes();
+    let bytes = bytes_of(page);
     PageId {
         set: read_u16(bytes, SET_AT),
         number: read_u32(bytes, NUMBER_AT),

@@ -1,4 +1,5 @@
-ghost use Rattle.std.specs.Prelude.{◌≡◌, ℕ, ◌+◌, ◌<◌, ◌≤◌, IfOk, OnErr};
+ghost use Rattle.std.specs.Prelude.{◌≡◌, ℕ, ◌+◌, ◌<◌, ◌≤◌, length, IfOk, OnErr};
+ghost use Rattle.page_format.specs.Fields.{page_size};
 ghost use Rattle.page_format.specs.Header.{entries_per_page};
 ghost use Rattle.index_leaf.specs.Entries.{count_of, entries_of, IsRising};
 ghost use Rattle.index_leaf.specs.Changes.{moved_patch, inserted, Enters};
@@ -31,19 +32,33 @@ fn moved_patch(alloc: Global, page: &Page, entry: Entry, at: usize) -> Result<Pa
     })
 }
 
-/// Puts an entry of a key that has none into a branch or leaf page whose keys rise. Only a page that isn't full takes memory.
+// What puts the entry into the page.
+fn plan_insertion(alloc: Global, page: &Page, entry: Entry) -> Result<Inserted, NoMemory>
+    requires rising { IsRising (entries_of page.now) }
+    requires room { count_of page.now ≤ entries_per_page }
+    ensures value { IfOk result (λ i. i ≡ inserted page.now entry) }
+    ensures err { OnErr result (count_of page.now < entries_per_page) }
+    ensures whole { length page.now ≡ page_size }
+{
+    let id = id_of(page);
+    let count = count(page);
+    if count == ENTRIES_PER_PAGE {
+        return Ok(Inserted::MustSplit);
+    }
+    let at = entries_upto(page, entry.key);
+    let mut patches = Patches::new(alloc);
+    patches.push(count_patch(alloc, id, count + 1)?)?;
+    patches.push(moved_patch(alloc, page, entry, at)?)?;
+    Ok(Inserted::Done(patches))
+}
+
+/// Puts an entry of a key that has none into a branch or leaf page whose keys rise. A full page takes no memory.
 pub fn insert(alloc: Global, page: &Page, key: Key, place: Place) -> Result<Inserted, NoMemory>
     requires rising { IsRising (entries_of page.now) }
     requires room { count_of page.now ≤ entries_per_page }
     ensures value { IfOk result (λ i. i ≡ inserted page.now (record { key = key; place = place })) }
+    ensures entries { IfOk result (λ i. Enters page.now (record { key = key; place = place }) i) }
     ensures err { OnErr result (count_of page.now < entries_per_page) }
 {
-    if count(page) == ENTRIES_PER_PAGE {
-        return Ok(Inserted::MustSplit);
-    }
-    let at = entries_upto(page, key);
-    let mut patches = Patches::new(alloc);
-    patches.push(count_patch(alloc, id_of(page), count(page) + 1)?)?;
-    patches.push(moved_patch(alloc, page, Entry { key, place }, at)?)?;
-    Ok(Inserted::Done(patches))
+    plan_insertion(alloc, page, Entry { key, place })
 }
