@@ -1,5 +1,5 @@
 -- What changes of the index write.
-use Rattle.std.specs.Prelude.{◌≡◌, ℕ, ◌+◌, ◌*◌, leb, ◌==◌, if◌then◌else◌, List, [], ◌∷◌, ◌++◌, replicate, slice_range, slice_index}
+use Rattle.std.specs.Prelude.{◌≡◌, ℕ, ◌+◌, ◌*◌, leb, ◌==◌, if◌then◌else◌, List, [], ◌∷◌, ◌++◌, take, drop, replicate, Some, slice_range, slice_index}
 use Rattle.ds_base.specs.declared.names.PageId.{PageId}
 use Rattle.ds_base.specs.declared.names.Place.{Place}
 use Rattle.byteorder.specs.Endian.{big_bytes}
@@ -9,7 +9,7 @@ use Rattle.page_format.specs.declared.patch.Patch.{Patch}
 use Rattle.index_leaf.specs.declared.layout.Entry.{Entry}
 use Rattle.index_leaf.specs.declared.growth.Inserted.{Inserted}
 use Rattle.index_leaf.specs.declared.growth.Inserted.TheVariants.{MustSplit, Done}
-use Rattle.index_leaf.specs.Entries.{low_at, high_at, right_at, entry_in, first_entry_at, entry_width, count_of, entries_of}
+use Rattle.index_leaf.specs.Entries.{low_at, high_at, right_at, entry_in, first_entry_at, entry_width, count_of, low_of, high_of, right_field, entries_of}
 use Rattle.index_leaf.specs.Search.{how_many}
 
 -- ---- patches
@@ -160,3 +160,17 @@ right_patches left right_number =
     ∷ patch_of (right_id left right_number) low_at (fields_bytes left)
     ∷ patch_of (right_id left right_number) first_entry_at (half_bytes left)
     ∷ []
+
+-- the left page keeps the first half of its entries, and leads from the low key of the right page on to that page
+pub record IsLeftOf (left new : List ℕ) (low number : ℕ) : Type 0 where
+  pub entries : entries_of new ≡ take half (entries_of left)
+  pub low_key : low_of new ≡ low_of left
+  pub high_key : high_of new ≡ Some low
+  pub right_page : right_field new ≡ number
+
+-- the right page has the second half of the entries, and the high key and right number that the left one had
+pub record IsRightOf (left new : List ℕ) (low : ℕ) : Type 0 where
+  pub entries : entries_of new ≡ drop half (entries_of left)
+  pub low_key : low_of new ≡ low
+  pub high_key : high_of new ≡ high_of left
+  pub right_page : right_field new ≡ right_field left

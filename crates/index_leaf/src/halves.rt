@@ -1,8 +1,8 @@
-ghost use Rattle.std.specs.Prelude.{◌≡◌, ℕ, ◌+◌, ◌*◌, ◌<◌, ◌≤◌, replicate, slice_index, IfOk, length};
+ghost use Rattle.std.specs.Prelude.{◌≡◌, ℕ, ◌+◌, ◌*◌, ◌<◌, ◌≤◌, ◌^◌, List, slice_index, IfOk, length};
 ghost use Rattle.page_format.specs.Header.{entries_per_page};
-ghost use Rattle.page_format.specs.Fields.{kind_at};
+ghost use Rattle.page_format.specs.Fields.{page_size, kind_at};
 ghost use Rattle.index_leaf.specs.Entries.{low_at, high_at, entry_width, first_entry_at, count_of, entries_of};
-ghost use Rattle.index_leaf.specs.Changes.{patch_of, id_of, half, zeros, entry_offset, link_bytes, fields_bytes, half_bytes, low_of_split, right_id, left_patches, right_patches};
+ghost use Rattle.index_leaf.specs.Changes.{patch_of, id_of, half, zeros, entry_offset, link_bytes, fields_bytes, half_bytes, low_of_split, right_id, left_patches, right_patches, all_patched, IsLeftOf, IsRightOf};
 
 use crate::changes::{count_patch, front_patch, id_of, make_patch, spell_u32, spell_u64};
 use crate::fields::{bytes_of, entry_at};
@@ -97,12 +97,14 @@ fn right_patches(alloc: Global, left: &Page, low: Key, right_number: u32) -> Res
     Ok(patches)
 }
 
-/// Splits a page of 252 entries: those from the 127th on go to a new page of this number, which is all zeros.
-pub fn split(alloc: Global, left: &Page, right_number: u32) -> Result<Split, NoMemory>
+// What splits the page.
+fn plan_split(alloc: Global, left: &Page, right_number: u32) -> Result<Split, NoMemory>
     requires { count_of left.now ≡ entries_per_page }
     ensures left { IfOk result (λ s. s.left ≡ left_patches left.now right_number) }
     ensures right { IfOk result (λ s. s.right ≡ right_patches left.now right_number) }
     ensures low { IfOk result (λ s. s.low ≡ low_of_split left.now) }
+    ensures range { low_of_split left.now < 2 ^ 64 }
+    ensures whole { length left.now ≡ page_size }
 {
     let low = entry_at(bytes_of(left), HALF).key;
     Ok(Split {
@@ -110,4 +112,16 @@ pub fn split(alloc: Global, left: &Page, right_number: u32) -> Result<Split, NoM
         right: right_patches(alloc, left, low, right_number)?,
         low,
     })
+}
+
+/// Splits a page of 252 entries: those from the 127th on go to a new page of this number, which is all zeros.
+pub fn split(alloc: Global, left: &Page, right_number: u32) -> Result<Split, NoMemory>
+    requires { count_of left.now ≡ entries_per_page }
+    ensures left { IfOk result (λ s. s.left ≡ left_patches left.now right_number) }
+    ensures right { IfOk result (λ s. s.right ≡ right_patches left.now right_number) }
+    ensures low { IfOk result (λ s. s.low ≡ low_of_split left.now) }
+    ensures left_page { IfOk result (λ s. IsLeftOf left.now (all_patched left.now s.left) s.low right_number) }
+    ensures right_page { IfOk result (λ s. (fresh : List ℕ) → length fresh ≡ page_size → IsRightOf left.now (all_patched fresh s.right) s.low) }
+{
+    plan_split(alloc, left, right_number)
 }
