@@ -47,7 +47,7 @@ written : (page counted : List ℕ) (e : Entry) (p m : ℕ) → 64 + 16 * (p + m
     → ((k : ℕ) → 28 ≤ k → get_or counted k 0 ≡ get_or page k 0)
     → e.key < 256 ^ 8 → e.place.page < 256 ^ 4 → e.place.slot < 256 ^ 2
     → entries_from (patched counted (64 + 16 * p) (entry_bytes e ++ slice_range page (64 + 16 * p) (64 + 16 * (p + m)))) 64 (p + (1 + m))
-      ≡ entries_from page 64 p ++ e ∷ entries_from page (64 + 16 * p) m
+    ≡ entries_from page 64 p ++ e ∷ entries_from page (64 + 16 * p) m
 written page counted e p m room le same kept hk hp hs =
     let from = 64 + 16 * p in
     let to = 64 + 16 * (p + m) in

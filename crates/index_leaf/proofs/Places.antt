@@ -82,8 +82,8 @@ floor_is (e ∷ es) key d s = floor_step e es key (how_many es key) (leb e.key k
 floor_some_above : (es : List Entry) (b key : ℕ) (x : Entry) → AllAbove b es → floor es key ≡ Some x → b < key
 floor_some_above es b key x h is =
     elim (cases_lt b key) as (λ _. b < key) [
-      inl lt ↦ lt
-    | inr le ↦ let none = floor_above es b key h le in absurd (cc)
+      | inl lt ↦ lt
+      | inr le ↦ let none = floor_above es b key h le in absurd (cc)
     ]
 
 find_above : (es : List Entry) (b key : ℕ) → AllAbove b es → key ≤ b → find es key ≡ None
@@ -165,13 +165,15 @@ rising_from page offset (suc n) h =
     let y : offset + entry_width * (k + 1 + 1) ≡ offset + entry_width + entry_width * (k + 1) = omega arith in
     let P : ℕ → Type 0 = λ o. (entry_in page o).key < (entry_in page (offset + entry_width * (k + 1 + 1))).key in
     let Q : ℕ → Type 0 = λ o. (entry_in page (offset + entry_width + entry_width * k)).key < (entry_in page o).key in
-    subst Q y (subst P x (h (k + 1) (omega arith)))) in
-    (above_head page (offset + entry_width) n (entry_in page offset).key (λ lt.
-    let x : offset + entry_width * 0 ≡ offset = omega arith in
-    let y : offset + entry_width * (0 + 1) ≡ offset + entry_width = omega arith in
-    let P : ℕ → Type 0 = λ o. (entry_in page o).key < (entry_in page (offset + entry_width * (0 + 1))).key in
-    let Q : ℕ → Type 0 = λ o. (entry_in page offset).key < (entry_in page o).key in
-    subst Q y (subst P x (h 0 (omega arith)))) rest, rest)
+    subst Q y (subst P x (h (k + 1) (omega arith)))) in (
+      above_head page (offset + entry_width) n (entry_in page offset).key (λ lt.
+          let x : offset + entry_width * 0 ≡ offset = omega arith in
+          let y : offset + entry_width * (0 + 1) ≡ offset + entry_width = omega arith in
+          let P : ℕ → Type 0 = λ o. (entry_in page o).key < (entry_in page (offset + entry_width * (0 + 1))).key in
+          let Q : ℕ → Type 0 = λ o. (entry_in page offset).key < (entry_in page o).key in
+          subst Q y (subst P x (h 0 (omega arith)))) rest,
+      rest,
+    )
 
 pub rising_at : (page : List ℕ) (offset n k : ℕ) → IsRising (entries_from page offset n) → k + 1 < n → (entry_in page (offset + entry_width * k)).key < (entry_in page (offset + entry_width * (k + 1))).key
 rising_at page offset zero k s h = absurd (omega arith)

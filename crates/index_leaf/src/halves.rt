@@ -43,7 +43,12 @@ fn zeros_patch(alloc: Global, page: PageId) -> Result<Patch, NoMemory>
     make_patch(alloc, page, SECOND_HALF_AT as u16, &zeros)
 }
 
-fn left_patches(alloc: Global, left: &Page, low: Key, right_number: u32) -> Result<Patches, NoMemory>
+fn left_patches(
+    alloc: Global,
+    left: &Page,
+    low: Key,
+    right_number: u32,
+) -> Result<Patches, NoMemory>
     requires { low ≡ low_of_split left.now }
     ensures { IfOk result (λ p. p ≡ left_patches left.now right_number) }
 {
@@ -77,10 +82,20 @@ fn fields_patch(alloc: Global, left: &Page, page: PageId, low: Key) -> Result<Pa
 fn half_patch(alloc: Global, left: &Page, page: PageId) -> Result<Patch, NoMemory>
     ensures { IfOk result (λ p. p ≡ patch_of page first_entry_at (half_bytes left.now)) }
 {
-    make_patch(alloc, page, FIRST_ENTRY_AT as u16, &bytes_of(left)[SECOND_HALF_AT..PAGE_SIZE])
+    make_patch(
+        alloc,
+        page,
+        FIRST_ENTRY_AT as u16,
+        &bytes_of(left)[SECOND_HALF_AT..PAGE_SIZE],
+    )
 }
 
-fn right_patches(alloc: Global, left: &Page, low: Key, right_number: u32) -> Result<Patches, NoMemory>
+fn right_patches(
+    alloc: Global,
+    left: &Page,
+    low: Key,
+    right_number: u32,
+) -> Result<Patches, NoMemory>
     requires { low ≡ low_of_split left.now }
     ensures { IfOk result (λ p. p ≡ right_patches left.now right_number) }
 {

@@ -9,12 +9,14 @@ mod insertion;
 mod layout;
 mod search;
 mod step;
+#[cfg(test)]
+mod tests;
 
 pub use changes::{format_index, next_page, take_next};
 pub use fields::{count, entry, high_key, low_key, right};
 pub use growth::{Inserted, Split};
+pub use halves::split;
 pub use insertion::insert;
 pub use layout::Entry;
 pub use search::{keys_rise, look};
-pub use halves::split;
 pub use step::Look;
