@@ -1,5 +1,5 @@
 -- The directory: the frame of each page.
-use Rattle.std.specs.Prelude.{ℕ, ◌≡◌, ◌+◌, ◌*◌, ◌≤◌, ◌==◌, ◌&&◌, Bool, true, false, List, Option, Some, slice_get}
+use Rattle.std.specs.Prelude.{ℕ, ◌≡◌, ◌+◌, ◌*◌, ◌≤◌, ◌==◌, ◌&&◌, Bool, true, false, List, Option, Some, None, slice_get, if◌then◌else◌}
 use Rattle.std.specs.Option.{option_map_or}
 use Rattle.indexmap.specs.IndexMap.{IndexMap, get_by, spare, index_map_len}
 use Rattle.ds_base.specs.declared.names.PageId.{PageId}
@@ -29,6 +29,11 @@ module _ {S : Type 0} (places : IndexMap (ℕ × ℕ) ℕ S) (frames : List Fram
   abbrev pub LeadsToAll : Type 0
   LeadsToAll = (f : ℕ) (id : PageId) → LeadsTo f id
 
-  -- so many entries fit in the memory that was taken
-  abbrev pub HasRoomFor : ℕ → Type 0
-  HasRoomFor n = n ≤ index_map_len places + spare places
+-- so many entries fit in the memory that was taken
+abbrev pub HasRoomFor : {S : Type 0} → IndexMap (ℕ × ℕ) ℕ S → ℕ → Type 0
+HasRoomFor places n = n ≤ index_map_len places + spare places
+
+-- the frame that the directory names, if it still holds the page
+abbrev pub confirmed : List Frame → PageId → Option ℕ → Option ℕ
+confirmed frames id None = None
+confirmed frames id (Some f) = if holds_at frames f id then Some f else None

@@ -1,4 +1,5 @@
-ghost use Rattle.std.specs.Prelude.{◌≡◌, ◌<◌, ◌≤◌, true, length, find, All, IfOk};
+ghost use Rattle.std.specs.Prelude.{◌≡◌, ◌≤◌, true, find, IfOk};
+ghost use Rattle.std.specs.Map.{keys_of};
 ghost use Rattle.member_pool.specs.Frames.{frame_at, is_unpinned};
 ghost use Rattle.member_pool.specs.Uses.{newest, oldest, countdown, is_in};
 
@@ -62,14 +63,25 @@ impl Order {
 
     /// The oldest frame that has no pin.
     pub fn first_unpinned(&self, frames: &[Frame]) -> Option<u16>
-        requires { All (λ f. f < length frames.now) self.now }
         ensures { result ≡ find (λ f. is_unpinned (frame_at frames.now f)) self.now }
     {
-        for (&frame, _) in self.uses.iter() {
-            if frames[frame as usize].pins == 0 {
-                return Some(frame);
-            }
-        }
-        None
+        first_unpinned_in(&self.uses, frames)
+    }
+}
+
+fn first_unpinned_in(uses: &LruCache<u16, ()>, frames: &[Frame]) -> Option<u16>
+    ensures { result ≡ find (λ f. is_unpinned (frame_at frames.now f)) (keys_of uses.now.entries) }
+{
+    uses.iter()
+        .map(|(&frame, _)| frame)
+        .find(|&frame| is_unpinned_at(frames, frame))
+}
+
+fn is_unpinned_at(frames: &[Frame], frame: u16) -> bool
+    ensures { result ≡ is_unpinned (frame_at frames.now frame) }
+{
+    match frames.get(frame as usize) {
+        Some(held) => held.pins == 0,
+        None => true,
     }
 }

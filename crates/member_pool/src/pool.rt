@@ -1,4 +1,4 @@
-ghost use Rattle.std.specs.Prelude.{◌≡◌, ◌+◌, ◌-◌, ◌<◌, ◌≤◌, ◌^◌, None, IfOk, IsSome, length, replicate, slice_index, unwrap_or, slice_get};
+ghost use Rattle.std.specs.Prelude.{◌≡◌, ℕ, ◌+◌, ◌-◌, ◌<◌, ◌≤◌, ◌^◌, Some, IfOk, IfSome, IsSome, length, replicate, slice_get};
 ghost use Rattle.std.specs.Borrow.{sem};
 ghost use Rattle.page_format.specs.Fields.{page_size};
 ghost use Rattle.member_pool.specs.Frames.{free_frame, find_page};
@@ -46,7 +46,7 @@ impl Pool {
     {
         Ok(Pool {
             pages: zero_pages(alloc, frames)?,
-            frames: vec![in alloc; Frame::free(); frames as usize]?,
+            frames: free_frames(alloc, frames)?,
             order: Order::new(alloc, frames)?,
             places: new_directory(alloc, frames)?,
         })
@@ -60,7 +60,7 @@ impl Pool {
     }
 
     pub fn page(&self, frame: u16) -> &Page
-        requires { frame < length self.now.pages }
+        requires { frame < length self.now.frames }
         ensures { slice_get self.now.pages frame ≡ Some result.now }
     {
         &self.pages[frame as usize]
@@ -68,7 +68,7 @@ impl Pool {
 
     /// The page, to be filled or changed in place.
     pub fn page_mut(&mut self, frame: u16) -> &mut Page
-        requires { frame < length self.old.pages }
+        requires { frame < length self.old.frames }
         ensures* writes_back { sem 𝓛 (LendsPage self.entry frame result) }
         ensures value { slice_get self.old.pages frame ≡ Some result.now }
     {
@@ -160,10 +160,17 @@ impl Pool {
 
     /// The frame to be taken next: a free one, else the unpinned one that was used longest ago.
     pub fn victim(&self) -> Option<u16>
-        ensures { result ≡ victim_of self.now }
+        ensures oldest { result ≡ victim_of self.now }
+        ensures there { IfSome result (λ f. f < length self.now.frames) }
     {
         self.order.first_unpinned(self.frames.as_slice())
     }
+}
+
+fn free_frames(alloc: Global, frames: u16) -> Result<Vec<Frame>, NoMemory>
+    ensures { IfOk result (λ all. all.items ≡ replicate frames free_frame) }
+{
+    Ok(vec![in alloc; Frame::free(); frames as usize]?)
 }
 
 fn zero_pages(alloc: Global, frames: u16) -> Result<Vec<Page>, NoMemory>
