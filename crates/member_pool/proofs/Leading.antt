@@ -35,11 +35,11 @@ pub there_at : (frames : List Frame) (f : ℕ) (id : PageId) → f < length fram
 there_at frames f id l e = back frames f id l (ap (λ o. option_map_or (same_page id) o false) e ∙ own_page id)
 
 pub none_at : (frames : List Frame) (f : ℕ) (id : PageId) → ((x : PageId) → (get_or frames f free_frame).page ≡ Some x → ⊥) → holds_at frames f id ≡ true → ⊥
-none_at frames f id no h = by (get_or frames f free_frame).page refl (held frames f id h).1
+none_at frames f id never h = by (get_or frames f free_frame).page refl (held frames f id h).1
   where
     by : (o : Option PageId) → (get_or frames f free_frame).page ≡ o → option_map_or (same_page id) o false ≡ true → ⊥
     by None e t = true≢false (sym t)
-    by (Some x) e t = no x e
+    by (Some x) e t = never x e
 
 -- a change of one frame
 pub at_set : (frames : List Frame) (f g : ℕ) (new : Frame) (id : PageId) → f < length frames → holds_at (slice_set frames f new) g id ≡ true

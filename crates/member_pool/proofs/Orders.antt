@@ -7,6 +7,7 @@ use Rattle.std.proofs.lemmas.List.{take_all, length-map}
 use Rattle.std.proofs.lemmas.Grind.{common_steps}
 use Rattle.std.specs.Map.{keys_of, lookup_entry, remove_entry}
 use Rattle.std.proofs.lemmas.Bool.{eqb-true}
+use Rattle.std.proofs.lemmas.Option.{none-some}
 use Rattle.lru.specs.LruCache.{LruCache, promoted, demoted, put_entries}
 use Rattle.member_pool.specs.Uses.{without, newest, oldest, countdown, is_in}
 
@@ -107,6 +108,27 @@ found_within n p (x ∷ xs) h = by (p x) refl (found_within n p xs)
     by : (b : Bool) → p x ≡ b → (list_all (λ g. nat_lt g n) xs ≡ true → IfSome (find p xs) (λ f. f < n)) → IfSome (find p (x ∷ xs)) (λ f. f < n)
     by true e rest = subst (λ b. IfSome (cond b (Some x) (find p xs)) (λ f. f < n)) (sym e) (grind arith)
     by false e rest = subst (λ b. IfSome (cond b (Some x) (find p xs)) (λ f. f < n)) (sym e) (rest (grind arith))
+
+pub found_passes : (p : ℕ → Bool) (xs : List ℕ) → IfSome (find p xs) (λ f. p f ≡ true)
+found_passes p [] = tt
+found_passes p (x ∷ xs) = by (p x) refl (found_passes p xs)
+  where
+    by : (b : Bool) → p x ≡ b → IfSome (find p xs) (λ f. p f ≡ true) → IfSome (find p (x ∷ xs)) (λ f. p f ≡ true)
+    by true e rest = subst (λ b. IfSome (cond b (Some x) (find p xs)) (λ f. p f ≡ true)) (sym e) e
+    by false e rest = subst (λ b. IfSome (cond b (Some x) (find p xs)) (λ f. p f ≡ true)) (sym e) rest
+
+-- where none is found, each that is in the list fails
+pub none_passes : (p : ℕ → Bool) (f : ℕ) (xs : List ℕ) → find p xs ≡ None → is_in f xs ≡ true → p f ≡ false
+none_passes p f [] e h = absurd (true≢false (sym h))
+none_passes p f (x ∷ xs) e h = by (p x) refl (none_passes p f xs)
+  where
+    by : (b : Bool) → p x ≡ b → (find p xs ≡ None → is_in f xs ≡ true → p f ≡ false) → p f ≡ false
+    by true t rest = absurd (none-some x (sym e ∙ ap (λ b. cond b (Some x) (find p xs)) t))
+    by false t rest = here (nat_eq f x) refl
+      where
+        here : (b : Bool) → nat_eq f x ≡ b → p f ≡ false
+        here true is = ap p (eqb-true f x is) ∙ t
+        here false is = rest (sym (ap (λ b. cond b (Some x) (find p xs)) t) ∙ e) (sym (ap (λ b. b || is_in f xs) is) ∙ h)
 
 in_without : (f g : ℕ) (xs : List ℕ) → nat_eq g f ≡ false → is_in g (without f xs) ≡ is_in g xs
 in_without f g [] h = refl

@@ -1,7 +1,7 @@
-ghost use Rattle.std.specs.Prelude.{◌≡◌, ℕ, ◌+◌, ◌-◌, ◌<◌, ◌≤◌, ◌^◌, Some, IfOk, IfSome, IsSome, length, replicate, slice_get};
+ghost use Rattle.std.specs.Prelude.{◌≡◌, ℕ, ◌+◌, ◌-◌, ◌<◌, ◌≤◌, ◌^◌, true, false, Some, IfOk, IfSome, IsSome, IsNone, length, replicate, slice_get};
 ghost use Rattle.std.specs.Borrow.{sem};
 ghost use Rattle.page_format.specs.Fields.{page_size};
-ghost use Rattle.member_pool.specs.Frames.{free_frame, find_page};
+ghost use Rattle.member_pool.specs.Frames.{free_frame, find_page, is_unpinned};
 ghost use Rattle.member_pool.specs.Uses.{countdown};
 ghost use Rattle.member_pool.specs.Pools.{frame_of, with_frame, placed, dropped, pinned, victim_of};
 ghost use Rattle.member_pool.specs.Lending.{LendsPage};
@@ -78,7 +78,7 @@ impl Pool {
     /// Places a page in a frame, whose bytes stay. Both marks are clear, and the frame is the newest.
     pub fn place(&mut self, frame: u16, id: PageId)
         requires there { frame < length self.old.frames }
-        requires unpinned { (frame_of self.old frame).pins ≡ 0 }
+        requires unpinned { is_unpinned (frame_of self.old frame) ≡ true }
         requires alone { (f : ℕ) → find_page self.old.frames id ≡ Some f → f ≡ frame }
         ensures { self.new ≡ placed self.old frame id }
     {
@@ -162,6 +162,8 @@ impl Pool {
     pub fn victim(&self) -> Option<u16>
         ensures oldest { result ≡ victim_of self.now }
         ensures there { IfSome result (λ f. f < length self.now.frames) }
+        ensures unpinned { IfSome result (λ f. is_unpinned (frame_of self.now f) ≡ true) }
+        ensures none { IsNone result → (f : ℕ) → f < length self.now.frames → is_unpinned (frame_of self.now f) ≡ false }
     {
         self.order.first_unpinned(self.frames.as_slice())
     }
