@@ -30,7 +30,7 @@ module _ {S : Type 0} (pages : List (List ℕ)) (frames : List Frame) (order : L
         within = subst (λ n. list_all (λ g. nat_lt g n) now ≡ true) (sym long) within;
         covers = λ g lt. covers g (subst (λ n. g < n) long lt);
         leads = leads;
-        room = subst (λ n. HasRoomFor then (2 * n)) (sym long) room
+        room = subst (λ n. HasRoomFor then (2 * n)) (sym long) room;
       }
 
   -- the frame still holds what it held
@@ -40,28 +40,28 @@ module _ {S : Type 0} (pages : List (List ℕ)) (frames : List Frame) (order : L
   pub kept_marked : (x new : Frame) → x ≡ get_or frames f x → new.page ≡ x.page → IsKept pages (slice_set frames f new) order places
   kept_marked x new e page =
       kept_so new order places kept.within kept.covers
-        (leads_set places frames f new l kept.leads (λ id t. still x e id (sym (ap (λ o. option_map_or (same_page id) o false) page) ∙ t)))
-        kept.room
+      (leads_set places frames f new l kept.leads (λ id t. still x e id (sym (ap (λ o. option_map_or (same_page id) o false) page) ∙ t)))
+      kept.room
 
   pub kept_newest : (x new : Frame) (now : List ℕ) → x ≡ get_or frames f x → new.page ≡ x.page → now ≡ newest f order → IsKept pages (slice_set frames f new) now places
   kept_newest x new now e page is =
       subst (λ o. IsKept pages (slice_set frames f new) o places) (sym is)
-        (kept_so new (newest f order) places (within_newest (length frames) f order l kept.within) (λ g lt. in_newest f g order (kept.covers g lt))
-          (leads_set places frames f new l kept.leads (λ id t. still x e id (sym (ap (λ o. option_map_or (same_page id) o false) page) ∙ t)))
-          kept.room)
+      (kept_so new (newest f order) places (within_newest (length frames) f order l kept.within) (λ g lt. in_newest f g order (kept.covers g lt))
+      (leads_set places frames f new l kept.leads (λ id t. still x e id (sym (ap (λ o. option_map_or (same_page id) o false) page) ∙ t)))
+      kept.room)
 
   pub kept_free : (new : Frame) (now : List ℕ) → new ≡ free_frame → now ≡ oldest f order → IsKept pages (slice_set frames f new) now places
   kept_free new now free is =
       subst (λ o. IsKept pages (slice_set frames f new) o places) (sym is)
-        (kept_so new (oldest f order) places (within_oldest (length frames) f order l kept.within) (λ g lt. in_oldest f g order (kept.covers g lt))
-          (leads_set places frames f new l kept.leads (λ id t. absurd (true≢false (sym t ∙ ap (holds id) free))))
-          kept.room)
+      (kept_so new (oldest f order) places (within_oldest (length frames) f order l kept.within) (λ g lt. in_oldest f g order (kept.covers g lt))
+      (leads_set places frames f new l kept.leads (λ id t. absurd (true≢false (sym t ∙ ap (holds id) free))))
+      kept.room)
 
   pub kept_placed : (new : Frame) (now : List ℕ) (then : IndexMap (ℕ × ℕ) ℕ S) → now ≡ newest f order → LeadsToAll then (slice_set frames f new) → HasRoomFor then (2 * length frames)
       → IsKept pages (slice_set frames f new) now then
   kept_placed new now then is leads room =
       subst (λ o. IsKept pages (slice_set frames f new) o then) (sym is)
-        (kept_so new (newest f order) then (within_newest (length frames) f order l kept.within) (λ g lt. in_newest f g order (kept.covers g lt)) leads room)
+      (kept_so new (newest f order) then (within_newest (length frames) f order l kept.within) (λ g lt. in_newest f g order (kept.covers g lt)) leads room)
 
 pub kept_new : {S : Type 0} (n : ℕ) (page : List ℕ) (pages : List (List ℕ)) (frames : List Frame) (order : List ℕ) (places : IndexMap (ℕ × ℕ) ℕ S) → n < 2 ^ 16
     → pages ≡ replicate n page → frames ≡ replicate n free_frame → order ≡ countdown n → HasRoomFor places (2 * n) → IsKept pages frames order places
@@ -73,5 +73,5 @@ kept_new n page pages frames order places small p f o room =
       within = ap (list_all (λ g. nat_lt g (length frames))) o ∙ within_countdown (length frames) n (omega (arith, long));
       covers = λ g lt. ap (is_in g) o ∙ in_countdown n g (omega (arith, long, lt));
       leads = λ g id h. absurd (none_held n g id (sym (ap (λ fs. holds_at fs g id) f) ∙ h));
-      room = subst (λ k. HasRoomFor places (2 * k)) (sym long) room
+      room = subst (λ k. HasRoomFor places (2 * k)) (sym long) room;
     }

@@ -72,6 +72,7 @@ look_up frames id o leads = by o (find_page frames id) refl leads
     named : (f : ℕ) (b : Bool) → holds_at frames f id ≡ b → find_page frames id ≡ None → confirmed frames id (Some f) ≡ find_page frames id
     named f true h none = absurd (misses frames id f none h)
     named f false h none = ap (λ b. if b then Some f else None) h ∙ sym none
+
     by : (o r : Option ℕ) → find_page frames id ≡ r → ((g : ℕ) → holds_at frames g id ≡ true → o ≡ Some g) → confirmed frames id o ≡ find_page frames id
     by None None e l = sym e
     by None (Some g) e l = absurd (none-some g (l g (finds frames id g e)))
@@ -122,17 +123,17 @@ pub apart_set : {S : Type 0} (places : IndexMap (ℕ × ℕ) ℕ S) (frames : Li
     → ((g : ℕ) → find_page frames id ≡ Some g → g ≡ f) → AreApart (slice_set frames f (holding id))
 apart_set places frames f id l leads alone g k page s t =
     let is : (n : ℕ) → n ≢ f → holds id (holding id) ≡ true → holds page (holding id) ≡ true → holds_at frames n page ≡ true → ⊥ =
-        λ n no own h at. no (alone n (found_at places frames leads n id (subst (λ p. holds_at frames n p ≡ true) (sym (same_name id page (one_page id page (holding id) own h))) at))) in
+    λ n no own h at. no (alone n (found_at places frames leads n id (subst (λ p. holds_at frames n p ≡ true) (sym (same_name id page (one_page id page (holding id) own h))) at))) in
     let own : holds id (holding id) ≡ true = grind arith in
     elim (at_set frames f g (holding id) page l s) [
       | inl a ↦ elim (at_set frames f k (holding id) page l t) [
-          | inl b ↦ a.0 ∙ sym b.0
-          | inr b ↦ absurd (is k b.0 own a.1 b.1)
-        ]
+        | inl b ↦ a.0 ∙ sym b.0
+        | inr b ↦ absurd (is k b.0 own a.1 b.1)
+      ]
       | inr a ↦ elim (at_set frames f k (holding id) page l t) [
-          | inl b ↦ absurd (is g a.0 own b.1 a.1)
-          | inr b ↦ let e : Some g ≡ Some k = sym (leads g page a.1) ∙ leads k page b.1 in grind arith
-        ]
+        | inl b ↦ absurd (is g a.0 own b.1 a.1)
+        | inr b ↦ let e : Some g ≡ Some k = sym (leads g page a.1) ∙ leads k page b.1 in grind arith
+      ]
     ]
 
 -- free frames hold nothing

@@ -158,7 +158,7 @@ impl Pool {
         self.frames[frame as usize].filled
     }
 
-    /// The frame to be taken next: a free one, else the unpinned one that was used longest ago.
+    /// The frame to be taken next: the unpinned one that was used longest ago. A free frame counts as used longest ago.
     pub fn victim(&self) -> Option<u16>
         ensures oldest { result ≡ victim_of self.now }
         ensures there { IfSome result (λ f. f < length self.now.frames) }

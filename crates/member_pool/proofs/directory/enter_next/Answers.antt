@@ -7,7 +7,7 @@ pub returns-in-Some-clause-leads : goal.returns-in-Some-clause-leads
 returns-in-Some-clause-leads c = λ f page lt.
     let there : holds_at c.args.frames.now c.args.index c.in-Some.id ≡ true = there_at c.args.frames.now c.args.index c.in-Some.id c.requires.there c.in-Some.is in
     entered c.args.places.now c.put_entry.new.places c.args.frames.now c.args.index c.in-Some.id c.put_entry.ensures.updates c.requires.apart there f page
-      (λ no. c.requires.before f page (omega (arith, lt, no)))
+    (λ no. c.requires.before f page (omega (arith, lt, no)))
 
 pub returns-in_default-clause-leads : goal.returns-in_default-clause-leads
 returns-in_default-clause-leads c = λ f page lt h.

@@ -20,8 +20,8 @@ pub returns-clause-there : goal.returns-clause-there
 returns-clause-there c =
     let p = c.self.inside in
     subst (λ r. IfSome r (λ f. f < length c.args.self.now.frames)) (sym c.first_unpinned.ensures)
-      (subst (λ (s : PoolState). IfSome (find (λ f. is_unpinned (frame_at c.as_slice.result.now f)) p.order) (λ f. f < length s.frames)) c.self.view_is
-        (found_within (length p.frames.items) (λ f. is_unpinned (frame_at c.as_slice.result.now f)) p.order c.self.invariant.within))
+    (subst (λ (s : PoolState). IfSome (find (λ f. is_unpinned (frame_at c.as_slice.result.now f)) p.order) (λ f. f < length s.frames)) c.self.view_is
+    (found_within (length p.frames.items) (λ f. is_unpinned (frame_at c.as_slice.result.now f)) p.order c.self.invariant.within))
 
 pub returns-clause-unpinned : goal.returns-clause-unpinned
 returns-clause-unpinned c =
@@ -34,4 +34,4 @@ returns-clause-none c = λ none f l.
     let s = c.args.self.now in
     let q : ℕ → Bool = λ g. is_unpinned (frame_at s.frames g) in
     none_passes q f s.order (nothing (find q s.order) (subst IsNone (returns-clause-oldest c) none))
-      (subst (λ (t : PoolState). (g : ℕ) → g < length t.frames → is_in g t.order ≡ true) c.self.view_is c.self.invariant.covers f l)
+    (subst (λ (t : PoolState). (g : ℕ) → g < length t.frames → is_in g t.order ≡ true) c.self.view_is c.self.invariant.covers f l)
