@@ -1,0 +1,34 @@
+-- A pool, and what its calls make of it.
+use Rattle.std.specs.Prelude.{ℕ, ◌≡◌, ◌<◌, Bool, true, List, length, slice_set, find, Option, Some, None, unwrap_or}
+use Rattle.ds_base.specs.declared.names.PageId.{PageId}
+use Rattle.member_pool.specs.declared.frame.Frame.{Frame}
+use Rattle.member_pool.specs.Frames.{free_frame, holding, frame_at, is_free, is_unpinned, find_page}
+use Rattle.member_pool.specs.Uses.{newest, oldest}
+
+-- the bytes and the use of each frame, and the frames in the order of their use, the one used longest ago first
+pub record PoolState : Type 0 where
+  pub pages : List (List ℕ)
+  pub frames : List Frame
+  pub order : List ℕ
+
+abbrev pub frame_of : PoolState → ℕ → Frame
+frame_of pool f = frame_at pool.frames f
+
+abbrev pub with_frame : PoolState → ℕ → Frame → PoolState
+with_frame pool f frame = record pool { frames = slice_set pool.frames f frame }
+
+-- the page is placed: both marks are clear, and the frame is the newest
+abbrev pub placed : PoolState → ℕ → PageId → PoolState
+placed pool f id = record pool { frames = slice_set pool.frames f (holding id); order = newest f pool.order }
+
+-- the frame is free, and counts as used longest ago
+abbrev pub dropped : PoolState → ℕ → PoolState
+dropped pool f = record pool { frames = slice_set pool.frames f free_frame; order = oldest f pool.order }
+
+-- one more pin, and the frame is the newest
+abbrev pub pinned : PoolState → ℕ → ℕ → PoolState
+pinned pool f pins = record pool { frames = slice_set pool.frames f (record (frame_of pool f) { pins = pins }); order = newest f pool.order }
+
+-- the unpinned frame that was used longest ago
+abbrev pub victim_of : PoolState → Option ℕ
+victim_of pool = find (λ f. is_unpinned (frame_of pool f)) pool.order
