@@ -18,7 +18,7 @@ exclusive_alone = record { share = false; exclusive = true }
 abbrev pub recorded_x : Option Record
 recorded_x = Some (record { mode = X; retained = false })
 
--- member 2 has row 7 in X by its owner 1, and the entry was granted twice
+-- member 2 has row number 7 in X by its owner 1, and the entry was granted twice
 abbrev pub held : World
 held = record start {
   version = put (λ e. 0) 0 2;
@@ -55,7 +55,7 @@ pub record RetainedIsNeeded : Type 0 where
 
 -- ---- a release keeps the interest that other claims of the entry need
 
--- member 2 has row 8 too
+-- member 2 has row number 8 too
 abbrev pub held_two : World
 held_two = record held {
   records = put2 held.records 2 8 recorded_x;

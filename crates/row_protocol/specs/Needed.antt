@@ -15,7 +15,7 @@ at_home t = t
 abbrev pub empty_rows : ℕ → Option ℕ
 empty_rows r = None
 
--- a transaction's claim on row 7 alone
+-- a transaction's claim on row number 7 alone
 abbrev pub only_claim : ℕ → Mode → ℕ → ℕ → Option Mode
 only_claim t m u r = if u == t then (if r == 7 then Some m else None) else None
 
@@ -25,7 +25,7 @@ both_run = record start { stage = put (put start.stage 1 Forward) 2 Forward; cla
 abbrev pub changed_7 : World
 changed_7 = changed empty_rows both_run 1 7 (Some 5)
 
--- the claims are transaction 2's, which reads row 7
+-- the claims are transaction 2's, which reads row number 7
 abbrev pub read_by_other : World → World
 read_by_other w = got empty_rows (record w { claim = only_claim 2 S }) 2 7
 
@@ -84,7 +84,7 @@ pub record UndoOnDiskIsNeeded : Type 0 where
   pub breaks : row_now empty_rows (failed at_home (ended half_undone 1) 1) 7 ≢ replay half_undone.history empty_rows 7
 
 -- ---- the rows of the logs need the logs of all members
--- Transaction 1 has committed; transaction 2 has then given row 7 the value 6 and committed too.
+-- Transaction 1 has committed; transaction 2 has then given row number 7 the value 6 and committed too.
 abbrev pub first_commit : World
 first_commit = committed at_home (decided changed_7 1) 1 2
 
