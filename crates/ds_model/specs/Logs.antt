@@ -33,6 +33,11 @@ AreLogs (bs ∷ bss) (rs ∷ rss) = IsLog bs rs × AreLogs bss rss
 abbrev pub is_commit : Body → Bool
 is_commit body.Commit = true
 is_commit (body.RowChange change) = false
+is_commit (body.Compensation change undone) = false
+is_commit (body.System patches) = false
+is_commit body.Ended = false
+is_commit (body.Checkpoint offset) = false
+is_commit body.RestartEnd = false
 
 -- the transaction has a Commit record among these
 abbrev pub has_commit : List LogRecord → ℕ → Bool
@@ -52,9 +57,15 @@ abbrev pub set_row : Rows → ℕ → ℕ → Option (List ℕ) → Rows
 set_row rows table key None = finite.remove rows (table, key)
 set_row rows table key (Some value) = finite.insert rows (table, key) value
 
+-- of a transaction with a Commit record only its row changes count
 abbrev pub after_body : Rows → Body → Rows
 after_body rows body.Commit = rows
 after_body rows (body.RowChange c) = set_row rows c.table c.key c.after
+after_body rows (body.Compensation c undone) = rows
+after_body rows (body.System patches) = rows
+after_body rows body.Ended = rows
+after_body rows (body.Checkpoint offset) = rows
+after_body rows body.RestartEnd = rows
 
 abbrev pub after_records : Rows → List LogRecord → Rows
 after_records rows [] = rows

@@ -1,4 +1,5 @@
 use ds_base::{Key, Lrsn, Place, Sequence, TableId, Value};
+use page_format::Patches;
 
 /// A change of a row; an absent value means no row.
 #[derive(Clone, Copy, Debug)]
@@ -11,14 +12,26 @@ pub struct RowChange {
 }
 
 /// What a log record says.
-#[derive(Clone, Copy, Debug)]
+#[derive(Debug, Drop)]
 pub enum Body {
+    /// A transaction changed a row.
     RowChange { change: RowChange },
+    /// The row change of this number was taken back; the change is its inverse.
+    Compensation { change: RowChange, undone: Lrsn },
+    /// Pages were changed for no transaction: formats, slots given, splits.
+    System { patches: Patches },
+    /// The transaction is committed.
     Commit,
+    /// All changes of the transaction are taken back.
+    Ended,
+    /// Reading of the log begins at this byte.
+    Checkpoint { offset: u64 },
+    /// A restart of the group has come to its end.
+    RestartEnd,
 }
 
-/// A record of a log. `tran` is the number of its transaction's first record.
-#[derive(Clone, Copy, Debug)]
+/// A record of a log. `tran` is the number of its transaction's first record, and 0 where it belongs to none.
+#[derive(Debug, Drop)]
 pub struct LogRecord {
     pub lrsn: Lrsn,
     pub tran: Lrsn,
