@@ -23,13 +23,6 @@ const ENDS: &str =
 const ENDS_REPORT: &str =
     "dsgroup 1\ncommitted a M1 answered\ncommitted b M2 answered\nscan 1 0 18446744073709551615 2\nread 1 0 =a\nread 1 18446744073709551615 =z\nrows 2\nrow 1 0 =a\nrow 1 18446744073709551615 =z\nend 0\n";
 
-/// Rows that another member removes, an abort, and reads of both.
-const ROWS: &str =
-    "phase\nmember 3\ntran fill\nput 7 1 =a\nput 7 2 =b\nput 8 1 =c\nend\nmember 1\ntran gone nowait\nput 7 1 =x\ndel 7 2\nabort\nget 7 1\nend\ntran cut\ndel 7 2\ndel 7 9\nget 7 2\nend\nphase\nmember 4\ntran look\nget 7 1\nscan 7 0 9\nscan 7 9 0\nscan 9 0 9\nend\n";
-
-const ROWS_REPORT: &str =
-    "dsgroup 1\ncommitted fill M3 answered\ncommitted cut M1 answered\nread 7 2 -\ncommitted look M4 answered\nread 7 1 =a\nscan 7 0 9 1\nread 7 1 =a\nscan 7 9 0 0\nscan 9 0 9 0\nrefused gone M1 aborted\nrows 2\nrow 7 1 =a\nrow 8 1 =c\nend 0\n";
-
 fn words_of(alloc: Global, line: &str) -> Result<Vec<String>, Fail> {
     let mut words = Vec::new(alloc);
     for word in line.split_whitespace() {
@@ -85,81 +78,6 @@ fn plays<R: Threads + Wait + Sync + Abort>(
     assert_eq!(rt; taken.as_slice(), text.as_bytes(), "{setting:?}");
     assert_eq!(rt; status.number(), number, "{setting:?}");
     Ok(disk)
-}
-
-fn all_play<R: Threads + Wait + Sync + Abort>(
-    rt: &R,
-    alloc: Global,
-    cases: &[(&str, &str, u8, &str)],
-) -> Result<(), Fail> {
-    for (words, script, number, text) in cases {
-        let _disk = plays(rt, alloc, &Setting::new(words, script), *number, text)?;
-    }
-    Ok(())
-}
-
-#[test]
-fn scripts_are_reported_as_one_thread_plays_them(rt: HostRuntime) -> Result<(), Fail> {
-    let long =
-        "=xxxxxxxxxxxxxxxxxxxxxxxxxxxxxxxxxxxxxxxxxxxxxxxxxxxxxxxxxxxxxxxxxxxxxxxxxxxxxxxxxxxxxxxxxxxxxxxxxxxx";
-    let alloc = rt.alloc();
-    let put = format!(in alloc; "phase\nmember 1\ntran a\nput 1 1 {long}\nend")?;
-    let put_report = format!(in alloc;
-        "dsgroup 1\ncommitted a M1 answered\nrows 1\nrow 1 1 {long}\nend 0\n"
-    )?;
-    let longer = format!(in alloc; "phase\nmember 1\ntran a\nput 1 1 {long}x\nend")?;
-    all_play(
-        &rt,
-        alloc,
-        &[
-            ("play", HELLO, 0, HELLO_REPORT),
-            ("play", "", 0, "dsgroup 1\nrows 0\nend 0\n"),
-            ("play", put.as_str(), 0, put_report.as_str()),
-            ("play", longer.as_str(), 2, "script refused line 4 value\n"),
-            ("play", ENDS, 0, ENDS_REPORT),
-            ("play --seed=5 --trace --members 4", ROWS, 0, ROWS_REPORT),
-            (
-                "play",
-                "phase\nmember 1\ntran a\nput 1 1 =x\nabort\nend\n",
-                0,
-                "dsgroup 1\nrefused a M1 aborted\nrows 0\nend 0\n",
-            ),
-            ("show", HELLO, 0, "dsgroup 1\nrows 0\nend 0\n"),
-        ],
-    )
-}
-
-#[test]
-fn what_is_not_in_order_is_told_first(rt: HostRuntime) -> Result<(), Fail> {
-    let refused = "words refused\n";
-    let flags = "phase\nmember 1\ntran a\nraise 1\nend\n";
-    all_play(
-        &rt,
-        rt.alloc(),
-        &[
-            ("play --members 33", HELLO, 1, refused),
-            ("play --cache 15", HELLO, 1, refused),
-            ("make", HELLO, 1, refused),
-            ("", HELLO, 1, refused),
-            ("show --members 4", HELLO, 1, refused),
-            ("play --help", HELLO, 1, refused),
-            ("make 18446744073709551616", HELLO, 1, refused),
-            ("work 7", HELLO, 8, "not yet\n"),
-            ("play", flags, 8, "not yet\n"),
-            (
-                "play",
-                "phase\nmember 1\ntran a\ngett 1 1\nend\n",
-                2,
-                "script refused line 4 word\n",
-            ),
-            (
-                "play --members 2",
-                "phase\nmember 3\n",
-                2,
-                "script refused line 2 member\n",
-            ),
-        ],
-    )
 }
 
 #[test]

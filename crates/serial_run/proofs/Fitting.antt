@@ -16,7 +16,7 @@ slot_in : (n : ℕ) → n % 31 < 31
 slot_in n = omega arith
 
 fits_change : (tran : ℕ) (s : State) (table key : ℕ) (value : Option (List ℕ)) → tran ≢ 0 → Fits (change_record tran s table key value)
-fits_change tran s table key value some = record { tran_some = some; body_fits = (page_some (number_in s table key), slot_in (number_in s table key)) }
+fits_change tran s table key value some = record { tran_fits = some; body_fits = (page_some (number_in s table key), slot_in (number_in s table key)) }
 
 fits_removal : (tran : ℕ) (s : State) (table key : ℕ) (value : Option (List ℕ)) → tran ≢ 0 → AllByRecursion Fits (removal tran s table key value)
 fits_removal tran s table key None some = tt
@@ -39,4 +39,4 @@ fits_changes tran s (o ∷ ops) some = all_append Fits (added tran s o) (changes
 pub all_fit : (s : State) (ops : List Op) → AllByRecursion Fits (records_of s ops)
 all_fit s ops =
     let some : s.last + 1 ≢ 0 = λ e. absurd (omega arith) in
-    all_append Fits (changes (s.last + 1) s ops) _ (fits_changes (s.last + 1) s ops some) (record { tran_some = some; body_fits = tt }, tt)
+    all_append Fits (changes (s.last + 1) s ops) _ (fits_changes (s.last + 1) s ops some) (record { tran_fits = some; body_fits = tt }, tt)

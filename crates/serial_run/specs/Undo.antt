@@ -9,6 +9,11 @@ use Rattle.ds_model.specs.Logs.{set_row}
 abbrev pub before_body : Rows → Body → Rows
 before_body rows body.Commit = rows
 before_body rows (body.RowChange c) = set_row rows c.table c.key c.before
+before_body rows (body.Compensation c undone) = rows
+before_body rows (body.System patches) = rows
+before_body rows body.Ended = rows
+before_body rows (body.Checkpoint offset) = rows
+before_body rows body.RestartEnd = rows
 
 abbrev pub undone : Rows → List LogRecord → Rows
 undone rows [] = rows

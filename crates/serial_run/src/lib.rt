@@ -15,6 +15,3 @@ mod undo;
 
 pub use run::{Ran, run_script};
 pub use serial::plays;
-
-#[cfg(test)]
-mod tests;

@@ -27,8 +27,13 @@ fn take_back(rows: &mut SpotMap<Value>, body: Body) -> Result<(), NoMemory>
     ensures { OnOk result (rows.new ≡ before_body rows.old body) }
 {
     match body {
-        Body::Commit => Ok(()),
         Body::RowChange { change } => restore(rows, change.table, change.key, change.before),
+        Body::Compensation { .. }
+        | Body::System { .. }
+        | Body::Commit
+        | Body::Ended
+        | Body::Checkpoint { .. }
+        | Body::RestartEnd => Ok(()),
     }
 }
 
