@@ -11,7 +11,9 @@ use Rattle.group_run.specs.declared.status.Status.TheVariants as status
 use Rattle.group_run.specs.Opening.{IsOpening}
 use Rattle.group_run.specs.Outside.{Outside}
 use Rattle.group_run.specs.Reports.{HasRun, empty_report}
-use Rattle.group_run.specs.Played.{IsRead, IsPlayed, IsShown}
+use Rattle.group_run.specs.Played.{IsRead, IsPlayed, IsShown, limits_of}
+use Rattle.ds_base.specs.declared.names.Sizes.{Sizes}
+use Rattle.serial_run.specs.declared.state.Limits.{Limits}
 use Rattle.group_run.specs.Prepares.{IsOpened, IsReady, IsPrepared}
 use Rattle.group_run.specs.declared.prepare.Prepared.TheVariants as prepared
 use Rattle.group_words.specs.declared.order.Order.{Order}
@@ -47,15 +49,15 @@ same_script members before mid after script same read = record {
   spelled = read.spelled;
 }
 
-pub is_played : (members : ℕ) (before mid after : Outside) (script : Script) (report : Report)
-    → IsReady members before mid script → mid.left ≡ after.left → before.disk_faults ≤ mid.disk_faults
-    → HasRun script report after.alive mid.contents after.contents mid.disk_faults after.disk_faults
-    → IsPlayed members before after report
-is_played members before mid after script report ready same le has =
+pub is_played : (sizes : Sizes) (before mid after : Outside) (script : Script) (report : Report)
+    → IsReady sizes.members before mid script → mid.left ≡ after.left → before.disk_faults ≤ mid.disk_faults
+    → HasRun (limits_of sizes) script report after.alive mid.contents after.contents mid.disk_faults after.disk_faults
+    → IsPlayed sizes before after report
+is_played sizes before mid after script report ready same le has =
     let run = has.run in
     record {
       script = script;
-      read = same_script members before mid after script same ready.read;
+      read = same_script sizes.members before mid after script same ready.read;
       serial = ready.serial;
       empty = began_empty before.contents mid.contents ready.opened.opening;
       ran = has.ran;
@@ -96,39 +98,39 @@ met_failed n e = ap (λ m. cond (nat_eq m 5) status.DiskFailed status.Done) e
 met_done : (n : ℕ) → n ≡ 0 → cond (nat_eq n 5) status.DiskFailed status.Done ≡ status.Done
 met_done n e = ap (λ m. cond (nat_eq m 5) status.DiskFailed status.Done) e
 
-by_failure : (members : ℕ) (before after : Outside) (report : Report) (failed : Bool) → IsPlayed members before after report
-    → report.status ≡ cond failed 5 0 → (failed ≡ true → Rose before.disk_faults after.disk_faults) → RanByPlay members (met_by report) before after report
-by_failure members before after report true played e rose = subst (λ m. RanByPlay members m before after report) (sym (met_failed report.status e)) (played, e, rose refl)
-by_failure members before after report false played e rose = subst (λ m. RanByPlay members m before after report) (sym (met_done report.status e)) (played, e)
+by_failure : (sizes : Sizes) (before after : Outside) (report : Report) (failed : Bool) → IsPlayed sizes before after report
+    → report.status ≡ cond failed 5 0 → (failed ≡ true → Rose before.disk_faults after.disk_faults) → RanByPlay sizes (met_by report) before after report
+by_failure sizes before after report true played e rose = subst (λ m. RanByPlay sizes m before after report) (sym (met_failed report.status e)) (played, e, rose refl)
+by_failure sizes before after report false played e rose = subst (λ m. RanByPlay sizes m before after report) (sym (met_done report.status e)) (played, e)
 
-pub has_ran : (members : ℕ) (before after : Outside) (report : Report) → IsPlayed members before after report → RanByPlay members (met_by report) before after report
-has_ran members before after report played = by_failure members before after report played.ran.failed played played.reports.status played.run.cause
+pub has_ran : (sizes : Sizes) (before after : Outside) (report : Report) → IsPlayed sizes before after report → RanByPlay sizes (met_by report) before after report
+has_ran sizes before after report played = by_failure sizes before after report played.ran.failed played played.reports.status played.run.cause
 
 -- ---- by what the words order
 
-pub counted_by : (o : Option Order) (script : Script) (before after : Outside) → IsPrepared o (prepared.Play script) before after → IsCounted script
-counted_by None script before after h = let f : prepared.Play script ≡ prepared.Ended status.WordsRefused = h in cc
-counted_by (Some (order.Play sizes seed trace)) script before after h = counted sizes.members script h.read.spelled.has_rules
-counted_by (Some order.Show) script before after h = absurd h
-counted_by (Some (order.Make n)) script before after h = let f : prepared.Play script ≡ prepared.Make n = h in cc
-counted_by (Some (order.Work n sizes)) script before after h = let f : prepared.Play script ≡ prepared.Ended status.NotYet = h in cc
+pub counted_by : (o : Option Order) (script : Script) (limits : Limits) (before after : Outside) → IsPrepared o (prepared.Play script limits) before after → IsCounted script
+counted_by None script limits before after h = let f : prepared.Play script limits ≡ prepared.Ended status.WordsRefused = h in cc
+counted_by (Some (order.Play sizes seed trace)) script limits before after h = counted sizes.members script h.0.read.spelled.has_rules
+counted_by (Some order.Show) script limits before after h = absurd h
+counted_by (Some (order.Make n)) script limits before after h = let f : prepared.Play script limits ≡ prepared.Make n = h in cc
+counted_by (Some (order.Work n sizes)) script limits before after h = let f : prepared.Play script limits ≡ prepared.Ended status.NotYet = h in cc
 
-pub serial_by : (o : Option Order) (script : Script) (before after : Outside) → IsPrepared o (prepared.Play script) before after → IsSerial script
-serial_by None script before after h = let f : prepared.Play script ≡ prepared.Ended status.WordsRefused = h in cc
-serial_by (Some (order.Play sizes seed trace)) script before after h = h.serial
-serial_by (Some order.Show) script before after h = absurd h
-serial_by (Some (order.Make n)) script before after h = let f : prepared.Play script ≡ prepared.Make n = h in cc
-serial_by (Some (order.Work n sizes)) script before after h = let f : prepared.Play script ≡ prepared.Ended status.NotYet = h in cc
+pub serial_by : (o : Option Order) (script : Script) (limits : Limits) (before after : Outside) → IsPrepared o (prepared.Play script limits) before after → IsSerial script
+serial_by None script limits before after h = let f : prepared.Play script limits ≡ prepared.Ended status.WordsRefused = h in cc
+serial_by (Some (order.Play sizes seed trace)) script limits before after h = h.0.serial
+serial_by (Some order.Show) script limits before after h = absurd h
+serial_by (Some (order.Make n)) script limits before after h = let f : prepared.Play script limits ≡ prepared.Make n = h in cc
+serial_by (Some (order.Work n sizes)) script limits before after h = let f : prepared.Play script limits ≡ prepared.Ended status.NotYet = h in cc
 
-pub ran_by : (o : Option Order) (before mid after : Outside) (script : Script) (report : Report)
-    → IsPrepared o (prepared.Play script) before mid → mid.left ≡ after.left → before.disk_faults ≤ mid.disk_faults
-    → HasRun script report after.alive mid.contents after.contents mid.disk_faults after.disk_faults
+pub ran_by : (o : Option Order) (before mid after : Outside) (script : Script) (limits : Limits) (report : Report)
+    → IsPrepared o (prepared.Play script limits) before mid → mid.left ≡ after.left → before.disk_faults ≤ mid.disk_faults
+    → HasRun limits script report after.alive mid.contents after.contents mid.disk_faults after.disk_faults
     → RanBy o (met_by report) before after report
-ran_by None before mid after script report h same le run = let f : prepared.Play script ≡ prepared.Ended status.WordsRefused = h in cc
-ran_by (Some (order.Play sizes seed trace)) before mid after script report h same le run = has_ran sizes.members before after report (is_played sizes.members before mid after script report h same le run)
-ran_by (Some order.Show) before mid after script report h same le run = absurd h
-ran_by (Some (order.Make n)) before mid after script report h same le run = let f : prepared.Play script ≡ prepared.Make n = h in cc
-ran_by (Some (order.Work n sizes)) before mid after script report h same le run = let f : prepared.Play script ≡ prepared.Ended status.NotYet = h in cc
+ran_by None before mid after script limits report h same le run = let f : prepared.Play script limits ≡ prepared.Ended status.WordsRefused = h in cc
+ran_by (Some (order.Play sizes seed trace)) before mid after script limits report h same le run = has_ran sizes before after report (is_played sizes before mid after script report h.0 same le (subst (λ (l : Limits). HasRun l script report after.alive mid.contents after.contents mid.disk_faults after.disk_faults) h.1 run))
+ran_by (Some order.Show) before mid after script limits report h same le run = absurd h
+ran_by (Some (order.Make n)) before mid after script limits report h same le run = let f : prepared.Play script limits ≡ prepared.Make n = h in cc
+ran_by (Some (order.Work n sizes)) before mid after script limits report h same le run = let f : prepared.Play script limits ≡ prepared.Ended status.NotYet = h in cc
 
 met_shown : (report : Report) → report ≡ empty_report 0 → met_by report ≡ status.Done
 met_shown report e = ap met_by e

@@ -3,6 +3,7 @@ use Rattle.std.specs.Prelude.{◌≡◌, ◌⊎◌, ℕ, ◌≤◌, Bool, true, 
 use Rattle.std.specs.declared.alloc.Global.{Global}
 use Rattle.std.specs.Io.KnownBytes.{Appends}
 use Rattle.ds_base.specs.Causes.{Rose}
+use Rattle.ds_base.specs.declared.names.Sizes.{Sizes}
 use Rattle.ds_disk.specs.Contents.{Becomes}
 use Rattle.ds_model.specs.declared.script.Script.{Script}
 use Rattle.ds_model.specs.declared.script.ScriptFault.{ScriptFault}
@@ -74,19 +75,19 @@ text_for (Some (order.Work n sizes)) met = short_text met
 
 -- ---- what holds where a run has opened and ended with a status
 
-abbrev pub RanByPlay : ℕ → Status → Outside → Outside → Report → Type 0
-RanByPlay members status.Done before after report = IsPlayed members before after report × (report.status ≡ 0)
-RanByPlay members status.WordsRefused before after report = ⊥
-RanByPlay members (status.ScriptRefused fault) before after report = ⊥
-RanByPlay members status.SourceFailed before after report = ⊥
-RanByPlay members status.SinkFailed before after report = ⊥
-RanByPlay members status.DiskFailed before after report = IsPlayed members before after report × (report.status ≡ 5) × Rose before.disk_faults after.disk_faults
-RanByPlay members status.NoMemory before after report = ⊥
-RanByPlay members status.NotYet before after report = ⊥
+abbrev pub RanByPlay : Sizes → Status → Outside → Outside → Report → Type 0
+RanByPlay sizes status.Done before after report = IsPlayed sizes before after report × (report.status ≡ 0)
+RanByPlay sizes status.WordsRefused before after report = ⊥
+RanByPlay sizes (status.ScriptRefused fault) before after report = ⊥
+RanByPlay sizes status.SourceFailed before after report = ⊥
+RanByPlay sizes status.SinkFailed before after report = ⊥
+RanByPlay sizes status.DiskFailed before after report = IsPlayed sizes before after report × (report.status ≡ 5) × Rose before.disk_faults after.disk_faults
+RanByPlay sizes status.NoMemory before after report = ⊥
+RanByPlay sizes status.NotYet before after report = ⊥
 
 abbrev pub RanBy : Option Order → Status → Outside → Outside → Report → Type 0
 RanBy None met before after report = ⊥
-RanBy (Some (order.Play sizes seed trace)) met before after report = RanByPlay sizes.members met before after report
+RanBy (Some (order.Play sizes seed trace)) met before after report = RanByPlay sizes met before after report
 RanBy (Some order.Show) met before after report = IsShown before after report × (met ≡ status.Done)
 RanBy (Some (order.Make n)) met before after report = ⊥
 RanBy (Some (order.Work n sizes)) met before after report = ⊥

@@ -9,7 +9,9 @@ use Rattle.ds_model.specs.Scripts.{IsScript}
 use Rattle.ds_model.specs.Serial.{IsSerial}
 use Rattle.ds_model.specs.Sound.{IsSound}
 use Rattle.script_text.specs.Reading.{script_of}
+use Rattle.ds_base.specs.declared.names.Sizes.{Sizes}
 use Rattle.serial_run.specs.declared.run.Ran.{Ran}
+use Rattle.serial_run.specs.declared.state.Limits.{Limits}
 use Rattle.serial_run.specs.Ran.{IsRunOf}
 use Rattle.serial_run.specs.Sounds.{HasEmptyLogs, DiskStandsFor}
 use Rattle.group_run.specs.Input.{script_limit}
@@ -33,14 +35,18 @@ pub record IsRead (members : ℕ) (before after : Outside) (script : Script) : T
 abbrev pub BeganEmpty : Outside → Type 0
 BeganEmpty before = WhenTold before.contents HasEmptyLogs
 
--- the script of the source was run from empty logs, and the report is sound for it and for the logs that are left
-pub record IsPlayed (members : ℕ) (before after : Outside) (report : Report) : Type 0 where
+-- how much a run of a group of these sizes may take
+abbrev pub limits_of : Sizes → Limits
+limits_of sizes = record { records = sizes.records; pages = sizes.pages }
+
+-- the script of the source was run within the limits from empty logs, and the report is sound for it and for the logs that are left
+pub record IsPlayed (sizes : Sizes) (before after : Outside) (report : Report) : Type 0 where
   pub script : Script
-  pub read : IsRead members before after script
+  pub read : IsRead sizes.members before after script
   pub serial : IsSerial script
   pub empty : BeganEmpty before
   pub ran : Ran
-  pub run : IsRunOf script ran after.alive before.contents after.contents before.disk_faults after.disk_faults
+  pub run : IsRunOf (limits_of sizes) script ran after.alive before.contents after.contents before.disk_faults after.disk_faults
   pub reports : Reports ran report
   pub sound : IsSound script finite.empty report (DiskStandsFor after.alive before.contents after.contents)
 

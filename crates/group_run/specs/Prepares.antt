@@ -1,6 +1,7 @@
 -- The steps of a call up to the opening of a run.
 use Rattle.std.specs.Prelude.{◌≡◌, ◌⊎◌, ℕ, Bool, true, List, Option, Some, None, Err}
 use Rattle.ds_base.specs.Causes.{Rose}
+use Rattle.ds_base.specs.declared.names.Sizes.{Sizes}
 use Rattle.ds_disk.specs.Contents.{Contents, Becomes}
 use Rattle.ds_model.specs.declared.script.Script.{Script}
 use Rattle.ds_model.specs.Serial.{IsSerial}
@@ -13,25 +14,25 @@ use Rattle.group_run.specs.declared.prepare.Prepared.TheVariants as prepared
 use Rattle.script_text.specs.Reading.{script_of}
 use Rattle.group_run.specs.Opening.{IsOpening, IsNoOpening}
 use Rattle.group_run.specs.Outside.{Outside}
-use Rattle.group_run.specs.Played.{Spells, IsRead}
+use Rattle.group_run.specs.Played.{Spells, IsRead, limits_of}
 use Rattle.group_run.specs.Ends.{MetByPlay, MetByShow}
 
 -- ---- bytes and the disk alone
 
 -- what is ready to run of bytes that were read, and of the logs
-abbrev pub OpensToPlay : ℕ → Prepared → List ℕ → Bool → Option Contents → Option Contents → ℕ → ℕ → Type 0
-OpensToPlay members (prepared.Play script) bytes alive before after faults faults_now = Spells members bytes script × IsSerial script × Becomes before after IsOpening × (alive ≡ true)
-OpensToPlay members prepared.Show bytes alive before after faults faults_now = ⊥
-OpensToPlay members (prepared.Make n) bytes alive before after faults faults_now = ⊥
-OpensToPlay members (prepared.Ended status.Done) bytes alive before after faults faults_now = ⊥
-OpensToPlay members (prepared.Ended status.WordsRefused) bytes alive before after faults faults_now = ⊥
-OpensToPlay members (prepared.Ended (status.ScriptRefused fault)) bytes alive before after faults faults_now = script_of members bytes ≡ Err fault
-OpensToPlay members (prepared.Ended status.SourceFailed) bytes alive before after faults faults_now = ⊥
-OpensToPlay members (prepared.Ended status.SinkFailed) bytes alive before after faults faults_now = ⊥
-OpensToPlay members (prepared.Ended status.DiskFailed) bytes alive before after faults faults_now = ((s : Script) × Spells members bytes s × IsSerial s) × Rose faults faults_now
-OpensToPlay members (prepared.Ended status.NoMemory) bytes alive before after faults faults_now = ⊥
-OpensToPlay members (prepared.Ended status.NotYet) bytes alive before after faults faults_now =
-    (s : Script) × Spells members bytes s × ((IsSerial s → ⊥) ⊎ Becomes before after IsNoOpening)
+abbrev pub OpensToPlay : Sizes → Prepared → List ℕ → Bool → Option Contents → Option Contents → ℕ → ℕ → Type 0
+OpensToPlay sizes (prepared.Play script limits) bytes alive before after faults faults_now = Spells sizes.members bytes script × IsSerial script × Becomes before after IsOpening × (alive ≡ true) × (limits ≡ limits_of sizes)
+OpensToPlay sizes prepared.Show bytes alive before after faults faults_now = ⊥
+OpensToPlay sizes (prepared.Make n) bytes alive before after faults faults_now = ⊥
+OpensToPlay sizes (prepared.Ended status.Done) bytes alive before after faults faults_now = ⊥
+OpensToPlay sizes (prepared.Ended status.WordsRefused) bytes alive before after faults faults_now = ⊥
+OpensToPlay sizes (prepared.Ended (status.ScriptRefused fault)) bytes alive before after faults faults_now = script_of sizes.members bytes ≡ Err fault
+OpensToPlay sizes (prepared.Ended status.SourceFailed) bytes alive before after faults faults_now = ⊥
+OpensToPlay sizes (prepared.Ended status.SinkFailed) bytes alive before after faults faults_now = ⊥
+OpensToPlay sizes (prepared.Ended status.DiskFailed) bytes alive before after faults faults_now = ((s : Script) × Spells sizes.members bytes s × IsSerial s) × Rose faults faults_now
+OpensToPlay sizes (prepared.Ended status.NoMemory) bytes alive before after faults faults_now = ⊥
+OpensToPlay sizes (prepared.Ended status.NotYet) bytes alive before after faults faults_now =
+    (s : Script) × Spells sizes.members bytes s × ((IsSerial s → ⊥) ⊎ Becomes before after IsNoOpening)
 
 -- ---- source and disk
 
@@ -46,14 +47,14 @@ pub record IsReady (members : ℕ) (before after : Outside) (script : Script) : 
   pub serial : IsSerial script
   pub opened : IsOpened before after
 
-abbrev pub IsPreparedToPlay : ℕ → Prepared → Outside → Outside → Type 0
-IsPreparedToPlay members (prepared.Play script) before after = IsReady members before after script
-IsPreparedToPlay members prepared.Show before after = ⊥
-IsPreparedToPlay members (prepared.Make n) before after = ⊥
-IsPreparedToPlay members (prepared.Ended met) before after = MetByPlay members met before after
+abbrev pub IsPreparedToPlay : Sizes → Prepared → Outside → Outside → Type 0
+IsPreparedToPlay sizes (prepared.Play script limits) before after = IsReady sizes.members before after script × (limits ≡ limits_of sizes)
+IsPreparedToPlay sizes prepared.Show before after = ⊥
+IsPreparedToPlay sizes (prepared.Make n) before after = ⊥
+IsPreparedToPlay sizes (prepared.Ended met) before after = MetByPlay sizes.members met before after
 
 abbrev pub IsPreparedToShow : Prepared → Outside → Outside → Type 0
-IsPreparedToShow (prepared.Play script) before after = ⊥
+IsPreparedToShow (prepared.Play script limits) before after = ⊥
 IsPreparedToShow prepared.Show before after = IsOpened before after
 IsPreparedToShow (prepared.Make n) before after = ⊥
 IsPreparedToShow (prepared.Ended met) before after = MetByShow met before after
@@ -63,7 +64,7 @@ IsEndedAs met p = p ≡ prepared.Ended met
 
 abbrev pub IsPrepared : Option Order → Prepared → Outside → Outside → Type 0
 IsPrepared None p before after = IsEndedAs status.WordsRefused p
-IsPrepared (Some (order.Play sizes seed trace)) p before after = IsPreparedToPlay sizes.members p before after
+IsPrepared (Some (order.Play sizes seed trace)) p before after = IsPreparedToPlay sizes p before after
 IsPrepared (Some order.Show) p before after = IsPreparedToShow p before after
 IsPrepared (Some (order.Make n)) p before after = p ≡ prepared.Make n
 IsPrepared (Some (order.Work n sizes)) p before after = IsEndedAs status.NotYet p

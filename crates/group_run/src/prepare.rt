@@ -3,27 +3,37 @@ ghost use Rattle.ds_disk.specs.Contents.{Becomes, Same};
 ghost use Rattle.ds_base.specs.Ids.{IsMember};
 ghost use Rattle.group_run.specs.Outside.{outside};
 ghost use Rattle.group_run.specs.Ends.{ordered, ReadsNothing};
+ghost use Rattle.group_run.specs.Played.{limits_of};
 ghost use Rattle.group_run.specs.Prepares.{OpensToPlay, IsPrepared, IsPreparedToPlay, IsPreparedToShow};
 
 use crate::input::{ReadError, read_all};
 use crate::opening::logs_are_empty;
 use crate::status::Status;
-use ds_base::{NoMemory, Source};
+use ds_base::{NoMemory, Sizes, Source};
 use ds_disk::{Disk, DiskError};
 use ds_model::Script;
 use group_words::{Order, WordsFault, member_laws, read_words};
 use script_text::{ScriptError, read_script};
-use serial_run::plays;
+use serial_run::{Limits, plays};
 use std::alloc::Global;
 
 /// What is ready to run, or the status that was met before.
 #[derive(Drop)]
 pub enum Prepared {
-    Play(Script),
+    Play(Script, Limits),
     Show,
     /// The script of this number is to be written.
     Make(u64),
     Ended(Status),
+}
+
+fn limits_of(sizes: Sizes) -> Limits
+    ensures { result ≡ limits_of sizes }
+{
+    Limits {
+        records: sizes.records,
+        pages: sizes.pages,
+    }
 }
 
 // What is ready to run of these bytes, and of the logs.
@@ -31,14 +41,14 @@ fn open_to_play<D: Disk>(
     alloc: Global,
     disk: &mut D,
     bytes: &[u8],
-    members: u8,
+    sizes: Sizes,
 ) -> Result<Prepared, NoMemory>
-    requires { IsMember members }
-    ensures opens { IfOk result (λ p. OpensToPlay members p bytes.now (D.alive disk.new) (D.contents disk.old) (D.contents disk.new) (D.faults disk.old) (D.faults disk.new)) }
+    requires { IsMember sizes.members }
+    ensures opens { IfOk result (λ p. OpensToPlay sizes p bytes.now (D.alive disk.new) (D.contents disk.old) (D.contents disk.new) (D.faults disk.old) (D.faults disk.new)) }
     ensures same { Becomes (D.contents disk.old) (D.contents disk.new) Same }
     ensures later { D.faults disk.old ≤ D.faults disk.new }
 {
-    let script = match read_script(alloc, bytes, members) {
+    let script = match read_script(alloc, bytes, sizes.members) {
         Err(ScriptError::NoMemory) => return Err(NoMemory),
         Err(ScriptError::Fault(fault)) => {
             return Ok(Prepared::Ended(Status::ScriptRefused(fault)));
@@ -52,7 +62,7 @@ fn open_to_play<D: Disk>(
         Err(DiskError::NoMemory) => Err(NoMemory),
         Err(DiskError::Failed) => Ok(Prepared::Ended(Status::DiskFailed)),
         Ok(false) => Ok(Prepared::Ended(Status::NotYet)),
-        Ok(true) => Ok(Prepared::Play(script)),
+        Ok(true) => Ok(Prepared::Play(script, limits_of(sizes))),
     }
 }
 
@@ -61,17 +71,17 @@ fn prepare_to_play<S: Source, D: Disk>(
     alloc: Global,
     source: &mut S,
     disk: &mut D,
-    members: u8,
+    sizes: Sizes,
 ) -> Result<Prepared, NoMemory>
-    requires { IsMember members }
-    ensures prepared { IfOk result (λ p. IsPreparedToPlay members p (outside (S.left source.old) (S.faults source.old) (D.contents disk.old) (D.alive disk.old) (D.faults disk.old)) (outside (S.left source.new) (S.faults source.new) (D.contents disk.new) (D.alive disk.new) (D.faults disk.new))) }
+    requires { IsMember sizes.members }
+    ensures prepared { IfOk result (λ p. IsPreparedToPlay sizes p (outside (S.left source.old) (S.faults source.old) (D.contents disk.old) (D.alive disk.old) (D.faults disk.old)) (outside (S.left source.new) (S.faults source.new) (D.contents disk.new) (D.alive disk.new) (D.faults disk.new))) }
     ensures same { Becomes (D.contents disk.old) (D.contents disk.new) Same }
     ensures later { D.faults disk.old ≤ D.faults disk.new }
 {
     match read_all(alloc, source) {
         Err(ReadError::NoMemory) => Err(NoMemory),
         Err(ReadError::Failed) => Ok(Prepared::Ended(Status::SourceFailed)),
-        Ok(bytes) => open_to_play(alloc, disk, &bytes, members),
+        Ok(bytes) => open_to_play(alloc, disk, &bytes, sizes),
     }
 }
 
@@ -105,7 +115,7 @@ pub fn prepare<S: Source, D: Disk>(
     match read_words(alloc, words) {
         Err(WordsFault::NoMemory) => Err(NoMemory),
         Err(WordsFault::Refused) => Ok(Prepared::Ended(Status::WordsRefused)),
-        Ok(Order::Play { sizes, .. }) => prepare_to_play(alloc, source, disk, sizes.members),
+        Ok(Order::Play { sizes, .. }) => prepare_to_play(alloc, source, disk, sizes),
         Ok(Order::Show) => prepare_to_show(disk),
         Ok(Order::Make { n }) => Ok(Prepared::Make(n)),
         Ok(Order::Work { .. }) => Ok(Prepared::Ended(Status::NotYet)),

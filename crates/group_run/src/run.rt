@@ -7,7 +7,7 @@ use ds_base::{Bytes, NoMemory, Sequence};
 use ds_disk::Disk;
 use ds_model::{Report, Script, Trace};
 use report_text::write_report;
-use serial_run::{Ran, run_script};
+use serial_run::{Limits, Ran, run_script};
 use std::alloc::Global;
 
 fn no_trace(alloc: Global) -> Trace
@@ -43,20 +43,21 @@ fn report_of(alloc: Global, ran: Ran) -> Result<Report, NoMemory>
     })
 }
 
-/// Runs a script, and makes its report with the report's text.
+/// Runs a script within the limits, and makes its report with the report's text.
 pub fn run<D: Disk>(
     alloc: Global,
     disk: &mut D,
     script: Script,
+    limits: Limits,
 ) -> Result<(Report, Bytes), NoMemory>
     requires serial { IsSerial script }
     requires counted { IsCounted script }
     requires alive { D.alive disk.old ≡ true }
-    ensures run { IfOk result (λ r. HasRun script r.0 (D.alive disk.new) (D.contents disk.old) (D.contents disk.new) (D.faults disk.old) (D.faults disk.new)) }
+    ensures run { IfOk result (λ r. HasRun limits script r.0 (D.alive disk.new) (D.contents disk.old) (D.contents disk.new) (D.faults disk.old) (D.faults disk.new)) }
     ensures text { IfOk result (λ r. r.1 ≡ report_text r.0) }
     ensures later { D.faults disk.old ≤ D.faults disk.new }
 {
-    let ran = run_script(alloc, disk, script)?;
+    let ran = run_script(alloc, disk, script, limits)?;
     let report = report_of(alloc, ran)?;
     let text = write_report(alloc, &report)?;
     Ok((report, text))

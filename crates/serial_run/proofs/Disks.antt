@@ -1,5 +1,5 @@
 -- The logs of a disk stand for the rows of a run.
-use Rattle.std.proofs.Common.{◌≡◌, ◌⊎◌, inl, inr, ℕ, zero, suc, ◌+◌, ◌-◌, ◌≤◌, Bool, true, false, cond, List, [], ◌∷◌, ◌++◌, map, take, set, get_or, replicate, refl, sym, ap, subst, ◌∙◌, arith, append_assoc}
+use Rattle.std.proofs.Common.{◌≡◌, ◌⊎◌, inl, inr, ℕ, zero, suc, ◌+◌, ◌-◌, ◌≤◌, List, [], ◌∷◌, ◌++◌, map, take, set, get_or, replicate, Option, Some, None, refl, sym, ap, subst, ◌∙◌, arith, append_assoc}
 use Rattle.std.proofs.lemmas.List.{append-nil, map-set}
 use Rattle.std.proofs.Math.ListN.{get_or-map}
 use Rattle.std.proofs.lemmas.Grind.{flat_map-append}
@@ -8,14 +8,16 @@ use Rattle.ds_disk.specs.Answers.{Appended}
 use Rattle.ds_disk.specs.Contents.{Contents, with_log, log_of}
 use Rattle.ds_model.specs.declared.script.Op.{Op}
 use Rattle.ds_model.specs.declared.log.LogRecord.{LogRecord}
-use Rattle.ds_model.specs.Effect.{aborts}
 use Rattle.ds_model.specs.RecordBytes.{log_bytes, record_bytes, IsAllowed}
 use Rattle.ds_model.specs.Logs.{IsLog, IsTorn, AreLogs, StandFor}
 use Rattle.ds_model.specs.Transactions.{Placed}
 use Rattle.serial_run.specs.declared.state.State.{State}
-use Rattle.serial_run.specs.Steps.{reached, after_all, changes, commit_record, records_of, committed, rolled_back, next}
+use Rattle.serial_run.specs.Steps.{after_all, changes, commit_record, records_of, committed, rolled_back}
+use Rattle.serial_run.specs.declared.state.Limits.{Limits}
+use Rattle.serial_run.specs.declared.cause.Cause.{Cause}
+use Rattle.serial_run.specs.Causes.{cause_of, reached, next_by, next}
 use Rattle.serial_run.specs.Played.{appended, IsAppend}
-use Rattle.serial_run.specs.Progress.{state_after, contents_next, contents_after, AreAllowed}
+use Rattle.serial_run.specs.Progress.{state_after, contents_by, contents_next, contents_after, AreAllowed}
 use Rattle.serial_run.specs.Ran.{start}
 use Rattle.serial_run.specs.Sounds.{HasEmptyLogs}
 use Rattle.serial_run.proofs.Lists.{all_append, all_first}
@@ -78,13 +80,13 @@ disk_waits s t c disk le same = record { logs = disk.logs; good = good_logs_wait
 no_less : (s : State) (ops : List Op) → s.last ≤ (after_all s ops).last
 no_less s ops = rises_within s.last (after_all s ops).last (changes (s.last + 1) s ops) (rises-changes (s.last + 1) s ops)
 
-disk_by : (b : Bool) (s : State) (c : Contents) (p : Placed) → aborts p.1.ops ≡ b → GoodDisk s c → (aborts p.1.ops ≡ false → IsAppend p.0 s p.1.ops)
-    → GoodDisk (cond b (rolled_back s (after_all s (reached p.1.ops))) (committed (after_all s p.1.ops))) (cond b c (appended p.0 (records_of s p.1.ops) c))
-disk_by true s c p e disk append = disk_waits s (rolled_back s (after_all s (reached p.1.ops))) c disk (no_less s (reached p.1.ops)) refl
-disk_by false s c p e disk append = disk_appends s c p.0 p.1.ops disk (append e)
+disk_by : (c : Option Cause) (s : State) (d : Contents) (p : Placed) → cause_of s p.1.ops ≡ c → GoodDisk s d → (cause_of s p.1.ops ≡ None → IsAppend p.0 s p.1.ops)
+    → GoodDisk (next_by c s p.1.ops) (contents_by c s p d)
+disk_by (Some why) s d p e disk append = disk_waits s (rolled_back s (after_all s (reached s p.1.ops))) d disk (no_less s (reached s p.1.ops)) refl
+disk_by None s d p e disk append = disk_appends s d p.0 p.1.ops disk (append e)
 
-pub disk_next : (s : State) (c : Contents) (p : Placed) → GoodDisk s c → (aborts p.1.ops ≡ false → IsAppend p.0 s p.1.ops) → GoodDisk (next s p.1.ops) (contents_next s p c)
-disk_next s c p disk append = disk_by (aborts p.1.ops) s c p refl disk append
+pub disk_next : (s : State) (c : Contents) (p : Placed) → GoodDisk s c → (cause_of s p.1.ops ≡ None → IsAppend p.0 s p.1.ops) → GoodDisk (next s p.1.ops) (contents_next s p c)
+disk_next s c p disk append = disk_by (cause_of s p.1.ops) s c p refl disk append
 
 pub disk_after : (s : State) (c : Contents) (ps : List Placed) → GoodDisk s c → AreAllowed s ps → GoodDisk (state_after s ps) (contents_after s ps c)
 disk_after s c [] disk allowed = disk
@@ -96,8 +98,8 @@ allowed_none : (n : ℕ) → AllByRecursion (AllByRecursion IsAllowed) (replicat
 allowed_none zero = tt
 allowed_none (suc n) = (tt, allowed_none n)
 
-pub disk_start : (c : Contents) → HasEmptyLogs c → GoodDisk start c
-disk_start c empty = record {
+pub disk_start : (limits : Limits) (c : Contents) → HasEmptyLogs c → GoodDisk (start limits) c
+disk_start limits c empty = record {
   logs = replicate 32 [];
   good = record { count = refl; numbers = tt; trans = tt; committed_all = tt; stands = refl };
   allowed = allowed_none 32;

@@ -1,90 +1,77 @@
 -- A run of a script is sound.
-use Rattle.std.proofs.Common.{◌≡◌, ℕ, zero, suc, ◌+◌, ◌<◌, ◌≤◌, Bool, true, false, cond, List, [], ◌∷◌, ◌++◌, map, length, take, drop, refl, sym, ap, subst, ◌∙◌, arith, append_assoc}
+use Rattle.std.proofs.Common.{◌≡◌, ℕ, zero, suc, ◌+◌, ◌<◌, ◌≤◌, Bool, true, false, cond, List, [], ◌∷◌, ◌++◌, map, length, take, drop, Option, Some, None, refl, sym, ap, subst, ◌∙◌, arith, append_assoc}
 use Rattle.std.proofs.lemmas.List.{map-append, take-append-drop}
 use Rattle.std.proofs.lemmas.List.Sorted.{IsPermutation-refl, IsPermutation-cons, IsPermutation-trans, IsPermutation-middle}
 use Rattle.std.specs.List.{AllByRecursion}
 use Rattle.std.specs.List.Sorted.{IsPermutation}
 use Rattle.std.specs.FinMap as finite
 use Rattle.ds_model.specs.declared.script.Script.{Script}
-use Rattle.ds_model.specs.declared.fate.Fate.TheVariants as fate
-use Rattle.ds_model.specs.declared.fate.Refusal.TheVariants as refusal
+use Rattle.ds_model.specs.declared.script.Op.{Op}
 use Rattle.ds_model.specs.declared.history.Entry.{Entry}
 use Rattle.ds_model.specs.Rows.{Rows}
-use Rattle.ds_model.specs.Effect.{after_ops, aborts, after_tran, reads_of}
+use Rattle.ds_model.specs.Effect.{after_ops, after_tran}
 use Rattle.ds_model.specs.Scripts.{counted}
 use Rattle.ds_model.specs.Transactions.{Placed, placed}
 use Rattle.ds_model.specs.Serial.{IsCounted}
 use Rattle.ds_model.specs.History.{played, is_committed, replay, IsLegal, RiseAbove, IsInOrder}
 use Rattle.serial_run.specs.declared.state.State.{State}
-use Rattle.serial_run.specs.Steps.{next}
+use Rattle.serial_run.specs.declared.state.Limits.{Limits}
+use Rattle.serial_run.specs.declared.cause.Cause.{Cause}
+use Rattle.serial_run.specs.Causes.{cause_of, next}
 use Rattle.serial_run.specs.Progress.{state_after}
-use Rattle.serial_run.specs.Ran.{start, commits, refused, stop, history_of}
+use Rattle.serial_run.specs.Ran.{start, committed_by, commits, refused_by, refused, stop, history_of}
 use Rattle.serial_run.specs.Sounds.{replay_with_stopped}
 use Rattle.serial_run.proofs.Lists.{all_append}
-use Rattle.serial_run.proofs.Pushes.{rows_of_next}
-
--- ---- one transaction of those that were played to their ends
-
-abbrev commit : Rows → Placed → Entry
-commit rows p = record { member = p.0; tran = p.1; fate = fate.Committed true (reads_of rows p.1.ops) }
-
-abbrev refuse : Placed → Entry
-refuse p = record { member = p.0; tran = p.1; fate = fate.Refused refusal.Aborted }
-
-commits_when : (b : Bool) (rows : Rows) (p : Placed) (ps : List Placed)
-    → cond b (commits rows ps) (commit rows p ∷ commits (after_ops rows p.1.ops) ps) ≡ cond b [] (commit rows p ∷ []) ++ commits (cond b rows (after_ops rows p.1.ops)) ps
-commits_when true rows p ps = refl
-commits_when false rows p ps = refl
-
-commits-cons : (rows : Rows) (p : Placed) (ps : List Placed) → commits rows (p ∷ ps) ≡ cond (aborts p.1.ops) [] (commit rows p ∷ []) ++ commits (after_tran rows p.1.ops) ps
-commits-cons rows p ps = commits_when (aborts p.1.ops) rows p ps
+use Rattle.serial_run.proofs.Pushes.{rows_by, rows_of_next}
+use Rattle.serial_run.proofs.Reaching.{no_abort}
 
 -- ---- each once
 
-once_when : (b : Bool) (rows : Rows) (p : Placed) (us vs : List Entry) (ys zs : List Placed)
+once_when : (c : Option Cause) (rows : Rows) (p : Placed) (us vs : List Entry) (ys zs : List Placed)
     → IsPermutation (map played us ++ (map played vs ++ ys)) zs
-    → IsPermutation (map played (cond b [] (commit rows p ∷ []) ++ us) ++ (map played (cond b (refuse p ∷ vs) vs) ++ ys)) (p ∷ zs)
-once_when true rows p us vs ys zs h = IsPermutation-trans _ _ _ (IsPermutation-middle (map played us) p (map played vs ++ ys)) (IsPermutation-cons p _ _ h)
-once_when false rows p us vs ys zs h = IsPermutation-cons p _ _ h
+    → IsPermutation (map played (committed_by c rows p ++ us) ++ (map played (refused_by c p ++ vs) ++ ys)) (p ∷ zs)
+once_when (Some why) rows p us vs ys zs h = IsPermutation-trans _ _ _ (IsPermutation-middle (map played us) p (map played vs ++ ys)) (IsPermutation-cons p _ _ h)
+once_when None rows p us vs ys zs h = IsPermutation-cons p _ _ h
 
-once : (rows : Rows) (xs ys : List Placed) → IsPermutation (map played (commits rows xs) ++ (map played (refused xs) ++ ys)) (xs ++ ys)
-once rows [] ys = IsPermutation-refl ys
-once rows (p ∷ xs) ys =
-    subst (λ (l : List Entry). IsPermutation (map played l ++ (map played (refused (p ∷ xs)) ++ ys)) (p ∷ (xs ++ ys))) (sym (commits-cons rows p xs))
-    (once_when (aborts p.1.ops) rows p (commits (after_tran rows p.1.ops) xs) (refused xs) ys (xs ++ ys) (once (after_tran rows p.1.ops) xs ys))
+once : (s : State) (xs ys : List Placed) → IsPermutation (map played (commits s xs) ++ (map played (refused s xs) ++ ys)) (xs ++ ys)
+once s [] ys = IsPermutation-refl ys
+once s (p ∷ xs) ys =
+    let t = next s p.1.ops in
+    once_when (cause_of s p.1.ops) s.rows p (commits t xs) (refused t xs) ys (xs ++ ys) (once t xs ys)
 
 played-stops : (ps : List Placed) → map played (map stop ps) ≡ ps
 played-stops [] = refl
 played-stops (p ∷ ps) = ap (λ (l : List Placed). p ∷ l) (played-stops ps)
 
-pub each_once : (ps : List Placed) (count : ℕ) → IsPermutation (map played (history_of ps count)) ps
-each_once ps count =
+pub each_once : (limits : Limits) (ps : List Placed) (count : ℕ) → IsPermutation (map played (history_of limits ps count)) ps
+each_once limits ps count =
+    let s = start limits in
     let xs = take count ps in
     let ys = drop count ps in
-    let split : map played (history_of ps count) ≡ map played (commits finite.empty xs) ++ (map played (refused xs) ++ ys) =
-    map-append played (commits finite.empty xs) (refused xs ++ map stop ys)
-    ∙ ap (λ (l : List Placed). map played (commits finite.empty xs) ++ l) (map-append played (refused xs) (map stop ys) ∙ ap (λ (l : List Placed). map played (refused xs) ++ l) (played-stops ys)) in
+    let split : map played (history_of limits ps count) ≡ map played (commits s xs) ++ (map played (refused s xs) ++ ys) =
+    map-append played (commits s xs) (refused s xs ++ map stop ys)
+    ∙ ap (λ (l : List Placed). map played (commits s xs) ++ l) (map-append played (refused s xs) (map stop ys) ∙ ap (λ (l : List Placed). map played (refused s xs) ++ l) (played-stops ys)) in
     subst (λ (l : List Placed). IsPermutation l ps) (sym split)
-    (subst (λ (l : List Placed). IsPermutation (map played (commits finite.empty xs) ++ (map played (refused xs) ++ ys)) l) (take-append-drop count ps) (once finite.empty xs ys))
+    (subst (λ (l : List Placed). IsPermutation (map played (commits s xs) ++ (map played (refused s xs) ++ ys)) l) (take-append-drop count ps) (once s xs ys))
 
 -- ---- in order
 
-committed_when : (b : Bool) (rows : Rows) (p : Placed) (us vs : List Entry) → AllByRecursion (λ (e : Entry). is_committed e.fate ≡ true) us → AllByRecursion (λ (e : Entry). is_committed e.fate ≡ true) vs
-    → AllByRecursion (λ (e : Entry). is_committed e.fate ≡ true) (cond b us (commit rows p ∷ vs))
-committed_when true rows p us vs h k = h
-committed_when false rows p us vs h k = (refl, k)
+committed_when : (c : Option Cause) (rows : Rows) (p : Placed) (us : List Entry) → AllByRecursion (λ (e : Entry). is_committed e.fate ≡ true) us
+    → AllByRecursion (λ (e : Entry). is_committed e.fate ≡ true) (committed_by c rows p ++ us)
+committed_when (Some why) rows p us h = h
+committed_when None rows p us h = (refl, h)
 
-all_committed : (rows : Rows) (ps : List Placed) → AllByRecursion (λ (e : Entry). is_committed e.fate ≡ true) (commits rows ps)
-all_committed rows [] = tt
-all_committed rows (p ∷ ps) = committed_when (aborts p.1.ops) rows p (commits rows ps) (commits (after_ops rows p.1.ops) ps) (all_committed rows ps) (all_committed (after_ops rows p.1.ops) ps)
+all_committed : (s : State) (ps : List Placed) → AllByRecursion (λ (e : Entry). is_committed e.fate ≡ true) (commits s ps)
+all_committed s [] = tt
+all_committed s (p ∷ ps) = committed_when (cause_of s p.1.ops) s.rows p (commits (next s p.1.ops) ps) (all_committed (next s p.1.ops) ps)
 
-others_when : (b : Bool) (p : Placed) (us : List Entry) → AllByRecursion (λ (e : Entry). is_committed e.fate ≡ false) us → AllByRecursion (λ (e : Entry). is_committed e.fate ≡ false) (cond b (refuse p ∷ us) us)
-others_when true p us h = (refl, h)
-others_when false p us h = h
+others_when : (c : Option Cause) (p : Placed) (us : List Entry) → AllByRecursion (λ (e : Entry). is_committed e.fate ≡ false) us → AllByRecursion (λ (e : Entry). is_committed e.fate ≡ false) (refused_by c p ++ us)
+others_when (Some why) p us h = (refl, h)
+others_when None p us h = h
 
-all_refused : (ps : List Placed) → AllByRecursion (λ (e : Entry). is_committed e.fate ≡ false) (refused ps)
-all_refused [] = tt
-all_refused (p ∷ ps) = others_when (aborts p.1.ops) p (refused ps) (all_refused ps)
+all_refused : (s : State) (ps : List Placed) → AllByRecursion (λ (e : Entry). is_committed e.fate ≡ false) (refused s ps)
+all_refused s [] = tt
+all_refused s (p ∷ ps) = others_when (cause_of s p.1.ops) p (refused (next s p.1.ops) ps) (all_refused (next s p.1.ops) ps)
 
 all_stopped : (ps : List Placed) → AllByRecursion (λ (e : Entry). is_committed e.fate ≡ false) (map stop ps)
 all_stopped [] = tt
@@ -108,114 +95,123 @@ numbers_stopped : (ps : List Placed) → map number (map stop ps) ≡ map placed
 numbers_stopped [] = refl
 numbers_stopped (p ∷ ps) = ap (λ (l : List ℕ). p.1.number ∷ l) (numbers_stopped ps)
 
-rises_when : (b : Bool) (low : ℕ) (p : Placed) (us ys : List Entry) → low < p.1.number → RiseAbove p.1.number (map number (us ++ ys)) → RiseAbove low (map number (cond b (refuse p ∷ us) us ++ ys))
-rises_when true low p us ys lt h = (lt, h)
-rises_when false low p us ys lt h = rises_lower low p.1.number (map number (us ++ ys)) (omega arith) h
+rises_when : (c : Option Cause) (low : ℕ) (p : Placed) (us ys : List Entry) → low < p.1.number → RiseAbove p.1.number (map number (us ++ ys)) → RiseAbove low (map number ((refused_by c p ++ us) ++ ys))
+rises_when (Some why) low p us ys lt h = (lt, h)
+rises_when None low p us ys lt h = rises_lower low p.1.number (map number (us ++ ys)) (omega arith) h
 
-rises_others : (low : ℕ) (xs ys : List Placed) → RiseAbove low (map placed_number (xs ++ ys)) → RiseAbove low (map number (refused xs ++ map stop ys))
-rises_others low [] ys h = subst (RiseAbove low) (sym (numbers_stopped ys)) h
-rises_others low (p ∷ xs) ys h = rises_when (aborts p.1.ops) low p (refused xs) (map stop ys) h.0 (rises_others p.1.number xs ys h.1)
+rises_others : (low : ℕ) (s : State) (xs ys : List Placed) → RiseAbove low (map placed_number (xs ++ ys)) → RiseAbove low (map number (refused s xs ++ map stop ys))
+rises_others low s [] ys h = subst (RiseAbove low) (sym (numbers_stopped ys)) h
+rises_others low s (p ∷ xs) ys h = rises_when (cause_of s p.1.ops) low p (refused (next s p.1.ops) xs) (map stop ys) h.0 (rises_others p.1.number (next s p.1.ops) xs ys h.1)
 
-pub in_order : (s : Script) (count : ℕ) → IsCounted s → IsInOrder (history_of (placed s) count)
-in_order s count is =
+pub in_order : (limits : Limits) (s : Script) (count : ℕ) → IsCounted s → IsInOrder (history_of limits (placed s) count)
+in_order limits s count is =
+    let t = start limits in
     let ps = placed s in
     let xs = take count ps in
     let ys = drop count ps in
     let whole : map placed_number (xs ++ ys) ≡ counted 1 (length ps) = ap (λ (l : List Placed). map placed_number l) (take-append-drop count ps) ∙ is.numbers in
     record {
-      committed = commits finite.empty xs;
-      others = refused xs ++ map stop ys;
+      committed = commits t xs;
+      others = refused t xs ++ map stop ys;
       whole = refl;
-      first = all_committed finite.empty xs;
-      last = all_append _ (refused xs) (map stop ys) (all_refused xs) (all_stopped ys);
-      by_number = rises_others 0 xs ys (subst (RiseAbove 0) (sym whole) (rises_counted 0 1 (length ps) (omega arith)));
+      first = all_committed t xs;
+      last = all_append _ (refused t xs) (map stop ys) (all_refused t xs) (all_stopped ys);
+      by_number = rises_others 0 t xs ys (subst (RiseAbove 0) (sym whole) (rises_counted 0 1 (length ps) (omega arith)));
     }
 
 -- ---- legal, and the rows
 
-legal_when : (b : Bool) (rows : Rows) (p : Placed) (es : List Entry) → aborts p.1.ops ≡ b → IsLegal (after_tran rows p.1.ops) es → IsLegal rows (cond b [] (commit rows p ∷ []) ++ es)
-legal_when true rows p es e h = subst (λ (r : Rows). IsLegal r es) (ap (λ b. cond b rows (after_ops rows p.1.ops)) e) h
-legal_when false rows p es e h = (refl, h)
+-- a committed one has its effect on the rows
+effect_is : (s : State) (ops : List Op) → cause_of s ops ≡ None → after_tran s.rows ops ≡ (next s ops).rows
+effect_is s ops e = ap (λ b. cond b s.rows (after_ops s.rows ops)) (no_abort s ops e) ∙ sym (rows_of_next s ops ∙ ap (λ (c : Option Cause). rows_by c s.rows ops) e)
 
-legal_commits : (rows : Rows) (ps : List Placed) (es : List Entry) → ((r : Rows) → IsLegal r es) → IsLegal rows (commits rows ps ++ es)
-legal_commits rows [] es h = h rows
-legal_commits rows (p ∷ ps) es h =
-    let b = cond (aborts p.1.ops) [] (commit rows p ∷ []) in
-    subst (IsLegal rows) (sym (ap (λ (l : List Entry). l ++ es) (commits-cons rows p ps) ∙ append_assoc b (commits (after_tran rows p.1.ops) ps) es))
-    (legal_when (aborts p.1.ops) rows p (commits (after_tran rows p.1.ops) ps ++ es) refl (legal_commits (after_tran rows p.1.ops) ps es h))
+no_effect : (s : State) (ops : List Op) (why : Cause) → cause_of s ops ≡ Some why → s.rows ≡ (next s ops).rows
+no_effect s ops why e = sym (rows_of_next s ops ∙ ap (λ (c : Option Cause). rows_by c s.rows ops) e)
 
-refused_legal : (b : Bool) (rows : Rows) (p : Placed) (us es : List Entry) → IsLegal rows (us ++ es) → IsLegal rows (cond b (refuse p ∷ us) us ++ es)
-refused_legal true rows p us es h = (tt, h)
-refused_legal false rows p us es h = h
+legal_when : (c : Option Cause) (s : State) (p : Placed) (es : List Entry) → cause_of s p.1.ops ≡ c → IsLegal (next s p.1.ops).rows es → IsLegal s.rows (committed_by c s.rows p ++ es)
+legal_when (Some why) s p es e h = subst (λ (r : Rows). IsLegal r es) (sym (no_effect s p.1.ops why e)) h
+legal_when None s p es e h = (refl, subst (λ (r : Rows). IsLegal r es) (sym (effect_is s p.1.ops e)) h)
+
+legal_commits : (s : State) (ps : List Placed) (es : List Entry) → ((r : Rows) → IsLegal r es) → IsLegal s.rows (commits s ps ++ es)
+legal_commits s [] es h = h s.rows
+legal_commits s (p ∷ ps) es h =
+    let t = next s p.1.ops in
+    let c = cause_of s p.1.ops in
+    subst (IsLegal s.rows) (sym (append_assoc (committed_by c s.rows p) (commits t ps) es))
+    (legal_when c s p (commits t ps ++ es) refl (legal_commits t ps es h))
+
+refused_legal : (c : Option Cause) (rows : Rows) (p : Placed) (us es : List Entry) → IsLegal rows (us ++ es) → IsLegal rows ((refused_by c p ++ us) ++ es)
+refused_legal (Some why) rows p us es h = (tt, h)
+refused_legal None rows p us es h = h
 
 legal_stops : (rows : Rows) (ps : List Placed) → IsLegal rows (map stop ps)
 legal_stops rows [] = tt
 legal_stops rows (p ∷ ps) = (tt, legal_stops rows ps)
 
-legal_others : (xs ys : List Placed) (rows : Rows) → IsLegal rows (refused xs ++ map stop ys)
-legal_others [] ys rows = legal_stops rows ys
-legal_others (p ∷ xs) ys rows = refused_legal (aborts p.1.ops) rows p (refused xs) (map stop ys) (legal_others xs ys rows)
+legal_others : (s : State) (xs ys : List Placed) (rows : Rows) → IsLegal rows (refused s xs ++ map stop ys)
+legal_others s [] ys rows = legal_stops rows ys
+legal_others s (p ∷ xs) ys rows = refused_legal (cause_of s p.1.ops) rows p (refused (next s p.1.ops) xs) (map stop ys) (legal_others (next s p.1.ops) xs ys rows)
 
-pub legal_history : (ps : List Placed) (count : ℕ) → IsLegal finite.empty (history_of ps count)
-legal_history ps count = legal_commits finite.empty (take count ps) (refused (take count ps) ++ map stop (drop count ps)) (legal_others (take count ps) (drop count ps))
+pub legal_history : (limits : Limits) (ps : List Placed) (count : ℕ) → IsLegal finite.empty (history_of limits ps count)
+legal_history limits ps count = legal_commits (start limits) (take count ps) (refused (start limits) (take count ps) ++ map stop (drop count ps)) (legal_others (start limits) (take count ps) (drop count ps))
 
-replay_when : (b : Bool) (rows : Rows) (p : Placed) (es : List Entry) → aborts p.1.ops ≡ b → replay rows (cond b [] (commit rows p ∷ []) ++ es) ≡ replay (after_tran rows p.1.ops) es
-replay_when true rows p es e = ap (λ (r : Rows). replay r es) (sym (ap (λ b. cond b rows (after_ops rows p.1.ops)) e))
-replay_when false rows p es e = refl
+replay_when : (c : Option Cause) (s : State) (p : Placed) (es : List Entry) → cause_of s p.1.ops ≡ c → replay s.rows (committed_by c s.rows p ++ es) ≡ replay (next s p.1.ops).rows es
+replay_when (Some why) s p es e = ap (λ (r : Rows). replay r es) (no_effect s p.1.ops why e)
+replay_when None s p es e = ap (λ (r : Rows). replay r es) (effect_is s p.1.ops e)
 
-replay_commits : (s : State) (ps : List Placed) (es : List Entry) → replay s.rows (commits s.rows ps ++ es) ≡ replay (state_after s ps).rows es
+replay_commits : (s : State) (ps : List Placed) (es : List Entry) → replay s.rows (commits s ps ++ es) ≡ replay (state_after s ps).rows es
 replay_commits s [] es = refl
 replay_commits s (p ∷ ps) es =
-    let b = cond (aborts p.1.ops) [] (commit s.rows p ∷ []) in
-    ap (replay s.rows) (ap (λ (l : List Entry). l ++ es) (commits-cons s.rows p ps) ∙ append_assoc b (commits (after_tran s.rows p.1.ops) ps) es)
-    ∙ replay_when (aborts p.1.ops) s.rows p (commits (after_tran s.rows p.1.ops) ps ++ es) refl
-    ∙ ap (λ (r : Rows). replay r (commits r ps ++ es)) (sym (rows_of_next s p.1.ops))
-    ∙ replay_commits (next s p.1.ops) ps es
+    let t = next s p.1.ops in
+    let c = cause_of s p.1.ops in
+    ap (replay s.rows) (append_assoc (committed_by c s.rows p) (commits t ps) es)
+    ∙ replay_when c s p (commits t ps ++ es) refl
+    ∙ replay_commits t ps es
 
-replay_refused : (b : Bool) (rows : Rows) (p : Placed) (us es : List Entry) → replay rows (cond b (refuse p ∷ us) us ++ es) ≡ replay rows (us ++ es)
-replay_refused true rows p us es = refl
-replay_refused false rows p us es = refl
+replay_refused : (c : Option Cause) (rows : Rows) (p : Placed) (us es : List Entry) → replay rows ((refused_by c p ++ us) ++ es) ≡ replay rows (us ++ es)
+replay_refused (Some why) rows p us es = refl
+replay_refused None rows p us es = refl
 
 replay_stops : (rows : Rows) (ps : List Placed) → replay rows (map stop ps) ≡ rows
 replay_stops rows [] = refl
 replay_stops rows (p ∷ ps) = replay_stops rows ps
 
-replay_others : (rows : Rows) (xs ys : List Placed) → replay rows (refused xs ++ map stop ys) ≡ rows
-replay_others rows [] ys = replay_stops rows ys
-replay_others rows (p ∷ xs) ys = replay_refused (aborts p.1.ops) rows p (refused xs) (map stop ys) ∙ replay_others rows xs ys
+replay_others : (rows : Rows) (s : State) (xs ys : List Placed) → replay rows (refused s xs ++ map stop ys) ≡ rows
+replay_others rows s [] ys = replay_stops rows ys
+replay_others rows s (p ∷ xs) ys = replay_refused (cause_of s p.1.ops) rows p (refused (next s p.1.ops) xs) (map stop ys) ∙ replay_others rows (next s p.1.ops) xs ys
 
-pub replay_history : (ps : List Placed) (count : ℕ) → replay finite.empty (history_of ps count) ≡ (state_after start (take count ps)).rows
-replay_history ps count = replay_commits start (take count ps) _ ∙ replay_others (state_after start (take count ps)).rows (take count ps) (drop count ps)
+pub replay_history : (limits : Limits) (ps : List Placed) (count : ℕ) → replay finite.empty (history_of limits ps count) ≡ (state_after (start limits) (take count ps)).rows
+replay_history limits ps count = replay_commits (start limits) (take count ps) _ ∙ replay_others (state_after (start limits) (take count ps)).rows (start limits) (take count ps) (drop count ps)
 
 -- ---- the rows with the first that is stopped
 
-stopped_when : (b : Bool) (rows : Rows) (p : Placed) (es : List Entry) → aborts p.1.ops ≡ b → replay_with_stopped rows (cond b [] (commit rows p ∷ []) ++ es) ≡ replay_with_stopped (after_tran rows p.1.ops) es
-stopped_when true rows p es e = ap (λ (r : Rows). replay_with_stopped r es) (sym (ap (λ b. cond b rows (after_ops rows p.1.ops)) e))
-stopped_when false rows p es e = refl
+stopped_when : (c : Option Cause) (s : State) (p : Placed) (es : List Entry) → cause_of s p.1.ops ≡ c → replay_with_stopped s.rows (committed_by c s.rows p ++ es) ≡ replay_with_stopped (next s p.1.ops).rows es
+stopped_when (Some why) s p es e = ap (λ (r : Rows). replay_with_stopped r es) (no_effect s p.1.ops why e)
+stopped_when None s p es e = ap (λ (r : Rows). replay_with_stopped r es) (effect_is s p.1.ops e)
 
-stopped_commits : (s : State) (ps : List Placed) (es : List Entry) → replay_with_stopped s.rows (commits s.rows ps ++ es) ≡ replay_with_stopped (state_after s ps).rows es
+stopped_commits : (s : State) (ps : List Placed) (es : List Entry) → replay_with_stopped s.rows (commits s ps ++ es) ≡ replay_with_stopped (state_after s ps).rows es
 stopped_commits s [] es = refl
 stopped_commits s (p ∷ ps) es =
-    let b = cond (aborts p.1.ops) [] (commit s.rows p ∷ []) in
-    ap (replay_with_stopped s.rows) (ap (λ (l : List Entry). l ++ es) (commits-cons s.rows p ps) ∙ append_assoc b (commits (after_tran s.rows p.1.ops) ps) es)
-    ∙ stopped_when (aborts p.1.ops) s.rows p (commits (after_tran s.rows p.1.ops) ps ++ es) refl
-    ∙ ap (λ (r : Rows). replay_with_stopped r (commits r ps ++ es)) (sym (rows_of_next s p.1.ops))
-    ∙ stopped_commits (next s p.1.ops) ps es
+    let t = next s p.1.ops in
+    let c = cause_of s p.1.ops in
+    ap (replay_with_stopped s.rows) (append_assoc (committed_by c s.rows p) (commits t ps) es)
+    ∙ stopped_when c s p (commits t ps ++ es) refl
+    ∙ stopped_commits t ps es
 
-stopped_refused : (b : Bool) (rows : Rows) (p : Placed) (us es : List Entry) → replay_with_stopped rows (cond b (refuse p ∷ us) us ++ es) ≡ replay_with_stopped rows (us ++ es)
-stopped_refused true rows p us es = refl
-stopped_refused false rows p us es = refl
+stopped_refused : (c : Option Cause) (rows : Rows) (p : Placed) (us es : List Entry) → replay_with_stopped rows ((refused_by c p ++ us) ++ es) ≡ replay_with_stopped rows (us ++ es)
+stopped_refused (Some why) rows p us es = refl
+stopped_refused None rows p us es = refl
 
-stopped_others : (rows : Rows) (xs : List Placed) (es : List Entry) → replay_with_stopped rows (refused xs ++ es) ≡ replay_with_stopped rows es
-stopped_others rows [] es = refl
-stopped_others rows (p ∷ xs) es = stopped_refused (aborts p.1.ops) rows p (refused xs) es ∙ stopped_others rows xs es
+stopped_others : (rows : Rows) (s : State) (xs : List Placed) (es : List Entry) → replay_with_stopped rows (refused s xs ++ es) ≡ replay_with_stopped rows es
+stopped_others rows s [] es = refl
+stopped_others rows s (p ∷ xs) es = stopped_refused (cause_of s p.1.ops) rows p (refused (next s p.1.ops) xs) es ∙ stopped_others rows (next s p.1.ops) xs es
 
 -- the first stopped one goes on from the rows of those before it
-pub replay_stopped : (ps rest : List Placed) (p : Placed) (count : ℕ) → drop count ps ≡ p ∷ rest
-    → replay_with_stopped finite.empty (history_of ps count) ≡ (next (state_after start (take count ps)) p.1.ops).rows
-replay_stopped ps rest p count is =
-    let s = state_after start (take count ps) in
-    stopped_commits start (take count ps) _
-    ∙ stopped_others s.rows (take count ps) (map stop (drop count ps))
+pub replay_stopped : (limits : Limits) (ps rest : List Placed) (p : Placed) (count : ℕ) → drop count ps ≡ p ∷ rest → cause_of (state_after (start limits) (take count ps)) p.1.ops ≡ None
+    → replay_with_stopped finite.empty (history_of limits ps count) ≡ (next (state_after (start limits) (take count ps)) p.1.ops).rows
+replay_stopped limits ps rest p count is goes =
+    let s = state_after (start limits) (take count ps) in
+    stopped_commits (start limits) (take count ps) _
+    ∙ stopped_others s.rows (start limits) (take count ps) (map stop (drop count ps))
     ∙ ap (λ (l : List Placed). replay_with_stopped s.rows (map stop l)) is
-    ∙ sym (rows_of_next s p.1.ops)
+    ∙ effect_is s p.1.ops goes

@@ -1,15 +1,16 @@
 -- Changes that are taken back, the last first.
-use Rattle.std.proofs.Common.{◌≡◌, ℕ, ◌+◌, true, false, cond, List, [], ◌∷◌, ◌++◌, Option, Some, None, refl, sym, ap, ◌∙◌}
+use Rattle.std.proofs.Common.{◌≡◌, ℕ, ◌+◌, List, [], ◌∷◌, ◌++◌, Option, Some, None, refl, sym, ap, ◌∙◌}
 use Rattle.std.specs.FinMap as finite
 use Rattle.ds_model.specs.declared.script.Op.{Op}
 use Rattle.ds_model.specs.declared.script.Op.TheVariants as op
 use Rattle.ds_model.specs.declared.log.LogRecord.{LogRecord}
 use Rattle.ds_model.specs.Rows.{Rows}
-use Rattle.ds_model.specs.Effect.{aborts}
 use Rattle.ds_model.specs.Logs.{set_row}
 use Rattle.spot_map.specs.Undo.{insert-insert_back, remove-insert_new, insert-remove_back, remove-absent}
 use Rattle.serial_run.specs.declared.state.State.{State}
-use Rattle.serial_run.specs.Steps.{reached, after, after_all, added, removal, changes, next, rolled_back, committed, records_of, commit_record}
+use Rattle.serial_run.specs.Steps.{after, after_all, added, removal, changes, rolled_back, committed, records_of, commit_record}
+use Rattle.serial_run.specs.declared.cause.Cause.{Cause}
+use Rattle.serial_run.specs.Causes.{cause_of, reached, next_by, next}
 use Rattle.serial_run.specs.Undo.{before_body, undone}
 
 pub undone-push : (rows : Rows) (rs : List LogRecord) (r : LogRecord) → undone rows (rs ++ r ∷ []) ≡ undone (before_body rows r.body) rs
@@ -52,11 +53,11 @@ undone-changes : (tran : ℕ) (s : State) (ops : List Op) → undone (after_all 
 undone-changes tran s [] = refl
 undone-changes tran s (o ∷ ops) = undone-op tran s o (changes tran (after s o) ops) (after_all (after s o) ops).rows (undone-changes tran (after s o) ops)
 
-pub next-goes : (s : State) (ops : List Op) → aborts ops ≡ false → next s ops ≡ committed (after_all s ops)
-next-goes s ops e = ap (λ b. cond b (rolled_back s (after_all s (reached ops))) (committed (after_all s ops))) e
+pub next-goes : (s : State) (ops : List Op) → cause_of s ops ≡ None → next s ops ≡ committed (after_all s ops)
+next-goes s ops e = ap (λ (c : Option Cause). next_by c s ops) e
 
-pub next-aborts : (s : State) (ops : List Op) → aborts ops ≡ true → next s ops ≡ rolled_back s (after_all s (reached ops))
-next-aborts s ops e = ap (λ b. cond b (rolled_back s (after_all s (reached ops))) (committed (after_all s ops))) e
+pub next-refused : (s : State) (ops : List Op) (why : Cause) → cause_of s ops ≡ Some why → next s ops ≡ rolled_back s (after_all s (reached s ops))
+next-refused s ops why e = ap (λ (c : Option Cause). next_by c s ops) e
 
 -- a whole transaction is taken back: its commit changes no row
 pub undone-records : (s : State) (ops : List Op) → undone (after_all s ops).rows (records_of s ops) ≡ s.rows
@@ -64,11 +65,11 @@ undone-records s ops =
     undone-push (after_all s ops).rows (changes (s.last + 1) s ops) (commit_record (s.last + 1) ((after_all s ops).last + 1))
     ∙ undone-changes (s.last + 1) s ops
 
--- a transaction that aborts is rolled back
-pub rolls_back : (s now : State) (rows : Rows) (rs : List LogRecord) (ops : List Op)
-    → aborts ops ≡ true → now ≡ after_all s (reached ops) → rs ≡ changes (s.last + 1) s (reached ops) → rows ≡ undone now.rows rs
-    → rolled_back (record { rows = rows; places = now.places; counts = now.counts; last = now.last }) now ≡ next s ops
-rolls_back s now rows rs ops e now_is rs_are rows_are =
-    let whole : rows ≡ s.rows = rows_are ∙ ap (undone now.rows) rs_are ∙ ap (λ (t : State). undone t.rows (changes (s.last + 1) s (reached ops))) now_is ∙ undone-changes (s.last + 1) s (reached ops) in
-    ap (λ (m : Rows). rolled_back (record { rows = m; places = now.places; counts = now.counts; last = now.last }) now) whole
-    ∙ ap (λ (t : State). rolled_back s t) now_is ∙ sym (next-aborts s ops e)
+-- a transaction that is refused is rolled back
+pub rolls_back : (s now : State) (rows : Rows) (rs : List LogRecord) (ops : List Op) (why : Cause)
+    → cause_of s ops ≡ Some why → now ≡ after_all s (reached s ops) → rs ≡ changes (s.last + 1) s (reached s ops) → rows ≡ undone now.rows rs
+    → rolled_back (record { rows = rows; places = now.places; counts = now.counts; last = now.last; limits = now.limits }) now ≡ next s ops
+rolls_back s now rows rs ops why e now_is rs_are rows_are =
+    let whole : rows ≡ s.rows = rows_are ∙ ap (undone now.rows) rs_are ∙ ap (λ (t : State). undone t.rows (changes (s.last + 1) s (reached s ops))) now_is ∙ undone-changes (s.last + 1) s (reached s ops) in
+    ap (λ (m : Rows). rolled_back (record { rows = m; places = now.places; counts = now.counts; last = now.last; limits = now.limits }) now) whole
+    ∙ ap (λ (t : State). rolled_back s t) now_is ∙ sym (next-refused s ops why e)

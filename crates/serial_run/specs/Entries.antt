@@ -1,13 +1,17 @@
 -- The entries of a report, made one after the other.
-use Rattle.std.specs.Prelude.{true, cond, List, [], ◌∷◌}
+use Rattle.std.specs.Prelude.{true, List, [], ◌∷◌, ◌++◌, Option, Some, None}
 use Rattle.ds_model.specs.declared.report.Told.{Told}
 use Rattle.ds_model.specs.declared.report.Told.TheVariants as told
+use Rattle.ds_model.specs.declared.report.ToldRefusal.{ToldRefusal}
 use Rattle.ds_model.specs.declared.report.ToldRefusal.TheVariants as told_refusal
 use Rattle.ds_model.specs.declared.report.ReportEntry.{ReportEntry}
 use Rattle.ds_model.specs.Rows.{Rows}
-use Rattle.ds_model.specs.Effect.{aborts, after_ops}
 use Rattle.ds_model.specs.Transactions.{Placed}
+use Rattle.serial_run.specs.declared.state.State.{State}
+use Rattle.serial_run.specs.declared.cause.Cause.{Cause}
+use Rattle.serial_run.specs.declared.cause.Cause.TheVariants as cause
 use Rattle.serial_run.specs.Steps.{told_all}
+use Rattle.serial_run.specs.Causes.{cause_of, next}
 
 abbrev pub entry_with : Placed → Told → ReportEntry
 entry_with p t = record { name = p.1.name; member = p.0; told = t }
@@ -15,18 +19,33 @@ entry_with p t = record { name = p.1.name; member = p.0; told = t }
 abbrev pub commit_entry : Rows → Placed → ReportEntry
 commit_entry rows p = entry_with p (told.Committed true (told_all rows p.1.ops))
 
+-- a transaction that is not refused commits
+abbrev pub commit_by : Option Cause → Rows → Placed → List ReportEntry
+commit_by None rows p = commit_entry rows p ∷ []
+commit_by (Some c) rows p = []
+
 -- those of the transactions that commit, each over the rows that the ones before it left
-abbrev pub commit_entries : Rows → List Placed → List ReportEntry
-commit_entries rows [] = []
-commit_entries rows (p ∷ ps) = cond (aborts p.1.ops) (commit_entries rows ps) (commit_entry rows p ∷ commit_entries (after_ops rows p.1.ops) ps)
+abbrev pub commit_entries : State → List Placed → List ReportEntry
+commit_entries s [] = []
+commit_entries s (p ∷ ps) = commit_by (cause_of s p.1.ops) s.rows p ++ commit_entries (next s p.1.ops) ps
 
-abbrev pub abort_entry : Placed → ReportEntry
-abort_entry p = entry_with p (told.Refused told_refusal.Aborted)
+-- a cause as it is printed
+abbrev pub told_cause : Cause → ToldRefusal
+told_cause (cause.SpaceFull table pages) = told_refusal.SpaceFull table pages
+told_cause (cause.RecordsFull limit) = told_refusal.RecordsFull limit
+told_cause cause.Aborted = told_refusal.Aborted
 
--- those of the transactions that abort
-abbrev pub abort_entries : List Placed → List ReportEntry
-abort_entries [] = []
-abort_entries (p ∷ ps) = cond (aborts p.1.ops) (abort_entry p ∷ abort_entries ps) (abort_entries ps)
+abbrev pub refusal_entry : Cause → Placed → ReportEntry
+refusal_entry c p = entry_with p (told.Refused (told_cause c))
+
+abbrev pub refusal_by : Option Cause → Placed → List ReportEntry
+refusal_by None p = []
+refusal_by (Some c) p = refusal_entry c p ∷ []
+
+-- those of the transactions that are refused
+abbrev pub refusal_entries : State → List Placed → List ReportEntry
+refusal_entries s [] = []
+refusal_entries s (p ∷ ps) = refusal_by (cause_of s p.1.ops) p ++ refusal_entries (next s p.1.ops) ps
 
 abbrev pub stop_entry : Placed → ReportEntry
 stop_entry p = entry_with p told.Stopped

@@ -1,4 +1,5 @@
 pub mod Steps
+pub mod Causes
 pub mod Undo
 pub mod Played
 pub mod Entries

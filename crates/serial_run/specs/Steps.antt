@@ -1,5 +1,5 @@
 -- What one thread makes of the operations of a transaction: rows, places of keys, and log records.
-use Rattle.std.specs.Prelude.{ℕ, ◌+◌, ◌-◌, ◌/◌, ◌%◌, cond, List, [], ◌∷◌, ◌++◌, Option, Some, None, unwrap_or, slice_index_or, slice_set}
+use Rattle.std.specs.Prelude.{ℕ, ◌+◌, ◌-◌, ◌/◌, ◌%◌, List, [], ◌∷◌, ◌++◌, Option, Some, None, unwrap_or, slice_index_or, slice_set}
 use Rattle.std.specs.FinMap as finite
 use Rattle.ds_base.specs.declared.names.Place.{Place}
 use Rattle.ds_model.specs.declared.script.Op.{Op}
@@ -11,13 +11,8 @@ use Rattle.ds_model.specs.declared.log.Body.TheVariants as body
 use Rattle.ds_model.specs.declared.report.ToldRead.{ToldRead}
 use Rattle.ds_model.specs.declared.report.ToldRead.TheVariants as read
 use Rattle.ds_model.specs.Rows.{Rows, Spot, spot_cmp, scanned}
-use Rattle.ds_model.specs.Effect.{after_op, is_abort, aborts}
+use Rattle.ds_model.specs.Effect.{after_op}
 use Rattle.serial_run.specs.declared.state.State.{State}
-
--- the operations before the first abort, which are all where there is none
-abbrev pub reached : List Op → List Op
-reached [] = []
-reached (o ∷ ops) = cond (is_abort o) [] (o ∷ reached ops)
 
 -- ---- places
 
@@ -85,7 +80,7 @@ drawn rows op.LoseCache = 0
 drawn rows op.Abort = 0
 
 abbrev pub after : State → Op → State
-after s o = record { rows = after_op s.rows o; places = places_after s o; counts = counts_after s o; last = s.last + drawn s.rows o }
+after s o = record { rows = after_op s.rows o; places = places_after s o; counts = counts_after s o; last = s.last + drawn s.rows o; limits = s.limits }
 
 abbrev pub after_all : State → List Op → State
 after_all s [] = s
@@ -137,14 +132,11 @@ records_of s ops = changes (s.last + 1) s ops ++ commit_record (s.last + 1) ((af
 
 -- a commit draws a number too
 abbrev pub committed : State → State
-committed s = record { rows = s.rows; places = s.places; counts = s.counts; last = s.last + 1 }
+committed s = record { rows = s.rows; places = s.places; counts = s.counts; last = s.last + 1; limits = s.limits }
 
 -- the rows are as they were before, while keys keep their places, and numbers that were drawn aren't drawn again
 abbrev pub rolled_back : State → State → State
-rolled_back before s = record { rows = before.rows; places = s.places; counts = s.counts; last = s.last }
-
-abbrev pub next : State → List Op → State
-next s ops = cond (aborts ops) (rolled_back s (after_all s (reached ops))) (committed (after_all s ops))
+rolled_back before s = record { rows = before.rows; places = s.places; counts = s.counts; last = s.last; limits = s.limits }
 
 -- ---- what is read, as it is printed
 

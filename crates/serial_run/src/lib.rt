@@ -3,6 +3,7 @@
 //! It is the plain form of a run: what the members of a group do side by side has to come to the same.
 #![tactic(auto)]
 
+mod cause;
 mod entry;
 mod flatten;
 mod place;
@@ -15,3 +16,4 @@ mod undo;
 
 pub use run::{Ran, run_script};
 pub use serial::plays;
+pub use state::Limits;

@@ -28,7 +28,7 @@ pub fn number_of(state: &State, table: TableId, key: Key) -> u32
 /// Gives a key the next place of its table where it has none.
 pub fn give_place(state: &mut State, table: TableId, key: Key) -> Result<(), NoMemory>
     requires { count_in state.old.counts table + 1 < 2 ^ 32 }
-    ensures { OnOk result (state.new ≡ record { rows = state.old.rows; places = placed_as state.old.places (table, key) (count_in state.old.counts table) (finite.get state.old.places (table, key)); counts = counted_as state.old.counts table (finite.get state.old.places (table, key)); last = state.old.last }) }
+    ensures { OnOk result (state.new ≡ record { rows = state.old.rows; places = placed_as state.old.places (table, key) (count_in state.old.counts table) (finite.get state.old.places (table, key)); counts = counted_as state.old.counts table (finite.get state.old.places (table, key)); last = state.old.last; limits = state.old.limits }) }
 {
     if state.places.get(table, key).is_none() {
         let at = table.number() as usize - 1;

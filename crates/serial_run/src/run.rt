@@ -7,11 +7,11 @@ ghost use Rattle.serial_run.specs.Sounds.{IsSoundRun};
 
 use crate::entry::{Entries, entry_of, gather, stop_all};
 use crate::flatten::{PlacedTran, flatten};
-use crate::state::State;
+use crate::state::{Limits, State};
 use crate::tran::{Outcome, play_tran};
 use ds_base::{NoMemory, Sequence, Value};
 use ds_disk::Disk;
-use ds_model::{ReportEntryList, Script, Told, ToldRefusal};
+use ds_model::{ReportEntryList, Script, Told};
 use spot_map::SpotMap;
 use std::alloc::Global;
 
@@ -40,8 +40,8 @@ fn play_trans<D: Disk>(
     for (i, item) in items.iter().enumerate() {
         match play_tran(alloc, disk, item.0, state, item.1.ops.as_slice())? {
             Outcome::Stopped => return Ok(i),
-            Outcome::Aborted => {
-                let told = Told::Refused(ToldRefusal::Aborted);
+            Outcome::Refused(cause) => {
+                let told = Told::Refused(cause.told());
                 entries.others.push(entry_of(alloc, item, told)?)?;
             }
             Outcome::Committed { reads } => {
@@ -56,13 +56,18 @@ fn play_trans<D: Disk>(
     Ok(items.len())
 }
 
-/// Plays the transactions of a script, one after the other in the order of the script. Where an append
-/// fails, that transaction and all behind it are stopped.
-pub fn run_script<D: Disk>(alloc: Global, disk: &mut D, script: Script) -> Result<Ran, NoMemory>
+/// Plays the transactions of a script within the limits, one after the other in the order of the script. Where an
+/// append fails, that transaction and all behind it are stopped.
+pub fn run_script<D: Disk>(
+    alloc: Global,
+    disk: &mut D,
+    script: Script,
+    limits: Limits,
+) -> Result<Ran, NoMemory>
     requires serial { IsSerial script }
     requires counted { IsCounted script }
     requires alive { D.alive disk.old ≡ true }
-    ensures ran { IfOk result (λ ran. IsRunOf script ran (D.alive disk.new) (D.contents disk.old) (D.contents disk.new) (D.faults disk.old) (D.faults disk.new)) }
+    ensures ran { IfOk result (λ ran. IsRunOf limits script ran (D.alive disk.new) (D.contents disk.old) (D.contents disk.new) (D.faults disk.old) (D.faults disk.new)) }
     ensures sound { IfOk result (λ ran. IsSoundRun script ran (D.alive disk.new) (D.contents disk.old) (D.contents disk.new)) }
     ensures later { D.faults disk.old ≤ D.faults disk.new }
 {
@@ -72,6 +77,7 @@ pub fn run_script<D: Disk>(alloc: Global, disk: &mut D, script: Script) -> Resul
         places: SpotMap::new(alloc),
         counts: [0; 64],
         last: 0,
+        limits,
     };
     let mut entries = Entries {
         committed: Sequence::new(alloc),

@@ -1,11 +1,12 @@
 ghost use Rattle.std.specs.Prelude.{◌≡◌, ℕ, ◌+◌, ◌-◌, ◌<◌, ◌≤◌, ◌^◌, [], ◌∷◌, ◌++◌, length, OnOk, IfOk, Some, None};
 ghost use Rattle.ds_base.specs.Ids.{IsLrsn};
 ghost use Rattle.ds_model.specs.declared.script.Op.TheVariants as op;
-ghost use Rattle.ds_model.specs.Effect as effect;
-ghost use Rattle.serial_run.specs.Steps.{reached, after, after_all, added, removal, drawn_to_remove, changes, change_record, told_op, told_all, committed, commit_record, body_of};
+ghost use Rattle.serial_run.specs.Causes.{none_recorded, cause_of, reached};
+ghost use Rattle.serial_run.specs.Steps.{after, after_all, added, removal, drawn_to_remove, changes, change_record, told_op, told_all, committed, commit_record, body_of};
 ghost use Rattle.serial_run.specs.Played.{HasRoom};
 ghost use Rattle.std.specs.FinMap as finite;
 
+use crate::cause::{Cause, Recorded, cause_at};
 use crate::place::{give_place, number_of, place_of};
 use crate::state::State;
 use ds_base::{Key, Lrsn, NoMemory, TableId, Value};
@@ -52,7 +53,7 @@ fn log_change(
     after: Option<Value>,
 ) -> Result<(), NoMemory>
     requires { HasRoom state.old 1 }
-    ensures state { OnOk result (state.new ≡ record { rows = state.old.rows; places = state.old.places; counts = state.old.counts; last = state.old.last + 1 }) }
+    ensures state { OnOk result (state.new ≡ record { rows = state.old.rows; places = state.old.places; counts = state.old.counts; last = state.old.last + 1; limits = state.old.limits }) }
     ensures reads { OnOk result (draft.new.reads ≡ draft.old.reads) }
     ensures records { OnOk result (draft.new.records ≡ draft.old.records ++ change_record tran state.old table key after ∷ []) }
 {
@@ -173,36 +174,29 @@ pub fn commit(state: &mut State, draft: &mut Draft, tran: Lrsn) -> Result<(), No
     Ok(())
 }
 
-fn is_abort(op: &Op) -> bool
-    ensures { result ≡ effect.is_abort op.now }
-{
-    match op {
-        Op::Abort => true,
-        _ => false,
-    }
-}
-
-/// Does the operations one after the other up to the first abort, and answers whether there is one.
+/// Does the operations one after the other up to the first that is refused, and answers why it is, if there is one.
 pub fn take_ops(
     alloc: Global,
     state: &mut State,
     draft: &mut Draft,
     tran: Lrsn,
     ops: &[Op],
-) -> Result<bool, NoMemory>
+) -> Result<Option<Cause>, NoMemory>
     requires room { HasRoom state.old (length ops.now) }
-    ensures aborts { IfOk result (λ b. b ≡ effect.aborts ops.now) }
-    ensures state { OnOk result (state.new ≡ after_all state.old (reached ops.now)) }
+    ensures cause { IfOk result (λ c. c ≡ cause_of state.old ops.now) }
+    ensures state { OnOk result (state.new ≡ after_all state.old (reached state.old ops.now)) }
     ensures few { OnOk result (HasRoom state.new 0) }
     ensures drawn { OnOk result (state.new.last ≤ state.old.last + length ops.now) }
-    ensures reads { OnOk result (draft.new.reads ≡ draft.old.reads ++ told_all state.old.rows (reached ops.now)) }
-    ensures records { OnOk result (draft.new.records ≡ draft.old.records ++ changes tran state.old (reached ops.now)) }
+    ensures reads { OnOk result (draft.new.reads ≡ draft.old.reads ++ told_all state.old.rows (reached state.old ops.now)) }
+    ensures records { OnOk result (draft.new.records ≡ draft.old.records ++ changes tran state.old (reached state.old ops.now)) }
 {
+    let mut recorded = Recorded::new(alloc);
     for op in ops {
-        if is_abort(op) {
-            return Ok(true);
+        recorded.take(op)?;
+        if let Some(cause) = cause_at(state, &recorded, op) {
+            return Ok(Some(cause));
         }
         take_op(alloc, state, draft, tran, op)?;
     }
-    Ok(false)
+    Ok(None)
 }

@@ -1,7 +1,8 @@
 ghost use Rattle.std.specs.Prelude.{◌≡◌, ◌+◌, ◌≤◌, ◌<◌, ◌^◌, length, IfOk, OnOk};
-ghost use Rattle.serial_run.specs.Steps.{next};
+ghost use Rattle.serial_run.specs.Causes.{next};
 ghost use Rattle.serial_run.specs.Played.{HasRoom, IsDraftOf, Plays};
 
+use crate::cause::Cause;
 use crate::state::State;
 use crate::step::{Draft, commit, lrsn_of, take_ops};
 use crate::undo::undo;
@@ -15,13 +16,20 @@ use std::alloc::Global;
 #[derive(Drop)]
 pub enum Outcome {
     Committed { reads: ToldReads },
-    Aborted,
+    Refused(Cause),
     Stopped,
 }
 
-/// Does a transaction's operations and makes its records, the commit last. One that aborts is rolled back, and
-/// has none.
-fn draft_of(alloc: Global, state: &mut State, ops: &[Op]) -> Result<Option<Draft>, NoMemory>
+/// What a transaction comes to before its records are appended.
+#[derive(Drop)]
+pub enum Drafted {
+    Goes(Draft),
+    Refused(Cause),
+}
+
+/// Does a transaction's operations and makes its records, the commit last. One that is refused is rolled back,
+/// and has none.
+fn draft_of(alloc: Global, state: &mut State, ops: &[Op]) -> Result<Drafted, NoMemory>
     requires room { HasRoom state.old (length ops.now + 1) }
     ensures draft { IfOk result (λ d. IsDraftOf state.old ops.now d) }
     ensures state { OnOk result (state.new ≡ next state.old ops.now) }
@@ -33,12 +41,17 @@ fn draft_of(alloc: Global, state: &mut State, ops: &[Op]) -> Result<Option<Draft
         records: Sequence::new(alloc),
     };
     let tran = lrsn_of(state.last + 1);
-    if take_ops(alloc, state, &mut draft, tran, ops)? {
-        undo(&mut state.rows, draft.records.into_vec())?;
-        return Ok(None);
+    let stop = take_ops(alloc, state, &mut draft, tran, ops)?;
+    match stop {
+        Some(cause) => {
+            undo(&mut state.rows, draft.records.into_vec())?;
+            Ok(Drafted::Refused(cause))
+        }
+        None => {
+            commit(state, &mut draft, tran)?;
+            Ok(Drafted::Goes(draft))
+        }
     }
-    commit(state, &mut draft, tran)?;
-    Ok(Some(draft))
 }
 
 /// Plays a transaction: its records are one append. Where that fails the transaction is stopped.
@@ -55,8 +68,10 @@ pub fn play_tran<D: Disk>(
     ensures drawn { OnOk result (state.new.last ≤ state.old.last + length ops.now + 1) }
     ensures later { D.faults disk.old ≤ D.faults disk.new }
 {
-    let Some(draft) = draft_of(alloc, state, ops)? else {
-        return Ok(Outcome::Aborted);
+    let drafted = draft_of(alloc, state, ops)?;
+    let draft = match drafted {
+        Drafted::Refused(cause) => return Ok(Outcome::Refused(cause)),
+        Drafted::Goes(draft) => draft,
     };
     prove!(member.number() != 0);
     let bytes = records_bytes(alloc, draft.records.as_slice())?;

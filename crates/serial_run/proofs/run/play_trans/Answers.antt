@@ -1,11 +1,14 @@
 use Rattle.std.proofs.Common.{◌+◌, ◌≤◌, List, [], ◌∷◌, ◌++◌, length, refl, sym, ap, subst, ◌∙◌, arith}
 use Rattle.ds_model.specs.declared.script.Op.{Op}
 use Rattle.ds_model.specs.declared.report.ReportEntry.{ReportEntry}
+use Rattle.ds_model.specs.declared.report.Told.TheVariants as told
+use Rattle.ds_model.specs.declared.report.ToldRefusal.{ToldRefusal}
+use Rattle.serial_run.specs.Entries.{entry_with}
 use Rattle.ds_model.specs.Serial.{IsShortTran}
 use Rattle.serial_run.specs.declared.entry.Entries.{Entries}
-use Rattle.serial_run.specs.Played.{IsCommitted, IsAborted, IsStopped}
-use Rattle.serial_run.proofs.Going.{Going, commits_one, aborts_one, stops}
-use Rattle.serial_run.proofs.run.play_trans.Goals.{in-Aborted+in_ok-entry_of-in-Aborted+in_ok-push-in-Aborted, in-Committed+in_ok-entry_of-in-Committed+in_ok-push-in-Committed}
+use Rattle.serial_run.specs.Played.{IsCommitted, IsRefused, IsStopped}
+use Rattle.serial_run.proofs.Going.{Going, commits_one, refuses_one, stops}
+use Rattle.serial_run.proofs.run.play_trans.Goals.{in-Refused+in_ok-entry_of-in-Refused+in_ok-push-in-Refused, in-Committed+in_ok-entry_of-in-Committed+in_ok-push-in-Committed}
 use Rattle.serial_run.proofs.run.play_trans.Goals as goal
 
 pub returns-in-Stopped-clause-played : goal.returns-in-Stopped-clause-played
@@ -34,15 +37,15 @@ loop-i-preserved g c =
     let few = c.in_ok-play_tran.ensures.few in
     let so_far = c.loop-i.entries in
     elim c.match-branch-2.branch [
-      | in-Aborted+in_ok-entry_of-in-Aborted+in_ok-push-in-Aborted w ↦
-          (let plays = rw w.in-Aborted.is at c.in_ok-play_tran.ensures.plays in
-          let aborted = subst (λ (o : List Op). IsAborted s now o (g.D.Disk.alive c.loop-i.disk) alive before after) c.as_slice.ensures plays in
+      | in-Refused+in_ok-entry_of-in-Refused+in_ok-push-in-Refused w ↦
+          (let plays = rw w.in-Refused.is at c.in_ok-play_tran.ensures.plays in
+          let refused = subst (λ (o : List Op). IsRefused s now o w.in-Refused.cause (g.D.Disk.alive c.loop-i.disk) alive before after) c.as_slice.ensures plays in
           let more : Entries = record { committed = so_far.committed; others = w.push.new.self } in
-          let pushed = w.in_ok-push-in-Aborted.ensures.ok ∙ ap (λ (e : ReportEntry). so_far.others ++ e ∷ []) w.in_ok-entry_of-in-Aborted.ensures in
+          let pushed = w.in_ok-push-in-Refused.ensures.ok ∙ ap (λ (e : ReportEntry). so_far.others ++ e ∷ []) (w.in_ok-entry_of-in-Refused.ensures ∙ ap (λ (r : ToldRefusal). entry_with p (told.Refused r)) w.told.ensures) in
           subst (λ (e : Entries). Going c.args.items.now (c.loop-i.i + 1) c.args.state.now now c.args.entries.now e alive (g.D.Disk.contents c.args.disk.now) after (g.D.Disk.faults c.args.disk.now) (g.D.Disk.faults c.play_tran.new.disk)) (sym w.entries-is)
-          (aborts_one c.args.items.now c.loop-i.i p p c.args.state.now s now c.args.entries.now so_far more
+          (refuses_one c.args.items.now c.loop-i.i p p c.args.state.now s now c.args.entries.now so_far more w.in-Refused.cause
           _ alive _ before after _ _ _
-          c.loop-i-test.true c.index-items-i.is short c.loop-i.invariant aborted few drawn c.play_tran.ensures.later refl pushed))
+          c.loop-i-test.true c.index-items-i.is short c.loop-i.invariant refused few drawn c.play_tran.ensures.later refl pushed))
       | in-Committed+in_ok-entry_of-in-Committed+in_ok-push-in-Committed w ↦
           (let plays = rw w.in-Committed.is at c.in_ok-play_tran.ensures.plays in
           let committed = subst (λ (o : List Op). IsCommitted p.0 s now o w.in-Committed.reads alive before after) c.as_slice.ensures plays in

@@ -10,11 +10,11 @@ pub returns-clause-ran : goal.returns-clause-ran
 returns-clause-ran g c =
     let its = c.deref.ensures.value ∙ c.in_ok-items.ensures in
     let same = c.deref-2.ensures.value ∙ sym c.deref.ensures.value in
-    run_is c.args.script c.deref.result.now c.in_ok-count.count _ c.play_trans.new.state (record { committed = c.new-3.result; others = c.new-4.result }) c.play_trans.new.entries c.stop_all.new.entries _ _ _ _ _ _ c.len.result
-    its (state_is c.new.result c.new-2.result _ 0 c.new.ensures c.new-2.ensures refl refl) c.new-3.ensures c.new-4.ensures c.in_ok-count.ensures.played
+    run_is c.args.limits c.args.script c.deref.result.now c.in_ok-count.count _ c.play_trans.new.state (record { committed = c.new-3.result; others = c.new-4.result }) c.play_trans.new.entries c.stop_all.new.entries _ _ _ _ _ _ c.len.result
+    its (state_is c.new.result c.new-2.result _ 0 c.args.limits c.new.ensures c.new-2.ensures refl refl) c.new-3.ensures c.new-4.ensures c.in_ok-count.ensures.played
     (c.in_ok-stop_all.ensures ∙ ap (λ (l : List Placed). c.play_trans.new.entries.others ++ map stop_entry l) (take_rest c.deref-2.result.now c.in_ok-count.count ∙ ap (λ (l : List Placed). drop c.in_ok-count.count l) same))
     c.in_ok-gather.ensures
     (omega (arith, c.len.ensures, ap length c.deref.ensures.value, c.in_ok-items.items.ok.0))
 
 pub returns-clause-sound : goal.returns-clause-sound
-returns-clause-sound g c = sound_run c.args.script _ _ _ _ _ _ c.requires.counted (returns-clause-ran g c)
+returns-clause-sound g c = sound_run c.args.limits c.args.script _ _ _ _ _ _ c.requires.counted (returns-clause-ran g c)
