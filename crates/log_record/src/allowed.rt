@@ -2,9 +2,7 @@ ghost use Rattle.std.specs.Prelude.{◌≡◌, ◌≢◌, ◌<◌, ◌↔◌, Is
 ghost use Rattle.std.specs.List.{AllByRecursion};
 ghost use Rattle.ds_model.specs.RecordBytes.{StateIsAllowed, ChangeIsAllowed, PatchIsAllowed, PatchesAreAllowed, is_of_tran, BodyIsAllowed, BodyFits, IsAllowed, Fits};
 
-use crate::layout::{
-    LONGEST, PAGE_SETS, PAGE_SIZE, PATCH_LIMIT, PATCHES_LIMIT, SHORTEST, SLOTS,
-};
+use crate::layout::{LONGEST, PAGE_SETS, PAGE_SIZE, PATCH_LIMIT, PATCHES_LIMIT, SHORTEST, SLOTS};
 use crate::size::patches_length;
 use ds_base::{LRSN_END, PageId, VALUE_LIMIT, Value};
 use ds_model::{Body, LogRecord, RowChange};
@@ -36,7 +34,10 @@ fn change_is_allowed(change: &RowChange) -> bool
 fn patch_is_allowed(patch: &Patch) -> bool
     ensures { IsTrue result ↔ PatchIsAllowed patch.now }
 {
-    let PageId { set, number: _number } = patch.page;
+    let PageId {
+        set,
+        number: _number,
+    } = patch.page;
     let size = patch.bytes.len();
     1 <= set
         && set <= PAGE_SETS
@@ -97,7 +98,7 @@ pub fn is_allowed(it: &LogRecord) -> bool
     ensures decides { IsTrue result ↔ IsAllowed it.now }
     ensures enough { Fits it.now → IsTrue result }
 {
-    let has_numbers =
-        it.lrsn.number() < LRSN_END && is_of_tran(&it.body) == (it.tran.number() != 0);
+    let has_numbers = it.lrsn.number() < LRSN_END
+        && is_of_tran(&it.body) == (it.tran.number() != 0);
     has_numbers && body_is_allowed(&it.body)
 }

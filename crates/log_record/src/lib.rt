@@ -32,3 +32,5 @@ pub use read::read_record;
 pub use size::record_length;
 pub use write::{put_record, records_bytes, write_record};
 
+#[cfg(test)]
+mod tests;

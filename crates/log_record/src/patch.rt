@@ -124,11 +124,7 @@ fn patch_count_at(fields: &[u8], at: usize) -> Result<(usize, usize), RecordFaul
 }
 
 #[tactic(auto, unfolding(crate::specs::Fields::patches_at))]
-pub fn patches_at(
-    alloc: Global,
-    fields: &[u8],
-    at: usize,
-) -> Result<(Patches, usize), RecordFault>
+pub fn patches_at(alloc: Global, fields: &[u8], at: usize) -> Result<(Patches, usize), RecordFault>
     ensures { Answers result (patches_at fields.now at) }
 {
     let (count, at) = patch_count_at(fields, at)?;

@@ -6,9 +6,7 @@ ghost use Rattle.log_record.specs.declared.fault.RecordFault.TheVariants.{NotWho
 ghost use Rattle.log_record.specs.Reading.{Answers, Found, fields_in, ends_at, whole_in, record_in};
 
 use crate::fault::RecordFault;
-use crate::field::{
-    key_at, kind_at, lrsn_at, offset_at, place_at, table_at, tran_at, version_at,
-};
+use crate::field::{key_at, kind_at, lrsn_at, offset_at, place_at, table_at, tran_at, version_at};
 use crate::kind::Kind;
 use crate::layout::{LONGEST, SHORTEST};
 use crate::patch::patches_at;
