@@ -4,3 +4,4 @@ pub mod Steps
 pub mod Changes
 pub mod Patches
 pub mod Records
+pub mod Memory

@@ -1,11 +1,11 @@
 -- Whole records: what is read is their spelling, their spelling is read again, and a front of it is not whole.
-use Rattle.std.proofs.Common.{lit<, lit≤, ◌≡◌, ℕ, ◌+◌, ◌-◌, ◌^◌, ◌<◌, ◌≤◌, Bool, true, false, not, cond, List, [], ◌∷◌, ◌++◌, length, Option, Some, None, Result, Ok, Err, take, drop, refl, sym, ap, subst, ◌∙◌, append_assoc, arith, inl, inr}
+use Rattle.std.proofs.Common.{lit<, lit≤, ◌≡◌, ℕ, ◌+◌, ◌-◌, ◌^◌, ◌<◌, ◌≤◌, Bool, true, false, not, cond, List, [], ◌∷◌, ◌++◌, length, Option, Some, None, Result, Ok, Err, get_or, take, drop, refl, sym, ap, subst, ◌∙◌, append_assoc, arith, inl, inr}
 use Rattle.std.specs.Prelude.{IfOk, ◌≢◌, ◌==◌, nat_le, nat_lt}
 use Rattle.std.specs.List.{flat_map, AllByRecursion}
 use Rattle.std.specs.Int.{w32, to_be_bytes, bytes_high_first}
 use Rattle.std.proofs.Math.Seq.{take-add}
 use Rattle.std.proofs.lemmas.Bool.{cases_lt, cases_Bool, eqb-true, eq-eqb, leb-true, le-leb, ltb-false, lt-ltb, le-ltb, not-false, and_parts, and_from}
-use Rattle.std.proofs.lemmas.List.{append-nil, length-append, length-take, length-drop, take-take, take-append-drop, take_at, drop_at, nil_from_length}
+use Rattle.std.proofs.lemmas.List.{append-nil, length-append, length-take, length-drop, get_or_past, take-take, take-append-drop, take_at, drop_at, nil_from_length}
 use Rattle.byteorder.specs.Endian.{big_number}
 use Rattle.byteorder.specs.Numbers.{big_from-take, big_number-reads_back}
 use Rattle.ds_model.specs.declared.log.LogRecord.{LogRecord}
@@ -20,7 +20,7 @@ use Rattle.log_record.specs.declared.fault.RecordFault.TheVariants as fault
 use Rattle.log_record.specs.declared.kind.Kind.{Kind}
 use Rattle.log_record.specs.declared.kind.Kind.TheVariants as kind
 use Rattle.log_record.specs.Fields.{◌>>=◌, kind_of_number, has_tran, kind_at, version_at, lrsn_at, tran_at, offset_at, change_at, patches_at, compensation_at, body_at}
-use Rattle.log_record.specs.Reading.{fields_in, ends_at, whole_in, is_size, record_in, Found, Answers}
+use Rattle.log_record.specs.Reading.{fields_in, ends_at, whole_in, is_size, record_in, Found, Answers, HasPatches}
 use Rattle.log_record.proofs.Numbers.{IsBytes, IsBytes-take, IsBytes-drop, bytes_back, one_byte}
 use Rattle.log_record.proofs.Steps.{bind_ok, passed, ok_is, Takes, Takes-then, Takes-none, field_takes, number_takes, Left, Left-as, Reads, field_again, number_again}
 use Rattle.log_record.proofs.Changes.{not-zero, zero-not, change_takes, change_again}
@@ -28,7 +28,7 @@ use Rattle.log_record.proofs.Patches.{patches_takes, patches_again}
 
 -- ---- kinds
 
-abbrev number_of : Kind → ℕ
+abbrev pub number_of : Kind → ℕ
 number_of kind.RowChange = 1
 number_of kind.Compensation = 2
 number_of kind.System = 3
@@ -63,7 +63,7 @@ number_small kind.Ended = lit< tt
 number_small kind.Checkpoint = lit< tt
 number_small kind.RestartEnd = lit< tt
 
-kind_takes : (fields : List ℕ) (at : ℕ) (k : Kind) (next : ℕ) → IsBytes fields → kind_at fields at ≡ Ok (k, next) → Takes fields at (number_of k ∷ []) next
+pub kind_takes : (fields : List ℕ) (at : ℕ) (k : Kind) (next : ℕ) → IsBytes fields → kind_at fields at ≡ Ok (k, next) → Takes fields at (number_of k ∷ []) next
 kind_takes fields at k next fits e =
     let t = field_takes 1 (λ bytes. kind_of_number (big_number 1 bytes)) fields at k next fits e in
     let n-is = number_is (big_number 1 t.text) k t.means in
@@ -354,6 +354,10 @@ record_again r rest h =
     let not_cut : nat_lt (length bytes) n ≡ false = le-ltb _ _ (omega (arith, len)) in
     rw (not_few, size, allowed_size r h, not_cut, whole_again r rest h, whole_length r) refl
 
+-- so is the number at the front of a front of it
+front_size : (r : LogRecord) (n : ℕ) → IsAllowed r → 4 ≤ n → big_number 4 (take n (record_bytes r)) ≡ length_of r.body
+front_size r n h enough = big_from-take 0 4 n (record_bytes r) enough ∙ ap (big_number 4) (sym (append-nil (record_bytes r))) ∙ spelled_size r [] h
+
 -- a front of a spelling is not whole
 pub record_cut : (r : LogRecord) (n : ℕ) → IsAllowed r → n < length (record_bytes r) → record_in (take n (record_bytes r)) ≡ Err fault.NotWhole
 unfolding record_in
@@ -364,8 +368,7 @@ record_cut r n h lt =
       | inl few ↦ let is_few : nat_lt (length bytes) 4 ≡ true = lt-ltb _ _ (omega (arith, len)) in rw is_few refl
       | inr enough ↦
           let not_few : nat_lt (length bytes) 4 ≡ false = le-ltb _ _ (omega (arith, len)) in
-          let size : big_number 4 bytes ≡ length_of r.body =
-          big_from-take 0 4 n (record_bytes r) enough ∙ ap (big_number 4) (sym (append-nil (record_bytes r))) ∙ spelled_size r [] h in
+          let size : big_number 4 bytes ≡ length_of r.body = front_size r n h enough in
           let is_cut : nat_lt (length bytes) (length_of r.body) ≡ true = lt-ltb _ _ (omega (arith, len, whole_length r)) in
           rw (not_few, size, allowed_size r h, is_cut) refl
     ]
@@ -373,3 +376,21 @@ record_cut r n h lt =
 pub is_found : (bytes : List ℕ) (result : Result (LogRecord × ℕ) RecordFault) → IsBytes bytes → Answers result (record_in bytes) → IfOk result (λ found. Found bytes found.0 found.1)
 is_found bytes (Ok found) fits e = record_takes bytes found.0 found.1 fits e
 is_found bytes (Err fault) fits e = tt
+
+-- a whole record of kind 3 is not cut short
+pub is_cut : (bytes : List ℕ) (result : Result (LogRecord × ℕ) RecordFault) (r : LogRecord) (n : ℕ) → IsAllowed r → n < length (record_bytes r) → bytes ≡ take n (record_bytes r) → Answers result (record_in bytes) → (result ≡ Err fault.NoMemory → HasPatches bytes) → result ≡ Err fault.NotWhole
+is_cut bytes (Ok found) r n h lt e a m = let cut : record_in bytes ≡ Err fault.NotWhole = ap record_in e ∙ record_cut r n h lt in cc
+is_cut bytes (Err fault.NotWhole) r n h lt e a m = refl
+is_cut bytes (Err (fault.Bad at)) r n h lt e a m =
+    let cut : record_in bytes ≡ Err fault.NotWhole = ap record_in e ∙ record_cut r n h lt in
+    let other : record_in bytes ≡ Err (fault.Bad at) = a (λ s. cc) in
+    cc
+is_cut bytes (Err fault.NoMemory) r n h lt e a m =
+    let wants = m refl in
+    let len : length bytes ≡ n = omega (arith, ap length e, length-take n (record_bytes r)) in
+    absurd (elim (cases_lt 4 n) as (λ _. ⊥) [
+      | inl more ↦
+          let size : big_number 4 bytes ≡ length_of r.body = ap (big_number 4) e ∙ front_size r n h (omega arith) in
+          omega (arith, wants.whole, size, len, lt, whole_length r)
+      | inr few ↦ let none : get_or bytes 4 0 ≡ 0 = get_or_past bytes 4 0 (omega arith) in omega (arith, none, wants.kind)
+    ])

@@ -1,9 +1,10 @@
-ghost use Rattle.std.specs.Prelude.{◌≡◌, ◌≤◌, ◌<◌, ℕ, List, ◌++◌, length, take, IfOk};
+ghost use Rattle.std.specs.Prelude.{◌≡◌, ◌≤◌, ◌<◌, ℕ, List, ◌++◌, length, take, slice_index, IfOk};
 ghost use Rattle.ds_model.specs.declared.log.LogRecord.{LogRecord};
 ghost use Rattle.ds_model.specs.RecordBytes.{IsAllowed, record_bytes};
 ghost use Rattle.log_record.specs.Fields.{change_at, compensation_at, body_at};
-ghost use Rattle.log_record.specs.declared.fault.RecordFault.TheVariants.{NotWhole};
-ghost use Rattle.log_record.specs.Reading.{Answers, Found, fields_in, ends_at, whole_in, record_in};
+ghost use Rattle.log_record.specs.declared.fault.RecordFault.TheVariants.{NotWhole, NoMemory};
+ghost use Rattle.log_record.specs.declared.kind.Kind.TheVariants as kinds;
+ghost use Rattle.log_record.specs.Reading.{Answers, HasPatches, Found, fields_in, ends_at, whole_in, record_in};
 
 use crate::fault::RecordFault;
 use crate::field::{key_at, kind_at, lrsn_at, offset_at, place_at, table_at, tran_at, version_at};
@@ -46,14 +47,15 @@ fn compensation_at(alloc: Global, fields: &[u8], at: usize) -> Result<(Body, usi
     Ok((Body::Compensation { change, undone }, at))
 }
 
-#[tactic(auto, unfolding(crate::specs::Fields::body_at))]
+#[tactic(auto, using(crate::proofs::Memory::field_free, crate::proofs::Memory::change_free, crate::proofs::Memory::compensation_free), unfolding(crate::specs::Fields::body_at))]
 fn body_at(
     alloc: Global,
     kind: Kind,
     fields: &[u8],
     at: usize,
 ) -> Result<(Body, usize), RecordFault>
-    ensures { Answers result (body_at kind fields.now at) }
+    ensures exact { Answers result (body_at kind fields.now at) }
+    ensures memory { result ≡ Err NoMemory → kind ≡ kinds.System }
 {
     match kind {
         Kind::RowChange => {
@@ -76,9 +78,10 @@ fn body_at(
 }
 
 // The fields from the kind to the body, and the offset behind them.
-#[tactic(auto, unfolding(crate::specs::Reading::fields_in))]
+#[tactic(auto, using(crate::proofs::Memory::field_free), unfolding(crate::specs::Reading::fields_in))]
 fn fields_in(alloc: Global, fields: &[u8]) -> Result<(LogRecord, usize), RecordFault>
-    ensures { Answers result (fields_in fields.now) }
+    ensures exact { Answers result (fields_in fields.now) }
+    ensures memory { result ≡ Err NoMemory → slice_index fields.now 4 ≡ 3 }
 {
     let (kind, at) = kind_at(fields, KIND_AT)?;
     let (_, at) = version_at(fields, at)?;
@@ -93,7 +96,8 @@ fn fields_in(alloc: Global, fields: &[u8]) -> Result<(LogRecord, usize), RecordF
 fn whole_in(alloc: Global, bytes: &[u8], size: usize) -> Result<(LogRecord, usize), RecordFault>
     requires room { size ≤ length bytes.now }
     requires length { 4 ≤ size }
-    ensures { Answers result (whole_in bytes.now size) }
+    ensures exact { Answers result (whole_in bytes.now size) }
+    ensures memory { result ≡ Err NoMemory → slice_index bytes.now 4 ≡ 3 }
 {
     let (fields, again) = bytes.split_at(size - 4);
     let (found, at) = fields_in(alloc, fields)?;
@@ -107,7 +111,8 @@ fn whole_in(alloc: Global, bytes: &[u8], size: usize) -> Result<(LogRecord, usiz
 // The record at the front, where the bytes begin with a length that is allowed and go on that far.
 #[tactic(auto, unfolding(crate::specs::Reading::record_in))]
 fn record_in(alloc: Global, bytes: &[u8]) -> Result<(LogRecord, usize), RecordFault>
-    ensures { Answers result (record_in bytes.now) }
+    ensures exact { Answers result (record_in bytes.now) }
+    ensures memory { result ≡ Err NoMemory → HasPatches bytes.now }
 {
     if bytes.len() < 4 {
         return Err(RecordFault::NotWhole);
@@ -129,12 +134,14 @@ fn record_in(alloc: Global, bytes: &[u8]) -> Result<(LogRecord, usize), RecordFa
 /// there, the first byte behind the body's last field. Only patches of pages take memory.
 pub fn read_record(alloc: Global, bytes: &[u8]) -> Result<(LogRecord, usize), RecordFault>
     ensures exact { Answers result (record_in bytes.now) }
+    // Only patches take memory.
+    ensures memory { result ≡ Err NoMemory → HasPatches bytes.now }
     // What is read is spelled so.
     ensures found { IfOk result (λ found. Found bytes.now found.0 found.1) }
     // What is spelled so is read, whatever follows it.
     ensures again { (r : LogRecord) (rest : List ℕ) → IsAllowed r → bytes.now ≡ record_bytes r ++ rest → Answers result (Ok (r, length (record_bytes r))) }
     // What a stop inside a write leaves of a record is not whole.
-    ensures cut { (r : LogRecord) (n : ℕ) → IsAllowed r → n < length (record_bytes r) → bytes.now ≡ take n (record_bytes r) → Answers result (Err NotWhole) }
+    ensures cut { (r : LogRecord) (n : ℕ) → IsAllowed r → n < length (record_bytes r) → bytes.now ≡ take n (record_bytes r) → result ≡ Err NotWhole }
 {
     record_in(alloc, bytes)
 }

@@ -1,15 +1,9 @@
 use Rattle.std.proofs.Common.{rules, ◌≡◌, ℕ, suc, ◌+◌, ◌-◌, ◌<◌, ◌≤◌, length, List, [], ◌∷◌, ◌++◌, Ok, Err, refl, sym, ap, ◌∙◌, arith}
-use Rattle.std.specs.Prelude.{Result}
-use Rattle.std.specs.Result.{IsErr, IsErrAnd}
-use Rattle.log_record.specs.declared.fault.RecordFault.{RecordFault}
 use Rattle.log_record.specs.Fields.{patch_at, patches_from}
 use Rattle.log_record.specs.Reading.{Answers}
+use Rattle.log_record.proofs.Steps.{answers_err}
 use Rattle.log_record.proofs.Patches.{joined, joined_none, joined_step, joined_err, joined_end}
 use Rattle.log_record.proofs.patch.patches_from.Goals as goal
-
-answers_err : {X : Type 0} (result read : Result X RecordFault) (e : RecordFault) → IsErr result → IsErrAnd result (λ f. f ≡ e) → Answers (Err e) read → Answers result read
-answers_err (Ok x) read e is a h = absurd cc
-answers_err (Err f) read e is a h = let same : f ≡ e = a in rw same h
 
 pub returns-in_err-patch : goal.returns-in_err-patch
 returns-in_err-patch c =
