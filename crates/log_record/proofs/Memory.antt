@@ -1,9 +1,7 @@
 -- No field by itself is told as want of memory, and the kind that has patches is 3.
-use Rattle.std.proofs.Common.{◌≡◌, ℕ, ◌+◌, ◌<◌, ◌≤◌, Bool, true, false, cond, List, [], ◌∷◌, ◌++◌, length, take, drop, get_or, Option, Some, None, Result, Ok, Err, refl, sym, ap, ◌∙◌, arith, inl, inr}
+use Rattle.std.proofs.Common.{◌≡◌, ℕ, ◌+◌, Bool, true, false, cond, List, length, take, drop, get_or, Option, Some, None, Result, Ok, Err, ap}
 use Rattle.std.specs.Prelude.{◌≢◌, ◌==◌, nat_lt}
-use Rattle.std.proofs.lemmas.Bool.{cases_lt}
-use Rattle.std.proofs.lemmas.List.{get_or-drop, get_or-take, get_or_past, length-take}
-use Rattle.ds_base.specs.declared.names.Place.{Place}
+use Rattle.std.proofs.lemmas.List.{get_or-drop}
 use Rattle.log_record.specs.declared.fault.RecordFault.{RecordFault}
 use Rattle.log_record.specs.declared.fault.RecordFault.TheVariants as fault
 use Rattle.log_record.specs.declared.kind.Kind.TheVariants as kind

@@ -1,8 +1,8 @@
-use Rattle.std.proofs.Common.{rules, ◌≡◌, ℕ, suc, ◌+◌, ◌-◌, ◌<◌, ◌≤◌, length, List, [], ◌∷◌, ◌++◌, Ok, Err, refl, sym, ap, ◌∙◌, arith}
-use Rattle.log_record.specs.Fields.{patch_at, patches_from}
+use Rattle.std.proofs.Common.{◌≡◌, suc, ◌+◌, ◌-◌, Err, sym, ◌∙◌, arith}
+use Rattle.log_record.specs.Fields.{patches_from}
 use Rattle.log_record.specs.Reading.{Answers}
 use Rattle.log_record.proofs.Steps.{answers_err}
-use Rattle.log_record.proofs.Patches.{joined, joined_none, joined_step, joined_err, joined_end}
+use Rattle.log_record.proofs.Patches.{joined_none, joined_step, joined_err, joined_end}
 use Rattle.log_record.proofs.patch.patches_from.Goals as goal
 
 pub returns-in_err-patch : goal.returns-in_err-patch

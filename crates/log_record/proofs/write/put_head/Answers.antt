@@ -1,4 +1,4 @@
-use Rattle.std.proofs.Common.{append_assoc, refl}
+use Rattle.std.proofs.Common.{append_assoc}
 use Rattle.log_record.proofs.write.put_head.Goals as goal
 
 pub returns-clause-front : goal.returns-clause-front
