@@ -1,101 +1,204 @@
 -- Whole records: what is read is their spelling, their spelling is read again, and a front of it is not whole.
-use Rattle.std.proofs.Common.{lit<, lit≤, ◌≡◌, ℕ, ◌+◌, ◌-◌, ◌^◌, ◌<◌, ◌≤◌, Bool, true, false, not, cond, List, [], ◌∷◌, ◌++◌, length, Option, Some, None, Result, Ok, Err, take, drop, refl, sym, ap, subst, ◌∙◌, append_assoc, arith, inl, inr}
-use Rattle.std.specs.Prelude.{IfOk, ◌≢◌, ◌==◌, nat_le, nat_lt}
+use Rattle.std.proofs.Common.{lit<, lit≤, ◌≡◌, ℕ, ◌+◌, ◌-◌, ◌^◌, ◌<◌, ◌≤◌, Bool, true, false, not, cond, List, [], ◌∷◌, ◌++◌, length, Option, Some, None, Result, Ok, Err, get_or, take, drop, refl, sym, ap, subst, ◌∙◌, append_assoc, arith, inl, inr}
+use Rattle.std.specs.Prelude.{IfOk, ◌==◌, nat_le, nat_lt}
+use Rattle.std.specs.List.{flat_map, AllByRecursion}
 use Rattle.std.specs.Int.{w32, to_be_bytes, bytes_high_first}
 use Rattle.std.proofs.Math.Seq.{take-add}
 use Rattle.std.proofs.lemmas.Bool.{cases_lt, cases_Bool, eqb-true, eq-eqb, leb-true, le-leb, ltb-false, lt-ltb, le-ltb, not-false, and_parts, and_from}
-use Rattle.std.proofs.lemmas.List.{append-nil, length-append, length-take, length-drop, take-take, take-append-drop, take_at, drop_at, nil_from_length}
+use Rattle.std.proofs.lemmas.List.{append-nil, length-append, length-take, length-drop, get_or_past, take-take, take-append-drop, take_at, drop_at, nil_from_length}
 use Rattle.byteorder.specs.Endian.{big_number}
 use Rattle.byteorder.specs.Numbers.{big_from-take, big_number-reads_back}
 use Rattle.ds_model.specs.declared.log.LogRecord.{LogRecord}
+use Rattle.ds_base.specs.Ids.{IsLrsn}
+use Rattle.page_format.specs.declared.patch.Patch.{Patch}
+use Rattle.ds_model.specs.declared.log.RowChange.{RowChange}
 use Rattle.ds_model.specs.declared.log.Body.{Body}
 use Rattle.ds_model.specs.declared.log.Body.TheVariants as body
-use Rattle.ds_model.specs.RecordBytes.{state_bytes, kind_of, body_bytes, length_of, lrsn_bytes, record_bytes, StateIsAllowed, BodyIsAllowed, IsAllowed}
+use Rattle.ds_model.specs.RecordBytes.{state_bytes, change_bytes, patch_bytes, kind_of, body_bytes, length_of, lrsn_bytes, record_bytes, patches_limit, is_of_tran, TranFits, StateIsAllowed, ChangeIsAllowed, PatchIsAllowed, PatchesAreAllowed, BodyIsAllowed, IsAllowed}
 use Rattle.log_record.specs.declared.fault.RecordFault.{RecordFault}
 use Rattle.log_record.specs.declared.fault.RecordFault.TheVariants as fault
 use Rattle.log_record.specs.declared.kind.Kind.{Kind}
 use Rattle.log_record.specs.declared.kind.Kind.TheVariants as kind
-use Rattle.log_record.specs.Fields.{◌>>=◌, kind_of_number, has_tran, kind_at, version_at, lrsn_at, tran_at, change_at, body_at}
-use Rattle.log_record.specs.Reading.{fields_in, ends_at, whole_in, is_size, record_in, Found}
+use Rattle.log_record.specs.Fields.{◌>>=◌, kind_of_number, has_tran, kind_at, version_at, lrsn_at, tran_at, offset_at, change_at, patches_at, compensation_at, body_at}
+use Rattle.log_record.specs.Reading.{fields_in, ends_at, whole_in, is_size, record_in, Found, Answers, HasPatches}
 use Rattle.log_record.proofs.Numbers.{IsBytes, IsBytes-take, IsBytes-drop, bytes_back, one_byte}
 use Rattle.log_record.proofs.Steps.{bind_ok, passed, ok_is, Takes, Takes-then, Takes-none, field_takes, number_takes, Left, Left-as, Reads, field_again, number_again}
 use Rattle.log_record.proofs.Changes.{not-zero, zero-not, change_takes, change_again}
+use Rattle.log_record.proofs.Patches.{patches_takes, patches_again}
 
 -- ---- kinds
 
-abbrev number_of : Kind → ℕ
+abbrev pub number_of : Kind → ℕ
 number_of kind.RowChange = 1
+number_of kind.Compensation = 2
+number_of kind.System = 3
 number_of kind.Commit = 4
+number_of kind.Ended = 5
+number_of kind.Checkpoint = 6
+number_of kind.RestartEnd = 7
+
+named : (n m : ℕ) (a : Kind) (other : Option Kind) (k : Kind) → number_of a ≡ m → (other ≡ Some k → n ≡ number_of k) → cond (n == m) (Some a) other ≡ Some k → n ≡ number_of k
+named n m a other k is next e =
+    elim (cases_Bool (n == m)) [
+      | inl same ↦ let s : a ≡ k = let h = rw same at e in cc in eqb-true n m same ∙ sym is ∙ ap number_of s
+      | inr differs ↦ next (rw differs at e)
+    ]
 
 number_is : (n : ℕ) (k : Kind) → kind_of_number n ≡ Some k → n ≡ number_of k
-number_is n k e =
-    elim (cases_Bool (n == 1)) [
-      | inl a ↦ let s : kind.RowChange ≡ k = let h = rw a at e in cc in subst (λ (z : Kind). n ≡ number_of z) s (eqb-true n 1 a)
-      | inr a ↦
-          let h = rw a at e in
-          elim (cases_Bool (n == 4)) [
-            | inl b ↦ let s : kind.Commit ≡ k = let g = rw b at h in cc in subst (λ (z : Kind). n ≡ number_of z) s (eqb-true n 4 b)
-            | inr b ↦ let g = rw b at h in absurd cc
-          ]
-    ]
+number_is n k =
+    named n 1 kind.RowChange _ k refl
+    (named n 2 kind.Compensation _ k refl
+    (named n 3 kind.System _ k refl
+    (named n 4 kind.Commit _ k refl
+    (named n 5 kind.Ended _ k refl
+    (named n 6 kind.Checkpoint _ k refl
+    (named n 7 kind.RestartEnd None k refl (λ e. absurd cc)))))))
 
 number_small : (k : Kind) → number_of k < 256
 number_small kind.RowChange = lit< tt
+number_small kind.Compensation = lit< tt
+number_small kind.System = lit< tt
 number_small kind.Commit = lit< tt
+number_small kind.Ended = lit< tt
+number_small kind.Checkpoint = lit< tt
+number_small kind.RestartEnd = lit< tt
 
-kind_takes : (fields : List ℕ) (at : ℕ) (k : Kind) (next : ℕ) → IsBytes fields → kind_at fields at ≡ Ok (k, next) → Takes fields at (number_of k ∷ []) next
+pub kind_takes : (fields : List ℕ) (at : ℕ) (k : Kind) (next : ℕ) → IsBytes fields → kind_at fields at ≡ Ok (k, next) → Takes fields at (number_of k ∷ []) next
 kind_takes fields at k next fits e =
     let t = field_takes 1 (λ bytes. kind_of_number (big_number 1 bytes)) fields at k next fits e in
     let n-is = number_is (big_number 1 t.text) k t.means in
     let text-is : t.text ≡ bytes_high_first 1 (number_of k) = sym (bytes_back 1 t.text t.wide t.bytes) ∙ ap (bytes_high_first 1) n-is in
     subst (λ (text : List ℕ). Takes fields at text next) (text-is ∙ one_byte (number_of k) (number_small k)) t.takes
 
+number_read : (k : Kind) → kind_of_number (big_number 1 (number_of k ∷ [])) ≡ Some k
+number_read kind.RowChange = refl
+number_read kind.Compensation = refl
+number_read kind.System = refl
+number_read kind.Commit = refl
+number_read kind.Ended = refl
+number_read kind.Checkpoint = refl
+number_read kind.RestartEnd = refl
+
 kind_again : (fields : List ℕ) (at : ℕ) (k : Kind) (rest : List ℕ) → Left fields at (number_of k ∷ rest) → Reads (kind_at fields at) k fields rest
-kind_again fields at kind.RowChange rest l = field_again 1 (λ bytes. kind_of_number (big_number 1 bytes)) fields at (1 ∷ []) rest kind.RowChange refl refl l
-kind_again fields at kind.Commit rest l = field_again 1 (λ bytes. kind_of_number (big_number 1 bytes)) fields at (4 ∷ []) rest kind.Commit refl refl l
+kind_again fields at k rest l = field_again 1 (λ bytes. kind_of_number (big_number 1 bytes)) fields at (number_of k ∷ []) rest k refl (number_read k) l
 
 -- ---- bodies
 
-body_takes : (k : Kind) (fields : List ℕ) (at : ℕ) (b : Body) (next : ℕ) → IsBytes fields → at ≤ length fields → body_at k fields at ≡ Ok (b, next) → Takes fields at (body_bytes b) next × (number_of k ≡ kind_of b) × BodyIsAllowed b
-unfolding body_at
-body_takes kind.RowChange fields at b next fits le e =
-    let c = bind_ok (change_at fields at) (λ change. Ok (body.RowChange change.0, change.1)) (b, next) e in
-    let t = change_takes fields at c.0.0 c.0.1 fits c.1 in
-    subst (λ (z : Body × ℕ). Takes fields at (body_bytes z.0) z.1 × (1 ≡ kind_of z.0) × BodyIsAllowed z.0) (ok_is (body.RowChange c.0.0, c.0.1) (b, next) c.2) (t.0, refl, t.1)
-body_takes kind.Commit fields at b next fits le e =
-    subst (λ (z : Body × ℕ). Takes fields at (body_bytes z.0) z.1 × (4 ≡ kind_of z.0) × BodyIsAllowed z.0) (ok_is (body.Commit, at) (b, next) e) (Takes-none fields at le, refl, tt)
-
 abbrev kind_for : Body → Kind
 kind_for (body.RowChange c) = kind.RowChange
+kind_for (body.Compensation c undone) = kind.Compensation
+kind_for (body.System ps) = kind.System
 kind_for body.Commit = kind.Commit
+kind_for body.Ended = kind.Ended
+kind_for (body.Checkpoint offset) = kind.Checkpoint
+kind_for body.RestartEnd = kind.RestartEnd
 
 kind_for-is : (b : Body) → number_of (kind_for b) ≡ kind_of b
 kind_for-is (body.RowChange c) = refl
+kind_for-is (body.Compensation c undone) = refl
+kind_for-is (body.System ps) = refl
 kind_for-is body.Commit = refl
+kind_for-is body.Ended = refl
+kind_for-is (body.Checkpoint offset) = refl
+kind_for-is body.RestartEnd = refl
+
+kind_for-tran : (b : Body) → has_tran (kind_for b) ≡ is_of_tran b
+kind_for-tran (body.RowChange c) = refl
+kind_for-tran (body.Compensation c undone) = refl
+kind_for-tran (body.System ps) = refl
+kind_for-tran body.Commit = refl
+kind_for-tran body.Ended = refl
+kind_for-tran (body.Checkpoint offset) = refl
+kind_for-tran body.RestartEnd = refl
+
+-- this body stands from one offset to the next, and has the kind
+record Stands (k : Kind) (fields : List ℕ) (at : ℕ) (b : Body) (next : ℕ) : Type 0 where
+  takes : Takes fields at (body_bytes b) next
+  kind_is : k ≡ kind_for b
+  allowed : BodyIsAllowed b
+
+compensation_takes : (fields : List ℕ) (at : ℕ) (b : Body) (next : ℕ) → IsBytes fields → compensation_at fields at ≡ Ok (b, next) → Stands kind.Compensation fields at b next
+unfolding compensation_at
+compensation_takes fields at b next fits e =
+    let c = bind_ok (change_at fields at) (λ change. lrsn_at fields change.1 >>= λ undone. Ok (body.Compensation change.0 undone.0, undone.1)) (b, next) e in
+    let u = bind_ok (lrsn_at fields c.0.1) (λ undone. Ok (body.Compensation c.0.0 undone.0, undone.1)) (b, next) c.2 in
+    let change = change_takes fields at c.0.0 c.0.1 fits c.1 in
+    let undone = number_takes 6 (λ n. true) fields c.0.1 u.0.0 u.0.1 fits u.1 in
+    let whole = Takes-then fields at (change_bytes c.0.0) c.0.1 (lrsn_bytes u.0.0) u.0.1 change.0 undone.0 in
+    subst (λ (z : Body × ℕ). Stands kind.Compensation fields at z.0 z.1) (ok_is (body.Compensation c.0.0 u.0.0, u.0.1) (b, next) u.2)
+    (record { takes = whole; kind_is = refl; allowed = (change.1, undone.1) })
+
+-- the patches are short where the body begins behind the head and the record isn't too long
+system_allowed : (fields : List ℕ) (at : ℕ) (ps : List Patch) (next : ℕ) → 18 ≤ at → length fields ≤ 16380 → Takes fields at (length ps ∷ flat_map patch_bytes ps) next → 1 ≤ length ps → length ps ≤ patches_limit → AllByRecursion PatchIsAllowed ps → PatchesAreAllowed ps
+system_allowed fields at ps next lo hi t from to each = record { some = from; few = to; each = each; short = omega (arith, t.ends, t.within) }
+
+body_takes : (k : Kind) (fields : List ℕ) (at : ℕ) (b : Body) (next : ℕ) → IsBytes fields → 18 ≤ at → at ≤ length fields → length fields ≤ 16380 → body_at k fields at ≡ Ok (b, next) → Stands k fields at b next
+unfolding body_at
+body_takes kind.RowChange fields at b next fits lo le hi e =
+    let c = bind_ok (change_at fields at) (λ change. Ok (body.RowChange change.0, change.1)) (b, next) e in
+    let t = change_takes fields at c.0.0 c.0.1 fits c.1 in
+    subst (λ (z : Body × ℕ). Stands kind.RowChange fields at z.0 z.1) (ok_is (body.RowChange c.0.0, c.0.1) (b, next) c.2) (record { takes = t.0; kind_is = refl; allowed = t.1 })
+body_takes kind.Compensation fields at b next fits lo le hi e = compensation_takes fields at b next fits e
+body_takes kind.System fields at b next fits lo le hi e =
+    let p = bind_ok (patches_at fields at) (λ patches. Ok (body.System patches.0, patches.1)) (b, next) e in
+    let t = patches_takes fields at p.0.0 p.0.1 fits p.1 in
+    subst (λ (z : Body × ℕ). Stands kind.System fields at z.0 z.1) (ok_is (body.System p.0.0, p.0.1) (b, next) p.2)
+    (record { takes = t.0; kind_is = refl; allowed = system_allowed fields at p.0.0 p.0.1 lo hi t.0 t.1 t.2 t.3 })
+body_takes kind.Commit fields at b next fits lo le hi e =
+    subst (λ (z : Body × ℕ). Stands kind.Commit fields at z.0 z.1) (ok_is (body.Commit, at) (b, next) e) (record { takes = Takes-none fields at le; kind_is = refl; allowed = tt })
+body_takes kind.Ended fields at b next fits lo le hi e =
+    subst (λ (z : Body × ℕ). Stands kind.Ended fields at z.0 z.1) (ok_is (body.Ended, at) (b, next) e) (record { takes = Takes-none fields at le; kind_is = refl; allowed = tt })
+body_takes kind.Checkpoint fields at b next fits lo le hi e =
+    let o = bind_ok (offset_at fields at) (λ offset. Ok (body.Checkpoint offset.0, offset.1)) (b, next) e in
+    let t = number_takes 8 (λ n. true) fields at o.0.0 o.0.1 fits o.1 in
+    subst (λ (z : Body × ℕ). Stands kind.Checkpoint fields at z.0 z.1) (ok_is (body.Checkpoint o.0.0, o.0.1) (b, next) o.2) (record { takes = t.0; kind_is = refl; allowed = t.1 })
+body_takes kind.RestartEnd fields at b next fits lo le hi e =
+    subst (λ (z : Body × ℕ). Stands kind.RestartEnd fields at z.0 z.1) (ok_is (body.RestartEnd, at) (b, next) e) (record { takes = Takes-none fields at le; kind_is = refl; allowed = tt })
+
+compensation_again : (fields : List ℕ) (at : ℕ) (c : RowChange) (undone : ℕ) (rest : List ℕ) → ChangeIsAllowed c → IsLrsn undone → Left fields at ((change_bytes c ++ lrsn_bytes undone) ++ rest)
+    → Reads (compensation_at fields at) (body.Compensation c undone) fields rest
+unfolding compensation_at
+compensation_again fields at c undone rest h is l =
+    let a = change_again fields at c (lrsn_bytes undone ++ rest) h (Left-as fields at _ _ (append_assoc (change_bytes c) (lrsn_bytes undone) rest) l) in
+    let u = number_again 6 (λ n. true) fields a.next undone rest is refl a.left in
+    record { next = u.next; is = rw (a.is, u.is) refl; left = u.left }
 
 body_again : (fields : List ℕ) (at : ℕ) (b : Body) (rest : List ℕ) → BodyIsAllowed b → Left fields at (body_bytes b ++ rest) → Reads (body_at (kind_for b) fields at) b fields rest
 unfolding body_at
 body_again fields at (body.RowChange c) rest h l =
     let a = change_again fields at c rest h l in
     record { next = a.next; is = rw a.is refl; left = a.left }
+body_again fields at (body.Compensation c undone) rest h l = compensation_again fields at c undone rest h.0 h.1 l
+body_again fields at (body.System ps) rest h l =
+    let a = patches_again fields at ps rest h.some h.few h.each l in
+    record { next = a.next; is = rw a.is refl; left = a.left }
 body_again fields at body.Commit rest h l = record { next = at; is = refl; left = l }
+body_again fields at body.Ended rest h l = record { next = at; is = refl; left = l }
+body_again fields at (body.Checkpoint offset) rest h l =
+    let a = number_again 8 (λ n. true) fields at offset rest h refl l in
+    record { next = a.next; is = rw a.is refl; left = a.left }
+body_again fields at body.RestartEnd rest h l = record { next = at; is = refl; left = l }
 
 -- ---- from the kind to the body
 
 abbrev middle : LogRecord → List ℕ
 middle r = kind_of r.body ∷ 1 ∷ lrsn_bytes r.lrsn ++ lrsn_bytes r.tran ++ body_bytes r.body
 
-tran_some : (k : Kind) (n : ℕ) → (cond (has_tran k) (not (n == 0)) (n == 0)) ≡ true → n ≢ 0
-tran_some kind.RowChange n e = not-zero n e
-tran_some kind.Commit n e = not-zero n e
+-- the test of a transaction's number
+abbrev tran_test : Bool → ℕ → Bool
+tran_test b n = cond b (not (n == 0)) (n == 0)
 
-tran_ok : (k : Kind) (n : ℕ) → n ≢ 0 → (cond (has_tran k) (not (n == 0)) (n == 0)) ≡ true
-tran_ok kind.RowChange n h = zero-not n h
-tran_ok kind.Commit n h = zero-not n h
+tran_true : (b : Bool) (n : ℕ) → tran_test b n ≡ true → TranFits b n
+tran_true true n e = not-zero n e
+tran_true false n e = eqb-true n 0 e
 
-fields_takes : (fields : List ℕ) (r : LogRecord) (next : ℕ) → IsBytes fields → fields_in fields ≡ Ok (r, next) → Takes fields 4 (middle r) next × IsAllowed r
+tran_from : (b : Bool) (n : ℕ) → TranFits b n → tran_test b n ≡ true
+tran_from true n h = zero-not n h
+tran_from false n h = eq-eqb n 0 h
+
+fields_takes : (fields : List ℕ) (r : LogRecord) (next : ℕ) → IsBytes fields → length fields ≤ 16380 → fields_in fields ≡ Ok (r, next) → Takes fields 4 (middle r) next × IsAllowed r
 unfolding fields_in
-fields_takes fields r next fits e =
+fields_takes fields r next fits hi e =
     let k = bind_ok (kind_at fields 4) (λ kind. version_at fields kind.1 >>= λ version. lrsn_at fields version.1 >>= λ lrsn. tran_at kind.0 fields lrsn.1 >>= λ tran. body_at kind.0 fields tran.1 >>= λ body. Ok (record { lrsn = lrsn.0; tran = tran.0; body = body.0 }, body.1)) (r, next) e in
     let v = bind_ok (version_at fields k.0.1) (λ version. lrsn_at fields version.1 >>= λ lrsn. tran_at k.0.0 fields lrsn.1 >>= λ tran. body_at k.0.0 fields tran.1 >>= λ body. Ok (record { lrsn = lrsn.0; tran = tran.0; body = body.0 }, body.1)) (r, next) k.2 in
     let l = bind_ok (lrsn_at fields v.0.1) (λ lrsn. tran_at k.0.0 fields lrsn.1 >>= λ tran. body_at k.0.0 fields tran.1 >>= λ body. Ok (record { lrsn = lrsn.0; tran = tran.0; body = body.0 }, body.1)) (r, next) v.2 in
@@ -104,16 +207,19 @@ fields_takes fields r next fits e =
     let kind_t = kind_takes fields 4 k.0.0 k.0.1 fits k.1 in
     let version_t = number_takes 1 (λ n. n == 1) fields k.0.1 v.0.0 v.0.1 fits v.1 in
     let lrsn_t = number_takes 6 (λ n. true) fields v.0.1 l.0.0 l.0.1 fits l.1 in
-    let tran_t = number_takes 6 (λ n. cond (has_tran k.0.0) (not (n == 0)) (n == 0)) fields l.0.1 t.0.0 t.0.1 fits t.1 in
-    let body_t = body_takes k.0.0 fields t.0.1 b.0.0 b.0.1 fits tran_t.0.within b.1 in
+    let tran_t = number_takes 6 (tran_test (has_tran k.0.0)) fields l.0.1 t.0.0 t.0.1 fits t.1 in
+    let lo : 18 ≤ t.0.1 = omega (arith, kind_t.ends, version_t.0.ends, lrsn_t.0.ends, tran_t.0.ends) in
+    let body_t = body_takes k.0.0 fields t.0.1 b.0.0 b.0.1 fits lo tran_t.0.within hi b.1 in
+    let number-is : number_of k.0.0 ≡ kind_of b.0.0 = ap number_of body_t.kind_is ∙ kind_for-is b.0.0 in
+    let tran-is : has_tran k.0.0 ≡ is_of_tran b.0.0 = ap has_tran body_t.kind_is ∙ kind_for-tran b.0.0 in
     let made : LogRecord = record { lrsn = l.0.0; tran = t.0.0; body = b.0.0 } in
     let one : Takes fields k.0.1 (1 ∷ []) v.0.1 = subst (λ (n : ℕ). Takes fields k.0.1 (bytes_high_first 1 n) v.0.1) (eqb-true _ _ version_t.2) version_t.0 in
-    let first : Takes fields 4 (kind_of b.0.0 ∷ []) k.0.1 = subst (λ (n : ℕ). Takes fields 4 (n ∷ []) k.0.1) body_t.1 kind_t in
+    let first : Takes fields 4 (kind_of b.0.0 ∷ []) k.0.1 = subst (λ (n : ℕ). Takes fields 4 (n ∷ []) k.0.1) number-is kind_t in
     let head : Takes fields 4 (kind_of b.0.0 ∷ 1 ∷ []) v.0.1 = Takes-then fields 4 (kind_of b.0.0 ∷ []) k.0.1 (1 ∷ []) v.0.1 first one in
     let numbered : Takes fields 4 (kind_of b.0.0 ∷ 1 ∷ lrsn_bytes l.0.0) l.0.1 = Takes-then fields 4 (kind_of b.0.0 ∷ 1 ∷ []) v.0.1 (lrsn_bytes l.0.0) l.0.1 head lrsn_t.0 in
     let owned = Takes-then fields 4 (kind_of b.0.0 ∷ 1 ∷ lrsn_bytes l.0.0) l.0.1 (lrsn_bytes t.0.0) t.0.1 numbered tran_t.0 in
-    let whole : Takes fields 4 (middle made) b.0.1 = Takes-then fields 4 (kind_of b.0.0 ∷ 1 ∷ lrsn_bytes l.0.0 ++ lrsn_bytes t.0.0) t.0.1 (body_bytes b.0.0) b.0.1 owned body_t.0 in
-    let allowed : IsAllowed made = record { lrsn_in = lrsn_t.1; tran_some = tran_some k.0.0 t.0.0 tran_t.2; tran_in = tran_t.1; body_is = body_t.2 } in
+    let whole : Takes fields 4 (middle made) b.0.1 = Takes-then fields 4 (kind_of b.0.0 ∷ 1 ∷ lrsn_bytes l.0.0 ++ lrsn_bytes t.0.0) t.0.1 (body_bytes b.0.0) b.0.1 owned body_t.takes in
+    let allowed : IsAllowed made = record { lrsn_in = lrsn_t.1; tran_fits = subst (λ (z : Bool). TranFits z t.0.0) tran-is (tran_true (has_tran k.0.0) t.0.0 tran_t.2); tran_in = tran_t.1; body_is = body_t.allowed } in
     subst (λ (z : LogRecord × ℕ). Takes fields 4 (middle z.0) z.1 × IsAllowed z.0) (ok_is (made, b.0.1) (r, next) b.2) (whole, allowed)
 
 fields_again : (fields : List ℕ) (r : LogRecord) → IsAllowed r → Left fields 4 (middle r) → Reads (fields_in fields) r fields []
@@ -128,7 +234,7 @@ fields_again fields r h l =
     let a = kind_again fields 4 k (1 ∷ (lrsn_bytes r.lrsn ++ (lrsn_bytes r.tran ++ rest))) (Left-as fields 4 _ _ begins l) in
     let v = number_again 1 (λ n. n == 1) fields a.next 1 (lrsn_bytes r.lrsn ++ (lrsn_bytes r.tran ++ rest)) (lit< tt) refl a.left in
     let n = number_again 6 (λ n. true) fields v.next r.lrsn (lrsn_bytes r.tran ++ rest) h.lrsn_in refl v.left in
-    let t = number_again 6 (λ n. cond (has_tran k) (not (n == 0)) (n == 0)) fields n.next r.tran rest h.tran_in (tran_ok k r.tran h.tran_some) n.left in
+    let t = number_again 6 (tran_test (has_tran k)) fields n.next r.tran rest h.tran_in (tran_from (has_tran k) r.tran (subst (λ (z : Bool). TranFits z r.tran) (sym (kind_for-tran r.body)) h.tran_fits)) n.left in
     let b = body_again fields t.next r.body [] h.body_is t.left in
     record { next = b.next; is = rw (a.is, v.is, n.is, t.is, b.is) refl; left = b.left }
 
@@ -151,15 +257,15 @@ whole_parts : (r : LogRecord) (rest : List ℕ) → record_bytes r ++ rest ≡ (
 unfolding record_bytes
 whole_parts r rest = append_assoc (to_be_bytes w32 (length_of r.body) ++ middle r) (to_be_bytes w32 (length_of r.body)) rest
 
-whole_takes : (bytes : List ℕ) (size : ℕ) (r : LogRecord) (n : ℕ) → IsBytes bytes → 22 ≤ size → size ≤ length bytes → big_number 4 bytes ≡ size → whole_in bytes size ≡ Ok (r, n) → Found bytes r n
+whole_takes : (bytes : List ℕ) (size : ℕ) (r : LogRecord) (n : ℕ) → IsBytes bytes → 22 ≤ size → size ≤ 16384 → size ≤ length bytes → big_number 4 bytes ≡ size → whole_in bytes size ≡ Ok (r, n) → Found bytes r n
 unfolding whole_in record_bytes
-whole_takes bytes size r n fits long within first e =
+whole_takes bytes size r n fits long short within first e =
     let fields = take (size - 4) bytes in
     let f = bind_ok (fields_in fields) (λ found. cond (ends_at bytes size found.1) (Ok (found.0, size)) (Err (fault.Bad found.1))) (r, n) e in
     let p = passed (ends_at bytes size f.0.1) (fault.Bad f.0.1) (f.0.0, size) (r, n) f.2 in
     let end = ended bytes size f.0.1 p.0 in
-    let t = fields_takes fields f.0.0 f.0.1 (IsBytes-take (size - 4) bytes fits) f.1 in
     let count : length fields ≡ size - 4 = omega (arith, length-take (size - 4) bytes) in
+    let t = fields_takes fields f.0.0 f.0.1 (IsBytes-take (size - 4) bytes fits) (omega arith) f.1 in
     let nothing : drop f.0.1 fields ≡ [] = nil_from_length (drop f.0.1 fields) (omega (arith, length-drop f.0.1 fields, end.0, count)) in
     let body-is : drop 4 fields ≡ middle f.0.0 = t.0.parts ∙ ap (λ (x : List ℕ). middle f.0.0 ++ x) nothing ∙ append-nil (middle f.0.0) in
     let size-is : size ≡ length_of f.0.0.body = omega (arith, t.0.ends, end.0) in
@@ -188,7 +294,7 @@ record_takes bytes r n fits e =
     let b = otherwise (not (is_size size)) (fault.Bad 0) _ (r, n) a.1 in
     let c = otherwise (nat_lt (length bytes) size) fault.NotWhole (whole_in bytes size) (r, n) b.1 in
     let s = and_parts (nat_le 22 size) (nat_le size 16384) (not-false (is_size size) b.0) in
-    whole_takes bytes size r n fits (leb-true _ _ s.0) (ltb-false _ _ c.0) refl c.1
+    whole_takes bytes size r n fits (leb-true _ _ s.0) (leb-true _ _ s.1) (ltb-false _ _ c.0) refl c.1
 
 -- ---- what is spelled
 
@@ -196,9 +302,17 @@ state_short : (o : Option (List ℕ)) → StateIsAllowed o → length (state_byt
 state_short None h = lit≤ tt
 state_short (Some v) h = omega (arith, h.0)
 
-body_short : (b : Body) → BodyIsAllowed b → length (body_bytes b) ≤ 219
-body_short (body.RowChange c) h = omega (arith, state_short c.before h.before_is, state_short c.after h.after_is, length-append (state_bytes c.before) (state_bytes c.after))
+change_short : (c : RowChange) → ChangeIsAllowed c → length (change_bytes c) ≤ 219
+change_short c h = omega (arith, state_short c.before h.before_is, state_short c.after h.after_is, length-append (state_bytes c.before) (state_bytes c.after))
+
+body_short : (b : Body) → BodyIsAllowed b → length (body_bytes b) ≤ 16362
+body_short (body.RowChange c) h = omega (arith, change_short c h)
+body_short (body.Compensation c undone) h = omega (arith, change_short c h.0, length-append (change_bytes c) (lrsn_bytes undone))
+body_short (body.System ps) h = omega (arith, h.short)
 body_short body.Commit h = lit≤ tt
+body_short body.Ended h = lit≤ tt
+body_short (body.Checkpoint offset) h = lit≤ tt
+body_short body.RestartEnd h = lit≤ tt
 
 whole_again : (r : LogRecord) (rest : List ℕ) → IsAllowed r → whole_in (record_bytes r ++ rest) (length_of r.body) ≡ Ok (r, length_of r.body)
 unfolding whole_in
@@ -240,6 +354,10 @@ record_again r rest h =
     let not_cut : nat_lt (length bytes) n ≡ false = le-ltb _ _ (omega (arith, len)) in
     rw (not_few, size, allowed_size r h, not_cut, whole_again r rest h, whole_length r) refl
 
+-- so is the number at the front of a front of it
+front_size : (r : LogRecord) (n : ℕ) → IsAllowed r → 4 ≤ n → big_number 4 (take n (record_bytes r)) ≡ length_of r.body
+front_size r n h enough = big_from-take 0 4 n (record_bytes r) enough ∙ ap (big_number 4) (sym (append-nil (record_bytes r))) ∙ spelled_size r [] h
+
 -- a front of a spelling is not whole
 pub record_cut : (r : LogRecord) (n : ℕ) → IsAllowed r → n < length (record_bytes r) → record_in (take n (record_bytes r)) ≡ Err fault.NotWhole
 unfolding record_in
@@ -250,12 +368,29 @@ record_cut r n h lt =
       | inl few ↦ let is_few : nat_lt (length bytes) 4 ≡ true = lt-ltb _ _ (omega (arith, len)) in rw is_few refl
       | inr enough ↦
           let not_few : nat_lt (length bytes) 4 ≡ false = le-ltb _ _ (omega (arith, len)) in
-          let size : big_number 4 bytes ≡ length_of r.body =
-          big_from-take 0 4 n (record_bytes r) enough ∙ ap (big_number 4) (sym (append-nil (record_bytes r))) ∙ spelled_size r [] h in
+          let size : big_number 4 bytes ≡ length_of r.body = front_size r n h enough in
           let is_cut : nat_lt (length bytes) (length_of r.body) ≡ true = lt-ltb _ _ (omega (arith, len, whole_length r)) in
           rw (not_few, size, allowed_size r h, is_cut) refl
     ]
 
-pub is_found : (bytes : List ℕ) (result : Result (LogRecord × ℕ) RecordFault) → IsBytes bytes → result ≡ record_in bytes → IfOk result (λ found. Found bytes found.0 found.1)
-is_found bytes (Ok found) fits e = record_takes bytes found.0 found.1 fits (sym e)
+pub is_found : (bytes : List ℕ) (result : Result (LogRecord × ℕ) RecordFault) → IsBytes bytes → Answers result (record_in bytes) → IfOk result (λ found. Found bytes found.0 found.1)
+is_found bytes (Ok found) fits e = record_takes bytes found.0 found.1 fits e
 is_found bytes (Err fault) fits e = tt
+
+-- a whole record of kind 3 is not cut short
+pub is_cut : (bytes : List ℕ) (result : Result (LogRecord × ℕ) RecordFault) (r : LogRecord) (n : ℕ) → IsAllowed r → n < length (record_bytes r) → bytes ≡ take n (record_bytes r) → Answers result (record_in bytes) → (result ≡ Err fault.NoMemory → HasPatches bytes) → result ≡ Err fault.NotWhole
+is_cut bytes (Ok found) r n h lt e a m = let cut : record_in bytes ≡ Err fault.NotWhole = ap record_in e ∙ record_cut r n h lt in cc
+is_cut bytes (Err fault.NotWhole) r n h lt e a m = refl
+is_cut bytes (Err (fault.Bad at)) r n h lt e a m =
+    let cut : record_in bytes ≡ Err fault.NotWhole = ap record_in e ∙ record_cut r n h lt in
+    let other : record_in bytes ≡ Err (fault.Bad at) = a (λ s. cc) in
+    cc
+is_cut bytes (Err fault.NoMemory) r n h lt e a m =
+    let wants = m refl in
+    let len : length bytes ≡ n = omega (arith, ap length e, length-take n (record_bytes r)) in
+    absurd (elim (cases_lt 4 n) as (λ _. ⊥) [
+      | inl more ↦
+          let size : big_number 4 bytes ≡ length_of r.body = ap (big_number 4) e ∙ front_size r n h (omega arith) in
+          omega (arith, wants.whole, size, len, lt, whole_length r)
+      | inr few ↦ let none : get_or bytes 4 0 ≡ 0 = get_or_past bytes 4 0 (omega arith) in omega (arith, none, wants.kind)
+    ])

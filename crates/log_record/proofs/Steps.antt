@@ -8,6 +8,8 @@ use Rattle.byteorder.specs.Endian.{big_number}
 use Rattle.byteorder.specs.Numbers.{big_from-lt, length-bytes_high_first}
 use Rattle.log_record.specs.declared.fault.RecordFault.{RecordFault}
 use Rattle.log_record.specs.declared.fault.RecordFault.TheVariants as fault
+use Rattle.std.specs.Result.{IsErr, IsErrAnd}
+use Rattle.log_record.specs.Reading.{Answers}
 use Rattle.log_record.specs.Fields.{◌>>=◌, bytes_at, allowed_at, field_at, only_if, number_at}
 use Rattle.log_record.proofs.Numbers.{IsBytes, IsBytes-take, IsBytes-drop, bytes_back, number_back}
 
@@ -30,6 +32,16 @@ done x = Ok x
 
 pub ok_is : {A : Type 0} (x y : A) → done x ≡ done y → x ≡ y
 ok_is x y e = cc
+
+-- ---- a fault that is handed on
+
+pub answers_err : {X : Type 0} (result read : Result X RecordFault) (e : RecordFault) → IsErr result → IsErrAnd result (λ f. f ≡ e) → Answers (Err e) read → Answers result read
+answers_err (Ok x) read e is a h = absurd cc
+answers_err (Err f) read e is a h = let same : f ≡ e = a in rw same h
+
+pub fault_is : {X : Type 0} (result : Result X RecordFault) (e f : RecordFault) → IsErrAnd result (λ z. z ≡ e) → result ≡ Err f → e ≡ f
+fault_is (Ok x) e f a h = absurd cc
+fault_is (Err d) e f a h = let same : d ≡ e = a in cc
 
 -- ---- what was read
 

@@ -1,10 +1,14 @@
 -- The fields of a log record: how many bytes each has, and which of its values are allowed.
 -- A field is read at an offset of the record without its last 4 bytes, and answers the offset behind it.
-use Rattle.std.specs.Prelude.{ℕ, ◌+◌, ◌==◌, nat_le, nat_lt, Bool, true, false, not, ◌&&◌, ◌||◌, if◌then◌else◌, List, length, take, drop, Option, Some, None, Result, Ok, Err}
+use Rattle.std.specs.Prelude.{ℕ, zero, suc, ◌+◌, ◌==◌, nat_le, nat_lt, Bool, true, false, not, ◌&&◌, ◌||◌, if◌then◌else◌, List, [], ◌∷◌, length, take, drop, Option, Some, None, Result, Ok, Err}
 use Rattle.std.specs.List.{list_all}
 use Rattle.byteorder.specs.Endian.{big_number}
 use Rattle.ds_base.specs.Ids.{lrsn_width}
 use Rattle.ds_base.specs.declared.names.Place.{Place}
+use Rattle.ds_base.specs.declared.names.PageId.{PageId}
+use Rattle.page_format.specs.declared.patch.Patch.{Patch}
+use Rattle.page_format.specs.Fields.{page_size}
+use Rattle.ds_model.specs.RecordBytes.{page_sets, patches_limit, patch_limit}
 use Rattle.ds_model.specs.declared.log.RowChange.{RowChange}
 use Rattle.ds_model.specs.declared.log.Body.{Body}
 use Rattle.ds_model.specs.declared.log.Body.TheVariants as body
@@ -47,7 +51,12 @@ number_at width allowed = field_at width (λ bytes. only_if (allowed (big_number
 abbrev pub kind_of_number : ℕ → Option Kind
 kind_of_number n =
     if n == 1 then Some kind.RowChange
+    else if n == 2 then Some kind.Compensation
+    else if n == 3 then Some kind.System
     else if n == 4 then Some kind.Commit
+    else if n == 5 then Some kind.Ended
+    else if n == 6 then Some kind.Checkpoint
+    else if n == 7 then Some kind.RestartEnd
     else None
 
 abbrev pub kind_at : List ℕ → ℕ → Result (Kind × ℕ) RecordFault
@@ -62,11 +71,20 @@ lrsn_at = number_at lrsn_width (λ _. true)
 -- whether a record of the kind belongs to a transaction
 abbrev pub has_tran : Kind → Bool
 has_tran kind.RowChange = true
+has_tran kind.Compensation = true
+has_tran kind.System = false
 has_tran kind.Commit = true
+has_tran kind.Ended = true
+has_tran kind.Checkpoint = false
+has_tran kind.RestartEnd = false
 
 -- the transaction's first number: 0 where there is no transaction, and only there
 abbrev pub tran_at : Kind → List ℕ → ℕ → Result (ℕ × ℕ) RecordFault
 tran_at k = number_at lrsn_width (λ n. if has_tran k then not (n == 0) else n == 0)
+
+-- an offset of a log
+abbrev pub offset_at : List ℕ → ℕ → Result (ℕ × ℕ) RecordFault
+offset_at = number_at 8 (λ _. true)
 
 -- ---- the fields of a changed row
 
@@ -132,10 +150,75 @@ change_at fields at = do
   after ← state_at fields before.1
   Ok (record { table = table.0; key = key.0; place = place.0; before = before.0; after = after.0 }, after.1)
 
+-- ---- the patches of pages
+
+abbrev pub set_at : List ℕ → ℕ → Result (ℕ × ℕ) RecordFault
+set_at = number_at 2 (λ n. nat_le 1 n && nat_le n page_sets)
+
+-- the number of a page
+abbrev pub number_in_set_at : List ℕ → ℕ → Result (ℕ × ℕ) RecordFault
+number_in_set_at = number_at 4 (λ _. true)
+
+-- where the bytes begin in the page
+abbrev pub start_at : List ℕ → ℕ → Result (ℕ × ℕ) RecordFault
+start_at = number_at 2 (λ _. true)
+
+-- how many bytes the patch has, which stand from this offset of the page on
+abbrev pub size_at : ℕ → List ℕ → ℕ → Result (ℕ × ℕ) RecordFault
+size_at start = number_at 2 (λ n. nat_le 1 n && nat_le n patch_limit && nat_le (start + n) page_size)
+
+abbrev pub content_at : ℕ → List ℕ → ℕ → Result (List ℕ × ℕ) RecordFault
+content_at size = field_at size (λ bytes. Some bytes)
+
+unfoldable pub page_id_at : List ℕ → ℕ → Result (PageId × ℕ) RecordFault
+page_id_at fields at = do
+  set ← set_at fields at
+  number ← number_in_set_at fields set.1
+  Ok (record { set = set.0; number = number.0 }, number.1)
+
+unfoldable pub patch_at : List ℕ → ℕ → Result (Patch × ℕ) RecordFault
+patch_at fields at = do
+  page ← page_id_at fields at
+  start ← start_at fields page.1
+  size ← size_at start.0 fields start.1
+  content ← content_at size.0 fields size.1
+  Ok (record { page = page.0; offset = start.0; bytes = content.0 }, content.1)
+
+-- so many patches
+unfoldable pub patches_from : ℕ → List ℕ → ℕ → Result (List Patch × ℕ) RecordFault
+patches_from zero fields at = Ok ([], at)
+patches_from (suc n) fields at = do
+  patch ← patch_at fields at
+  more ← patches_from n fields patch.1
+  Ok (patch.0 ∷ more.0, more.1)
+
+abbrev pub patch_count_at : List ℕ → ℕ → Result (ℕ × ℕ) RecordFault
+patch_count_at = number_at 1 (λ n. nat_le 1 n && nat_le n patches_limit)
+
+unfoldable pub patches_at : List ℕ → ℕ → Result (List Patch × ℕ) RecordFault
+patches_at fields at = do
+  count ← patch_count_at fields at
+  patches_from count.0 fields count.1
+
 -- ---- the body of each kind
+
+unfoldable pub compensation_at : List ℕ → ℕ → Result (Body × ℕ) RecordFault
+compensation_at fields at = do
+  change ← change_at fields at
+  undone ← lrsn_at fields change.1
+  Ok (body.Compensation change.0 undone.0, undone.1)
 
 unfoldable pub body_at : Kind → List ℕ → ℕ → Result (Body × ℕ) RecordFault
 body_at kind.RowChange fields at = do
   change ← change_at fields at
   Ok (body.RowChange change.0, change.1)
+body_at kind.Compensation fields at = compensation_at fields at
+body_at kind.System fields at = do
+  patches ← patches_at fields at
+  Ok (body.System patches.0, patches.1)
 body_at kind.Commit fields at = Ok (body.Commit, at)
+body_at kind.Ended fields at = Ok (body.Ended, at)
+body_at kind.Checkpoint fields at = do
+  offset ← offset_at fields at
+  Ok (body.Checkpoint offset.0, offset.1)
+body_at kind.RestartEnd fields at = Ok (body.RestartEnd, at)

@@ -1,5 +1,5 @@
 -- The log record at the front of bytes, with the first field that isn't allowed.
-use Rattle.std.specs.Prelude.{◌≡◌, ℕ, ◌-◌, ◌≤◌, ◌==◌, nat_le, nat_lt, Bool, not, ◌&&◌, if◌then◌else◌, List, length, take, drop, Result, Ok, Err}
+use Rattle.std.specs.Prelude.{◌≡◌, ◌≢◌, ℕ, ◌-◌, ◌≤◌, ◌==◌, nat_le, nat_lt, Bool, not, ◌&&◌, if◌then◌else◌, List, length, take, drop, slice_index, Result, Ok, Err}
 use Rattle.byteorder.specs.Endian.{big_number}
 use Rattle.ds_model.specs.declared.log.LogRecord.{LogRecord}
 use Rattle.ds_model.specs.RecordBytes.{IsAllowed, record_bytes}
@@ -47,6 +47,16 @@ pub record Found (bytes : List ℕ) (r : LogRecord) (size : ℕ) : Type 0 where
   pub within : size ≤ length bytes
   pub spelled : take size bytes ≡ record_bytes r
   pub allowed : IsAllowed r
+
+-- a whole record with patches of pages stands at the front of the bytes
+pub record HasPatches (bytes : List ℕ) : Type 0 where
+  pub whole : big_number 4 bytes ≤ length bytes
+  pub kind : slice_index bytes 4 ≡ 3
+
+-- What a function that takes memory returned is what is read, unless there was too little memory.
+abbrev pub Answers : {X : Type 0} → Result X RecordFault → Result X RecordFault → Type 0
+Answers (Ok x) read = read ≡ Ok x
+Answers (Err e) read = e ≢ fault.NoMemory → read ≡ Err e
 
 -- What a function returned, seen by view, is what is read.
 abbrev pub Gives : {X Y : Type 0} → (X → Y) → Result X RecordFault → Result Y RecordFault → Type 0

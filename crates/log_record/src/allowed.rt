@@ -1,9 +1,12 @@
-ghost use Rattle.std.specs.Prelude.{◌≢◌, ◌<◌, ◌↔◌, IsTrue};
-ghost use Rattle.ds_model.specs.RecordBytes.{StateIsAllowed, ChangeIsAllowed, IsAllowed, Fits};
+ghost use Rattle.std.specs.Prelude.{◌≡◌, ◌≢◌, ◌<◌, ◌↔◌, IsTrue};
+ghost use Rattle.std.specs.List.{AllByRecursion};
+ghost use Rattle.ds_model.specs.RecordBytes.{StateIsAllowed, ChangeIsAllowed, PatchIsAllowed, PatchesAreAllowed, is_of_tran, BodyIsAllowed, BodyFits, IsAllowed, Fits};
 
-use crate::layout::SLOTS;
-use ds_base::{LRSN_END, VALUE_LIMIT, Value};
+use crate::layout::{LONGEST, PAGE_SETS, PAGE_SIZE, PATCH_LIMIT, PATCHES_LIMIT, SHORTEST, SLOTS};
+use crate::size::patches_length;
+use ds_base::{LRSN_END, PageId, VALUE_LIMIT, Value};
 use ds_model::{Body, LogRecord, RowChange};
+use page_format::Patch;
 
 fn state_is_allowed(state: &Option<Value>) -> bool
     ensures always { IsTrue result }
@@ -28,17 +31,74 @@ fn change_is_allowed(change: &RowChange) -> bool
     change.table.number() != 0 && page != 0 && change.place.slot < SLOTS
 }
 
-/// Whether a log may hold the record: its transaction has a number, and a changed row lies in a slot of a page.
+fn patch_is_allowed(patch: &Patch) -> bool
+    ensures { IsTrue result ↔ PatchIsAllowed patch.now }
+{
+    let PageId {
+        set,
+        number: _number,
+    } = patch.page;
+    let size = patch.bytes.len();
+    1 <= set
+        && set <= PAGE_SETS
+        && 1 <= size
+        && size <= PATCH_LIMIT
+        && patch.offset as usize + size <= PAGE_SIZE
+}
+
+fn all_are_allowed(patches: &[Patch]) -> bool
+    ensures { IsTrue result ↔ AllByRecursion PatchIsAllowed patches.now }
+{
+    patches.iter().all(|patch| patch_is_allowed(patch))
+}
+
+fn patches_are_allowed(patches: &[Patch]) -> bool
+    ensures { IsTrue result ↔ PatchesAreAllowed patches.now }
+{
+    if patches.is_empty() || PATCHES_LIMIT < patches.len() {
+        return false;
+    }
+    all_are_allowed(patches) && SHORTEST + 1 + patches_length(patches) <= LONGEST
+}
+
+// Whether a record with the body belongs to a transaction.
+fn is_of_tran(body: &Body) -> bool
+    ensures { result ≡ is_of_tran body.now }
+{
+    match body {
+        Body::RowChange { .. } | Body::Compensation { .. } | Body::Commit | Body::Ended => true,
+        Body::System { .. } | Body::Checkpoint { .. } | Body::RestartEnd => false,
+    }
+}
+
+fn body_is_allowed(body: &Body) -> bool
+    ensures decides { IsTrue result ↔ BodyIsAllowed body.now }
+    ensures enough { BodyFits body.now → IsTrue result }
+{
+    match body {
+        Body::RowChange { change } => change_is_allowed(change),
+        Body::Compensation { change, undone } => {
+            undone.number() < LRSN_END && change_is_allowed(change)
+        }
+        Body::System { patches } => patches_are_allowed(patches.as_slice()),
+        Body::Checkpoint { offset } => {
+            // Every u64 is an offset.
+            let _offset = *offset;
+            true
+        }
+        Body::Commit | Body::Ended | Body::RestartEnd => true,
+    }
+}
+
+/// Whether a log may hold the record: it has the number of a transaction exactly where its kind belongs to one, a
+/// changed row lies in a slot of a page, and patches lie within their pages and aren't too many.
 ///
 /// The other numbers and the values are in range by their types.
 pub fn is_allowed(it: &LogRecord) -> bool
     ensures decides { IsTrue result ↔ IsAllowed it.now }
     ensures enough { Fits it.now → IsTrue result }
 {
-    let has_numbers = it.lrsn.number() < LRSN_END && it.tran.number() != 0;
-    has_numbers
-        && match &it.body {
-            Body::RowChange { change } => change_is_allowed(change),
-            Body::Commit => true,
-        }
+    let has_numbers = it.lrsn.number() < LRSN_END
+        && is_of_tran(&it.body) == (it.tran.number() != 0);
+    has_numbers && body_is_allowed(&it.body)
 }

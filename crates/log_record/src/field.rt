@@ -2,7 +2,7 @@
 //! behind it.
 
 ghost use Rattle.std.specs.Prelude.{◌≡◌, ◌+◌, ◌≤◌, length, OnOk, IfOk};
-ghost use Rattle.log_record.specs.Fields.{bytes_at, kind_of_number, has_tran, kind_at, version_at, lrsn_at, tran_at, table_at, key_at, page_at, slot_at, place_at};
+ghost use Rattle.log_record.specs.Fields.{bytes_at, kind_at, version_at, lrsn_at, tran_at, offset_at, table_at, key_at, page_at, slot_at, place_at};
 ghost use Rattle.log_record.specs.Reading.{Gives};
 
 use crate::fault::RecordFault;
@@ -21,27 +21,6 @@ pub fn bytes_at(fields: &[u8], at: usize, width: usize) -> Result<&[u8], RecordF
         return Err(RecordFault::Bad { at });
     }
     Ok(&fields[at..at + width])
-}
-
-impl Kind {
-    fn of_number(number: u8) -> Option<Kind>
-        ensures { result ≡ kind_of_number number }
-    {
-        match number {
-            1 => Some(Kind::RowChange),
-            4 => Some(Kind::Commit),
-            _ => None,
-        }
-    }
-
-    // Whether a record of the kind belongs to a transaction.
-    fn has_tran(self) -> bool
-        ensures { result ≡ has_tran self }
-    {
-        match self {
-            Kind::RowChange | Kind::Commit => true,
-        }
-    }
 }
 
 #[tactic(auto, unfolding(crate::specs::Fields::field_at))]
@@ -93,6 +72,15 @@ pub fn tran_at(kind: Kind, fields: &[u8], at: usize) -> Result<(Lrsn, usize), Re
     } else {
         Err(RecordFault::Bad { at })
     }
+}
+
+/// An offset of a log.
+#[tactic(auto, unfolding(crate::specs::Fields::field_at))]
+pub fn offset_at(fields: &[u8], at: usize) -> Result<(u64, usize), RecordFault>
+    ensures { result ≡ offset_at fields.now at }
+{
+    let bytes = bytes_at(fields, at, 8)?;
+    Ok((BigEndian::read_u64(bytes), at + 8))
 }
 
 #[tactic(auto, unfolding(crate::specs::Fields::field_at))]

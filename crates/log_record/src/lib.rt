@@ -1,9 +1,14 @@
 //! The bytes of log records.
 //!
-//! A record is its length (4 bytes), its kind (1 for a changed row, 4 for a commit), the version 1, its number (6),
-//! its transaction's first number (6), its body, and the length again (4). The body of a changed row is the table (1),
-//! the key (8), the page (4) and the slot (2), and then the row before and after: 1 and 0 where there was none, or 2,
-//! the count of the value's bytes, and they. A commit has no body. Numbers are big-endian.
+//! A record is its length (4 bytes), its kind (1), the version 1, its number (6), its transaction's first number (6),
+//! its body, and the length again (4). The kinds are 1, a changed row; 2, a compensation; 3, changed pages; 4, a commit;
+//! 5, the end of a transaction; 6, a checkpoint; and 7, the end of a restart. Numbers are big-endian.
+//!
+//! The body of a changed row is the table (1), the key (8), the page (4) and the slot (2), and then the row before and
+//! after: 1 and 0 where there was none, or 2, the count of the value's bytes, and they. A compensation's has the number
+//! of the record that it undoes (6) behind this. That of changed pages is the count of its patches (1), and each is a
+//! page set (2), a page (4), an offset there (2), the count of its bytes (2), and they. A checkpoint's is the offset
+//! from which the log is read (8). The others have no body.
 #![tactic(auto)]
 
 mod allowed;
@@ -12,8 +17,10 @@ mod field;
 mod kind;
 mod laws;
 mod layout;
+mod patch;
 mod put;
 mod read;
+mod size;
 mod state;
 mod write;
 
@@ -22,7 +29,8 @@ pub use ds_model::{Body, LogRecord, RecordList, RowChange};
 pub use fault::RecordFault;
 pub use laws::reading_laws;
 pub use read::read_record;
-pub use write::{put_record, record_length, records_bytes, write_record};
+pub use size::record_length;
+pub use write::{put_record, records_bytes, write_record};
 
 #[cfg(test)]
 mod tests;

@@ -1,23 +1,20 @@
-ghost use Rattle.std.specs.Prelude.{◌≡◌, ◌≤◌, ◌<◌, ℕ, List, ◌++◌, length, take, IfOk};
+ghost use Rattle.std.specs.Prelude.{◌≡◌, ◌≤◌, ◌<◌, ℕ, List, ◌++◌, length, take, slice_index, IfOk};
 ghost use Rattle.ds_model.specs.declared.log.LogRecord.{LogRecord};
 ghost use Rattle.ds_model.specs.RecordBytes.{IsAllowed, record_bytes};
-ghost use Rattle.log_record.specs.Fields.{change_at, body_at};
-ghost use Rattle.log_record.specs.declared.fault.RecordFault.TheVariants.{NotWhole};
-ghost use Rattle.log_record.specs.Reading.{Found, fields_in, ends_at, whole_in, record_in};
+ghost use Rattle.log_record.specs.Fields.{change_at, compensation_at, body_at};
+ghost use Rattle.log_record.specs.declared.fault.RecordFault.TheVariants.{NotWhole, NoMemory};
+ghost use Rattle.log_record.specs.declared.kind.Kind.TheVariants as kinds;
+ghost use Rattle.log_record.specs.Reading.{Answers, HasPatches, Found, fields_in, ends_at, whole_in, record_in};
 
 use crate::fault::RecordFault;
-use crate::field::{key_at, kind_at, lrsn_at, place_at, table_at, tran_at, version_at};
+use crate::field::{key_at, kind_at, lrsn_at, offset_at, place_at, table_at, tran_at, version_at};
 use crate::kind::Kind;
+use crate::layout::{LONGEST, SHORTEST};
+use crate::patch::patches_at;
 use crate::state::state_at;
 use byteorder::{BigEndian, ByteOrder};
 use ds_model::{Body, LogRecord, RowChange};
 use std::alloc::Global;
-
-/// The bytes of a record without a body.
-const SHORTEST: usize = 22;
-
-/// The most bytes that a record of any kind may have.
-const LONGEST: usize = 16_384;
 
 /// Where the kind stands, behind the length.
 const KIND_AT: usize = 4;
@@ -41,28 +38,50 @@ fn change_at(alloc: Global, fields: &[u8], at: usize) -> Result<(RowChange, usiz
     Ok((change, at))
 }
 
-#[tactic(auto, unfolding(crate::specs::Fields::body_at))]
+#[tactic(auto, unfolding(crate::specs::Fields::compensation_at))]
+fn compensation_at(alloc: Global, fields: &[u8], at: usize) -> Result<(Body, usize), RecordFault>
+    ensures { result ≡ compensation_at fields.now at }
+{
+    let (change, at) = change_at(alloc, fields, at)?;
+    let (undone, at) = lrsn_at(fields, at)?;
+    Ok((Body::Compensation { change, undone }, at))
+}
+
+#[tactic(auto, using(crate::proofs::Memory::field_free, crate::proofs::Memory::change_free, crate::proofs::Memory::compensation_free), unfolding(crate::specs::Fields::body_at))]
 fn body_at(
     alloc: Global,
     kind: Kind,
     fields: &[u8],
     at: usize,
 ) -> Result<(Body, usize), RecordFault>
-    ensures { result ≡ body_at kind fields.now at }
+    ensures exact { Answers result (body_at kind fields.now at) }
+    ensures memory { result ≡ Err NoMemory → kind ≡ kinds.System }
 {
     match kind {
         Kind::RowChange => {
             let (change, at) = change_at(alloc, fields, at)?;
             Ok((Body::RowChange { change }, at))
         }
+        Kind::Compensation => compensation_at(alloc, fields, at),
+        Kind::System => {
+            let (patches, at) = patches_at(alloc, fields, at)?;
+            Ok((Body::System { patches }, at))
+        }
         Kind::Commit => Ok((Body::Commit, at)),
+        Kind::Ended => Ok((Body::Ended, at)),
+        Kind::Checkpoint => {
+            let (offset, at) = offset_at(fields, at)?;
+            Ok((Body::Checkpoint { offset }, at))
+        }
+        Kind::RestartEnd => Ok((Body::RestartEnd, at)),
     }
 }
 
 // The fields from the kind to the body, and the offset behind them.
-#[tactic(auto, unfolding(crate::specs::Reading::fields_in))]
+#[tactic(auto, using(crate::proofs::Memory::field_free), unfolding(crate::specs::Reading::fields_in))]
 fn fields_in(alloc: Global, fields: &[u8]) -> Result<(LogRecord, usize), RecordFault>
-    ensures { result ≡ fields_in fields.now }
+    ensures exact { Answers result (fields_in fields.now) }
+    ensures memory { result ≡ Err NoMemory → slice_index fields.now 4 ≡ 3 }
 {
     let (kind, at) = kind_at(fields, KIND_AT)?;
     let (_, at) = version_at(fields, at)?;
@@ -77,7 +96,8 @@ fn fields_in(alloc: Global, fields: &[u8]) -> Result<(LogRecord, usize), RecordF
 fn whole_in(alloc: Global, bytes: &[u8], size: usize) -> Result<(LogRecord, usize), RecordFault>
     requires room { size ≤ length bytes.now }
     requires length { 4 ≤ size }
-    ensures { result ≡ whole_in bytes.now size }
+    ensures exact { Answers result (whole_in bytes.now size) }
+    ensures memory { result ≡ Err NoMemory → slice_index bytes.now 4 ≡ 3 }
 {
     let (fields, again) = bytes.split_at(size - 4);
     let (found, at) = fields_in(alloc, fields)?;
@@ -91,7 +111,8 @@ fn whole_in(alloc: Global, bytes: &[u8], size: usize) -> Result<(LogRecord, usiz
 // The record at the front, where the bytes begin with a length that is allowed and go on that far.
 #[tactic(auto, unfolding(crate::specs::Reading::record_in))]
 fn record_in(alloc: Global, bytes: &[u8]) -> Result<(LogRecord, usize), RecordFault>
-    ensures { result ≡ record_in bytes.now }
+    ensures exact { Answers result (record_in bytes.now) }
+    ensures memory { result ≡ Err NoMemory → HasPatches bytes.now }
 {
     if bytes.len() < 4 {
         return Err(RecordFault::NotWhole);
@@ -110,13 +131,15 @@ fn record_in(alloc: Global, bytes: &[u8]) -> Result<(LogRecord, usize), RecordFa
 ///
 /// `NotWhole` says that the bytes end before the record does. `Bad` names the first byte of the first field that isn't
 /// allowed, or that would reach into the repeated length; where the body ends before it, or another length stands
-/// there, the first byte behind the body's last field. Takes no memory.
+/// there, the first byte behind the body's last field. Only patches of pages take memory.
 pub fn read_record(alloc: Global, bytes: &[u8]) -> Result<(LogRecord, usize), RecordFault>
-    ensures exact { result ≡ record_in bytes.now }
+    ensures exact { Answers result (record_in bytes.now) }
+    // Only patches take memory.
+    ensures memory { result ≡ Err NoMemory → HasPatches bytes.now }
     // What is read is spelled so.
     ensures found { IfOk result (λ found. Found bytes.now found.0 found.1) }
     // What is spelled so is read, whatever follows it.
-    ensures again { (r : LogRecord) (rest : List ℕ) → IsAllowed r → bytes.now ≡ record_bytes r ++ rest → result ≡ Ok (r, length (record_bytes r)) }
+    ensures again { (r : LogRecord) (rest : List ℕ) → IsAllowed r → bytes.now ≡ record_bytes r ++ rest → Answers result (Ok (r, length (record_bytes r))) }
     // What a stop inside a write leaves of a record is not whole.
     ensures cut { (r : LogRecord) (n : ℕ) → IsAllowed r → n < length (record_bytes r) → bytes.now ≡ take n (record_bytes r) → result ≡ Err NotWhole }
 {

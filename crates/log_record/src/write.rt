@@ -1,48 +1,17 @@
-ghost use Rattle.std.specs.Prelude.{◌≡◌, ◌+◌, ◌≤◌, ◌++◌, length, take, OnOk, OnErr, IfOk};
-ghost use Rattle.std.specs.List.{AllByRecursion};
+ghost use Rattle.std.specs.Prelude.{◌≡◌, ◌+◌, ◌≤◌, ◌∷◌, ◌++◌, length, take, OnOk, OnErr, IfOk};
+ghost use Rattle.std.specs.List.{flat_map, AllByRecursion};
 ghost use Rattle.log_record.specs.Kept.{SameFrom};
-ghost use Rattle.ds_model.specs.RecordBytes.{state_bytes, row_bytes, change_bytes, body_bytes, record_bytes, log_bytes, IsAllowed, Fits};
+ghost use Rattle.log_record.specs.Parts.{page_bytes, head_bytes};
+ghost use Rattle.ds_model.specs.RecordBytes.{state_bytes, row_bytes, change_bytes, patch_bytes, lrsn_bytes, kind_of, body_bytes, record_bytes, log_bytes, patch_limit, PatchIsAllowed, PatchesAreAllowed, BodyFits, IsAllowed, Fits};
 
 use crate::allowed::is_allowed;
-use crate::layout::VERSION;
+use crate::layout::{LONGEST, VERSION};
 use crate::put::put;
-use ds_base::{Bytes, NoMemory, Value};
+use crate::size::{LONGEST_WITHOUT_PATCHES, record_length};
+use ds_base::{Bytes, Lrsn, NoMemory, PageId, Value};
 use ds_model::{Body, LogRecord, RowChange};
+use page_format::Patch;
 use std::alloc::Global;
-
-/// The most bytes that a record has.
-const LONGEST: usize = 241;
-
-fn state_length(state: &Option<Value>) -> usize
-    ensures exact { result ≡ length (state_bytes state.now) }
-    ensures small { result ≤ 102 }
-{
-    match state {
-        None => 2,
-        Some(value) => 2 + value.bytes().len(),
-    }
-}
-
-fn body_length(body: &Body) -> usize
-    ensures exact { result ≡ length (body_bytes body.now) }
-    ensures small { result ≤ 219 }
-{
-    match body {
-        Body::RowChange { change } => {
-            15 + state_length(&change.before) + state_length(&change.after)
-        }
-        Body::Commit => 0,
-    }
-}
-
-/// How many bytes the record has: 22, and those of its body.
-#[tactic(auto, unfolding(ds_model::specs::RecordBytes::record_bytes))]
-pub fn record_length(it: &LogRecord) -> usize
-    ensures exact { result ≡ length (record_bytes it.now) }
-    ensures small { result ≤ 241 }
-{
-    22 + body_length(&it.body)
-}
 
 fn put_state(into: &mut [u8], at: usize, state: &Option<Value>) -> usize
     requires { at + length (state_bytes state.now) ≤ length into.old }
@@ -83,16 +52,113 @@ fn put_change(into: &mut [u8], at: usize, change: &RowChange) -> usize
     put_state(into, at, &change.after)
 }
 
+fn put_page(into: &mut [u8], at: usize, page: PageId) -> usize
+    requires { at + 6 ≤ length into.old }
+    ensures next { result ≡ at + 6 }
+    ensures front { take result into.new ≡ take at into.old ++ page_bytes page }
+    ensures back { SameFrom result into.old into.new }
+{
+    let at = put(into, at, &page.set.to_be_bytes());
+    put(into, at, &page.number.to_be_bytes())
+}
+
+fn put_patch(into: &mut [u8], at: usize, patch: &Patch) -> usize
+    requires room { at + length (patch_bytes patch.now) ≤ length into.old }
+    requires few { length patch.now.bytes ≤ patch_limit }
+    ensures next { result ≡ at + length (patch_bytes patch.now) }
+    ensures front { take result into.new ≡ take at into.old ++ patch_bytes patch.now }
+    ensures back { SameFrom result into.old into.new }
+{
+    let at = put_page(into, at, patch.page);
+    let at = put(into, at, &patch.offset.to_be_bytes());
+    let at = put(into, at, &(patch.bytes.len() as u16).to_be_bytes());
+    put(into, at, patch.bytes.as_slice())
+}
+
+fn put_patches(into: &mut [u8], start: usize, patches: &[Patch]) -> usize
+    requires room { start + length (flat_map patch_bytes patches.now) ≤ length into.old }
+    requires each { AllByRecursion PatchIsAllowed patches.now }
+    ensures next { result ≡ start + length (flat_map patch_bytes patches.now) }
+    ensures front { take result into.new ≡ take start into.old ++ flat_map patch_bytes patches.now }
+    ensures back { SameFrom result into.old into.new }
+{
+    let mut at = start;
+    for patch in patches {
+        at = put_patch(into, at, patch);
+    }
+    at
+}
+
+fn put_system(into: &mut [u8], at: usize, patches: &[Patch]) -> usize
+    requires room { at + 1 + length (flat_map patch_bytes patches.now) ≤ length into.old }
+    requires allowed { PatchesAreAllowed patches.now }
+    ensures next { result ≡ at + 1 + length (flat_map patch_bytes patches.now) }
+    ensures front { take result into.new ≡ take at into.old ++ length patches.now ∷ flat_map patch_bytes patches.now }
+    ensures back { SameFrom result into.old into.new }
+{
+    let at = put(into, at, &[patches.len() as u8]);
+    put_patches(into, at, patches)
+}
+
+fn put_lrsn(into: &mut [u8], at: usize, lrsn: Lrsn) -> usize
+    requires { at + 6 ≤ length into.old }
+    ensures next { result ≡ at + 6 }
+    ensures front { take result into.new ≡ take at into.old ++ lrsn_bytes lrsn }
+    ensures back { SameFrom result into.old into.new }
+{
+    put(into, at, &lrsn.number().to_be_bytes()[2..])
+}
+
+fn put_compensation(into: &mut [u8], at: usize, change: &RowChange, undone: Lrsn) -> usize
+    requires { at + length (change_bytes change.now) + 6 ≤ length into.old }
+    ensures next { result ≡ at + length (change_bytes change.now) + 6 }
+    ensures front { take result into.new ≡ take at into.old ++ (change_bytes change.now ++ lrsn_bytes undone) }
+    ensures back { SameFrom result into.old into.new }
+{
+    let at = put_change(into, at, change);
+    put_lrsn(into, at, undone)
+}
+
 fn put_body(into: &mut [u8], at: usize, body: &Body) -> usize
-    requires { at + length (body_bytes body.now) ≤ length into.old }
+    requires room { at + length (body_bytes body.now) ≤ length into.old }
+    requires fits { BodyFits body.now }
     ensures next { result ≡ at + length (body_bytes body.now) }
     ensures front { take result into.new ≡ take at into.old ++ body_bytes body.now }
     ensures back { SameFrom result into.old into.new }
 {
     match body {
         Body::RowChange { change } => put_change(into, at, change),
-        Body::Commit => at,
+        Body::Compensation { change, undone } => put_compensation(into, at, change, *undone),
+        Body::System { patches } => put_system(into, at, patches.as_slice()),
+        Body::Checkpoint { offset } => put(into, at, &offset.to_be_bytes()),
+        Body::Commit | Body::Ended | Body::RestartEnd => at,
     }
+}
+
+fn kind_number(body: &Body) -> u8
+    ensures { result ≡ kind_of body.now }
+{
+    match body {
+        Body::RowChange { .. } => 1,
+        Body::Compensation { .. } => 2,
+        Body::System { .. } => 3,
+        Body::Commit => 4,
+        Body::Ended => 5,
+        Body::Checkpoint { .. } => 6,
+        Body::RestartEnd => 7,
+    }
+}
+
+// The kind, the version, the number and the transaction.
+fn put_head(into: &mut [u8], at: usize, it: &LogRecord) -> usize
+    requires { at + 14 ≤ length into.old }
+    ensures next { result ≡ at + 14 }
+    ensures front { take result into.new ≡ take at into.old ++ head_bytes it.now }
+    ensures back { SameFrom result into.old into.new }
+{
+    let at = put(into, at, &[kind_number(&it.body), VERSION]);
+    let at = put_lrsn(into, at, it.lrsn);
+    put_lrsn(into, at, it.tran)
 }
 
 /// Writes the record at the front of the buffer, and answers its length.
@@ -107,16 +173,34 @@ pub fn write_record(it: &LogRecord, into: &mut [u8]) -> usize
 {
     prove!(is_allowed(it));
     let length = (record_length(it) as u32).to_be_bytes();
-    let kind = match it.body {
-        Body::RowChange { .. } => 1,
-        Body::Commit => 4,
-    };
     let at = put(into, 0, &length);
-    let at = put(into, at, &[kind, VERSION]);
-    let at = put(into, at, &it.lrsn.number().to_be_bytes()[2..]);
-    let at = put(into, at, &it.tran.number().to_be_bytes()[2..]);
+    let at = put_head(into, at, it);
     let at = put_body(into, at, &it.body);
     put(into, at, &length)
+}
+
+// Adds the bytes of a record for which the buffer has room.
+fn put_through(out: &mut Bytes, it: &LogRecord, buffer: &mut [u8]) -> Result<(), NoMemory>
+    requires fits { Fits it.now }
+    requires room { length (record_bytes it.now) ≤ length buffer.old }
+    ensures ok { OnOk result (out.new ≡ out.old ++ record_bytes it.now) }
+    ensures err { OnErr result (out.new ≡ out.old) }
+    ensures allowed { IsAllowed it.now }
+{
+    let length = write_record(it, buffer);
+    out.extend(&buffer[..length])
+}
+
+// The large buffer is made for records with patches alone.
+fn put_long(out: &mut Bytes, it: &LogRecord) -> Result<(), NoMemory>
+    requires fits { Fits it.now }
+    requires room { length (record_bytes it.now) ≤ 16384 }
+    ensures ok { OnOk result (out.new ≡ out.old ++ record_bytes it.now) }
+    ensures err { OnErr result (out.new ≡ out.old) }
+    ensures allowed { IsAllowed it.now }
+{
+    let mut buffer = [0u8; LONGEST];
+    put_through(out, it, &mut buffer)
 }
 
 /// Adds the bytes of the record.
@@ -126,10 +210,11 @@ pub fn put_record(out: &mut Bytes, it: &LogRecord) -> Result<(), NoMemory>
     ensures err { OnErr result (out.new ≡ out.old) }
     ensures allowed { IsAllowed it.now }
 {
-    let mut buffer = [0u8; LONGEST];
-    let bytes = &mut buffer[..record_length(it)];
-    write_record(it, bytes);
-    out.extend(bytes)
+    if LONGEST_WITHOUT_PATCHES < record_length(it) {
+        return put_long(out, it);
+    }
+    let mut buffer = [0u8; LONGEST_WITHOUT_PATCHES];
+    put_through(out, it, &mut buffer)
 }
 
 /// The bytes of these records, one after another.
