@@ -27,13 +27,14 @@ key_of t = (t.member, t.number)
 abbrev pub is_pair_of : Wait → TranId → TranId → Bool
 is_pair_of w a b = same_tran w.waiter a && same_tran w.holder b
 
--- the transactions that wait for this one
-abbrev pub waiters_of : BTreeMap TranKey (Vec TranId) → TranId → List TranId
-waiters_of lists b = option_map_or (λ v. v.items) (get key_cmp lists (key_of b)) []
+module _ {A : Type 0} (lists : BTreeMap TranKey (Vec TranId A)) where
+  -- the transactions that wait for this one
+  abbrev pub waiters_of : TranId → List TranId
+  waiters_of b = option_map_or (λ v. v.items) (get key_cmp lists (key_of b)) []
 
-abbrev pub is_waiting : BTreeMap TranKey (Vec TranId) → TranId → TranId → Bool
-is_waiting lists a b = list_any (λ w. same_tran w a) (waiters_of lists b)
+  abbrev pub is_waiting : TranId → TranId → Bool
+  is_waiting a b = list_any (λ w. same_tran w a) (waiters_of b)
 
--- how many pairs there are
-abbrev pub pairs_left : BTreeMap TranKey (Vec TranId) → ℕ
-pairs_left lists = sum_by (λ v. length v.items) (values lists)
+  -- how many pairs there are
+  abbrev pub pairs_left : ℕ
+  pairs_left = sum_by (λ v. length v.items) (values lists)

@@ -37,19 +37,15 @@ impl Waiters {
         ensures { OnOk result ((a b : TranId) → is_waiting self.new.lists a b ≡ (is_waiting self.old.lists a b || is_pair_of wait a b)) }
     {
         let key = (wait.holder.member, wait.holder.number);
-        let mut list = match self.lists.remove(&key) {
-            Some(list) => list,
-            None => Vec::new(alloc),
-        };
+        let list = self.lists.entry(key)?.or_insert(Vec::new(alloc));
         list.push(wait.waiter)?;
-        self.lists.insert(key, list)?;
         Ok(())
     }
 
     /// Takes out the pairs whose holder this is, and gives their waiters.
     pub fn take(&mut self, alloc: Global, holder: TranId) -> Vec<TranId>
         ensures given { result.items ≡ waiters_of self.old.lists holder }
-        ensures taken { (a b : TranId) → is_waiting self.new.lists a b ≡ (is_waiting self.old.lists a b && not (same_tran b holder)) }
+        ensures taken { (a b : TranId) → is_waiting self.new.lists a b ≡ (is_waiting self.old.lists a b && not (same_tran holder b)) }
         ensures fewer { pairs_left self.new.lists + length result.items ≡ pairs_left self.old.lists }
     {
         match self.lists.remove(&(holder.member, holder.number)) {
