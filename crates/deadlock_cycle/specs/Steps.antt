@@ -1,5 +1,5 @@
 -- The transactions from which a search reaches a transaction.
-use Rattle.std.specs.Prelude.{◌≡◌, ℕ, ◌<◌, Bool, true, ◌&&◌, List, length, nat_le, slice_get, unwrap_or}
+use Rattle.std.specs.Prelude.{◌≡◌, ℕ, ◌<◌, Bool, true, ◌&&◌, List, length, nat_le, slice_index_or}
 use Rattle.std.specs.List.{list_any}
 use Rattle.ds_base.specs.declared.names.TranId.{TranId}
 use Rattle.list_structure.specs.declared.wait.Wait.{Wait}
@@ -10,7 +10,7 @@ abbrev pub no_step : Step
 no_step = record { at = record { member = 0; number = 0 }; next = 0 }
 
 abbrev pub step_at : List Step → ℕ → Step
-step_at steps k = unwrap_or (slice_get steps k) no_step
+step_at steps k = slice_index_or steps k no_step
 
 -- the step of a transaction that waits for the one at `next`
 abbrev pub step_to : ℕ → TranId → Step

@@ -1,6 +1,8 @@
 //! The search for a cycle.
-ghost use Rattle.std.specs.Prelude.{◌≡◌, List, IfOk, IfSome, IfNone};
-ghost use Rattle.deadlock_cycle.specs.Cycles.{IsCycle};
+ghost use Rattle.std.specs.Prelude.{◌≡◌, ◌<◌, List, true, length, IfOk, IfSome, IfNone};
+ghost use Rattle.deadlock_cycle.specs.Cycles.{IsCycle, waits_for};
+ghost use Rattle.deadlock_cycle.specs.Steps.{step_at, GoesBack, LeadsTo};
+ghost use Rattle.list_structure.specs.declared.wait.Wait.{Wait};
 ghost use Rattle.ds_base.specs.declared.names.TranId.{TranId};
 
 use crate::step::{Step, add_steps};
@@ -29,7 +31,7 @@ pub fn find_cycle(
     while next < steps.len() {
         let list = waiters.take(alloc, steps[next].at);
         if list.contains(&tran) {
-            return Ok(Some(cycle_from(alloc, &steps, next, tran)?));
+            return Ok(Some(cycle_from(alloc, &steps, next)?));
         }
         add_steps(&mut steps, &list, next)?;
         next += 1;
@@ -37,19 +39,19 @@ pub fn find_cycle(
     Ok(None)
 }
 
-// The cycle of a transaction that waits for the one of this step.
-fn cycle_from(
-    alloc: Global,
-    steps: &[Step],
-    from: usize,
-    tran: TranId,
-) -> Result<Cycle, NoMemory> {
+// The cycle of the first step's transaction where it waits for the one of this step.
+fn cycle_from(alloc: Global, steps: &[Step], from: usize) -> Result<Cycle, NoMemory>
+    requires there { from < length steps.now }
+    requires back { GoesBack steps.now }
+    ensures { IfOk result (λ cycle. (waits : List Wait) (tran : TranId) → LeadsTo waits tran steps.now → waits_for waits tran (step_at steps.now from).at ≡ true → IsCycle waits tran cycle) }
+{
     let mut cycle = Cycle::new(alloc);
-    cycle.push(tran)?;
+    cycle.push(steps[0].at)?;
     let mut at = from;
     while at > 0 {
-        cycle.push(steps[at].at)?;
-        at = steps[at].next;
+        let step = steps[at];
+        cycle.push(step.at)?;
+        at = step.next;
     }
     Ok(cycle)
 }

@@ -1,13 +1,9 @@
 //! The steps of a search.
-ghost use Rattle.std.specs.Prelude.{◌≡◌, ◌<◌, ◌&&◌, List, length, map, ◌++◌, [], ◌∷◌, IfOk, OnOk, nat_le, true};
-ghost use Rattle.deadlock_cycle.specs.Cycles.{IsCycle, waits_for};
-ghost use Rattle.deadlock_cycle.specs.Steps.{step_at, step_to, GoesBack, LeadsTo};
-ghost use Rattle.list_structure.specs.declared.wait.Wait.{Wait};
-ghost use Rattle.ds_base.specs.declared.names.TranId.{TranId};
+ghost use Rattle.std.specs.Prelude.{◌≡◌, ◌++◌, map, OnOk};
+ghost use Rattle.deadlock_cycle.specs.Steps.{step_to};
 
-use ds_base::{NoMemory, TranId};
-use list_structure::Cycle;
-use std::alloc::{AllocError, Global};
+use ds_base::TranId;
+use std::alloc::AllocError;
 
 /// A transaction, and the step of the one that it waits for.
 #[derive(Clone, Copy, Debug, PartialEq, Eq)]
