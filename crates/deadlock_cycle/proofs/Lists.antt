@@ -76,7 +76,7 @@ module _ {A : Type 0} where
       ap (λ o. list_any (λ t. same_tran t a) (option_map_or (λ v. v.items) o [])) (updates (key_of b))
       ∙ ap (λ s. list_any (λ t. same_tran t a) (option_map_or (λ v. v.items) (cond s (Some list) (lookup (is_at (key_cmp (key_of b))) old)) [])) (same_key w.holder b)
       ∙ put (same_tran w.holder b) (lookup (is_at (key_cmp (key_of b))) old) list w.waiter a
-          (λ e. items ∙ ap (λ h. held_by old h ++ w.waiter ∷ []) (same_is w.holder b e))
+      (λ e. items ∙ ap (λ h. held_by old h ++ w.waiter ∷ []) (same_is w.holder b e))
 
   length_held : (held : Option (Vec TranId A)) → length (option_map_or (λ v. v.items) held []) ≡ unwrap_or (option_map (λ v. length v.items) held) 0
   length_held None = refl

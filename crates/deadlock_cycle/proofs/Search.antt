@@ -116,10 +116,10 @@ module _ (waits : List Wait) (tran : TranId) (left : TranId → TranId → Bool)
   follows n p h = ⊎_elim
       (λ old. subst (λ s. Follows waits tran grown s n) (sym (old_step n old)) (old_follows n p old))
       (λ new.
-        let j : n - length steps < length list = omega (arith, length-append steps (map (step_to i) list), length-map list (step_to i)) in
-        let at : step_at grown n ≡ step_at (map (step_to i) list) (n - length steps) = get_or-append_right steps (map (step_to i) list) n no_step new in
-        let p = placed i list (n - length steps) j in
-        subst (λ s. Follows waits tran grown s n) (sym at) (new_follows (step_at (map (step_to i) list) (n - length steps)) n new p.0 p.1))
+      let j : n - length steps < length list = omega (arith, length-append steps (map (step_to i) list), length-map list (step_to i)) in
+      let at : step_at grown n ≡ step_at (map (step_to i) list) (n - length steps) = get_or-append_right steps (map (step_to i) list) n no_step new in
+      let p = placed i list (n - length steps) j in
+      subst (λ s. Follows waits tran grown s n) (sym at) (new_follows (step_at (map (step_to i) list) (n - length steps)) n new p.0 p.1))
       (cases_lt n (length steps))
 
   module _ (left' : TranId → TranId → Bool) (gone : (a b : TranId) → left' a b ≡ (left a b && not (same_tran (step_at steps i).at b))) (absent : list_any (λ w. same_tran w tran) list ≡ false) where
@@ -133,9 +133,9 @@ module _ (waits : List Wait) (tran : TranId) (left : TranId → TranId → Bool)
         let m : list_any (λ w. same_tran w a) list ≡ true = given a ∙ ap (left a) x ∙ e in
         (list_any-append (λ s. same_tran s.at a) steps (map (step_to i) list) ∙ or_right _ _ (reached_map i list a ∙ m), not_tran a (same_tran a tran) refl m)
       where
-      not_tran : (a : TranId) (same : Bool) → same_tran a tran ≡ same → list_any (λ w. same_tran w a) list ≡ true → same ≡ false
-      not_tran a false e m = refl
-      not_tran a true e m = absurd (no_pair (list_any (λ w. same_tran w tran) list) (subst (λ t. list_any (λ w. same_tran w t) list ≡ true) (same_is a tran e) m) absent)
+        not_tran : (a : TranId) (same : Bool) → same_tran a tran ≡ same → list_any (λ w. same_tran w a) list ≡ true → same ≡ false
+        not_tran a false e m = refl
+        not_tran a true e m = absurd (no_pair (list_any (λ w. same_tran w tran) list) (subst (λ t. list_any (λ w. same_tran w t) list ≡ true) (same_is a tran e) m) absent)
 
     done' : (a b : TranId) → (before same : Bool) → is_reached b (take i steps) ≡ before → same_tran (step_at steps i).at b ≡ same → (before || same) ≡ true → left' a b ≡ false
     done' a b true same e f h = gone a b ∙ ap (λ x. x && not (same_tran (step_at steps i).at b)) (k.done a b e)

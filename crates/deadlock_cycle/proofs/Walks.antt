@@ -85,6 +85,6 @@ module _ (steps : List Step) (at : ℕ) (step : Step) (positive : 0 < at) (there
   step_walk waits tran walk longer e leads h =
       subst (λ w. IsWalk waits tran w (step_at steps step.next).at) (sym e)
       (longer_walk waits tran walk step.at (step_at steps step.next).at
-        (subst (λ s. IsWalk waits tran walk s.at) step_is h)
-        (subst (λ s. waits_for waits s.at (step_at steps s.next).at ≡ true) step_is (leads.waits_on at positive there))
-        (subst (λ s. nat_le s.at.number tran.number ≡ true) step_is (leads.below at positive there)))
+      (subst (λ s. IsWalk waits tran walk s.at) step_is h)
+      (subst (λ s. waits_for waits s.at (step_at steps s.next).at ≡ true) step_is (leads.waits_on at positive there))
+      (subst (λ s. nat_le s.at.number tran.number ≡ true) step_is (leads.below at positive there)))

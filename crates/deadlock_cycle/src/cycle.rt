@@ -16,11 +16,7 @@ use std::alloc::Global;
 /// such a cycle.
 ///
 /// Takes time in the number of pairs and its logarithm.
-pub fn find_cycle(
-    alloc: Global,
-    waits: &[Wait],
-    tran: TranId,
-) -> Result<Option<Cycle>, NoMemory>
+pub fn find_cycle(alloc: Global, waits: &[Wait], tran: TranId) -> Result<Option<Cycle>, NoMemory>
     ensures cycle { IfOk result (λ found. IfSome found (λ cycle. IsCycle waits.now tran cycle)) }
     ensures none { IfOk result (λ found. IfNone found ((cycle : List TranId) → ¬ IsCycle waits.now tran cycle)) }
 {

@@ -11,12 +11,12 @@ use Rattle.deadlock_cycle.proofs.cycle.find_cycle.Goals as goal
 pub returns-then-contains-clause-cycle : goal.returns-then-contains-clause-cycle
 returns-then-contains-clause-cycle c =
     let waiting : is_waiting c.loop-next.waiters.lists c.args.tran c.index.result.now.at ≡ true =
-      ap (list_any (λ w. same_tran w c.args.tran)) (sym (c.deref.ensures.value ∙ c.take-list.ensures.given)) ∙ sym c.contains.ensures.value ∙ c.if-contains.true in
+    ap (list_any (λ w. same_tran w c.args.tran)) (sym (c.deref.ensures.value ∙ c.take-list.ensures.given)) ∙ sym c.contains.ensures.value ∙ c.if-contains.true in
     let back = waits_back c.args.waits.now c.args.tran (is_waiting c.loop-next.waiters.lists) c.loop-next.steps.items c.loop-next.next c.index.result.now c.loop-next.invariant
-      (read_step c.loop-next.steps.items c.loop-next.next c.index.result.now (omega arith) c.index.ensures) waiting in
+    (read_step c.loop-next.steps.items c.loop-next.next c.index.result.now (omega arith) c.index.ensures) waiting in
     let leads = subst (λ (steps : List Step). LeadsTo c.args.waits.now c.args.tran steps) (sym c.deref-then-contains.ensures.value) c.loop-next.invariant.leads in
     c.in_ok-cycle_from.ensures c.args.waits.now c.args.tran leads
-      (subst (λ (steps : List Step). waits_for c.args.waits.now c.args.tran (step_at steps c.loop-next.next).at ≡ true) (sym c.deref-then-contains.ensures.value) back)
+    (subst (λ (steps : List Step). waits_for c.args.waits.now c.args.tran (step_at steps c.loop-next.next).at ≡ true) (sym c.deref-then-contains.ensures.value) back)
 
 pub loop-next-preserved : goal.loop-next-preserved
 loop-next-preserved c =
@@ -26,10 +26,10 @@ loop-next-preserved c =
     let is_list = c.deref-in-loop-next.ensures.value ∙ c.take-list.ensures.given in
     subst (λ (steps : List Step). Kept c.args.waits.now c.args.tran (is_waiting c.take-list.new.self.lists) steps (c.loop-next.next + 1)) (sym c.in_ok-add_steps.ensures)
     (next c.args.waits.now c.args.tran left c.loop-next.steps.items c.loop-next.next c.loop-next.invariant (omega arith) list
-      (λ a. ap (list_any (λ w. same_tran w a)) is_list ∙ ap (λ s. left a s.at) step)
-      (is_waiting c.take-list.new.self.lists)
-      (λ a b. c.take-list.ensures.taken a b ∙ ap (λ s. left a b && not (same_tran s.at b)) step)
-      (ap (list_any (λ w. same_tran w c.args.tran)) (c.deref-in-loop-next.ensures.value ∙ sym c.deref.ensures.value) ∙ sym c.contains.ensures.value ∙ c.if-contains.false))
+    (λ a. ap (list_any (λ w. same_tran w a)) is_list ∙ ap (λ s. left a s.at) step)
+    (is_waiting c.take-list.new.self.lists)
+    (λ a b. c.take-list.ensures.taken a b ∙ ap (λ s. left a b && not (same_tran s.at b)) step)
+    (ap (list_any (λ w. same_tran w c.args.tran)) (c.deref-in-loop-next.ensures.value ∙ sym c.deref.ensures.value) ∙ sym c.contains.ensures.value ∙ c.if-contains.false))
 
 pub returns-clause-none : goal.returns-clause-none
 returns-clause-none c = ended c.args.waits.now c.args.tran (is_waiting c.loop-next.waiters.lists) c.loop-next.steps.items c.loop-next.next c.loop-next.invariant (omega arith)
