@@ -10,7 +10,7 @@ use Rattle.std.proofs.lemmas.List.Folds.{list_any-append, list_any_more}
 use Rattle.ds_base.specs.declared.names.TranId.{TranId}
 use Rattle.list_structure.specs.declared.wait.Wait.{Wait}
 use Rattle.deadlock_cycle.specs.Cycles.{same_tran, waits_for, is_walk, IsCycle}
-use Rattle.deadlock_cycle.specs.Steps.{step_at, step_to, no_step, is_reached, GoesBack, LeadsTo}
+use Rattle.deadlock_cycle.specs.Steps.{step_at, step_to, no_step, is_reached, GoesBack, GoesToFirst, IsFirst, LeadsTo}
 use Rattle.deadlock_cycle.specs.declared.step.Step.{Step}
 use Rattle.deadlock_cycle.proofs.Lists.{same_self, same_is}
 use Rattle.deadlock_cycle.proofs.Walks.{and_left, and_right, both, no_cycle}
@@ -20,6 +20,7 @@ pub record Kept (waits : List Wait) (tran : TranId) (left : TranId → TranId �
   pub some : 0 < length steps
   pub within : i ≤ length steps
   pub back : GoesBack steps
+  pub firsts : GoesToFirst steps
   pub leads : LeadsTo waits tran steps
   pub pairs : (a b : TranId) → left a b ≡ true → (waits_for waits a b && nat_le a.number tran.number) ≡ true
   pub reached : (a b : TranId) → waits_for waits a b ≡ true → nat_le a.number tran.number ≡ true → left a b ≡ false → (is_reached a steps ≡ true) × (same_tran a tran ≡ false)
@@ -44,6 +45,12 @@ first_reached : (steps : List Step) (t : TranId) → 0 < length steps → (step_
 first_reached [] t l e = absurd (omega arith)
 first_reached (s ∷ steps) t l e = or_left _ _ (subst (λ u. same_tran s.at u ≡ true) e (same_self s.at))
 
+reached_before : (steps : List Step) (n i : ℕ) (t : TranId) → n < i → n < length steps → same_tran (step_at steps n).at t ≡ true → is_reached t (take i steps) ≡ true
+reached_before [] n i t h l e = absurd (omega arith)
+reached_before (s ∷ steps) n zero t h l e = absurd (omega arith)
+reached_before (s ∷ steps) zero (suc i) t h l e = or_left _ _ e
+reached_before (s ∷ steps) (suc n) (suc i) t h l e = or_right _ _ (reached_before steps n i t (omega arith) (omega arith) e)
+
 -- ---- the steps of a list of waiters
 
 reached_map : (i : ℕ) (list : List TranId) (a : TranId) → is_reached a (map (step_to i) list) ≡ list_any (λ w. same_tran w a) list
@@ -56,17 +63,6 @@ placed i (t ∷ list) zero l = (refl, or_left _ _ (same_self t))
 placed i (t ∷ list) (suc j) l = let p = placed i list j (omega arith) in (p.0, or_right _ _ p.1)
 
 module _ (waits : List Wait) (tran : TranId) (left : TranId → TranId → Bool) where
-  pub start : ((a b : TranId) → left a b ≡ (waits_for waits a b && nat_le a.number tran.number)) → Kept waits tran left (step_to 0 tran ∷ []) 0
-  start all = record {
-    some = omega arith;
-    within = omega arith;
-    back = λ k p l. absurd (omega arith);
-    leads = record { first = refl; waits_on = λ k p l. absurd (omega arith); below = λ k p l. absurd (omega arith) };
-    pairs = λ a b h. sym (all a b) ∙ h;
-    reached = λ a b w n out. absurd (no_pair (left a b) (all a b ∙ both _ _ w n) out);
-    done = λ a b h. absurd (no_pair false h refl);
-  }
-
   -- where each step was taken, no cycle is left
   pub ended : (steps : List Step) (i : ℕ) → Kept waits tran left steps i → length steps ≤ i → (cycle : List TranId) → IsCycle waits tran cycle → ⊥
   ended steps i k l = no_cycle waits tran (λ t. is_reached t steps)
@@ -78,12 +74,21 @@ pub read_step : (steps : List Step) (i : ℕ) (s : Step) → i < length steps �
 read_step steps i s l is = is ∙ get_or_default steps i s no_step l
 
 module _ (waits : List Wait) (tran : TranId) (left : TranId → TranId → Bool) (steps : List Step) (i : ℕ) (s : Step) (k : Kept waits tran left steps i) (is : s ≡ step_at steps i) where
+  -- no step before one with waiters is of its transaction
+  pub is_first : (a : TranId) → i < length steps → left a s.at ≡ true → IsFirst steps i
+  is_first a l h n lower = apart (same_tran (step_at steps n).at (step_at steps i).at) refl
+    where
+    apart : (same : Bool) → same_tran (step_at steps n).at (step_at steps i).at ≡ same → same ≡ false
+    apart false e = refl
+    apart true e = absurd (no_pair (left a s.at) h (k.done a s.at (reached_before steps n i s.at lower (omega arith) (ap (λ t. same_tran (step_at steps n).at t.at) is ∙ e))))
+
   pub waits_back : left tran s.at ≡ true → waits_for waits tran (step_at steps i).at ≡ true
   waits_back h = subst (λ t. waits_for waits tran t.at ≡ true) is (and_left _ _ (k.pairs tran s.at h))
 
 -- a step that leads back along a pair
 pub record Follows (waits : List Wait) (tran : TranId) (steps : List Step) (s : Step) (k : ℕ) : Type 0 where
   pub back : s.next < k
+  pub first : IsFirst steps s.next
   pub waits_on : waits_for waits s.at (step_at steps s.next).at ≡ true
   pub below : nat_le s.at.number tran.number ≡ true
 
@@ -94,11 +99,16 @@ module _ (waits : List Wait) (tran : TranId) (left : TranId → TranId → Bool)
   old_step : (n : ℕ) → n < length steps → step_at grown n ≡ step_at steps n
   old_step n h = get_or_append_left steps (map (step_to i) list) no_step n h
 
+  still_first : (n : ℕ) → n < length steps → IsFirst steps n → IsFirst grown n
+  still_first n h first m lower =
+      ap (λ s. same_tran s.at (step_at grown n).at) (old_step m (omega arith)) ∙ ap (λ s. same_tran (step_at steps m).at s.at) (old_step n h) ∙ first m lower
+
   old_follows : (n : ℕ) → 0 < n → n < length steps → Follows waits tran grown (step_at steps n) n
   old_follows n p h =
       let b : (step_at steps n).next < n = k.back n p h in
       record {
         back = b;
+        first = still_first (step_at steps n).next (omega arith) (k.firsts n p h);
         waits_on = subst (λ s. waits_for waits (step_at steps n).at s.at ≡ true) (sym (old_step (step_at steps n).next (omega arith))) (k.leads.waits_on n p h);
         below = k.leads.below n p h;
       }
@@ -108,6 +118,7 @@ module _ (waits : List Wait) (tran : TranId) (left : TranId → TranId → Bool)
       let at_pair = k.pairs s.at (step_at steps i).at (sym (given s.at) ∙ m) in
       record {
         back = omega arith;
+        first = subst (IsFirst grown) (sym e) (still_first i l (is_first waits tran left steps i (step_at steps i) k refl s.at l (sym (given s.at) ∙ m)));
         waits_on = subst (λ j. waits_for waits s.at (step_at grown j).at ≡ true) (sym e) (subst (λ x. waits_for waits s.at x.at ≡ true) (sym (old_step i l)) (and_left _ _ at_pair));
         below = and_right _ _ at_pair;
       }
@@ -148,6 +159,7 @@ module _ (waits : List Wait) (tran : TranId) (left : TranId → TranId → Bool)
       some = omega (arith, k.some, length-append steps (map (step_to i) list));
       within = omega (arith, length-append steps (map (step_to i) list));
       back = λ n p h. (follows n p h).back;
+      firsts = λ n p h. (follows n p h).first;
       leads = record {
         first = ap (λ s. s.at) (old_step 0 k.some) ∙ k.leads.first;
         waits_on = λ n p h. (follows n p h).waits_on;

@@ -1,5 +1,5 @@
 -- The transactions from which a search reaches a transaction.
-use Rattle.std.specs.Prelude.{◌≡◌, ℕ, ◌<◌, Bool, true, ◌&&◌, List, length, nat_le, slice_index_or}
+use Rattle.std.specs.Prelude.{◌≡◌, ℕ, ◌<◌, Bool, true, false, ◌&&◌, List, length, nat_le, slice_index_or}
 use Rattle.std.specs.List.{list_any}
 use Rattle.ds_base.specs.declared.names.TranId.{TranId}
 use Rattle.list_structure.specs.declared.wait.Wait.{Wait}
@@ -23,6 +23,14 @@ is_reached t steps = list_any (λ s. same_tran s.at t) steps
 -- each step but the first leads to one before it
 abbrev pub GoesBack : List Step → Type 0
 GoesBack steps = (k : ℕ) → 0 < k → k < length steps → (step_at steps k).next < k
+
+-- no step before this one is of its transaction
+abbrev pub IsFirst : List Step → ℕ → Type 0
+IsFirst steps n = (k : ℕ) → k < n → same_tran (step_at steps k).at (step_at steps n).at ≡ false
+
+-- each step leads to the first one of a transaction
+abbrev pub GoesToFirst : List Step → Type 0
+GoesToFirst steps = (k : ℕ) → 0 < k → k < length steps → IsFirst steps (step_at steps k).next
 
 -- the steps lead to `tran` along the pairs, over no higher number
 pub record LeadsTo (waits : List Wait) (tran : TranId) (steps : List Step) : Type 0 where
