@@ -9,11 +9,11 @@ use Rattle.std.proofs.Math.Seq.{get_or-append_right}
 use Rattle.std.proofs.lemmas.List.Folds.{list_any-append, list_any_more}
 use Rattle.ds_base.specs.declared.names.TranId.{TranId}
 use Rattle.list_structure.specs.declared.wait.Wait.{Wait}
-use Rattle.deadlock_cycle.specs.Cycles.{same_tran, waits_for, is_walk, IsCycle}
+use Rattle.deadlock_cycle.specs.Cycles.{same_tran, waits_for, IsCycle}
 use Rattle.deadlock_cycle.specs.Steps.{step_at, step_to, no_step, is_reached, GoesBack, GoesToFirst, IsFirst, LeadsTo}
 use Rattle.deadlock_cycle.specs.declared.step.Step.{Step}
 use Rattle.deadlock_cycle.proofs.Lists.{same_self, same_is}
-use Rattle.deadlock_cycle.proofs.Walks.{and_left, and_right, both, no_cycle}
+use Rattle.deadlock_cycle.proofs.Walks.{and_left, and_right, no_cycle}
 
 -- `left` tells which pairs were not yet taken out
 pub record Kept (waits : List Wait) (tran : TranId) (left : TranId → TranId → Bool) (steps : List Step) (i : ℕ) : Type 0 where
@@ -78,9 +78,9 @@ module _ (waits : List Wait) (tran : TranId) (left : TranId → TranId → Bool)
   pub is_first : (a : TranId) → i < length steps → left a s.at ≡ true → IsFirst steps i
   is_first a l h n lower = apart (same_tran (step_at steps n).at (step_at steps i).at) refl
     where
-    apart : (same : Bool) → same_tran (step_at steps n).at (step_at steps i).at ≡ same → same ≡ false
-    apart false e = refl
-    apart true e = absurd (no_pair (left a s.at) h (k.done a s.at (reached_before steps n i s.at lower (omega arith) (ap (λ t. same_tran (step_at steps n).at t.at) is ∙ e))))
+      apart : (same : Bool) → same_tran (step_at steps n).at (step_at steps i).at ≡ same → same ≡ false
+      apart false e = refl
+      apart true e = absurd (no_pair (left a s.at) h (k.done a s.at (reached_before steps n i s.at lower (omega arith) (ap (λ t. same_tran (step_at steps n).at t.at) is ∙ e))))
 
   pub waits_back : left tran s.at ≡ true → waits_for waits tran (step_at steps i).at ≡ true
   waits_back h = subst (λ t. waits_for waits tran t.at ≡ true) is (and_left _ _ (k.pairs tran s.at h))

@@ -1,6 +1,6 @@
 -- Walks along the pairs, and what keeps them from coming back.
 use Rattle.std.proofs.Common.{◌≡◌, ◌<◌, ◌≤◌, ℕ, Bool, true, false, List, [], ◌∷◌, ◌++◌, get_or, length, refl, sym, ap, subst, ◌∙◌, arith}
-use Rattle.std.specs.Prelude.{◌&&◌, ◌||◌, slice_get, Option, Some, None, nat_le}
+use Rattle.std.specs.Prelude.{◌&&◌, ◌||◌, slice_get, Some, nat_le}
 use Rattle.std.specs.List.{list_all, list_any, IsDistinct}
 use Rattle.std.specs.Cmp.{IsEquivalence}
 use Rattle.std.proofs.lemmas.Map.Keys.{IsDistinct-push}

@@ -1,5 +1,5 @@
 -- Cycles of transactions of which each waits for the next.
-use Rattle.std.specs.Prelude.{◌≡◌, ℕ, ◌==◌, Bool, true, ◌&&◌, List, [], ◌∷◌, nat_le, slice_get, slice_index_or, Some}
+use Rattle.std.specs.Prelude.{◌≡◌, ◌==◌, Bool, true, ◌&&◌, List, [], ◌∷◌, nat_le, slice_get, slice_index_or, Some}
 use Rattle.std.specs.List.{list_any, list_all}
 use Rattle.ds_base.specs.declared.names.TranId.{TranId}
 use Rattle.list_structure.specs.declared.wait.Wait.{Wait}

@@ -1,5 +1,5 @@
 -- The transactions from which a search reaches a transaction.
-use Rattle.std.specs.Prelude.{◌≡◌, ℕ, ◌<◌, Bool, true, false, ◌&&◌, List, length, nat_le, slice_index_or}
+use Rattle.std.specs.Prelude.{◌≡◌, ℕ, ◌<◌, Bool, true, false, List, length, nat_le, slice_index_or}
 use Rattle.std.specs.List.{list_any}
 use Rattle.ds_base.specs.declared.names.TranId.{TranId}
 use Rattle.list_structure.specs.declared.wait.Wait.{Wait}

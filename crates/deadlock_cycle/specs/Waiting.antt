@@ -1,5 +1,5 @@
 -- The pairs that are kept by their holders.
-use Rattle.std.specs.Prelude.{ℕ, ◌==◌, Bool, ◌&&◌, List, [], length, sum_by, vec_len}
+use Rattle.std.specs.Prelude.{ℕ, Bool, ◌&&◌, List, [], length, sum_by}
 use Rattle.std.specs.List.{list_any}
 use Rattle.std.specs.Option.{option_map_or}
 use Rattle.std.specs.Ordering.{nat_cmp, on, then_cmp}

@@ -1,4 +1,4 @@
-//! Deadlocks: a cycle of transactions of which each waits for the next.
+//! Deadlocks: cycles of the waits-for graph, which has a pair for each transaction that waits for another.
 #![tactic(auto)]
 
 mod cycle;

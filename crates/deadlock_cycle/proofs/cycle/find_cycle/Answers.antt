@@ -1,4 +1,4 @@
-use Rattle.std.proofs.Common.{arith, ◌≡◌, ◌+◌, true, false, List, subst, sym, ap, ◌∙◌}
+use Rattle.std.proofs.Common.{arith, ◌≡◌, ◌+◌, true, List, subst, sym, ap, ◌∙◌}
 use Rattle.std.specs.Prelude.{◌&&◌, not}
 use Rattle.std.specs.List.{list_any}
 use Rattle.deadlock_cycle.specs.declared.step.Step.{Step}
@@ -11,9 +11,9 @@ use Rattle.deadlock_cycle.proofs.cycle.find_cycle.Goals as goal
 pub cycle_from-requires-clause-first : goal.cycle_from-requires-clause-first
 cycle_from-requires-clause-first c =
     let waiting : is_waiting c.loop-next.waiters.lists c.args.tran c.index.result.now.at ≡ true =
-      ap (list_any (λ w. same_tran w c.args.tran)) (sym (c.deref.ensures.value ∙ c.take-list.ensures.given)) ∙ sym c.contains.ensures.value ∙ c.if-contains.true in
+    ap (list_any (λ w. same_tran w c.args.tran)) (sym (c.deref.ensures.value ∙ c.take-list.ensures.given)) ∙ sym c.contains.ensures.value ∙ c.if-contains.true in
     let first = is_first c.args.waits.now c.args.tran (is_waiting c.loop-next.waiters.lists) c.loop-next.steps.items c.loop-next.next c.index.result.now c.loop-next.invariant
-      (read_step c.loop-next.steps.items c.loop-next.next c.index.result.now (omega arith) c.index.ensures) c.args.tran (omega arith) waiting in
+    (read_step c.loop-next.steps.items c.loop-next.next c.index.result.now (omega arith) c.index.ensures) c.args.tran (omega arith) waiting in
     subst (λ (steps : List Step). IsFirst steps c.loop-next.next) (sym c.deref-then-contains.ensures.value) first
 
 pub returns-then-contains-clause-cycle : goal.returns-then-contains-clause-cycle

@@ -1,7 +1,7 @@
-use Rattle.std.proofs.Common.{◌≡◌, ◌+◌, length, arith, ap, sym, ◌∙◌}
+use Rattle.std.proofs.Common.{◌+◌, length, ap, sym, ◌∙◌}
 use Rattle.std.specs.Prelude.{[]}
 use Rattle.std.specs.Option.{option_map_or}
-use Rattle.deadlock_cycle.specs.Waiting.{pairs_left, waiters_of}
+use Rattle.deadlock_cycle.specs.Waiting.{pairs_left}
 use Rattle.deadlock_cycle.proofs.Lists.{taken, fewer}
 use Rattle.deadlock_cycle.proofs.waiters.Waiters.take.Goals as goal
 
