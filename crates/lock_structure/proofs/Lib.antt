@@ -1,0 +1,4 @@
+mod Masks
+mod Counts
+mod Clean
+mod Retained

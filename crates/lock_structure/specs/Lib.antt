@@ -1,0 +1,6 @@
+pub mod Entries
+pub mod Chains
+pub mod Depth
+pub mod Records
+pub mod Areas
+pub mod Locks

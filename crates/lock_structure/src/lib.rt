@@ -1,0 +1,23 @@
+//! The lock structure of a group's facility: the lock table, and the records of locks that outlive their members.
+//!
+//! A member's lock makes interest in the entry of the lock table on which its name falls. Where no other member's
+//! interest is in the way, the facility grants the lock at once. Else the members settle it between them, and the entry's
+//! version tells whether their answers still stand.
+#![tactic(auto)]
+
+pub mod area;
+pub mod chain;
+pub mod entry;
+pub mod mask;
+pub mod records;
+mod replies;
+pub mod structure;
+
+pub use structure::LockStructure;
+
+pub use chain::Record;
+pub use replies::{GrantReply, Obtained};
+
+
+#[cfg(test)]
+mod tests;
