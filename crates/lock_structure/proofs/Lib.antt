@@ -1,4 +1,2 @@
 mod Masks
 mod Counts
-mod Clean
-mod Retained

@@ -3,4 +3,4 @@ pub mod Chains
 pub mod Depth
 pub mod Records
 pub mod Areas
-pub mod Locks
+pub mod Buckets

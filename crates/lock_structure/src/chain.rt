@@ -1,7 +1,8 @@
 //! The records of the names that fall on one entry, as a chain of cells that are taken from areas and given back.
 
 ghost use Rattle.std.specs.Prelude.{◌≡◌, ◌∷◌, ◌==◌, ◌&&◌, map, is_some, [], ◌+◌, length, slice_get, IfOk, IfErr, Some};
-ghost use Rattle.lock_structure.specs.Records.{same_name, is_of, record_in, put_in, without, retained_by, retained_of};
+ghost use Rattle.lock_structure.specs.Records.{same_name, is_of, record_in, retained_of};
+ghost use Rattle.lock_structure.specs.Buckets.{put_in, without, retained_by};
 
 use ds_base::MemberId;
 use ds_model::Name;

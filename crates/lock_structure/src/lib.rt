@@ -6,18 +6,7 @@
 #![tactic(auto)]
 
 pub mod area;
+pub mod buckets;
 pub mod chain;
 pub mod entry;
 pub mod mask;
-pub mod records;
-mod replies;
-pub mod structure;
-
-pub use structure::LockStructure;
-
-pub use chain::Record;
-pub use replies::{GrantReply, Obtained};
-
-
-#[cfg(test)]
-mod tests;

@@ -1,7 +1,8 @@
 ghost use Rattle.std.specs.Prelude.{◌≡◌, ◌<◌, ◌≤◌, ◌^◌, ◌||◌, ◌==◌, not, length, map, replicate, slice_set, slice_index_or, is_some, nat_lt, IfOk, IsTrue, ℕ, slice_get, [], if◌then◌else◌};
 ghost use Rattle.ds_base.specs.Ids.{IsMember};
 ghost use Rattle.lock_names.specs.Modes.{is_recorded};
-ghost use Rattle.lock_structure.specs.Records.{area_of, record_in, recorded_in, released_in, purged_in, retained_by, count_in, size_of, without, joined, is_retained, all_retained, no_room, all_free};
+ghost use Rattle.lock_structure.specs.Records.{area_of, record_in, joined, is_retained};
+ghost use Rattle.lock_structure.specs.Buckets.{recorded_in, released_in, purged_in, retained_by, count_in, room_of, without, all_retained, no_room, all_free};
 
 
 use crate::area::Area;
@@ -14,17 +15,17 @@ use std::marker::Model;
 
 /// The records by the entries on which their names fall, within their areas.
 #[derive(Drop)]
-pub struct Records {
+pub struct Buckets {
     chains: Vec<Chain>,
     areas: Vec<Area>,
     records: u32,
     pages: u32,
 }
 
-impl Model for Records {
-    ghost use Rattle.lock_structure.specs.Records.{Book, HasRoom};
+impl Model for Buckets {
+    ghost use Rattle.lock_structure.specs.Buckets.{Chained, HasRoom};
 
-    ghost Value = { Book };
+    ghost Value = { Chained };
 
     ghost view = { λ a. record { chains = a.chains.items; records = a.records; pages = a.pages } };
 
@@ -77,7 +78,7 @@ fn retain_all(chains: &mut Vec<Chain>, member: MemberId)
     }
 }
 
-impl Records {
+impl Buckets {
     pub fn find(&self, at: usize, member: MemberId, name: &Name) -> Option<Record>
         requires { at < length self.now.chains }
         ensures { result ≡ record_in (slice_index_or self.now.chains at []) member name.now }
@@ -102,7 +103,7 @@ impl Records {
     /// Records a lock that was granted.
     pub fn enter(&mut self, at: usize, member: MemberId, name: &Name, mode: Mode)
         requires at { at < length self.old.chains }
-        requires room { IsTrue (not (is_recorded mode) || is_some (record_in (slice_index_or self.old.chains at []) member name.now) || nat_lt (count_in (area_of member name.now) self.old.chains) (size_of self.old (area_of member name.now))) }
+        requires room { IsTrue (not (is_recorded mode) || is_some (record_in (slice_index_or self.old.chains at []) member name.now) || nat_lt (count_in (area_of member name.now) self.old.chains) (room_of self.old (area_of member name.now))) }
         ensures { self.new ≡ record self.old { chains = slice_set self.old.chains at (recorded_in (slice_index_or self.old.chains at []) member name.now mode) } }
     {
         if !recorded(mode) {
@@ -153,66 +154,5 @@ impl Records {
         ensures { self.new ≡ record self.old { chains = map (map (retained_by member)) self.old.chains } }
     {
         retain_all(&mut self.chains, member);
-    }
-
-    /// The member's retained record with so many of its retained records before it.
-    pub fn retained(&self, member: MemberId, at: u32) -> Option<(Name, Mode)>
-        ensures { result ≡ slice_get (all_retained member self.now.chains) at }
-    {
-        nth_retained(&self.chains, member, at)
-    }
-}
-
-#[tactic(auto, using(crate::proofs::Retained::retained_step))]
-fn nth_retained(chains: &[Chain], member: MemberId, at: u32) -> Option<(Name, Mode)>
-    ensures { result ≡ slice_get (all_retained member chains.now) at }
-{
-    let mut left = at;
-    for chain in chains {
-        match chain.retained(member, left) {
-            Ok(found) => return Some(found),
-            Err(more) => left = more,
-        }
-    }
-    None
-}
-
-/// As many empty chains.
-fn empty_chains(alloc: Global, count: u32) -> Result<Vec<Chain>, NoMemory>
-    ensures { IfOk result (λ chains. chains.items ≡ replicate count []) }
-{
-    let mut chains = Vec::with_capacity(alloc, count as usize)?;
-    for _made in 0..count {
-        chains.push_reserved(Chain::new());
-    }
-    Ok(chains)
-}
-
-/// The area of table spaces and rows, and those of the members.
-fn free_areas(alloc: Global, records: u32, pages: u32) -> Result<Vec<Area>, NoMemory>
-    ensures count { IfOk result (λ areas. length areas.items ≡ 33) }
-    ensures free { IfOk result (λ areas. (k : ℕ) → k < 33 → slice_index_or areas.items k no_room ≡ all_free (if k == 0 then records else pages)) }
-{
-    let mut areas = Vec::with_capacity(alloc, 33)?;
-    for area in 0..33u32 {
-        let size = if area == 0 { records } else { pages };
-        areas.push_reserved(Area::new(alloc, size)?);
-    }
-    Ok(areas)
-}
-
-impl Records {
-    /// No records, and room for so many of table spaces and rows, and for so many of each member's pages and page sets.
-    pub fn new(alloc: Global, entries: u32, records: u32, pages: u32) -> Result<Records, NoMemory>
-        ensures { IfOk result (λ made. made ≡ record { chains = replicate entries []; records = records; pages = pages }) }
-    {
-        let chains = empty_chains(alloc, entries)?;
-        let areas = free_areas(alloc, records, pages)?;
-        Ok(Records {
-            chains,
-            areas,
-            records,
-            pages,
-        })
     }
 }

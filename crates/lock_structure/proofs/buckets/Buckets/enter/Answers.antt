@@ -1,7 +1,7 @@
 use Rattle.std.proofs.Common.{◌≡◌, true, arith, ◌∙◌, sym, ap, rules}
 use Rattle.std.proofs.lemmas.Grind.{common_steps}
 use Rattle.lock_structure.proofs.Counts.{put_room_at, insert_room_at, free_at}
-use Rattle.lock_structure.proofs.records.Records.enter.Goals as goal
+use Rattle.lock_structure.proofs.buckets.Buckets.enter.Goals as goal
 
 pub invariant_of-self : goal.invariant_of-self
 invariant_of-self c = put_room_at _ _ _ _ c.args.at c.args.member c.args.name.now c.joined-lock.result c.index_mut.result.now _ (grind (arith, c.requires.at, c.self.view_is)) c.index_mut.ensures.value c.put.ensures c.self.invariant

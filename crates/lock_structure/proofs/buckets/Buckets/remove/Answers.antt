@@ -2,7 +2,7 @@ use Rattle.std.proofs.Common.{◌≡◌, true, false, arith, ◌∙◌, sym, ap,
 use Rattle.std.specs.Prelude.{is_some}
 use Rattle.lock_structure.specs.Records.{record_in}
 use Rattle.lock_structure.proofs.Counts.{remove_room_at, absent_room_at, some_used_at}
-use Rattle.lock_structure.proofs.records.Records.remove.Goals as goal
+use Rattle.lock_structure.proofs.buckets.Buckets.remove.Goals as goal
 
 pub give_back-requires : goal.give_back-requires
 give_back-requires c =
