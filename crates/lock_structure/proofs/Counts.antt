@@ -1,5 +1,5 @@
 -- How many records of an area stand, and what room that leaves.
-use Rattle.std.proofs.Common.{◌≡◌, ◌≢◌, ℕ, zero, suc, ◌+◌, ◌<◌, ◌≤◌, Bool, true, false, List, [], ◌∷◌, length, map, set, get_or, refl, sym, ap, ◌∙◌, arith, if◌then◌else◌, ◌==◌, IsTrue}
+use Rattle.std.proofs.Common.{◌≡◌, ◌≢◌, ℕ, zero, suc, ◌+◌, ◌<◌, ◌≤◌, Bool, true, false, List, [], ◌∷◌, length, map, set, get_or, refl, sym, ap, ◌∙◌, arith, if◌then◌else◌, ◌==◌, IsTrue, replicate}
 use Rattle.std.specs.Prelude.{Option, Some, None, is_some, ◌||◌, nat_lt}
 use Rattle.std.proofs.lemmas.List.{get_or-set_other, get_or-set_same, get_or_default}
 use Rattle.std.proofs.lemmas.Grind.{common_steps}
@@ -9,7 +9,7 @@ use Rattle.lock_structure.specs.declared.chain.Record.{Record}
 use Rattle.lock_structure.specs.declared.chain.Held.{Held}
 use Rattle.lock_structure.specs.Areas.{Room}
 use Rattle.lock_structure.specs.Records.{same_name, is_of, area_of, is_in, how_many, record_in}
-use Rattle.lock_structure.specs.Buckets.{put_in, without, retained_by, count_in, no_room, HasRoom}
+use Rattle.lock_structure.specs.Buckets.{put_in, without, retained_by, count_in, no_room, all_free, HasRoom}
 
 -- one name has one area
 same_area : (a n : Name) (m : ℕ) → same_name a n ≡ true → area_of m a ≡ area_of m n
@@ -31,7 +31,7 @@ same_area (name.Page p) (name.Row t l) m e = cc
 same_area (name.Set p) (name.Space t) m e = cc
 same_area (name.Set p) (name.Row t l) m e = cc
 
-put_count : (hs : List Held) (m : ℕ) (n : Name) (r : Record) (area : ℕ) → how_many area (put_in hs m n r) ≡ how_many area hs
+pub put_count : (hs : List Held) (m : ℕ) (n : Name) (r : Record) (area : ℕ) → how_many area (put_in hs m n r) ≡ how_many area hs
 put_count [] m n r area = refl
 put_count (h ∷ hs) m n r area = let ih = put_count hs m n r area in grind (arith, ih)
 
@@ -39,20 +39,20 @@ pub absent_without : (hs : List Held) (m : ℕ) (n : Name) → is_some (record_i
 absent_without [] m n e = refl
 absent_without (h ∷ hs) m n e = let ih = absent_without hs m n in grind (arith, ih)
 
-without_count : (hs : List Held) (m : ℕ) (n : Name) (area : ℕ) → is_some (record_in hs m n) ≡ true → how_many area hs ≡ how_many area (without hs m n) + (if area == area_of m n then 1 else 0)
+pub without_count : (hs : List Held) (m : ℕ) (n : Name) (area : ℕ) → is_some (record_in hs m n) ≡ true → how_many area hs ≡ how_many area (without hs m n) + (if area == area_of m n then 1 else 0)
 without_count [] m n area e = cc
 without_count (h ∷ hs) m n area e = let ih = without_count hs m n area in let s = same_area h.name n m in grind (arith, ih, s)
 
-retained_count : (hs : List Held) (m area : ℕ) → how_many area (map (retained_by m) hs) ≡ how_many area hs
+pub retained_count : (hs : List Held) (m area : ℕ) → how_many area (map (retained_by m) hs) ≡ how_many area hs
 retained_count [] m area = refl
 retained_count (h ∷ hs) m area = let ih = retained_count hs m area in grind (arith, ih)
 
-all_retained_count : (cs : List (List Held)) (m area : ℕ) → count_in area (map (map (retained_by m)) cs) ≡ count_in area cs
+pub all_retained_count : (cs : List (List Held)) (m area : ℕ) → count_in area (map (map (retained_by m)) cs) ≡ count_in area cs
 all_retained_count [] m area = refl
 all_retained_count (c ∷ cs) m area = let ih = all_retained_count cs m area in let here = retained_count c m area in grind (arith, ih, here)
 
 -- a chain in the place of another
-changed_count : (cs : List (List Held)) (at area : ℕ) (ys : List Held) → at < length cs → count_in area (set cs at ys) + how_many area (get_or cs at []) ≡ count_in area cs + how_many area ys
+pub changed_count : (cs : List (List Held)) (at area : ℕ) (ys : List Held) → at < length cs → count_in area (set cs at ys) + how_many area (get_or cs at []) ≡ count_in area cs + how_many area ys
 changed_count [] at area ys h = absurd (omega arith)
 changed_count (c ∷ cs) zero area ys h = omega arith
 changed_count (c ∷ cs) (suc at) area ys h = let ih = changed_count cs at area ys (omega (arith, h)) in omega (arith, ih)
@@ -164,3 +164,15 @@ pub free_at : (cs : List (List Held)) (areas : List Room) (records pages k : ℕ
 free_at cs areas records pages k area b a has l =
     let here : area ≡ get_or areas k no_room = a ∙ get_or_default areas k area no_room (omega (arith, has.count)) in
     let f = has.free k b in rw here (omega (arith, f, l))
+
+empty_count : (area n : ℕ) → count_in area (replicate n []) ≡ 0
+empty_count area zero = refl
+empty_count area (suc n) = let ih = empty_count area n in omega (arith, ih)
+
+pub empty_room : (cs : List (List Held)) (areas : List Room) (buckets records pages : ℕ) → cs ≡ replicate buckets [] → length areas ≡ 33
+    → ((k : ℕ) → k < 33 → get_or areas k no_room ≡ all_free (if k == 0 then records else pages)) → HasRoom cs areas records pages
+empty_room cs areas buckets records pages e count free = record {
+  count = count;
+  size = λ k b. ap (λ q. q.size) (free k b);
+  free = λ k b. let f = ap (λ q. q.free) (free k b) in let none = empty_count k buckets in rw e (omega (arith, f, none));
+}

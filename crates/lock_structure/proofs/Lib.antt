@@ -1,2 +1,6 @@
 mod Masks
 mod Counts
+mod Chains
+mod Hashed
+mod Retained
+mod Emptied

@@ -101,3 +101,7 @@ pub record Retains (m : ℕ) (b c : Book) : Type 0 where
   pub count : (area : ℕ) → how_many area c.held ≡ how_many area b.held
   pub records_limit : c.records ≡ b.records
   pub pages_limit : c.pages ≡ b.pages
+
+-- no records, and the room for them
+abbrev pub no_records : ℕ → ℕ → Book
+no_records records pages = record { held = []; records = records; pages = pages }

@@ -89,6 +89,16 @@ impl Chain {
         Chain { node: Node::End }
     }
 
+    /// The newest record.
+    pub fn first(&self) -> Option<Held>
+        ensures { result ≡ slice_get self.now 0 }
+    {
+        match &self.node {
+            Node::End => None,
+            Node::Link(held, _) => Some(*held),
+        }
+    }
+
     /// The member's record of the name.
     pub fn find(&self, member: MemberId, name: &Name) -> Option<Record>
         ensures { result ≡ record_in self.now member name.now }

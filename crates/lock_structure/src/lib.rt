@@ -10,3 +10,4 @@ pub mod buckets;
 pub mod chain;
 pub mod entry;
 pub mod mask;
+pub mod records;

@@ -1,0 +1,87 @@
+//! The records of locks, each found by its name.
+
+ghost use Rattle.std.specs.Prelude.{◌≡◌, ◌≤◌, ◌||◌, ◌==◌, not, length, IfOk, IsTrue, slice_get};
+ghost use Rattle.lock_names.specs.Modes.{is_recorded};
+ghost use Rattle.lock_structure.specs.Records.{record_in, how_many, retained_of, room_for, Alters, Retains, after_grant, after_release, after_purge, no_records};
+
+use crate::buckets::Buckets;
+use crate::chain::Record;
+use ds_base::{MemberId, NoMemory};
+use ds_model::Name;
+use lock_names::Mode;
+use std::alloc::Global;
+use std::marker::Model;
+
+/// The records of locks, with room for so many.
+#[derive(Drop)]
+pub struct Records {
+    buckets: Buckets,
+}
+
+impl Model for Records {
+    ghost use Rattle.lock_structure.specs.Records.{Book};
+    ghost use Rattle.lock_structure.specs.Buckets.{IsHashed, flat};
+
+    ghost Value = { Book };
+
+    ghost view = { λ a. record { held = flat a.buckets.chains; records = a.buckets.records; pages = a.buckets.pages } };
+
+    ghost invariant = { λ a. IsHashed a.buckets.chains };
+}
+
+impl Records {
+    /// The member's record of the name.
+    #[tactic(auto, using(crate::proofs::Hashed::hashed_find))]
+    pub fn find(&self, member: MemberId, name: &Name) -> Option<Record>
+        ensures { result ≡ record_in self.now.held member name.now }
+    {
+        self.buckets.find(self.buckets.bucket_of(name), member, name)
+    }
+
+    /// Whether no room is left for another record of a table space or row.
+    #[tactic(auto, using(crate::proofs::Hashed::flat_count))]
+    pub fn is_full(&self) -> bool
+        ensures full { result ≡ (how_many 0 self.now.held == self.now.records) }
+        ensures bound { how_many 0 self.now.held ≤ self.now.records }
+    {
+        self.buckets.is_full()
+    }
+
+    pub fn limit(&self) -> u32
+        ensures { result ≡ self.now.records }
+    {
+        self.buckets.limit()
+    }
+
+    /// Records a lock that was granted.
+    pub fn enter(&mut self, member: MemberId, name: &Name, mode: Mode)
+        requires { IsTrue (not (is_recorded mode) || room_for self.old member name.now) }
+        ensures { Alters member name.now (after_grant mode) self.old self.new }
+    {
+        let bucket = self.buckets.bucket_of(name);
+        self.buckets.enter(bucket, member, name, mode);
+    }
+
+    /// Frees the member's record of the name, unless it is retained.
+    pub fn release(&mut self, member: MemberId, name: &Name)
+        ensures { Alters member name.now after_release self.old self.new }
+    {
+        let bucket = self.buckets.bucket_of(name);
+        self.buckets.release(bucket, member, name);
+    }
+
+    /// Frees the member's retained record of the name.
+    pub fn purge(&mut self, member: MemberId, name: &Name)
+        ensures { Alters member name.now after_purge self.old self.new }
+    {
+        let bucket = self.buckets.bucket_of(name);
+        self.buckets.purge(bucket, member, name);
+    }
+
+    /// Makes all records of the member retained.
+    pub fn retain(&mut self, member: MemberId)
+        ensures { Retains member self.old self.new }
+    {
+        self.buckets.retain(member);
+    }
+}
