@@ -30,7 +30,7 @@ is_empty cs at chain l e f =
     let none : get_or cs at [] ≡ [] = none_first (get_or cs at []) (subst (λ z. is_some (slice_get z 0) ≡ false) same f) in
     subst (λ z. set cs at z ≡ cs) none (set-get_or cs at [])
 
-pub empty_more : (cs : List (List Held)) (at : ℕ) → at < length cs → set (replicate at [] ++ drop at cs) at [] ≡ replicate (at + 1) [] ++ drop (at + 1) cs
-empty_more [] at l = absurd (omega (arith, l))
-empty_more (c ∷ cs) zero l = refl
-empty_more (c ∷ cs) (suc at) l = let ih = empty_more cs at (omega (arith, l)) in rw add-one (ap (λ z. [] ∷ z) (rw add-one at ih))
+pub fill_more : {X : Type 0} → (x : X) (xs : List X) (at : ℕ) → at < length xs → set (replicate at x ++ drop at xs) at x ≡ replicate (at + 1) x ++ drop (at + 1) xs
+fill_more x [] at l = absurd (omega (arith, l))
+fill_more x (y ∷ ys) zero l = refl
+fill_more x (y ∷ ys) (suc at) l = let ih = fill_more x ys at (omega (arith, l)) in rw add-one (ap (λ z. x ∷ z) (rw add-one at ih))

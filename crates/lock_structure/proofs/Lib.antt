@@ -4,3 +4,4 @@ mod Chains
 mod Hashed
 mod Retained
 mod Emptied
+mod Clean

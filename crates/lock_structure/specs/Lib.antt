@@ -4,3 +4,4 @@ pub mod Depth
 pub mod Records
 pub mod Areas
 pub mod Buckets
+pub mod Locks

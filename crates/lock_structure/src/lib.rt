@@ -5,9 +5,16 @@
 //! version tells whether their answers still stand.
 #![tactic(auto)]
 
-pub mod area;
-pub mod buckets;
-pub mod chain;
-pub mod entry;
-pub mod mask;
-pub mod records;
+mod area;
+mod buckets;
+mod chain;
+mod entry;
+mod mask;
+mod records;
+mod replies;
+mod structure;
+
+pub use chain::{Held, Record};
+pub use entry::Entry;
+pub use replies::{GrantReply, Obtained};
+pub use structure::LockStructure;

@@ -29,7 +29,38 @@ impl Model for Records {
     ghost invariant = { λ a. IsHashed a.buckets.chains };
 }
 
+/// One bucket for each record for which there is room, within bounds.
+fn bucket_count(records: u32, pages: u32) -> u32
+    ensures some { 1 ≤ result }
+{
+    let room = u64::from(records) + 32 * u64::from(pages);
+    room.clamp(1, 65_536) as u32
+}
+
 impl Records {
+    /// No records, with room for so many of table spaces and rows, and for so many of each member's pages and page sets.
+    pub fn new(alloc: Global, records: u32, pages: u32) -> Result<Records, NoMemory>
+        ensures { IfOk result (λ made. made ≡ no_records records pages) }
+    {
+        let buckets = Buckets::new(alloc, bucket_count(records, pages), records, pages)?;
+        Ok(Records { buckets })
+    }
+
+    /// Takes out all records.
+    pub fn reset(&mut self)
+        ensures { self.new ≡ no_records self.old.records self.old.pages }
+    {
+        self.buckets.clear();
+    }
+
+    /// The member's retained record with so many of its retained records before it.
+    #[tactic(auto, using(crate::proofs::Hashed::flat_all_retained))]
+    pub fn retained(&self, member: MemberId, at: u32) -> Option<(Name, Mode)>
+        ensures { result ≡ slice_get (retained_of member self.now.held) at }
+    {
+        self.buckets.retained(member, at)
+    }
+
     /// The member's record of the name.
     #[tactic(auto, using(crate::proofs::Hashed::hashed_find))]
     pub fn find(&self, member: MemberId, name: &Name) -> Option<Record>
