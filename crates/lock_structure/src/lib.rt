@@ -18,3 +18,6 @@ pub use chain::{Held, Record};
 pub use entry::Entry;
 pub use replies::{GrantReply, Obtained};
 pub use structure::LockStructure;
+
+#[cfg(test)]
+mod tests;
