@@ -15,11 +15,11 @@ use Rattle.lock_structure.specs.Buckets.{IsUnique, IsHashed, flat, all_retained,
 use Rattle.lock_structure.proofs.Chains.{same_number, recorded_now, recorded_unique, released_now, released_unique, purged_now, purged_unique, retained_now, retained_unique}
 use Rattle.lock_structure.proofs.Counts.{changed_count, put_count, without_count, absent_without, retained_count}
 
-record_append : (xs ys : List Held) (k : ℕ) (p : Name) → record_in (xs ++ ys) k p ≡ (if is_some (record_in xs k p) then record_in xs k p else record_in ys k p)
+pub record_append : (xs ys : List Held) (k : ℕ) (p : Name) → record_in (xs ++ ys) k p ≡ (if is_some (record_in xs k p) then record_in xs k p else record_in ys k p)
 record_append [] ys k p = refl
 record_append (x ∷ xs) ys k p = let ih = record_append xs ys k p in grind (arith, ih)
 
-all_none : (cs : List (List Held)) (k : ℕ) (p : Name) → ((b : ℕ) → b < length cs → record_in (get_or cs b []) k p ≡ None) → record_in (flat cs) k p ≡ None
+pub all_none : (cs : List (List Held)) (k : ℕ) (p : Name) → ((b : ℕ) → b < length cs → record_in (get_or cs b []) k p ≡ None) → record_in (flat cs) k p ≡ None
 all_none [] k p h = refl
 all_none (c ∷ cs) k p h =
     let rest = all_none cs k p (λ b l. h (suc b) (omega (arith, l))) in
@@ -36,7 +36,7 @@ find_flat (c ∷ cs) (suc e) k p l h =
     let here : record_in c k p ≡ None = h zero (omega arith) (λ q. omega (arith, q)) in
     let a = record_append c (flat cs) k p in grind (arith, ih, here, a)
 
-place_bound : (cs : List (List Held)) (p : Name) → 1 ≤ length cs → entry_number p (length cs) < length cs
+pub place_bound : (cs : List (List Held)) (p : Name) → 1 ≤ length cs → entry_number p (length cs) < length cs
 place_bound cs p h = mod_below _ (length cs) h
 
 -- a record is found in the chain on which its name falls
@@ -162,7 +162,7 @@ purged_all cs at m n records pages e h = rw e (changed_all cs m n after_purge _ 
 
 -- ---- a failure
 
-flat_retained : (cs : List (List Held)) (m : ℕ) → flat (map (map (retained_by m)) cs) ≡ map (retained_by m) (flat cs)
+pub flat_retained : (cs : List (List Held)) (m : ℕ) → flat (map (map (retained_by m)) cs) ≡ map (retained_by m) (flat cs)
 flat_retained [] m = refl
 flat_retained (c ∷ cs) m = let ih = flat_retained cs m in rw (map-append (retained_by m) c (flat cs), ih) refl
 
@@ -191,7 +191,7 @@ retained_all cs m records pages = record {
 
 -- ---- the retained records of one chain after the other
 
-retained_append : (m : ℕ) (xs ys : List Held) → retained_of m (xs ++ ys) ≡ retained_of m xs ++ retained_of m ys
+pub retained_append : (m : ℕ) (xs ys : List Held) → retained_of m (xs ++ ys) ≡ retained_of m xs ++ retained_of m ys
 retained_append m [] ys = refl
 retained_append m (x ∷ xs) ys = let ih = retained_append m xs ys in grind (arith, ih, common_steps)
 

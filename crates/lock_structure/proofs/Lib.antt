@@ -5,3 +5,4 @@ mod Hashed
 mod Retained
 mod Emptied
 mod Clean
+mod Order

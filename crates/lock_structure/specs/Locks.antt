@@ -13,7 +13,7 @@ use Rattle.lock_structure.specs.declared.replies.Obtained.TheVariants as obtaine
 use Rattle.lock_structure.specs.declared.replies.GrantReply.{GrantReply}
 use Rattle.lock_structure.specs.declared.replies.GrantReply.TheVariants as grant
 use Rattle.lock_structure.specs.Entries.{interest_in, has_member, blocks, blank, no_interest, with_class}
-use Rattle.lock_structure.specs.Records.{Book, area_of, record_in, how_many, room_for, Alters, Retains, after_grant, after_release, after_purge, no_records}
+use Rattle.lock_structure.specs.Records.{Book, area_of, record_in, retained_of, names_of, without_name, is_retained, how_many, room_for, Alters, Retains, after_grant, after_release, after_purge, no_records}
 
 pub record Locks : Type 0 where
   pub entries : List Entry
@@ -29,6 +29,10 @@ interest_of w m e = interest_in (entry_at w e) m
 -- the member's record of the name
 abbrev pub record_of : Locks → ℕ → Name → Option Record
 record_of w m n = record_in w.book.held m n
+
+-- the member's retained records
+abbrev pub retained_in : Locks → ℕ → List (Name × Mode)
+retained_in w m = retained_of m w.book.held
 
 -- the entry on which the name falls
 abbrev pub place_of : Locks → Name → ℕ
@@ -79,6 +83,7 @@ pub record IsGranted (w : Locks) (m : ℕ) (n : Name) (mode : Mode) (v : Locks) 
   pub versions : (e : ℕ) → (entry_at v e).version ≡ (if e == place_of w n then (entry_at w e).version + 1 else (entry_at w e).version)
   pub interest : SetsInterest w m (place_of w n) (with_class (class_of mode) (interest_of w m (place_of w n))) v
   pub records : Alters m n (after_grant mode) w.book v.book
+  pub order : (k : ℕ) → names_of (retained_in v k) ≡ names_of (retained_in w k)
 
 -- what a release leaves, where the member keeps this interest in the entry
 pub record IsReleased (w : Locks) (m : ℕ) (n : Name) (keeps : Interest) (v : Locks) : Type 0 where
@@ -86,11 +91,13 @@ pub record IsReleased (w : Locks) (m : ℕ) (n : Name) (keeps : Interest) (v : L
   pub versions : (e : ℕ) → (entry_at v e).version ≡ (entry_at w e).version
   pub interest : SetsInterest w m (place_of w n) keeps v
   pub records : Alters m n after_release w.book v.book
+  pub order : (k : ℕ) → retained_in v k ≡ retained_in w k
 
 -- what a purge of the member's record leaves
 pub record IsPurged (w : Locks) (m : ℕ) (n : Name) (v : Locks) : Type 0 where
   pub entries : v.entries ≡ w.entries
   pub records : Alters m n after_purge w.book v.book
+  pub order : (k : ℕ) → retained_in v k ≡ (if (k == m) && is_retained (record_of w m n) then without_name n (retained_in w k) else retained_in w k)
 
 -- what a failure of the member leaves
 pub record HasFailed (w : Locks) (m : ℕ) (v : Locks) : Type 0 where
@@ -98,6 +105,7 @@ pub record HasFailed (w : Locks) (m : ℕ) (v : Locks) : Type 0 where
   pub versions : (e : ℕ) → (entry_at v e).version ≡ (entry_at w e).version
   pub interest : (k e : ℕ) → IsMember k → e < length w.entries → interest_of v k e ≡ (if k == m then no_interest else interest_of w k e)
   pub records : Retains m w.book v.book
+  pub order : (k : ℕ) → (k == m) ≡ false → retained_in v k ≡ retained_in w k
 
 -- ---- which answer a request gets, and what it leaves
 

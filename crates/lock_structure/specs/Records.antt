@@ -45,6 +45,15 @@ abbrev pub retained_of : ℕ → List Held → List (Name × Mode)
 retained_of m [] = []
 retained_of m (h ∷ hs) = if (h.member == m) && h.lock.retained then (h.name, h.lock.mode) ∷ retained_of m hs else retained_of m hs
 
+abbrev pub names_of : List (Name × Mode) → List Name
+names_of [] = []
+names_of (x ∷ xs) = x.0 ∷ names_of xs
+
+-- the retained records without that of the name
+abbrev pub without_name : Name → List (Name × Mode) → List (Name × Mode)
+without_name n [] = []
+without_name n (x ∷ xs) = if same_name x.0 n then xs else x ∷ without_name n xs
+
 -- all records, and the room for them
 pub record Book : Type 0 where
   pub held : List Held

@@ -1,8 +1,8 @@
 //! The records of locks, each found by its name.
 
-ghost use Rattle.std.specs.Prelude.{◌≡◌, ◌≤◌, ◌||◌, ◌==◌, not, length, IfOk, IsTrue, slice_get};
+ghost use Rattle.std.specs.Prelude.{◌≡◌, ◌≤◌, ◌||◌, ◌&&◌, ◌==◌, ℕ, not, true, false, IfOk, IfSome, Some, IsTrue, slice_get, if◌then◌else◌};
 ghost use Rattle.lock_names.specs.Modes.{is_recorded};
-ghost use Rattle.lock_structure.specs.Records.{record_in, how_many, retained_of, room_for, Alters, Retains, after_grant, after_release, after_purge, no_records};
+ghost use Rattle.lock_structure.specs.Records.{record_in, how_many, retained_of, room_for, names_of, without_name, is_retained, Alters, Retains, after_grant, after_release, after_purge, no_records};
 
 use crate::buckets::Buckets;
 use crate::chain::Record;
@@ -54,9 +54,10 @@ impl Records {
     }
 
     /// The member's retained record with so many of its retained records before it.
-    #[tactic(auto, using(crate::proofs::Hashed::flat_all_retained))]
+    #[tactic(auto, using(crate::proofs::Hashed::flat_all_retained, crate::proofs::Order::retained_found))]
     pub fn retained(&self, member: MemberId, at: u32) -> Option<(Name, Mode)>
-        ensures { result ≡ slice_get (retained_of member self.now.held) at }
+        ensures nth { result ≡ slice_get (retained_of member self.now.held) at }
+        ensures found { IfSome result (λ x. record_in self.now.held member x.0 ≡ Some (record { mode = x.1; retained = true })) }
     {
         self.buckets.retained(member, at)
     }
@@ -87,7 +88,8 @@ impl Records {
     /// Records a lock that was granted.
     pub fn enter(&mut self, member: MemberId, name: &Name, mode: Mode)
         requires { IsTrue (not (is_recorded mode) || room_for self.old member name.now) }
-        ensures { Alters member name.now (after_grant mode) self.old self.new }
+        ensures records { Alters member name.now (after_grant mode) self.old self.new }
+        ensures order { (k : ℕ) → names_of (retained_of k self.new.held) ≡ names_of (retained_of k self.old.held) }
     {
         let bucket = self.buckets.bucket_of(name);
         self.buckets.enter(bucket, member, name, mode);
@@ -95,7 +97,8 @@ impl Records {
 
     /// Frees the member's record of the name, unless it is retained.
     pub fn release(&mut self, member: MemberId, name: &Name)
-        ensures { Alters member name.now after_release self.old self.new }
+        ensures records { Alters member name.now after_release self.old self.new }
+        ensures order { (k : ℕ) → retained_of k self.new.held ≡ retained_of k self.old.held }
     {
         let bucket = self.buckets.bucket_of(name);
         self.buckets.release(bucket, member, name);
@@ -103,7 +106,8 @@ impl Records {
 
     /// Frees the member's retained record of the name.
     pub fn purge(&mut self, member: MemberId, name: &Name)
-        ensures { Alters member name.now after_purge self.old self.new }
+        ensures records { Alters member name.now after_purge self.old self.new }
+        ensures order { (k : ℕ) → retained_of k self.new.held ≡ (if (k == member) && is_retained (record_in self.old.held member name.now) then without_name name.now (retained_of k self.old.held) else retained_of k self.old.held) }
     {
         let bucket = self.buckets.bucket_of(name);
         self.buckets.purge(bucket, member, name);
@@ -111,7 +115,8 @@ impl Records {
 
     /// Makes all records of the member retained.
     pub fn retain(&mut self, member: MemberId)
-        ensures { Retains member self.old self.new }
+        ensures records { Retains member self.old self.new }
+        ensures order { (k : ℕ) → (k == member) ≡ false → retained_of k self.new.held ≡ retained_of k self.old.held }
     {
         self.buckets.retain(member);
     }

@@ -1,9 +1,9 @@
-ghost use Rattle.std.specs.Prelude.{◌≡◌, ◌+◌, ◌<◌, ◌≤◌, ◌^◌, ◌==◌, ◌||◌, length, IsTrue, not, false, ℕ, slice_index_or, slice_get, replicate, IfOk, if◌then◌else◌};
+ghost use Rattle.std.specs.Prelude.{◌≡◌, ◌+◌, ◌<◌, ◌≤◌, ◌^◌, ◌==◌, ◌||◌, length, IsTrue, not, true, false, ℕ, Some, slice_index_or, slice_get, replicate, IfOk, IfSome, if◌then◌else◌};
 ghost use Rattle.ds_base.specs.Ids.{IsMember};
 ghost use Rattle.lock_names.specs.Modes.{is_recorded};
 ghost use Rattle.lock_structure.specs.Entries.{interest_in, no_interest, blank};
-ghost use Rattle.lock_structure.specs.Records.{area_of, retained_of};
-ghost use Rattle.lock_structure.specs.Locks.{stands, is_clean, is_kept_out, IsLowest, place_of, entry_for, has_room, keeps_out, is_full, IsGranted, Obtains, Grants, IsReleased, IsPurged, HasFailed, empty_locks};
+ghost use Rattle.lock_structure.specs.Records.{area_of};
+ghost use Rattle.lock_structure.specs.Locks.{stands, is_clean, is_kept_out, IsLowest, place_of, entry_for, has_room, record_of, retained_in, keeps_out, is_full, IsGranted, Obtains, Grants, IsReleased, IsPurged, HasFailed, empty_locks};
 
 use crate::chain::Record;
 use crate::entry::{Entry, is_in_the_way};
@@ -17,7 +17,10 @@ use lock_names::{Interest, Mode, class, compatible, entry_of, recorded};
 use std::alloc::Global;
 use std::marker::Model;
 
-/// The lock table and the records of locks.
+/// The lock table and the records of locks, as a lock structure of the coupling facility keeps them (Josten, Mohan, Narang
+/// and Teng, IBM Systems Journal 36(2), 1997).
+///
+/// A record is found by its name, whatever the number of entries. Only the maker takes memory.
 #[derive(Drop)]
 pub struct LockStructure {
     entries: Vec<Entry>,
@@ -94,9 +97,13 @@ impl LockStructure {
         Ok(LockStructure { entries, records })
     }
 
-    /// The member's retained record, of those counted from 0, in an order that stands while none comes or goes.
+    /// The member's retained record, counted from 0: its name and its mode. None where it has no more than `at`.
+    ///
+    /// The order stands: a purge takes its record out of it, and no other call but a failure of this member or a reset
+    /// moves a record. It goes over the whole structure.
     pub fn retained(&self, member: MemberId, at: u32) -> Option<(Name, Mode)>
-        ensures { result ≡ slice_get (retained_of member self.now.book.held) at }
+        ensures nth { result ≡ slice_get (retained_in self.now member) at }
+        ensures found { IfSome result (λ x. record_of self.now member x.0 ≡ Some (record { mode = x.1; retained = true })) }
     {
         self.records.retained(member, at)
     }

@@ -1,3 +1,4 @@
+use Rattle.lock_structure.proofs.Order.{recorded_order}
 use Rattle.std.proofs.Common.{subst, sym}
 use Rattle.std.specs.Prelude.{not, ◌||◌, IsTrue}
 use Rattle.lock_names.specs.Modes.{is_recorded}
@@ -12,5 +13,8 @@ enter-requires-clause-room c = room_all c.self.inside.buckets.chains c.bucket_of
 pub invariant_of-self : goal.invariant_of-self
 invariant_of-self c = rw c.enter.ensures (recorded_hashed c.self.inside.buckets.chains c.bucket_of-bucket.result c.args.member c.args.name.now c.args.mode c.bucket_of-bucket.ensures.place c.self.invariant)
 
-pub returns : goal.returns
-returns c = rw (c.enter.ensures, ← c.self.view_is) (recorded_all c.self.inside.buckets.chains c.bucket_of-bucket.result c.args.member c.args.name.now c.args.mode c.self.inside.buckets.records c.self.inside.buckets.pages c.bucket_of-bucket.ensures.place c.self.invariant)
+pub returns-clause-records : goal.returns-clause-records
+returns-clause-records c = rw (c.enter.ensures, ← c.self.view_is) (recorded_all c.self.inside.buckets.chains c.bucket_of-bucket.result c.args.member c.args.name.now c.args.mode c.self.inside.buckets.records c.self.inside.buckets.pages c.bucket_of-bucket.ensures.place c.self.invariant)
+
+pub returns-clause-order : goal.returns-clause-order
+returns-clause-order c k = rw (c.enter.ensures, ← c.self.view_is) (recorded_order c.self.inside.buckets.chains c.bucket_of-bucket.result c.args.member c.args.name.now c.args.mode k c.bucket_of-bucket.ensures.range)
