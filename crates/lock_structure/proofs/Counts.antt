@@ -65,7 +65,6 @@ put_room cs areas records pages at m n r h room = record {
   free = λ k b. let c = changed_count cs at k (put_in (get_or cs at []) m n r) h in let p = put_count (get_or cs at []) m n r k in let f = room.free k b in omega (arith, c, p, f);
 }
 
-
 room_at : (areas : List Room) (at k : ℕ) (room d : Room) → at < length areas → get_or (set areas at room) k d ≡ (if k == at then room else get_or areas k d)
 room_at areas at k room d h = grind (arith, common_steps)
 

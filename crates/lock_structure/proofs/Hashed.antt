@@ -46,15 +46,15 @@ hashed_find cs k p h = find_flat cs (entry_number p (length cs)) k p (place_boun
 set_apart : (cs : List (List Held)) (at : ℕ) (ys : List Held) (b k : ℕ) (p : Name) → at < length cs → ((entry_number p (length cs) == at) ≡ false → record_in ys k p ≡ None) → IsHashed cs
     → b < length cs → (entry_number p (length cs) == b) ≡ false → record_in (get_or (set cs at ys) b []) k p ≡ None
 set_apart cs at ys b k p l apart h s e = elim (cases_eq b at) [
-      | inl q ↦ rw (q, get_or-set_same cs at ys [] l) (apart (rw (← q) e))
-      | inr ne ↦ rw (get_or-set_other cs at b ys [] ne) (h.apart b k p s e)
-    ]
+  | inl q ↦ rw (q, get_or-set_same cs at ys [] l) (apart (rw (← q) e))
+  | inr ne ↦ rw (get_or-set_other cs at b ys [] ne) (h.apart b k p s e)
+]
 
 set_unique : (cs : List (List Held)) (at : ℕ) (ys : List Held) (b : ℕ) → at < length cs → IsUnique ys → IsHashed cs → b < length cs → IsUnique (get_or (set cs at ys) b [])
 set_unique cs at ys b l u h s = elim (cases_eq b at) [
-      | inl q ↦ rw (q, get_or-set_same cs at ys [] l) u
-      | inr ne ↦ rw (get_or-set_other cs at b ys [] ne) (h.unique b s)
-    ]
+  | inl q ↦ rw (q, get_or-set_same cs at ys [] l) u
+  | inr ne ↦ rw (get_or-set_other cs at b ys [] ne) (h.unique b s)
+]
 
 set_hashed : (cs : List (List Held)) (at : ℕ) (ys : List Held) → at < length cs → IsUnique ys → ((k : ℕ) (p : Name) → (entry_number p (length cs) == at) ≡ false → record_in ys k p ≡ None) → IsHashed cs → IsHashed (set cs at ys)
 set_hashed cs at ys l u apart h = record {
@@ -103,12 +103,12 @@ changed_all : (cs : List (List Held)) (m : ℕ) (n : Name) (f : Option Record �
 changed_all cs m n f ys records pages c h = record {
   now = λ k p. changed_now cs m n f ys k p c h;
   count = λ area.
-    let b = entry_number n (length cs) in
-    let found = hashed_find cs m n h in
-    let old = flat_count cs area in
-    let new = flat_count (set cs b ys) area in
-    let change = changed_count cs b area ys (place_bound cs n h.some) in
-    let here = c.count area in rw (old, new, found) (omega (arith, change, here));
+      let b = entry_number n (length cs) in
+      let found = hashed_find cs m n h in
+      let old = flat_count cs area in
+      let new = flat_count (set cs b ys) area in
+      let change = changed_count cs b area ys (place_bound cs n h.some) in
+      let here = c.count area in rw (old, new, found) (omega (arith, change, here));
   records_limit = refl;
   pages_limit = refl;
 }
@@ -176,8 +176,8 @@ retained_hashed cs m h = record {
   some = rw (length-map cs (map (retained_by m))) h.some;
   bound = rw (length-map cs (map (retained_by m))) h.bound;
   apart = λ b k p s e.
-    let none = h.apart b k p (subst (λ z. b < z) (length-map cs (map (retained_by m))) s) (subst (λ z. (entry_number p z == b) ≡ false) (length-map cs (map (retained_by m))) e) in
-    let now = retained_now (get_or cs b []) m k p in rw (chain_retained cs m b) (grind (arith, none, now));
+      let none = h.apart b k p (subst (λ z. b < z) (length-map cs (map (retained_by m))) s) (subst (λ z. (entry_number p z == b) ≡ false) (length-map cs (map (retained_by m))) e) in
+      let now = retained_now (get_or cs b []) m k p in rw (chain_retained cs m b) (grind (arith, none, now));
   unique = λ b s. rw (chain_retained cs m b) (retained_unique (get_or cs b []) m (h.unique b (subst (λ z. b < z) (length-map cs (map (retained_by m))) s)));
 }
 

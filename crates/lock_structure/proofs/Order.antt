@@ -34,9 +34,9 @@ flat_unique (c ∷ cs) u d = unique_append c (flat cs) (u zero (omega arith))
 
 elsewhere : (cs : List (List Held)) (i j k : ℕ) (p : Name) → IsHashed cs → i < length cs → j < length cs → i ≢ j → is_some (record_in (get_or cs i []) k p) ≡ true → record_in (get_or cs j []) k p ≡ None
 elsewhere cs i j k p h l m ne s = elim (cases_eq (entry_number p (length cs)) j) [
-      | inl q ↦ let none = h.apart i k p l (ne_eqb (entry_number p (length cs)) i (λ r. ne (sym r ∙ q))) in grind (arith, none, s)
-      | inr other ↦ h.apart j k p m (ne_eqb (entry_number p (length cs)) j other)
-    ]
+  | inl q ↦ let none = h.apart i k p l (ne_eqb (entry_number p (length cs)) i (λ r. ne (sym r ∙ q))) in grind (arith, none, s)
+  | inr other ↦ h.apart j k p m (ne_eqb (entry_number p (length cs)) j other)
+]
 
 hashed_unique : (cs : List (List Held)) → IsHashed cs → IsUnique (flat cs)
 hashed_unique cs h = flat_unique cs (λ b l. h.unique b l) (λ i j k p l m ne s. elsewhere cs i j k p h l m ne s)

@@ -5,7 +5,6 @@ ghost use Rattle.lock_names.specs.Entries.{entry_number};
 ghost use Rattle.lock_structure.specs.Records.{area_of, record_in, joined, is_retained};
 ghost use Rattle.lock_structure.specs.Buckets.{recorded_in, released_in, purged_in, retained_by, count_in, room_of, without, all_retained, no_room, all_free};
 
-
 use crate::area::Area;
 use crate::chain::{Chain, Held, Record};
 use ds_base::{MemberId, NoMemory};
@@ -100,7 +99,7 @@ impl Buckets {
     /// Whether no room is left for another record of a table space or row.
     pub fn is_full(&self) -> bool
         ensures full { result ≡ (count_in 0 self.now.chains == self.now.records) }
-    ensures bound { count_in 0 self.now.chains ≤ self.now.records }
+        ensures bound { count_in 0 self.now.chains ≤ self.now.records }
     {
         self.areas[0].is_full()
     }

@@ -75,7 +75,7 @@ fn is_same(a: &Name, b: &Name) -> bool
 
 impl Held {
     /// Whether it is this member's, of this name.
-    pub fn is_of(&self, member: MemberId, name: &Name) -> bool
+    pub(crate) fn is_of(&self, member: MemberId, name: &Name) -> bool
         ensures { result ≡ is_of member name.now self.now }
     {
         self.member.number() == member.number() && is_same(&self.name, name)

@@ -16,14 +16,14 @@ pub struct Entry {
 
 impl Entry {
     /// An entry that nobody has interest in.
-    pub const EMPTY: Entry = Entry {
+    pub(crate) const EMPTY: Entry = Entry {
         version: 0,
         share: 0,
         exclusive: 0,
     };
 
     /// What the member has in the entry.
-    pub fn interest(self, member: MemberId) -> Interest
+    pub(crate) fn interest(self, member: MemberId) -> Interest
         ensures { result ≡ interest_in self member }
     {
         Interest {
@@ -33,7 +33,7 @@ impl Entry {
     }
 
     /// The entry where the member has this interest.
-    pub fn with_interest(self, member: MemberId, interest: Interest) -> Entry
+    pub(crate) fn with_interest(self, member: MemberId, interest: Interest) -> Entry
         ensures version { result.version ≡ self.version }
         ensures interest { (k : ℕ) → IsMember k → interest_in result k ≡ (if k == member then interest else interest_in self k) }
     {
@@ -45,7 +45,7 @@ impl Entry {
     }
 
     /// The entry after a grant to the member.
-    pub fn granted(self, member: MemberId, class: Class) -> Entry
+    pub(crate) fn granted(self, member: MemberId, class: Class) -> Entry
         requires { self.version + 1 < 2 ^ 64 }
         ensures version { result.version ≡ self.version + 1 }
         ensures interest { (k : ℕ) → IsMember k → interest_in result k ≡ (if k == member then with_class class (interest_in self k) else interest_in self k) }

@@ -29,12 +29,14 @@ impl Model for Records {
     ghost invariant = { λ a. IsHashed a.buckets.chains };
 }
 
-/// One bucket for each record for which there is room, within bounds.
+/// About one bucket for each record for which there is room, up to 65,535. The number is odd, so that names at distances of
+/// a power of two spread over all buckets.
 fn bucket_count(records: u32, pages: u32) -> u32
     ensures some { 1 ≤ result }
 {
     let room = u64::from(records) + 32 * u64::from(pages);
-    room.clamp(1, 65_536) as u32
+    let half = (room / 2).min(32_767) as u32;
+    2 * half + 1
 }
 
 impl Records {
@@ -67,7 +69,8 @@ impl Records {
     pub fn find(&self, member: MemberId, name: &Name) -> Option<Record>
         ensures { result ≡ record_in self.now.held member name.now }
     {
-        self.buckets.find(self.buckets.bucket_of(name), member, name)
+        self.buckets
+            .find(self.buckets.bucket_of(name), member, name)
     }
 
     /// Whether no room is left for another record of a table space or row.

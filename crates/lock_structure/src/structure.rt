@@ -5,10 +5,10 @@ ghost use Rattle.lock_structure.specs.Entries.{interest_in, no_interest, blank};
 ghost use Rattle.lock_structure.specs.Records.{area_of};
 ghost use Rattle.lock_structure.specs.Locks.{stands, is_clean, is_kept_out, IsLowest, place_of, entry_for, has_room, record_of, retained_in, keeps_out, is_full, IsGranted, Obtains, Grants, IsReleased, IsPurged, HasFailed, empty_locks};
 
+use crate::buckets::area_of;
 use crate::chain::Record;
 use crate::entry::{Entry, is_in_the_way};
 use crate::mask;
-use crate::buckets::area_of;
 use crate::records::Records;
 use crate::replies::{GrantReply, Obtained};
 use ds_base::{MemberId, NoMemory};
