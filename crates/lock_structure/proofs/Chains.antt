@@ -1,13 +1,13 @@
 -- What becomes of a chain's records, name by name.
-use Rattle.std.proofs.Common.{◌≡◌, ℕ, ◌+◌, Bool, true, false, List, [], ◌∷◌, ◌++◌, map, refl, sym, ap, ◌∙◌, arith, if◌then◌else◌, ◌==◌}
-use Rattle.std.specs.Prelude.{Option, Some, None, is_some, ◌&&◌}
+use Rattle.std.proofs.Common.{◌≡◌, ℕ, true, List, [], ◌∷◌, map, refl, ◌∙◌, arith, if◌then◌else◌, ◌==◌}
+use Rattle.std.specs.Prelude.{Some, None, is_some, ◌&&◌}
 use Rattle.ds_model.specs.declared.lock.Name.{Name}
 use Rattle.ds_model.specs.declared.lock.Name.TheVariants as name
 use Rattle.lock_names.specs.declared.mode.Mode.{Mode}
 use Rattle.lock_names.specs.Entries.{number_of}
 use Rattle.lock_structure.specs.declared.chain.Record.{Record}
 use Rattle.lock_structure.specs.declared.chain.Held.{Held}
-use Rattle.lock_structure.specs.Records.{same_name, is_of, area_of, is_in, how_many, record_in, is_retained, joined, after_grant, after_release, after_purge, after_failure, one_if}
+use Rattle.lock_structure.specs.Records.{same_name, record_in, joined, after_grant, after_release, after_purge, after_failure}
 use Rattle.lock_structure.specs.Buckets.{IsUnique, put_in, without, retained_by, recorded_in, released_in, purged_in}
 
 pub same_left : (a n p : Name) → same_name a n ≡ true → same_name a p ≡ same_name n p

@@ -1,14 +1,14 @@
 -- How many records of an area stand, and what room that leaves.
-use Rattle.std.proofs.Common.{◌≡◌, ◌≢◌, ℕ, zero, suc, ◌+◌, ◌<◌, ◌≤◌, Bool, true, false, List, [], ◌∷◌, length, map, set, get_or, refl, sym, ap, ◌∙◌, arith, if◌then◌else◌, ◌==◌, IsTrue, replicate}
-use Rattle.std.specs.Prelude.{Option, Some, None, is_some, ◌||◌, nat_lt}
-use Rattle.std.proofs.lemmas.List.{get_or-set_other, get_or-set_same, get_or_default}
+use Rattle.std.proofs.Common.{◌≡◌, ℕ, zero, suc, ◌+◌, ◌<◌, ◌≤◌, true, false, List, [], ◌∷◌, length, map, set, get_or, refl, ap, ◌∙◌, arith, if◌then◌else◌, ◌==◌, replicate}
+use Rattle.std.specs.Prelude.{is_some}
+use Rattle.std.proofs.lemmas.List.{get_or_default}
 use Rattle.std.proofs.lemmas.Grind.{common_steps}
 use Rattle.ds_model.specs.declared.lock.Name.{Name}
 use Rattle.ds_model.specs.declared.lock.Name.TheVariants as name
 use Rattle.lock_structure.specs.declared.chain.Record.{Record}
 use Rattle.lock_structure.specs.declared.chain.Held.{Held}
 use Rattle.lock_structure.specs.Areas.{Room}
-use Rattle.lock_structure.specs.Records.{same_name, is_of, area_of, is_in, how_many, record_in}
+use Rattle.lock_structure.specs.Records.{same_name, area_of, how_many, record_in}
 use Rattle.lock_structure.specs.Buckets.{put_in, without, retained_by, count_in, no_room, all_free, HasRoom}
 
 -- one name has one area

@@ -1,10 +1,8 @@
 -- A chain whose first records are taken out one after the other.
-use Rattle.std.proofs.Common.{◌≡◌, ℕ, zero, suc, ◌+◌, ◌<◌, true, false, List, [], ◌∷◌, ◌++◌, length, set, get_or, drop, replicate, refl, sym, ap, ◌∙◌, arith, add-one, subst}
-use Rattle.std.specs.Prelude.{Option, Some, None, is_some, slice_get}
-use Rattle.std.proofs.lemmas.List.{get_or-set_same, set-set, set-get_or, get_or_default}
-use Rattle.ds_model.specs.declared.lock.Name.{Name}
+use Rattle.std.proofs.Common.{◌≡◌, ℕ, zero, suc, ◌+◌, ◌<◌, false, List, [], ◌∷◌, ◌++◌, length, set, get_or, drop, replicate, refl, ap, ◌∙◌, arith, add-one, subst}
+use Rattle.std.specs.Prelude.{Some, is_some, slice_get}
+use Rattle.std.proofs.lemmas.List.{get_or-set_same, set-get_or, get_or_default}
 use Rattle.lock_structure.specs.declared.chain.Held.{Held}
-use Rattle.lock_structure.specs.Records.{same_name, is_of, record_in}
 use Rattle.lock_structure.specs.Buckets.{without}
 use Rattle.lock_structure.proofs.Chains.{same_self}
 

@@ -1,6 +1,6 @@
 -- The records of all buckets, name by name.
-use Rattle.std.proofs.Common.{◌≡◌, ◌≢◌, ℕ, zero, suc, ◌+◌, ◌<◌, ◌≤◌, ◌^◌, Bool, true, false, List, [], ◌∷◌, ◌++◌, map, length, set, get_or, refl, sym, ap, ◌∙◌, arith, if◌then◌else◌, ◌==◌, inl, inr, subst, replicate}
-use Rattle.std.specs.Prelude.{Option, Some, None, is_some, ◌&&◌, ◌||◌, nat_lt, IsTrue}
+use Rattle.std.proofs.Common.{◌≡◌, ◌≢◌, ℕ, zero, suc, ◌+◌, ◌<◌, ◌≤◌, ◌^◌, Bool, false, List, [], ◌∷◌, ◌++◌, map, length, set, get_or, refl, arith, if◌then◌else◌, ◌==◌, inl, inr, subst, replicate}
+use Rattle.std.specs.Prelude.{Option, None, is_some, ◌&&◌, ◌||◌, nat_lt, IsTrue}
 use Rattle.std.proofs.lemmas.Bool.{cases_eq, ne_eqb}
 use Rattle.std.proofs.lemmas.Nat.{mod_below}
 use Rattle.std.proofs.lemmas.List.{get_or-set_other, get_or-set_same, length-set, length-map, length-replicate, map-append}
@@ -10,8 +10,8 @@ use Rattle.lock_names.specs.declared.mode.Mode.{Mode}
 use Rattle.lock_names.specs.Entries.{entry_number}
 use Rattle.lock_structure.specs.declared.chain.Record.{Record}
 use Rattle.lock_structure.specs.declared.chain.Held.{Held}
-use Rattle.lock_structure.specs.Records.{same_name, is_of, area_of, is_in, how_many, record_in, retained_of, joined, Book, after_grant, after_release, after_purge, after_failure, one_if, Alters, Retains}
-use Rattle.lock_structure.specs.Buckets.{IsUnique, IsHashed, flat, all_retained, count_in, put_in, without, retained_by, recorded_in, released_in, purged_in}
+use Rattle.lock_structure.specs.Records.{same_name, area_of, how_many, record_in, retained_of, joined, after_grant, after_release, after_purge, one_if, Alters, Retains}
+use Rattle.lock_structure.specs.Buckets.{IsUnique, IsHashed, flat, all_retained, count_in, retained_by, recorded_in, released_in, purged_in}
 use Rattle.lock_structure.proofs.Chains.{same_number, recorded_now, recorded_unique, released_now, released_unique, purged_now, purged_unique, retained_now, retained_unique}
 use Rattle.lock_structure.proofs.Counts.{changed_count, put_count, without_count, absent_without, retained_count}
 

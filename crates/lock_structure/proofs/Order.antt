@@ -1,17 +1,17 @@
 -- The retained records of a member, in their order.
-use Rattle.std.proofs.Common.{◌≡◌, ◌≢◌, ℕ, zero, suc, ◌+◌, ◌<◌, ◌≤◌, Bool, true, false, List, [], ◌∷◌, ◌++◌, map, length, set, get_or, refl, sym, ap, ◌∙◌, arith, if◌then◌else◌, ◌==◌, inl, inr}
-use Rattle.std.specs.Prelude.{Option, Some, None, is_some, ◌&&◌, slice_get}
+use Rattle.std.proofs.Common.{◌≡◌, ◌≢◌, ℕ, zero, suc, ◌<◌, true, false, List, [], ◌∷◌, ◌++◌, map, length, set, get_or, refl, sym, ◌∙◌, arith, if◌then◌else◌, ◌==◌, inl, inr}
+use Rattle.std.specs.Prelude.{Some, None, is_some, ◌&&◌, slice_get}
 use Rattle.std.proofs.lemmas.Bool.{cases_eq, ne_eqb}
-use Rattle.std.proofs.lemmas.List.{map-append, set-get_or}
+use Rattle.std.proofs.lemmas.List.{set-get_or}
 use Rattle.std.proofs.lemmas.Grind.{common_steps}
 use Rattle.ds_model.specs.declared.lock.Name.{Name}
 use Rattle.lock_names.specs.declared.mode.Mode.{Mode}
 use Rattle.lock_names.specs.Entries.{entry_number}
 use Rattle.lock_structure.specs.declared.chain.Record.{Record}
 use Rattle.lock_structure.specs.declared.chain.Held.{Held}
-use Rattle.lock_structure.specs.Records.{same_name, is_of, record_in, retained_of, names_of, without_name, is_retained, joined}
+use Rattle.lock_structure.specs.Records.{record_in, retained_of, names_of, without_name, is_retained, joined}
 use Rattle.lock_structure.specs.Buckets.{IsUnique, IsHashed, flat, put_in, without, retained_by, recorded_in, released_in, purged_in}
-use Rattle.lock_structure.proofs.Chains.{same_self, same_left, same_right, same_record}
+use Rattle.lock_structure.proofs.Chains.{same_self, same_record}
 use Rattle.lock_structure.proofs.Counts.{absent_without}
 use Rattle.lock_structure.proofs.Hashed.{record_append, all_none, place_bound, hashed_find, flat_retained, retained_append}
 

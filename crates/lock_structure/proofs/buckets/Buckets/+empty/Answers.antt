@@ -1,4 +1,4 @@
-use Rattle.std.proofs.Common.{◌≡◌, arith, ◌<◌, false, length, get_or, set, [], Some, sym, ◌∙◌, ap, subst, refl}
+use Rattle.std.proofs.Common.{◌≡◌, arith, ◌<◌, false, length, get_or, set, [], sym, ◌∙◌, ap, subst, refl}
 use Rattle.std.specs.Prelude.{is_some, slice_get}
 use Rattle.std.proofs.lemmas.List.{set-set, length-set}
 use Rattle.lock_structure.specs.Buckets.{without}

@@ -1,5 +1,4 @@
-use Rattle.std.proofs.Common.{◌≡◌, ◌<◌, ◌+◌, ap, arith, length, refl, [], ◌++◌, replicate, drop}
-use Rattle.lock_structure.specs.Buckets.{Chained}
+use Rattle.std.proofs.Common.{◌≡◌, ◌<◌, ◌+◌, arith, length, refl, [], ◌++◌, replicate, drop}
 use Rattle.lock_structure.proofs.Emptied.{fill_more}
 use Rattle.lock_structure.proofs.buckets.Buckets.clear.Goals as goal
 

@@ -1,5 +1,4 @@
-use Rattle.std.proofs.Common.{◌≡◌, true, arith, ◌∙◌, sym, ap, rules}
-use Rattle.std.proofs.lemmas.Grind.{common_steps}
+use Rattle.std.proofs.Common.{arith}
 use Rattle.lock_structure.proofs.Counts.{put_room_at, insert_room_at, free_at}
 use Rattle.lock_structure.proofs.buckets.Buckets.enter.Goals as goal
 

@@ -1,4 +1,4 @@
-use Rattle.std.proofs.Common.{◌≡◌, true, false, arith, ◌∙◌, sym, ap, rules}
+use Rattle.std.proofs.Common.{◌≡◌, true, false, arith}
 use Rattle.std.specs.Prelude.{is_some}
 use Rattle.lock_structure.specs.Records.{record_in}
 use Rattle.lock_structure.proofs.Counts.{remove_room_at, absent_room_at, some_used_at}
