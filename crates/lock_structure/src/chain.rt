@@ -103,16 +103,14 @@ impl Chain {
     pub fn find(&self, member: MemberId, name: &Name) -> Option<Record>
         ensures { result ≡ record_in self.now member name.now }
     {
-        match &self.node {
-            Node::End => None,
-            Node::Link(held, rest) => {
-                if held.is_of(member, name) {
-                    Some(held.lock)
-                } else {
-                    rest.find(member, name)
-                }
+        let mut chain = self;
+        while let Node::Link(held, rest) = &chain.node {
+            if held.is_of(member, name) {
+                return Some(held.lock);
             }
+            chain = rest;
         }
+        None
     }
 
     /// Writes over the member's record of the name.
