@@ -1,0 +1,8 @@
+mod Masks
+mod Counts
+mod Chains
+mod Hashed
+mod Retained
+mod Emptied
+mod Clean
+mod Order
