@@ -1,0 +1,83 @@
+-- The room that claims leave.
+use Rattle.std.proofs.Common.{◌≡◌, ℕ, zero, suc, ◌+◌, ◌<◌, ◌≤◌, Bool, true, false, List, [], ◌∷◌, length, set, get_or, replicate, refl, sym, ◌∙◌, arith, if◌then◌else◌, ◌==◌, add-one}
+use Rattle.std.specs.Prelude.{◌||◌, ◌&&◌, Option, Some, None, is_some}
+use Rattle.std.proofs.lemmas.List.{get_or_default, get_or-set_same, length-set}
+use Rattle.std.proofs.lemmas.Grind.{common_steps}
+use Rattle.ds_model.specs.declared.lock.Name.{Name}
+use Rattle.ds_model.specs.declared.lock.Name.TheVariants as name
+use Rattle.lock_names.specs.declared.mode.Mode.{Mode}
+use Rattle.lock_manager.specs.declared.claim.Claim.{Claim}
+use Rattle.lock_manager.specs.declared.claim.Rollback.{Rollback}
+use Rattle.lock_manager.specs.Areas.{Room}
+use Rattle.lock_manager.specs.Claims.{same_name, mode_in, without, joined}
+use Rattle.lock_manager.specs.Holders.{total}
+use Rattle.lock_manager.specs.Managers.{Book, HasRoom, IsGiven, claims_of, held_by}
+
+total_set : (hs : List (List Claim)) (at : ℕ) (ys : List Claim) → at < length hs → total (set hs at ys) + length (get_or hs at []) ≡ total hs + length ys
+total_set [] at ys h = absurd (omega arith)
+total_set (c ∷ cs) zero ys h = omega arith
+total_set (c ∷ cs) (suc at) ys h = let ih = total_set cs at ys (omega (arith, h)) in omega (arith, ih)
+
+-- an owner's claims become others, and the room changes by as much
+pub moved_room : (hs : List (List Claim)) (rs : List Rollback) (agents at : ℕ) (old new : List Claim) (own others own_after others_after : Room) → at < length hs → old ≡ get_or hs at old
+    → own_after.size ≡ own.size → others_after.size ≡ others.size
+    → own_after.free + (if at == 0 then length new else 0) ≡ own.free + (if at == 0 then length old else 0)
+    → others_after.free + (if at == 0 then 0 else length new) ≡ others.free + (if at == 0 then 0 else length old)
+    → HasRoom hs rs agents own others → HasRoom (set hs at new) rs agents own_after others_after
+moved_room [] rs agents at old new own others own_after others_after h e s t f g has = absurd (omega arith)
+moved_room (c ∷ cs) rs agents zero old new own others own_after others_after h e s t f g has = record {
+  owners = has.owners;
+  pages = let p = has.pages in grind (arith, p, e, s, f);
+  spare = let p = has.spare in grind (arith, p, e, t, g);
+}
+moved_room (c ∷ cs) rs agents (suc at) old new own others own_after others_after h e s t f g has =
+    let there : old ≡ get_or cs at [] = e ∙ get_or_default cs at old [] (omega (arith, h)) in
+    let sum = total_set cs at new (omega (arith, h)) in
+    record {
+      owners = let p = has.owners in grind (arith, p, common_steps);
+      pages = let p = has.pages in grind (arith, p, s, f);
+      spare = let p = has.spare in grind (arith, p, t, g, there, sum);
+    }
+
+no_total : (n : ℕ) → total (replicate n []) ≡ 0
+no_total zero = refl
+no_total (suc n) = no_total n
+
+pub start_room : (agents : ℕ) (own others : Room) → own.free ≡ own.size → others.free ≡ others.size → HasRoom (replicate (agents + 1) []) [] agents own others
+start_room agents own others s t = record {
+  owners = grind (arith, common_steps);
+  pages = let z : replicate (agents + 1) [] ≡ [] ∷ replicate agents [] = rw add-one refl in rw z (omega (arith, s));
+  spare = let z : replicate (agents + 1) [] ≡ [] ∷ replicate agents [] = rw add-one refl in let n = no_total agents in rw z (omega (arith, t, n));
+}
+
+pub more_room : (hs : List (List Claim)) (rs : List Rollback) (agents : ℕ) (own others after : Room) → after.free ≡ others.free + 1 → after.size ≡ others.size + 1 → HasRoom hs rs agents own others → HasRoom hs rs agents own after
+more_room hs rs agents own others after f s has = record {
+  owners = has.owners;
+  pages = has.pages;
+  spare = let p = has.spare in omega (arith, f, s, p);
+}
+
+pub same_itself : (n : Name) → same_name n n ≡ true
+unfolding same_name
+same_itself (name.Space t) = grind (arith, common_steps)
+same_itself (name.Row t k) = grind (arith, common_steps)
+same_itself (name.Page p) = grind (arith, common_steps)
+same_itself (name.Set s) = grind (arith, common_steps)
+
+pub absent_without : (cs : List Claim) (n : Name) → is_some (mode_in cs n) ≡ false → without cs n ≡ cs
+absent_without [] n e = refl
+absent_without (c ∷ cs) n e = let ih = absent_without cs n in grind (arith, ih)
+
+pub entered_new : (b : Book) (owner : ℕ) (n : Name) (m : Mode) (spare : ℕ) → owner < length b.holders → is_some (held_by b owner n) ≡ false → spare + (if owner == 0 then 0 else 1) ≡ b.spare
+    → IsGiven b owner n m (record b { holders = set b.holders owner (record { name = n; mode = joined (held_by b owner n) m } ∷ claims_of b owner); spare = spare })
+entered_new b owner n m spare h e s =
+    let new : List Claim = record { name = n; mode = joined (held_by b owner n) m } ∷ claims_of b owner in
+    let there : get_or (set b.holders owner new) owner [] ≡ new = get_or-set_same b.holders owner new [] h in
+    let same = same_itself n in
+    let absent = absent_without (claims_of b owner) n e in
+    record {
+      mode = rw there (grind (arith, same));
+      others = rw there (grind (arith, same, absent));
+      rest = rw there refl;
+      spare = grind (arith, e, s);
+    }
