@@ -1,7 +1,9 @@
 -- The room that claims leave.
-use Rattle.std.proofs.Common.{◌≡◌, ℕ, zero, suc, ◌+◌, ◌<◌, ◌≤◌, Bool, true, false, List, [], ◌∷◌, length, set, get_or, replicate, refl, sym, ◌∙◌, arith, if◌then◌else◌, ◌==◌, add-one}
+use Rattle.std.proofs.Common.{◌≡◌, ◌≢◌, ◌++◌, ap, subst, ◌-◌, ℕ, zero, suc, ◌+◌, ◌<◌, ◌≤◌, Bool, true, false, List, [], ◌∷◌, length, set, get_or, replicate, refl, sym, ◌∙◌, arith, if◌then◌else◌, ◌==◌, add-one}
 use Rattle.std.specs.Prelude.{◌||◌, ◌&&◌, Option, Some, None, is_some}
-use Rattle.std.proofs.lemmas.List.{get_or_default, get_or-set_same, length-set}
+use Rattle.std.proofs.lemmas.List.{get_or_default, get_or-set_same, length-set, set-get_or, length-append}
+use Rattle.std.proofs.lemmas.List.Edits.{length-remove, get_or-remove_below}
+use Rattle.std.specs.List.{remove}
 use Rattle.std.proofs.lemmas.Grind.{common_steps}
 use Rattle.ds_model.specs.declared.lock.Name.{Name}
 use Rattle.ds_model.specs.declared.lock.Name.TheVariants as name
@@ -41,13 +43,16 @@ moved_room (c ∷ cs) rs agents (suc at) old new own others own_after others_aft
 
 no_total : (n : ℕ) → total (replicate n []) ≡ 0
 no_total zero = refl
-no_total (suc n) = no_total n
+no_total (suc n) = omega (arith, no_total n)
+
+one_more_replicate : (n : ℕ) → replicate {A = List Claim} (n + 1) [] ≡ [] ∷ replicate n []
+one_more_replicate n = rw add-one refl
 
 pub start_room : (agents : ℕ) (own others : Room) → own.free ≡ own.size → others.free ≡ others.size → HasRoom (replicate (agents + 1) []) [] agents own others
 start_room agents own others s t = record {
   owners = grind (arith, common_steps);
-  pages = let z : replicate (agents + 1) [] ≡ [] ∷ replicate agents [] = rw add-one refl in rw z (omega (arith, s));
-  spare = let z : replicate (agents + 1) [] ≡ [] ∷ replicate agents [] = rw add-one refl in let n = no_total agents in rw z (omega (arith, t, n));
+  pages = let z = one_more_replicate agents in rw z (omega (arith, s));
+  spare = let z = one_more_replicate agents in let n = no_total agents in rw z (omega (arith, t, n));
 }
 
 pub more_room : (hs : List (List Claim)) (rs : List Rollback) (agents : ℕ) (own others after : Room) → after.free ≡ others.free + 1 → after.size ≡ others.size + 1 → HasRoom hs rs agents own others → HasRoom hs rs agents own after
@@ -81,3 +86,76 @@ entered_new b owner n m spare h e s =
       rest = rw there refl;
       spare = grind (arith, e, s);
     }
+
+pub same_set : (hs : List (List Claim)) (i : ℕ) (x : List Claim) → x ≡ get_or hs i x → set hs i x ≡ hs
+same_set hs i x e = let P : List Claim → Type 0 = λ z. set hs i z ≡ hs in subst P (sym e) (set-get_or hs i x)
+
+some_total : (hs : List (List Claim)) (at : ℕ) → length (get_or hs at []) ≤ total hs
+some_total [] at = omega arith
+some_total (c ∷ cs) zero = omega arith
+some_total (c ∷ cs) (suc at) = let ih = some_total cs at in omega (arith, ih)
+
+pub others_used : (hs : List (List Claim)) (rs : List Rollback) (agents at : ℕ) (old : List Claim) (own others : Room) → at < length hs → old ≡ get_or hs at old → at ≢ 0 → 0 < length old
+    → HasRoom hs rs agents own others → others.free < others.size
+others_used [] rs agents at old own others h e ne l has = absurd (omega arith)
+others_used (c ∷ cs) rs agents zero old own others h e ne l has = absurd (ne refl)
+others_used (c ∷ cs) rs agents (suc at) old own others h e ne l has =
+    let there : old ≡ get_or cs at [] = e ∙ get_or_default cs at old [] (omega (arith, h)) in
+    let sum = some_total cs at in let p = has.spare in grind (arith, there, sum, p, l)
+
+total_append : (xs ys : List (List Claim)) → total (xs ++ ys) ≡ total xs + total ys
+total_append [] ys = omega arith
+total_append (x ∷ xs) ys = let ih = total_append xs ys in omega (arith, ih)
+
+first_append : (xs ys : List (List Claim)) → 0 < length xs → get_or (xs ++ ys) 0 [] ≡ get_or xs 0 []
+first_append [] ys h = absurd (omega arith)
+first_append (x ∷ xs) ys h = refl
+
+first_set : (xs : List (List Claim)) (at : ℕ) (ys : List Claim) → 1 ≤ at → get_or (set xs at ys) 0 [] ≡ get_or xs 0 []
+first_set [] at ys h = refl
+first_set (x ∷ xs) zero ys h = absurd (omega arith)
+first_set (x ∷ xs) (suc at) ys h = refl
+
+pub postponed_room : (hs : List (List Claim)) (rs : List Rollback) (agents at : ℕ) (old : List Claim) (r : Rollback) (own others : Room) → 1 ≤ at → at < length hs → old ≡ get_or hs at old
+    → HasRoom hs rs agents own others → HasRoom (set hs at [] ++ old ∷ []) (rs ++ r ∷ []) agents own others
+postponed_room hs rs agents at old r own others one h e has =
+    let there : old ≡ get_or hs at [] = e ∙ get_or_default hs at old [] h in
+    let sum = total_set hs at [] h in
+    let all = total_append (set hs at []) (old ∷ []) in
+    let longer = length-append (set hs at []) (old ∷ []) in
+    let more = length-append rs (r ∷ []) in
+    let keeps = length-set hs at [] in
+    let first : get_or (set hs at [] ++ old ∷ []) 0 [] ≡ get_or hs 0 [] = first_append (set hs at []) (old ∷ []) (omega (arith, keeps, h)) ∙ first_set hs at [] one in
+    record {
+      owners = let p = has.owners in omega (arith, p, longer, more, keeps);
+      pages = let p = has.pages in rw first p;
+      spare = let p = has.spare in let l = ap (λ z. length z) there in rw first (omega (arith, p, sum, all, l));
+    }
+
+total_remove : (hs : List (List Claim)) (k : ℕ) → k < length hs → total (remove hs k) + length (get_or hs k []) ≡ total hs
+total_remove [] k h = absurd (omega arith)
+total_remove (c ∷ cs) zero h = omega arith
+total_remove (c ∷ cs) (suc k) h = let ih = total_remove cs k (omega (arith, h)) in omega (arith, ih)
+
+pub ended_room : (hs : List (List Claim)) (rs : List Rollback) (agents k at : ℕ) (own others : Room) → k < length rs → at ≡ agents + 1 + k → get_or hs at [] ≡ []
+    → HasRoom hs rs agents own others → HasRoom (remove hs at) (remove rs k) agents own others
+ended_room hs rs agents k at own others h place none has =
+    let o = has.owners in
+    let there : at < length hs = omega (arith, o, h, place) in
+    let sum = total_remove hs at there in
+    let fewer = length-remove hs at there in
+    let less = length-remove rs k h in
+    let first = get_or-remove_below hs at [] 0 (omega (arith, place)) there in
+    let l = ap (λ z. length z) none in
+    record {
+      owners = omega (arith, o, fewer, less);
+      pages = let p = has.pages in rw first p;
+      spare = let p = has.spare in rw first (omega (arith, p, sum, l));
+    }
+
+length_without : (cs : List Claim) (n : Name) → is_some (mode_in cs n) ≡ true → length (without cs n) + 1 ≡ length cs
+length_without [] n e = cc
+length_without (c ∷ cs) n e = let ih = length_without cs n in grind (arith, ih)
+
+pub page_given_up : (cs after : List Claim) (n : Name) → after ≡ without cs n → is_some (mode_in cs n) ≡ true → length after + 1 ≡ length cs
+page_given_up cs after n e s = rw e (length_without cs n s)

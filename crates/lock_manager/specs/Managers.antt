@@ -92,6 +92,9 @@ release_told b owner = told b.entries (after_release b owner).holders (first_fre
 abbrev pub after_page_release : Book → Name → Book
 after_page_release b n = with_claims b 0 (without (claims_of b 0) n)
 
+abbrev pub page_told : Book → Name → Interest
+page_told b n = kept b.entries (after_page_release b n).holders (entry_number n b.entries)
+
 -- ---- postponed rollbacks
 
 -- the place of the rollback among these, which are counted from k on
@@ -110,10 +113,10 @@ after_postpone b owner id by = record b {
   room = b.room - 1;
 }
 
--- the rollback waits for this member
-abbrev pub waiting_in : List Rollback → ℕ → ℕ → List Rollback
-waiting_in [] id by = []
-waiting_in (r ∷ rs) id by = if r.id == id then record { id = id; by = by } ∷ rs else r ∷ waiting_in rs id by
+-- the rollback at this place now waits for this member
+abbrev pub waiting_at : List Rollback → Option ℕ → ℕ → ℕ → List Rollback
+waiting_at rs None id by = rs
+waiting_at rs (Some k) id by = slice_set rs k (record { id = id; by = by })
 
 -- the rollback at this place is over
 abbrev pub ended : Book → ℕ → Book

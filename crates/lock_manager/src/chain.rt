@@ -150,4 +150,28 @@ impl Chain {
             }
         }
     }
+
+    /// The same without the claim on this name.
+    pub fn needs_without(
+        &self,
+        name: &Name,
+        entries: u32,
+        entry: u32,
+        class_needed: Class,
+    ) -> bool
+        requires { 0 < entries }
+        ensures { result ≡ one_needs entries entry class_needed (without self.now name.now) }
+    {
+        match &self.node {
+            Node::End => false,
+            Node::Link(claim, rest) => {
+                if is_same(&claim.name, name) {
+                    return rest.needs(entries, entry, class_needed);
+                }
+                (entry_of(&claim.name, entries) == entry
+                    && is_class(class(claim.mode), class_needed))
+                    || rest.needs_without(name, entries, entry, class_needed)
+            }
+        }
+    }
 }

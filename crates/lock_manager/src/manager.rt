@@ -1,7 +1,8 @@
-ghost use Rattle.std.specs.Prelude.{◌≡◌, ◌≢◌, ◌+◌, ◌<◌, ◌≤◌, ◌==◌, ◌||◌, [], length, true, false, is_some, nat_lt, if◌then◌else◌, replicate, slice_index_or, slice_set, IfOk, IfSome, OnOk, None, Some, IsTrue, vec_capacity};
+ghost use Rattle.std.specs.Prelude.{◌≡◌, ◌≢◌, ◌+◌, ◌<◌, ◌≤◌, ◌==◌, ◌||◌, [], length, true, false, is_some, nat_lt, if◌then◌else◌, replicate, slice_index_or, slice_set, IfOk, IfSome, MatchOption, ◌∷◌, OnOk, None, Some, IsTrue, vec_capacity};
 ghost use Rattle.lock_names.specs.Entries.{entry_number};
-ghost use Rattle.lock_manager.specs.Holders.{kept, first_in_way};
-ghost use Rattle.lock_manager.specs.Managers.{ask_of, answer_of, claims_of, held_by, IsGiven, after_release, release_told, after_page_release, after_postpone, waiting_in, place_in, is_postponed, after_postponed_release, postponed_told, slots, waited_for, with_claims};
+ghost use Rattle.lock_manager.specs.Holders.{kept, first_in_way, any_needs, is_held};
+ghost use Rattle.lock_manager.specs.Managers.{ask_of, answer_of, claims_of, held_by, IsGiven, after_release, release_told, after_page_release, after_postpone, waiting_at, place_in, is_postponed, after_postponed_release, postponed_told, slots, waited_for, with_claims, page_told, ended};
+ghost use Rattle.lock_manager.specs.Claims.{without};
 
 use crate::area::Area;
 use crate::chain::Chain;
@@ -204,5 +205,199 @@ impl LockManager {
             let name = *name;
             self.holders[at].insert(cell, Claim { name, mode });
         }
+    }
+}
+
+impl LockManager {
+    /// The interest that the name's entry keeps where this owner has these claims left.
+    fn interest_left(&self, owner: usize, left: &Chain, name: &Name) -> Interest
+        requires { owner < length self.now.holders }
+        ensures { result ≡ kept self.now.entries (slice_set self.now.holders owner left.now) (entry_number name.now self.now.entries) }
+    {
+        let entry = entry_of(name, self.entries);
+        let holders = self.holders.as_slice();
+        Interest {
+            share: any_needs(holders, owner, left, self.entries, entry, Class::Share),
+            exclusive: any_needs(holders, owner, left, self.entries, entry, Class::Exclusive),
+        }
+    }
+
+    /// Whether an owner holds the name.
+    #[tactic(auto, using(crate::proofs::Rooms::same_set))]
+    fn is_held(&self, name: &Name) -> bool
+        ensures { result ≡ is_held self.now.holders name.now }
+    {
+        let _slots = self.slots();
+        is_held(self.holders.as_slice(), 0, &self.holders[0], name)
+    }
+
+    /// The interest that the name's entry keeps.
+    #[tactic(auto, using(crate::proofs::Rooms::same_set))]
+    fn interest(&self, name: &Name) -> Interest
+        ensures { result ≡ kept self.now.entries self.now.holders (entry_number name.now self.now.entries) }
+    {
+        let _slots = self.slots();
+        self.interest_left(0, &self.holders[0], name)
+    }
+
+    /// Gives up the first claim that the owner has.
+    fn give_up_first(&mut self, owner: usize) -> Option<Claim>
+        requires { owner < length self.old.holders }
+        ensures claim { MatchOption result ((claims_of self.old owner ≡ []) × (self.new ≡ self.old)) (λ claim. claims_of self.old owner ≡ claim ∷ claims_of self.new owner) }
+        ensures rest { self.new ≡ with_claims self.old owner (claims_of self.new owner) }
+    {
+        let (claim, cell) = self.holders[owner].pop()?;
+        give_back(owner, cell, &mut self.own_cells, &mut self.cells);
+        Some(claim)
+    }
+
+    fn release_at(&mut self, owner: usize) -> Option<(Name, Interest)>
+        requires { owner < length self.old.holders }
+        ensures told { result ≡ release_told self.old owner }
+        ensures left { self.new ≡ after_release self.old owner }
+    {
+        while let Some(claim) = self.give_up_first(owner) {
+            if !self.is_held(&claim.name) {
+                return Some((claim.name, self.interest(&claim.name)));
+            }
+        }
+        None
+    }
+
+    fn releasing_at(&self, owner: usize) -> Option<(Name, Interest)>
+        requires { owner < length self.now.holders }
+        ensures { result ≡ release_told self.now owner }
+    {
+        let mut left = &self.holders[owner];
+        while let Some((claim, rest)) = left.first() {
+            if !is_held(self.holders.as_slice(), owner, rest, &claim.name) {
+                let interest = self.interest_left(owner, rest, &claim.name);
+                return Some((claim.name, interest));
+            }
+            left = rest;
+        }
+        None
+    }
+
+    /// Gives up claims of the agent of the slot, up to the first whose name the member then holds no longer: that name,
+    /// with the interest that the member keeps in its entry. Where there is none, the agent has no claims left.
+    pub fn release(&mut self, owner: u8) -> Option<(Name, Interest)>
+        requires { owner ≤ self.old.agents }
+        ensures told { result ≡ release_told self.old owner }
+        ensures left { self.new ≡ after_release self.old owner }
+    {
+        let _slots = self.slots();
+        self.release_at(owner as usize)
+    }
+
+    /// What `release` would answer now.
+    pub fn releasing(&self, owner: u8) -> Option<(Name, Interest)>
+        requires { owner ≤ self.now.agents }
+        ensures { result ≡ release_told self.now owner }
+    {
+        let _slots = self.slots();
+        self.releasing_at(owner as usize)
+    }
+
+    fn give_up_page(&mut self, name: &Name)
+        requires { is_some (held_by self.old 0 name.now) ≡ true }
+        ensures { self.new ≡ after_page_release self.old name.now }
+    {
+        let _slots = self.slots();
+        let Some(cell) = self.holders[0].remove(name) else {
+            return;
+        };
+        give_back(0, cell, &mut self.own_cells, &mut self.cells);
+    }
+
+    /// Gives up the claim of slot 0 on the name: the interest that the member keeps in its entry.
+    pub fn release_page(&mut self, name: &Name) -> Interest
+        requires { is_some (held_by self.old 0 name.now) ≡ true }
+        ensures told { result ≡ page_told self.old name.now }
+        ensures left { self.new ≡ after_page_release self.old name.now }
+    {
+        self.give_up_page(name);
+        self.interest(name)
+    }
+
+    /// What `release_page` would answer now.
+    pub fn releasing_page(&self, name: &Name) -> Interest
+        requires { is_some (held_by self.now 0 name.now) ≡ true }
+        ensures { result ≡ page_told self.now name.now }
+    {
+        let _slots = self.slots();
+        let entry = entry_of(name, self.entries);
+        Interest {
+            share: self.is_needed_without(name, entry, Class::Share),
+            exclusive: self.is_needed_without(name, entry, Class::Exclusive),
+        }
+    }
+
+    /// Whether the member needs this interest in the entry, also without the claim of slot 0 on the name.
+    fn is_needed_without(&self, name: &Name, entry: u32, class: Class) -> bool
+        requires { 0 < length self.now.holders }
+        ensures { result ≡ any_needs self.now.entries entry class (slice_set self.now.holders 0 (without (claims_of self.now 0) name.now)) }
+    {
+        self.holders[0].needs_without(name, self.entries, entry, class)
+            || any_needs(self.holders.as_slice(), 0, &Chain::new(), self.entries, entry, class)
+    }
+}
+
+impl LockManager {
+    /// Makes the agent's claims those of the postponed rollback of the transaction, which waits for a member.
+    pub fn postpone(&mut self, owner: u8, id: Lrsn, by: MemberId)
+        requires owner { (1 ≤ owner) × (owner ≤ self.old.agents) }
+        requires room { 1 ≤ self.old.room }
+        ensures { self.new ≡ after_postpone self.old owner id by }
+    {
+        let _slots = self.slots();
+        let claims = mem::replace(&mut self.holders[owner as usize], Chain::new());
+        self.holders.push_reserved(claims);
+        self.rollbacks.push_reserved(Rollback { id, by });
+        self.room -= 1;
+    }
+
+    /// The postponed rollback now waits for this member.
+    pub fn wait_for(&mut self, id: Lrsn, by: MemberId)
+        requires { is_postponed self.old id ≡ true }
+        ensures { self.new ≡ record self.old { rollbacks = waiting_at self.old.rollbacks (place_in self.old.rollbacks 0 id) id by } }
+    {
+        if let Some(at) = place_of(self.rollbacks.as_slice(), id) {
+            self.rollbacks[at] = Rollback { id, by };
+        }
+    }
+
+    /// Forgets a rollback that has no claims left.
+    fn end(&mut self, at: usize)
+        requires there { at < length self.old.rollbacks }
+        requires done { claims_of self.old (slots self.old + at) ≡ [] }
+        ensures { self.new ≡ ended self.old at }
+    {
+        let place = self.slots() + at;
+        self.holders.remove(place);
+        self.rollbacks.remove(at);
+        self.room += 1;
+    }
+
+    /// `release` for a postponed rollback, which is over where no name is left to give up.
+    pub fn release_postponed(&mut self, id: Lrsn) -> Option<(Name, Interest)>
+        ensures told { result ≡ postponed_told self.old (place_in self.old.rollbacks 0 id) }
+        ensures left { self.new ≡ after_postponed_release self.old (place_in self.old.rollbacks 0 id) }
+    {
+        let at = place_of(self.rollbacks.as_slice(), id)?;
+        let place = self.slots() + at;
+        let told = self.release_at(place);
+        if told.is_none() {
+            self.end(at);
+        }
+        told
+    }
+
+    /// What `release_postponed` would answer now.
+    pub fn releasing_postponed(&self, id: Lrsn) -> Option<(Name, Interest)>
+        ensures { result ≡ postponed_told self.now (place_in self.now.rollbacks 0 id) }
+    {
+        let at = place_of(self.rollbacks.as_slice(), id)?;
+        self.releasing_at(self.slots() + at)
     }
 }
