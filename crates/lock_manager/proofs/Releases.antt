@@ -1,11 +1,13 @@
 -- Claims that are given up one by one.
 use Rattle.std.proofs.Common.{◌≡◌, ℕ, ◌+◌, ◌-◌, ◌<◌, ◌≤◌, Bool, true, false, List, [], ◌∷◌, length, set, get_or, refl, sym, ◌∙◌, ap, arith, if◌then◌else◌, ◌==◌}
-use Rattle.std.specs.Prelude.{Option, Some, None}
+use Rattle.std.specs.Prelude.{Option, Some, None, is_some}
 use Rattle.std.proofs.lemmas.List.{get_or-set_same, set-set}
+use Rattle.ds_model.specs.declared.lock.Name.{Name}
+use Rattle.lock_names.specs.declared.mode.Interest.{Interest}
 use Rattle.lock_names.specs.Entries.{entry_number}
 use Rattle.lock_manager.specs.declared.claim.Claim.{Claim}
 use Rattle.lock_manager.specs.Holders.{is_held, kept, first_freed, left_after, told}
-use Rattle.lock_manager.specs.Managers.{Book, claims_of, with_claims, after_release, release_told}
+use Rattle.lock_manager.specs.Managers.{Book, slots, claims_of, with_claims, after_release, release_told}
 
 twice : (b : Book) (o : ℕ) (c : Claim) (ys : List Claim) → o < length b.holders → length ys + 1 ≤ length (claims_of b o) → with_claims (with_claims b o (c ∷ ys)) o ys ≡ with_claims b o ys
 twice b o c ys h l =
@@ -51,3 +53,14 @@ over b mid o e s l =
 pub none_left : (hs : List (List Claim)) (o : ℕ) (cs : List Claim) → first_freed hs o cs ≡ None → left_after hs o cs ≡ []
 none_left hs o [] e = refl
 none_left hs o (c ∷ cs) e = let ih = none_left hs o cs in grind (arith, ih)
+
+none_told : (entries : ℕ) (hs : List (List Claim)) (freed : Option Name) → is_some (told entries hs freed) ≡ false → freed ≡ None
+none_told entries hs None e = refl
+none_told entries hs (Some n) e = cc
+
+pub nothing_left : (b next : Book) (o k : ℕ) (answer : Option (Name × Interest)) → o ≡ slots b + k → o < length b.holders → next ≡ after_release b o → answer ≡ release_told b o → is_some answer ≡ false
+    → claims_of next (slots next + k) ≡ []
+nothing_left b next o k answer place h e t without_answer =
+    let freed = none_told b.entries (after_release b o).holders (first_freed b.holders o (claims_of b o)) (ap (λ z. is_some z) (sym t) ∙ without_answer) in
+    let left = none_left b.holders o (claims_of b o) freed in
+    ap (λ z. claims_of z (slots z + k)) e ∙ ap (λ z. get_or (after_release b o).holders z []) (sym place) ∙ get_or-set_same b.holders o (left_after b.holders o (claims_of b o)) [] h ∙ left

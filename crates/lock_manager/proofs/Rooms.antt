@@ -159,3 +159,28 @@ length_without (c ∷ cs) n e = let ih = length_without cs n in grind (arith, ih
 
 pub page_given_up : (cs after : List Claim) (n : Name) → after ≡ without cs n → is_some (mode_in cs n) ≡ true → length after + 1 ≡ length cs
 page_given_up cs after n e s = rw e (length_without cs n s)
+
+pub postponed_room_at : (hs : List (List Claim)) (rs : List Rollback) (agents at : ℕ) (old dest moved : List Claim) (hs_after : List (List Claim)) (r : Rollback) (rs_after : List Rollback) (own others : Room) → 1 ≤ at → at < length hs → old ≡ get_or hs at old
+    → hs_after ≡ set hs at dest ++ moved ∷ [] → dest ≡ [] → moved ≡ old → rs_after ≡ rs ++ r ∷ []
+    → HasRoom hs rs agents own others → HasRoom hs_after rs_after agents own others
+postponed_room_at hs rs agents at old dest moved hs_after r rs_after own others one h e a d m b has = rw (a, d, m, b) (postponed_room hs rs agents at old r own others one h e has)
+
+pub entered_at : (hs : List (List Claim)) (rs : List Rollback) (agents entries pages spare room : ℕ) (b : Book) (owner : ℕ) (n : Name) (m : Mode) (held : Option Mode) (mode : Mode) (x y new : List Claim) (pages_after spare_after : ℕ)
+    → record { holders = hs; rollbacks = rs; agents = agents; entries = entries; pages = pages; spare = spare; room = room } ≡ b → owner < length hs
+    → x ≡ get_or hs owner x → y ≡ get_or hs owner y → held ≡ mode_in x n → is_some held ≡ false → mode ≡ joined held m → new ≡ record { name = n; mode = mode } ∷ y
+    → pages_after ≡ pages → spare_after + (if owner == 0 then 0 else 1) ≡ spare
+    → IsGiven b owner n m (record { holders = set hs owner new; rollbacks = rs; agents = agents; entries = entries; pages = pages_after; spare = spare_after; room = room })
+entered_at hs rs agents entries pages spare room b owner n m held mode x y new pages_after spare_after view h xe ye he nh me ne pe se =
+    let b0 : Book = record { holders = hs; rollbacks = rs; agents = agents; entries = entries; pages = pages; spare = spare; room = room } in
+    let xs : x ≡ get_or hs owner [] = xe ∙ get_or_default hs owner x [] h in
+    let ys : y ≡ get_or hs owner [] = ye ∙ get_or_default hs owner y [] h in
+    let own : held ≡ held_by b0 owner n = he ∙ ap (λ z. mode_in z n) xs in
+    let modes : mode ≡ joined (held_by b0 owner n) m = me ∙ ap (λ z. joined z m) own in
+    let absent : is_some (held_by b0 owner n) ≡ false = sym (ap (λ z. is_some z) own) ∙ nh in
+    let it = entered_new b0 owner n m spare_after h absent se in
+    let claim : Mode → Claim = λ z. record { name = n; mode = z } in
+    let there : new ≡ claim (joined (held_by b0 owner n) m) ∷ claims_of b0 owner = ne ∙ ap (λ z. claim z ∷ y) modes ∙ ap (λ z. claim (joined (held_by b0 owner n) m) ∷ z) ys in
+    let A : List Claim → Type 0 = λ z. IsGiven b0 owner n m (record b0 { holders = set hs owner z; spare = spare_after }) in
+    let B : ℕ → Type 0 = λ z. IsGiven b0 owner n m (record b0 { holders = set hs owner new; pages = z; spare = spare_after }) in
+    let C : Book → Type 0 = λ z. IsGiven z owner n m (record b0 { holders = set hs owner new; pages = pages_after; spare = spare_after }) in
+    subst C view (subst B (sym pe) (subst A (sym there) it))

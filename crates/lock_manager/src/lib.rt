@@ -13,5 +13,5 @@ mod scan;
 pub use claim::{Ask, Claim, LockAnswer, Rollback};
 pub use manager::LockManager;
 
-//cfg
-//mod tests;
+#[cfg(test)]
+mod tests;
