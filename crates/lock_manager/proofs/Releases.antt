@@ -41,9 +41,10 @@ pub passed : (b next : Book) (o : ℕ) (c : Claim) (before : List Claim) → nex
     → first_freed b.holders o before ≡ first_freed b.holders o (claims_of b o) → left_after b.holders o before ≡ left_after b.holders o (claims_of b o)
     → (first_freed b.holders o (claims_of next o) ≡ first_freed b.holders o (claims_of b o)) × (left_after b.holders o (claims_of next o) ≡ left_after b.holders o (claims_of b o))
 passed b next o c before e s held f l =
-    let here : is_held (set b.holders o (claims_of next o)) c.name ≡ true = ap (λ z. is_held z.holders c.name) (sym e) ∙ held in
-    (sym (ap (λ z. if z then first_freed b.holders o (claims_of next o) else Some c.name) here) ∙ ap (λ z. first_freed b.holders o z) (sym s) ∙ f,
-     sym (ap (λ z. if z then left_after b.holders o (claims_of next o) else claims_of next o) here) ∙ ap (λ z. left_after b.holders o z) (sym s) ∙ l)
+    let here : is_held (set b.holders o (claims_of next o)) c.name ≡ true = ap (λ z. is_held z.holders c.name) (sym e) ∙ held in (
+      sym (ap (λ z. if z then first_freed b.holders o (claims_of next o) else Some c.name) here) ∙ ap (λ z. first_freed b.holders o z) (sym s) ∙ f,
+      sym (ap (λ z. if z then left_after b.holders o (claims_of next o) else claims_of next o) here) ∙ ap (λ z. left_after b.holders o z) (sym s) ∙ l,
+    )
 
 pub over : (b mid : Book) (o : ℕ) → mid ≡ with_claims b o (claims_of mid o) → claims_of mid o ≡ [] → left_after b.holders o (claims_of mid o) ≡ left_after b.holders o (claims_of b o) → mid ≡ after_release b o
 over b mid o e s l =

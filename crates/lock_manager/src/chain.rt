@@ -145,20 +145,15 @@ impl Chain {
         match &self.node {
             Node::End => false,
             Node::Link(claim, rest) => {
-                (entry_of(&claim.name, entries) == entry && is_class(class(claim.mode), class_needed))
+                (entry_of(&claim.name, entries) == entry
+                    && is_class(class(claim.mode), class_needed))
                     || rest.needs(entries, entry, class_needed)
             }
         }
     }
 
     /// The same without the claim on this name.
-    pub fn needs_without(
-        &self,
-        name: &Name,
-        entries: u32,
-        entry: u32,
-        class_needed: Class,
-    ) -> bool
+    pub fn needs_without(&self, name: &Name, entries: u32, entry: u32, class_needed: Class) -> bool
         requires { 0 < entries }
         ensures { result ≡ one_needs entries entry class_needed (without self.now name.now) }
     {

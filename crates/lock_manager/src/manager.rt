@@ -101,12 +101,7 @@ fn give_back(owner: usize, cell: Box<Chain>, own_cells: &mut Area, cells: &mut A
 impl LockManager {
     /// No claims, with room for `pages` of slot 0. The slots are 0 to `agents`, and `entries` is the size of the group's
     /// lock table.
-    pub fn new(
-        alloc: Global,
-        agents: u8,
-        entries: u32,
-        pages: u32,
-    ) -> Result<LockManager, NoMemory>
+    pub fn new(alloc: Global, agents: u8, entries: u32, pages: u32) -> Result<LockManager, NoMemory>
         requires { 1 ≤ entries }
         ensures holders { IfOk result (λ made. made.holders ≡ replicate (agents + 1) []) }
         ensures rollbacks { IfOk result (λ made. made.rollbacks ≡ []) }
@@ -197,13 +192,13 @@ impl LockManager {
         let _slots = self.slots();
         let at = owner as usize;
         let held = self.holders[at].find(name);
-        let mode = joined(held, mode);
+        let joint = joined(held, mode);
         if held.is_some() {
-            self.holders[at].put(name, mode);
+            self.holders[at].put(name, joint);
         } else {
             let cell = take_cell(at, &mut self.own_cells, &mut self.cells);
             let name = *name;
-            self.holders[at].insert(cell, Claim { name, mode });
+            self.holders[at].insert(cell, Claim { name, mode: joint });
         }
     }
 }
@@ -339,7 +334,14 @@ impl LockManager {
         ensures { result ≡ any_needs self.now.entries entry class (slice_set self.now.holders 0 (without (claims_of self.now 0) name.now)) }
     {
         self.holders[0].needs_without(name, self.entries, entry, class)
-            || any_needs(self.holders.as_slice(), 0, &Chain::new(), self.entries, entry, class)
+            || any_needs(
+                self.holders.as_slice(),
+                0,
+                &Chain::new(),
+                self.entries,
+                entry,
+                class,
+            )
     }
 }
 
@@ -355,6 +357,13 @@ impl LockManager {
         self.holders.push_reserved(claims);
         self.rollbacks.push_reserved(Rollback { id, by });
         self.room -= 1;
+    }
+
+    /// Whether the transaction's rollback is postponed.
+    pub fn is_postponed(&self, id: Lrsn) -> bool
+        ensures { result ≡ is_postponed self.now id }
+    {
+        place_of(self.rollbacks.as_slice(), id).is_some()
     }
 
     /// The postponed rollback now waits for this member.

@@ -25,20 +25,39 @@ fn number(n: u64) -> Lrsn
     Lrsn::new(n).unwrap()
 }
 
-const EXCLUSIVE: Interest = Interest {
-    share: false,
-    exclusive: true,
-};
-
 const NONE: Interest = Interest {
     share: false,
     exclusive: false,
 };
 
 #[test]
-fn an_agent_is_told_what_is_in_its_way(rt: HostRuntime) -> Result<(), Fail> {
+fn claims_are_entered_postponed_and_given_up(rt: HostRuntime) -> Result<(), Fail> {
     let mut locks = LockManager::new(rt.alloc(), 2, 1, 1)?;
-    let page = Name::Page(PageId { set: 1, number: 0 });
+    let name = space(1);
     locks.reserve()?;
+    locks.give(1, &name, Mode::S);
+    assert_eq!(rt; locks.ask(2, &name, Mode::IX), Ask::Conflict { by: 1 });
+    assert_eq!(rt; locks.releasing(1), Some((name, NONE)));
+    let id = number(7);
+    locks.postpone(1, id, member(3));
+    assert!(rt; locks.is_postponed(id));
+    locks.wait_for(id, member(4));
+    assert_eq!(rt;
+        locks.answer(&name, Mode::X),
+        LockAnswer::Postponed { member: member(4) }
+    );
+    assert_eq!(rt; locks.releasing_postponed(id), Some((name, NONE)));
+    assert_eq!(rt; locks.release_postponed(id), Some((name, NONE)));
+    Ok(())
+}
+
+#[test]
+fn a_page_is_given_up(rt: HostRuntime) -> Result<(), Fail> {
+    let mut locks = LockManager::new(rt.alloc(), 1, 1, 1)?;
+    let page = Name::Page(PageId { set: 1, number: 0 });
+    locks.give(0, &page, Mode::X);
+    assert_eq!(rt; locks.releasing_page(&page), NONE);
+    assert_eq!(rt; locks.release_page(&page), NONE);
+    assert_eq!(rt; locks.release(1), None);
     Ok(())
 }

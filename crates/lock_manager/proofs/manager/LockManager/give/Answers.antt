@@ -21,5 +21,5 @@ returns-else-is_some c =
     let there : c.args.owner < length c.self.inside.holders.items = grind (arith, c.requires.owner, c.self.view_is, c.slots-slots.ensures) in
     let absent : is_some c.find-held.result ≡ false = grind (arith, c.is_some.ensures, c.if-is_some.false) in
     entered_at c.self.inside.holders.items c.self.inside.rollbacks.items c.self.inside.agents c.self.inside.entries c.self.inside.own_cells.size c.self.inside.cells.free c.self.inside.room c.args.self.now c.args.owner c.args.name.now c.args.mode
-        c.find-held.result c.joined-mode.result c.index.result.now c.index_mut-else-is_some.result.now c.insert.new.self c.take_cell-cell.new.own_cells.size c.take_cell-cell.new.cells.free
-        c.self.view_is there c.index.ensures c.index_mut-else-is_some.ensures.value c.find-held.ensures absent c.joined-mode.ensures c.insert.ensures c.take_cell-cell.ensures.own_size c.take_cell-cell.ensures.others
+    c.find-held.result c.joined-joint.result c.index.result.now c.index_mut-else-is_some.result.now c.insert.new.self c.take_cell-cell.new.own_cells.size c.take_cell-cell.new.cells.free
+    c.self.view_is there c.index.ensures c.index_mut-else-is_some.ensures.value c.find-held.ensures absent c.joined-joint.ensures c.insert.ensures c.take_cell-cell.ensures.own_size c.take_cell-cell.ensures.others
