@@ -1,4 +1,14 @@
-//! The list structure of the coupling facility: so far the cycles of waits that refusals tell.
+//! The list structure of the coupling facility: how the members of a group ask one another, wait for one
+//! another, and know of one another.
 #![tactic(auto)]
 
+pub mod cells;
+mod copies;
+mod query;
+mod standing;
+mod wait;
+
 pub use ds_model::Cycle;
+pub use query::{Asker, Cell, CellAnswer, Query};
+pub use standing::MemberStatus;
+pub use wait::Wait;
