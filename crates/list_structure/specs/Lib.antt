@@ -1,3 +1,5 @@
 pub mod Askers
+pub mod Bells
 pub mod Cells
 pub mod Counts
+pub mod Flags

@@ -2,13 +2,16 @@
 //! another, and know of one another.
 #![tactic(auto)]
 
+pub mod bells;
 pub mod cells;
 mod copies;
+pub mod flags;
 mod query;
 mod standing;
 mod wait;
 
 pub use ds_model::Cycle;
+pub use flags::Flag;
 pub use query::{Asker, Cell, CellAnswer, Query};
 pub use standing::MemberStatus;
 pub use wait::Wait;
