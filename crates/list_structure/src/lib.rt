@@ -6,6 +6,7 @@ pub mod bells;
 pub mod cells;
 mod copies;
 pub mod flags;
+pub mod pairs;
 mod query;
 mod standing;
 mod wait;
