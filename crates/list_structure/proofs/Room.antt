@@ -1,14 +1,25 @@
 -- Filters keep what pairs keep, and pairs that are kept have their room.
 use Rattle.std.proofs.Common.{◌≡◌, ◌∙◌, refl, sym, ap, subst, ℕ, zero, suc, ◌+◌, ◌*◌, ◌<◌, ◌≤◌, ◌==◌, ◌&&◌, ◌||◌, Bool, true, false, not, cond, nat_le, List, [], ◌∷◌, ◌++◌, length, filter, inl, inr, arith}
 use Rattle.std.specs.List.{list_any, list_all}
-use Rattle.std.proofs.lemmas.Bool.{cases_Bool, false≢true, eqb-true}
+use Rattle.std.proofs.lemmas.Bool.{cases_Bool, false≢true, eqb-true, and_parts, and_from, and_left, or_parts, or_left, or_right, not_from_true, not_from_false, not-true}
 use Rattle.std.proofs.lemmas.Bool.Decides.{nat_tests}
+use Rattle.std.proofs.lemmas.List.{append-nil, length_push}
+use Rattle.std.proofs.lemmas.List.Folds.{list_any-append, list_all-append}
+use Rattle.std.proofs.lemmas.List.Elements.{filter-append}
 use Rattle.std.proofs.lemmas.List.Filters.{length-filter_both}
+use Rattle.ds_base.specs.Ids.{IsMember}
 use Rattle.ds_base.specs.declared.names.TranId.{TranId}
 use Rattle.list_structure.specs.declared.wait.Wait.{Wait}
 use Rattle.list_structure.specs.Flags.{same_tran}
 use Rattle.list_structure.specs.Waits.{is_replaced, is_among, FitsWaits, with_wait}
 use Rattle.list_structure.specs.Kept.{AreApart, is_between, in_range, IsKept}
+
+or_right_true : (x y : Bool) → x ≡ false → (x || y) ≡ true → y ≡ true
+or_right_true true y n e = absurd (false≢true (sym n))
+or_right_true false y n e = e
+
+none_both : (x y : Bool) → x ≡ false → y ≡ false → (x || (y || false)) ≡ false
+none_both x y a b = grind (arith, a, b)
 
 none_in_filter : {X : Type 0} (p q : X → Bool) (xs : List X) → list_any q xs ≡ false → list_any q (filter p xs) ≡ false
 none_in_filter p q [] e = refl
@@ -163,18 +174,86 @@ fewer : (ts : List TranId) (t : TranId) → is_among ts t ≡ true → length (o
 unfolding others
 fewer ts t e = omega (arith, some_pass (same_tran t) ts e, length-filter_both (same_tran t) (λ u. not (same_tran t u)) (λ u. refl) ts)
 
+still_head : (m h : ℕ) (v w : Wait) (ts : List TranId) → is_between m h v ≡ true → is_replaced v w ≡ false
+    → (not (is_between m h w) || is_among ts w.waiter) ≡ true → (not (is_between m h w) || is_among (others ts v.waiter) w.waiter) ≡ true
+still_head m h v w ts a b c = elim (cases_Bool (is_between m h w)) [
+      inl t ↦
+        let o = other_waiter m h v w a b t in
+        let i : is_among ts w.waiter ≡ true = or_right_true (not (is_between m h w)) (is_among ts w.waiter) (not_from_true (is_between m h w) t) c in
+        or_right (not (is_between m h w)) (is_among (others ts v.waiter) w.waiter) (still_among ts v.waiter w.waiter o i)
+    | inr f ↦ or_left (not (is_between m h w)) (is_among (others ts v.waiter) w.waiter) (not_from_false (is_between m h w) f)
+  ]
+
 still_covered : (m h : ℕ) (v : Wait) (ts : List TranId) (ws : List Wait) → is_between m h v ≡ true → list_any (is_replaced v) ws ≡ false
     → list_all (λ w. not (is_between m h w) || is_among ts w.waiter) ws ≡ true
     → list_all (λ w. not (is_between m h w) || is_among (others ts v.waiter) w.waiter) ws ≡ true
 still_covered m h v ts [] a b c = refl
 still_covered m h v ts (w ∷ ws) a b c =
-    let ih = still_covered m h v ts ws a in
-    let s = still_among ts v.waiter w.waiter in
-    let o = other_waiter m h v w a in
-    elim (cases_Bool (is_replaced v w)) [
-      inl t ↦ absurd (true_or t b)
-      | inr n ↦ elim (cases_Bool (is_between m h w)) [
-          inl t ↦ ?
-          | inr f ↦ ?
-        ]
+    let n = or_parts (is_replaced v w) (list_any (is_replaced v) ws) b in
+    let k = and_parts (not (is_between m h w) || is_among ts w.waiter) (list_all (λ x. not (is_between m h x) || is_among ts x.waiter) ws) c in
+    and_from (not (is_between m h w) || is_among (others ts v.waiter) w.waiter) (list_all (λ x. not (is_between m h x) || is_among (others ts v.waiter) x.waiter) ws)
+      (still_head m h v w ts a n.0 k.0) (still_covered m h v ts ws a n.1 k.1)
+
+few_waiters : (m h : ℕ) (ws : List Wait) (ts : List TranId) → AreApart ws
+    → list_all (λ w. not (is_between m h w) || is_among ts w.waiter) ws ≡ true → length (filter (is_between m h) ws) ≤ length ts
+few_waiters m h [] ts a c = omega arith
+few_waiters m h (w ∷ ws) ts a c =
+    let k = and_parts (not (is_between m h w) || is_among ts w.waiter) (list_all (λ x. not (is_between m h x) || is_among ts x.waiter) ws) c in
+    elim (cases_Bool (is_between m h w)) [
+      inl t ↦
+        let i : is_among ts w.waiter ≡ true = or_right_true (not (is_between m h w)) (is_among ts w.waiter) (not_from_true (is_between m h w) t) k.0 in
+        let r = few_waiters m h ws (others ts w.waiter) a.1 (still_covered m h w ts ws t a.0 k.1) in
+        let f = fewer ts w.waiter i in
+        grind (arith, t, r, f)
+      | inr n ↦ let r = few_waiters m h ws ts a.1 k.1 in grind (arith, n, r)
     ]
+
+-- a pair that is added in place of others
+replaced_both : (v w : Wait) → is_replaced v w ≡ is_replaced w v
+replaced_both v w = grind (arith, nat_tests)
+
+apart-push : (ws : List Wait) (w : Wait) → AreApart ws → list_all (λ v. not (is_replaced w v)) ws ≡ true → AreApart (ws ++ w ∷ [])
+apart-push [] w a c = (refl, tt)
+apart-push (v ∷ ws) w a c =
+    let k = and_parts (not (is_replaced w v)) (list_all (λ x. not (is_replaced w x)) ws) c in
+    let n : is_replaced v w ≡ false = replaced_both v w ∙ not-true (is_replaced w v) k.0 in
+    (list_any-append (is_replaced v) ws (w ∷ []) ∙ none_both (list_any (is_replaced v) ws) (is_replaced v w) a.0 n, apart-push ws w a.1 k.1)
+
+of_one_member : (m h : ℕ) (ts : List TranId) (w : Wait) → (not (not (w.waiter.member == m) || is_among ts w.waiter) || (not (is_between m h w) || is_among ts w.waiter)) ≡ true
+of_one_member m h ts w = elim (cases_Bool (is_among ts w.waiter)) [
+      inl t ↦ grind (arith, nat_tests, t)
+    | inr f ↦ elim (cases_Bool (w.waiter.member == m)) [ inl u ↦ grind (arith, nat_tests, f, u) | inr v ↦ grind (arith, nat_tests, f, v) ]
+  ]
+
+few_of_others : (ws : List Wait) (w : Wait) (m h b : ℕ) → (w.waiter.member == m) ≡ false → length (filter (is_between m h) ws) ≤ b → length (filter (is_between m h) (ws ++ w ∷ [])) ≤ b
+few_of_others ws w m h b n l =
+    let f : is_between m h w ≡ false = and_left (w.waiter.member == m) (w.holder.member == h) n in
+    let e : filter (is_between m h) (w ∷ []) ≡ [] = ap (λ (x : Bool). cond x (w ∷ []) []) f in
+    let k = ap length (filter-append (is_between m h) ws (w ∷ []) ∙ ap (λ (ys : List Wait). filter (is_between m h) ws ++ ys) e ∙ append-nil (filter (is_between m h) ws)) in
+    omega (arith, k, l)
+
+in_range_of : (w : Wait) → IsMember w.waiter.member → IsMember w.holder.member → (in_range w && true) ≡ true
+in_range_of w a b = grind (arith, nat_tests)
+
+pub IsKept-add : (ws : List Wait) (agents room : ℕ) (w : Wait) → IsKept ws agents room → IsMember w.waiter.member → IsMember w.holder.member
+    → FitsWaits (with_wait ws w) w.waiter.member agents → IsKept (with_wait ws w) agents room
+IsKept-add ws agents room w k a b f =
+    let kept : Wait → Bool = λ old. not (is_replaced w old) in
+    let apart : AreApart (with_wait ws w) = apart-push (filter kept ws) w (apart-filter kept ws k.apart) (all_pass_filter kept ws) in
+    record {
+      apart = apart;
+      ranges = list_all-append in_range (filter kept ws) (w ∷ []) ∙ and_from (list_all in_range (filter kept ws)) (in_range w && true) (all_in_filter kept in_range ws k.ranges) (in_range_of w a b);
+      few = λ m h. elim (cases_Bool (w.waiter.member == m)) [
+          inl t ↦
+            let p = few_waiters w.waiter.member h (with_wait ws w) f.waiters apart (all_along (λ x. not (x.waiter.member == w.waiter.member) || is_among f.waiters x.waiter) (λ x. not (is_between w.waiter.member h x) || is_among f.waiters x.waiter) (of_one_member w.waiter.member h f.waiters) (with_wait ws w) f.all) in
+            let q : length (filter (is_between w.waiter.member h) (with_wait ws w)) ≤ agents = omega (arith, p, f.few) in
+            subst (λ (n : ℕ). length (filter (is_between n h) (with_wait ws w)) ≤ agents) (eqb-true w.waiter.member m t) q
+          | inr n ↦ few_of_others (filter kept ws) w m h agents n (omega (arith, count-filter kept (is_between m h) ws, k.few m h))
+        ];
+      fits = k.fits;
+    }
+
+pub room_to_add : (ws : List Wait) (agents room : ℕ) (w : Wait) → IsKept (with_wait ws w) agents room → length (filter (λ old. not (is_replaced w old)) ws) < room
+room_to_add ws agents room w k =
+    let l = length_of_kept (with_wait ws w) agents k.ranges k.few in
+    omega (arith, l, length_push (filter (λ old. not (is_replaced w old)) ws) w, k.fits)

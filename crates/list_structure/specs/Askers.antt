@@ -6,6 +6,10 @@ use Rattle.list_structure.specs.declared.query.Asker.{Asker}
 abbrev pub IsAsker : Asker → Type 0
 IsAsker a = IsMember a.member × (a.slot ≤ 16)
 
+-- the asker with this slot of the member
+abbrev pub slot_of : ℕ → ℕ → Asker
+slot_of member slot = record { member = member; slot = slot }
+
 abbrev pub same_asker : Asker → Asker → Bool
 same_asker a b = (a.member == b.member) && (a.slot == b.slot)
 

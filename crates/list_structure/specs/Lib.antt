@@ -4,4 +4,6 @@ pub mod Cells
 pub mod Counts
 pub mod Flags
 pub mod Kept
+pub mod Standings
+pub mod States
 pub mod Waits

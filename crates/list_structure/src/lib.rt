@@ -8,11 +8,11 @@ mod copies;
 pub mod flags;
 pub mod pairs;
 mod query;
-mod standing;
+pub mod standing;
 mod wait;
 
 pub use ds_model::Cycle;
 pub use flags::Flag;
 pub use query::{Asker, Cell, CellAnswer, Query};
-pub use standing::MemberStatus;
+pub use standing::{ClaimReply, MemberStatus};
 pub use wait::Wait;
