@@ -4,6 +4,7 @@ pub mod Cells
 pub mod Counts
 pub mod Flags
 pub mod Kept
+pub mod Rounds
 pub mod Standings
 pub mod States
 pub mod Waits
