@@ -5,6 +5,9 @@ use Rattle.ds_base.specs.declared.names.TranId.{TranId}
 use Rattle.list_structure.specs.declared.wait.Wait.{Wait}
 use Rattle.list_structure.specs.Flags.{same_tran}
 
+abbrev pub wait_for : TranId → TranId → ℕ → Wait
+wait_for waiter holder flag = record { waiter = waiter; holder = holder; flag = flag }
+
 abbrev pub same_wait : Wait → Wait → Bool
 same_wait a b = same_tran a.waiter b.waiter && (same_tran a.holder b.holder && (a.flag == b.flag))
 

@@ -14,6 +14,8 @@ mod lists;
 mod pairs;
 mod query;
 mod standing;
+#[cfg(test)]
+mod tests;
 mod wait;
 
 pub use ds_model::Cycle;

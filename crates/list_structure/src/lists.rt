@@ -8,7 +8,7 @@ ghost use Rattle.list_structure.specs.Rounds.{start_of, query_in, IsNextAsked};
 ghost use Rattle.list_structure.specs.Flags.{flag_for, flag_of, raised_by, raised_for, with_raised};
 ghost use Rattle.list_structure.specs.Standings.{claim_reply, done_of, is_live, rebuilder_after, rebuilder_without, status_of, NoneDone};
 ghost use Rattle.list_structure.specs.States.{IsNew, is_settled};
-ghost use Rattle.list_structure.specs.Waits.{FitsWaits, with_wait, without_flag, without_tran, without_trans_of, without_waiter};
+ghost use Rattle.list_structure.specs.Waits.{FitsWaits, wait_for, with_wait, without_flag, without_tran, without_trans_of, without_waiter};
 ghost use Rattle.list_structure.specs.declared.query.Cell.TheVariants.{Asked, Answered, Empty};
 ghost use Rattle.list_structure.specs.declared.standing.MemberStatus.TheVariants.{Failed};
 
@@ -170,9 +170,9 @@ impl Lists {
     /// is known.
     pub fn wait(&mut self, tran: TranId, holder: TranId, flag: u8)
         requires flag { flag ≤ 64 }
-        requires room { let wait = record { waiter = tran; holder = holder; flag = flag } in is_settled self.old wait ≡ false → FitsWaits (with_wait self.old.waits wait) tran.member self.old.agents }
-        requires bells { let wait = record { waiter = tran; holder = holder; flag = flag } in is_settled self.old wait ≡ false → CanRing self.old.bells }
-        ensures { let wait = record { waiter = tran; holder = holder; flag = flag } in self.new ≡ (if is_settled self.old wait then self.old else record self.old { waits = with_wait self.old.waits wait; bells = rung self.old.bells }) }
+        requires room { let wait = wait_for tran holder flag in is_settled self.old wait ≡ false → FitsWaits (with_wait self.old.waits wait) tran.member self.old.agents }
+        requires bells { let wait = wait_for tran holder flag in is_settled self.old wait ≡ false → CanRing self.old.bells }
+        ensures { let wait = wait_for tran holder flag in self.new ≡ (if is_settled self.old wait then self.old else record self.old { waits = with_wait self.old.waits wait; bells = rung self.old.bells }) }
     {
         let wait = Wait {
             waiter: tran,
