@@ -25,14 +25,14 @@ pub cell_at-set : (cells : List Cell) (i t j u : ℕ) (c : Cell) → i * 32 + t 
     → cell_at (slice_set cells (i * 32 + t) c) j u ≡ (if (j == i) && (u == t) then c else cell_at cells j u)
 cell_at-set cells i t j u c l a b =
     elim (cases_eq (j * 32 + u) (i * 32 + t)) [
-      inl e ↦
-        let p : j ≡ i = same_asker_place i t j u a b e in
-        let q : u ≡ t = same_asked_place i t j u a b e in
-        let s = cell_at-set_same cells i t c l in
-        grind (arith, nat_tests)
+      | inl e ↦
+          let p : j ≡ i = same_asker_place i t j u a b e in
+          let q : u ≡ t = same_asked_place i t j u a b e in
+          let s = cell_at-set_same cells i t c l in
+          grind (arith, nat_tests)
       | inr n ↦
-        let o = cell_at-set_other cells i t j u c n in
-        grind (arith, nat_tests)
+          let o = cell_at-set_other cells i t j u c n in
+          grind (arith, nat_tests)
     ]
 
 one_if-most : (b : Bool) → one_if b ≤ 1
@@ -49,7 +49,7 @@ unfolding asked_count
 asked_count-least cells t zero i l = omega arith
 asked_count-least cells t (suc n) i l =
     elim (cases_eq i n) [
-      inl e ↦ subst (λ (k : ℕ). one_if (is_asked (cell_at cells k t)) ≤ asked_count cells t n + one_if (is_asked (cell_at cells n t))) (sym e) (omega arith)
+      | inl e ↦ subst (λ (k : ℕ). one_if (is_asked (cell_at cells k t)) ≤ asked_count cells t n + one_if (is_asked (cell_at cells n t))) (sym e) (omega arith)
       | inr d ↦ omega (arith, asked_count-least cells t n i (omega arith))
     ]
 
@@ -76,17 +76,17 @@ unfolding asked_count
 asked_count-set cells i t c a s zero l = omega arith
 asked_count-set cells i t c a s (suc n) l =
     elim (cases_eq i n) [
-      inl e ↦
-        let o : one_if (is_asked (cell_at (slice_set cells (i * 32 + t) c) n t)) ≡ one_if (is_asked c) =
+      | inl e ↦
+          let o : one_if (is_asked (cell_at (slice_set cells (i * 32 + t) c) n t)) ≡ one_if (is_asked c) =
           ap (λ x. one_if (is_asked x)) (subst (λ (k : ℕ). cell_at (slice_set cells (i * 32 + t) c) k t ≡ c) e (cell_at-set_same cells i t c s)) in
-        let w : one_if (is_asked (cell_at cells i t)) ≡ one_if (is_asked (cell_at cells n t)) = ap (λ (k : ℕ). one_if (is_asked (cell_at cells k t))) e in
-        let r = asked_count-before cells i t c a n (omega arith) in
-        omega (arith, o, w, r)
+          let w : one_if (is_asked (cell_at cells i t)) ≡ one_if (is_asked (cell_at cells n t)) = ap (λ (k : ℕ). one_if (is_asked (cell_at cells k t))) e in
+          let r = asked_count-before cells i t c a n (omega arith) in
+          omega (arith, o, w, r)
       | inr d ↦
-        let o : one_if (is_asked (cell_at (slice_set cells (i * 32 + t) c) n t)) ≡ one_if (is_asked (cell_at cells n t)) =
+          let o : one_if (is_asked (cell_at (slice_set cells (i * 32 + t) c) n t)) ≡ one_if (is_asked (cell_at cells n t)) =
           ap (λ x. one_if (is_asked x)) (cell_at-set_other cells i t n t c (λ e. omega arith)) in
-        let r = asked_count-set cells i t c a s n (omega arith) in
-        omega (arith, o, r)
+          let r = asked_count-set cells i t c a s n (omega arith) in
+          omega (arith, o, r)
     ]
 
 one_if-zero : (b : Bool) → one_if b ≤ 0 → b ≡ false
@@ -112,13 +112,13 @@ IsCounted-set cells counts i t c k s a b e = record {
   cells_length = length-set cells (i * 32 + t) c ∙ s.cells_length;
   counts_length = length-set counts t k ∙ s.counts_length;
   counted = λ u l. elim (cases_eq u t) [
-      inl q ↦
+    | inl q ↦
         let r = asked_count-set cells i t c b (omega (arith, s.cells_length)) 544 a in
         let w : slice_index (slice_set counts t k) t ≡ k = get_or-set_same counts t k 0 (omega (arith, s.counts_length)) in
         let g = s.counted t b in
         subst (λ (v : ℕ). slice_index (slice_set counts t k) v ≡ asked_count (slice_set cells (i * 32 + t) c) v 544) (sym q) (omega (arith, r, w, g, e))
-      | inr d ↦ get_or-set_other counts t u k 0 d ∙ s.counted u l ∙ sym (asked_count-other cells i t u c b l d 544)
-    ];
+    | inr d ↦ get_or-set_other counts t u k 0 d ∙ s.counted u l ∙ sym (asked_count-other cells i t u c b l d 544)
+  ];
 }
 
 -- what was read in a kept count or cell

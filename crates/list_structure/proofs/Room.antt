@@ -24,30 +24,30 @@ none_both x y a b = grind (arith, a, b)
 none_in_filter : {X : Type 0} (p q : X → Bool) (xs : List X) → list_any q xs ≡ false → list_any q (filter p xs) ≡ false
 none_in_filter p q [] e = refl
 none_in_filter p q (x ∷ xs) e = elim (cases_Bool (p x)) [
-      inl t ↦ let ih = none_in_filter p q xs in grind (arith, t, ih)
-    | inr f ↦ let ih = none_in_filter p q xs in grind (arith, f, ih)
-  ]
+  | inl t ↦ let ih = none_in_filter p q xs in grind (arith, t, ih)
+  | inr f ↦ let ih = none_in_filter p q xs in grind (arith, f, ih)
+]
 
 all_in_filter : {X : Type 0} (p q : X → Bool) (xs : List X) → list_all q xs ≡ true → list_all q (filter p xs) ≡ true
 all_in_filter p q [] e = refl
 all_in_filter p q (x ∷ xs) e = elim (cases_Bool (p x)) [
-      inl t ↦ let ih = all_in_filter p q xs in grind (arith, t, ih)
-    | inr f ↦ let ih = all_in_filter p q xs in grind (arith, f, ih)
-  ]
+  | inl t ↦ let ih = all_in_filter p q xs in grind (arith, t, ih)
+  | inr f ↦ let ih = all_in_filter p q xs in grind (arith, f, ih)
+]
 
 all_pass_filter : {X : Type 0} (p : X → Bool) (xs : List X) → list_all p (filter p xs) ≡ true
 all_pass_filter p [] = refl
 all_pass_filter p (x ∷ xs) = elim (cases_Bool (p x)) [
-      inl t ↦ let ih = all_pass_filter p xs in grind (arith, t, ih)
-    | inr f ↦ let ih = all_pass_filter p xs in grind (arith, f, ih)
-  ]
+  | inl t ↦ let ih = all_pass_filter p xs in grind (arith, t, ih)
+  | inr f ↦ let ih = all_pass_filter p xs in grind (arith, f, ih)
+]
 
 count-filter : {X : Type 0} (p q : X → Bool) (xs : List X) → length (filter q (filter p xs)) ≤ length (filter q xs)
 count-filter p q [] = omega arith
 count-filter p q (x ∷ xs) = let ih = count-filter p q xs in elim (cases_Bool (p x)) [
-      inl t ↦ elim (cases_Bool (q x)) [ inl u ↦ grind (arith, t, u, ih) | inr v ↦ grind (arith, t, v, ih) ]
-    | inr f ↦ elim (cases_Bool (q x)) [ inl u ↦ grind (arith, f, u, ih) | inr v ↦ grind (arith, f, v, ih) ]
-  ]
+  | inl t ↦ elim (cases_Bool (q x)) [ inl u ↦ grind (arith, t, u, ih) | inr v ↦ grind (arith, t, v, ih) ]
+  | inr f ↦ elim (cases_Bool (q x)) [ inl u ↦ grind (arith, f, u, ih) | inr v ↦ grind (arith, f, v, ih) ]
+]
 
 apart-cond : (b : Bool) (w : Wait) (ws : List Wait) → list_any (is_replaced w) ws ≡ false → AreApart ws → AreApart (cond b (w ∷ ws) ws)
 apart-cond true w ws n a = (n, a)
@@ -72,16 +72,16 @@ others ts t = filter (λ u. not (same_tran t u)) ts
 some_pass : {X : Type 0} (p : X → Bool) (xs : List X) → list_any p xs ≡ true → 1 ≤ length (filter p xs)
 some_pass p [] e = absurd (false≢true e)
 some_pass p (x ∷ xs) e = elim (cases_Bool (p x)) [
-      inl t ↦ grind (arith, t)
-    | inr f ↦ let ih = some_pass p xs in grind (arith, f, ih)
-  ]
+  | inl t ↦ grind (arith, t)
+  | inr f ↦ let ih = some_pass p xs in grind (arith, f, ih)
+]
 
 count_le : {X : Type 0} (p q : X → Bool) (xs : List X) → list_all (λ x. not (p x) || q x) xs ≡ true → length (filter p xs) ≤ length (filter q xs)
 count_le p q [] e = omega arith
 count_le p q (x ∷ xs) e = let ih = count_le p q xs in elim (cases_Bool (p x)) [
-      inl t ↦ elim (cases_Bool (q x)) [ inl u ↦ grind (arith, t, u, ih) | inr v ↦ grind (arith, t, v, ih) ]
-    | inr f ↦ elim (cases_Bool (q x)) [ inl u ↦ grind (arith, f, u, ih) | inr v ↦ grind (arith, f, v, ih) ]
-  ]
+  | inl t ↦ elim (cases_Bool (q x)) [ inl u ↦ grind (arith, t, u, ih) | inr v ↦ grind (arith, t, v, ih) ]
+  | inr f ↦ elim (cases_Bool (q x)) [ inl u ↦ grind (arith, f, u, ih) | inr v ↦ grind (arith, f, v, ih) ]
+]
 
 count_all : {X : Type 0} (p : X → Bool) (xs : List X) → list_all p xs ≡ true → length xs ≤ length (filter p xs)
 count_all p [] e = omega arith
@@ -98,9 +98,9 @@ key_cases k n = grind (arith, nat_tests)
 count_or : {X : Type 0} (p q r : X → Bool) → ((x : X) → p x ≡ (q x || r x)) → (xs : List X) → length (filter p xs) ≤ length (filter q xs) + length (filter r xs)
 count_or p q r h [] = omega arith
 count_or p q r h (x ∷ xs) = let ih = count_or p q r h xs in let e = h x in elim (cases_Bool (q x)) [
-      inl t ↦ elim (cases_Bool (r x)) [ inl u ↦ grind (arith, t, u, ih, e) | inr v ↦ grind (arith, t, v, ih, e) ]
-    | inr f ↦ elim (cases_Bool (r x)) [ inl u ↦ grind (arith, f, u, ih, e) | inr v ↦ grind (arith, f, v, ih, e) ]
-  ]
+  | inl t ↦ elim (cases_Bool (r x)) [ inl u ↦ grind (arith, t, u, ih, e) | inr v ↦ grind (arith, t, v, ih, e) ]
+  | inr f ↦ elim (cases_Bool (r x)) [ inl u ↦ grind (arith, f, u, ih, e) | inr v ↦ grind (arith, f, v, ih, e) ]
+]
 
 and_or : (a b c : Bool) → (a && (b || c)) ≡ ((a && b) || (a && c))
 and_or true b c = refl
@@ -117,9 +117,9 @@ none_at_zero false k = grind (arith, nat_tests)
 all_along : {X : Type 0} (p q : X → Bool) → ((x : X) → (not (p x) || q x) ≡ true) → (xs : List X) → list_all p xs ≡ true → list_all q xs ≡ true
 all_along p q h [] e = refl
 all_along p q h (x ∷ xs) e = let ih = all_along p q h xs in let i = h x in elim (cases_Bool (p x)) [
-      inl t ↦ elim (cases_Bool (q x)) [ inl u ↦ grind (arith, t, u, ih, i) | inr v ↦ grind (arith, t, v, ih, i) ]
-    | inr f ↦ grind (arith, f, ih, i)
-  ]
+  | inl t ↦ elim (cases_Bool (q x)) [ inl u ↦ grind (arith, t, u, ih, i) | inr v ↦ grind (arith, t, v, ih, i) ]
+  | inr f ↦ grind (arith, f, ih, i)
+]
 
 count_keys : {X : Type 0} (p : X → Bool) (key : X → ℕ) (b : ℕ) (xs : List X) → list_all (λ x. nat_le 1 (key x)) xs ≡ true
     → ((k : ℕ) → length (filter (λ x. p x && (key x == k)) xs) ≤ b) → (n : ℕ) → length (filter (λ x. p x && nat_le (key x) n) xs) ≤ n * b
@@ -163,9 +163,9 @@ still_among : (ts : List TranId) (t u : TranId) → same_tran t u ≡ false → 
 unfolding others
 still_among [] t u d e = e
 still_among (v ∷ ts) t u d e = let ih = still_among ts t u d in elim (cases_Bool (same_tran u v)) [
-      inl s ↦ let n = same_tran-trans t u v s d in grind (arith, s, n)
-    | inr f ↦ elim (cases_Bool (same_tran t v)) [ inl s ↦ grind (arith, f, s, ih) | inr n ↦ grind (arith, f, n, ih) ]
-  ]
+  | inl s ↦ let n = same_tran-trans t u v s d in grind (arith, s, n)
+  | inr f ↦ elim (cases_Bool (same_tran t v)) [ inl s ↦ grind (arith, f, s, ih) | inr n ↦ grind (arith, f, n, ih) ]
+]
 
 other_waiter : (m h : ℕ) (v w : Wait) → is_between m h v ≡ true → is_replaced v w ≡ false → is_between m h w ≡ true → same_tran v.waiter w.waiter ≡ false
 other_waiter m h v w a b c = grind (arith, nat_tests)
@@ -177,12 +177,12 @@ fewer ts t e = omega (arith, some_pass (same_tran t) ts e, length-filter_both (s
 still_head : (m h : ℕ) (v w : Wait) (ts : List TranId) → is_between m h v ≡ true → is_replaced v w ≡ false
     → (not (is_between m h w) || is_among ts w.waiter) ≡ true → (not (is_between m h w) || is_among (others ts v.waiter) w.waiter) ≡ true
 still_head m h v w ts a b c = elim (cases_Bool (is_between m h w)) [
-      inl t ↦
-        let o = other_waiter m h v w a b t in
-        let i : is_among ts w.waiter ≡ true = or_right_true (not (is_between m h w)) (is_among ts w.waiter) (not_from_true (is_between m h w) t) c in
-        or_right (not (is_between m h w)) (is_among (others ts v.waiter) w.waiter) (still_among ts v.waiter w.waiter o i)
-    | inr f ↦ or_left (not (is_between m h w)) (is_among (others ts v.waiter) w.waiter) (not_from_false (is_between m h w) f)
-  ]
+  | inl t ↦
+      let o = other_waiter m h v w a b t in
+      let i : is_among ts w.waiter ≡ true = or_right_true (not (is_between m h w)) (is_among ts w.waiter) (not_from_true (is_between m h w) t) c in
+      or_right (not (is_between m h w)) (is_among (others ts v.waiter) w.waiter) (still_among ts v.waiter w.waiter o i)
+  | inr f ↦ or_left (not (is_between m h w)) (is_among (others ts v.waiter) w.waiter) (not_from_false (is_between m h w) f)
+]
 
 still_covered : (m h : ℕ) (v : Wait) (ts : List TranId) (ws : List Wait) → is_between m h v ≡ true → list_any (is_replaced v) ws ≡ false
     → list_all (λ w. not (is_between m h w) || is_among ts w.waiter) ws ≡ true
@@ -192,7 +192,7 @@ still_covered m h v ts (w ∷ ws) a b c =
     let n = or_parts (is_replaced v w) (list_any (is_replaced v) ws) b in
     let k = and_parts (not (is_between m h w) || is_among ts w.waiter) (list_all (λ x. not (is_between m h x) || is_among ts x.waiter) ws) c in
     and_from (not (is_between m h w) || is_among (others ts v.waiter) w.waiter) (list_all (λ x. not (is_between m h x) || is_among (others ts v.waiter) x.waiter) ws)
-      (still_head m h v w ts a n.0 k.0) (still_covered m h v ts ws a n.1 k.1)
+    (still_head m h v w ts a n.0 k.0) (still_covered m h v ts ws a n.1 k.1)
 
 few_waiters : (m h : ℕ) (ws : List Wait) (ts : List TranId) → AreApart ws
     → list_all (λ w. not (is_between m h w) || is_among ts w.waiter) ws ≡ true → length (filter (is_between m h) ws) ≤ length ts
@@ -200,11 +200,11 @@ few_waiters m h [] ts a c = omega arith
 few_waiters m h (w ∷ ws) ts a c =
     let k = and_parts (not (is_between m h w) || is_among ts w.waiter) (list_all (λ x. not (is_between m h x) || is_among ts x.waiter) ws) c in
     elim (cases_Bool (is_between m h w)) [
-      inl t ↦
-        let i : is_among ts w.waiter ≡ true = or_right_true (not (is_between m h w)) (is_among ts w.waiter) (not_from_true (is_between m h w) t) k.0 in
-        let r = few_waiters m h ws (others ts w.waiter) a.1 (still_covered m h w ts ws t a.0 k.1) in
-        let f = fewer ts w.waiter i in
-        grind (arith, t, r, f)
+      | inl t ↦
+          let i : is_among ts w.waiter ≡ true = or_right_true (not (is_between m h w)) (is_among ts w.waiter) (not_from_true (is_between m h w) t) k.0 in
+          let r = few_waiters m h ws (others ts w.waiter) a.1 (still_covered m h w ts ws t a.0 k.1) in
+          let f = fewer ts w.waiter i in
+          grind (arith, t, r, f)
       | inr n ↦ let r = few_waiters m h ws ts a.1 k.1 in grind (arith, n, r)
     ]
 
@@ -221,9 +221,9 @@ apart-push (v ∷ ws) w a c =
 
 of_one_member : (m h : ℕ) (ts : List TranId) (w : Wait) → (not (not (w.waiter.member == m) || is_among ts w.waiter) || (not (is_between m h w) || is_among ts w.waiter)) ≡ true
 of_one_member m h ts w = elim (cases_Bool (is_among ts w.waiter)) [
-      inl t ↦ grind (arith, nat_tests, t)
-    | inr f ↦ elim (cases_Bool (w.waiter.member == m)) [ inl u ↦ grind (arith, nat_tests, f, u) | inr v ↦ grind (arith, nat_tests, f, v) ]
-  ]
+  | inl t ↦ grind (arith, nat_tests, t)
+  | inr f ↦ elim (cases_Bool (w.waiter.member == m)) [ inl u ↦ grind (arith, nat_tests, f, u) | inr v ↦ grind (arith, nat_tests, f, v) ]
+]
 
 few_of_others : (ws : List Wait) (w : Wait) (m h b : ℕ) → (w.waiter.member == m) ≡ false → length (filter (is_between m h) ws) ≤ b → length (filter (is_between m h) (ws ++ w ∷ [])) ≤ b
 few_of_others ws w m h b n l =
@@ -244,12 +244,12 @@ IsKept-add ws agents room w k a b f =
       apart = apart;
       ranges = list_all-append in_range (filter kept ws) (w ∷ []) ∙ and_from (list_all in_range (filter kept ws)) (in_range w && true) (all_in_filter kept in_range ws k.ranges) (in_range_of w a b);
       few = λ m h. elim (cases_Bool (w.waiter.member == m)) [
-          inl t ↦
+        | inl t ↦
             let p = few_waiters w.waiter.member h (with_wait ws w) f.waiters apart (all_along (λ x. not (x.waiter.member == w.waiter.member) || is_among f.waiters x.waiter) (λ x. not (is_between w.waiter.member h x) || is_among f.waiters x.waiter) (of_one_member w.waiter.member h f.waiters) (with_wait ws w) f.all) in
             let q : length (filter (is_between w.waiter.member h) (with_wait ws w)) ≤ agents = omega (arith, p, f.few) in
             subst (λ (n : ℕ). length (filter (is_between n h) (with_wait ws w)) ≤ agents) (eqb-true w.waiter.member m t) q
-          | inr n ↦ few_of_others (filter kept ws) w m h agents n (omega (arith, count-filter kept (is_between m h) ws, k.few m h))
-        ];
+        | inr n ↦ few_of_others (filter kept ws) w m h agents n (omega (arith, count-filter kept (is_between m h) ws, k.few m h))
+      ];
       fits = k.fits;
     }
 

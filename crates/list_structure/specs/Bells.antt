@@ -11,4 +11,4 @@ rung bells = map (λ bell. bell + 1) bells
 
 -- no count is at its end
 abbrev pub CanRing : List ℕ → Type 0
-CanRing bells = (k : ℕ) → slice_index bells k < 2 ^ 64 - 1
+CanRing bells = (member : ℕ) → bell_of bells member < 2 ^ 64 - 1

@@ -1,5 +1,5 @@
 //! A bell a member, that rings where something changed which the member may wait for.
-ghost use Rattle.std.specs.Prelude.{◌≡◌, ℕ, ◌<◌, ◌^◌, ◌-◌, IfOk};
+ghost use Rattle.std.specs.Prelude.{◌≡◌, ℕ, ◌<◌, ◌^◌, ◌-◌, slice_index, IfOk};
 ghost use Rattle.list_structure.specs.Bells.{bell_of, rung, CanRing};
 
 use crate::copies::{copies, fill};
@@ -57,7 +57,7 @@ impl Bells {
 }
 
 fn ring_all(counts: &mut [u64])
-    requires { CanRing counts.old }
+    requires { (k : ℕ) → slice_index counts.old k < 2 ^ 64 - 1 }
     ensures { counts.new ≡ rung counts.old }
 {
     for count in counts.iter_mut() {

@@ -30,7 +30,10 @@ pub enum Cell {
     /// Nothing was asked.
     Empty,
     /// The member hasn't answered yet.
-    Asked { name: Name, mode: Mode },
+    Asked {
+        name: Name,
+        mode: Mode,
+    },
     /// The member has answered, as the entry of the name had this version, by this event.
     Answered {
         name: Name,

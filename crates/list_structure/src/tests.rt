@@ -1,3 +1,4 @@
+ghost use Rattle.std.specs.Prelude.{◌≡◌};
 ghost use Rattle.ds_base.specs.Ids.{IsMember};
 
 use super::*;
@@ -7,42 +8,47 @@ use std::test::Fail;
 
 fn member(number: u64) -> MemberId
     requires { IsMember number }
+    ensures { result ≡ number }
 {
     MemberId::new(number).unwrap()
 }
 
-#[test]
-fn a_query_is_asked_and_answered(rt: HostRuntime) -> Result<(), Fail> {
-    let asker = Asker {
+// Slot 16 of the first member.
+fn asker() -> Asker
+    ensures { result.slot ≡ 16 }
+{
+    Asker {
         member: member(1),
         slot: 16,
-    };
+    }
+}
+
+#[test]
+fn a_query_is_asked_and_answered(rt: HostRuntime) -> Result<(), Fail> {
     let name = Name::Set(7);
-    let mut lists = Lists::new(rt.alloc(), 2, 1)?;
-    lists.ask(asker.member, asker.slot, member(2), &name, Mode::X);
-    assert!(rt; lists.asked(member(2)));
-    assert!(rt; !lists.asked(member(1)));
     let query = Query {
-        asker,
-        name,
+        asker: asker(),
+        name: Name::Set(7),
         mode: Mode::X,
     };
-    assert_eq!(rt; lists.take(member(2), Some(asker)), Some(query));
-    let answer = CellAnswer::Clean;
-    assert!(rt; !lists.answer(member(2), asker, &name, Mode::S, answer, 5, 9));
-    assert!(rt; lists.answer(member(2), asker, &name, Mode::X, answer, 5, 9));
-    assert_eq!(rt; lists.take(member(2), None), None);
     let answered = Cell::Answered {
-        name,
+        name: Name::Set(7),
         mode: Mode::X,
-        answer,
+        answer: CellAnswer::Clean,
         version: 5,
         event: 9,
     };
-    let cells = lists.answers(asker.member, asker.slot);
+    let mut lists = Lists::new(rt.alloc(), 2, 1)?;
+    lists.ask(member(1), 16, member(2), &name, Mode::X);
+    assert!(rt; lists.asked(member(2)) && !lists.asked(member(1)));
+    assert_eq!(rt; lists.take(member(2), Some(asker())), Some(query));
+    assert!(rt; !lists.answer(member(2), asker(), &name, Mode::S, CellAnswer::Clean, 5, 9));
+    assert!(rt; lists.answer(member(2), asker(), &name, Mode::X, CellAnswer::Clean, 5, 9));
+    assert_eq!(rt; lists.take(member(2), None), None);
+    let cells = lists.answers(member(1), 16);
     assert_eq!(rt; cells[1], answered);
-    lists.empty_cells(asker.member, asker.slot);
-    let cells = lists.answers(asker.member, asker.slot);
+    lists.empty_cells(member(1), 16);
+    let cells = lists.answers(member(1), 16);
     assert_eq!(rt; cells[1], Cell::Empty);
     Ok(())
 }
@@ -58,10 +64,33 @@ fn members_of_the_group_are_up_and_done(rt: HostRuntime) -> Result<(), Fail> {
     assert_eq!(rt; lists.claim(member(1), true), ClaimReply::Claimed);
     let reply = lists.claim(member(2), true);
     assert_eq!(rt; reply, ClaimReply::Taken { by: member(1) });
-    lists.unwait(TranId { member: member(1), number: 1 });
+    lists.unwait(TranId {
+        member: member(1),
+        number: 1,
+    });
     assert!(rt; lists.waits().is_empty());
     assert_eq!(rt; lists.bell(member(1)), 0);
     lists.reset();
     assert!(rt; lists.done(member(2)) && !lists.flag(64));
+    Ok(())
+}
+
+fn tran(of: u64, number: u32) -> TranId
+    requires { IsMember of }
+    ensures member { result.member ≡ of }
+    ensures number { result.number ≡ number }
+{
+    TranId {
+        member: member(of),
+        number,
+    }
+}
+
+#[test]
+fn a_wait_rings_all_bells(rt: HostRuntime) -> Result<(), Fail> {
+    let mut lists = Lists::new(rt.alloc(), 2, 1)?;
+    lists.wait(tran(2, 1), tran(1, 2), 0);
+    assert_eq!(rt; lists.waits().len(), 1);
+    assert_eq!(rt; lists.bell(member(32)), 1);
     Ok(())
 }

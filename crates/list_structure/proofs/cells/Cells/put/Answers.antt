@@ -16,18 +16,18 @@ pub recount-requires-clause-there : goal.recount-requires-clause-there
 recount-requires-clause-there c =
     let e = counted_at c.self.inside.cells.items c.self.inside.asked.items c.args.to c.index-2.result.now c.self.invariant c.requires.to c.index-2.ensures in
     let r : c.is_asked-before.result ≡ is_asked (cell_at c.self.inside.cells.items c.args.asker c.args.to) =
-      c.is_asked-before.ensures ∙ ap is_asked (read_cell c.self.inside.cells.items c.self.inside.asked.items c.args.asker c.args.to c.index.result.now c.self.invariant c.requires.asker c.requires.to c.index.ensures) in
+    c.is_asked-before.ensures ∙ ap is_asked (read_cell c.self.inside.cells.items c.self.inside.asked.items c.args.asker c.args.to c.index.result.now c.self.invariant c.requires.asker c.requires.to c.index.ensures) in
     let l = asked_count-least c.self.inside.cells.items c.args.to 544 c.args.asker c.requires.asker in
     omega (arith, ap one_if r, e, l)
 
 pub invariant_of-self : goal.invariant_of-self
 invariant_of-self c =
     let r : c.is_asked-before.result ≡ is_asked (cell_at c.self.inside.cells.items c.args.asker c.args.to) =
-      c.is_asked-before.ensures ∙ ap is_asked (read_cell c.self.inside.cells.items c.self.inside.asked.items c.args.asker c.args.to c.index.result.now c.self.invariant c.requires.asker c.requires.to c.index.ensures) in
+    c.is_asked-before.ensures ∙ ap is_asked (read_cell c.self.inside.cells.items c.self.inside.asked.items c.args.asker c.args.to c.index.result.now c.self.invariant c.requires.asker c.requires.to c.index.ensures) in
     let k : c.index-2.result.now ≡ slice_index c.self.inside.asked.items c.args.to =
-      get_or_read c.self.inside.asked.items c.args.to c.index-2.result.now (omega (arith, c.self.invariant.counts_length)) c.index-2.ensures 0 in
+    get_or_read c.self.inside.asked.items c.args.to c.index-2.result.now (omega (arith, c.self.invariant.counts_length)) c.index-2.ensures 0 in
     IsCounted-set c.self.inside.cells.items c.self.inside.asked.items c.args.asker c.args.to c.args.cell c.recount.result c.self.invariant c.requires.asker c.requires.to
-      (omega (arith, c.recount.ensures, ap one_if r, k, ap one_if c.is_asked.ensures))
+    (omega (arith, c.recount.ensures, ap one_if r, k, ap one_if c.is_asked.ensures))
 
 pub returns : goal.returns
 returns c = λ i t l.

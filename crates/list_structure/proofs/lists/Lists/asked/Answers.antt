@@ -28,8 +28,9 @@ pub returns : goal.returns
 returns c =
     let e : c.self.inside.cells ≡ c.args.self.now.cells = ap (λ (l : ListsState). l.cells) c.self.view_is in
     let inside = c.self.inside.cells in
-    let to = c.args.member - 1 in
-    (λ f a r. subst (λ (cells : List Cell). is_asked (cell_at cells (place_of a) to) ≡ false) e
-        (subst (λ (t : ℕ). is_asked (cell_at inside (place_of a) t) ≡ false) c.index.ensures.place (c.has_asked.ensures.0 f (place_of a) (place_range a r))),
-     λ n. c.has_asked.ensures.1 (λ i l. subst (λ (t : ℕ). is_asked (cell_at inside i t) ≡ false) (sym c.index.ensures.place)
-        (subst (λ (cells : List Cell). is_asked (cell_at cells i to) ≡ false) (sym e) (by_place c.args.self.now.cells c.args.member n i l))))
+    let to = c.args.member - 1 in (
+      λ f a r. subst (λ (cells : List Cell). is_asked (cell_at cells (place_of a) to) ≡ false) e
+          (subst (λ (t : ℕ). is_asked (cell_at inside (place_of a) t) ≡ false) c.index.ensures.place (c.has_asked.ensures.0 f (place_of a) (place_range a r))),
+      λ n. c.has_asked.ensures.1 (λ i l. subst (λ (t : ℕ). is_asked (cell_at inside i t) ≡ false) (sym c.index.ensures.place)
+          (subst (λ (cells : List Cell). is_asked (cell_at cells i to) ≡ false) (sym e) (by_place c.args.self.now.cells c.args.member n i l))),
+    )
