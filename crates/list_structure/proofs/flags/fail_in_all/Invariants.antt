@@ -1,0 +1,6 @@
+use Rattle.std.proofs.Common.{◌≡◌, ◌++◌, map, take, drop}
+use Rattle.list_structure.specs.Flags.{raised_for}
+use Rattle.list_structure.proofs.flags.fail_in_all.Given as goal
+
+abbrev pub invariant-loop-flag : goal.invariant-loop-flag
+invariant-loop-flag l = l.flags ≡ map (raised_for l.member) (take l.flag-index l.fn.flags) ++ drop l.flag-index l.fn.flags

@@ -1,0 +1,10 @@
+pub mod Askers
+pub mod Bells
+pub mod Cells
+pub mod Counts
+pub mod Flags
+pub mod Kept
+pub mod Rounds
+pub mod Standings
+pub mod States
+pub mod Waits
