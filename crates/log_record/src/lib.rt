@@ -12,6 +12,7 @@ mod field;
 mod kind;
 mod laws;
 mod layout;
+mod log;
 mod put;
 mod read;
 mod state;
@@ -21,6 +22,7 @@ pub use allowed::is_allowed;
 pub use ds_model::{Body, LogRecord, RecordList, RowChange};
 pub use fault::RecordFault;
 pub use laws::reading_laws;
+pub use log::Log;
 pub use read::read_record;
 pub use write::{put_record, record_length, records_bytes, write_record};
 

@@ -1,13 +1,12 @@
-// A library with one function.
+//! The log of a member on a disk: it is read as a whole, records are added at its end, and a tail is cut.
 #![tactic(auto)]
 
-ghost use Rattle.std.specs.Prelude.{◌≡◌};
-ghost use Rattle.log_volume.specs.Echo.{echo_of};
+mod change;
+mod fault;
+mod read;
+mod records;
 
-// The `ensures` clause is the contract: what `echo` returns is `echo_of` of its argument, a definition
-// in `specs/Echo.antt`, which a caller's clause can cite too.
-pub fn echo(x: usize) -> usize
-    ensures { result ≡ echo_of x }
-{
-    x
-}
+pub use change::{append, cut_tail};
+pub use fault::LogFault;
+pub use log_record::Log;
+pub use read::open_log;
