@@ -1,6 +1,7 @@
-ghost use Rattle.std.specs.Prelude.{◌≡◌, ◌≢◌, ◌+◌, ◌⊎◌, true, [], ◌++◌, length, take, OnOk, OnErr, IfOk};
+ghost use Rattle.std.specs.Prelude.{◌≡◌, ◌≢◌, ◌≤◌, ◌+◌, ◌⊎◌, true, [], ◌++◌, length, vec_len, vec_capacity, OnOk, OnErr};
 ghost use Rattle.std.specs.List.{AllByRecursion};
-ghost use Rattle.ds_disk.specs.Contents.{WhenTold, log_of};
+ghost use Rattle.ds_base.specs.Ids.{IsMember};
+ghost use Rattle.ds_disk.specs.Contents.{WhenTold, Becomes, log_of};
 ghost use Rattle.ds_disk.specs.Answers.{Appended};
 ghost use Rattle.ds_model.specs.RecordBytes.{log_bytes, Fits};
 ghost use Rattle.log_volume.specs.Disks.{HasCause, Changes, Holds, after_append, after_cut};
@@ -10,9 +11,26 @@ use crate::fault::LogFault;
 use ds_base::MemberId;
 use ds_disk::Disk;
 use ds_model::RecordList;
-use log_record::{Log, LogRecord, records_bytes};
+use log_record::{Log, LogRecord, reading_laws, records_bytes};
 use std::alloc::Global;
 use std::mem;
+
+// A member's number is that of a log.
+fn has_log(member: MemberId)
+    ensures { IsMember member }
+{
+    let _number = member.number();
+}
+
+// Moves the items behind the others, where there is room for them.
+fn move_behind<T: Drop>(items: &mut Vec<T>, added: Vec<T>)
+    requires { vec_len items.old + vec_len added ≤ vec_capacity items.old }
+    ensures { items.new.items ≡ items.old.items ++ added.items }
+{
+    for item in added {
+        items.push_reserved(item);
+    }
+}
 
 // Adds the bytes to the log on disk, and then the records to those in memory, for which room is made first.
 fn append_with_room<D: Disk>(
@@ -30,9 +48,7 @@ fn append_with_room<D: Disk>(
 {
     records.reserve(added.len())?;
     disk.append_log(member, bytes)?;
-    for record in added {
-        records.push_reserved(record);
-    }
+    move_behind(records, added);
     Ok(())
 }
 
@@ -55,11 +71,13 @@ pub fn append<D: Disk>(
     ensures nothing { added ≡ [] → OnOk result (disk.new ≡ disk.old) }
     ensures ok { OnOk result (log.new ≡ after_append log.old added) }
     ensures err { OnErr result (log.new ≡ log.old) }
-    ensures log_is { OnOk result (WhenTold (D.contents disk.new) (λ c. IsLogOf (log_of c.logs log.new.member) log.new)) }
+    ensures log_is { OnOk result (Becomes (D.contents disk.old) (D.contents disk.new) (λ _ d. IsLogOf (log_of d.logs log.new.member) log.new)) }
 {
     if added.is_empty() {
         return Ok(());
     }
+    reading_laws();
+    has_log(log.member);
     let bytes = records_bytes(alloc, added.as_slice())?;
     let Some(length) = log.length.checked_add(bytes.len() as u64) else {
         return Err(LogFault::NoMemory);
@@ -80,8 +98,10 @@ pub fn cut_tail<D: Disk>(disk: &mut D, log: &mut Log) -> Result<(), LogFault>
     ensures alive { OnOk result (D.alive disk.old ≡ true) }
     ensures ok { OnOk result (log.new ≡ after_cut log.old) }
     ensures err { OnErr result (log.new ≡ log.old) }
-    ensures log_is { OnOk result (WhenTold (D.contents disk.new) (λ c. IsLogOf (log_of c.logs log.new.member) log.new)) }
+    ensures log_is { OnOk result (Becomes (D.contents disk.old) (D.contents disk.new) (λ _ d. IsLogOf (log_of d.logs log.new.member) log.new)) }
 {
+    reading_laws();
+    has_log(log.member);
     disk.cut_log(log.member, log.length)?;
     log.tail = 0;
     Ok(())
