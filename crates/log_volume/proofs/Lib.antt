@@ -1,3 +1,4 @@
 pub mod Walks
 pub mod Logs
 pub mod Told
+pub mod Meanings

@@ -1,10 +1,10 @@
 -- The records of a log's bytes.
-use Rattle.std.specs.Prelude.{◌≡◌, ℕ, ◌+◌, zero, suc, List, [], ◌∷◌, length, take, drop, Result, Ok, Err}
+use Rattle.std.specs.Prelude.{◌≡◌, ℕ, ◌+◌, zero, suc, List, [], ◌∷◌, ◌++◌, length, take, drop, Result, Ok, Err}
 use Rattle.std.specs.List.{AllByRecursion}
 use Rattle.ds_model.specs.declared.log.LogRecord.{LogRecord}
 use Rattle.ds_model.specs.RecordBytes.{IsAllowed, log_bytes}
 use Rattle.log_record.specs.declared.fault.RecordFault.{RecordFault}
-use Rattle.log_record.specs.declared.fault.RecordFault.TheVariants.{Bad}
+use Rattle.log_record.specs.declared.fault.RecordFault.TheVariants.{NotWhole, Bad}
 use Rattle.log_record.specs.declared.log.Log.{Log}
 use Rattle.log_record.specs.Reading.{record_in}
 
@@ -33,6 +33,25 @@ parts_up_to (suc count) bytes = parts_from (λ rest. parts_up_to count rest) byt
 -- the parts of a log of these bytes, or where its first field that isn't allowed begins; no log has more records than bytes
 unfoldable pub parts_in : List ℕ → Result Parts ℕ
 parts_in bytes = parts_up_to (suc (length bytes)) bytes
+
+-- the bytes are these whole records, and then a tail that is no whole record
+pub record ArePartsOf (bytes : List ℕ) (p : Parts) : Type 0 where
+  pub rest : List ℕ
+  pub split : bytes ≡ log_bytes p.records ++ rest
+  pub allowed : AllByRecursion IsAllowed p.records
+  pub not_whole : record_in rest ≡ Err NotWhole
+  pub size_is : p.size ≡ length (log_bytes p.records)
+  pub tail_is : p.tail ≡ length rest
+
+-- the bytes are whole records, and then one with a field at this byte that isn't allowed
+pub record IsDamagedAt (bytes : List ℕ) (at : ℕ) : Type 0 where
+  pub records : List LogRecord
+  pub rest : List ℕ
+  pub split : bytes ≡ log_bytes records ++ rest
+  pub allowed : AllByRecursion IsAllowed records
+  pub field : ℕ
+  pub bad : record_in rest ≡ Err (Bad field)
+  pub place : at ≡ length (log_bytes records) + field
 
 abbrev pub parts_of : Log → Parts
 parts_of log = record { records = log.records; size = log.length; tail = log.tail }

@@ -1,4 +1,4 @@
-ghost use Rattle.std.specs.Prelude.{◌≡◌, ◌≢◌, ◌≤◌, ◌+◌, ◌⊎◌, true, [], ◌++◌, length, vec_len, vec_capacity, OnOk, OnErr};
+ghost use Rattle.std.specs.Prelude.{◌≡◌, ◌≢◌, ◌≤◌, ◌+◌, ◌⊎◌, true, [], ◌++◌, length, vec_len, vec_capacity, IsOk, OnOk, OnErr};
 ghost use Rattle.std.specs.List.{AllByRecursion};
 ghost use Rattle.ds_base.specs.Ids.{IsMember};
 ghost use Rattle.ds_disk.specs.Contents.{WhenTold, Becomes, log_of};
@@ -68,7 +68,8 @@ pub fn append<D: Disk>(
     ensures answers { Changes (D.alive disk.old) (D.alive disk.new) (D.contents disk.old) (D.contents disk.new) result (Holds log.old.member (λ bytes. bytes ++ log_bytes added)) (Appended log.old.member (log_bytes added)) }
     ensures cause { HasCause (D.faults disk.old) (D.faults disk.new) result }
     ensures alive { added ≢ [] → OnOk result (D.alive disk.old ≡ true) }
-    ensures nothing { added ≡ [] → OnOk result (disk.new ≡ disk.old) }
+    ensures empty { added ≡ [] → IsOk result }
+    ensures no_call { added ≡ [] → disk.new ≡ disk.old }
     ensures ok { OnOk result (log.new ≡ after_append log.old added) }
     ensures err { OnErr result (log.new ≡ log.old) }
     ensures log_is { OnOk result (Becomes (D.contents disk.old) (D.contents disk.new) (λ _ d. IsLogOf (log_of d.logs log.new.member) log.new)) }

@@ -3,10 +3,14 @@
 
 mod change;
 mod fault;
+mod laws;
 mod read;
 mod records;
+#[cfg(test)]
+mod tests;
 
 pub use change::{append, cut_tail};
 pub use fault::LogFault;
+pub use laws::log_laws;
 pub use log_record::Log;
 pub use read::open_log;

@@ -12,7 +12,7 @@ use log_record::Log;
 use std::alloc::Global;
 
 // The bytes of the member's log.
-fn log_bytes<D: Disk>(alloc: Global, disk: &mut D, member: MemberId) -> Result<Vec<u8>, LogFault>
+fn read_bytes<D: Disk>(alloc: Global, disk: &mut D, member: MemberId) -> Result<Vec<u8>, LogFault>
     ensures answers { Gives (D.alive disk.old) (D.alive disk.new) (D.contents disk.old) (D.contents disk.new) result (λ bytes c. bytes.items ≡ log_of c.logs member) }
     ensures cause { HasCause (D.faults disk.old) (D.faults disk.new) result }
 {
@@ -33,7 +33,7 @@ pub fn open_log<D: Disk>(alloc: Global, disk: &mut D, member: MemberId) -> Resul
     ensures member { IfOk result (λ log. log.member ≡ member) }
     ensures allowed { IfOk result (λ log. AllByRecursion IsAllowed log.records) }
 {
-    let bytes = log_bytes(alloc, disk, member)?;
+    let bytes = read_bytes(alloc, disk, member)?;
     let (records, length) = records_in(alloc, &bytes)?;
     let tail = bytes.len() - length;
     Ok(Log {
