@@ -29,9 +29,9 @@ whole_log again log long short h =
     let read = parts_whole again log.records [] h nothing_read in
     record {
       is_read =
-        ap parts_in (sym (append-nil (log_bytes log.records))) ∙ read
-        ∙ ap (λ (n : ℕ). let it : Parts = record { records = log.records; size = n; tail = 0 } in Ok it) (sym long)
-        ∙ ap (λ (n : ℕ). let it : Parts = record { records = log.records; size = log.length; tail = n } in Ok it) (sym short);
+          ap parts_in (sym (append-nil (log_bytes log.records))) ∙ read
+          ∙ ap (λ (n : ℕ). let it : Parts = record { records = log.records; size = n; tail = 0 } in Ok it) (sym long)
+          ∙ ap (λ (n : ℕ). let it : Parts = record { records = log.records; size = log.length; tail = n } in Ok it) (sym short);
       spelled = take_all log.length (log_bytes log.records) (omega (arith, long));
       allowed = h;
       whole = omega (arith, long, short);

@@ -129,8 +129,7 @@ allowed-push (q ∷ rs) r h k = (h.0, allowed-push rs r h.1 k)
 pub further : (bytes : List ℕ) (at : ℕ) (rs : List LogRecord) (r : LogRecord) (n : ℕ) → at ≤ length bytes → take at bytes ≡ log_bytes rs → AllByRecursion IsAllowed rs → Found (drop at bytes) r n
     → (at + n ≤ length bytes) × (take (at + n) bytes ≡ log_bytes (rs ++ r ∷ [])) × AllByRecursion IsAllowed (rs ++ r ∷ [])
 further bytes at rs r n within spelled allowed f =
-    let left = length-drop at bytes in
-    (
+    let left = length-drop at bytes in (
       omega (arith, f.within, left, within),
       take-add at n bytes ∙ ap (λ (t : List ℕ). t ++ take n (drop at bytes)) spelled ∙ ap (λ (t : List ℕ). log_bytes rs ++ t) f.spelled ∙ flat_map_more record_bytes [] rs r,
       allowed-push rs r allowed f.allowed,

@@ -84,7 +84,13 @@ pub fn append<D: Disk>(
         return Err(LogFault::NoMemory);
     };
     let mut records = mem::replace(&mut log.records, RecordList::new(alloc)).into_vec();
-    let done = append_with_room(disk, log.member, bytes.as_slice(), &mut records, added.into_vec());
+    let done = append_with_room(
+        disk,
+        log.member,
+        bytes.as_slice(),
+        &mut records,
+        added.into_vec(),
+    );
     log.records = RecordList::from_vec(records);
     done?;
     log.length = length;

@@ -12,11 +12,7 @@ use log_record::{LogRecord, RecordFault, read_record, reading_laws};
 use std::alloc::Global;
 
 // The record that begins at this byte, and its length, or nothing where what is left is no whole record.
-fn record_at(
-    alloc: Global,
-    bytes: &[u8],
-    at: usize,
-) -> Result<Option<(LogRecord, usize)>, LogFault>
+fn record_at(alloc: Global, bytes: &[u8], at: usize) -> Result<Option<(LogRecord, usize)>, LogFault>
     requires { at ≤ length bytes.now }
     ensures found { IfOk result (λ next. IfSome next (λ found. Found (drop at bytes.now) found.0 found.1)) }
     ensures tail { IfOk result (λ next. IfNone next (record_in (drop at bytes.now) ≡ Err NotWhole)) }

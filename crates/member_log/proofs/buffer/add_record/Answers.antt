@@ -11,9 +11,9 @@ stands used before written after text within is =
     let rest : List ℕ = drop (length text) written in
     let whole : written ≡ text ++ rest = sym (take-append-drop (length text) written) ∙ ap (λ (t : List ℕ). t ++ rest) is in
     let grouped : front ++ (written ++ after) ≡ (front ++ text) ++ (rest ++ after) =
-          ap (λ (w : List ℕ). front ++ (w ++ after)) whole
-          ∙ ap (λ (t : List ℕ). front ++ t) (append_assoc text rest after)
-          ∙ sym (append_assoc front text (rest ++ after)) in
+    ap (λ (w : List ℕ). front ++ (w ++ after)) whole
+    ∙ ap (λ (t : List ℕ). front ++ t) (append_assoc text rest after)
+    ∙ sym (append_assoc front text (rest ++ after)) in
     ap (take (used + length text)) grouped
     ∙ take_at (front ++ text) (rest ++ after) (used + length text) (omega (arith, length-append front text, length-take-le used before within))
 
