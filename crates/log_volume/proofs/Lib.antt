@@ -1,0 +1,4 @@
+pub mod Walks
+pub mod Logs
+pub mod Told
+pub mod Meanings

@@ -1,0 +1,8 @@
+//! A member's log buffer: the log records that don't stand in the member's log on disk yet.
+#![tactic(auto)]
+
+mod buffer;
+#[cfg(test)]
+mod tests;
+
+pub use buffer::{MemberLog, MustForce};

@@ -1,0 +1,41 @@
+ghost use Rattle.std.specs.Prelude.{◌≡◌};
+ghost use Rattle.ds_base.specs.Ids.{IsLrsn};
+ghost use Rattle.ds_model.specs.RecordBytes.{Fits};
+
+use crate::{MemberLog, MustForce};
+use ds_base::Lrsn;
+use log_record::{Body, LogRecord};
+use std::test::Fail;
+
+fn lrsn(number: u64) -> Lrsn
+    requires { IsLrsn number }
+    ensures { result ≡ number }
+{
+    Lrsn::new(number).unwrap()
+}
+
+fn commit() -> LogRecord
+    ensures { Fits result }
+{
+    LogRecord {
+        lrsn: lrsn(5),
+        tran: lrsn(5),
+        body: Body::Commit,
+    }
+}
+
+#[test]
+fn two_commits_fill_a_buffer_of_45_bytes(rt: HostRuntime) -> Result<(), Fail> {
+    let mut log = MemberLog::new(rt.alloc(), 45)?;
+    assert_eq!(rt; log.put(&commit()), Ok(()));
+    assert_eq!(rt; log.room(), 23);
+    assert_eq!(rt; log.stable(), lrsn(0));
+    assert_eq!(rt; log.last(), lrsn(5));
+    assert_eq!(rt; log.put(&commit()), Ok(()));
+    assert_eq!(rt; log.put(&commit()), Err(MustForce { room: 1 }));
+    assert_eq!(rt; log.pending().len(), 44);
+    log.forced();
+    assert_eq!(rt; log.stable(), lrsn(5));
+    assert_eq!(rt; log.room(), 45);
+    Ok(())
+}
