@@ -1,0 +1,3 @@
+pub mod Order
+pub mod Mixing
+pub mod Orders
