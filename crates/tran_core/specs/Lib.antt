@@ -1,3 +1,4 @@
 pub mod Wants
 pub mod States
 pub mod Courses
+pub mod Looks

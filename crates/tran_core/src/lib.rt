@@ -8,6 +8,8 @@
 
 mod asks;
 mod course;
+mod lookup;
+mod outcome;
 mod stage;
 mod steps;
 
