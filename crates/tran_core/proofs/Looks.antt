@@ -19,7 +19,7 @@ passed : (f : ℕ × Bool) (fs : List (ℕ × Bool)) → first_fault (f ∷ fs) 
 passed f fs h = grind arith
 
 -- no field is at fault
-passed_at : (fs : List (ℕ × Bool)) (i : ℕ) (d : ℕ × Bool) → first_fault fs ≡ None → i < length fs → (get_or fs i d).1 ≡ true
+pub passed_at : (fs : List (ℕ × Bool)) (i : ℕ) (d : ℕ × Bool) → first_fault fs ≡ None → i < length fs → (get_or fs i d).1 ≡ true
 passed_at [] i d h lt = absurd (omega arith)
 passed_at (f ∷ fs) zero d h lt = (passed f fs h).0
 passed_at (f ∷ fs) (suc i) d h lt = passed_at fs i d (passed f fs h).1 (omega arith)
@@ -51,7 +51,7 @@ rising_of (e ∷ es) h = rising_from es 80 e.key h
 
 -- ---- a walk over the entries
 
-drop_nil : (n : ℕ) → drop n (let none : List Entry = [] in none) ≡ []
+pub drop_nil : (n : ℕ) → drop n (let none : List Entry = [] in none) ≡ []
 drop_nil zero = refl
 drop_nil (suc n) = refl
 
@@ -76,11 +76,11 @@ fall_suc (e ∷ es) (suc at) offset last key place h = fall_suc es at offset las
 pub fall_next : (es : List Entry) (at offset last key : ℕ) (place : Place) → pair_of (slice_get es at) ≡ Some (key, place) → fall_from offset last (drop at es) ≡ (if nat_lt last key then fall_from (offset + 16) key (drop (at + 1) es) else Some offset)
 fall_next es at offset last key place h = let next : at + 1 ≡ suc at = omega arith in rw next (fall_suc es at offset last key place h)
 
-length_entries : (page : List ℕ) (offset n : ℕ) → length (entries_from page offset n) ≡ n
+pub length_entries : (page : List ℕ) (offset n : ℕ) → length (entries_from page offset n) ≡ n
 length_entries page offset zero = refl
 length_entries page offset (suc n) = ap suc (length_entries page (offset + 16) n)
 
-drop_past : (es : List Entry) (n : ℕ) → length es ≤ n → drop n es ≡ []
+pub drop_past : (es : List Entry) (n : ℕ) → length es ≤ n → drop n es ≡ []
 drop_past [] n h = drop_nil n
 drop_past (e ∷ es) zero h = absurd (omega arith)
 drop_past (e ∷ es) (suc n) h = drop_past es n (omega arith)
@@ -104,7 +104,7 @@ most_of level.Leaf kind.Leaf h = refl
 most_of level.Branch k h = grind arith
 most_of level.Leaf k h = grind arith
 
-le_of : (a b : ℕ) → nat_le a b ≡ true → a ≤ b
+pub le_of : (a b : ℕ) → nat_le a b ≡ true → a ≤ b
 le_of a b h = grind arith
 
 pub room_of : (bytes : List ℕ) (id : PageId) (h : Header) (l : Level) → header_of bytes id ≡ Ok h → is_of l h.kind ≡ true → count_of bytes ≤ 252

@@ -2,3 +2,4 @@ pub mod Wants
 pub mod States
 pub mod Courses
 pub mod Looks
+pub mod Pages

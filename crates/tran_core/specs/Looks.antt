@@ -138,6 +138,13 @@ looked l a page branch count (look.Down n) = read_index level.Leaf n page
 looked l a page branch count (look.Found place) = found a place
 looked l a page branch count look.Absent = absent l a page branch count
 
+-- whether the page is a leaf whose rows are read
+abbrev pub collects : Outcome → Bool
+collects (outcome.Go next) = false
+collects outcome.Nothing = false
+collects (outcome.Collect high) = true
+collects (outcome.Damaged at) = false
+
 abbrev pub unless : Option ℕ → Outcome → Outcome
 unless (Some at) o = outcome.Damaged at
 unless None o = o
@@ -182,8 +189,11 @@ header_outcome task leaf bytes = headed leaf (header_of bytes (heap_page task.ta
 
 -- ---- the leaves of a scan
 
-abbrev pub is_between : ℕ → ℕ → Entry → Bool
+unfoldable pub is_between : ℕ → ℕ → Entry → Bool
 is_between low high e = nat_le low e.key && nat_le e.key high
+
+abbrev pub kept : ℕ → ℕ → Entry → List Entry
+kept low high e = if is_between low high e then e ∷ [] else []
 
 -- the entries that a scan follows
 abbrev pub between : ℕ → ℕ → List ℕ → List Entry

@@ -76,7 +76,8 @@ impl Course {
 
     // Begins the next operation, or the commit behind the last one.
     pub fn next_op(&mut self)
-        ensures { state_of self.new ≡ next_op (state_of self.old) }
+        ensures undo { self.new.undo ≡ self.old.undo }
+        ensures state { state_of self.new ≡ next_op (state_of self.old) }
     {
         if self.begun < self.ops.len() {
             self.stage = begin(self.ops[self.begun]);
@@ -115,7 +116,8 @@ impl Course {
     // A `get` has read its row.
     pub fn get_read(&mut self, value: Option<Value>)
         requires { vec_len self.old.reads < vec_capacity self.old.reads }
-        ensures { state_of self.new ≡ get_read (state_of self.old) value }
+        ensures undo { self.new.undo ≡ self.old.undo }
+        ensures state { state_of self.new ≡ get_read (state_of self.old) value }
     {
         self.reads.push_reserved(Answer::Value(value));
         self.next_op();
@@ -124,7 +126,8 @@ impl Course {
     // A `scan` has read its rows.
     pub fn scan_read(&mut self)
         requires { vec_len self.old.reads < vec_capacity self.old.reads }
-        ensures { state_of self.new ≡ scan_read (state_of self.old) }
+        ensures undo { self.new.undo ≡ self.old.undo }
+        ensures state { state_of self.new ≡ scan_read (state_of self.old) }
     {
         let alloc = *self.rows.allocator();
         let rows = mem::replace(&mut self.rows, Vec::new(alloc));

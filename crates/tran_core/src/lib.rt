@@ -10,6 +10,8 @@ mod asks;
 mod course;
 mod lookup;
 mod outcome;
+mod pages;
+mod rows;
 mod stage;
 mod steps;
 

@@ -1,9 +1,9 @@
 //! What the pages of the index, and the header page of the heap, say to a transaction.
-ghost use Rattle.std.specs.Prelude.{◌≡◌, ◌≤◌, true, None};
+ghost use Rattle.std.specs.Prelude.{◌≡◌, ◌≤◌, true, None, false};
 ghost use Rattle.page_format.specs.Header.{entries_per_page};
 ghost use Rattle.index_leaf.specs.Entries.{count_of, high_of, right_of, entries_of, IsRising};
 ghost use Rattle.index_leaf.specs.Search.{look_of};
-ghost use Rattle.tran_core.specs.Looks.{is_of, kind_fault, fall_of, index_fault, no_index, found, absent, branch_of, looked, is_root, search_outcome, halves_outcome, header_outcome, entered, absent_in, read_index, make};
+ghost use Rattle.tran_core.specs.Looks.{collects, is_of, kind_fault, fall_of, index_fault, no_index, found, absent, branch_of, looked, is_root, search_outcome, halves_outcome, header_outcome, entered, absent_in, read_index, make};
 
 use crate::asks::{heap_set, index_set};
 use crate::outcome::Outcome;
@@ -16,7 +16,7 @@ use page_format::{ENTRIES_PER_PAGE, Page, PageKind};
 const KIND_AT: u16 = 4;
 const COUNT_AT: u16 = 26;
 const LOW_AT: u16 = 32;
-const RIGHT_AT: u16 = 52;
+pub const RIGHT_AT: u16 = 52;
 const FIRST_ENTRY_AT: u16 = 64;
 const ENTRY_WIDTH: u16 = 16;
 
@@ -181,7 +181,8 @@ fn is_root(level: Level, page: u32) -> bool
 /// What a search does with this page of the index.
 #[tactic(auto, using(crate::proofs::Looks::room_of))]
 pub fn search_outcome(task: &Task, level: Level, number: u32, branch: u32, page: &Page) -> Outcome
-    ensures { result ≡ search_outcome task.now level number branch page.now }
+    ensures exact { result ≡ search_outcome task.now level number branch page.now }
+    ensures room { collects result ≡ true → count_of page.now ≤ entries_per_page }
 {
     let id = PageId {
         set: index_set(task.table),
@@ -214,7 +215,8 @@ fn entered(branch: u32, high: Option<Key>, right: Option<u32>) -> Outcome
 
 /// What follows on the split of a leaf, by the leaf as it is now.
 pub fn halves_outcome(task: &Task, left: u32, branch: u32, page: &Page) -> Outcome
-    ensures { result ≡ halves_outcome task.now left branch page.now }
+    ensures exact { result ≡ halves_outcome task.now left branch page.now }
+    ensures alone { collects result ≡ false }
 {
     let id = PageId {
         set: index_set(task.table),
@@ -232,7 +234,8 @@ pub fn halves_outcome(task: &Task, left: u32, branch: u32, page: &Page) -> Outco
 
 /// Whether the heap has to be made before it gives a slot.
 pub fn header_outcome(task: &Task, leaf: u32, page: &Page) -> Outcome
-    ensures { result ≡ header_outcome task.now leaf page.now }
+    ensures exact { result ≡ header_outcome task.now leaf page.now }
+    ensures alone { collects result ≡ false }
 {
     let id = PageId {
         set: heap_set(task.table),

@@ -11,14 +11,15 @@ use ds_base::{Place, Value};
 impl Course {
     pub fn go(&mut self, task: Task, step: Step)
         ensures state { state_of self.new ≡ at_step (state_of self.old) task step }
-        ensures room { deque_len self.old.undo < deque_capacity self.old.undo → deque_len self.new.undo < deque_capacity self.new.undo }
+        ensures undo { self.new.undo ≡ self.old.undo }
     {
         self.stage = Stage::Work { task, step };
     }
 
     // Begins a search at the first branch.
     pub fn search(&mut self, task: Task)
-        ensures { state_of self.new ≡ search (state_of self.old) task }
+        ensures undo { self.new.undo ≡ self.old.undo }
+        ensures state { state_of self.new ≡ search (state_of self.old) task }
     {
         let reading = Reading::Index {
             level: Level::Branch,
@@ -31,7 +32,8 @@ impl Course {
     // The operation meets no row, and a scan no more of them.
     pub fn without_row(&mut self, aim: &Aim)
         requires { vec_len self.old.reads < vec_capacity self.old.reads }
-        ensures { state_of self.new ≡ without_row (state_of self.old) aim.now }
+        ensures undo { self.new.undo ≡ self.old.undo }
+        ensures state { state_of self.new ≡ without_row (state_of self.old) aim.now }
     {
         match aim {
             Aim::Get => self.get_read(None),
