@@ -1,5 +1,6 @@
 pub mod Wants
 pub mod States
+pub mod Stages
 pub mod Courses
 pub mod Looks
 pub mod Pages

@@ -19,7 +19,10 @@ use Rattle.tran_core.specs.declared.stage.Stage.TheVariants as stage
 use Rattle.tran_core.specs.declared.outcome.Outcome.{Outcome}
 use Rattle.tran_core.specs.declared.outcome.Outcome.TheVariants as outcome
 use Rattle.tran_core.specs.Wants.{Content, heap_page, index_page}
-use Rattle.tran_core.specs.States.{State, at_step, next_op, get_read, scan_read, without_row}
+use Rattle.tran_core.specs.States.{State, after_done, after_refusal, at_step, next_op, get_read, scan_read, without_row}
+use Rattle.tran_core.specs.declared.want.Met.{Met}
+use Rattle.tran_core.specs.declared.want.Met.TheVariants as met
+use Rattle.tran_core.specs.Stages.{locks_space, reads_page}
 use Rattle.tran_core.specs.Looks.{between, next_leaf, search_outcome, halves_outcome, header_outcome, row_read}
 
 -- the page can't stand there, from this byte on
@@ -103,3 +106,16 @@ page_met s bytes stage.Ended = s
 -- a page that wasn't asked for changes nothing
 abbrev pub after_page : State → List ℕ → State
 after_page s bytes = page_met s bytes s.stage
+
+-- ---- every answer
+
+abbrev pub after_met : State → Met → State
+after_met s met.Done = after_done s
+after_met s (met.Page page) = after_page s page.now
+after_met s (met.Refused cause) = after_refusal s
+
+-- only a page that was asked for, and the lock of a table space, can want memory
+abbrev pub takes_memory : State → Met → Bool
+takes_memory s met.Done = locks_space s.stage
+takes_memory s (met.Page page) = reads_page s.stage
+takes_memory s (met.Refused cause) = false

@@ -1,9 +1,10 @@
 //! A transaction in hand.
-ghost use Rattle.std.specs.Prelude.{◌≡◌, ◌+◌, ◌<◌, ◌≤◌, ◌∷◌, ◌++◌, [], IfOk, OnOk, OnErr, vec_len, vec_capacity, None};
+ghost use Rattle.std.specs.Prelude.{◌≡◌, false, ◌+◌, ◌<◌, ◌≤◌, ◌∷◌, ◌++◌, [], IfOk, OnOk, OnErr, vec_len, vec_capacity, None};
 ghost use Rattle.std.specs.VecDeque.{deque_len, deque_capacity};
 ghost use Rattle.tran_core.specs.Wants.{said};
 ghost use Rattle.tran_core.specs.States.{begin, task_of, opened, want_of, next_op, get_read, scan_read};
 ghost use Rattle.tran_core.specs.Courses.{state_of, HasRoom, CanUndo};
+ghost use Rattle.tran_core.specs.Stages.{wants_row_change};
 
 use crate::Want;
 use crate::asks::{want_step, want_undo};
@@ -58,7 +59,8 @@ fn begin(op: Op) -> Stage
 
 impl Course {
     pub fn new(alloc: Global, ops: Vec<Op>) -> Course
-        ensures { state_of result ≡ opened ops.items }
+        ensures calm { wants_row_change result.stage ≡ false }
+        ensures state { state_of result ≡ opened ops.items }
     {
         let mut course = Course {
             ops,
@@ -77,6 +79,7 @@ impl Course {
     // Begins the next operation, or the commit behind the last one.
     pub fn next_op(&mut self)
         ensures undo { self.new.undo ≡ self.old.undo }
+        ensures calm { wants_row_change self.new.stage ≡ false }
         ensures state { state_of self.new ≡ next_op (state_of self.old) }
     {
         if self.begun < self.ops.len() {
@@ -117,6 +120,7 @@ impl Course {
     pub fn get_read(&mut self, value: Option<Value>)
         requires { vec_len self.old.reads < vec_capacity self.old.reads }
         ensures undo { self.new.undo ≡ self.old.undo }
+        ensures calm { wants_row_change self.new.stage ≡ false }
         ensures state { state_of self.new ≡ get_read (state_of self.old) value }
     {
         self.reads.push_reserved(Answer::Value(value));
@@ -127,6 +131,7 @@ impl Course {
     pub fn scan_read(&mut self)
         requires { vec_len self.old.reads < vec_capacity self.old.reads }
         ensures undo { self.new.undo ≡ self.old.undo }
+        ensures calm { wants_row_change self.new.stage ≡ false }
         ensures state { state_of self.new ≡ scan_read (state_of self.old) }
     {
         let alloc = *self.rows.allocator();

@@ -6,6 +6,7 @@
 #![tactic(auto)]
 
 
+mod agent;
 mod asks;
 mod course;
 mod lookup;
@@ -18,5 +19,6 @@ mod steps;
 mod want;
 
 
+pub use agent::Agent;
 pub use ds_model::{Answer, Fate, Reads, Refusal};
 pub use want::{Action, Met, Want};

@@ -5,7 +5,8 @@ ghost use Rattle.index_leaf.specs.Entries.{count_of};
 ghost use Rattle.tran_core.specs.Pages.{damaged, leaf_on, scan_on, collected, entry_met, change_row, delete, row_met, slot_met, followed, read_met, step_met, after_page};
 ghost use Rattle.tran_core.specs.Looks.{next_leaf, collects};
 ghost use Rattle.tran_core.specs.Wants.{heap_page};
-ghost use Rattle.tran_core.specs.Courses.{state_of, HasRoom, reads_page};
+ghost use Rattle.tran_core.specs.Courses.{state_of, HasRoom, CanUndo};
+ghost use Rattle.tran_core.specs.Stages.{reads_page};
 
 use crate::asks::page_read;
 use crate::course::Course;
@@ -200,6 +201,7 @@ impl Course {
         ensures ok { OnOk result (state_of self.new ≡ after_page (state_of self.old) page.now) }
         ensures err { OnErr result (state_of self.new ≡ state_of self.old) }
         ensures undo { self.new.undo ≡ self.old.undo }
+        ensures keeps { CanUndo self.old → CanUndo self.new }
         ensures takes { OnErr result (reads_page self.old.stage ≡ true) }
     {
         match self.stage {

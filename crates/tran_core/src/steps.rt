@@ -1,8 +1,9 @@
 //! How a transaction goes on when what it wanted was done, or is refused.
-ghost use Rattle.std.specs.Prelude.{◌≡◌, ◌<◌, ◌↔◌, true, vec_len, vec_capacity};
+ghost use Rattle.std.specs.Prelude.{◌≡◌, ◌<◌, true, false, vec_len, vec_capacity};
 ghost use Rattle.std.specs.VecDeque.{deque_len, deque_capacity};
 ghost use Rattle.tran_core.specs.States.{at_step, search, space_locked, changed, step_done, after_done, after_refusal, refused_at, without_row};
-ghost use Rattle.tran_core.specs.Courses.{state_of, changes_row, step_changes_row, CanUndo, locks_space, step_locks_space};
+ghost use Rattle.tran_core.specs.Courses.{state_of, CanUndo};
+ghost use Rattle.tran_core.specs.Stages.{changes_row, step_changes_row, wants_row_change, locks_space, step_locks_space};
 
 use crate::course::Course;
 use crate::stage::{Aim, Level, Reading, Stage, Step, Task, Undone, Update};
@@ -19,6 +20,7 @@ impl Course {
     // Begins a search at the first branch.
     pub fn search(&mut self, task: Task)
         ensures undo { self.new.undo ≡ self.old.undo }
+        ensures calm { wants_row_change self.new.stage ≡ false }
         ensures state { state_of self.new ≡ search (state_of self.old) task }
     {
         let reading = Reading::Index {
@@ -33,6 +35,7 @@ impl Course {
     pub fn without_row(&mut self, aim: &Aim)
         requires { vec_len self.old.reads < vec_capacity self.old.reads }
         ensures undo { self.new.undo ≡ self.old.undo }
+        ensures calm { wants_row_change self.new.stage ≡ false }
         ensures state { state_of self.new ≡ without_row (state_of self.old) aim.now }
     {
         match aim {
@@ -44,7 +47,8 @@ impl Course {
 
     fn space_locked(&mut self, task: Task)
         requires { vec_len self.old.reads < vec_capacity self.old.reads }
-        ensures { state_of self.new ≡ space_locked (state_of self.old) task task.aim }
+        ensures calm { wants_row_change self.new.stage ≡ false }
+        ensures state { state_of self.new ≡ space_locked (state_of self.old) task task.aim }
     {
         match task.aim {
             Aim::Get | Aim::Put { .. } | Aim::Del => self.go(task, Step::Row),
@@ -60,7 +64,8 @@ impl Course {
 
     fn row_changed(&mut self, task: Task, place: Place, back: Option<Value>)
         requires { deque_len self.old.undo < deque_capacity self.old.undo }
-        ensures { state_of self.new ≡ changed (state_of self.old) task (Update.RowChange place back) }
+        ensures calm { wants_row_change self.new.stage ≡ false }
+        ensures state { state_of self.new ≡ changed (state_of self.old) task (Update.RowChange place back) }
     {
         self.undo.push_front_reserved(Undone {
             table: task.table,
@@ -73,7 +78,8 @@ impl Course {
 
     fn changed(&mut self, task: Task, update: Update)
         requires { changes_row update ≡ true → deque_len self.old.undo < deque_capacity self.old.undo }
-        ensures { state_of self.new ≡ changed (state_of self.old) task update }
+        ensures calm { wants_row_change self.new.stage ≡ false }
+        ensures state { state_of self.new ≡ changed (state_of self.old) task update }
     {
         match update {
             Update::Split { left, branch } => {
@@ -89,9 +95,11 @@ impl Course {
     }
 
     fn step_done(&mut self, task: Task, step: Step)
+        requires at { wants_row_change self.old.stage ≡ step_changes_row step }
         requires undo { step_changes_row step ≡ true → deque_len self.old.undo < deque_capacity self.old.undo }
         requires read { step_locks_space step ≡ true → vec_len self.old.reads < vec_capacity self.old.reads }
-        ensures { state_of self.new ≡ step_done (state_of self.old) task step }
+        ensures calm { wants_row_change self.new.stage ≡ false }
+        ensures state { state_of self.new ≡ step_done (state_of self.old) task step }
     {
         match step {
             Step::Space => self.space_locked(task),
@@ -104,7 +112,8 @@ impl Course {
     pub fn done(&mut self)
         requires undo { CanUndo self.old }
         requires read { locks_space self.old.stage ≡ true → vec_len self.old.reads < vec_capacity self.old.reads }
-        ensures { state_of self.new ≡ after_done (state_of self.old) }
+        ensures calm { wants_row_change self.new.stage ≡ false }
+        ensures state { state_of self.new ≡ after_done (state_of self.old) }
     {
         match self.stage {
             Stage::Work { task, step } => self.step_done(task, step),
@@ -118,7 +127,8 @@ impl Course {
     }
 
     pub fn refuse(&mut self)
-        ensures { state_of self.new ≡ after_refusal (state_of self.old) }
+        ensures calm { wants_row_change self.new.stage ≡ false }
+        ensures state { state_of self.new ≡ after_refusal (state_of self.old) }
     {
         self.stage = match self.stage {
             Stage::Ended => Stage::Ended,
