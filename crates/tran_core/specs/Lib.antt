@@ -4,3 +4,4 @@ pub mod Stages
 pub mod Courses
 pub mod Looks
 pub mod Pages
+pub mod Runs

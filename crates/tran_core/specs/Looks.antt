@@ -95,8 +95,8 @@ index_fault page l key k =
 
 -- ---- outcomes of a search
 
-abbrev pub read_index : Level → ℕ → ℕ → Outcome
-read_index l page branch = outcome.Go (step.Read (reading.Index l page branch))
+abbrev pub read_index : Level → ℕ → ℕ → ℕ → Outcome
+read_index l page branch key = outcome.Go (step.Read (reading.Index l page branch key))
 
 abbrev pub make : Update → Outcome
 make it = outcome.Go (step.Change it)
@@ -132,11 +132,11 @@ abbrev pub branch_of : Level → ℕ → ℕ → ℕ
 branch_of level.Branch page branch = page
 branch_of level.Leaf page branch = branch
 
-abbrev pub looked : Level → Aim → ℕ → ℕ → ℕ → Look → Outcome
-looked l a page branch count (look.Right n) = read_index l n (branch_of l n branch)
-looked l a page branch count (look.Down n) = read_index level.Leaf n page
-looked l a page branch count (look.Found place) = found a place
-looked l a page branch count look.Absent = absent l a page branch count
+abbrev pub looked : Level → Aim → ℕ → ℕ → ℕ → ℕ → Look → Outcome
+looked l a page branch key count (look.Right n) = read_index l n (branch_of l n branch) key
+looked l a page branch key count (look.Down n) = read_index level.Leaf n page key
+looked l a page branch key count (look.Found place) = found a place
+looked l a page branch key count look.Absent = absent l a page branch count
 
 -- whether the page is a leaf whose rows are read
 abbrev pub collects : Outcome → Bool
@@ -153,30 +153,30 @@ abbrev pub is_root : Level → ℕ → Bool
 is_root level.Branch page = page == 1
 is_root level.Leaf page = false
 
-abbrev pub searched : Task → Level → ℕ → ℕ → List ℕ → Result Header NotAPage → Outcome
-searched task l page branch bytes (Err e) = outcome.Damaged e.at
-searched task l page branch bytes (Ok h) =
-    if is_root l page && is_empty h.kind then no_index task.aim
-    else unless (index_fault bytes l task.key h.kind) (looked l task.aim page branch (count_of bytes) (look_of bytes task.key))
+abbrev pub searched : Aim → Level → ℕ → ℕ → ℕ → List ℕ → Result Header NotAPage → Outcome
+searched a l page branch key bytes (Err e) = outcome.Damaged e.at
+searched a l page branch key bytes (Ok h) =
+    if is_root l page && is_empty h.kind then no_index a
+    else unless (index_fault bytes l key h.kind) (looked l a page branch key (count_of bytes) (look_of bytes key))
 
--- what a search does with a page of these bytes
-abbrev pub search_outcome : Task → Level → ℕ → ℕ → List ℕ → Outcome
-search_outcome task l page branch bytes = searched task l page branch bytes (header_of bytes (index_page task.table page))
+-- what a search for the key does with a page of these bytes
+abbrev pub search_outcome : Task → Level → ℕ → ℕ → ℕ → List ℕ → Outcome
+search_outcome task l page branch key bytes = searched task.aim l page branch key bytes (header_of bytes (index_page task.table page))
 
 -- ---- a leaf behind its split
 
-abbrev pub entered : ℕ → Option ℕ → Option ℕ → Outcome
-entered branch None right = outcome.Go (step.Read root)
-entered branch (Some low) None = outcome.Damaged 52
-entered branch (Some low) (Some child) = make (update.BranchEntry branch low child)
+abbrev pub entered : ℕ → ℕ → Option ℕ → Option ℕ → Outcome
+entered key branch None right = outcome.Go (step.Read (root key))
+entered key branch (Some low) None = outcome.Damaged 52
+entered key branch (Some low) (Some child) = make (update.BranchEntry branch low child)
 
-abbrev pub halved : ℕ → List ℕ → Result Header NotAPage → Outcome
-halved branch bytes (Err e) = outcome.Damaged e.at
-halved branch bytes (Ok h) = unless (kind_fault (is_leaf h.kind) h.kind) (entered branch (high_of bytes) (right_of bytes))
+abbrev pub halved : ℕ → ℕ → List ℕ → Result Header NotAPage → Outcome
+halved key branch bytes (Err e) = outcome.Damaged e.at
+halved key branch bytes (Ok h) = unless (kind_fault (is_leaf h.kind) h.kind) (entered key branch (high_of bytes) (right_of bytes))
 
 -- the high key and the right page of the leaf are what is entered in the branch
 abbrev pub halves_outcome : Task → ℕ → ℕ → List ℕ → Outcome
-halves_outcome task left branch bytes = halved branch bytes (header_of bytes (index_page task.table left))
+halves_outcome task left branch bytes = halved task.key branch bytes (header_of bytes (index_page task.table left))
 
 -- ---- the heap's header page
 

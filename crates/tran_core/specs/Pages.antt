@@ -31,9 +31,10 @@ damaged s id at = record s { damage = Some (volume.Page id, at) }
 
 -- ---- scans
 
+-- a scan goes on in the next leaf, and ends behind the last one
 abbrev pub leaf_on : State → Task → Option NextLeaf → State
-leaf_on s task None = scan_read s
-leaf_on s task (Some next) = at_step s (record task { key = next.key }) (step.Read (reading.Index level.Leaf next.page 1))
+leaf_on s task None = without_row s task.aim
+leaf_on s task (Some next) = at_step s task (step.Read (reading.Index level.Leaf next.page 1 next.key))
 
 abbrev pub scan_from : State → Task → Option NextLeaf → List Entry → State
 scan_from s task next [] = leaf_on s task next
@@ -82,7 +83,7 @@ followed s task id bytes (outcome.Collect high) = collected s task id high bytes
 followed s task id bytes (outcome.Damaged at) = damaged s id at
 
 abbrev pub read_met : State → Task → List ℕ → Reading → State
-read_met s task bytes (reading.Index l page branch) = followed s task (index_page task.table page) bytes (search_outcome task l page branch bytes)
+read_met s task bytes (reading.Index l page branch key) = followed s task (index_page task.table page) bytes (search_outcome task l page branch key bytes)
 read_met s task bytes (reading.Slot place) = slot_met s task place (row_read (heap_page task.table place.page) place.slot task.key bytes)
 read_met s task bytes (reading.Header leaf) = followed s task (heap_page task.table 0) bytes (header_outcome task leaf bytes)
 read_met s task bytes (reading.Halves left branch) = followed s task (index_page task.table left) bytes (halves_outcome task left branch bytes)

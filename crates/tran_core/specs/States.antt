@@ -101,11 +101,11 @@ abbrev pub at_step : State → Task → Step → State
 at_step s task it = record s { stage = stage.Work task it }
 
 -- a search begins at the first branch
-abbrev pub root : Reading
-root = reading.Index level.Branch 1 1
+abbrev pub root : ℕ → Reading
+root key = reading.Index level.Branch 1 1 key
 
 abbrev pub search : State → Task → State
-search s task = at_step s task (step.Read root)
+search s task = at_step s task (step.Read (root task.key))
 
 -- ---- wants that are met
 

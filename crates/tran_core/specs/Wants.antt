@@ -100,7 +100,7 @@ abbrev pub index_page : ℕ → ℕ → PageId
 index_page table number = record { set = index_set table; number = number }
 
 abbrev pub page_read : ℕ → Reading → PageId
-page_read table (reading.Index level page branch) = index_page table page
+page_read table (reading.Index level page branch key) = index_page table page
 page_read table (reading.Slot place) = heap_page table place.page
 page_read table (reading.Header leaf) = heap_page table 0
 page_read table (reading.Halves left branch) = index_page table left

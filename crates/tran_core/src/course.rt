@@ -136,7 +136,8 @@ impl Course {
     {
         let alloc = *self.rows.allocator();
         let rows = mem::replace(&mut self.rows, Vec::new(alloc));
-        self.reads.push_reserved(Answer::Rows(RowList::from_vec(rows)));
+        self.reads
+            .push_reserved(Answer::Rows(RowList::from_vec(rows)));
         self.next_op();
     }
 }

@@ -5,20 +5,19 @@
 //! IBM Systems Journal 36(2), 1997): a table space before a row, and all of them until the transaction ends.
 #![tactic(auto)]
 
-
 mod agent;
 mod asks;
 mod course;
+mod laws;
 mod lookup;
 mod outcome;
 mod pages;
 mod rows;
 mod stage;
 mod steps;
-
 mod want;
-
 
 pub use agent::Agent;
 pub use ds_model::{Answer, Fate, Reads, Refusal};
+pub use laws::{lock_laws, undo_laws};
 pub use want::{Action, Met, Want};

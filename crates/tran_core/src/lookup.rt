@@ -14,10 +14,15 @@ use page_format::{ENTRIES_PER_PAGE, Page, PageKind};
 
 // The offset of the kind, of the count and of the right page in a page, and of the low key and the first entry.
 const KIND_AT: u16 = 4;
+
 const COUNT_AT: u16 = 26;
+
 const LOW_AT: u16 = 32;
+
 pub const RIGHT_AT: u16 = 52;
+
 const FIRST_ENTRY_AT: u16 = 64;
+
 const ENTRY_WIDTH: u16 = 16;
 
 // Where a page shows that it isn't of the kind that it should be.
@@ -79,13 +84,14 @@ fn index_fault(page: &Page, level: Level, key: Key, kind: PageKind) -> Option<u1
     find_fall(page)
 }
 
-fn read_index(level: Level, page: u32, branch: u32) -> Outcome
-    ensures { result ≡ read_index level page branch }
+fn read_index(level: Level, page: u32, branch: u32, key: Key) -> Outcome
+    ensures { result ≡ read_index level page branch key }
 {
     let reading = Reading::Index {
         level,
         page,
         branch,
+        key,
     };
     Outcome::Go {
         step: Step::Read { reading },
@@ -161,12 +167,20 @@ fn branch_of(level: Level, page: u32, branch: u32) -> u32
     }
 }
 
-fn looked(level: Level, aim: &Aim, page: u32, branch: u32, count: u16, look: Look) -> Outcome
-    ensures { result ≡ looked level aim.now page branch count look }
+fn looked(
+    level: Level,
+    aim: &Aim,
+    page: u32,
+    branch: u32,
+    key: Key,
+    count: u16,
+    look: Look,
+) -> Outcome
+    ensures { result ≡ looked level aim.now page branch key count look }
 {
     match look {
-        Look::Right(number) => read_index(level, number, branch_of(level, number, branch)),
-        Look::Down(number) => read_index(Level::Leaf, number, page),
+        Look::Right(number) => read_index(level, number, branch_of(level, number, branch), key),
+        Look::Down(number) => read_index(Level::Leaf, number, page, key),
         Look::Found(place) => found(aim, place),
         Look::Absent => absent(level, aim, page, branch, count),
     }
@@ -180,8 +194,15 @@ fn is_root(level: Level, page: u32) -> bool
 
 /// What a search does with this page of the index.
 #[tactic(auto, using(crate::proofs::Looks::room_of))]
-pub fn search_outcome(task: &Task, level: Level, number: u32, branch: u32, page: &Page) -> Outcome
-    ensures exact { result ≡ search_outcome task.now level number branch page.now }
+pub fn search_outcome(
+    task: &Task,
+    level: Level,
+    number: u32,
+    branch: u32,
+    key: Key,
+    page: &Page,
+) -> Outcome
+    ensures exact { result ≡ search_outcome task.now level number branch key page.now }
     ensures room { collects result ≡ true → count_of page.now ≤ entries_per_page }
 {
     let id = PageId {
@@ -195,19 +216,19 @@ pub fn search_outcome(task: &Task, level: Level, number: u32, branch: u32, page:
     if is_root(level, number) && matches!(kind, PageKind::Empty) {
         return no_index(&task.aim);
     }
-    if let Some(at) = index_fault(page, level, task.key, kind) {
+    if let Some(at) = index_fault(page, level, key, kind) {
         return Outcome::Damaged { at };
     }
-    let step = look(page, task.key);
-    looked(level, &task.aim, number, branch, count(page), step)
+    let step = look(page, key);
+    looked(level, &task.aim, number, branch, key, count(page), step)
 }
 
 // What is entered in the branch for the page to the right of a leaf.
-fn entered(branch: u32, high: Option<Key>, right: Option<u32>) -> Outcome
-    ensures { result ≡ entered branch high right }
+fn entered(key: Key, branch: u32, high: Option<Key>, right: Option<u32>) -> Outcome
+    ensures { result ≡ entered key branch high right }
 {
     match (high, right) {
-        (None, _) => read_index(Level::Branch, 1, 1),
+        (None, _) => read_index(Level::Branch, 1, 1, key),
         (Some(_), None) => Outcome::Damaged { at: RIGHT_AT },
         (Some(low), Some(child)) => make(Update::BranchEntry { branch, low, child }),
     }
@@ -228,7 +249,7 @@ pub fn halves_outcome(task: &Task, left: u32, branch: u32, page: &Page) -> Outco
     };
     match kind_fault(matches!(kind, PageKind::Leaf), kind) {
         Some(at) => Outcome::Damaged { at },
-        None => entered(branch, high_key(page), right(page)),
+        None => entered(task.key, branch, high_key(page), right(page)),
     }
 }
 

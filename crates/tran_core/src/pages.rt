@@ -34,16 +34,13 @@ impl Course {
         ensures state { state_of self.new ≡ leaf_on (state_of self.old) task next }
     {
         let Some(next) = next else {
-            return self.scan_read();
+            return self.without_row(&task.aim);
         };
         let reading = Reading::Index {
             level: Level::Leaf,
             page: next.page,
             branch: 1,
-        };
-        let task = Task {
             key: next.key,
-            ..task
         };
         self.go(task, Step::Read { reading });
     }
@@ -108,7 +105,14 @@ impl Course {
     }
 
     // A scan takes a row.
-    fn entry_met(&mut self, task: Task, entry: Entry, next: Option<NextLeaf>, id: PageId, row: Result<Option<Value>, u16>)
+    fn entry_met(
+        &mut self,
+        task: Task,
+        entry: Entry,
+        next: Option<NextLeaf>,
+        id: PageId,
+        row: Result<Option<Value>, u16>,
+    )
         requires room { HasRoom self.old }
         requires page { id ≡ heap_page task.table entry.place.page }
         ensures undo { self.new.undo ≡ self.old.undo }
@@ -129,7 +133,14 @@ impl Course {
     }
 
     // A scan takes the entries of a leaf.
-    fn collect(&mut self, alloc: Global, task: Task, id: PageId, high: Key, page: &Page) -> Result<(), NoMemory>
+    fn collect(
+        &mut self,
+        alloc: Global,
+        task: Task,
+        id: PageId,
+        high: Key,
+        page: &Page,
+    ) -> Result<(), NoMemory>
         requires room { vec_len self.old.reads < vec_capacity self.old.reads }
         requires count { count_of page.now ≤ entries_per_page }
         ensures ok { OnOk result (state_of self.new ≡ collected (state_of self.old) task id high page.now (next_leaf high page.now)) }
@@ -147,7 +158,14 @@ impl Course {
     }
 
     // Follows what a page says.
-    fn follow(&mut self, alloc: Global, task: Task, id: PageId, page: &Page, outcome: Outcome) -> Result<(), NoMemory>
+    fn follow(
+        &mut self,
+        alloc: Global,
+        task: Task,
+        id: PageId,
+        page: &Page,
+        outcome: Outcome,
+    ) -> Result<(), NoMemory>
         requires room { vec_len self.old.reads < vec_capacity self.old.reads }
         requires count { collects outcome ≡ true → count_of page.now ≤ entries_per_page }
         ensures ok { OnOk result (state_of self.new ≡ followed (state_of self.old) task id page.now outcome) }
@@ -163,7 +181,13 @@ impl Course {
         Ok(())
     }
 
-    fn read_met(&mut self, alloc: Global, task: Task, reading: Reading, page: &Page) -> Result<(), NoMemory>
+    fn read_met(
+        &mut self,
+        alloc: Global,
+        task: Task,
+        reading: Reading,
+        page: &Page,
+    ) -> Result<(), NoMemory>
         requires { HasRoom self.old }
         ensures ok { OnOk result (state_of self.new ≡ read_met (state_of self.old) task page.now reading) }
         ensures err { OnErr result (state_of self.new ≡ state_of self.old) }
@@ -171,8 +195,13 @@ impl Course {
     {
         let id = page_read(task.table, &reading);
         match reading {
-            Reading::Index { level, page: number, branch } => {
-                let outcome = search_outcome(&task, level, number, branch, page);
+            Reading::Index {
+                level,
+                page: number,
+                branch,
+                key,
+            } => {
+                let outcome = search_outcome(&task, level, number, branch, key, page);
                 self.follow(alloc, task, id, page, outcome)?;
             }
             Reading::Slot { place } => {
@@ -205,7 +234,10 @@ impl Course {
         ensures takes { OnErr result (reads_page self.old.stage ≡ true) }
     {
         match self.stage {
-            Stage::Work { task, step: Step::Read { reading } } => self.read_met(alloc, task, reading, page),
+            Stage::Work {
+                task,
+                step: Step::Read { reading },
+            } => self.read_met(alloc, task, reading, page),
             _ => Ok(()),
         }
     }

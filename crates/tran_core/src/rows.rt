@@ -91,7 +91,12 @@ pub fn row_read(
 
 // Keeps an entry whose key lies between two.
 #[tactic(auto, unfolding(crate::specs::Looks::is_between))]
-fn keep_entry(entries: &mut VecDeque<Entry>, entry: Entry, low: Key, high: Key) -> Result<(), NoMemory>
+fn keep_entry(
+    entries: &mut VecDeque<Entry>,
+    entry: Entry,
+    low: Key,
+    high: Key,
+) -> Result<(), NoMemory>
     ensures { OnOk result (entries.new.items ≡ entries.old.items ++ kept low high entry) }
 {
     if low <= entry.key && entry.key <= high {

@@ -13,7 +13,7 @@ pub enum Aim {
     Scan { high: Key },
 }
 
-/// An operation on a table. For a scan, `key` is the least key that is still to be looked for.
+/// An operation on a table. For a scan, `key` is the least key that is looked for.
 #[derive(Clone, Copy)]
 pub struct Task {
     pub table: TableId,
@@ -38,18 +38,26 @@ pub struct NextLeaf {
 /// A page that is read, and what for.
 #[derive(Clone, Copy)]
 pub enum Reading {
-    /// A page of the index, in search of the key. `branch` is the last branch on the way.
+    /// A page of the index, in search of a key. `branch` is the last branch on the way.
     Index {
         level: Level,
         page: u32,
         branch: u32,
+        key: Key,
     },
     /// The heap page of the key's row.
-    Slot { place: Place },
+    Slot {
+        place: Place,
+    },
     /// The heap's header page, before a slot is given.
-    Header { leaf: u32 },
+    Header {
+        leaf: u32,
+    },
     /// A leaf that was split, for the page to its right.
-    Halves { left: u32, branch: u32 },
+    Halves {
+        left: u32,
+        branch: u32,
+    },
     /// The heap page of a row of a scan.
     Entry {
         entry: Entry,

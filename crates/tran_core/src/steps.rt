@@ -27,6 +27,7 @@ impl Course {
             level: Level::Branch,
             page: 1,
             branch: 1,
+            key: task.key,
         };
         self.go(task, Step::Read { reading });
     }

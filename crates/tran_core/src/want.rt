@@ -9,9 +9,13 @@ use page_format::Page;
 #[derive(Clone, Copy, Debug)]
 pub enum Action<'a> {
     /// Makes the first pages of the table's index: its header, a branch and a leaf.
-    FormatIndex { table: TableId },
+    FormatIndex {
+        table: TableId,
+    },
     /// Makes the header page of the table's heap.
-    FormatHeap { table: TableId },
+    FormatHeap {
+        table: TableId,
+    },
     /// Gives the key the next slot of the heap, marked absent, and enters it in the leaf.
     GiveSlot {
         table: TableId,
@@ -19,7 +23,10 @@ pub enum Action<'a> {
         leaf: u32,
     },
     /// Moves the upper half of a full leaf to a new page on its right.
-    Split { table: TableId, left: u32 },
+    Split {
+        table: TableId,
+        left: u32,
+    },
     /// Enters a leaf, and the least key that it may have, in a branch.
     BranchEntry {
         table: TableId,
@@ -40,12 +47,19 @@ pub enum Action<'a> {
 #[derive(Clone, Copy, Debug)]
 pub enum Want<'a> {
     /// A lock, in at least this mode.
-    Lock { name: Name, mode: Mode },
+    Lock {
+        name: Name,
+        mode: Mode,
+    },
     /// The bytes of a page.
-    ReadPage { id: PageId },
+    ReadPage {
+        id: PageId,
+    },
     /// A change of pages. `Done` of a change of the index or of the heap's layout means that it was made or wasn't
     /// needed any more. `Done` of a row change means that it was made.
-    Change { action: Action<'a> },
+    Change {
+        action: Action<'a>,
+    },
     /// To be committed.
     Commit,
     /// That a row change of the transaction is undone: the row is again what it was before it.
@@ -56,9 +70,13 @@ pub enum Want<'a> {
         back: Option<&'a Value>,
     },
     /// A flag of the phase to be raised.
-    Raise { flag: u8 },
+    Raise {
+        flag: u8,
+    },
     /// A flag of the phase to be waited for.
-    Await { flag: u8 },
+    Await {
+        flag: u8,
+    },
     /// The cache structure to be lost.
     LoseCache,
     /// Nothing any more: the transaction has ended.
