@@ -11,6 +11,8 @@ use Rattle.lock_names.specs.declared.mode.Mode.{Mode}
 use Rattle.tran_core.specs.declared.stage.Aim.{Aim}
 use Rattle.tran_core.specs.declared.stage.Aim.TheVariants as aim
 use Rattle.tran_core.specs.declared.stage.Task.{Task}
+use Rattle.tran_core.specs.declared.stage.Update.{Update}
+use Rattle.tran_core.specs.declared.stage.Update.TheVariants as update
 use Rattle.tran_core.specs.declared.stage.Step.{Step}
 use Rattle.tran_core.specs.declared.stage.Step.TheVariants as step
 use Rattle.tran_core.specs.declared.stage.Stage.{Stage}
@@ -123,4 +125,31 @@ asked_at stage.Ended = []
 
 -- what was read, what the operation in hand reads, and what the others will read
 abbrev pub course_of_reads : State → List Kind
-course_of_reads s = map kind_of s.reads ++ asked_at s.stage ++ all_asked s.rest
+course_of_reads s = map kind_of s.reads ++ (asked_at s.stage ++ all_asked s.rest)
+
+abbrev pub asked_by_update : Task → Update → List Kind
+asked_by_update task update.FormatIndex = []
+asked_by_update task update.FormatHeap = []
+asked_by_update task (update.GiveSlot leaf) = []
+asked_by_update task (update.Split left branch) = []
+asked_by_update task (update.BranchEntry branch low child) = []
+asked_by_update task (update.RowChange place back) = asked_by task.aim
+
+abbrev pub asked_by_change : Task → Step → List Kind
+asked_by_change task step.Space = []
+asked_by_change task step.Row = []
+asked_by_change task (step.Read reading) = []
+asked_by_change task (step.Change update) = asked_by_update task update
+
+abbrev pub asked_with_change : Stage → List Kind
+asked_with_change (stage.Work task step) = asked_by_change task step
+asked_with_change (stage.Raise flag) = []
+asked_with_change (stage.Await flag) = []
+asked_with_change stage.LoseCache = []
+asked_with_change stage.Commit = []
+asked_with_change stage.Undo = []
+asked_with_change stage.Ended = []
+
+-- no operation that reads changes a row
+abbrev pub IsFitting : State → Type 0
+IsFitting s = asked_with_change s.stage ≡ []

@@ -19,5 +19,8 @@ mod want;
 
 pub use agent::Agent;
 pub use ds_model::{Answer, Fate, Reads, Refusal};
-pub use laws::{lock_laws, undo_laws};
+pub use laws::{lock_laws, read_laws, undo_laws};
 pub use want::{Action, Met, Want};
+
+#[cfg(test)]
+mod tests;
