@@ -1,0 +1,5 @@
+pub mod Looks
+pub mod Slots
+pub mod Locked
+pub mod Told
+pub mod Fitting
