@@ -1,0 +1,12 @@
+use Rattle.std.proofs.Common.{◌≡◌, true, arith, ◌<◌, length}
+use Rattle.std.specs.Prelude.{is_some}
+use Rattle.lock_manager.specs.Claims.{mode_in}
+use Rattle.lock_manager.proofs.Rooms.{moved_room, page_given_up}
+use Rattle.lock_manager.proofs.manager.LockManager.give_up_page.Goals as goal
+
+pub invariant_of-self-2 : goal.invariant_of-self-2
+invariant_of-self-2 c =
+    let there : 0 < length c.self.inside.holders.items = grind (arith, c.self.view_is, c.slots-slots.ensures) in
+    let stands : is_some (mode_in c.index_mut.result.now c.args.name.now) ≡ true = grind (arith, c.remove.ensures.cell, c.in-Some.is) in
+    let long = page_given_up c.index_mut.result.now c.remove.new.self c.args.name.now c.remove.ensures.chain stands in
+    (c.self.invariant.0, (moved_room c.self.inside.holders.items c.self.inside.rollbacks.items c.self.inside.agents 0 c.index_mut.result.now c.remove.new.self c.self.inside.own_cells c.self.inside.cells c.give_back.new.own_cells c.give_back.new.cells there c.index_mut.ensures.value c.give_back.ensures.own_size c.give_back.ensures.others_size (grind (arith, long, c.give_back.ensures.own)) (grind (arith, long, c.give_back.ensures.others)) c.self.invariant.1.0, c.self.invariant.1.1, c.self.invariant.1.2))

@@ -1,0 +1,6 @@
+-- The room for claims.
+use Rattle.std.specs.Prelude.{ℕ}
+
+pub record Room : Type 0 where
+  pub free : ℕ
+  pub size : ℕ

@@ -1,0 +1,6 @@
+pub mod Claims
+pub mod Chains
+pub mod Depth
+pub mod Areas
+pub mod Holders
+pub mod Managers

@@ -1,0 +1,172 @@
+//! The claims of one owner, as a chain of cells that are taken from an area and given back.
+
+ghost use Rattle.std.specs.Prelude.{◌≡◌, ◌∷◌, [], is_some, None, Some, length, ◌+◌, ◌<◌, true, MatchOption};
+ghost use Rattle.lock_manager.specs.Claims.{mode_in, without, one_needs};
+
+use crate::claim::{Claim, is_class, is_same};
+use ds_model::Name;
+use lock_names::{Class, Mode, class, entry_of};
+use std::marker::Model;
+use std::mem;
+
+/// Claims of one owner, the newest first.
+#[cycle(chain)]
+#[derive(Drop)]
+pub struct Chain {
+    node: Node,
+}
+
+#[cycle(chain)]
+#[derive(Drop)]
+enum Node {
+    End,
+    Link(Claim, Box<Chain>),
+}
+
+impl Model for Chain {
+    ghost use Rattle.std.specs.Prelude.{List, length};
+    ghost use Rattle.lock_manager.specs.declared.claim.Claim.{Claim};
+
+    ghost Value = { List Claim };
+
+    ghost use Rattle.lock_manager.specs.Chains.{claims_in};
+
+    ghost view = { λ a. claims_in a.node };
+
+    ghost invariant = { λ a. Unit {0} };
+
+    ghost size = { length };
+
+    ghost use Rattle.lock_manager.specs.Depth.{depth_le-length-claims_in};
+
+    ghost size_decreases = { λ a h. depth_le-length-claims_in a.node };
+}
+
+impl Chain {
+    pub fn new() -> Chain
+        ensures { result ≡ [] }
+    {
+        Chain { node: Node::End }
+    }
+
+    /// The mode in which the name is claimed.
+    pub fn find(&self, name: &Name) -> Option<Mode>
+        ensures { result ≡ mode_in self.now name.now }
+    {
+        match &self.node {
+            Node::End => None,
+            Node::Link(claim, rest) => {
+                if is_same(&claim.name, name) {
+                    Some(claim.mode)
+                } else {
+                    rest.find(name)
+                }
+            }
+        }
+    }
+
+    /// Writes another mode into the claim on the name.
+    pub fn put(&mut self, name: &Name, mode: Mode)
+        requires { is_some (mode_in self.old name.now) ≡ true }
+        ensures mode { mode_in self.new name.now ≡ Some mode }
+        ensures rest { without self.new name.now ≡ without self.old name.now }
+        ensures length { length self.new ≡ length self.old }
+    {
+        match &mut self.node {
+            Node::End => {}
+            Node::Link(claim, rest) => {
+                if is_same(&claim.name, name) {
+                    claim.mode = mode;
+                } else {
+                    rest.put(name, mode);
+                }
+            }
+        }
+    }
+
+    /// Puts a claim into a cell, and that before the others.
+    pub fn insert(&mut self, cell: Box<Chain>, claim: Claim)
+        ensures { self.new ≡ claim ∷ self.old }
+    {
+        let mut cell = cell;
+        cell.node = mem::replace(&mut self.node, Node::End);
+        self.node = Node::Link(claim, cell);
+    }
+
+    /// Takes out the claim on the name, and gives its cell.
+    pub fn remove(&mut self, name: &Name) -> Option<Box<Chain>>
+        ensures chain { self.new ≡ without self.old name.now }
+        ensures cell { is_some result ≡ is_some (mode_in self.old name.now) }
+    {
+        match mem::replace(&mut self.node, Node::End) {
+            Node::End => None,
+            Node::Link(claim, rest) => {
+                let mut rest = rest;
+                if is_same(&claim.name, name) {
+                    self.node = mem::replace(&mut rest.node, Node::End);
+                    return Some(rest);
+                }
+                let cell = rest.remove(name);
+                self.node = Node::Link(claim, rest);
+                cell
+            }
+        }
+    }
+
+    /// Takes out the first claim, and gives its cell too.
+    pub fn pop(&mut self) -> Option<(Claim, Box<Chain>)>
+        ensures { MatchOption result ((self.old ≡ []) × (self.new ≡ [])) (λ popped. self.old ≡ popped.0 ∷ self.new) }
+    {
+        match mem::replace(&mut self.node, Node::End) {
+            Node::End => None,
+            Node::Link(claim, rest) => {
+                let mut rest = rest;
+                self.node = mem::replace(&mut rest.node, Node::End);
+                Some((claim, rest))
+            }
+        }
+    }
+
+    /// The first claim, and the others.
+    pub fn first(&self) -> Option<(Claim, &Chain)>
+        ensures { MatchOption result (self.now ≡ []) (λ first. self.now ≡ first.0 ∷ first.1.now) }
+    {
+        match &self.node {
+            Node::End => None,
+            Node::Link(claim, rest) => Some((*claim, rest)),
+        }
+    }
+
+    /// Whether one of the claims is of this class and falls on this entry of the lock table.
+    pub fn needs(&self, entries: u32, entry: u32, class_needed: Class) -> bool
+        requires { 0 < entries }
+        ensures { result ≡ one_needs entries entry class_needed self.now }
+    {
+        match &self.node {
+            Node::End => false,
+            Node::Link(claim, rest) => {
+                (entry_of(&claim.name, entries) == entry
+                    && is_class(class(claim.mode), class_needed))
+                    || rest.needs(entries, entry, class_needed)
+            }
+        }
+    }
+
+    /// The same without the claim on this name.
+    pub fn needs_without(&self, name: &Name, entries: u32, entry: u32, class_needed: Class) -> bool
+        requires { 0 < entries }
+        ensures { result ≡ one_needs entries entry class_needed (without self.now name.now) }
+    {
+        match &self.node {
+            Node::End => false,
+            Node::Link(claim, rest) => {
+                if is_same(&claim.name, name) {
+                    return rest.needs(entries, entry, class_needed);
+                }
+                (entry_of(&claim.name, entries) == entry
+                    && is_class(class(claim.mode), class_needed))
+                    || rest.needs_without(name, entries, entry, class_needed)
+            }
+        }
+    }
+}

@@ -1,0 +1,412 @@
+ghost use Rattle.std.specs.Prelude.{◌≡◌, ◌≢◌, ◌+◌, ◌<◌, ◌≤◌, ◌==◌, ◌||◌, [], length, true, false, is_some, nat_lt, if◌then◌else◌, replicate, slice_index_or, slice_set, IfOk, IfSome, MatchOption, ◌∷◌, OnOk, None, Some, IsTrue, vec_capacity};
+ghost use Rattle.lock_names.specs.Entries.{entry_number};
+ghost use Rattle.lock_manager.specs.Holders.{kept, first_in_way, any_needs, is_held};
+ghost use Rattle.lock_manager.specs.Managers.{ask_of, answer_of, claims_of, held_by, IsGiven, after_release, release_told, after_page_release, after_postpone, waiting_at, place_in, is_postponed, after_postponed_release, postponed_told, slots, waited_for, with_claims, page_told, ended};
+ghost use Rattle.lock_manager.specs.Claims.{without};
+
+use crate::area::Area;
+use crate::chain::Chain;
+use crate::claim::{Ask, Claim, LockAnswer, Rollback, is_covered, joined};
+use crate::scan::{any_needs, first_in_the_way, is_held, mode_of_all};
+use ds_base::{Lrsn, MemberId, NoMemory};
+use ds_model::Name;
+use lock_names::{Class, Interest, Mode, entry_of};
+use std::alloc::Global;
+use std::marker::Model;
+use std::mem;
+
+/// The claims of a member: those of its agents, by their slots, and those of its postponed rollbacks.
+///
+/// Slot 0 is the member itself, which claims pages and page sets. Nothing but `new` and `reserve` takes memory.
+#[derive(Drop)]
+pub struct LockManager {
+    holders: Vec<Chain>,
+    rollbacks: Vec<Rollback>,
+    agents: u8,
+    entries: u32,
+    own_cells: Area,
+    cells: Area,
+    room: usize,
+}
+
+impl Model for LockManager {
+    ghost use Rattle.std.specs.Prelude.{◌+◌, ◌≤◌, vec_len, vec_capacity};
+    ghost use Rattle.lock_manager.specs.Managers.{Book, HasRoom};
+
+    ghost Value = { Book };
+
+    ghost view = { λ a. record { holders = a.holders.items; rollbacks = a.rollbacks.items; agents = a.agents; entries = a.entries; pages = a.own_cells.size; spare = a.cells.free; room = a.room } };
+
+    ghost invariant = { λ a. (1 ≤ a.entries) × (HasRoom a.holders.items a.rollbacks.items a.agents a.own_cells a.cells × (vec_len a.holders + a.room ≤ vec_capacity a.holders) × (vec_len a.rollbacks + a.room ≤ vec_capacity a.rollbacks)) };
+}
+
+/// As many owners without claims, and places for more.
+fn no_claims(alloc: Global, owners: usize, more: usize) -> Result<Vec<Chain>, NoMemory>
+    requires { owners + more < 1024 }
+    ensures claims { IfOk result (λ holders. holders.items ≡ replicate owners []) }
+    ensures places { IfOk result (λ holders. owners + more ≤ vec_capacity holders) }
+{
+    let mut holders = Vec::with_capacity(alloc, owners + more)?;
+    for _made in 0..owners {
+        holders.push_reserved(Chain::new());
+    }
+    Ok(holders)
+}
+
+/// The place of a postponed rollback among them.
+#[tactic(auto, using(crate::proofs::Scans::place_step))]
+fn place_of(rollbacks: &[Rollback], id: Lrsn) -> Option<usize>
+    ensures place { result ≡ place_in rollbacks.now 0 id }
+    ensures there { IfSome result (λ k. k < length rollbacks.now) }
+{
+    for (at, rollback) in rollbacks.iter().enumerate() {
+        if rollback.id.number() == id.number() {
+            return Some(at);
+        }
+    }
+    None
+}
+
+/// Makes room for a claim.
+fn take_cell(owner: usize, own_cells: &mut Area, cells: &mut Area) -> Box<Chain>
+    requires { 0 < (if owner == 0 then own_cells.old.free else cells.old.free) }
+    ensures own { own_cells.new.free + (if owner == 0 then 1 else 0) ≡ own_cells.old.free }
+    ensures others { cells.new.free + (if owner == 0 then 0 else 1) ≡ cells.old.free }
+    ensures own_size { own_cells.new.size ≡ own_cells.old.size }
+    ensures others_size { cells.new.size ≡ cells.old.size }
+{
+    if owner == 0 {
+        own_cells.take()
+    } else {
+        cells.take()
+    }
+}
+
+/// Gives back the room of a claim.
+fn give_back(owner: usize, cell: Box<Chain>, own_cells: &mut Area, cells: &mut Area)
+    requires own { owner ≡ 0 → own_cells.old.free < own_cells.old.size }
+    requires others { owner ≢ 0 → cells.old.free < cells.old.size }
+    ensures own { own_cells.new.free ≡ own_cells.old.free + (if owner == 0 then 1 else 0) }
+    ensures others { cells.new.free ≡ cells.old.free + (if owner == 0 then 0 else 1) }
+    ensures own_size { own_cells.new.size ≡ own_cells.old.size }
+    ensures others_size { cells.new.size ≡ cells.old.size }
+{
+    if owner == 0 {
+        own_cells.give_back(cell);
+    } else {
+        cells.give_back(cell);
+    }
+}
+
+impl LockManager {
+    /// No claims, with room for `pages` of slot 0. The slots are 0 to `agents`, and `entries` is the size of the group's
+    /// lock table.
+    pub fn new(alloc: Global, agents: u8, entries: u32, pages: u32) -> Result<LockManager, NoMemory>
+        requires { 1 ≤ entries }
+        ensures holders { IfOk result (λ made. made.holders ≡ replicate (agents + 1) []) }
+        ensures rollbacks { IfOk result (λ made. made.rollbacks ≡ []) }
+        ensures sizes { IfOk result (λ made. (made.agents ≡ agents) × (made.entries ≡ entries) × (made.pages ≡ pages)) }
+        ensures room { IfOk result (λ made. (1 ≤ made.spare) × (agents ≤ made.room)) }
+    {
+        let most = agents as usize;
+        Ok(LockManager {
+            holders: no_claims(alloc, most + 1, most)?,
+            rollbacks: Vec::with_capacity(alloc, most)?,
+            agents,
+            entries,
+            own_cells: Area::new(alloc, pages)?,
+            cells: Area::new(alloc, 1)?,
+            room: most,
+        })
+    }
+
+    fn slots(&self) -> usize
+        ensures slots { result ≡ slots self.now }
+        ensures few { result ≤ 256 }
+        ensures owners { length self.now.holders ≡ result + length self.now.rollbacks }
+    {
+        let _rollbacks = self.rollbacks.len();
+        self.agents as usize + 1
+    }
+
+    /// What the agent of the slot is told that needs the name in this mode.
+    pub fn ask(&self, owner: u8, name: &Name, mode: Mode) -> Ask
+        requires { owner ≤ self.now.agents }
+        ensures { result ≡ ask_of self.now owner name.now mode }
+    {
+        let slots = self.slots();
+        let held = self.holders[owner as usize].find(name);
+        if is_covered(held, mode) {
+            return Ask::Have;
+        }
+        let mode = joined(held, mode);
+        match first_in_the_way(self.holders.as_slice(), Some(owner), name, mode) {
+            Some(at) if at < slots => Ask::Conflict { by: at as u8 },
+            Some(at) => Ask::Postponed {
+                member: self.rollbacks[at - slots].by,
+            },
+            None if is_covered(mode_of_all(self.holders.as_slice(), name), mode) => Ask::Local,
+            None => Ask::Facility { mode },
+        }
+    }
+
+    /// What another member is told that needs the name in this mode.
+    pub fn answer(&self, name: &Name, mode: Mode) -> LockAnswer
+        ensures { result ≡ answer_of self.now name.now mode }
+    {
+        let slots = self.slots();
+        match first_in_the_way(self.holders.as_slice(), None, name, mode) {
+            Some(at) if at < slots => LockAnswer::Conflict { by: at as u8 },
+            Some(at) => LockAnswer::Postponed {
+                member: self.rollbacks[at - slots].by,
+            },
+            None => LockAnswer::Clean,
+        }
+    }
+
+    /// Makes room for one more claim of an agent, and for the rollbacks of all agents.
+    pub fn reserve(&mut self) -> Result<(), NoMemory>
+        ensures enough { OnOk result ((1 ≤ self.new.spare) × (self.new.agents ≤ self.new.room)) }
+        ensures rest { self.new ≡ record self.old { spare = self.new.spare; room = self.new.room } }
+        ensures more { (self.old.spare ≤ self.new.spare) × (self.old.room ≤ self.new.room) }
+    {
+        let most = self.agents as usize;
+        if self.room < most {
+            self.holders.reserve(most)?;
+            self.rollbacks.reserve(most)?;
+            self.room = most;
+        }
+        if self.cells.is_full() {
+            self.cells.grow()?;
+        }
+        Ok(())
+    }
+
+    /// Enters a claim of the agent of the slot.
+    pub fn give(&mut self, owner: u8, name: &Name, mode: Mode)
+        requires owner { owner ≤ self.old.agents }
+        requires own { owner ≡ 0 → is_some (held_by self.old 0 name.now) ≡ false → length (claims_of self.old 0) < self.old.pages }
+        requires spare { owner ≢ 0 → 1 ≤ self.old.spare }
+        ensures { IsGiven self.old owner name.now mode self.new }
+    {
+        let _slots = self.slots();
+        let at = owner as usize;
+        let held = self.holders[at].find(name);
+        let joint = joined(held, mode);
+        if held.is_some() {
+            self.holders[at].put(name, joint);
+        } else {
+            let cell = take_cell(at, &mut self.own_cells, &mut self.cells);
+            let name = *name;
+            self.holders[at].insert(cell, Claim { name, mode: joint });
+        }
+    }
+}
+
+impl LockManager {
+    /// The interest that the name's entry keeps where this owner has these claims left.
+    fn interest_left(&self, owner: usize, left: &Chain, name: &Name) -> Interest
+        requires { owner < length self.now.holders }
+        ensures { result ≡ kept self.now.entries (slice_set self.now.holders owner left.now) (entry_number name.now self.now.entries) }
+    {
+        let entry = entry_of(name, self.entries);
+        let holders = self.holders.as_slice();
+        Interest {
+            share: any_needs(holders, owner, left, self.entries, entry, Class::Share),
+            exclusive: any_needs(holders, owner, left, self.entries, entry, Class::Exclusive),
+        }
+    }
+
+    /// Whether an owner holds the name.
+    #[tactic(auto, using(crate::proofs::Rooms::same_set))]
+    fn is_held(&self, name: &Name) -> bool
+        ensures { result ≡ is_held self.now.holders name.now }
+    {
+        let _slots = self.slots();
+        is_held(self.holders.as_slice(), 0, &self.holders[0], name)
+    }
+
+    /// The interest that the name's entry keeps.
+    #[tactic(auto, using(crate::proofs::Rooms::same_set))]
+    fn interest(&self, name: &Name) -> Interest
+        ensures { result ≡ kept self.now.entries self.now.holders (entry_number name.now self.now.entries) }
+    {
+        let _slots = self.slots();
+        self.interest_left(0, &self.holders[0], name)
+    }
+
+    /// Gives up the first claim that the owner has.
+    fn give_up_first(&mut self, owner: usize) -> Option<Claim>
+        requires { owner < length self.old.holders }
+        ensures claim { MatchOption result ((claims_of self.old owner ≡ []) × (self.new ≡ self.old)) (λ claim. claims_of self.old owner ≡ claim ∷ claims_of self.new owner) }
+        ensures rest { self.new ≡ with_claims self.old owner (claims_of self.new owner) }
+    {
+        let (claim, cell) = self.holders[owner].pop()?;
+        give_back(owner, cell, &mut self.own_cells, &mut self.cells);
+        Some(claim)
+    }
+
+    fn release_at(&mut self, owner: usize) -> Option<(Name, Interest)>
+        requires { owner < length self.old.holders }
+        ensures told { result ≡ release_told self.old owner }
+        ensures left { self.new ≡ after_release self.old owner }
+    {
+        while let Some(claim) = self.give_up_first(owner) {
+            if !self.is_held(&claim.name) {
+                return Some((claim.name, self.interest(&claim.name)));
+            }
+        }
+        None
+    }
+
+    fn releasing_at(&self, owner: usize) -> Option<(Name, Interest)>
+        requires { owner < length self.now.holders }
+        ensures { result ≡ release_told self.now owner }
+    {
+        let mut left = &self.holders[owner];
+        while let Some((claim, rest)) = left.first() {
+            if !is_held(self.holders.as_slice(), owner, rest, &claim.name) {
+                let interest = self.interest_left(owner, rest, &claim.name);
+                return Some((claim.name, interest));
+            }
+            left = rest;
+        }
+        None
+    }
+
+    /// Gives up claims of the agent of the slot, up to the first whose name the member then holds no longer: that name,
+    /// with the interest that the member keeps in its entry. Where there is none, the agent has no claims left.
+    pub fn release(&mut self, owner: u8) -> Option<(Name, Interest)>
+        requires { owner ≤ self.old.agents }
+        ensures told { result ≡ release_told self.old owner }
+        ensures left { self.new ≡ after_release self.old owner }
+    {
+        let _slots = self.slots();
+        self.release_at(owner as usize)
+    }
+
+    /// What `release` would answer now.
+    pub fn releasing(&self, owner: u8) -> Option<(Name, Interest)>
+        requires { owner ≤ self.now.agents }
+        ensures { result ≡ release_told self.now owner }
+    {
+        let _slots = self.slots();
+        self.releasing_at(owner as usize)
+    }
+
+    fn give_up_page(&mut self, name: &Name)
+        requires { is_some (held_by self.old 0 name.now) ≡ true }
+        ensures { self.new ≡ after_page_release self.old name.now }
+    {
+        let _slots = self.slots();
+        let Some(cell) = self.holders[0].remove(name) else {
+            return;
+        };
+        give_back(0, cell, &mut self.own_cells, &mut self.cells);
+    }
+
+    /// Gives up the claim of slot 0 on the name: the interest that the member keeps in its entry.
+    pub fn release_page(&mut self, name: &Name) -> Interest
+        requires { is_some (held_by self.old 0 name.now) ≡ true }
+        ensures told { result ≡ page_told self.old name.now }
+        ensures left { self.new ≡ after_page_release self.old name.now }
+    {
+        self.give_up_page(name);
+        self.interest(name)
+    }
+
+    /// What `release_page` would answer now.
+    pub fn releasing_page(&self, name: &Name) -> Interest
+        requires { is_some (held_by self.now 0 name.now) ≡ true }
+        ensures { result ≡ page_told self.now name.now }
+    {
+        let _slots = self.slots();
+        let entry = entry_of(name, self.entries);
+        Interest {
+            share: self.is_needed_without(name, entry, Class::Share),
+            exclusive: self.is_needed_without(name, entry, Class::Exclusive),
+        }
+    }
+
+    /// Whether the member needs this interest in the entry, also without the claim of slot 0 on the name.
+    fn is_needed_without(&self, name: &Name, entry: u32, class: Class) -> bool
+        requires { 0 < length self.now.holders }
+        ensures { result ≡ any_needs self.now.entries entry class (slice_set self.now.holders 0 (without (claims_of self.now 0) name.now)) }
+    {
+        self.holders[0].needs_without(name, self.entries, entry, class)
+            || any_needs(
+                self.holders.as_slice(),
+                0,
+                &Chain::new(),
+                self.entries,
+                entry,
+                class,
+            )
+    }
+}
+
+impl LockManager {
+    /// Makes the agent's claims those of the postponed rollback of the transaction, which waits for a member.
+    pub fn postpone(&mut self, owner: u8, id: Lrsn, by: MemberId)
+        requires owner { (1 ≤ owner) × (owner ≤ self.old.agents) }
+        requires room { 1 ≤ self.old.room }
+        ensures { self.new ≡ after_postpone self.old owner id by }
+    {
+        let _slots = self.slots();
+        let claims = mem::replace(&mut self.holders[owner as usize], Chain::new());
+        self.holders.push_reserved(claims);
+        self.rollbacks.push_reserved(Rollback { id, by });
+        self.room -= 1;
+    }
+
+    /// Whether the transaction's rollback is postponed.
+    pub fn is_postponed(&self, id: Lrsn) -> bool
+        ensures { result ≡ is_postponed self.now id }
+    {
+        place_of(self.rollbacks.as_slice(), id).is_some()
+    }
+
+    /// The postponed rollback now waits for this member.
+    pub fn wait_for(&mut self, id: Lrsn, by: MemberId)
+        requires { is_postponed self.old id ≡ true }
+        ensures { self.new ≡ record self.old { rollbacks = waiting_at self.old.rollbacks (place_in self.old.rollbacks 0 id) id by } }
+    {
+        if let Some(at) = place_of(self.rollbacks.as_slice(), id) {
+            self.rollbacks[at] = Rollback { id, by };
+        }
+    }
+
+    /// Forgets a rollback that has no claims left.
+    fn end(&mut self, at: usize)
+        requires there { at < length self.old.rollbacks }
+        requires done { claims_of self.old (slots self.old + at) ≡ [] }
+        ensures { self.new ≡ ended self.old at }
+    {
+        let place = self.slots() + at;
+        self.holders.remove(place);
+        self.rollbacks.remove(at);
+        self.room += 1;
+    }
+
+    /// `release` for a postponed rollback, which is over where no name is left to give up.
+    pub fn release_postponed(&mut self, id: Lrsn) -> Option<(Name, Interest)>
+        ensures told { result ≡ postponed_told self.old (place_in self.old.rollbacks 0 id) }
+        ensures left { self.new ≡ after_postponed_release self.old (place_in self.old.rollbacks 0 id) }
+    {
+        let at = place_of(self.rollbacks.as_slice(), id)?;
+        let place = self.slots() + at;
+        let told = self.release_at(place);
+        if told.is_none() {
+            self.end(at);
+        }
+        told
+    }
+
+    /// What `release_postponed` would answer now.
+    pub fn releasing_postponed(&self, id: Lrsn) -> Option<(Name, Interest)>
+        ensures { result ≡ postponed_told self.now (place_in self.now.rollbacks 0 id) }
+    {
+        let at = place_of(self.rollbacks.as_slice(), id)?;
+        self.releasing_at(self.slots() + at)
+    }
+}
