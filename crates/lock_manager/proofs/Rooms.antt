@@ -1,6 +1,6 @@
 -- The room that claims leave.
-use Rattle.std.proofs.Common.{◌≡◌, ◌≢◌, ◌++◌, ap, subst, ◌-◌, ℕ, zero, suc, ◌+◌, ◌<◌, ◌≤◌, Bool, true, false, List, [], ◌∷◌, length, set, get_or, replicate, refl, sym, ◌∙◌, arith, if◌then◌else◌, ◌==◌, add-one}
-use Rattle.std.specs.Prelude.{◌||◌, ◌&&◌, Option, Some, None, is_some}
+use Rattle.std.proofs.Common.{◌≡◌, ◌≢◌, ◌++◌, ap, subst, ℕ, zero, suc, ◌+◌, ◌<◌, ◌≤◌, true, false, List, [], ◌∷◌, length, set, get_or, replicate, refl, sym, ◌∙◌, arith, if◌then◌else◌, ◌==◌, add-one}
+use Rattle.std.specs.Prelude.{Option, is_some}
 use Rattle.std.proofs.lemmas.List.{get_or_default, get_or-set_same, length-set, set-get_or, length-append}
 use Rattle.std.proofs.lemmas.List.Edits.{length-remove, get_or-remove_below}
 use Rattle.std.specs.List.{remove}

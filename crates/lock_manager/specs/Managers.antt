@@ -1,5 +1,5 @@
 -- The lock manager: what stands in it, and what its answers are.
-use Rattle.std.specs.Prelude.{◌≡◌, ℕ, ◌+◌, ◌-◌, ◌≤◌, ◌<◌, Bool, true, false, not, ◌&&◌, ◌||◌, ◌==◌, if◌then◌else◌, Option, Some, None, is_some, List, [], ◌∷◌, ◌++◌, length, slice_set, slice_index_or, remove, replicate, nat_lt}
+use Rattle.std.specs.Prelude.{◌≡◌, ℕ, ◌+◌, ◌-◌, Bool, ◌||◌, ◌==◌, if◌then◌else◌, Option, Some, None, is_some, List, [], ◌∷◌, ◌++◌, length, slice_set, slice_index_or, remove, nat_lt}
 use Rattle.ds_model.specs.declared.lock.Name.{Name}
 use Rattle.lock_names.specs.declared.mode.Mode.{Mode}
 use Rattle.lock_names.specs.declared.mode.Interest.{Interest}
@@ -12,7 +12,7 @@ use Rattle.lock_manager.specs.declared.claim.LockAnswer.{LockAnswer}
 use Rattle.lock_manager.specs.declared.claim.LockAnswer.TheVariants as answer
 use Rattle.lock_manager.specs.Areas.{Room}
 use Rattle.lock_manager.specs.Claims.{mode_in, without, joined, is_covered}
-use Rattle.lock_manager.specs.Holders.{first_in_way, mode_of_all, is_held, kept, first_freed, left_after, told, total}
+use Rattle.lock_manager.specs.Holders.{first_in_way, mode_of_all, kept, first_freed, left_after, told, total}
 
 pub record Book : Type 0 where
   pub holders : List (List Claim)  -- the claims of each owner: of the agents by their slots, from 0 on, then of the postponed rollbacks

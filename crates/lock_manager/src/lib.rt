@@ -2,6 +2,9 @@
 //!
 //! A member tries each lock here first. Where the mode that it holds on the name covers the one asked, the group's lock
 //! table isn't asked. It answers from here too when another member asks whether it holds a lock that is in the way.
+//!
+//! It has the part of the internal resource lock manager that Josten, Mohan, Narang and Teng describe (IBM Systems Journal
+//! 36(2), 1997).
 #![tactic(auto)]
 
 pub mod area;

@@ -1,5 +1,4 @@
-use Rattle.std.proofs.Common.{◌≡◌, refl, true, false, arith, ◌<◌, ◌+◌, length, get_or, []}
-use Rattle.std.proofs.lemmas.Grind.{common_steps}
+use Rattle.std.proofs.Common.{◌≡◌, arith, ◌<◌, ◌+◌, length, get_or, []}
 use Rattle.lock_manager.proofs.Rooms.{ended_room}
 use Rattle.lock_manager.proofs.manager.LockManager.end.Goals as goal
 

@@ -1,5 +1,4 @@
-use Rattle.std.proofs.Common.{◌≡◌, refl, true, false, arith, ◌∙◌, sym, ap, rules, ◌<◌, length}
-use Rattle.std.proofs.lemmas.Grind.{common_steps}
+use Rattle.std.proofs.Common.{◌≡◌, refl, false, arith, ◌<◌, length}
 use Rattle.lock_manager.proofs.Rooms.{moved_room, entered_at}
 use Rattle.std.specs.Prelude.{is_some}
 use Rattle.lock_manager.proofs.manager.LockManager.give.Goals as goal

@@ -1,4 +1,4 @@
-use Rattle.std.proofs.Common.{◌≡◌, refl, true, false, arith, ap, ◌<◌, ◌+◌, length}
+use Rattle.std.proofs.Common.{arith, ap, ◌<◌, length}
 use Rattle.lock_manager.proofs.Rooms.{moved_room, others_used}
 use Rattle.lock_manager.proofs.manager.LockManager.give_up_first.Goals as goal
 

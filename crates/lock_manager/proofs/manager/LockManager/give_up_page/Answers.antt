@@ -1,4 +1,4 @@
-use Rattle.std.proofs.Common.{◌≡◌, refl, true, false, arith, ap, ◌<◌, ◌+◌, length}
+use Rattle.std.proofs.Common.{◌≡◌, true, arith, ◌<◌, length}
 use Rattle.std.specs.Prelude.{is_some}
 use Rattle.lock_manager.specs.Claims.{mode_in}
 use Rattle.lock_manager.proofs.Rooms.{moved_room, page_given_up}

@@ -1,5 +1,4 @@
-use Rattle.std.proofs.Common.{◌≡◌, refl, true, false, arith, ◌∙◌, ◌<◌, length}
-use Rattle.std.proofs.lemmas.Grind.{common_steps}
+use Rattle.std.proofs.Common.{arith, ◌∙◌, ◌<◌, length}
 use Rattle.lock_manager.proofs.Rooms.{postponed_room_at}
 use Rattle.lock_manager.proofs.manager.LockManager.postpone.Goals as goal
 

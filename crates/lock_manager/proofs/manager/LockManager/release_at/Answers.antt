@@ -1,4 +1,4 @@
-use Rattle.std.proofs.Common.{◌≡◌, refl, true, false, arith, ap, ◌∙◌, ◌<◌, length}
+use Rattle.std.proofs.Common.{◌≡◌, true, false, arith, ap, ◌∙◌, length}
 use Rattle.std.specs.Prelude.{Some}
 use Rattle.std.proofs.lemmas.List.{length-set}
 use Rattle.lock_manager.specs.Holders.{is_held}

@@ -1,6 +1,5 @@
-use Rattle.std.proofs.Common.{◌≡◌, refl, true, false, arith, ◌<◌, ◌+◌, length}
+use Rattle.std.proofs.Common.{◌≡◌, false, arith, ◌<◌, ◌+◌, length}
 use Rattle.std.specs.Prelude.{is_some}
-use Rattle.std.proofs.lemmas.Grind.{common_steps}
 use Rattle.lock_manager.specs.Managers.{slots}
 use Rattle.lock_manager.proofs.Releases.{nothing_left}
 use Rattle.lock_manager.proofs.manager.LockManager.release_postponed.Goals as goal

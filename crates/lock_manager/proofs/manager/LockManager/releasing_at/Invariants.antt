@@ -1,4 +1,4 @@
-use Rattle.std.proofs.Common.{◌≡◌, ◌<◌, length}
+use Rattle.std.proofs.Common.{◌≡◌, length}
 use Rattle.lock_manager.specs.Holders.{first_freed, left_after}
 use Rattle.lock_manager.specs.Managers.{claims_of}
 use Rattle.lock_manager.proofs.manager.LockManager.releasing_at.Given as goal
