@@ -23,8 +23,8 @@ fn restore(
     }
 }
 
-fn take_back(rows: &mut SpotMap<Value>, body: Body) -> Result<(), NoMemory>
-    ensures { OnOk result (rows.new ≡ before_body rows.old body) }
+fn take_back(rows: &mut SpotMap<Value>, body: &Body) -> Result<(), NoMemory>
+    ensures { OnOk result (rows.new ≡ before_body rows.old body.now) }
 {
     match body {
         Body::RowChange { change } => restore(rows, change.table, change.key, change.before),
@@ -42,7 +42,7 @@ pub fn undo(rows: &mut SpotMap<Value>, mut records: Vec<LogRecord>) -> Result<()
     ensures { OnOk result (rows.new ≡ undone rows.old records.items) }
 {
     while let Some(record) = records.pop() {
-        take_back(rows, record.body)?;
+        take_back(rows, &record.body)?;
     }
     Ok(())
 }

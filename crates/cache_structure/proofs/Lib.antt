@@ -1,0 +1,6 @@
+pub mod Orders
+pub mod Leading
+pub mod Binding
+pub mod Views
+pub mod Tables
+pub mod Changed

@@ -1,0 +1,106 @@
+use Rattle.std.proofs.Common.{◌≡◌, ◌⊎◌, inl, inr, ℕ, ◌+◌, ◌*◌, arith, ◌<◌, sym, ap, ◌∙◌, subst, true, length, Option, Some, None, slice_set}
+use Rattle.std.specs.Option.{option_map_or}
+use Rattle.std.proofs.lemmas.List.{length-set}
+use Rattle.std.proofs.lemmas.Option.{none-some}
+use Rattle.cache_structure.specs.declared.slot.Slot.{Slot}
+use Rattle.cache_structure.specs.Slots.{Table, slot_at, find_slot, entry_at, entries_in, holds}
+use Rattle.cache_structure.specs.Entries.{fresh, newest, without}
+use Rattle.cache_structure.specs.Places.{AreApart, LeadsTo, LeadsToAll, HasRoomFor}
+use Rattle.cache_structure.specs.Kept.{IsKept}
+use Rattle.cache_structure.proofs.Leading.{apart_set, others_set, there_set}
+use Rattle.cache_structure.proofs.Tables.{kept_made, made, in_free, in_taken, no_bytes, slot_read, slot_set, own, slot_here}
+use Rattle.cache_structure.proofs.table.EntryTable.make.Goals as goal
+
+pub enter-requires-clause-apart : goal.enter-requires-clause-apart
+enter-requires-clause-apart c =
+    let p = c.self.inside in
+    let l : c.args.at < length p.slots.items = subst (λ (t : Table). c.args.at < length t.slots) (sym c.self.view_is) c.requires.there in
+    let alone : find_slot p.slots.items c.args.id ≡ None = subst (λ (t : Table). find_slot t.slots c.args.id ≡ None) (sym c.self.view_is) c.requires.alone in
+    subst AreApart (ap (slice_set p.slots.items c.args.at) (sym c.holding.ensures) ∙ sym c.as_slice.ensures.value)
+    (apart_set p.index p.slots.items c.args.at c.args.id l c.self.invariant.leads (λ g is. absurd (none-some g (sym alone ∙ is))))
+
+pub enter-requires-clause-others : goal.enter-requires-clause-others
+enter-requires-clause-others c =
+    let p = c.self.inside in
+    let l : c.args.at < length p.slots.items = subst (λ (t : Table). c.args.at < length t.slots) (sym c.self.view_is) c.requires.there in
+    λ f page no. subst (λ fs. LeadsTo p.index fs f page) (sym c.as_slice.ensures.value) (others_set p.index p.slots.items c.args.at c.holding.result l c.self.invariant.leads f page no)
+
+pub overflow_add-self : goal.overflow_add-self
+overflow_add-self c =
+    let p = c.self.inside in
+    let l : c.args.at < length p.slots.items = subst (λ (t : Table). c.args.at < length t.slots) (sym c.self.view_is) c.requires.there in
+    let read = slot_read p.slots.items c.args.at c.index.result.now l c.index.ensures in
+    let next : (slot_at p.slots.items c.args.at).page ≡ None → c.args.at ≡ length (entries_in (record { slots = c.self.inside.slots.items; pages = c.self.inside.pages.items; order = c.self.inside.order })) =
+    subst (λ (t : Table). (slot_at t.slots c.args.at).page ≡ None → c.args.at ≡ length (entries_in t)) (sym c.self.view_is) c.requires.next in
+    let free = in_free (record { slots = c.self.inside.slots.items; pages = c.self.inside.pages.items; order = c.self.inside.order }) _ _ c.self.invariant c.args.at c.index.result.now read (sym c.is_free-was_free.ensures ∙ c.if-was_free.true) next in
+    let small = c.self.invariant.small in
+    let is = free.2 in
+    omega (arith, small, is, l)
+
+pub invariant_of-self : goal.invariant_of-self
+invariant_of-self c =
+    let p = c.self.inside in
+    let l : c.args.at < length p.slots.items = subst (λ (t : Table). c.args.at < length t.slots) (sym c.self.view_is) c.requires.there in
+    let read = slot_read p.slots.items c.args.at c.index.result.now l c.index.ensures in
+    let next : (slot_at p.slots.items c.args.at).page ≡ None → c.args.at ≡ length (entries_in (record { slots = c.self.inside.slots.items; pages = c.self.inside.pages.items; order = c.self.inside.order })) =
+    subst (λ (t : Table). (slot_at t.slots c.args.at).page ≡ None → c.args.at ≡ length (entries_in t)) (sym c.self.view_is) c.requires.next in
+    let free = in_free (record { slots = c.self.inside.slots.items; pages = c.self.inside.pages.items; order = c.self.inside.order }) _ _ c.self.invariant c.args.at c.index.result.now read (sym c.is_free-was_free.ensures ∙ c.if-was_free.true) next in
+    subst (λ slot. IsKept (record { slots = slice_set p.slots.items c.args.at slot; pages = p.pages.items; order = c.make_newest.new.self }) c.enter.new.places (p.used + 1)) (sym c.holding.ensures)
+    (kept_made (record { slots = c.self.inside.slots.items; pages = c.self.inside.pages.items; order = c.self.inside.order }) _ _ c.self.invariant c.args.at c.args.id c.make_newest.new.self c.enter.new.places (p.used + 1) l c.make_newest.ensures.distinct c.make_newest.ensures.order
+    (subst (LeadsToAll c.enter.new.places) (c.as_slice.ensures.value ∙ ap (slice_set p.slots.items c.args.at) c.holding.ensures) c.enter.ensures.leads)
+    (subst (λ n. HasRoomFor c.enter.new.places (2 * n)) (ap length c.as_slice.ensures.value ∙ length-set p.slots.items c.args.at c.holding.result) c.enter.ensures.room)
+    (inl free))
+
+pub invariant_of-self-else-was_free : goal.invariant_of-self-else-was_free
+invariant_of-self-else-was_free c =
+    let p = c.self.inside in
+    let l : c.args.at < length p.slots.items = subst (λ (t : Table). c.args.at < length t.slots) (sym c.self.view_is) c.requires.there in
+    let read = slot_read p.slots.items c.args.at c.index.result.now l c.index.ensures in
+    let taken = in_taken (record { slots = c.self.inside.slots.items; pages = c.self.inside.pages.items; order = c.self.inside.order }) _ _ c.self.invariant c.args.at c.index.result.now read (sym c.is_free-was_free.ensures ∙ c.if-was_free.false) in
+    subst (λ slot. IsKept (record { slots = slice_set p.slots.items c.args.at slot; pages = p.pages.items; order = c.make_newest.new.self }) c.enter.new.places p.used) (sym c.holding.ensures)
+    (kept_made (record { slots = c.self.inside.slots.items; pages = c.self.inside.pages.items; order = c.self.inside.order }) _ _ c.self.invariant c.args.at c.args.id c.make_newest.new.self c.enter.new.places p.used l c.make_newest.ensures.distinct c.make_newest.ensures.order
+    (subst (LeadsToAll c.enter.new.places) (c.as_slice.ensures.value ∙ ap (slice_set p.slots.items c.args.at) c.holding.ensures) c.enter.ensures.leads)
+    (subst (λ n. HasRoomFor c.enter.new.places (2 * n)) (ap length c.as_slice.ensures.value ∙ length-set p.slots.items c.args.at c.holding.result) c.enter.ensures.room)
+    (inr taken))
+
+pub returns-then-was_free-clause-here : goal.returns-then-was_free-clause-here
+returns-then-was_free-clause-here c =
+    let p = c.self.inside in
+    let l : c.args.at < length p.slots.items = subst (λ (t : Table). c.args.at < length t.slots) (sym c.self.view_is) c.requires.there in
+    there_set p.slots.items c.args.at c.holding.result c.args.id l (ap (holds c.args.id) c.holding.ensures ∙ own c.args.id)
+
+pub returns-then-was_free-clause-bytes : goal.returns-then-was_free-clause-bytes
+returns-then-was_free-clause-bytes c =
+    let p = c.self.inside in
+    let l : c.args.at < length p.slots.items = subst (λ (t : Table). c.args.at < length t.slots) (sym c.self.view_is) c.requires.there in
+    no_bytes (record { slots = slice_set p.slots.items c.args.at c.holding.result; pages = p.pages.items; order = c.make_newest.new.self }) c.args.at c.args.id
+    (slot_here p.slots.items c.args.at c.holding.result l ∙ c.holding.ensures)
+
+pub returns-then-was_free-clause-entries : goal.returns-then-was_free-clause-entries
+returns-then-was_free-clause-entries c =
+    let p = c.self.inside in
+    let l : c.args.at < length p.slots.items = subst (λ (t : Table). c.args.at < length t.slots) (sym c.self.view_is) c.requires.there in
+    ap (λ slot. entries_in (record { slots = slice_set p.slots.items c.args.at slot; pages = p.pages.items; order = c.make_newest.new.self })) c.holding.ensures
+    ∙ made (record { slots = c.self.inside.slots.items; pages = c.self.inside.pages.items; order = c.self.inside.order }) _ _ c.self.invariant c.args.at c.args.id c.make_newest.new.self l (subst (λ (t : Table). find_slot t.slots c.args.id ≡ None) (sym c.self.view_is) c.requires.alone) c.make_newest.ensures.order
+    ∙ ap (λ (t : Table). newest (fresh c.args.id) (option_map_or (λ e. without e.page (entries_in t)) (entry_at t c.args.at) (entries_in t))) c.self.view_is
+
+pub returns-else-was_free-clause-here : goal.returns-else-was_free-clause-here
+returns-else-was_free-clause-here c =
+    let p = c.self.inside in
+    let l : c.args.at < length p.slots.items = subst (λ (t : Table). c.args.at < length t.slots) (sym c.self.view_is) c.requires.there in
+    there_set p.slots.items c.args.at c.holding.result c.args.id l (ap (holds c.args.id) c.holding.ensures ∙ own c.args.id)
+
+pub returns-else-was_free-clause-bytes : goal.returns-else-was_free-clause-bytes
+returns-else-was_free-clause-bytes c =
+    let p = c.self.inside in
+    let l : c.args.at < length p.slots.items = subst (λ (t : Table). c.args.at < length t.slots) (sym c.self.view_is) c.requires.there in
+    no_bytes (record { slots = slice_set p.slots.items c.args.at c.holding.result; pages = p.pages.items; order = c.make_newest.new.self }) c.args.at c.args.id
+    (slot_here p.slots.items c.args.at c.holding.result l ∙ c.holding.ensures)
+
+pub returns-else-was_free-clause-entries : goal.returns-else-was_free-clause-entries
+returns-else-was_free-clause-entries c =
+    let p = c.self.inside in
+    let l : c.args.at < length p.slots.items = subst (λ (t : Table). c.args.at < length t.slots) (sym c.self.view_is) c.requires.there in
+    ap (λ slot. entries_in (record { slots = slice_set p.slots.items c.args.at slot; pages = p.pages.items; order = c.make_newest.new.self })) c.holding.ensures
+    ∙ made (record { slots = c.self.inside.slots.items; pages = c.self.inside.pages.items; order = c.self.inside.order }) _ _ c.self.invariant c.args.at c.args.id c.make_newest.new.self l (subst (λ (t : Table). find_slot t.slots c.args.id ≡ None) (sym c.self.view_is) c.requires.alone) c.make_newest.ensures.order
+    ∙ ap (λ (t : Table). newest (fresh c.args.id) (option_map_or (λ e. without e.page (entries_in t)) (entry_at t c.args.at) (entries_in t))) c.self.view_is

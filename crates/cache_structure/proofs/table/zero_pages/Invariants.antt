@@ -1,0 +1,6 @@
+use Rattle.std.proofs.Common.{◌≡◌, replicate, length}
+use Rattle.page_format.specs.Fields.{page_size}
+use Rattle.cache_structure.proofs.table.zero_pages.Given as goal
+
+abbrev pub invariant-loop : goal.invariant-loop
+invariant-loop l = l.pages.items ≡ replicate l.counter (replicate page_size 0)

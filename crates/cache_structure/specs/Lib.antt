@@ -1,0 +1,12 @@
+pub mod Bound
+pub mod Directory
+pub mod Entries
+pub mod Frames
+pub mod Kept
+pub mod Order
+pub mod Places
+pub mod Replies
+pub mod Slots
+pub mod Sought
+pub mod State
+pub mod Uses

@@ -1,0 +1,16 @@
+//! The cache structure of a group: a directory of pages with their bytes, and the frames in which members
+//! have registered them.
+#![tactic(auto)]
+
+mod cache;
+mod face;
+mod index;
+mod order;
+mod registrations;
+mod slot;
+mod table;
+#[cfg(test)]
+mod tests;
+
+pub use cache::Cache;
+pub use face::{CacheFace, CastReply, DoneReply, ReadReply, WriteReply};

@@ -1,0 +1,290 @@
+ghost use Rattle.std.specs.Prelude.{◌≡◌, ℕ, ◌<◌, ◌++◌, ◌∷◌, [], true, List, length, map, replicate, slice_get, slice_set, None, IfOk, IfSome, IsNone, Some, find, count_by, is_some, unwrap_or, nat_lt};
+ghost use Rattle.std.specs.Option.{option_map_or, option_map};
+ghost use Rattle.page_format.specs.Fields.{page_size};
+ghost use Rattle.cache_structure.specs.Entries.{
+  Entry,
+  fresh,
+  is_idle,
+  entry_of,
+  newest,
+  without,
+  at_entry,
+  written_with,
+  locked_by,
+  cast_out,
+  freed_of,
+};
+ghost use Rattle.cache_structure.specs.Slots.{free_slot, slot_at, find_slot, entry_at, entry_in, entries_in, bytes_at};
+ghost use Rattle.cache_structure.specs.Places.{holds_at};
+ghost use Rattle.cache_structure.specs.Order.{IsNextAmong, changed_in, past_only, sooner_of, comes_before as is_before};
+
+use crate::index::{PageIndex, enter, find_in, new_index};
+use crate::order::Order;
+use crate::slot::{Slot, free_all, free_slots};
+use ds_base::{MemberId, NoMemory, PageId};
+use page_format::Page;
+use std::alloc::Global;
+use std::marker::Model;
+
+/// The entries of the directory with their storage, in the order of their use.
+///
+/// An entry is named by the number of its slot.
+#[derive(Drop)]
+pub struct EntryTable {
+    slots: Vec<Slot>,
+    pages: Vec<Page>,
+    order: Order,
+    index: PageIndex,
+    used: u32,
+}
+
+impl Model for EntryTable {
+    ghost use Rattle.cache_structure.specs.Slots.{Table};
+    ghost use Rattle.cache_structure.specs.Kept.{IsKept};
+
+    ghost Value = { Table };
+
+    ghost view = { λ t. record { slots = t.slots.items; pages = t.pages.items; order = t.order } };
+
+    ghost invariant = { λ t. IsKept (record { slots = t.slots.items; pages = t.pages.items; order = t.order }) t.index t.used };
+}
+
+impl EntryTable {
+    /// So many free slots.
+    pub fn new(alloc: Global, entries: u32) -> Result<EntryTable, NoMemory>
+        ensures none { IfOk result (λ table. entries_in table ≡ []) }
+        ensures size { IfOk result (λ table. length table.slots ≡ entries) }
+    {
+        Ok(EntryTable {
+            slots: free_slots(alloc, entries)?,
+            pages: zero_pages(alloc, entries)?,
+            order: Order::new(alloc, entries)?,
+            index: new_index(alloc, entries)?,
+            used: 0,
+        })
+    }
+
+    /// How many slots there are.
+    pub fn size(&self) -> u32
+        ensures { result ≡ length self.now.slots }
+    {
+        self.slots.len() as u32
+    }
+
+    /// The slot of a page's entry.
+    pub fn find(&self, id: PageId) -> Option<u32>
+        ensures slot { result ≡ find_slot self.now.slots id }
+        ensures there { IfSome result (λ s. holds_at self.now.slots s id ≡ true) }
+        ensures entry { entry_of (entries_in self.now) id ≡ option_map_or (entry_at self.now) result None }
+    {
+        find_in(&self.index, self.slots.as_slice(), id)
+    }
+
+    /// What stands in a slot.
+    pub fn slot(&self, at: u32) -> Slot
+        requires { at < length self.now.slots }
+        ensures { result ≡ slot_at self.now.slots at }
+    {
+        self.slots[at as usize]
+    }
+
+    /// The entry in a slot is the newest.
+    pub fn touch(&mut self, at: u32)
+        requires { at < length self.old.slots }
+        ensures slots { self.new.slots ≡ self.old.slots }
+        ensures pages { self.new.pages ≡ self.old.pages }
+        ensures entries { (id : PageId) → holds_at self.old.slots at id ≡ true → entries_in self.new ≡ option_map_or (λ e. newest e (entries_in self.old)) (entry_at self.old at) (entries_in self.old) }
+    {
+        self.order.make_newest(at);
+    }
+
+    /// A slot that is still free.
+    pub fn next_free(&self) -> Option<u32>
+        ensures place { is_some result ≡ nat_lt (length (entries_in self.now)) (length self.now.slots) }
+        ensures free { IfSome result (λ s. (s < length self.now.slots) × (s ≡ length (entries_in self.now)) × ((slot_at self.now.slots s).page ≡ None)) }
+    {
+        if (self.used as usize) < self.slots.len() {
+            Some(self.used)
+        } else {
+            None
+        }
+    }
+
+    /// The oldest slot whose entry may be reclaimed, with the page of that entry.
+    pub fn oldest_idle(&self) -> Option<(u32, PageId)>
+        ensures none { IsNone result → find is_idle (entries_in self.now) ≡ None }
+        ensures entry { IfSome result (λ r. find is_idle (entries_in self.now) ≡ entry_at self.now r.0) }
+        ensures there { IfSome result (λ r. r.0 < length self.now.slots) }
+        ensures page { IfSome result (λ r. (slot_at self.now.slots r.0).page ≡ Some r.1) }
+    {
+        let at = self.first_idle()?;
+        let page = self.slot(at).page?;
+        Some((at, page))
+    }
+
+    // The oldest slot whose entry may be reclaimed.
+    fn first_idle(&self) -> Option<u32>
+        ensures entry { find is_idle (entries_in self.now) ≡ option_map_or (entry_at self.now) result None }
+        ensures there { IfSome result (λ s. s < length self.now.slots) }
+    {
+        self.order.first_idle(self.slots.as_slice())
+    }
+
+    /// How many entries are changed.
+    pub fn changed_count(&self) -> u32
+        ensures { result ≡ count_by (λ e. e.changed) (entries_in self.now) }
+    {
+        self.order.count_changed(self.slots.as_slice()) as u32
+    }
+
+    /// The first changed page past `after`, in the order of page set and number.
+    pub fn next_changed(&self, after: Option<PageId>) -> Option<PageId>
+        ensures { IsNextAmong (changed_in self.now) after result }
+    {
+        let mut best = None;
+        for at in 0..self.slots.len() {
+            best = sooner(best, past(after, self.slots[at].changed_page()));
+        }
+        best
+    }
+
+    /// Makes an entry of a page in a slot. What stood there is gone.
+    pub fn make(&mut self, at: u32, id: PageId)
+        requires there { at < length self.old.slots }
+        requires next { (slot_at self.old.slots at).page ≡ None → at ≡ length (entries_in self.old) }
+        requires alone { find_slot self.old.slots id ≡ None }
+        ensures size { length self.new.slots ≡ length self.old.slots }
+        ensures here { holds_at self.new.slots at id ≡ true }
+        ensures bytes { bytes_at self.new at ≡ None }
+        ensures entries { entries_in self.new ≡ newest (fresh id) (option_map_or (λ e. without e.page (entries_in self.old)) (entry_at self.old at) (entries_in self.old)) }
+    {
+        let was_free = self.slots[at as usize].is_free();
+        self.slots[at as usize] = Slot::holding(id);
+        enter(&mut self.index, self.slots.as_slice(), at, id);
+        self.order.make_newest(at);
+        if was_free {
+            self.used += 1;
+        }
+    }
+
+    /// Replaces the bytes of an entry.
+    pub fn write(&mut self, at: u32, from: &Page)
+        requires { at < length self.old.slots }
+        ensures size { length self.new.slots ≡ length self.old.slots }
+        ensures entries { (id : PageId) → holds_at self.old.slots at id ≡ true → entries_in self.new ≡ at_entry id (written_with from.now) (entries_in self.old) }
+    {
+        copy_page(from, &mut self.pages[at as usize]);
+        let slot = self.slots[at as usize];
+        self.slots[at as usize] = slot.rewritten();
+    }
+
+    /// Takes the castout lock of an entry.
+    pub fn lock(&mut self, at: u32, member: MemberId)
+        requires { at < length self.old.slots }
+        ensures size { length self.new.slots ≡ length self.old.slots }
+        ensures entries { (id : PageId) → holds_at self.old.slots at id ≡ true → entries_in self.new ≡ at_entry id (locked_by member) (entries_in self.old) }
+    {
+        let slot = self.slot(at);
+        self.put(at, slot.locked_for(member));
+    }
+
+    /// Frees the castout lock of an entry.
+    pub fn unlock(&mut self, at: u32)
+        requires { at < length self.old.slots }
+        ensures size { length self.new.slots ≡ length self.old.slots }
+        ensures entries { (id : PageId) → holds_at self.old.slots at id ≡ true → entries_in self.new ≡ at_entry id cast_out (entries_in self.old) }
+    {
+        let slot = self.slot(at);
+        self.put(at, slot.unlocked());
+    }
+
+    /// Frees the castout locks of a member.
+    pub fn free_locks(&mut self, member: MemberId)
+        ensures size { length self.new.slots ≡ length self.old.slots }
+        ensures entries { entries_in self.new ≡ map (freed_of member) (entries_in self.old) }
+    {
+        for at in 0..self.size() {
+            let slot = self.slot(at);
+            self.put(at, slot.freed(member));
+        }
+    }
+
+    /// Makes all slots free.
+    pub fn clear(&mut self)
+        ensures size { length self.new.slots ≡ length self.old.slots }
+        ensures entries { entries_in self.new ≡ [] }
+    {
+        free_all(&mut self.slots);
+        self.index.clear();
+        self.used = 0;
+    }
+
+    /// Copies the bytes of an entry, if it has any.
+    pub fn read(&self, at: u32, into: &mut Page) -> bool
+        requires there { at < length self.now.slots }
+        requires held { is_some (slot_at self.now.slots at).page ≡ true }
+        ensures some { result ≡ is_some (bytes_at self.now at) }
+        ensures bytes { into.new ≡ unwrap_or (bytes_at self.now at) into.old }
+    {
+        let filled = self.slots[at as usize].filled;
+        if filled {
+            copy_page(&self.pages[at as usize], into);
+        }
+        filled
+    }
+
+    // Changes an entry, which stays one of the same page.
+    fn put(&mut self, at: u32, slot: Slot)
+        requires there { at < length self.old.slots }
+        requires page { slot.page ≡ (slot_at self.old.slots at).page }
+        ensures slots { self.new ≡ record self.old { slots = slice_set self.old.slots at slot } }
+        ensures entries { (id : PageId) (change : Entry → Entry) → holds_at self.old.slots at id ≡ true → entry_in slot (slice_get self.old.pages at) ≡ option_map change (entry_at self.old at) → entries_in self.new ≡ at_entry id change (entries_in self.old) }
+    {
+        self.slots[at as usize] = slot;
+    }
+}
+
+fn copy_page(from: &Page, into: &mut Page)
+    ensures { into.new ≡ from.now }
+{
+    *into.bytes_mut() = *from.bytes();
+}
+
+fn zero_pages(alloc: Global, entries: u32) -> Result<Vec<Page>, NoMemory>
+    ensures { IfOk result (λ pages. pages.items ≡ replicate entries (replicate page_size 0)) }
+{
+    let mut pages = Vec::new(alloc);
+    for _ in 0..entries {
+        pages.push(Page::zero(alloc)?)?;
+    }
+    Ok(pages)
+}
+
+// The page, if it is past the given one.
+fn past(after: Option<PageId>, page: Option<PageId>) -> Option<PageId>
+    ensures { result ≡ past_only after page }
+{
+    let id = page?;
+    match after {
+        Some(limit) if !comes_before(limit, id) => None,
+        _ => page,
+    }
+}
+
+// The earlier of two pages, if there are two.
+fn sooner(a: Option<PageId>, b: Option<PageId>) -> Option<PageId>
+    ensures { result ≡ sooner_of a b }
+{
+    match (a, b) {
+        (Some(first), Some(second)) => { if comes_before(second, first) { b } else { a } }
+        (None, _) => b,
+        (_, None) => a,
+    }
+}
+
+// Whether a page comes before another, by page set and number.
+fn comes_before(a: PageId, b: PageId) -> bool
+    ensures { result ≡ is_before a b }
+{
+    a.set < b.set || (a.set == b.set && a.number < b.number)
+}
