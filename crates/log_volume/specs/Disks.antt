@@ -1,5 +1,5 @@
 -- How a disk goes on when a log is read or changed, and what a change leaves of the log in memory.
-use Rattle.std.specs.Prelude.{◌≡◌, ◌⊎◌, ℕ, ◌+◌, ◌≤◌, Bool, true, false, List, ◌++◌, length, Option, Result, Ok, Err, OnOk, IfOk, IsErrOf}
+use Rattle.std.specs.Prelude.{◌≡◌, ◌⊎◌, ℕ, ◌+◌, ◌≤◌, Bool, true, false, List, ◌++◌, length, Option, Result, Err, OnOk, IfOk, IsErrOf}
 use Rattle.ds_base.specs.Causes.{Rose}
 use Rattle.ds_disk.specs.Contents.{Contents, log_of, with_log, Becomes, Same}
 use Rattle.ds_model.specs.declared.log.LogRecord.{LogRecord}

@@ -1,6 +1,6 @@
 use Rattle.std.proofs.Common.{◌≡◌, ℕ, ◌+◌, List, ◌++◌, length, sym, ap, subst, ◌∙◌, arith}
 use Rattle.std.specs.List.{AllByRecursion}
-use Rattle.ds_disk.specs.Contents.{Contents, Becomes, log_of}
+use Rattle.ds_disk.specs.Contents.{Becomes, log_of}
 use Rattle.ds_model.specs.declared.log.LogRecord.{LogRecord}
 use Rattle.ds_model.specs.RecordBytes.{log_bytes, IsAllowed}
 use Rattle.log_record.specs.declared.log.Log.{Log}

@@ -1,4 +1,4 @@
-use Rattle.std.proofs.Common.{◌≡◌, ℕ, List, length, take, sym, subst}
+use Rattle.std.proofs.Common.{ℕ, List, take, sym, subst}
 use Rattle.log_volume.specs.Reading.{IsLogOf}
 use Rattle.log_volume.specs.Disks.{after_cut}
 use Rattle.log_volume.proofs.Logs.{cut_log}

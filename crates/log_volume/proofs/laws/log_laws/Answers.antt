@@ -1,4 +1,3 @@
-use Rattle.std.proofs.Common.{◌≡◌, ℕ, List}
 use Rattle.log_volume.proofs.Meanings.{sound_log, parts_are, damaged_is, damage_is}
 use Rattle.log_volume.proofs.laws.log_laws.Goals as goal
 

@@ -1,6 +1,4 @@
-use Rattle.std.proofs.Common.{◌≡◌, ℕ, ◌+◌, ◌≤◌, List, [], ◌∷◌, ◌++◌, length, take, drop, arith, sym, ap, ◌∙◌}
-use Rattle.std.specs.List.{AllByRecursion}
-use Rattle.ds_model.specs.RecordBytes.{log_bytes, record_bytes, IsAllowed}
+use Rattle.std.proofs.Common.{arith}
 use Rattle.log_volume.proofs.Walks.{whole_at, damaged_at, further}
 use Rattle.log_volume.proofs.records.records_in.Goals as goal
 

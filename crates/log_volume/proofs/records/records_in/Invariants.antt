@@ -1,4 +1,4 @@
-use Rattle.std.proofs.Common.{◌≡◌, ℕ, ◌-◌, ◌≤◌, length, take}
+use Rattle.std.proofs.Common.{◌≡◌, ◌-◌, ◌≤◌, length, take}
 use Rattle.std.specs.List.{AllByRecursion}
 use Rattle.ds_model.specs.RecordBytes.{log_bytes, IsAllowed}
 use Rattle.log_volume.proofs.records.records_in.Given as goal
