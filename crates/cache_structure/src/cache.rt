@@ -215,4 +215,8 @@ impl CacheFace for Cache {
     fn rebuilt(&mut self) {
         self.lost = false;
     }
+
+    fn is_lost(&self) -> bool {
+        self.lost
+    }
 }

@@ -154,4 +154,8 @@ pub trait CacheFace {
     /// The structure is in use again.
     fn rebuilt(&mut self)
         ensures { directory self.new ≡ after_rebuilt (directory self.old) };
+
+    /// Whether it is lost and not rebuilt.
+    fn is_lost(&self) -> bool
+        ensures { result ≡ (directory self.now).lost };
 }

@@ -1,5 +1,5 @@
 -- No page is read or changed before the locks that its operation needs.
-use Rattle.std.proofs.Common.{◌≡◌, ℕ, zero, suc, refl, sym, ap, ◌∙◌, Bool, true, false, List, [], ◌∷◌, ◌++◌, drop, Option, Some, None, Result, Ok, Err, if◌then◌else◌}
+use Rattle.std.proofs.Common.{◌≡◌, ℕ, zero, suc, refl, ap, ◌∙◌, Bool, true, false, List, [], ◌∷◌, ◌++◌, drop, Option, Some, None, Result, Ok, Err, if◌then◌else◌}
 use Rattle.std.proofs.lemmas.List.Elements.{Contains-push, Contains-append_left}
 use Rattle.std.specs.Prelude.{nat_lt}
 use Rattle.ds_base.specs.declared.names.PageId.{PageId}
@@ -29,10 +29,10 @@ use Rattle.tran_core.specs.declared.stage.Undone.{Undone}
 use Rattle.tran_core.specs.declared.want.Met.{Met}
 use Rattle.tran_core.specs.declared.want.Met.TheVariants as met
 use Rattle.tran_core.specs.Wants.{Content, space_mode, row_mode, want_undo, heap_page, index_page}
-use Rattle.tran_core.specs.States.{State, want_at, want_of, advanced, next_op, at_step, search, scan_read, without_row, space_locked, changed, step_done, done_at, after_done, refused_at, newest}
+use Rattle.tran_core.specs.States.{State, want_at, want_of, advanced, next_op, at_step, search, scan_read, without_row, space_locked, changed, done_at, refused_at, newest}
 use Rattle.tran_core.specs.Looks.{between, next_leaf, search_outcome, halves_outcome, header_outcome, row_read}
-use Rattle.tran_core.specs.Pages.{leaf_on, scan_from, scan_on, collected, entry_met, change_row, row_met, slot_met, followed, read_met, step_met, page_met, after_met}
-use Rattle.tran_core.specs.Runs.{Locks, HasLock, HasSpace, HasRow, StepIsLocked, StageIsLocked, IsLocked, with_lock, locks_after, after_dones}
+use Rattle.tran_core.specs.Pages.{leaf_on, scan_from, collected, entry_met, row_met, slot_met, followed, read_met, page_met, after_met}
+use Rattle.tran_core.specs.Runs.{Locks, HasSpace, HasRow, StageIsLocked, IsLocked, with_lock, locks_after, after_dones}
 
 next_ok : (locks : Locks) (s : State) (ops : List Op) → IsLocked locks (advanced s ops)
 next_ok locks s [] = tt

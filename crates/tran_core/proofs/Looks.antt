@@ -1,11 +1,10 @@
 -- Pages whose header may stand: how many entries they have.
-use Rattle.std.proofs.Common.{◌≡◌, ℕ, suc, zero, ◌+◌, ◌<◌, ◌≤◌, refl, sym, ap, ◌∙◌, subst, arith, Bool, true, false, List, [], ◌∷◌, length, get_or, lit<, drop, Option, Some, None, Result, Ok, Err, if◌then◌else◌}
+use Rattle.std.proofs.Common.{◌≡◌, ℕ, suc, zero, ◌+◌, ◌<◌, ◌≤◌, refl, ap, ◌∙◌, arith, Bool, true, false, List, [], ◌∷◌, length, get_or, lit<, drop, Option, Some, None, Ok, if◌then◌else◌}
 use Rattle.std.specs.Prelude.{nat_lt, nat_le, slice_get}
 use Rattle.ds_base.specs.declared.names.PageId.{PageId}
 use Rattle.ds_base.specs.declared.names.Place.{Place}
 use Rattle.page_format.specs.Header.{header_of, header_in, fields, first_fault, judged, empty_header, most, is_zeros}
 use Rattle.page_format.specs.declared.header.Header.{Header}
-use Rattle.page_format.specs.declared.header.NotAPage.{NotAPage}
 use Rattle.index_leaf.specs.declared.layout.Entry.{Entry}
 use Rattle.index_leaf.specs.Entries.{count_of, entries_of, entries_from, AllAbove, IsRising}
 use Rattle.index_leaf.specs.Search.{pair_of}

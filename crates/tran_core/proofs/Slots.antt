@@ -1,8 +1,8 @@
 -- Rows of a sound slot, and the entries that a scan follows.
-use Rattle.std.proofs.Common.{◌≡◌, ℕ, suc, zero, ◌+◌, ◌<◌, ◌≤◌, refl, sym, ap, ◌∙◌, subst, arith, Bool, true, false, List, [], ◌∷◌, ◌++◌, length, length-take, take, drop, filter, get_or, lit<, All, Option, Some, None, Result, Ok, Err, if◌then◌else◌}
+use Rattle.std.proofs.Common.{◌≡◌, ℕ, suc, zero, ◌+◌, ◌≤◌, refl, sym, ap, ◌∙◌, subst, arith, Bool, true, false, List, [], ◌∷◌, ◌++◌, length-take, drop, filter, lit<, All, Option, Some, None, Ok, if◌then◌else◌}
 use Rattle.std.proofs.lemmas.List.{append-nil, append_assoc}
 use Rattle.std.proofs.lemmas.List.Elements.{All-nil, All-cons}
-use Rattle.std.specs.Prelude.{nat_le, ◌==◌, ◌&&◌, slice_get, slice_index, unwrap_or, is_some}
+use Rattle.std.specs.Prelude.{nat_le, ◌==◌, slice_get, slice_index, unwrap_or, is_some}
 use Rattle.std.specs.List.{list_all}
 use Rattle.ds_base.specs.Values.{IsValue, IsValueByte}
 use Rattle.ds_base.specs.declared.names.PageId.{PageId}
@@ -11,7 +11,6 @@ use Rattle.page_format.specs.Header.{header_of, header_in, fields, first_fault, 
 use Rattle.page_format.specs.Fields.{number_in}
 use Rattle.page_format.specs.declared.header.Header.{Header}
 use Rattle.page_format.specs.declared.header.PageKind.{PageKind}
-use Rattle.page_format.specs.declared.header.PageKind.TheVariants as kind
 use Rattle.heap_space.specs.Layout.{slot_at}
 use Rattle.heap_space.specs.Slots.{Content, fault_in, content, slot_in, value_in, is_value_byte, may_be_length}
 use Rattle.heap_space.specs.Slots as slots

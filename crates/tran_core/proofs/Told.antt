@@ -1,17 +1,13 @@
 -- What was read, and what is read yet, stays the same from step to step.
-use Rattle.std.proofs.Common.{◌≡◌, ℕ, zero, suc, refl, sym, ap, ◌∙◌, Bool, true, false, List, [], ◌∷◌, ◌++◌, drop, Option, Some, None, Result, Ok, Err, if◌then◌else◌}
-use Rattle.std.proofs.lemmas.List.{append-nil}
+use Rattle.std.proofs.Common.{◌≡◌, ℕ, refl, sym, ap, ◌∙◌, Bool, true, false, List, [], ◌∷◌, ◌++◌, Option, Some, None, Result, Ok, Err, if◌then◌else◌}
 use Rattle.std.specs.Prelude.{map}
 use Rattle.std.specs.Prelude.{nat_lt}
 use Rattle.ds_base.specs.declared.names.PageId.{PageId}
 use Rattle.ds_base.specs.declared.names.Place.{Place}
-use Rattle.ds_model.specs.declared.lock.Name.{Name}
-use Rattle.ds_model.specs.declared.lock.Name.TheVariants as name
 use Rattle.ds_model.specs.declared.script.Op.{Op}
 use Rattle.ds_model.specs.declared.script.Op.TheVariants as op
 use Rattle.ds_model.specs.declared.fate.Answer.{Answer}
 use Rattle.ds_model.specs.declared.fate.Answer.TheVariants as answer
-use Rattle.lock_names.specs.declared.mode.Mode.{Mode}
 use Rattle.index_leaf.specs.declared.layout.Entry.{Entry}
 use Rattle.tran_core.specs.declared.stage.Aim.{Aim}
 use Rattle.tran_core.specs.declared.stage.Aim.TheVariants as aim
@@ -21,31 +17,16 @@ use Rattle.tran_core.specs.declared.stage.Reading.{Reading}
 use Rattle.tran_core.specs.declared.stage.Reading.TheVariants as reading
 use Rattle.tran_core.specs.declared.stage.Update.{Update}
 use Rattle.tran_core.specs.declared.stage.Update.TheVariants as update
-use Rattle.tran_core.specs.declared.stage.Step.{Step}
 use Rattle.tran_core.specs.declared.stage.Step.TheVariants as step
 use Rattle.tran_core.specs.declared.stage.Stage.{Stage}
 use Rattle.tran_core.specs.declared.stage.Stage.TheVariants as stage
 use Rattle.tran_core.specs.declared.outcome.Outcome.{Outcome}
 use Rattle.tran_core.specs.declared.outcome.Outcome.TheVariants as outcome
-use Rattle.tran_core.specs.declared.stage.Undone.{Undone}
-use Rattle.tran_core.specs.declared.want.Met.{Met}
-use Rattle.tran_core.specs.declared.want.Met.TheVariants as met
-use Rattle.tran_core.specs.Wants.{Content, space_mode, row_mode, want_undo, heap_page, index_page}
-use Rattle.tran_core.specs.States.{State, opened, want_at, want_of, advanced, next_op, at_step, search, scan_read, without_row, space_locked, changed, step_done, done_at, after_done, refused_at, newest}
+use Rattle.tran_core.specs.Wants.{Content, heap_page, index_page}
+use Rattle.tran_core.specs.States.{State, opened, advanced, next_op, search, scan_read, without_row, space_locked, changed, done_at, after_done}
 use Rattle.tran_core.specs.Looks.{between, next_leaf, search_outcome, halves_outcome, header_outcome, row_read}
-use Rattle.tran_core.specs.Pages.{leaf_on, scan_from, scan_on, collected, entry_met, change_row, row_met, slot_met, followed, read_met, step_met, page_met, after_page, after_met}
-use Rattle.page_format.specs.Header.{header_of}
-use Rattle.page_format.specs.declared.header.Header.{Header}
-use Rattle.page_format.specs.declared.header.NotAPage.{NotAPage}
-use Rattle.index_leaf.specs.Entries.{count_of, high_of, right_of}
-use Rattle.index_leaf.specs.Search.{look_of}
-use Rattle.index_leaf.specs.declared.step.Look.{Look}
-use Rattle.index_leaf.specs.declared.step.Look.TheVariants as look
-use Rattle.tran_core.specs.declared.stage.Level.{Level}
-use Rattle.tran_core.specs.declared.stage.Level.TheVariants as level
-use Rattle.tran_core.specs.Looks.{no_index, found, absent_in, absent, looked, unless, searched, is_root, is_empty, is_leaf, index_fault, kind_fault, entered, halved, headed}
-use Rattle.std.specs.Prelude.{◌&&◌, ◌==◌}
-use Rattle.tran_core.specs.Runs.{Kind, One, Many, kind_of, asked, all_asked, asked_by, asked_at, course_of_reads, asked_by_update, asked_by_change, asked_with_change, IsFitting}
+use Rattle.tran_core.specs.Pages.{leaf_on, scan_from, collected, entry_met, row_met, slot_met, followed, read_met, page_met, after_page}
+use Rattle.tran_core.specs.Runs.{Kind, kind_of, all_asked, asked_by, asked_at, course_of_reads, asked_by_update, asked_with_change, IsFitting}
 
 -- what was read before, and what these operations read
 abbrev with_ops : State → List Op → List Kind

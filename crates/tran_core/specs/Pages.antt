@@ -1,5 +1,5 @@
 -- How a transaction goes on when it has met a page, and every other answer.
-use Rattle.std.specs.Prelude.{ℕ, Bool, true, false, List, [], ◌∷◌, ◌++◌, Option, None, Some, Result, Ok, Err}
+use Rattle.std.specs.Prelude.{ℕ, Bool, false, List, [], ◌∷◌, ◌++◌, Option, None, Some, Result, Ok, Err}
 use Rattle.ds_base.specs.declared.names.PageId.{PageId}
 use Rattle.ds_base.specs.declared.names.Place.{Place}
 use Rattle.ds_base.specs.declared.names.Volume.TheVariants as volume
@@ -19,7 +19,7 @@ use Rattle.tran_core.specs.declared.stage.Stage.TheVariants as stage
 use Rattle.tran_core.specs.declared.outcome.Outcome.{Outcome}
 use Rattle.tran_core.specs.declared.outcome.Outcome.TheVariants as outcome
 use Rattle.tran_core.specs.Wants.{Content, heap_page, index_page}
-use Rattle.tran_core.specs.States.{State, after_done, after_refusal, at_step, next_op, get_read, scan_read, without_row}
+use Rattle.tran_core.specs.States.{State, after_done, after_refusal, at_step, next_op, get_read, without_row}
 use Rattle.tran_core.specs.declared.want.Met.{Met}
 use Rattle.tran_core.specs.declared.want.Met.TheVariants as met
 use Rattle.tran_core.specs.Stages.{locks_space, reads_page}

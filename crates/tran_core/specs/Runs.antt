@@ -1,6 +1,5 @@
 -- What holds of a transaction at each of its steps: the locks that it has, what it has read, and what it undoes.
 use Rattle.std.specs.Prelude.{◌≡◌, ℕ, zero, suc, List, [], ◌∷◌, ◌++◌, map, Contains}
-use Rattle.std.specs.List.{flat_map}
 use Rattle.ds_model.specs.declared.lock.Name.{Name}
 use Rattle.ds_model.specs.declared.lock.Name.TheVariants as name
 use Rattle.ds_model.specs.declared.script.Op.{Op}

@@ -1,5 +1,5 @@
 -- A transaction in hand, and what it goes on with.
-use Rattle.std.specs.Prelude.{◌≡◌, ℕ, ◌+◌, ◌<◌, ◌==◌, nat_lt, Bool, true, false, if◌then◌else◌, List, [], ◌∷◌, ◌++◌, length, drop, Option, None, Some}
+use Rattle.std.specs.Prelude.{ℕ, nat_lt, Bool, false, if◌then◌else◌, List, [], ◌∷◌, ◌++◌, drop, Option, None, Some}
 use Rattle.ds_base.specs.declared.names.Volume.{Volume}
 use Rattle.ds_base.specs.declared.row.Row.{Row}
 use Rattle.ds_model.specs.declared.script.Op.{Op}
@@ -108,12 +108,6 @@ abbrev pub search : State → Task → State
 search s task = at_step s task (step.Read (root task.key))
 
 -- ---- wants that are met
-
-abbrev pub is_empty_scan : Task → Aim → Bool
-is_empty_scan task aim.Get = false
-is_empty_scan task (aim.Put value) = false
-is_empty_scan task aim.Del = false
-is_empty_scan task (aim.Scan high) = nat_lt high task.key
 
 -- behind the table space comes the row, but a scan locks no rows
 abbrev pub space_locked : State → Task → Aim → State

@@ -1,5 +1,5 @@
 -- What a transaction wants next.
-use Rattle.std.specs.Prelude.{ℕ, ◌*◌, ◌-◌, List, [], ◌∷◌, Option, None, Some, option_copied}
+use Rattle.std.specs.Prelude.{ℕ, ◌*◌, ◌-◌, List, Option, None, Some, option_copied}
 use Rattle.ds_base.specs.declared.names.PageId.{PageId}
 use Rattle.ds_base.specs.declared.names.Place.{Place}
 use Rattle.ds_model.specs.declared.lock.Name.{Name}
@@ -15,8 +15,6 @@ use Rattle.tran_core.specs.declared.stage.Update.{Update}
 use Rattle.tran_core.specs.declared.stage.Update.TheVariants as update
 use Rattle.tran_core.specs.declared.stage.Step.{Step}
 use Rattle.tran_core.specs.declared.stage.Step.TheVariants as step
-use Rattle.tran_core.specs.declared.stage.Stage.{Stage}
-use Rattle.tran_core.specs.declared.stage.Stage.TheVariants as stage
 use Rattle.tran_core.specs.declared.stage.Undone.{Undone}
 use Rattle.tran_core.specs.declared.want.Want.{Want}
 use Rattle.tran_core.specs.declared.want.Want.TheVariants as want

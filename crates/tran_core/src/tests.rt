@@ -63,23 +63,40 @@ impl Pages {
         bytes[75] = 1;
     }
 
-    fn change(&mut self, alloc: Global, action: Action) -> Result<(), Fail> {
+    // Sets the row of the first slot.
+    fn set_row(&mut self, image: &[u8; 128]) {
+        let bytes = self.rows.bytes_mut();
+        bytes[32..160].copy_from_slice(image);
+    }
+
+    fn change(&mut self, alloc: Global, action: &Action) -> Result<(), Fail> {
         match action {
-            Action::FormatIndex { table } => self.write(&format_index(alloc, table)?),
-            Action::FormatHeap { table } => self.write(&format_heap(alloc, table)?),
+            Action::FormatIndex { table } => self.write(&format_index(alloc, *table)?),
+            Action::FormatHeap { table } => self.write(&format_heap(alloc, *table)?),
             Action::GiveSlot { table, key, .. } => {
                 let place = Place { page: 1, slot: 0 };
-                self.write(&give(alloc, table, place, key)?);
+                self.write(&give(alloc, *table, place, *key)?);
                 self.enter();
             }
-            Action::RowChange { key, after, .. } => {
-                let image = slot_image(key, after);
-                let bytes = self.rows.bytes_mut();
-                bytes[32..160].copy_from_slice(&image);
-            }
+            Action::RowChange { key, after, .. } => self.set_row(&slot_image(*key, *after)),
             Action::Split { .. } | Action::BranchEntry { .. } => {}
         }
         Ok(())
+    }
+
+    // Makes the change that is wanted. Answers the want's letter, and the page that it names.
+    fn serve(&mut self, alloc: Global, agent: &Agent) -> Result<(u8, Option<PageId>), Fail> {
+        let want: Want = agent.want();
+        let told = letter(&want);
+        match &want {
+            Want::ReadPage { id } => Ok((told, Some(*id))),
+            Want::Change { action } => {
+                let action: &Action = action;
+                self.change(alloc, action)?;
+                Ok((told, None))
+            }
+            _ => Ok((told, None)),
+        }
     }
 }
 
@@ -103,15 +120,7 @@ fn letter(want: &Want) -> u8 {
 
 // Meets one want.
 fn meet(alloc: Global, agent: &mut Agent, pages: &mut Pages) -> Result<u8, Fail> {
-    let want = agent.want();
-    let told = letter(&want);
-    if let Want::Change { action } = want {
-        pages.change(alloc, action)?;
-    }
-    let read = match want {
-        Want::ReadPage { id } => Some(id),
-        _ => None,
-    };
+    let (told, read) = pages.serve(alloc, agent)?;
     match read {
         Some(id) => agent.met(alloc, &Met::Page(pages.page(id)))?,
         None => agent.met(alloc, &Met::Done)?,

@@ -1,4 +1,3 @@
-use Rattle.ds_model.specs.declared.script.Op.{Op}
 use Rattle.tran_core.proofs.Told.{keeps_page, keeps_done, opened_told}
 use Rattle.tran_core.proofs.Fitting.{keeps}
 use Rattle.tran_core.proofs.laws.read_laws.Goals as goal
