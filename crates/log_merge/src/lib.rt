@@ -13,3 +13,5 @@ mod pairs;
 pub use laws::merging_laws;
 pub use merged::{Merged, merge};
 
+#[cfg(test)]
+mod tests;
