@@ -15,3 +15,6 @@ mod lock_commands;
 
 pub use command::{Command, Indexes, Reply};
 pub use facility::Facility;
+
+#[cfg(test)]
+mod tests;
