@@ -1,13 +1,13 @@
 -- The entries of pages after an insertion and after a split.
-use Rattle.std.proofs.Common.{◌≡◌, ℕ, zero, suc, ◌+◌, ◌-◌, ◌*◌, ◌^◌, ◌<◌, ◌≤◌, refl, sym, ap, ◌∙◌, subst, inl, inr, arith, if◌then◌else◌, Bool, true, false, List, [], ◌∷◌, ◌++◌, length, get_or, take, drop}
+use Rattle.std.proofs.Common.{◌≡◌, ℕ, suc, ◌+◌, ◌-◌, ◌*◌, ◌^◌, ◌<◌, ◌≤◌, refl, sym, ap, ◌∙◌, subst, inl, inr, arith, if◌then◌else◌, Bool, true, false, List, [], ◌∷◌, ◌++◌, length, get_or, take, drop}
 use Rattle.std.specs.Prelude.{leb, ◌==◌, slice_range, Result, Ok, Err, IfOk}
 use Rattle.std.proofs.lemmas.List.{take_at, drop_at, get_or-append_right, length-append}
 use Rattle.std.proofs.lemmas.List.Edits.{length-between, get_or-between}
 use Rattle.page_format.specs.Fields.{patched}
 use Rattle.index_leaf.specs.declared.layout.Entry.{Entry}
-use Rattle.index_leaf.specs.Entries.{first_entry_at, entry_width, count_of, entry_in, entries_from, entries_of}
+use Rattle.index_leaf.specs.Entries.{entry_width, count_of, entry_in, entries_from, entries_of}
 use Rattle.index_leaf.specs.Search.{how_many}
-use Rattle.index_leaf.specs.Changes.{spelt, entry_bytes, entry_offset, entered, moved_patch, insert_patches, all_patched, id_of, inserted, Enters}
+use Rattle.index_leaf.specs.Changes.{spelt, entry_bytes, entered, moved_patch, insert_patches, all_patched, inserted, Enters}
 use Rattle.index_leaf.specs.declared.growth.Inserted.{Inserted}
 use Rattle.index_leaf.specs.declared.growth.Inserted.TheVariants.{MustSplit, Done}
 use Rattle.std.proofs.lemmas.Bool.{eqb-false, cases_eq}
@@ -102,7 +102,7 @@ entered_entries page e p m many count =
     ∙ ap (λ (front : List Entry). F front (drop p (entries_from page 64 (p + m)))) (take_entries page 64 p m)
     ∙ ap (λ (back : List Entry). F (entries_from page 64 p) back) (drop_entries page 64 p m)
 
-enters : (page : List ℕ) (e : Entry) (p m : ℕ) → length page ≡ 4096 → p ≡ how_many (entries_of page) e.key → count_of page ≡ p + m → p + m < 252
+pub enters : (page : List ℕ) (e : Entry) (p m : ℕ) → length page ≡ 4096 → p ≡ how_many (entries_of page) e.key → count_of page ≡ p + m → p + m < 252
     → e.key < 256 ^ 8 → e.place.page < 256 ^ 4 → e.place.slot < 256 ^ 2
     → entries_of (all_patched page (insert_patches page e)) ≡ entered (entries_of page) e
 unfolding moved_patch

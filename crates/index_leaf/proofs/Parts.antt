@@ -1,6 +1,6 @@
 -- What is read of the two pages after a split.
-use Rattle.std.proofs.Common.{◌≡◌, ℕ, zero, suc, ◌+◌, ◌-◌, ◌*◌, ◌^◌, ◌<◌, ◌≤◌, refl, sym, ap, ◌∙◌, subst, arith, List, [], ◌∷◌, ◌++◌, length, get_or, take, drop, append_assoc, Option, Some, None, if◌then◌else◌}
-use Rattle.std.specs.Prelude.{◌==◌, slice_index, slice_range, replicate, Result, Ok, Err, IfOk}
+use Rattle.std.proofs.Common.{◌≡◌, ℕ, ◌+◌, ◌-◌, ◌*◌, ◌^◌, ◌<◌, ◌≤◌, refl, sym, ap, ◌∙◌, subst, arith, List, [], ◌∷◌, ◌++◌, length, get_or, take, drop, append_assoc, Some, None, if◌then◌else◌}
+use Rattle.std.specs.Prelude.{◌==◌, slice_index, slice_range, Result, Ok, Err, IfOk}
 use Rattle.std.proofs.lemmas.List.{append-nil, get_or_append_left, get_or-append_right, length-append, length-replicate}
 use Rattle.std.proofs.lemmas.List.Edits.{length-between, get_or-between}
 use Rattle.page_format.specs.Fields.{number_in, patched}
@@ -24,7 +24,7 @@ length_link high number =
     let r = length_spelt 4 number in
     simp length-append (omega (arith, k, r))
 
-length_zeros : (n : ℕ) → length (zeros n) ≡ n
+pub length_zeros : (n : ℕ) → length (zeros n) ≡ n
 unfolding zeros
 length_zeros n = length-replicate n 0
 
@@ -134,8 +134,29 @@ left_low left h high number is l =
     ∙ number_before one (link_bytes high number) 40 32 8 (omega arith) (omega arith)
     ∙ number_behind left (spelt 2 h) 26 32 8 (omega arith) (omega (arith, c))
 
-left_is : (left : List ℕ) (number : ℕ) → length left ≡ 4096 → count_of left ≡ 252 → low_of_split left < 256 ^ 8 → number < 256 ^ 4 → IsLeftOf left (left_after left 126 (low_of_split left) number) (low_of_split left) number
+left_whole : (left : List ℕ) (h high number : ℕ) → h ≡ 126 → length left ≡ 4096 → length (left_after left h high number) ≡ 4096
+left_whole left h high number is l =
+    let ls = left_lengths left h high number l in
+    let two = patched (patched left 26 (spelt 2 h)) 40 (link_bytes high number) in
+    let l2 : length two ≡ 4096 = ls.1 in
+    let z = length_zeros (16 * h) in
+    length_patched two (zeros (16 * h)) (64 + 16 * h) (omega (arith, l2, z)) ∙ l2
+
+left_kind : (left : List ℕ) (h high number : ℕ) → h ≡ 126 → length left ≡ 4096 → slice_index (left_after left h high number) 4 ≡ slice_index left 4
+left_kind left h high number is l =
+    let ls = left_lengths left h high number l in
+    let one = patched left 26 (spelt 2 h) in
+    let two = patched one 40 (link_bytes high number) in
+    let l1 : length one ≡ 4096 = ls.0 in
+    let l2 : length two ≡ 4096 = ls.1 in
+    byte_before two (zeros (16 * h)) (64 + 16 * h) 4 (omega arith) (omega arith)
+    ∙ byte_before one (link_bytes high number) 40 4 (omega arith) (omega arith)
+    ∙ byte_before left (spelt 2 h) 26 4 (omega arith) (omega arith)
+
+pub left_is : (left : List ℕ) (number : ℕ) → length left ≡ 4096 → count_of left ≡ 252 → low_of_split left < 256 ^ 8 → number < 256 ^ 4 → IsLeftOf left (left_after left 126 (low_of_split left) number) (low_of_split left) number
 left_is left number l full low lt = record {
+  whole = left_whole left 126 (low_of_split left) number refl l;
+  kind = left_kind left 126 (low_of_split left) number refl l;
   entries = left_entries left 126 (low_of_split left) number refl l full;
   low_key = left_low left 126 (low_of_split left) number refl l;
   high_key = left_high left 126 (low_of_split left) number refl l low;
@@ -155,7 +176,7 @@ left_if left number (Err x) l full low lt patches is = tt
 abbrev pub right_after : List ℕ → List ℕ → List ℕ → ℕ → List ℕ
 right_after left fresh front h = patched (patched (patched (patched fresh 0 front) 26 (spelt 2 h)) 32 (fields_bytes left)) 64 (half_bytes left)
 
-length_fields : (left : List ℕ) → length left ≡ 4096 → length (fields_bytes left) ≡ 24
+pub length_fields : (left : List ℕ) → length left ≡ 4096 → length (fields_bytes left) ≡ 24
 unfolding fields_bytes
 length_fields left l =
     let k = length_spelt 8 (low_of_split left) in
@@ -163,7 +184,7 @@ length_fields left l =
     let a = length-append (spelt 8 (low_of_split left)) (slice_range left 40 56) in
     omega (arith, k, r, a)
 
-length_half : (left : List ℕ) → length left ≡ 4096 → length (half_bytes left) ≡ 2016
+pub length_half : (left : List ℕ) → length left ≡ 4096 → length (half_bytes left) ≡ 2016
 unfolding half_bytes
 length_half left l = let r = length-between left 2080 4096 (omega arith) in omega (arith, r)
 
@@ -264,20 +285,50 @@ right_high left fresh front h l f le =
     ap (λ (b : ℕ). if b == 1 then Some (high_field (right_after left fresh front h)) else None) (right_byte left fresh front h 8 l f le (omega arith))
     ∙ ap (λ (n : ℕ). if slice_index left 48 == 1 then Some n else None) (right_high_field left fresh front h l f le)
 
-length_front : (kind : ℕ) (id : PageId) → length (front_of kind id) ≡ 12
+pub length_front : (kind : ℕ) (id : PageId) → length (front_of kind id) ≡ 12
 unfolding front_of
 length_front kind id =
     let s = length_spelt 2 id.set in
     let n = length_spelt 4 id.number in
     simp length-append (omega (arith, s, n))
 
-right_is : (left fresh front : List ℕ) → length left ≡ 4096 → length fresh ≡ 4096 → length front ≤ 12 → count_of left ≡ 252 → low_of_split left < 256 ^ 8 → IsRightOf left (right_after left fresh front 126) (low_of_split left)
-right_is left fresh front l f le full low = record {
-  entries = right_entries left fresh front 126 refl l f le full;
-  low_key = right_low left fresh front 126 l f le low;
-  high_key = right_high left fresh front 126 l f le;
-  right_page = right_right left fresh front 126 l f le;
-}
+right_whole : (left fresh front : List ℕ) (h : ℕ) → length left ≡ 4096 → length fresh ≡ 4096 → length front ≤ 12 → length (right_after left fresh front h) ≡ 4096
+right_whole left fresh front h l f le =
+    let ls = right_lengths left fresh front h l f le in
+    let three = patched (patched (patched fresh 0 front) 26 (spelt 2 h)) 32 (fields_bytes left) in
+    let l3 : length three ≡ 4096 = ls.three in
+    let k = length_half left l in
+    length_patched three (half_bytes left) 64 (omega (arith, l3, k)) ∙ l3
+
+right_kind : (left fresh front : List ℕ) (h : ℕ) → length left ≡ 4096 → length fresh ≡ 4096 → length front ≡ 12 → slice_index (right_after left fresh front h) 4 ≡ slice_index front 4
+right_kind left fresh front h l f is =
+    let ls = right_lengths left fresh front h l f (omega arith) in
+    let one = patched fresh 0 front in
+    let two = patched one 26 (spelt 2 h) in
+    let three = patched two 32 (fields_bytes left) in
+    let l1 : length one ≡ 4096 = ls.one in
+    let l2 : length two ≡ 4096 = ls.two in
+    let l3 : length three ≡ 4096 = ls.three in
+    byte_before three (half_bytes left) 64 4 (omega arith) (omega arith)
+    ∙ byte_before two (fields_bytes left) 32 4 (omega arith) (omega arith)
+    ∙ byte_before one (spelt 2 h) 26 4 (omega arith) (omega arith)
+    ∙ byte_inside fresh front 0 4 (omega arith) (omega arith)
+
+pub front_kind : (kind : ℕ) (id : PageId) → slice_index (front_of kind id) 4 ≡ kind
+unfolding front_of
+front_kind kind id = refl
+
+pub right_is : (left fresh front : List ℕ) → length left ≡ 4096 → length fresh ≡ 4096 → length front ≡ 12 → slice_index front 4 ≡ slice_index left 4 → count_of left ≡ 252 → low_of_split left < 256 ^ 8 → IsRightOf left (right_after left fresh front 126) (low_of_split left)
+right_is left fresh front l f is kind full low =
+    let le : length front ≤ 12 = omega arith in
+    record {
+      whole = right_whole left fresh front 126 l f le;
+      kind = right_kind left fresh front 126 l f is ∙ kind;
+      entries = right_entries left fresh front 126 refl l f le full;
+      low_key = right_low left fresh front 126 l f le low;
+      high_key = right_high left fresh front 126 l f le;
+      right_page = right_right left fresh front 126 l f le;
+    }
 
 pub right_if : {E : Type 0} (left : List ℕ) (number : ℕ) (r : Result Split E) → length left ≡ 4096 → count_of left ≡ 252 → low_of_split left < 256 ^ 8
     → IfOk r (λ s. s.right ≡ right_patches left number) → IfOk r (λ s. s.low ≡ low_of_split left)
@@ -285,5 +336,5 @@ pub right_if : {E : Type 0} (left : List ℕ) (number : ℕ) (r : Result Split E
 right_if left number (Ok s) l full low patches is = λ fresh f.
     let front = length_front (slice_index left 4) (right_id left number) in
     subst (λ (ps : List Patch). IsRightOf left (all_patched fresh ps) s.low) (sym patches)
-    (subst (λ (n : ℕ). IsRightOf left (all_patched fresh (right_patches left number)) n) (sym is) (right_is left fresh (front_of (slice_index left 4) (right_id left number)) l f (omega (arith, front)) full low))
+    (subst (λ (n : ℕ). IsRightOf left (all_patched fresh (right_patches left number)) n) (sym is) (right_is left fresh (front_of (slice_index left 4) (right_id left number)) l f front (front_kind (slice_index left 4) (right_id left number)) full low))
 right_if left number (Err x) l full low patches is = tt

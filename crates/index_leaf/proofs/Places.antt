@@ -1,10 +1,10 @@
 -- The entries of a page by their places, and how a search by halves finds them.
 use Rattle.std.proofs.Common.{◌≡◌, ℕ, zero, suc, ◌+◌, ◌-◌, ◌*◌, ◌<◌, ◌≤◌, refl, sym, ap, ◌∙◌, subst, inl, inr, arith, Bool, true, false, List, [], ◌∷◌, length, get_or, Option, Some, None, if◌then◌else◌}
-use Rattle.std.proofs.lemmas.Bool.{leb-true, leb-false, cases_lt}
+use Rattle.std.proofs.lemmas.Bool.{leb-false, cases_lt}
 use Rattle.std.specs.Prelude.{leb, ◌==◌, slice_get}
 use Rattle.index_leaf.specs.declared.layout.Entry.{Entry}
 use Rattle.index_leaf.specs.Entries.{entry_width, entry_in, entries_from, AllAbove, IsRising}
-use Rattle.index_leaf.specs.Search.{or_else, floor, find, how_many}
+use Rattle.index_leaf.specs.Search.{floor, find, how_many}
 
 -- ---- entries by their places
 
@@ -33,7 +33,7 @@ entry_past page offset (suc n) (suc i) h = entry_past page (offset + entry_width
 
 -- ---- searches
 
-above_at : (es : List Entry) (b i : ℕ) (d : Entry) → AllAbove b es → i < length es → b < (get_or es i d).key
+pub above_at : (es : List Entry) (b i : ℕ) (d : Entry) → AllAbove b es → i < length es → b < (get_or es i d).key
 above_at [] b i d h lt = absurd (omega arith)
 above_at (e ∷ es) b zero d h lt = h.0
 above_at (e ∷ es) b (suc i) d h lt = above_at es b i d h.1 (omega arith)
@@ -55,7 +55,7 @@ many_upto (e ∷ es) key (suc i) d s h le =
     let a = above_at es e.key i d s.0 (omega arith) in
     grind (arith, ih, a)
 
-floor_above : (es : List Entry) (b key : ℕ) → AllAbove b es → key ≤ b → floor es key ≡ None
+pub floor_above : (es : List Entry) (b key : ℕ) → AllAbove b es → key ≤ b → floor es key ≡ None
 floor_above [] b key h le = refl
 floor_above (e ∷ es) b key h le =
     let ih = floor_above es b key h.1 le in
@@ -79,14 +79,14 @@ pub floor_is : (es : List Entry) (key : ℕ) (d : Entry) → IsRising es → flo
 floor_is [] key d s = refl
 floor_is (e ∷ es) key d s = floor_step e es key (how_many es key) (leb e.key key) d refl s.0 refl (floor_is es key d s.1)
 
-floor_some_above : (es : List Entry) (b key : ℕ) (x : Entry) → AllAbove b es → floor es key ≡ Some x → b < key
+pub floor_some_above : (es : List Entry) (b key : ℕ) (x : Entry) → AllAbove b es → floor es key ≡ Some x → b < key
 floor_some_above es b key x h is =
     elim (cases_lt b key) as (λ _. b < key) [
       | inl lt ↦ lt
       | inr le ↦ let none = floor_above es b key h le in absurd (cc)
     ]
 
-find_above : (es : List Entry) (b key : ℕ) → AllAbove b es → key ≤ b → find es key ≡ None
+pub find_above : (es : List Entry) (b key : ℕ) → AllAbove b es → key ≤ b → find es key ≡ None
 find_above [] b key h le = refl
 find_above (e ∷ es) b key h le =
     let ih = find_above es b key h.1 le in
@@ -149,7 +149,7 @@ floor_some page offset n key (suc m) s is lt =
 
 -- ---- whether the keys rise
 
-above_more : (es : List Entry) (a b : ℕ) → a < b → AllAbove b es → AllAbove a es
+pub above_more : (es : List Entry) (a b : ℕ) → a < b → AllAbove b es → AllAbove a es
 above_more [] a b lt h = tt
 above_more (e ∷ es) a b lt h = let here = h.0 in (omega arith, above_more es a b lt h.1)
 

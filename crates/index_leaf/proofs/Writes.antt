@@ -1,9 +1,8 @@
 -- What is read of a page after patches.
 use Rattle.std.proofs.Common.{◌≡◌, ℕ, zero, suc, ◌+◌, ◌-◌, ◌*◌, ◌^◌, ◌<◌, ◌≤◌, refl, sym, ap, ◌∙◌, arith, List, [], ◌∷◌, ◌++◌, length, get_or, take, drop, append_assoc}
 use Rattle.std.proofs.lemmas.List.{append-nil, drop_at, get_or_append_left, get_or-append_right, get_or-take, get_or-drop, length-append, length-take-le, length-drop}
-use Rattle.byteorder.specs.Endian.{big_from, big_bytes, big_number}
+use Rattle.byteorder.specs.Endian.{big_from, big_number}
 use Rattle.byteorder.specs.Numbers.{big_number-reads_back, length-bytes_high_first}
-use Rattle.ds_base.specs.declared.names.Place.{Place}
 use Rattle.page_format.specs.Fields.{number_in, patched}
 use Rattle.index_leaf.specs.declared.layout.Entry.{Entry}
 use Rattle.index_leaf.specs.Entries.{entry_width, count_of, entry_in, entries_from}

@@ -1,7 +1,6 @@
 -- What changes of the index write.
-use Rattle.std.specs.Prelude.{◌≡◌, ℕ, ◌+◌, ◌*◌, leb, ◌==◌, if◌then◌else◌, List, [], ◌∷◌, ◌++◌, take, drop, replicate, Some, slice_range, slice_index}
+use Rattle.std.specs.Prelude.{◌≡◌, ℕ, ◌+◌, ◌*◌, leb, ◌==◌, if◌then◌else◌, List, [], ◌∷◌, ◌++◌, take, drop, length, replicate, Some, slice_range, slice_index}
 use Rattle.ds_base.specs.declared.names.PageId.{PageId}
-use Rattle.ds_base.specs.declared.names.Place.{Place}
 use Rattle.byteorder.specs.Endian.{big_bytes}
 use Rattle.page_format.specs.Fields.{page_size, kind_at, set_at, number_at, count_at, number_in, patched}
 use Rattle.page_format.specs.Header.{mark, entries_per_page}
@@ -163,6 +162,8 @@ right_patches left right_number =
 
 -- the left page keeps the first half of its entries, and leads from the low key of the right page on to that page
 pub record IsLeftOf (left new : List ℕ) (low number : ℕ) : Type 0 where
+  pub whole : length new ≡ page_size
+  pub kind : slice_index new kind_at ≡ slice_index left kind_at
   pub entries : entries_of new ≡ take half (entries_of left)
   pub low_key : low_of new ≡ low_of left
   pub high_key : high_of new ≡ Some low
@@ -170,6 +171,8 @@ pub record IsLeftOf (left new : List ℕ) (low number : ℕ) : Type 0 where
 
 -- the right page has the second half of the entries, and the high key and right number that the left one had
 pub record IsRightOf (left new : List ℕ) (low : ℕ) : Type 0 where
+  pub whole : length new ≡ page_size
+  pub kind : slice_index new kind_at ≡ slice_index left kind_at
   pub entries : entries_of new ≡ drop half (entries_of left)
   pub low_key : low_of new ≡ low
   pub high_key : high_of new ≡ high_of left

@@ -1,3 +1,4 @@
 pub mod Entries
 pub mod Search
 pub mod Changes
+pub mod Nodes

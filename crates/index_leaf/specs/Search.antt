@@ -1,5 +1,5 @@
 -- One step of a search through the index.
-use Rattle.std.specs.Prelude.{ℕ, suc, leb, ◌==◌, Bool, false, if◌then◌else◌, List, [], ◌∷◌, slice_index, slice_get, Option, Some, None}
+use Rattle.std.specs.Prelude.{ℕ, suc, leb, ◌==◌, ◌≤◌, Bool, false, if◌then◌else◌, List, [], ◌∷◌, slice_index, Contains, Option, Some, None}
 use Rattle.ds_base.specs.declared.names.Place.{Place}
 use Rattle.page_format.specs.Fields.{kind_at}
 use Rattle.index_leaf.specs.declared.layout.Entry.{Entry}
@@ -54,3 +54,9 @@ pair_of (Some e) = Some (e.key, e.place)
 abbrev pub how_many : List Entry → ℕ → ℕ
 how_many [] key = 0
 how_many (e ∷ es) key = if leb e.key key then suc (how_many es key) else 0
+
+-- among the entries whose keys are not above this one it has the greatest
+pub record IsFloor (es : List Entry) (key : ℕ) (e : Entry) : Type 0 where
+  pub among : Contains es e
+  pub upto : e.key ≤ key
+  pub greatest : (other : Entry) → Contains es other → other.key ≤ key → other.key ≤ e.key

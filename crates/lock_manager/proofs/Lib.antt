@@ -1,3 +1,6 @@
 mod Scans
 mod Rooms
+mod Places
+mod Distinct
+mod Tallies
 mod Releases

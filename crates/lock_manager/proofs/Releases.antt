@@ -1,5 +1,5 @@
 -- Claims that are given up one by one.
-use Rattle.std.proofs.Common.{◌≡◌, ℕ, ◌+◌, ◌-◌, ◌<◌, ◌≤◌, true, false, List, [], ◌∷◌, length, set, get_or, refl, sym, ◌∙◌, ap, arith, if◌then◌else◌, ◌==◌}
+use Rattle.std.proofs.Common.{◌≡◌, ℕ, zero, suc, drop, ◌+◌, ◌-◌, ◌<◌, ◌≤◌, Bool, true, false, List, [], ◌∷◌, length, set, get_or, refl, sym, subst, ◌∙◌, ap, arith, if◌then◌else◌, ◌==◌}
 use Rattle.std.specs.Prelude.{Option, Some, None, is_some}
 use Rattle.std.proofs.lemmas.List.{get_or-set_same, set-set}
 use Rattle.ds_model.specs.declared.lock.Name.{Name}
@@ -7,6 +7,9 @@ use Rattle.lock_names.specs.declared.mode.Interest.{Interest}
 use Rattle.lock_names.specs.Entries.{entry_number}
 use Rattle.lock_manager.specs.declared.claim.Claim.{Claim}
 use Rattle.lock_manager.specs.Holders.{is_held, kept, first_freed, left_after, told}
+use Rattle.lock_manager.specs.Claims.{mode_in}
+use Rattle.lock_manager.proofs.Rooms.{drop_next}
+use Rattle.lock_manager.proofs.Distinct.{held_by_others}
 use Rattle.lock_manager.specs.Managers.{Book, slots, claims_of, with_claims, after_release, release_told}
 
 twice : (b : Book) (o : ℕ) (c : Claim) (ys : List Claim) → o < length b.holders → length ys + 1 ≤ length (claims_of b o) → with_claims (with_claims b o (c ∷ ys)) o ys ≡ with_claims b o ys
@@ -65,3 +68,47 @@ nothing_left b next o k answer place h e t without_answer =
     let freed = none_told b.entries (after_release b o).holders (first_freed b.holders o (claims_of b o)) (ap (λ z. is_some z) (sym t) ∙ without_answer) in
     let left = none_left b.holders o (claims_of b o) freed in
     ap (λ z. claims_of z (slots z + k)) e ∙ ap (λ z. get_or (after_release b o).holders z []) (sym place) ∙ get_or-set_same b.holders o (left_after b.holders o (claims_of b o)) [] h ∙ left
+
+-- the claim whose name the member then holds no longer, where so many claims of the owner were passed
+pub found_here : (b : Book) (o passed : ℕ) (c : Claim) (left rest : List Claim) (interest : Interest) → interest ≡ kept b.entries (set b.holders o (drop (passed + 1) (claims_of b o))) (entry_number c.name b.entries) → left ≡ c ∷ rest → drop passed (claims_of b o) ≡ left
+    → is_held (set b.holders o rest) c.name ≡ false → first_freed b.holders o left ≡ first_freed b.holders o (claims_of b o) → left_after b.holders o left ≡ left_after b.holders o (claims_of b o) → Some (c.name, interest) ≡ release_told b o
+found_here b o passed c left rest interest i s d held f l =
+    let next : drop (passed + 1) (claims_of b o) ≡ rest = drop_next (claims_of b o) passed c rest (d ∙ s) in
+    let first : first_freed b.holders o (claims_of b o) ≡ Some c.name = sym f ∙ ap (λ z. first_freed b.holders o z) s ∙ ap (λ z. if z then first_freed b.holders o rest else Some c.name) held in
+    let after : left_after b.holders o (claims_of b o) ≡ rest = sym l ∙ ap (λ z. left_after b.holders o z) s ∙ ap (λ z. if z then left_after b.holders o rest else rest) held in
+    let here : interest ≡ kept b.entries (set b.holders o (left_after b.holders o (claims_of b o))) (entry_number c.name b.entries) = i ∙ ap (λ z. kept b.entries (set b.holders o z) (entry_number c.name b.entries)) (next ∙ sym after) in
+    ap (λ z. Some (c.name, z)) here ∙ ap (λ z. told b.entries (after_release b o).holders z) (sym first)
+
+drop_some : (cs : List Claim) (k : ℕ) (c : Claim) (rest : List Claim) → drop k cs ≡ c ∷ rest → k + 1 ≤ length cs
+drop_some [] zero c rest e = cc
+drop_some [] (suc k) c rest e = cc
+drop_some (x ∷ xs) zero c rest e = omega arith
+drop_some (x ∷ xs) (suc k) c rest e = let ih = drop_some xs k c rest e in omega (arith, ih)
+
+-- the claim at this place is the only one of its owner on the name
+only_held : (b : Book) (o passed : ℕ) (c : Claim) (x none : List Claim) (answer : Bool) → x ≡ claims_of b o → mode_in (drop (passed + 1) x) c.name ≡ None → answer ≡ is_held (set b.holders o none) c.name → none ≡ []
+    → is_held (set b.holders o (drop (passed + 1) (claims_of b o))) c.name ≡ answer
+only_held b o passed c x none answer xs only a n =
+    ap (λ z. is_held (set b.holders o (drop (passed + 1) z)) c.name) (sym xs) ∙ held_by_others b.holders o (drop (passed + 1) x) c.name only ∙ ap (λ z. is_held (set b.holders o z) c.name) (sym n) ∙ sym a
+
+at_place : (b : Book) (o passed : ℕ) (c : Claim) (x : List Claim) → x ≡ claims_of b o → drop passed x ≡ c ∷ drop (passed + 1) x → drop passed (claims_of b o) ≡ c ∷ drop (passed + 1) (claims_of b o)
+at_place b o passed c x xs s = subst (λ z. drop passed z ≡ c ∷ drop (passed + 1) z) xs s
+
+pub found_at : (b : Book) (o passed : ℕ) (c : Claim) (x none : List Claim) (answer : Bool) (interest : Interest) → x ≡ claims_of b o → drop passed x ≡ c ∷ drop (passed + 1) x → mode_in (drop (passed + 1) x) c.name ≡ None
+    → answer ≡ is_held (set b.holders o none) c.name → none ≡ [] → answer ≡ false → interest ≡ kept b.entries (set b.holders o (drop (passed + 1) (claims_of b o))) (entry_number c.name b.entries)
+    → first_freed b.holders o (drop passed (claims_of b o)) ≡ first_freed b.holders o (claims_of b o) → left_after b.holders o (drop passed (claims_of b o)) ≡ left_after b.holders o (claims_of b o) → Some (c.name, interest) ≡ release_told b o
+found_at b o passed c x none answer interest xs s only a n free i f l =
+    found_here b o passed c (drop passed (claims_of b o)) (drop (passed + 1) (claims_of b o)) interest i (at_place b o passed c x xs s) refl (only_held b o passed c x none answer xs only a n ∙ free) f l
+
+pub passed_at : (b : Book) (o passed : ℕ) (c : Claim) (x none : List Claim) (answer : Bool) → x ≡ claims_of b o → drop passed x ≡ c ∷ drop (passed + 1) x → mode_in (drop (passed + 1) x) c.name ≡ None
+    → answer ≡ is_held (set b.holders o none) c.name → none ≡ [] → answer ≡ true
+    → first_freed b.holders o (drop passed (claims_of b o)) ≡ first_freed b.holders o (claims_of b o) → left_after b.holders o (drop passed (claims_of b o)) ≡ left_after b.holders o (claims_of b o)
+    → (first_freed b.holders o (drop (passed + 1) (claims_of b o)) ≡ first_freed b.holders o (claims_of b o)) × (left_after b.holders o (drop (passed + 1) (claims_of b o)) ≡ left_after b.holders o (claims_of b o)) × (passed + 1 ≤ length (claims_of b o))
+passed_at b o passed c x none answer xs s only a n held f l =
+    let rest = drop (passed + 1) (claims_of b o) in
+    let here = at_place b o passed c x xs s in
+    let still : is_held (set b.holders o rest) c.name ≡ true = only_held b o passed c x none answer xs only a n ∙ held in (
+      sym (ap (λ z. if z then first_freed b.holders o rest else Some c.name) still) ∙ ap (λ z. first_freed b.holders o z) (sym here) ∙ f,
+      sym (ap (λ z. if z then left_after b.holders o rest else rest) still) ∙ ap (λ z. left_after b.holders o z) (sym here) ∙ l,
+      drop_some (claims_of b o) passed c rest here,
+    )

@@ -1,6 +1,6 @@
 -- The room that claims leave.
-use Rattle.std.proofs.Common.{◌≡◌, ◌≢◌, ◌++◌, ap, subst, ℕ, zero, suc, ◌+◌, ◌<◌, ◌≤◌, true, false, List, [], ◌∷◌, length, set, get_or, replicate, refl, sym, ◌∙◌, arith, if◌then◌else◌, ◌==◌, add-one}
-use Rattle.std.specs.Prelude.{Option, is_some}
+use Rattle.std.proofs.Common.{◌≡◌, ◌≢◌, ◌++◌, ap, subst, ℕ, zero, suc, ◌+◌, ◌<◌, ◌≤◌, true, false, List, [], ◌∷◌, length, set, get_or, drop, replicate, refl, sym, ◌∙◌, arith, if◌then◌else◌, ◌==◌, add-one}
+use Rattle.std.specs.Prelude.{Option, Some, is_some}
 use Rattle.std.proofs.lemmas.List.{get_or_default, get_or-set_same, length-set, set-get_or, length-append}
 use Rattle.std.proofs.lemmas.List.Edits.{length-remove, get_or-remove_below}
 use Rattle.std.specs.List.{remove}
@@ -73,16 +73,13 @@ pub absent_without : (cs : List Claim) (n : Name) → is_some (mode_in cs n) ≡
 absent_without [] n e = refl
 absent_without (c ∷ cs) n e = let ih = absent_without cs n in grind (arith, ih)
 
-pub entered_new : (b : Book) (owner : ℕ) (n : Name) (m : Mode) (spare : ℕ) → owner < length b.holders → is_some (held_by b owner n) ≡ false → spare + (if owner == 0 then 0 else 1) ≡ b.spare
-    → IsGiven b owner n m (record b { holders = set b.holders owner (record { name = n; mode = joined (held_by b owner n) m } ∷ claims_of b owner); spare = spare })
-entered_new b owner n m spare h e s =
-    let new : List Claim = record { name = n; mode = joined (held_by b owner n) m } ∷ claims_of b owner in
+pub entered_new : (b : Book) (owner : ℕ) (n : Name) (m : Mode) (spare : ℕ) (new : List Claim) → owner < length b.holders → is_some (held_by b owner n) ≡ false → mode_in new n ≡ Some (joined (held_by b owner n) m) → without new n ≡ without (claims_of b owner) n
+    → spare + (if owner == 0 then 0 else 1) ≡ b.spare → IsGiven b owner n m (record b { holders = set b.holders owner new; spare = spare })
+entered_new b owner n m spare new h e a w s =
     let there : get_or (set b.holders owner new) owner [] ≡ new = get_or-set_same b.holders owner new [] h in
-    let same = same_itself n in
-    let absent = absent_without (claims_of b owner) n e in
     record {
-      mode = rw there (grind (arith, same));
-      others = rw there (grind (arith, same, absent));
+      mode = rw there a;
+      others = rw there w;
       rest = rw there refl;
       spare = grind (arith, e, s);
     }
@@ -90,7 +87,7 @@ entered_new b owner n m spare h e s =
 pub same_set : (hs : List (List Claim)) (i : ℕ) (x : List Claim) → x ≡ get_or hs i x → set hs i x ≡ hs
 same_set hs i x e = let P : List Claim → Type 0 = λ z. set hs i z ≡ hs in subst P (sym e) (set-get_or hs i x)
 
-some_total : (hs : List (List Claim)) (at : ℕ) → length (get_or hs at []) ≤ total hs
+pub some_total : (hs : List (List Claim)) (at : ℕ) → length (get_or hs at []) ≤ total hs
 some_total [] at = omega arith
 some_total (c ∷ cs) zero = omega arith
 some_total (c ∷ cs) (suc at) = let ih = some_total cs at in omega (arith, ih)
@@ -167,20 +164,23 @@ postponed_room_at hs rs agents at old dest moved hs_after r rs_after own others 
 
 pub entered_at : (hs : List (List Claim)) (rs : List Rollback) (agents entries pages spare room : ℕ) (b : Book) (owner : ℕ) (n : Name) (m : Mode) (held : Option Mode) (mode : Mode) (x y new : List Claim) (pages_after spare_after : ℕ)
     → record { holders = hs; rollbacks = rs; agents = agents; entries = entries; pages = pages; spare = spare; room = room } ≡ b → owner < length hs
-    → x ≡ get_or hs owner x → y ≡ get_or hs owner y → held ≡ mode_in x n → is_some held ≡ false → mode ≡ joined held m → new ≡ record { name = n; mode = mode } ∷ y
+    → x ≡ get_or hs owner x → y ≡ get_or hs owner y → held ≡ mode_in x n → is_some held ≡ false → mode ≡ joined held m → mode_in new n ≡ Some mode → without new n ≡ without y n
     → pages_after ≡ pages → spare_after + (if owner == 0 then 0 else 1) ≡ spare
     → IsGiven b owner n m (record { holders = set hs owner new; rollbacks = rs; agents = agents; entries = entries; pages = pages_after; spare = spare_after; room = room })
-entered_at hs rs agents entries pages spare room b owner n m held mode x y new pages_after spare_after view h xe ye he nh me ne pe se =
+entered_at hs rs agents entries pages spare room b owner n m held mode x y new pages_after spare_after view h xe ye he nh me ne nw pe se =
     let b0 : Book = record { holders = hs; rollbacks = rs; agents = agents; entries = entries; pages = pages; spare = spare; room = room } in
     let xs : x ≡ get_or hs owner [] = xe ∙ get_or_default hs owner x [] h in
     let ys : y ≡ get_or hs owner [] = ye ∙ get_or_default hs owner y [] h in
     let own : held ≡ held_by b0 owner n = he ∙ ap (λ z. mode_in z n) xs in
     let modes : mode ≡ joined (held_by b0 owner n) m = me ∙ ap (λ z. joined z m) own in
     let absent : is_some (held_by b0 owner n) ≡ false = sym (ap (λ z. is_some z) own) ∙ nh in
-    let it = entered_new b0 owner n m spare_after h absent se in
-    let claim : Mode → Claim = λ z. record { name = n; mode = z } in
-    let there : new ≡ claim (joined (held_by b0 owner n) m) ∷ claims_of b0 owner = ne ∙ ap (λ z. claim z ∷ y) modes ∙ ap (λ z. claim (joined (held_by b0 owner n) m) ∷ z) ys in
-    let A : List Claim → Type 0 = λ z. IsGiven b0 owner n m (record b0 { holders = set hs owner z; spare = spare_after }) in
+    let it = entered_new b0 owner n m spare_after new h absent (ne ∙ ap (λ z. Some z) modes) (nw ∙ ap (λ z. without z n) ys) se in
     let B : ℕ → Type 0 = λ z. IsGiven b0 owner n m (record b0 { holders = set hs owner new; pages = z; spare = spare_after }) in
     let C : Book → Type 0 = λ z. IsGiven z owner n m (record b0 { holders = set hs owner new; pages = pages_after; spare = spare_after }) in
-    subst C view (subst B (sym pe) (subst A (sym there) it))
+    subst C view (subst B (sym pe) it)
+
+pub drop_next : (cs : List Claim) (k : ℕ) (c : Claim) (rest : List Claim) → drop k cs ≡ c ∷ rest → drop (k + 1) cs ≡ rest
+drop_next [] zero c rest e = cc
+drop_next [] (suc k) c rest e = cc
+drop_next (x ∷ xs) zero c rest e = cc
+drop_next (x ∷ xs) (suc k) c rest e = let next : suc (k + 1) ≡ suc k + 1 = omega arith in subst (λ z. drop z (x ∷ xs) ≡ rest) next (drop_next xs k c rest e)

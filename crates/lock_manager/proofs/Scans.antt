@@ -5,12 +5,11 @@ use Rattle.std.proofs.lemmas.List.{at_drop_more}
 use Rattle.std.proofs.lemmas.Grind.{common_steps}
 use Rattle.ds_model.specs.declared.lock.Name.{Name}
 use Rattle.lock_names.specs.declared.mode.Mode.{Mode}
-use Rattle.lock_names.specs.declared.mode.Class.{Class}
 use Rattle.lock_manager.specs.declared.claim.Claim.{Claim}
 use Rattle.lock_manager.specs.declared.claim.Rollback.{Rollback}
 use Rattle.lock_manager.specs.Managers.{place_in}
-use Rattle.lock_manager.specs.Claims.{mode_in, joined_both, is_in_way, one_needs}
-use Rattle.lock_manager.specs.Holders.{is_owner, first_in_way, mode_of_all, is_held, any_needs}
+use Rattle.lock_manager.specs.Claims.{mode_in, joined_both, is_in_way}
+use Rattle.lock_manager.specs.Holders.{is_owner, first_in_way, mode_of_all, is_held}
 
 pub way_step : (hs : List (List Claim)) (i : ℕ) (d : List Claim) (k : ℕ) (a : Option ℕ) (n : Name) (m : Mode) → i < length hs
     → first_in_way (drop i hs) k a n m ≡ (if not (is_owner a k) && is_in_way (mode_in (get_or hs i d) n) m then Some k else first_in_way (drop (i + 1) hs) (k + 1) a n m)
@@ -26,10 +25,6 @@ replaced hs o left i d h = grind (arith, common_steps)
 pub held_step : (hs : List (List Claim)) (o : ℕ) (left : List Claim) (i : ℕ) (d : List Claim) (n : Name) → i < length hs
     → is_held (drop i (set hs o left)) n ≡ (is_some (mode_in (if i == o then left else get_or hs i d) n) || is_held (drop (i + 1) (set hs o left)) n)
 held_step hs o left i d n h = let same = replaced hs o left i d h in let it = at_drop_more (λ z. is_held z n) (set hs o left) i d (grind (arith, common_steps)) in rw (← same) it
-
-pub needs_step : (hs : List (List Claim)) (o : ℕ) (left : List Claim) (i : ℕ) (d : List Claim) (entries entry : ℕ) (class : Class) → i < length hs
-    → any_needs entries entry class (drop i (set hs o left)) ≡ (one_needs entries entry class (if i == o then left else get_or hs i d) || any_needs entries entry class (drop (i + 1) (set hs o left)))
-needs_step hs o left i d entries entry class h = let same = replaced hs o left i d h in let it = at_drop_more (λ z. any_needs entries entry class z) (set hs o left) i d (grind (arith, common_steps)) in rw (← same) it
 
 pub place_step : (rs : List Rollback) (i : ℕ) (d : Rollback) (k id : ℕ) → i < length rs → place_in (drop i rs) k id ≡ (if (get_or rs i d).id == id then Some k else place_in (drop (i + 1) rs) (k + 1) id)
 place_step rs i d k id h = at_drop_more (λ z. place_in z k id) rs i d h

@@ -2,5 +2,8 @@ pub mod Claims
 pub mod Chains
 pub mod Depth
 pub mod Areas
+pub mod Buckets
+pub mod Holds
+pub mod Tallies
 pub mod Holders
 pub mod Managers

@@ -1,11 +1,14 @@
 //! Cells for claims, of which nothing but the maker and `grow` take memory.
 
-ghost use Rattle.std.specs.Prelude.{◌≡◌, ◌+◌, ◌<◌, ◌≤◌, ◌==◌, IfOk, OnOk, OnErr};
+ghost use Rattle.std.specs.Prelude.{◌≡◌, ◌+◌, ◌<◌, ◌≤◌, ◌==◌, ◌^◌, IfOk, OnOk, OnErr};
 
 use crate::chain::Chain;
 use ds_base::NoMemory;
 use std::alloc::Global;
 use std::marker::Model;
+
+/// More claims than any memory holds.
+const MOST: usize = 1 << 62;
 
 /// Room for so many claims, of which some is free.
 #[derive(Drop)]
@@ -50,9 +53,10 @@ impl Area {
     /// Makes room for one more claim.
     pub fn grow(&mut self) -> Result<(), NoMemory>
         ensures more { OnOk result ((self.new.free ≡ self.old.free + 1) × (self.new.size ≡ self.old.size + 1)) }
+        ensures few { OnOk result (self.new.size ≤ 2 ^ 62) }
         ensures same { OnErr result (self.new ≡ self.old) }
     {
-        if self.size == usize::MAX {
+        if self.size >= MOST {
             return Err(NoMemory);
         }
         let more = self.size + 1 - self.cells.len();

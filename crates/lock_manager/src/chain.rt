@@ -1,11 +1,11 @@
 //! The claims of one owner, as a chain of cells that are taken from an area and given back.
 
-ghost use Rattle.std.specs.Prelude.{◌≡◌, ◌∷◌, [], is_some, None, Some, length, ◌+◌, ◌<◌, true, MatchOption};
-ghost use Rattle.lock_manager.specs.Claims.{mode_in, without, one_needs};
+ghost use Rattle.std.specs.Prelude.{◌≡◌, ◌≢◌, ◌∷◌, [], is_some, None, Some, length, ◌+◌, ◌<◌, ◌≤◌, true, false, drop, MatchOption, IfOk, IfErr};
+ghost use Rattle.lock_manager.specs.Claims.{mode_in, without};
 
-use crate::claim::{Claim, is_class, is_same};
+use crate::claim::{Claim, is_same};
 use ds_model::Name;
-use lock_names::{Class, Mode, class, entry_of};
+use lock_names::Mode;
 use std::marker::Model;
 use std::mem;
 
@@ -53,16 +53,14 @@ impl Chain {
     pub fn find(&self, name: &Name) -> Option<Mode>
         ensures { result ≡ mode_in self.now name.now }
     {
-        match &self.node {
-            Node::End => None,
-            Node::Link(claim, rest) => {
-                if is_same(&claim.name, name) {
-                    Some(claim.mode)
-                } else {
-                    rest.find(name)
-                }
+        let mut left = self;
+        while let Node::Link(claim, rest) = &left.node {
+            if is_same(&claim.name, name) {
+                return Some(claim.mode);
             }
+            left = rest;
         }
+        None
     }
 
     /// Writes another mode into the claim on the name.
@@ -127,46 +125,30 @@ impl Chain {
         }
     }
 
-    /// The first claim, and the others.
-    pub fn first(&self) -> Option<(Claim, &Chain)>
-        ensures { MatchOption result (self.now ≡ []) (λ first. self.now ≡ first.0 ∷ first.1.now) }
+    /// The claim at this place, or by how much the place lies beyond the last one.
+    pub fn nth(&self, place: usize) -> Result<Claim, usize>
+        ensures claim { IfOk result (λ claim. drop place self.now ≡ claim ∷ drop (place + 1) self.now) }
+        ensures beyond { IfErr result (λ beyond. place ≡ length self.now + beyond) }
     {
         match &self.node {
-            Node::End => None,
-            Node::Link(claim, rest) => Some((*claim, rest)),
-        }
-    }
-
-    /// Whether one of the claims is of this class and falls on this entry of the lock table.
-    pub fn needs(&self, entries: u32, entry: u32, class_needed: Class) -> bool
-        requires { 0 < entries }
-        ensures { result ≡ one_needs entries entry class_needed self.now }
-    {
-        match &self.node {
-            Node::End => false,
+            Node::End => Err(place),
             Node::Link(claim, rest) => {
-                (entry_of(&claim.name, entries) == entry
-                    && is_class(class(claim.mode), class_needed))
-                    || rest.needs(entries, entry, class_needed)
-            }
-        }
-    }
-
-    /// The same without the claim on this name.
-    pub fn needs_without(&self, name: &Name, entries: u32, entry: u32, class_needed: Class) -> bool
-        requires { 0 < entries }
-        ensures { result ≡ one_needs entries entry class_needed (without self.now name.now) }
-    {
-        match &self.node {
-            Node::End => false,
-            Node::Link(claim, rest) => {
-                if is_same(&claim.name, name) {
-                    return rest.needs(entries, entry, class_needed);
+                if place == 0 {
+                    return Ok(*claim);
                 }
-                (entry_of(&claim.name, entries) == entry
-                    && is_class(class(claim.mode), class_needed))
-                    || rest.needs_without(name, entries, entry, class_needed)
+                rest.nth(place - 1)
             }
+        }
+    }
+
+    /// Whether it has no claims.
+    pub fn is_empty(&self) -> bool
+        ensures some { result ≡ false → self.now ≢ [] }
+        ensures none { result ≡ true → self.now ≡ [] }
+    {
+        match &self.node {
+            Node::End => true,
+            Node::Link(_, _) => false,
         }
     }
 }

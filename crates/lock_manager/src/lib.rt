@@ -8,10 +8,13 @@
 #![tactic(auto)]
 
 pub mod area;
+pub mod buckets;
 pub mod chain;
 pub mod claim;
+pub mod holds;
 mod manager;
 mod scan;
+mod tally;
 
 pub use claim::{Ask, Claim, LockAnswer, Rollback};
 pub use manager::LockManager;

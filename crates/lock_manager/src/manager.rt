@@ -1,4 +1,4 @@
-ghost use Rattle.std.specs.Prelude.{◌≡◌, ◌≢◌, ◌+◌, ◌<◌, ◌≤◌, ◌==◌, ◌||◌, [], length, true, false, is_some, nat_lt, if◌then◌else◌, replicate, slice_index_or, slice_set, IfOk, IfSome, MatchOption, ◌∷◌, OnOk, None, Some, IsTrue, vec_capacity};
+ghost use Rattle.std.specs.Prelude.{◌≡◌, ◌≢◌, ◌+◌, ◌<◌, ◌≤◌, ◌^◌, ◌==◌, ◌||◌, [], length, true, false, is_some, nat_lt, if◌then◌else◌, replicate, slice_index_or, slice_set, IfOk, IfSome, MatchOption, ◌∷◌, OnOk, None, Some, IsTrue, vec_capacity, drop, ℕ};
 ghost use Rattle.lock_names.specs.Entries.{entry_number};
 ghost use Rattle.lock_manager.specs.Holders.{kept, first_in_way, any_needs, is_held};
 ghost use Rattle.lock_manager.specs.Managers.{ask_of, answer_of, claims_of, held_by, IsGiven, after_release, release_told, after_page_release, after_postpone, waiting_at, place_in, is_postponed, after_postponed_release, postponed_told, slots, waited_for, with_claims, page_told, ended};
@@ -6,11 +6,13 @@ ghost use Rattle.lock_manager.specs.Claims.{without};
 
 use crate::area::Area;
 use crate::chain::Chain;
-use crate::claim::{Ask, Claim, LockAnswer, Rollback, is_covered, joined};
-use crate::scan::{any_needs, first_in_the_way, is_held, mode_of_all};
+use crate::claim::{Ask, Claim, LockAnswer, Rollback, is_class, is_covered, joined};
+use crate::holds::Holds;
+use crate::scan::{first_in_the_way, is_held, mode_of_all};
+use crate::tally::Tally;
 use ds_base::{Lrsn, MemberId, NoMemory};
 use ds_model::Name;
-use lock_names::{Class, Interest, Mode, entry_of};
+use lock_names::{Class, Interest, Mode, class, entry_of};
 use std::alloc::Global;
 use std::marker::Model;
 use std::mem;
@@ -20,35 +22,38 @@ use std::mem;
 /// Slot 0 is the member itself, which claims pages and page sets. Nothing but `new` and `reserve` takes memory.
 #[derive(Drop)]
 pub struct LockManager {
-    holders: Vec<Chain>,
+    holders: Vec<Holds>,
     rollbacks: Vec<Rollback>,
     agents: u8,
     entries: u32,
     own_cells: Area,
     cells: Area,
     room: usize,
+    tally: Tally,
 }
 
 impl Model for LockManager {
     ghost use Rattle.std.specs.Prelude.{◌+◌, ◌≤◌, vec_len, vec_capacity};
     ghost use Rattle.lock_manager.specs.Managers.{Book, HasRoom};
+    ghost use Rattle.lock_manager.specs.Tallies.{IsCounted};
 
     ghost Value = { Book };
 
     ghost view = { λ a. record { holders = a.holders.items; rollbacks = a.rollbacks.items; agents = a.agents; entries = a.entries; pages = a.own_cells.size; spare = a.cells.free; room = a.room } };
 
-    ghost invariant = { λ a. (1 ≤ a.entries) × (HasRoom a.holders.items a.rollbacks.items a.agents a.own_cells a.cells × (vec_len a.holders + a.room ≤ vec_capacity a.holders) × (vec_len a.rollbacks + a.room ≤ vec_capacity a.rollbacks)) };
+    ghost invariant = { λ a. (1 ≤ a.entries) × (HasRoom a.holders.items a.rollbacks.items a.agents a.own_cells a.cells × (vec_len a.holders + a.room ≤ vec_capacity a.holders) × (vec_len a.rollbacks + a.room ≤ vec_capacity a.rollbacks)) × IsCounted a.entries a.holders.items a.own_cells a.cells a.tally };
 }
 
-/// As many owners without claims, and places for more.
-fn no_claims(alloc: Global, owners: usize, more: usize) -> Result<Vec<Chain>, NoMemory>
-    requires { owners + more < 1024 }
+/// As many owners without claims, and places for more. The first of them may have many claims.
+fn no_claims(alloc: Global, owners: usize, more: usize, pages: u32) -> Result<Vec<Holds>, NoMemory>
+    requires { (1 ≤ owners) × (owners + more < 1024) }
     ensures claims { IfOk result (λ holders. holders.items ≡ replicate owners []) }
     ensures places { IfOk result (λ holders. owners + more ≤ vec_capacity holders) }
 {
     let mut holders = Vec::with_capacity(alloc, owners + more)?;
-    for _made in 0..owners {
-        holders.push_reserved(Chain::new());
+    holders.push_reserved(Holds::with_chains(alloc, pages / 2 + 1)?);
+    for _made in 1..owners {
+        holders.push_reserved(Holds::new());
     }
     Ok(holders)
 }
@@ -110,13 +115,14 @@ impl LockManager {
     {
         let most = agents as usize;
         Ok(LockManager {
-            holders: no_claims(alloc, most + 1, most)?,
+            holders: no_claims(alloc, most + 1, most, pages)?,
             rollbacks: Vec::with_capacity(alloc, most)?,
             agents,
             entries,
             own_cells: Area::new(alloc, pages)?,
             cells: Area::new(alloc, 1)?,
             room: most,
+            tally: Tally::new(alloc, entries)?,
         })
     }
 
@@ -124,6 +130,7 @@ impl LockManager {
         ensures slots { result ≡ slots self.now }
         ensures few { result ≤ 256 }
         ensures owners { length self.now.holders ≡ result + length self.now.rollbacks }
+        ensures claims { (owner : ℕ) → length (claims_of self.now owner) < 2 ^ 63 }
     {
         let _rollbacks = self.rollbacks.len();
         self.agents as usize + 1
@@ -193,27 +200,33 @@ impl LockManager {
         let at = owner as usize;
         let held = self.holders[at].find(name);
         let joint = joined(held, mode);
-        if held.is_some() {
-            self.holders[at].put(name, joint);
+        let name = *name;
+        let claim = Claim { name, mode: joint };
+        if let Some(mode) = held {
+            self.holders[at].put(&name, claim.mode);
+            self.tally.leave(&Claim { name, mode });
+            self.tally.enter(&claim);
         } else {
             let cell = take_cell(at, &mut self.own_cells, &mut self.cells);
-            let name = *name;
-            self.holders[at].insert(cell, Claim { name, mode: joint });
+            self.holders[at].insert(cell, claim);
+            self.tally.enter(&claim);
         }
     }
 }
 
 impl LockManager {
-    /// The interest that the name's entry keeps where this owner has these claims left.
-    fn interest_left(&self, owner: usize, left: &Chain, name: &Name) -> Interest
+    /// The interest that the name's entry keeps where this owner has given up so many of its first claims.
+    fn interest_after(&self, owner: usize, gone: usize, name: &Name) -> Interest
         requires { owner < length self.now.holders }
-        ensures { result ≡ kept self.now.entries (slice_set self.now.holders owner left.now) (entry_number name.now self.now.entries) }
+        ensures { result ≡ kept self.now.entries (slice_set self.now.holders owner (drop gone (claims_of self.now owner))) (entry_number name.now self.now.entries) }
     {
         let entry = entry_of(name, self.entries);
-        let holders = self.holders.as_slice();
+        let holder = &self.holders[owner];
+        let share = holder.count_first(gone, self.entries, entry, Class::Share);
+        let exclusive = holder.count_first(gone, self.entries, entry, Class::Exclusive);
         Interest {
-            share: any_needs(holders, owner, left, self.entries, entry, Class::Share),
-            exclusive: any_needs(holders, owner, left, self.entries, entry, Class::Exclusive),
+            share: self.tally.is_above(name, Class::Share, share),
+            exclusive: self.tally.is_above(name, Class::Exclusive, exclusive),
         }
     }
 
@@ -227,12 +240,14 @@ impl LockManager {
     }
 
     /// The interest that the name's entry keeps.
-    #[tactic(auto, using(crate::proofs::Rooms::same_set))]
+    #[tactic(auto, using(crate::proofs::Tallies::needed))]
     fn interest(&self, name: &Name) -> Interest
         ensures { result ≡ kept self.now.entries self.now.holders (entry_number name.now self.now.entries) }
     {
-        let _slots = self.slots();
-        self.interest_left(0, &self.holders[0], name)
+        Interest {
+            share: self.tally.is_above(name, Class::Share, 0),
+            exclusive: self.tally.is_above(name, Class::Exclusive, 0),
+        }
     }
 
     /// Gives up the first claim that the owner has.
@@ -243,6 +258,7 @@ impl LockManager {
     {
         let (claim, cell) = self.holders[owner].pop()?;
         give_back(owner, cell, &mut self.own_cells, &mut self.cells);
+        self.tally.leave(&claim);
         Some(claim)
     }
 
@@ -263,13 +279,15 @@ impl LockManager {
         requires { owner < length self.now.holders }
         ensures { result ≡ release_told self.now owner }
     {
-        let mut left = &self.holders[owner];
-        while let Some((claim, rest)) = left.first() {
-            if !is_held(self.holders.as_slice(), owner, rest, &claim.name) {
-                let interest = self.interest_left(owner, rest, &claim.name);
+        let _slots = self.slots();
+        let none_left = Holds::new();
+        let mut passed = 0;
+        while let Some(claim) = self.holders[owner].nth(passed) {
+            passed += 1;
+            if !is_held(self.holders.as_slice(), owner, &none_left, &claim.name) {
+                let interest = self.interest_after(owner, passed, &claim.name);
                 return Some((claim.name, interest));
             }
-            left = rest;
         }
         None
     }
@@ -299,10 +317,15 @@ impl LockManager {
         ensures { self.new ≡ after_page_release self.old name.now }
     {
         let _slots = self.slots();
+        let Some(mode) = self.holders[0].find(name) else {
+            return;
+        };
         let Some(cell) = self.holders[0].remove(name) else {
             return;
         };
         give_back(0, cell, &mut self.own_cells, &mut self.cells);
+        let name = *name;
+        self.tally.leave(&Claim { name, mode });
     }
 
     /// Gives up the claim of slot 0 on the name: the interest that the member keeps in its entry.
@@ -321,27 +344,24 @@ impl LockManager {
         ensures { result ≡ page_told self.now name.now }
     {
         let _slots = self.slots();
-        let entry = entry_of(name, self.entries);
+        let held = self.holders[0].find(name);
         Interest {
-            share: self.is_needed_without(name, entry, Class::Share),
-            exclusive: self.is_needed_without(name, entry, Class::Exclusive),
+            share: self.is_needed_without(name, held, Class::Share),
+            exclusive: self.is_needed_without(name, held, Class::Exclusive),
         }
     }
 
-    /// Whether the member needs this interest in the entry, also without the claim of slot 0 on the name.
-    fn is_needed_without(&self, name: &Name, entry: u32, class: Class) -> bool
-        requires { 0 < length self.now.holders }
-        ensures { result ≡ any_needs self.now.entries entry class (slice_set self.now.holders 0 (without (claims_of self.now 0) name.now)) }
+    /// Whether the member needs this interest in the name's entry, also without the claim of slot 0 on the name.
+    fn is_needed_without(&self, name: &Name, held: Option<Mode>, needed: Class) -> bool
+        requires owner { 0 < length self.now.holders }
+        requires held { held ≡ held_by self.now 0 name.now }
+        ensures { result ≡ any_needs self.now.entries (entry_number name.now self.now.entries) needed (slice_set self.now.holders 0 (without (claims_of self.now 0) name.now)) }
     {
-        self.holders[0].needs_without(name, self.entries, entry, class)
-            || any_needs(
-                self.holders.as_slice(),
-                0,
-                &Chain::new(),
-                self.entries,
-                entry,
-                class,
-            )
+        let gone = match held {
+            Some(mode) if is_class(class(mode), needed) => 1,
+            _ => 0,
+        };
+        self.tally.is_above(name, needed, gone)
     }
 }
 
@@ -353,7 +373,7 @@ impl LockManager {
         ensures { self.new ≡ after_postpone self.old owner id by }
     {
         let _slots = self.slots();
-        let claims = mem::replace(&mut self.holders[owner as usize], Chain::new());
+        let claims = mem::replace(&mut self.holders[owner as usize], Holds::new());
         self.holders.push_reserved(claims);
         self.rollbacks.push_reserved(Rollback { id, by });
         self.room -= 1;
@@ -383,7 +403,7 @@ impl LockManager {
         ensures { self.new ≡ ended self.old at }
     {
         let place = self.slots() + at;
-        self.holders.remove(place);
+        self.holders.remove(place).end();
         self.rollbacks.remove(at);
         self.room += 1;
     }

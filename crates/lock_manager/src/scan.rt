@@ -2,12 +2,12 @@
 
 ghost use Rattle.std.specs.Prelude.{◌≡◌, ◌<◌, ◌≤◌, length, slice_set, IfSome, None};
 ghost use Rattle.lock_manager.specs.Claims.{joined_both};
-ghost use Rattle.lock_manager.specs.Holders.{first_in_way, mode_of_all, is_held, any_needs, is_owner};
+ghost use Rattle.lock_manager.specs.Holders.{first_in_way, mode_of_all, is_held, is_owner};
 
-use crate::chain::Chain;
 use crate::claim::{is_in_the_way, joined};
+use crate::holds::Holds;
 use ds_model::Name;
-use lock_names::{Class, Mode};
+use lock_names::Mode;
 
 fn is_owner(asker: Option<u8>, at: usize) -> bool
     ensures { result ≡ is_owner asker at }
@@ -21,7 +21,7 @@ fn is_owner(asker: Option<u8>, at: usize) -> bool
 /// The first owner but the asker whose claim on the name is in the way.
 #[tactic(auto, using(crate::proofs::Scans::way_step))]
 pub fn first_in_the_way(
-    holders: &[Chain],
+    holders: &[Holds],
     asker: Option<u8>,
     name: &Name,
     mode: Mode,
@@ -48,7 +48,7 @@ fn joined_both(held: Option<Mode>, more: Option<Mode>) -> Option<Mode>
 
 /// The join of the modes in which the owners hold the name.
 #[tactic(auto, using(crate::proofs::Scans::mode_step))]
-pub fn mode_of_all(holders: &[Chain], name: &Name) -> Option<Mode>
+pub fn mode_of_all(holders: &[Holds], name: &Name) -> Option<Mode>
     ensures { result ≡ mode_of_all None holders.now name.now }
 {
     let mut held = None;
@@ -60,36 +60,13 @@ pub fn mode_of_all(holders: &[Chain], name: &Name) -> Option<Mode>
 
 /// Whether the name is held by an owner, of whom this one has these claims left.
 #[tactic(auto, using(crate::proofs::Scans::held_step))]
-pub fn is_held(holders: &[Chain], owner: usize, left: &Chain, name: &Name) -> bool
+pub fn is_held(holders: &[Holds], owner: usize, left: &Holds, name: &Name) -> bool
     requires { owner < length holders.now }
     ensures { result ≡ is_held (slice_set holders.now owner left.now) name.now }
 {
     for (at, claims) in holders.iter().enumerate() {
         let claims = if at == owner { left } else { claims };
         if claims.find(name).is_some() {
-            return true;
-        }
-    }
-    false
-}
-
-/// Whether an owner needs this interest in the entry, where this one has these claims left.
-#[tactic(auto, using(crate::proofs::Scans::needs_step))]
-pub fn any_needs(
-    holders: &[Chain],
-    owner: usize,
-    left: &Chain,
-    entries: u32,
-    entry: u32,
-    class: Class,
-) -> bool
-    requires owner { owner < length holders.now }
-    requires entries { 0 < entries }
-    ensures { result ≡ any_needs entries entry class (slice_set holders.now owner left.now) }
-{
-    for (at, claims) in holders.iter().enumerate() {
-        let claims = if at == owner { left } else { claims };
-        if claims.needs(entries, entry, class) {
             return true;
         }
     }

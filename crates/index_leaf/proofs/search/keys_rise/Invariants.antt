@@ -1,5 +1,5 @@
-use Rattle.std.proofs.Common.{ℕ, ◌-◌, ◌+◌, ◌*◌, ◌<◌, ◌≡◌, ◌≤◌}
-use Rattle.index_leaf.specs.Entries.{entry_in, count_of}
+use Rattle.std.proofs.Common.{ℕ, ◌-◌, ◌+◌, ◌*◌, ◌<◌, ◌≤◌}
+use Rattle.index_leaf.specs.Entries.{entry_in}
 use Rattle.index_leaf.proofs.search.keys_rise.Given as goal
 
 abbrev pub invariant-loop-at : goal.invariant-loop-at
