@@ -44,6 +44,9 @@ not_zeros_in : (kind : ℕ) (id : PageId) (rest : List ℕ) → is_zeros (front_
 unfolding front_of spelt
 not_zeros_in kind id rest = refl
 
+pub not_zeros : (page : List ℕ) (id : PageId) (kind : ℕ) → HasFront page id kind → is_zeros page ≡ false
+not_zeros page id kind h = ap is_zeros (page_is page id kind h) ∙ not_zeros_in kind id (drop 12 page)
+
 set_in : (kind : ℕ) (id : PageId) (rest : List ℕ) → id.set < 2 ^ 16 → number_in (front_of kind id ++ rest) 6 2 ≡ id.set
 unfolding front_of spelt
 set_in kind id rest lt = big_number-reads_back 2 id.set (big_bytes 4 id.number ++ rest) lt
@@ -94,8 +97,7 @@ unfolding header_of
 header_read page id kind h stamped count may set number =
     let answer : Option ℕ → Result Header NotAPage = λ fault. judged fault (header_in page) in
     let with_kind : ℕ → Result Header NotAPage = λ n. Ok (record { kind = kind_of n; lrsn = lrsn_of page; count = number_in page 26 2 }) in
-    let not_zeros : is_zeros page ≡ false = ap is_zeros (page_is page id kind h) ∙ not_zeros_in kind id (drop 12 page) in
-    ap (λ (b : Bool). if b then Ok empty_header else answer (first_fault (fields page id))) not_zeros
+    ap (λ (b : Bool). if b then Ok empty_header else answer (first_fault (fields page id))) (not_zeros page id kind h)
     ∙ ap answer (fields_right page id kind h stamped count may set number)
     ∙ ap with_kind (kind_read page id kind h)
 
@@ -111,6 +113,9 @@ unfolding header_of
 empty_read id =
     let answer : Result Header NotAPage = judged (first_fault (fields zeros id)) (header_in zeros) in
     ap (λ (b : Bool). if b then Ok empty_header else answer) (zeros_are 4096)
+
+pub zeros_are_zeros : is_zeros zeros ≡ true
+zeros_are_zeros = zeros_are 4096
 
 pub zeros_whole : length zeros ≡ 4096
 unfolding zero_bytes

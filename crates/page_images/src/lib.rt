@@ -3,11 +3,11 @@
 //! The crate has definitions and proofs alone. Its functions do nothing: each is called where its facts are needed.
 #![tactic(auto)]
 
-ghost use Rattle.std.specs.Prelude.{◌≡◌, ℕ, ◌<◌, ◌≤◌, ◌^◌, ◌+◌, [], ◌∷◌, ◌++◌, true, List, length, slice_index, Ok};
+ghost use Rattle.std.specs.Prelude.{◌≡◌, ℕ, ◌<◌, ◌≤◌, ◌^◌, ◌+◌, [], ◌∷◌, ◌++◌, true, false, List, length, slice_index, Ok};
 ghost use Rattle.ds_base.specs.declared.names.PageId.{PageId};
 ghost use Rattle.byteorder.specs.Endian.{big_number};
 ghost use Rattle.page_format.specs.Fields.{page_size, mark_at, kind_at, count_at, patched, number_in, lrsn_of, set_lrsn};
-ghost use Rattle.page_format.specs.Header.{kind_of, may_have, most, empty_header, header_of};
+ghost use Rattle.page_format.specs.Header.{kind_of, may_have, most, is_zeros, empty_header, header_of};
 ghost use Rattle.page_format.specs.declared.patch.Patch.{Patch};
 ghost use Rattle.heap_space.specs.Changes.{front};
 ghost use Rattle.heap_space.specs.Written.{after_patch, written};
@@ -39,7 +39,8 @@ pub fn part_laws()
 pub fn header_laws()
     ensures agree { (kind : ℕ) (id : PageId) → front kind id ≡ front_of kind id }
     ensures empty { (id : PageId) → header_of zeros id ≡ Ok empty_header }
-    ensures zeros { (length zeros ≡ page_size) × ((k : ℕ) → slice_index zeros k ≡ 0) × ((at width : ℕ) → number_in zeros at width ≡ 0) }
+    ensures written { (page : List ℕ) (id : PageId) (kind : ℕ) → HasFront page id kind → is_zeros page ≡ false }
+    ensures zeros { (is_zeros zeros ≡ true) × (length zeros ≡ page_size) × ((k : ℕ) → slice_index zeros k ≡ 0) × ((at width : ℕ) → number_in zeros at width ≡ 0) }
     ensures header { (page : List ℕ) (id : PageId) (kind : ℕ) → HasFront page id kind → IsStamped page → number_in page count_at 2 ≤ most (kind_of kind) → may_have id (kind_of kind) ≡ true → id.set < 2 ^ 16 → id.number < 2 ^ 32 → header_of page id ≡ Ok (record { kind = kind_of kind; lrsn = lrsn_of page; count = number_in page count_at 2 }) }
     ensures kind { (page : List ℕ) (id : PageId) (kind : ℕ) → HasFront page id kind → slice_index page kind_at ≡ kind }
     ensures name { (page : List ℕ) (id : PageId) (kind : ℕ) → HasFront page id kind → id.set < 2 ^ 16 → id.number < 2 ^ 32 → id_of page ≡ id }
