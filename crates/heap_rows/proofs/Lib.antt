@@ -1,1 +1,3 @@
+mod Laws
 mod Places
+mod Slot_reads

@@ -3,13 +3,33 @@
 //! The crate has definitions and proofs alone. Its functions do nothing: each is called where its facts are needed.
 #![tactic(auto)]
 
-ghost use Rattle.std.specs.Prelude.{◌≡◌, ℕ, ◌+◌, ◌*◌, ◌<◌, ◌≤◌, ◌==◌, if◌then◌else◌, Ok, Err};
-ghost use Rattle.page_format.specs.Header.{slots_per_page};
+ghost use Rattle.std.specs.Prelude.{◌≡◌, ℕ, ◌+◌, ◌*◌, ◌<◌, ◌≤◌, ◌==◌, if◌then◌else◌, List, Option, Some, None, Ok, Err};
+ghost use Rattle.ds_base.specs.Ids.{IsTable};
+ghost use Rattle.page_format.specs.Fields.{lrsn_of};
+ghost use Rattle.page_format.specs.Header.{slots_per_page, header_of};
+ghost use Rattle.page_format.specs.declared.header.PageKind.TheVariants as kind;
+ghost use Rattle.heap_space.specs.Changes.{heap_page};
 ghost use Rattle.heap_space.specs.Next.{next_place};
-ghost use Rattle.heap_rows.specs.Heaps.{place_at, slots_on, last_for, given_for};
+ghost use Rattle.heap_space.specs.Slots.{slot_in, content, fault_in};
+ghost use Rattle.page_images.specs.Images.{Images};
+ghost use Rattle.heap_rows.specs.Heaps.{place_at, slots_on, last_for, given_for, IsCount, IsHeap};
+
+use heap_space::image_laws;
+use page_images::header_laws;
 
 /// Each slot lies among those of its page, and the header page leads to the place of the first slot that is not given.
 pub fn place_laws()
     ensures inside { (count n : ℕ) → n < count → (place_at n).slot < slots_on count (place_at n).page }
     ensures next { (count limit : ℕ) → 1 ≤ limit → count ≤ slots_per_page * limit → next_place (last_for count) (given_for count) limit ≡ (if count == slots_per_page * limit then Err (record { pages = limit }) else Ok (place_at count)) }
 {}
+
+/// The page of a slot that was given is a page of rows that counts it. The slot has no fault, and says the key and the
+/// value of its row.
+pub fn read_laws()
+    ensures page { (at : Images) (table count : ℕ) (key : ℕ → ℕ) (row : ℕ → Option (List ℕ)) (n : ℕ) → IsHeap at table count key row → IsTable table → IsCount count → n < count → header_of (at (heap_page table (place_at n).page)) (heap_page table (place_at n).page) ≡ Ok (record { kind = kind.Heap; lrsn = lrsn_of (at (heap_page table (place_at n).page)); count = slots_on count (place_at n).page }) }
+    ensures fault { (at : Images) (table count : ℕ) (key : ℕ → ℕ) (row : ℕ → Option (List ℕ)) (n : ℕ) → IsHeap at table count key row → n < count → fault_in (at (heap_page table (place_at n).page)) (place_at n).slot ≡ None }
+    ensures content { (at : Images) (table count : ℕ) (key : ℕ → ℕ) (row : ℕ → Option (List ℕ)) (n : ℕ) → IsHeap at table count key row → n < count → content (slot_in (at (heap_page table (place_at n).page)) (place_at n).slot) ≡ Some (key n, row n) }
+{
+    header_laws();
+    image_laws();
+}

@@ -1,14 +1,16 @@
 -- Changes keep what a page begins with, and its stamp.
-use Rattle.std.proofs.Common.{◌≡◌, ◌≤◌, ◌<◌, ◌^◌, ℕ, ◌+◌, inl, ◌==◌, List, [], ◌∷◌, length, take, refl, sym, ap, ◌∙◌, arith}
+use Rattle.std.proofs.Common.{◌≡◌, ◌≤◌, ◌<◌, ◌^◌, ℕ, ◌+◌, inl, ◌==◌, List, [], ◌∷◌, length, take, refl, sym, ap, subst, ◌∙◌, arith}
 use Rattle.std.proofs.lemmas.Bool.{ne_eqb}
 use Rattle.ds_base.specs.declared.names.PageId.{PageId}
 use Rattle.page_format.specs.Fields.{patched, set_lrsn, lrsn_of}
 use Rattle.page_format.specs.declared.patch.Patch.{Patch}
+use Rattle.heap_space.specs.Changes.{front}
 use Rattle.heap_space.specs.Written.{after_patch}
 use Rattle.index_leaf.specs.Changes.{spelt, front_of, front_patch}
 use Rattle.index_leaf.specs.Nodes.{all_stamped}
 use Rattle.page_images.specs.Images.{HasFront, IsStamped}
 use Rattle.page_images.specs.Parts.{Lies, AreWithin, AreBehindFront}
+use Rattle.page_images.proofs.Fronts.{fronts_agree}
 use Rattle.page_images.proofs.Parts.{step_whole, step_kept, step_put, stamp_read, patched_whole}
 
 front_length : (kind : ℕ) (id : PageId) → length (front_of kind id) ≡ 12
@@ -23,6 +25,9 @@ made lrsn page id kind whole =
       whole = step_whole lrsn page (front_patch kind id) lies;
       begins = ap (λ (n : ℕ). take n (after_patch lrsn page (front_patch kind id))) (sym l) ∙ step_put lrsn page (front_patch kind id) lies (inl (omega (arith, l)));
     }
+
+pub made_by_heap : (lrsn : ℕ) (page : List ℕ) (id : PageId) (kind : ℕ) → length page ≡ 4096 → HasFront (set_lrsn (patched page 0 (front kind id)) lrsn) id kind
+made_by_heap lrsn page id kind whole = subst (λ (bytes : List ℕ). HasFront (set_lrsn (patched page 0 bytes) lrsn) id kind) (sym (fronts_agree kind id)) (made lrsn page id kind whole)
 
 pub step_front : (lrsn : ℕ) (page : List ℕ) (id : PageId) (kind : ℕ) (p : Patch) → HasFront page id kind → 12 ≤ p.offset → p.offset + length p.bytes ≤ 4096 → HasFront (after_patch lrsn page p) id kind
 step_front lrsn page id kind p h past within =

@@ -50,6 +50,7 @@ pub fn header_laws()
 /// LRSN of its change.
 pub fn front_laws()
     ensures made { (lrsn : ℕ) (page : List ℕ) (id : PageId) (kind : ℕ) → length page ≡ page_size → HasFront (set_lrsn (patched page mark_at (front_of kind id)) lrsn) id kind }
+    ensures made_by_heap { (lrsn : ℕ) (page : List ℕ) (id : PageId) (kind : ℕ) → length page ≡ page_size → HasFront (set_lrsn (patched page mark_at (front kind id)) lrsn) id kind }
     ensures patch { (lrsn : ℕ) (page : List ℕ) (id : PageId) (kind : ℕ) (p : Patch) → HasFront page id kind → front_width ≤ p.offset → p.offset + length p.bytes ≤ page_size → HasFront (after_patch lrsn page p) id kind }
     ensures patches { (lrsn : ℕ) (page : List ℕ) (id : PageId) (kind : ℕ) (ps : List Patch) → HasFront page id kind → AreBehindFront ps → HasFront (all_stamped lrsn page ps) id kind }
     ensures stamped { (lrsn : ℕ) (page : List ℕ) → length page ≡ page_size → 1 ≤ lrsn → lrsn < 2 ^ 48 → IsStamped (set_lrsn page lrsn) }

@@ -1,8 +1,11 @@
-use Rattle.page_images.proofs.Kept_fronts.{made, step_front, all_front, is_stamped, all_whole, all_lrsn, all_are_stamped}
+use Rattle.page_images.proofs.Kept_fronts.{made, made_by_heap, step_front, all_front, is_stamped, all_whole, all_lrsn, all_are_stamped}
 use Rattle.page_images.proofs.front_laws.Goals as goal
 
 pub returns-clause-made : goal.returns-clause-made
 returns-clause-made c = λ lrsn page id kind whole. made lrsn page id kind whole
+
+pub returns-clause-made_by_heap : goal.returns-clause-made_by_heap
+returns-clause-made_by_heap c = λ lrsn page id kind whole. made_by_heap lrsn page id kind whole
 
 pub returns-clause-patch : goal.returns-clause-patch
 returns-clause-patch c = λ lrsn page id kind p h past within. step_front lrsn page id kind p h past within
