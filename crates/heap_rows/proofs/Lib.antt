@@ -1,3 +1,4 @@
+mod Header_reads
 mod Laws
 mod Places
 mod Slot_reads

@@ -28,7 +28,7 @@ odd table h = eq-eqb ((2 * table - 1) % 2) 1 (omega (arith, h.0))
 may_have_rows : (table p : ℕ) → IsTable table → 1 ≤ p → may_have (heap_page table p) kind.Heap ≡ true
 may_have_rows table p h le = both _ _ (odd table h) (ap not (ne_eqb p 0 (λ e. omega (arith, e, le))))
 
-may_have_header : (table : ℕ) → IsTable table → may_have (heap_page table 0) kind.HeapHeader ≡ true
+pub may_have_header : (table : ℕ) → IsTable table → may_have (heap_page table 0) kind.HeapHeader ≡ true
 may_have_header table h = both _ _ (odd table h) refl
 
 -- ---- the page of a slot

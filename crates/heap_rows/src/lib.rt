@@ -3,16 +3,16 @@
 //! The crate has definitions and proofs alone. Its functions do nothing: each is called where its facts are needed.
 #![tactic(auto)]
 
-ghost use Rattle.std.specs.Prelude.{◌≡◌, ℕ, ◌+◌, ◌*◌, ◌<◌, ◌≤◌, ◌==◌, if◌then◌else◌, List, Option, Some, None, Ok, Err};
+ghost use Rattle.std.specs.Prelude.{◌≡◌, ℕ, ◌+◌, ◌*◌, ◌<◌, ◌≤◌, ◌==◌, if◌then◌else◌, List, Option, Some, None, true, Ok, Err};
 ghost use Rattle.ds_base.specs.Ids.{IsTable};
 ghost use Rattle.page_format.specs.Fields.{lrsn_of};
-ghost use Rattle.page_format.specs.Header.{slots_per_page, header_of};
+ghost use Rattle.page_format.specs.Header.{slots_per_page, is_zeros, empty_header, header_of};
 ghost use Rattle.page_format.specs.declared.header.PageKind.TheVariants as kind;
 ghost use Rattle.heap_space.specs.Changes.{heap_page};
-ghost use Rattle.heap_space.specs.Next.{next_place};
+ghost use Rattle.heap_space.specs.Next.{last_page_of, given_of, header_allowed, next_place};
 ghost use Rattle.heap_space.specs.Slots.{slot_in, content, fault_in};
 ghost use Rattle.page_images.specs.Images.{Images};
-ghost use Rattle.heap_rows.specs.Heaps.{place_at, slots_on, last_for, given_for, IsCount, IsHeap};
+ghost use Rattle.heap_rows.specs.Heaps.{place_at, slots_on, last_for, given_for, IsCount, HasHeader, IsHeap};
 
 use heap_space::image_laws;
 use page_images::header_laws;
@@ -32,4 +32,17 @@ pub fn read_laws()
 {
     header_laws();
     image_laws();
+}
+
+/// The header page of a heap is empty, or a header page whose fields are allowed and lead to the place of the first slot
+/// that is not given.
+pub fn heap_header_laws()
+    ensures unformatted { (at : Images) (table count : ℕ) (key : ℕ → ℕ) (row : ℕ → Option (List ℕ)) → IsHeap at table count key row → is_zeros (at (heap_page table 0)) ≡ true → header_of (at (heap_page table 0)) (heap_page table 0) ≡ Ok empty_header }
+    ensures nothing_given { (at : Images) (table count : ℕ) (key : ℕ → ℕ) (row : ℕ → Option (List ℕ)) → IsHeap at table count key row → is_zeros (at (heap_page table 0)) ≡ true → count ≡ 0 }
+    ensures formatted { (at : Images) (table count : ℕ) (key : ℕ → ℕ) (row : ℕ → Option (List ℕ)) → IsHeap at table count key row → IsTable table → HasHeader at table → header_of (at (heap_page table 0)) (heap_page table 0) ≡ Ok (record { kind = kind.HeapHeader; lrsn = lrsn_of (at (heap_page table 0)); count = 0 }) }
+    ensures allowed { (at : Images) (table count : ℕ) (key : ℕ → ℕ) (row : ℕ → Option (List ℕ)) → IsHeap at table count key row → HasHeader at table → IsCount count → header_allowed (last_page_of (at (heap_page table 0))) (given_of (at (heap_page table 0))) ≡ true }
+    ensures next { (at : Images) (table count : ℕ) (key : ℕ → ℕ) (row : ℕ → Option (List ℕ)) (limit : ℕ) → IsHeap at table count key row → HasHeader at table → 1 ≤ limit → count ≤ slots_per_page * limit → next_place (last_page_of (at (heap_page table 0))) (given_of (at (heap_page table 0))) limit ≡ (if count == slots_per_page * limit then Err (record { pages = limit }) else Ok (place_at count)) }
+{
+    header_laws();
+    place_laws();
 }
