@@ -1,5 +1,5 @@
 -- What is read of the header page of a heap.
-use Rattle.std.proofs.Common.{◌≡◌, ◌≤◌, ◌<◌, ◌^◌, ℕ, ◌+◌, ◌-◌, ◌*◌, ◌/◌, ◌%◌, ◌⊎◌, inl, inr, Bool, true, false, ◌&&◌, ◌==◌, if◌then◌else◌, nat_le, nat_lt, List, Option, refl, sym, ap, ◌∙◌, arith, true≢false}
+use Rattle.std.proofs.Common.{◌≡◌, ℕ, ◌*◌, ◌⊎◌, inl, inr, true, false, ◌==◌, if◌then◌else◌, List, sym, ap, ◌∙◌, arith, true≢false}
 use Rattle.std.specs.Prelude.{Result, Ok, Err}
 use Rattle.ds_base.specs.Ids.{IsTable}
 use Rattle.ds_base.specs.declared.names.Place.{Place}
@@ -11,8 +11,8 @@ use Rattle.page_format.specs.declared.header.PageKind.TheVariants as kind
 use Rattle.heap_space.specs.Changes.{heap_page}
 use Rattle.heap_space.specs.Next.{last_page_of, given_of, header_allowed, next_place}
 use Rattle.heap_space.specs.declared.next.SpaceFull.{SpaceFull}
-use Rattle.page_images.specs.Images.{Images, zeros}
-use Rattle.heap_rows.specs.Heaps.{place_at, last_for, given_for, IsCount, IsHeaderPage, HasHeader, IsHeap}
+use Rattle.page_images.specs.Images.{zeros}
+use Rattle.heap_rows.specs.Heaps.{place_at, last_for, given_for, IsCount, IsHeaderPage}
 use Rattle.heap_rows.proofs.Laws.{HeaderLaws, ZeroLaws}
 use Rattle.heap_rows.proofs.Slot_reads.{may_have_header}
 

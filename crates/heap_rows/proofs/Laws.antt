@@ -1,6 +1,7 @@
 -- What is used of the laws of pages and slots, which are proved where those are defined.
 use Rattle.std.proofs.Common.{◌≡◌, ◌≤◌, ◌<◌, ◌^◌, ◌+◌, ◌⊎◌, ℕ, true, false, List, length, Option, Some, None, IfSome}
-use Rattle.std.specs.Prelude.{slice_index, Ok}
+use Rattle.std.specs.Prelude.{Ok}
+use Rattle.byteorder.specs.Endian.{big_number}
 use Rattle.ds_base.specs.Values.{IsValue}
 use Rattle.ds_base.specs.declared.names.PageId.{PageId}
 use Rattle.ds_base.specs.declared.names.Place.{Place}
@@ -18,11 +19,12 @@ pub record PartLaws : Type 0 where
   pub whole : (lrsn : ℕ) (page : List ℕ) (p : Patch) → Lies page p → length (after_patch lrsn page p) ≡ page_size
   pub put : (lrsn : ℕ) (page : List ℕ) (p : Patch) → Lies page p → IsOffStamp p.offset (length p.bytes) → part p.offset (length p.bytes) (after_patch lrsn page p) ≡ p.bytes
   pub kept : (lrsn : ℕ) (page : List ℕ) (p : Patch) (at width : ℕ) → Lies page p → IsOffStamp at width → AreApart at width p.offset (length p.bytes) → part at width (after_patch lrsn page p) ≡ part at width page
+  pub number : (page : List ℕ) (at width : ℕ) → number_in page at width ≡ big_number width (part at width page)
 
 pub record FrontLaws : Type 0 where
   pub made : (lrsn : ℕ) (page : List ℕ) (id : PageId) (kind : ℕ) → length page ≡ page_size → HasFront (set_lrsn (patched page 0 (front kind id)) lrsn) id kind
   pub patch : (lrsn : ℕ) (page : List ℕ) (id : PageId) (kind : ℕ) (p : Patch) → HasFront page id kind → 12 ≤ p.offset → p.offset + length p.bytes ≤ page_size → HasFront (after_patch lrsn page p) id kind
-  pub stamped : (lrsn : ℕ) (page : List ℕ) → length page ≡ page_size → 1 ≤ lrsn → lrsn < 2 ^ 48 → IsStamped (set_lrsn page lrsn)
+  pub stamped : (lrsn : ℕ) (page : List ℕ) (p : Patch) → Lies page p → 1 ≤ lrsn → lrsn < 2 ^ 48 → IsStamped (after_patch lrsn page p)
 
 pub record ZeroLaws : Type 0 where
   pub are_zeros : is_zeros zeros ≡ true

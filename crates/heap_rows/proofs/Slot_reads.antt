@@ -1,20 +1,18 @@
 -- What is read of a heap.
-use Rattle.std.proofs.Common.{◌≡◌, ◌≤◌, ◌<◌, ◌^◌, ℕ, ◌+◌, ◌-◌, ◌*◌, ◌/◌, ◌%◌, ◌⊎◌, inl, inr, Bool, true, false, not, ◌&&◌, ◌==◌, List, length, Option, Some, None, refl, sym, ap, ◌∙◌, arith}
-use Rattle.std.specs.Prelude.{Result, Ok, nat_le, nat_lt}
+use Rattle.std.proofs.Common.{◌≡◌, ◌≤◌, ◌<◌, ◌^◌, ℕ, ◌-◌, ◌*◌, ◌%◌, Bool, true, not, ◌&&◌, ◌==◌, List, Option, Some, None, refl, ap, ◌∙◌, arith}
+use Rattle.std.specs.Prelude.{Result, Ok}
 use Rattle.std.proofs.lemmas.Bool.{eq-eqb, ne_eqb}
 use Rattle.ds_base.specs.Ids.{IsTable}
-use Rattle.ds_base.specs.declared.names.PageId.{PageId}
-use Rattle.page_format.specs.Fields.{number_in, lrsn_of}
-use Rattle.page_format.specs.Header.{kind_of, may_have, most, is_zeros, empty_header, header_of}
+use Rattle.page_format.specs.Fields.{lrsn_of}
+use Rattle.page_format.specs.Header.{may_have, header_of}
 use Rattle.page_format.specs.declared.header.Header.{Header}
 use Rattle.page_format.specs.declared.header.NotAPage.{NotAPage}
 use Rattle.page_format.specs.declared.header.PageKind.TheVariants as kind
 use Rattle.heap_space.specs.Changes.{heap_page}
-use Rattle.heap_space.specs.Next.{last_page_of, given_of, header_allowed}
 use Rattle.heap_space.specs.Slots.{slot_in, content, fault_in}
-use Rattle.page_images.specs.Images.{Images, zeros, HasFront, IsStamped}
-use Rattle.heap_rows.specs.Heaps.{place_at, slots_on, last_for, given_for, IsCount, IsHeaderPage, IsRowPage, HasHeader, IsHeap}
-use Rattle.heap_rows.proofs.Laws.{HeaderLaws, ImageLaws, ZeroLaws}
+use Rattle.page_images.specs.Images.{Images}
+use Rattle.heap_rows.specs.Heaps.{place_at, slots_on, IsCount, IsRowPage, IsHeap}
+use Rattle.heap_rows.proofs.Laws.{HeaderLaws, ImageLaws}
 use Rattle.heap_rows.proofs.Places.{reached, at_most}
 
 -- ---- which kinds the pages may have

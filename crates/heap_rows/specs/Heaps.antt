@@ -1,14 +1,16 @@
 -- The heap of a table as numbered slots: on which page and in which slot of it each lies, and what its pages hold.
-use Rattle.std.specs.Prelude.{◌≡◌, ℕ, ◌+◌, ◌-◌, ◌*◌, ◌/◌, ◌%◌, ◌^◌, ◌<◌, ◌≤◌, ◌⊎◌, ◌==◌, nat_le, Bool, true, false, if◌then◌else◌, List, Option, IfSome}
+use Rattle.std.specs.Prelude.{◌≡◌, ℕ, ◌+◌, ◌-◌, ◌*◌, ◌/◌, ◌%◌, ◌^◌, ◌<◌, ◌≤◌, ◌⊎◌, ◌==◌, nat_le, false, if◌then◌else◌, List, Option, IfSome}
 use Rattle.ds_base.specs.Values.{IsValue}
 use Rattle.ds_base.specs.declared.names.PageId.{PageId}
 use Rattle.ds_base.specs.declared.names.Place.{Place}
-use Rattle.page_format.specs.Fields.{count_at, number_in}
+use Rattle.page_format.specs.Fields.{count_at, number_in, patched, set_lrsn}
 use Rattle.page_format.specs.Header.{slots_per_page, is_zeros}
+use Rattle.page_format.specs.declared.patch.Patch.{Patch}
 use Rattle.heap_space.specs.Changes.{heap_page}
+use Rattle.heap_space.specs.Layout.{slot_at}
 use Rattle.heap_space.specs.Next.{last_page_of, given_of}
 use Rattle.heap_space.specs.Slots.{image, slot_in}
-use Rattle.page_images.specs.Images.{Images, zeros, HasFront, IsStamped}
+use Rattle.page_images.specs.Images.{Images, zeros, after_change, HasFront, IsStamped}
 
 -- ---- where slots lie
 
@@ -74,3 +76,16 @@ changed f at new n = if n == at then new else f n
 -- the pages of the heap of a table are the same
 abbrev pub SameHeap : Images → Images → ℕ → Type 0
 SameHeap at new table = (p : ℕ) → new (heap_page table p) ≡ at (heap_page table p)
+
+-- the pages of the heap of a table are those after a change with this LRSN and these patches
+abbrev pub IsAfter : Images → Images → ℕ → ℕ → List Patch → Type 0
+IsAfter at new table lrsn patches = (p : ℕ) → new (heap_page table p) ≡ after_change lrsn patches at (heap_page table p)
+
+-- the change of a row: its slot has its key, and this value or none
+abbrev pub row_patch : ℕ → Place → ℕ → Option (List ℕ) → Patch
+row_patch table place key value = record { page = heap_page table place.page; offset = slot_at place.slot; bytes = image key value }
+
+-- page p of a heap after the change of the row at this place
+abbrev pub row_page : ℕ → Place → ℕ → Option (List ℕ) → ℕ → List ℕ → List ℕ
+row_page lrsn place key value p page =
+    if p == place.page then set_lrsn (patched page (slot_at place.slot) (image key value)) lrsn else page
