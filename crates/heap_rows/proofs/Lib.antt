@@ -1,3 +1,5 @@
+mod Formats
+mod Gives
 mod Header_reads
 mod Laws
 mod Patched_pages

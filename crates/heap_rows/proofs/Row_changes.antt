@@ -21,11 +21,11 @@ changed_here f n new = ap (λ (b : Bool). if b then new else f n) (eq-eqb n n re
 pub changed_else : {A : Type 0} (f : ℕ → A) (n : ℕ) (new : A) (m : ℕ) → (m ≡ n → ⊥) → changed f n new m ≡ f m
 changed_else f n new m ne = ap (λ (b : Bool). if b then new else f m) (ne_eqb m n ne)
 
-one_not_none : {k : ℕ} → k ≡ 0 → 1 ≤ k → ⊥
+pub one_not_none : {k : ℕ} → k ≡ 0 → 1 ≤ k → ⊥
 one_not_none none some = omega (arith, none, some)
 
 -- two slots of one page have different places in it
-slots_differ : (m n : ℕ) → (m ≡ n → ⊥) → (place_at m).page ≡ (place_at n).page → (place_at n).slot ≡ (place_at m).slot → ⊥
+pub slots_differ : (m n : ℕ) → (m ≡ n → ⊥) → (place_at m).page ≡ (place_at n).page → (place_at n).slot ≡ (place_at m).slot → ⊥
 slots_differ m n ne page slot = ne (omega (arith, page, slot))
 
 module _ (parts : PartLaws) (fronts : FrontLaws) (at new : Images) (table count : ℕ) (key : ℕ → ℕ) (row : ℕ → Option (List ℕ)) (n : ℕ) (value : Option (List ℕ)) (lrsn : ℕ)

@@ -10,13 +10,13 @@ ghost use Rattle.ds_base.specs.declared.names.Place.{Place};
 ghost use Rattle.page_format.specs.Fields.{lrsn_of};
 ghost use Rattle.page_format.specs.Header.{slots_per_page, is_zeros, empty_header, header_of};
 ghost use Rattle.page_format.specs.declared.header.PageKind.TheVariants as kind;
-ghost use Rattle.heap_space.specs.Changes.{heap_page};
+ghost use Rattle.heap_space.specs.Changes.{heap_page, format_patches, give_patches};
 ghost use Rattle.heap_space.specs.Next.{last_page_of, given_of, header_allowed, next_place};
 ghost use Rattle.heap_space.specs.Slots.{slot_in, content, fault_in};
 ghost use Rattle.page_images.specs.Images.{Images};
-ghost use Rattle.heap_rows.specs.Heaps.{place_at, slots_on, last_for, given_for, IsCount, HasHeader, IsHeap, SameHeap, changed, row_page};
+ghost use Rattle.heap_rows.specs.Heaps.{place_at, slots_on, last_for, given_for, IsCount, HasHeader, IsHeap, SameHeap, changed, IsAfter, row_page};
 
-use heap_space::image_laws;
+use heap_space::{give_laws, image_laws};
 use page_images::{front_laws, header_laws, part_laws};
 
 /// Each slot lies among those of its page, and the header page leads to the place of the first slot that is not given.
@@ -62,4 +62,16 @@ pub fn row_change_laws()
 {
     front_laws();
     part_laws();
+}
+
+/// Formatting gives an empty heap its header page. To give a slot to a key adds it, without a row, behind the slots that
+/// were given. All other slots stay.
+pub fn heap_laws()
+    ensures format { (at new : Images) (table count : ℕ) (key : ℕ → ℕ) (row : ℕ → Option (List ℕ)) (lrsn : ℕ) → IsHeap at table count key row → is_zeros (at (heap_page table 0)) ≡ true → 1 ≤ lrsn → lrsn < 2 ^ 48 → IsAfter at new table lrsn (format_patches table) → IsHeap new table count key row × HasHeader new table }
+    ensures give { (at new : Images) (table count : ℕ) (key : ℕ → ℕ) (row : ℕ → Option (List ℕ)) (k lrsn : ℕ) → IsHeap at table count key row → HasHeader at table → k < 2 ^ 64 → (place_at count).page < 2 ^ 32 → 1 ≤ lrsn → lrsn < 2 ^ 48 → IsAfter at new table lrsn (give_patches table (place_at count) k) → IsHeap new table (count + 1) (changed key count k) (changed row count None) × HasHeader new table }
+{
+    front_laws();
+    part_laws();
+    header_laws();
+    give_laws();
 }
