@@ -1,0 +1,6 @@
+mod Lists
+mod Sorting
+mod Chosen
+mod Grows
+mod Bytes
+mod Fronts

@@ -1,0 +1,24 @@
+//! What logs stand for that grow by one transaction after the other: each appends to the log of its member as often as it
+//! likes, its commit last, or it doesn't commit.
+//!
+//! The crate has definitions and proofs alone. Its functions do nothing: their contracts are the laws.
+#![tactic(auto)]
+
+ghost use Rattle.log_growth.specs.Growth.{StartsEmpty, PassesNumbers, GrowsByTransactions, AppendsFollow, StandsForRows, BytesGrow, StaysAllowed, CutsWhole, TornStands};
+
+/// A transaction adds its row changes to the rows that logs stand for exactly where it commits.
+pub fn growth_laws()
+    ensures start { StartsEmpty }
+    ensures passes { PassesNumbers }
+    ensures grows { GrowsByTransactions }
+    ensures follow { AppendsFollow }
+{}
+
+/// The bytes of logs, whole and after a stop inside an append, stand for these rows.
+pub fn byte_laws()
+    ensures stands { StandsForRows }
+    ensures bytes { BytesGrow }
+    ensures allowed { StaysAllowed }
+    ensures cuts { CutsWhole }
+    ensures torn { TornStands }
+{}
