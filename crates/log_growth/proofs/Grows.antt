@@ -48,9 +48,9 @@ kept_as_before : (last tran : ℕ) (xs mine ys rs : List LogRecord) → last < t
 kept_as_before last tran xs mine ys rs lt own up =
     all_weaker (IsUpTo last) (λ (r : LogRecord). has_commit (xs ++ (mine ++ ys)) r.tran ≡ has_commit (xs ++ ys) r.tran)
     (λ (r : LogRecord) u.
-        commit-parts xs mine ys r.tran
-        ∙ or-none (has_commit xs r.tran) (has_commit mine r.tran) (has_commit ys r.tran) (no_earlier_commit tran r.tran mine (omega (arith, u.1)) own)
-        ∙ sym (commit-append xs ys r.tran))
+    commit-parts xs mine ys r.tran
+    ∙ or-none (has_commit xs r.tran) (has_commit mine r.tran) (has_commit ys r.tran) (no_earlier_commit tran r.tran mine (omega (arith, u.1)) own)
+    ∙ sym (commit-append xs ys r.tran))
     rs up
 
 abbrev pub test_of : List LogRecord → LogRecord → Bool
@@ -84,10 +84,10 @@ rows_between last tran high xs mine ys are ux uy =
     ∙ ap (after_records finite.empty) (latest_come_last last fx fm fy (rises_filtered p (last + 1) mine are.rising) (up_to_filtered q last xs (numbers_of last xs ux)) (up_to_filtered q last ys (numbers_of last ys uy)))
     ∙ after_records-append finite.empty (by_lrsn (fx ++ fy)) fm
     ∙ changes_by tran p (has_commit mine tran) rows mine are.own
-        (λ (r : LogRecord) e.
-            ap (has_commit (xs ++ (mine ++ ys))) e
-            ∙ commit-parts xs mine ys tran
-            ∙ or-own (has_commit xs tran) (has_commit mine tran) (has_commit ys tran) (no_later_commit last tran xs are.later ux) (no_later_commit last tran ys are.later uy))
+    (λ (r : LogRecord) e.
+    ap (has_commit (xs ++ (mine ++ ys))) e
+    ∙ commit-parts xs mine ys tran
+    ∙ or-own (has_commit xs tran) (has_commit mine tran) (has_commit ys tran) (no_later_commit last tran xs are.later ux) (no_later_commit last tran ys are.later uy))
     ∙ ap (λ (l : List LogRecord). rows_behind (after_records finite.empty (by_lrsn l)) tran mine) (sym (filter-append q xs ys))
 
 eqb_is : (m n : ℕ) → eqb m n ≡ true → m ≡ n
