@@ -73,7 +73,7 @@ rises_first : (low : ℕ) (xs ys : List LogRecord) → IsRisingFrom low (xs ++ y
 rises_first low [] ys h = tt
 rises_first low (x ∷ xs) ys h = (h.0, rises_first x.lrsn xs ys h.1)
 
-fewer : (last tran high : ℕ) (xs ys : List LogRecord) → AreOf last tran high (xs ++ ys) → AreOf last tran high xs
+pub fewer : (last tran high : ℕ) (xs ys : List LogRecord) → AreOf last tran high (xs ++ ys) → AreOf last tran high xs
 fewer last tran high xs ys are = record {
   later = are.later;
   upto = are.upto;

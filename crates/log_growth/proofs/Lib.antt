@@ -4,3 +4,4 @@ mod Chosen
 mod Grows
 mod Bytes
 mod Fronts
+mod Courses

@@ -4,6 +4,7 @@
 //! The crate has definitions and proofs alone. Its functions do nothing: their contracts are the laws.
 #![tactic(auto)]
 
+ghost use Rattle.log_growth.specs.Courses.{BeginsCourse, PutsRecord, ForcesRecords, GetsNumber, EndsCourse, StandsOnTheWay, StandsTorn};
 ghost use Rattle.log_growth.specs.Growth.{StartsEmpty, PassesNumbers, GrowsByTransactions, AppendsFollow, StandsForRows, BytesGrow, StaysAllowed, CutsWhole, TornStands};
 
 /// A transaction adds its row changes to the rows that logs stand for exactly where it commits.
@@ -21,4 +22,16 @@ pub fn byte_laws()
     ensures allowed { StaysAllowed }
     ensures cuts { CutsWhole }
     ensures torn { TornStands }
+{}
+
+/// The records of the transaction in hand go through a log buffer to its member's log. At each moment, and after a stop
+/// inside an append, the logs stand for the rows behind some of them, from the first on.
+pub fn course_laws()
+    ensures begins { BeginsCourse }
+    ensures puts { PutsRecord }
+    ensures forces { ForcesRecords }
+    ensures number { GetsNumber }
+    ensures ends { EndsCourse }
+    ensures stands { StandsOnTheWay }
+    ensures torn { StandsTorn }
 {}
