@@ -1,0 +1,7 @@
+mod Lists
+mod Sorting
+mod Chosen
+mod Grows
+mod Bytes
+mod Fronts
+mod Courses

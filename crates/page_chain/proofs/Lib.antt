@@ -1,0 +1,3 @@
+mod Others
+mod Order
+mod Redoes
