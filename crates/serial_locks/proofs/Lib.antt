@@ -1,0 +1,9 @@
+mod Names
+mod Joins
+mod Lists
+mod Grants
+mod Releases
+mod Answers
+mod Starts
+mod Asks
+mod Gives
