@@ -1,0 +1,1 @@
+-- What the changes of an index make of its two chains.
