@@ -5,3 +5,4 @@ pub mod Looks
 pub mod Steps
 pub mod Leaves
 pub mod Scans
+pub mod Read

@@ -1,4 +1,5 @@
 use index_leaf::search_step_laws;
+use page_images::header_laws;
 
 ghost use Rattle.index_chain.specs.Searches.{BranchGoesDown, BranchGoesRight, BranchIsRead, BranchLeadsOn, HeaderIsRead, LeafAnswers, LeafEnds, LeafFinds, LeafGoesRight, LeafIsRead, LeafLacks, LeafScans, LeavesRise, SearchBegins};
 
@@ -7,6 +8,9 @@ ghost use Rattle.index_chain.specs.Searches.{BranchGoesDown, BranchGoesRight, Br
 /// all leaves have between its keys.
 pub fn search_laws()
     ensures begins { SearchBegins }
+    ensures header { HeaderIsRead }
+    ensures branch { BranchIsRead }
+    ensures leaf { LeafIsRead }
     ensures branch_right { BranchGoesRight }
     ensures leaf_right { LeafGoesRight }
     ensures down { BranchGoesDown }
@@ -19,4 +23,5 @@ pub fn search_laws()
     ensures rising { LeavesRise }
 {
     search_step_laws();
+    header_laws();
 }
