@@ -1,10 +1,11 @@
 -- What a page begins with, and what its header says.
-use Rattle.std.proofs.Common.{◌≡◌, ◌≤◌, ◌<◌, ◌^◌, ℕ, zero, suc, Bool, true, false, not, ◌==◌, nat_le, if◌then◌else◌, List, [], ◌∷◌, ◌++◌, take, drop, Option, None, refl, sym, ap, ◌∙◌}
-use Rattle.std.specs.Prelude.{slice_index, Result, Ok}
+use Rattle.std.proofs.Common.{◌≡◌, ◌≤◌, ◌<◌, ◌^◌, ℕ, zero, suc, Bool, true, false, not, ◌==◌, nat_le, if◌then◌else◌, List, [], ◌∷◌, ◌++◌, ◌+◌, ◌*◌, length, take, drop, Option, None, inl, inr, refl, sym, ap, ◌∙◌, arith}
+use Rattle.std.specs.Prelude.{replicate, get_or, slice_index, Result, Ok}
 use Rattle.std.specs.Str.{bytes_eq}
-use Rattle.std.proofs.lemmas.Bool.{eq-eqb, le-leb}
-use Rattle.std.proofs.lemmas.List.{take-append-drop}
-use Rattle.byteorder.specs.Endian.{big_bytes}
+use Rattle.std.proofs.Math.Nat.{zero-mul}
+use Rattle.std.proofs.lemmas.Bool.{eq-eqb, le-leb, cases_lt}
+use Rattle.std.proofs.lemmas.List.{take-append-drop, length-replicate, get_or-replicate, get_or_past, get_or-drop}
+use Rattle.byteorder.specs.Endian.{big_bytes, big_from}
 use Rattle.byteorder.specs.Numbers.{big_number-reads_back}
 use Rattle.ds_base.specs.declared.names.PageId.{PageId}
 use Rattle.page_format.specs.Fields.{number_in, lrsn_of}
@@ -110,3 +111,31 @@ unfolding header_of
 empty_read id =
     let answer : Result Header NotAPage = judged (first_fault (fields zeros id)) (header_in zeros) in
     ap (λ (b : Bool). if b then Ok empty_header else answer) (zeros_are 4096)
+
+pub zeros_whole : length zeros ≡ 4096
+unfolding zero_bytes
+zeros_whole = length-replicate {A = ℕ} 4096 0
+
+zero_byte : (n k : ℕ) → slice_index (zero_bytes n) k ≡ 0
+unfolding zero_bytes
+zero_byte n k =
+    let none : ℕ = 0 in
+    let xs : List ℕ = replicate n none in
+    let l : length xs ≡ n = length-replicate n none in
+    elim (cases_lt k n) as (λ _. get_or xs k none ≡ none) [
+      | inl lt ↦ get_or-replicate n k none none lt
+      | inr le ↦ get_or_past xs k none (omega (arith, l))
+    ]
+
+pub zeros_byte : (k : ℕ) → slice_index zeros k ≡ 0
+zeros_byte k = zero_byte 4096 k
+
+zero_from : (n i : ℕ) (xs : List ℕ) → ((k : ℕ) → slice_index xs k ≡ 0) → big_from i n xs ≡ 0
+zero_from zero i xs h = refl
+zero_from (suc n) i xs h =
+    let rest = zero_from n (suc i) xs h in
+    let none = zero-mul (256 ^ n) in
+    ap (λ (b : ℕ). b * 256 ^ n + big_from (suc i) n xs) (h i) ∙ omega (arith, rest, none)
+
+pub zeros_number : (at width : ℕ) → number_in zeros at width ≡ 0
+zeros_number at width = zero_from width 0 (drop at zeros) (λ k. get_or-drop at zeros k 0 ∙ zeros_byte (at + k))

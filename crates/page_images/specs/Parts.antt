@@ -26,3 +26,8 @@ pub record Lies (page : List ℕ) (patch : Patch) : Type 0 where
 abbrev pub AreBehindFront : List Patch → Type 0
 AreBehindFront [] = Unit {0}
 AreBehindFront (p ∷ ps) = ((front_width ≤ p.offset) × (p.offset + length p.bytes ≤ page_size)) × AreBehindFront ps
+
+-- each patch lies in a page
+abbrev pub AreWithin : List Patch → Type 0
+AreWithin [] = Unit {0}
+AreWithin (p ∷ ps) = (p.offset + length p.bytes ≤ page_size) × AreWithin ps

@@ -1,4 +1,4 @@
-use Rattle.page_images.proofs.Fronts.{fronts_agree, empty_read, header_read, kind_read, name_read}
+use Rattle.page_images.proofs.Fronts.{fronts_agree, empty_read, zeros_whole, zeros_byte, zeros_number, header_read, kind_read, name_read}
 use Rattle.page_images.proofs.header_laws.Goals as goal
 
 pub returns-clause-agree : goal.returns-clause-agree
@@ -6,6 +6,9 @@ returns-clause-agree c = λ kind id. fronts_agree kind id
 
 pub returns-clause-empty : goal.returns-clause-empty
 returns-clause-empty c = λ id. empty_read id
+
+pub returns-clause-zeros : goal.returns-clause-zeros
+returns-clause-zeros c = (zeros_whole, zeros_byte, zeros_number)
 
 pub returns-clause-header : goal.returns-clause-header
 returns-clause-header c = λ page id kind h stamped count may set number. header_read page id kind h stamped count may set number
