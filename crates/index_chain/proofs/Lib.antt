@@ -6,3 +6,8 @@ pub mod Steps
 pub mod Leaves
 pub mod Scans
 pub mod Read
+pub mod Kept
+pub mod Entered
+pub mod Entered_chain
+pub mod Entered_page
+pub mod Inserts

@@ -1,10 +1,10 @@
 -- Nodes of a chain by their numbers.
-use Rattle.std.proofs.Common.{◌≡◌, ℕ, ◌<◌, ◌≤◌, ◌⊎◌, refl, sym, ap, ◌∙◌, subst, inl, inr, arith, Bool, true, false, List, [], ◌∷◌, Option, Some, None, if◌then◌else◌}
+use Rattle.std.proofs.Common.{◌≡◌, ℕ, zero, suc, ◌<◌, ◌≤◌, ◌⊎◌, refl, sym, ap, ◌∙◌, subst, inl, inr, arith, Bool, true, false, List, [], ◌∷◌, Option, Some, None, if◌then◌else◌}
 use Rattle.std.proofs.lemmas.Bool.{eqb-true, eq-eqb}
-use Rattle.std.specs.Prelude.{◌==◌}
+use Rattle.std.specs.Prelude.{◌==◌, Contains}
 use Rattle.page_images.specs.Images.{Images, index_page}
 use Rattle.index_leaf.specs.declared.layout.Entry.{Entry}
-use Rattle.index_chain.specs.Chains.{Node, has_number, HasNode, IsNodePage, NodeFits, IsBelow, IsChain, LeadsTo, AllLeadTo, BeginsWith}
+use Rattle.index_chain.specs.Chains.{Node, has_number, HasNode, AllLead, IsNodePage, NodeFits, IsBelow, IsChain, LeadsTo, AllLeadTo, BeginsWith}
 use Rattle.index_chain.specs.Searches.{IsReached}
 
 -- ---- what is reached
@@ -27,4 +27,9 @@ node_reached [] page low key h le = h
 node_reached (n ∷ ns) page low key (inl here) le = let is = here.1 in inl (here.0, omega (arith, is))
 node_reached (n ∷ ns) page low key (inr more) le = inr (node_reached ns page low key more le)
 
--- a reached page is a node of the chain, and has all that each node has
+-- ---- where entries lead
+
+pub lead_at : (ls : List Node) (es : List Entry) (e : Entry) → AllLead ls es → Contains es e → HasNode ls e.place.page e.key
+lead_at ls [] e h (k, lt, is) = absurd (omega arith)
+lead_at ls (x ∷ es) e h (zero, lt, is) = subst (λ (y : Entry). HasNode ls y.place.page y.key) is h.0
+lead_at ls (x ∷ es) e h (suc k, lt, is) = lead_at ls es e h.1 (k, omega arith, is)

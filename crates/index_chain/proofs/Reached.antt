@@ -20,7 +20,7 @@ node_from page id kind n ns p =
 pub node_below : (page : List ℕ) (id : _) (kind : ℕ) (n m : Node) (ns : List Node) → IsNodePage page id kind n (m ∷ ns) → AllBelow m.low n.entries
 node_below page id kind n m ns p =
     all_below n.entries m.low (λ e c. leb-false m.low e.key
-        (subst (λ (o : Option ℕ). is_beyond o e.key ≡ false) p.high_key (p.node.below_high e (subst (λ (es : List Entry). Contains es e) (sym p.entries) c))))
+    (subst (λ (o : Option ℕ). is_beyond o e.key ≡ false) p.high_key (p.node.below_high e (subst (λ (es : List Entry). Contains es e) (sym p.entries) c))))
 
 pub node_rising : (page : List ℕ) (id : _) (kind : ℕ) (n : Node) (ns : List Node) → IsNodePage page id kind n ns → IsRising n.entries
 node_rising page id kind n ns p = subst IsRising p.entries p.node.rising
@@ -97,8 +97,7 @@ later : (at : Images) (table kind page key : ℕ) (n m : Node) (ms : List Node) 
 unfolding Standing
 later at table kind page key n m ms h (x, rest, before, s, up) =
     let below = node_below (at (index_page table n.number)) (index_page table n.number) kind n m ms h.0 in
-    let lt = h.2 in
-    (
+    let lt = h.2 in (
       x,
       rest,
       n.entries ++ before,

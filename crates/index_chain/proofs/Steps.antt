@@ -14,7 +14,7 @@ use Rattle.index_leaf.specs.Changes.{front_of}
 use Rattle.index_chain.specs.Chains.{Node, has_number, HasNode, Opens, IsNodePage, IsChain, LeadsTo, AllLeadTo, IsIndex}
 use Rattle.index_chain.specs.Searches.{IsReached, SearchBegins, GoesRight, BranchGoesRight, LeafGoesRight, BranchGoesDown, BranchLeadsOn, LeafAnswers}
 use Rattle.index_chain.proofs.Lists.{contains_here}
-use Rattle.index_chain.proofs.Places.{begins_reached, reached_has, node_reached}
+use Rattle.index_chain.proofs.Places.{begins_reached, reached_has, node_reached, lead_at}
 use Rattle.index_chain.proofs.Reached.{Stands, Standing, standing}
 use Rattle.index_chain.proofs.Looks.{found_is, down_branch, right_is}
 
@@ -79,7 +79,7 @@ down law at table next page key child bs ls h r is =
     let to = law (at (index_page table page)) key child s.3.holds.node.rising is in
     let e = to.0 in
     let leads = s.3.leads ls h.down in
-    let there = leads.leads e (subst (λ (es : List Entry). Contains es e) s.3.holds.entries to.1.among) in
+    let there = lead_at ls s.0.entries e leads.leads (subst (λ (es : List Entry). Contains es e) s.3.holds.entries to.1.among) in
     subst (λ (m : ℕ). IsReached ls m key) (sym to.2) (node_reached ls e.place.page e.key key there to.1.upto)
 
 abbrev pub Lost : Type 0
@@ -96,8 +96,7 @@ unfolding Standing
 leads law at table next page key bs ls h r =
     let s = standing at table 4 page key bs h.branch_pages r in
     let branch = branch_is (at (index_page table page)) (index_page table page) 4 s.3.holds.front in
-    let opens = (s.3.leads ls h.down).opens in
-    (
+    let opens = (s.3.leads ls h.down).opens in (
       λ is. opens_at (at (index_page table page)) key s.0.low s.0.entries law is branch s.3.holds.entries opens s.3.low,
       λ place is. let f = found_is (at (index_page table page)) key place is in let leaf = f.4 in cc,
     )

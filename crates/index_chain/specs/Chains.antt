@@ -40,10 +40,15 @@ abbrev pub entries_in : List Node → List Entry
 entries_in [] = []
 entries_in (n ∷ ns) = n.entries ++ entries_in ns
 
+-- the keys of entries fit their fields
+abbrev pub AllFit : List Entry → Type 0
+AllFit [] = Unit {0}
+AllFit (e ∷ es) = (e.key < 2 ^ 64) × AllFit es
+
 -- the keys of a node fit their fields
 pub record NodeFits (n : Node) : Type 0 where
   pub low : n.low < 2 ^ 64
-  pub keys : (e : Entry) → Contains n.entries e → e.key < 2 ^ 64
+  pub keys : AllFit n.entries
 
 -- ---- chains
 
@@ -80,10 +85,15 @@ abbrev pub Opens : ℕ → List Entry → Type 0
 Opens key [] = ⊥
 Opens key (e ∷ es) = e.key ≡ key
 
--- a branch begins with an entry of its low key, and each of its entries leads to the leaf whose low key is the entry's
+-- each entry leads to a leaf that has its key as low key
+abbrev pub AllLead : List Node → List Entry → Type 0
+AllLead leaves [] = Unit {0}
+AllLead leaves (e ∷ es) = HasNode leaves e.place.page e.key × AllLead leaves es
+
+-- a branch begins with an entry of its low key, and its entries lead to leaves
 pub record LeadsTo (leaves : List Node) (n : Node) : Type 0 where
   pub opens : Opens n.low n.entries
-  pub leads : (e : Entry) → Contains n.entries e → HasNode leaves e.place.page e.key
+  pub leads : AllLead leaves n.entries
 
 abbrev pub AllLeadTo : List Node → List Node → Type 0
 AllLeadTo leaves [] = Unit {0}

@@ -4,6 +4,8 @@
 //! The crate has definitions and proofs alone. Its functions do nothing: each is called where its facts are needed.
 #![tactic(auto)]
 
+mod changes;
 mod searches;
 
+pub use changes::{insertion_laws, stays_laws};
 pub use searches::search_laws;

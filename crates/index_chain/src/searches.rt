@@ -1,7 +1,7 @@
+ghost use Rattle.index_chain.specs.Searches.{BranchGoesDown, BranchGoesRight, BranchIsRead, BranchLeadsOn, HeaderIsRead, LeafAnswers, LeafEnds, LeafFinds, LeafGoesRight, LeafIsRead, LeafLacks, LeafScans, LeavesRise, SearchBegins};
+
 use index_leaf::search_step_laws;
 use page_images::header_laws;
-
-ghost use Rattle.index_chain.specs.Searches.{BranchGoesDown, BranchGoesRight, BranchIsRead, BranchLeadsOn, HeaderIsRead, LeafAnswers, LeafEnds, LeafFinds, LeafGoesRight, LeafIsRead, LeafLacks, LeafScans, LeavesRise, SearchBegins};
 
 /// A search for a key begins at page 1, goes right and down along pages whose low keys are not above the key, and ends at
 /// a leaf that answers as all leaves together do. A scan finds in a leaf, and behind it in the leaves to its right, what
