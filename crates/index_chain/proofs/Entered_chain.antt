@@ -100,7 +100,7 @@ HoldsMore at table kind page e bytes = (n : Node) (rest more : List Node) → Is
     → low_of_first more ≡ low_of_first rest → number_of_first more ≡ number_of_first rest
     → IsNodePage bytes (index_page table page) kind (record { number = n.number; low = n.low; entries = entered n.entries e }) more
 
-same_rest : (page : List ℕ) (at : Images) (table kind : ℕ) (n : Node) (rest more : List Node) → IsNodePage page (index_page table n.number) kind n rest → low_of_first more ≡ low_of_first rest → number_of_first more ≡ number_of_first rest
+pub same_rest : (page : List ℕ) (at : Images) (table kind : ℕ) (n : Node) (rest more : List Node) → IsNodePage page (index_page table n.number) kind n rest → low_of_first more ≡ low_of_first rest → number_of_first more ≡ number_of_first rest
     → IsNodePage page (index_page table n.number) kind n more
 same_rest page at table kind n rest more h low number = record {
   front = h.front;

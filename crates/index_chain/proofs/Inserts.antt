@@ -16,7 +16,7 @@ use Rattle.index_chain.proofs.Reached.{Standing, standing}
 use Rattle.index_chain.proofs.Looks.{absent_inside, absent_lacks}
 use Rattle.index_chain.proofs.Steps.{branch_is}
 use Rattle.index_chain.proofs.Leaves.{absent}
-use Rattle.index_chain.proofs.Kept.{kept_chain, kept_header, leads_more}
+use Rattle.index_chain.proofs.Kept.{not_true, kept_chain, kept_header, leads_more}
 use Rattle.index_chain.proofs.Entered_chain.{entered_has, entered_apart, entered_begins, has, gains, HoldsMore, entered_chain, entered_leads}
 use Rattle.index_chain.proofs.Entered_page.{Laws, taken_page}
 
@@ -38,12 +38,8 @@ numbered_same bs ls bs' ls' next sb sl ab al h = record {
   leaves_used = λ m is. h.leaves_used m (sym (sl m) ∙ is);
 }
 
-apart_back : (b : Bool) → (b ≡ true → ⊥) → b ≡ false
-apart_back true h = absurd (h refl)
-apart_back false h = refl
-
 pub no_branch : (bs ls : List Node) (next page : ℕ) → AreNumbered bs ls next → has_number ls page ≡ true → has_number bs page ≡ false
-no_branch bs ls next page h there = apart_back (has_number bs page) (λ is. let none = h.apart page is in cc)
+no_branch bs ls next page h there = not_true (has_number bs page) (λ is. let none = h.apart page is in cc)
 
 -- ---- a leaf
 

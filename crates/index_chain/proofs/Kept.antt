@@ -7,7 +7,11 @@ use Rattle.index_leaf.specs.declared.layout.Entry.{Entry}
 use Rattle.index_chain.specs.Chains.{Node, has_number, HasNode, AllLead, IsApart, IsNodePage, IsIndexHeader, IsChain, LeadsTo, AllLeadTo, BeginsWith, AreNumbered, IsIndex}
 use Rattle.index_chain.specs.Changes.{Stays, StaysWithout}
 
--- ---- pages that stay
+-- ---- numbers
+
+pub not_true : (b : Bool) → (b ≡ true → ⊥) → b ≡ false
+not_true true h = absurd (h refl)
+not_true false h = refl
 
 pub has_here : (n : Node) (ns : List Node) → has_number (n ∷ ns) n.number ≡ true
 has_here n ns = let is = eq-eqb n.number n.number refl in rw is refl
@@ -18,6 +22,8 @@ has_more_step false h is = is
 
 pub has_more : (n : Node) (ns : List Node) (m : ℕ) → has_number ns m ≡ true → has_number (n ∷ ns) m ≡ true
 has_more n ns m is = has_more_step (n.number == m) (has_number ns m) is
+
+-- ---- pages that stay
 
 pub kept_chain : (at new : Images) (table kind : ℕ) (ns : List Node) → ((m : ℕ) → has_number ns m ≡ true → new (index_page table m) ≡ at (index_page table m)) → IsChain at table kind ns → IsChain new table kind ns
 kept_chain at new table kind [] same h = tt

@@ -11,3 +11,8 @@ pub mod Entered
 pub mod Entered_chain
 pub mod Entered_page
 pub mod Inserts
+pub mod Halves
+pub mod Split_chain
+pub mod Split_page
+pub mod Header
+pub mod Splits

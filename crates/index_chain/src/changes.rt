@@ -20,3 +20,18 @@ pub fn insertion_laws()
     insert_laws();
     front_laws();
 }
+
+/// The split of a leaf or of a branch puts a new node behind it, which has the second half of its entries. All entries
+/// stay in their order, and what was reached still is.
+pub fn split_chain_laws()
+    ensures leaf { LeafSplits }
+    ensures branch { BranchSplits }
+    ensures keeps { SplitKeeps }
+    ensures reaches { SplitReaches }
+    ensures has { SplitHas }
+{
+    split_laws();
+    header_laws();
+    front_laws();
+    part_laws();
+}
