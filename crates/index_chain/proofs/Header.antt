@@ -38,8 +38,7 @@ next_kept page id lrsn next p law at bytes whole lt =
     let l = ap length bytes ∙ length_next next in
     let lies : Lies page p = record { whole = whole; within = omega (arith, at, l) } in
     let new = after_patch lrsn page p in
-    let put = law.put lrsn page p lies (inr (omega (arith, at))) in
-    (
+    let put = law.put lrsn page p lies (inr (omega (arith, at))) in (
       law.number new 26 2 ∙ ap (big_number 2) (law.kept lrsn page p 26 2 lies (inr (omega arith)) (inl (omega (arith, at)))) ∙ sym (law.number page 26 2),
       law.number new 32 4 ∙ ap (λ (o : ℕ). big_number 4 (part o 4 new)) (sym at) ∙ ap (λ (n : ℕ). big_number 4 (part p.offset n new)) (sym l) ∙ ap (big_number 4) (put ∙ bytes) ∙ read_next next lt,
     )

@@ -16,3 +16,4 @@ pub mod Split_chain
 pub mod Split_page
 pub mod Header
 pub mod Splits
+pub mod Formats

@@ -107,9 +107,9 @@ old_if : (b : Bool) (n : Node) (ns : List Node) (page number m : ℕ) → (has_n
 old_if true n ns page number m ih is = elim (here_or (left_half n) (right_half n number ∷ split_at ns page number) m is) as (λ _. (has_number (n ∷ ns) m ≡ true) ⊎ (m ≡ number)) [
   | inl here ↦ inl (number_here n ns m here)
   | inr more ↦ elim (here_or (right_half n number) (split_at ns page number) m more) as (λ _. (has_number (n ∷ ns) m ≡ true) ⊎ (m ≡ number)) [
-      | inl new ↦ inr (sym new)
-      | inr rest ↦ old_more n ns number m (ih rest)
-    ]
+    | inl new ↦ inr (sym new)
+    | inr rest ↦ old_more n ns number m (ih rest)
+  ]
 ]
 old_if false n ns page number m ih is = elim (here_or n (split_at ns page number) m is) as (λ _. (has_number (n ∷ ns) m ≡ true) ⊎ (m ≡ number)) [
   | inl here ↦ inl (number_here n ns m here)
@@ -175,8 +175,7 @@ chain_if true at new table kind page next n ns is law full same h ih =
     let both = law n ns (split_at ns page next) here h.1 (low_first ns page next) (number_first ns page next) in
     let half = halved (at (index_page table page)) n.entries full here.entries in
     let from = node_from (at (index_page table page)) (index_page table page) kind n ns here in
-    let rising = node_rising (at (index_page table page)) (index_page table page) kind n ns here in
-    (
+    let rising = node_rising (at (index_page table page)) (index_page table page) kind n ns here in (
       subst (λ (m : ℕ). IsNodePage (new (index_page table m)) (index_page table m) kind (left_half n) (right_half n next ∷ split_at ns page next)) (sym number_is) both.0,
       record { low = h.1.low; keys = fit_first 126 n.entries h.1.keys },
       low_below (at (index_page table page)) n.low n.entries half from rising,
@@ -188,10 +187,9 @@ chain_if true at new table kind page next n ns is law full same h ih =
       ),
     )
 chain_if false at new table kind page next n ns is law full same h ih =
-    let image = same (eqb-false n.number page is) in
-    (
+    let image = same (eqb-false n.number page is) in (
       subst (λ (bytes : List ℕ). IsNodePage bytes (index_page table n.number) kind n (split_at ns page next)) (sym image)
-      (same_rest (at (index_page table n.number)) at table kind n ns (split_at ns page next) h.0 (low_first ns page next) (number_first ns page next)),
+          (same_rest (at (index_page table n.number)) at table kind n ns (split_at ns page next) h.0 (low_first ns page next) (number_first ns page next)),
       h.1,
       split_below n.low ns page next h.2,
       ih,
@@ -211,8 +209,7 @@ leads_if : (b : Bool) (at : Images) (table kind page next : ℕ) (ls : List Node
 leads_if true at table kind page next ls n ns is full h l ih =
     let number_is = eqb-true n.number page is in
     let here = subst (λ (m : ℕ). IsNodePage (at (index_page table m)) (index_page table m) kind n ns) number_is h in
-    let half = halved (at (index_page table page)) n.entries full here.entries in
-    (
+    let half = halved (at (index_page table page)) n.entries full here.entries in (
       record { opens = opens_first 125 n.low n.entries l.opens; leads = lead_first ls 126 n.entries l.leads },
       (record { opens = opens_last (at (index_page table page)) n.entries half; leads = lead_last ls 126 n.entries l.leads }, ih),
     )

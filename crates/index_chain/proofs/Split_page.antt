@@ -59,8 +59,7 @@ left_within : (page : List ℕ) (number : ℕ) → AreBehindFront (left_patches 
 left_within page number =
     let c = length_count 126 in
     let k = length_link (low_of_split page) number in
-    let z = length_zeros 2016 in
-    (
+    let z = length_zeros 2016 in (
       ((omega arith, omega (arith, c)), ((omega arith, omega (arith, k)), ((omega arith, omega (arith, z)), tt))),
       (omega (arith, c), (omega (arith, k), (omega (arith, z), tt))),
     )
@@ -77,8 +76,7 @@ right_within page number l =
     let n = length_front (slice_index page 4) (right_id page number) in
     let c = length_count 126 in
     let k = length_fields page l in
-    let z = length_half page l in
-    (
+    let z = length_half page l in (
       ((omega arith, omega (arith, c)), ((omega arith, omega (arith, k)), ((omega arith, omega (arith, z)), tt))),
       (omega (arith, n), (omega (arith, c), (omega (arith, k), (omega (arith, z), tt)))),
     )

@@ -49,9 +49,9 @@ holds_halves : (at new : Images) (table kind page next lrsn : ℕ) → PageLaws 
     → HoldsHalves at new table kind page next
 holds_halves at new table kind page next lrsn law p full t lt most stamp = λ n rest more h fits low_first number_first. (
   subst (λ (bytes : List ℕ). IsNodePage bytes (index_page table page) kind (left_half n) (right_half n next ∷ more)) (sym p.left)
-  (left_page (at (index_page table page)) (index_page table page) kind lrsn next n rest more law h fits full most stamp),
+      (left_page (at (index_page table page)) (index_page table page) kind lrsn next n rest more law h fits full most stamp),
   subst (λ (bytes : List ℕ). IsNodePage bytes (index_page table next) kind (right_half n next) more) (sym p.right)
-  (right_page (at (index_page table page)) table page kind lrsn next n rest more law h fits full t (omega (arith, lt, most)) stamp low_first number_first),
+      (right_page (at (index_page table page)) table page kind lrsn next n rest more law h fits full t (omega (arith, lt, most)) stamp low_first number_first),
 )
 
 split_header : (at new : Images) (table page next lrsn : ℕ) → HeaderLaws → Parts at new table page next lrsn → IsIndexHeader (at (index_page table 0)) (index_page table 0) next → next + 1 < 2 ^ 32 → IsLrsn lrsn
@@ -91,8 +91,8 @@ leaves_numbered bs ls page next pos h = record {
   branches_apart = h.branches_apart;
   leaves_apart = split_apart ls page next h.leaves_apart (unused ls next h.leaves_used);
   apart = λ m is. not_true (has_number (split_at ls page next) m) (λ there. elim (old_or_new ls page next m there) as (λ _. ⊥) [
-      | inl old ↦ (let none = h.apart m is in cc)
-      | inr new ↦ (let lt = (h.branches_used m is).1 in omega (arith, lt, new))
+    | inl old ↦ (let none = h.apart m is in cc)
+    | inr new ↦ (let lt = (h.branches_used m is).1 in omega (arith, lt, new))
   ]);
   branches_used = λ m is. used_more m next (h.branches_used m is);
   leaves_used = split_used ls page next pos h.leaves_used;

@@ -43,7 +43,7 @@ abbrev pub first_leaves : List Node
 first_leaves = record { number = 2; low = 0; entries = [] } ∷ []
 
 abbrev pub Formats : Type 0
-Formats = (at : Images) (table lrsn : ℕ) → HasNoIndex at table → table ≤ 64 → IsLrsn lrsn → IsIndex (after_change lrsn (format_patches table) at) table first_branches first_leaves 3
+Formats = (at : Images) (table lrsn : ℕ) → HasNoIndex at table → IsLrsn lrsn → IsIndex (after_change lrsn (format_patches table) at) table first_branches first_leaves 3
 
 -- ---- an insertion
 

@@ -35,3 +35,14 @@ pub fn split_chain_laws()
     front_laws();
     part_laws();
 }
+
+/// The format of an index makes one branch and one leaf without entries.
+pub fn format_chain_laws()
+    ensures { Formats }
+{
+    format_laws();
+    written_laws();
+    header_laws();
+    front_laws();
+    part_laws();
+}

@@ -7,5 +7,5 @@
 mod changes;
 mod searches;
 
-pub use changes::{insertion_laws, split_chain_laws, stays_laws};
+pub use changes::{format_chain_laws, insertion_laws, split_chain_laws, stays_laws};
 pub use searches::search_laws;
