@@ -18,3 +18,4 @@ pub mod Header
 pub mod Splits
 pub mod Formats
 pub mod Under
+pub mod Patches
