@@ -104,10 +104,10 @@ branch_entry page low child = branch_entry_by page low child (look_of page low)
 
 -- ---- splits
 
--- the patch of the index header that takes the next page, those of that page, and those of the full one
+-- the patch of the index header that takes the next page, those of the full page, and those of the new one
 abbrev pub split_plan : Patch → ℕ → List ℕ → Plan
 split_plan taken next left =
-    if count_of left == entries_per_page then plan.Change (taken ∷ index.right_patches left next ++ index.left_patches left next) else plan.Moot
+    if count_of left == entries_per_page then plan.Change (taken ∷ index.left_patches left next ++ index.right_patches left next) else plan.Moot
 
 -- ---- rows
 

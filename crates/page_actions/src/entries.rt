@@ -99,7 +99,7 @@ pub fn plan_split(alloc: Global, taken: Patch, next: u32, left: &Page) -> Result
     let halves = split(alloc, left, next)?;
     let mut patches = Patches::new(alloc);
     patches.push(taken)?;
-    append(&mut patches, halves.right)?;
     append(&mut patches, halves.left)?;
+    append(&mut patches, halves.right)?;
     Ok(Plan::Change(patches))
 }
