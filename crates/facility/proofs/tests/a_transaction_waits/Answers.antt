@@ -20,7 +20,7 @@ command-reply-requires g c =
     record {
       flag = omega arith;
       room = λ unsettled.
-      subst (λ (waits : List Wait). FitsWaits (with_wait waits w) c.tran.result.member c.in_ok-facility.facility.lists.agents) (sym lists.waits)
-      (subst (λ (agents : ℕ). FitsWaits (with_wait [] w) c.tran.result.member agents) (sym lists.agents_kept) (one_fits c.tran.result c.tran-2.result));
+          subst (λ (waits : List Wait). FitsWaits (with_wait waits w) c.tran.result.member c.in_ok-facility.facility.lists.agents) (sym lists.waits)
+          (subst (λ (agents : ℕ). FitsWaits (with_wait [] w) c.tran.result.member agents) (sym lists.agents_kept) (one_fits c.tran.result c.tran-2.result));
       bells = λ unsettled m. omega (arith, lists.bells m);
     }
