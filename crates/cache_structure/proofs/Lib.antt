@@ -4,3 +4,5 @@ pub mod Binding
 pub mod Views
 pub mod Tables
 pub mod Changed
+pub mod Making
+pub mod Sound

@@ -12,7 +12,8 @@ use Rattle.indexmap.specs.IndexMap.{IndexMap}
 use Rattle.ds_base.specs.declared.names.PageId.{PageId}
 use Rattle.cache_structure.specs.declared.slot.Slot.{Slot}
 use Rattle.cache_structure.specs.Entries.{Entry, fresh, is_of, is_idle, same_page, entry_of, without, newest, at_entry, written_with, locked_by, cast_out, freed_of}
-use Rattle.cache_structure.specs.Slots.{Table, rewritten, locked_for, unlocked, freed_slot, free_slot, holding, holds, slot_at, find_slot, entry_in, entry_at, entries_in, bytes_at, is_idle_slot}
+use Rattle.cache_structure.specs.Slots.{Table, rewritten, locked_for, unlocked, freed_slot, free_slot, holding, holds, slot_at, find_slot, entry_in, entry_at, entries_in, bytes_at, is_idle_slot, page_in}
+use Rattle.cache_structure.specs.Frames.{is_page}
 use Rattle.cache_structure.specs.Uses.{all_but, used_last, is_in, countdown}
 use Rattle.cache_structure.specs.Places.{holds_at, LeadsToAll, HasRoomFor}
 use Rattle.cache_structure.specs.Kept.{IsKept}
@@ -76,6 +77,13 @@ some_of id (Some e) h = (e, refl)
 pub there : (t : Table) (s : ℕ) (id : PageId) → holds_at t.slots s id ≡ true → (e : Entry) × (entry_at t s ≡ Some e)
 there t s id h = some_of id (entry_at t s) (seen t s id ∙ h)
 
+pub held_at : (slots : List Slot) (s : ℕ) (id : PageId) → holds_at slots s id ≡ holds id (slot_at slots s)
+held_at slots s id = by (slice_get slots s)
+  where
+    by : (o : Option Slot) → option_map_or (holds id) o false ≡ holds id (unwrap_or o free_slot)
+    by None = refl
+    by (Some slot) = refl
+
 module _ {S : Type 0} (t : Table) (places : IndexMap (ℕ × ℕ) ℕ S) (used : ℕ) (kept : IsKept t places used) where
   -- no other slot holds the page
   pub own_page : (s : ℕ) (id : PageId) → holds_at t.slots s id ≡ true → (x : ℕ) (e : Entry) → entry_at t x ≡ Some e → is_of id e ≡ nat_eq s x
@@ -89,6 +97,22 @@ module _ {S : Type 0} (t : Table) (places : IndexMap (ℕ × ℕ) ℕ S) (used :
           absurd (apart to same)
         where
           apart : Some s ≡ Some x → nat_eq s x ≡ false → ⊥
+          apart to differs = grind arith
+
+  pub pages_apart : (f s : ℕ) (id : PageId) → page_in t.slots f ≡ Some id → is_page id (page_in t.slots s) ≡ nat_eq s f
+  pages_apart f s id is = by (nat_eq s f) (holds_at t.slots s id) refl refl
+    where
+      there : holds_at t.slots f id ≡ true
+      there = held_at t.slots f id ∙ ap (λ p. option_map_or (same_page id) p false) is ∙ own id
+
+      by : (same held : Bool) → nat_eq s f ≡ same → holds_at t.slots s id ≡ held → is_page id (page_in t.slots s) ≡ nat_eq s f
+      by true held same at = sym (held_at t.slots s id) ∙ ap (λ k. holds_at t.slots k id) (eqb-true s f same) ∙ there ∙ sym same
+      by false false same at = sym (held_at t.slots s id) ∙ at ∙ sym same
+      by false true same at =
+          let to : Some f ≡ Some s = sym (kept.leads f id there) ∙ kept.leads s id at in
+          absurd (apart to same)
+        where
+          apart : Some f ≡ Some s → nat_eq s f ≡ false → ⊥
           apart to differs = grind arith
 
   own_entry : (s : ℕ) (e : Entry) → entry_at t s ≡ Some e → (x : ℕ) (f : Entry) → entry_at t x ≡ Some f → is_of e.page f ≡ nat_eq s x
@@ -317,13 +341,6 @@ module _ {S : Type 0} (t : Table) (places : IndexMap (ℕ × ℕ) ℕ S) (used :
           on a b = omega (arith, a, b)
 
 -- ---- one slot or its storage changes
-
-pub held_at : (slots : List Slot) (s : ℕ) (id : PageId) → holds_at slots s id ≡ holds id (slot_at slots s)
-held_at slots s id = by (slice_get slots s)
-  where
-    by : (o : Option Slot) → option_map_or (holds id) o false ≡ holds id (unwrap_or o free_slot)
-    by None = refl
-    by (Some slot) = refl
 
 pub rewritten_in : (slot : Slot) (b : Option (List ℕ)) (bytes : List ℕ) → entry_in (rewritten slot) (Some bytes) ≡ option_map (written_with bytes) (entry_in slot b)
 rewritten_in slot b bytes = by slot.page refl

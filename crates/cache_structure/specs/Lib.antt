@@ -8,5 +8,6 @@ pub mod Places
 pub mod Replies
 pub mod Slots
 pub mod Sought
+pub mod Sound
 pub mod State
 pub mod Uses

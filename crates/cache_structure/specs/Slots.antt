@@ -26,6 +26,10 @@ is_idle_slot slot = is_some slot.page && not (slot.changed || is_some slot.casto
 abbrev pub slot_at : List Slot → ℕ → Slot
 slot_at slots s = unwrap_or (slice_get slots s) free_slot
 
+-- the page whose entry stands in the slot of this number
+abbrev pub page_in : List Slot → ℕ → Option PageId
+page_in slots s = (slot_at slots s).page
+
 -- the number of the slot that holds the page's entry
 abbrev pub find_slot : List Slot → PageId → Option ℕ
 find_slot slots id = position (holds id) slots

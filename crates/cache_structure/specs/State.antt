@@ -1,7 +1,7 @@
 -- A cache, and the directory that it keeps.
 use Rattle.std.specs.Prelude.{ℕ, Bool, length}
-use Rattle.cache_structure.specs.Slots.{Table, entries_in}
-use Rattle.cache_structure.specs.Bound.{Bound, registered_in}
+use Rattle.cache_structure.specs.Slots.{Table, entries_in, page_in}
+use Rattle.cache_structure.specs.Bound.{Bound, registered_by}
 use Rattle.cache_structure.specs.Directory.{Directory}
 
 pub record CacheState : Type 0 where
@@ -12,7 +12,7 @@ pub record CacheState : Type 0 where
 abbrev pub directory_of : CacheState → Directory
 directory_of c = record {
   entries = entries_in c.table;
-  registered = registered_in c.bound;
+  registered = registered_by (page_in c.table.slots) c.bound;
   lost = c.lost;
   size = length c.table.slots;
   frames = c.bound.frames;

@@ -1,5 +1,5 @@
 ghost use Rattle.std.specs.Prelude.{◌≡◌, ℕ, ◌<◌, true, length, Some, None, IfOk, IfSome, IsNone};
-ghost use Rattle.std.specs.Option.{option_map};
+ghost use Rattle.std.specs.Option.{option_map, option_map_or};
 ghost use Rattle.cache_structure.specs.Directory.{
   empty_directory,
   with_entry,
@@ -8,9 +8,11 @@ ghost use Rattle.cache_structure.specs.Directory.{
   reclaimed,
   with_newest,
   bytes_of,
+  registers,
 };
-ghost use Rattle.cache_structure.specs.Entries.{fresh};
-ghost use Rattle.cache_structure.specs.Slots.{find_slot, bytes_at};
+ghost use Rattle.cache_structure.specs.Frames.{page_dropped, others_dropped};
+ghost use Rattle.cache_structure.specs.Entries.{fresh, newest, without};
+ghost use Rattle.cache_structure.specs.Slots.{find_slot, bytes_at, slot_at, entries_in, entry_at, page_in};
 ghost use Rattle.cache_structure.specs.Places.{holds_at};
 ghost use Rattle.cache_structure.specs.State.{directory_of};
 
@@ -24,9 +26,9 @@ use std::marker::Model;
 
 /// A cache structure in memory.
 ///
-/// A look-up and the order of use cost the same for any number of entries. Dropping a page's registrations
-/// walks over the frames of the members. Where no place is free, a new entry walks over the changed entries
-/// at the old end, and `next_changed`, `changed_count` and `fail_member` walk over all entries.
+/// A look-up, the order of use and dropping a page's registrations cost the same for any number of entries and
+/// frames. Where no place is free, a new entry walks over the changed entries at the old end. `next_changed`,
+/// `changed_count` and `fail_member` walk over all entries, and `fail_member` over the member's frames.
 #[derive(Drop)]
 pub struct Cache {
     table: EntryTable,
@@ -35,11 +37,14 @@ pub struct Cache {
 }
 
 impl Model for Cache {
+    ghost use Rattle.std.specs.Prelude.{◌≡◌, length};
     ghost use Rattle.cache_structure.specs.State.{CacheState};
 
     ghost Value = { CacheState };
 
     ghost view = { λ c. record { table = c.table; bound = c.registrations; lost = c.lost } };
+
+    ghost invariant = { λ c. length c.registrations.validities ≡ length c.table.slots };
 }
 
 impl Cache {
@@ -49,7 +54,7 @@ impl Cache {
     {
         Ok(Cache {
             table: EntryTable::new(alloc, entries)?,
-            registrations: Registrations::new(alloc, frames)?,
+            registrations: Registrations::new(alloc, frames, entries)?,
             lost: false,
         })
     }
@@ -61,8 +66,10 @@ impl Cache {
         ensures lost { self.new.lost ≡ self.old.lost }
         ensures frames { self.new.bound.frames ≡ self.old.bound.frames }
         ensures there { IfSome result (λ at. (at < length self.new.table.slots) × (holds_at self.new.table.slots at id ≡ true)) }
+        ensures page { IfSome result (λ at. page_in self.new.table.slots at ≡ Some id) }
         ensures bytes { IfSome result (λ at. bytes_at self.new.table at ≡ bytes_of (directory_of self.old) id) }
     {
+        self.table.pages_are_apart();
         match self.table.find(id) {
             Some(at) => {
                 self.table.touch(at);
@@ -80,11 +87,12 @@ impl Cache {
         ensures lost { self.new.lost ≡ self.old.lost }
         ensures frames { self.new.bound.frames ≡ self.old.bound.frames }
         ensures there { IfSome result (λ at. (at < length self.new.table.slots) × (holds_at self.new.table.slots at id ≡ true)) }
+        ensures page { IfSome result (λ at. page_in self.new.table.slots at ≡ Some id) }
         ensures bytes { IfSome result (λ at. bytes_at self.new.table at ≡ None) }
     {
         match self.table.next_free() {
             Some(at) => {
-                self.table.make(at, id);
+                self.place(at, id);
                 Some(at)
             }
             None => self.reclaim(id),
@@ -99,12 +107,54 @@ impl Cache {
         ensures lost { self.new.lost ≡ self.old.lost }
         ensures frames { self.new.bound.frames ≡ self.old.bound.frames }
         ensures there { IfSome result (λ at. (at < length self.new.table.slots) × (holds_at self.new.table.slots at id ≡ true)) }
+        ensures page { IfSome result (λ at. page_in self.new.table.slots at ≡ Some id) }
         ensures bytes { IfSome result (λ at. bytes_at self.new.table at ≡ None) }
     {
-        let (at, page) = self.table.oldest_idle()?;
-        self.registrations.drop_page(page);
-        self.table.make(at, id);
+        let at = self.table.oldest_idle()?;
+        self.place(at, id);
         Some(at)
+    }
+
+    // Makes an entry of a page in a slot. What stood there is gone, and so are its registrations.
+    fn place(&mut self, at: u32, id: PageId)
+        requires there { at < length self.old.table.slots }
+        requires next { (slot_at self.old.table.slots at).page ≡ None → at ≡ length (entries_in self.old.table) }
+        requires alone { find_slot self.old.table.slots id ≡ None }
+        ensures size { length self.new.table.slots ≡ length self.old.table.slots }
+        ensures lost { self.new.lost ≡ self.old.lost }
+        ensures frames { self.new.bound.frames ≡ self.old.bound.frames }
+        ensures here { holds_at self.new.table.slots at id ≡ true }
+        ensures page { page_in self.new.table.slots at ≡ Some id }
+        ensures bytes { bytes_at self.new.table at ≡ None }
+        ensures entries { entries_in self.new.table ≡ newest (fresh id) (option_map_or (λ e. without e.page (entries_in self.old.table)) (entry_at self.old.table at) (entries_in self.old.table)) }
+        ensures registered { (directory_of self.new).registered ≡ option_map_or (page_dropped (directory_of self.old).registered) (page_in self.old.table.slots at) (directory_of self.old).registered }
+    {
+        self.table.pages_are_apart();
+        self.registrations.drop_slot(at);
+        self.table.make(at, id);
+    }
+
+    // Registers a frame with the page whose entry stands in a slot.
+    fn register(&mut self, member: MemberId, index: u16, at: u32, id: PageId)
+        requires index { index < self.old.bound.frames }
+        requires page { page_in self.old.table.slots at ≡ Some id }
+        ensures table { self.new.table ≡ self.old.table }
+        ensures directory { directory_of self.new ≡ registers (directory_of self.old) member id index }
+    {
+        self.registrations.register(member, index, at);
+    }
+
+    // Drops the registrations of all other members' frames with the page whose entry stands in a slot.
+    fn invalidate(&mut self, member: MemberId, at: u32, id: PageId)
+        requires slot { at < length self.old.table.slots }
+        requires page { page_in self.old.table.slots at ≡ Some id }
+        ensures table { self.new.table ≡ self.old.table }
+        ensures lost { self.new.lost ≡ self.old.lost }
+        ensures frames { self.new.bound.frames ≡ self.old.bound.frames }
+        ensures registered { (directory_of self.new).registered ≡ others_dropped (directory_of self.old).registered member id }
+    {
+        self.table.pages_are_apart();
+        self.registrations.drop_slot_of_others(member, at);
     }
 }
 
@@ -124,7 +174,7 @@ impl CacheFace for Cache {
         let Some(at) = self.enter(id) else {
             return ReadReply::CacheFull;
         };
-        self.registrations.set(member, index, Some(id));
+        self.register(member, index, at, id);
         if self.table.read(at, into) {
             ReadReply::Found
         } else {
@@ -146,17 +196,20 @@ impl CacheFace for Cache {
             return WriteReply::CacheFull;
         };
         self.table.write(at, from);
-        self.registrations.drop_page_of_others(member, id);
-        self.registrations.set(member, index, Some(id));
+        self.invalidate(member, at, id);
+        self.register(member, index, at, id);
         WriteReply::Written
     }
 
     fn unregister(&mut self, member: MemberId, index: u16) {
-        self.registrations.set(member, index, None);
+        self.registrations.unregister(member, index);
     }
 
     fn test(&self, member: MemberId, index: u16) -> bool {
-        self.registrations.page_at(member, index).is_some()
+        match self.registrations.slot_of(member, index) {
+            Some(at) => self.table.page_at(at).is_some(),
+            None => false,
+        }
     }
 
     fn castout_read(&mut self, member: MemberId, id: PageId, into: &mut Page) -> CastReply {

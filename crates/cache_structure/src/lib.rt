@@ -5,12 +5,15 @@
 mod cache;
 mod face;
 mod index;
+mod law;
 mod order;
 mod registrations;
 mod slot;
 mod table;
 #[cfg(test)]
 mod tests;
+mod validity;
 
 pub use cache::Cache;
 pub use face::{CacheFace, CastReply, DoneReply, ReadReply, WriteReply};
+pub use law::keeps_entries_apart;

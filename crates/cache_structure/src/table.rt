@@ -1,4 +1,4 @@
-ghost use Rattle.std.specs.Prelude.{◌≡◌, ℕ, ◌<◌, ◌++◌, ◌∷◌, [], true, List, length, map, replicate, slice_get, slice_set, None, IfOk, IfSome, IsNone, Some, find, count_by, is_some, unwrap_or, nat_lt};
+ghost use Rattle.std.specs.Prelude.{◌≡◌, ◌==◌, ℕ, ◌<◌, ◌++◌, ◌∷◌, [], true, List, length, map, replicate, slice_get, slice_set, None, IfOk, IfSome, IsNone, Some, find, count_by, is_some, unwrap_or, nat_lt, cond};
 ghost use Rattle.std.specs.Option.{option_map_or, option_map};
 ghost use Rattle.page_format.specs.Fields.{page_size};
 ghost use Rattle.cache_structure.specs.Entries.{
@@ -14,7 +14,8 @@ ghost use Rattle.cache_structure.specs.Entries.{
   cast_out,
   freed_of,
 };
-ghost use Rattle.cache_structure.specs.Slots.{free_slot, slot_at, find_slot, entry_at, entry_in, entries_in, bytes_at};
+ghost use Rattle.cache_structure.specs.Slots.{free_slot, slot_at, page_in, find_slot, entry_at, entry_in, entries_in, bytes_at};
+ghost use Rattle.cache_structure.specs.Frames.{is_page};
 ghost use Rattle.cache_structure.specs.Places.{holds_at};
 ghost use Rattle.cache_structure.specs.Order.{IsNextAmong, changed_in, past_only, sooner_of, comes_before as is_before};
 
@@ -88,6 +89,25 @@ impl EntryTable {
         self.slots[at as usize]
     }
 
+    /// The page whose entry stands in a slot.
+    pub fn page_at(&self, at: u32) -> Option<PageId>
+        ensures { result ≡ page_in self.now.slots at }
+    {
+        match self.slots.get(at as usize) {
+            Some(slot) => slot.page,
+            None => None,
+        }
+    }
+
+    /// No page has two entries.
+    pub fn pages_are_apart(&self)
+        ensures apart { (f s : ℕ) (id : PageId) → page_in self.now.slots f ≡ Some id → is_page id (page_in self.now.slots s) ≡ (s == f) }
+        ensures named { (f : ℕ) (id : PageId) → holds_at self.now.slots f id ≡ true → page_in self.now.slots f ≡ Some id }
+    {
+        // The slots tell the proof what they keep.
+        let _slots = &self.slots;
+    }
+
     /// The entry in a slot is the newest.
     pub fn touch(&mut self, at: u32)
         requires { at < length self.old.slots }
@@ -110,19 +130,22 @@ impl EntryTable {
         }
     }
 
-    /// The oldest slot whose entry may be reclaimed, with the page of that entry.
-    pub fn oldest_idle(&self) -> Option<(u32, PageId)>
+    /// The oldest slot whose entry may be reclaimed.
+    pub fn oldest_idle(&self) -> Option<u32>
         ensures none { IsNone result → find is_idle (entries_in self.now) ≡ None }
-        ensures entry { IfSome result (λ r. find is_idle (entries_in self.now) ≡ entry_at self.now r.0) }
-        ensures there { IfSome result (λ r. r.0 < length self.now.slots) }
-        ensures page { IfSome result (λ r. (slot_at self.now.slots r.0).page ≡ Some r.1) }
+        ensures entry { IfSome result (λ s. find is_idle (entries_in self.now) ≡ entry_at self.now s) }
+        ensures there { IfSome result (λ s. s < length self.now.slots) }
+        ensures page { IfSome result (λ s. is_some (page_in self.now.slots s) ≡ true) }
     {
         let at = self.first_idle()?;
-        let page = self.slot(at).page?;
-        Some((at, page))
+        if self.page_at(at).is_some() {
+            Some(at)
+        } else {
+            None
+        }
     }
 
-    // The oldest slot whose entry may be reclaimed.
+    // The oldest slot that may be reclaimed.
     fn first_idle(&self) -> Option<u32>
         ensures entry { find is_idle (entries_in self.now) ≡ option_map_or (entry_at self.now) result None }
         ensures there { IfSome result (λ s. s < length self.now.slots) }
@@ -154,6 +177,7 @@ impl EntryTable {
         requires next { (slot_at self.old.slots at).page ≡ None → at ≡ length (entries_in self.old) }
         requires alone { find_slot self.old.slots id ≡ None }
         ensures size { length self.new.slots ≡ length self.old.slots }
+        ensures pages { (s : ℕ) → page_in self.new.slots s ≡ cond (s == at) (Some id) (page_in self.old.slots s) }
         ensures here { holds_at self.new.slots at id ≡ true }
         ensures bytes { bytes_at self.new at ≡ None }
         ensures entries { entries_in self.new ≡ newest (fresh id) (option_map_or (λ e. without e.page (entries_in self.old)) (entry_at self.old at) (entries_in self.old)) }
@@ -171,6 +195,7 @@ impl EntryTable {
     pub fn write(&mut self, at: u32, from: &Page)
         requires { at < length self.old.slots }
         ensures size { length self.new.slots ≡ length self.old.slots }
+        ensures pages { page_in self.new.slots ≡ page_in self.old.slots }
         ensures entries { (id : PageId) → holds_at self.old.slots at id ≡ true → entries_in self.new ≡ at_entry id (written_with from.now) (entries_in self.old) }
     {
         copy_page(from, &mut self.pages[at as usize]);
@@ -182,6 +207,7 @@ impl EntryTable {
     pub fn lock(&mut self, at: u32, member: MemberId)
         requires { at < length self.old.slots }
         ensures size { length self.new.slots ≡ length self.old.slots }
+        ensures pages { page_in self.new.slots ≡ page_in self.old.slots }
         ensures entries { (id : PageId) → holds_at self.old.slots at id ≡ true → entries_in self.new ≡ at_entry id (locked_by member) (entries_in self.old) }
     {
         let slot = self.slot(at);
@@ -192,6 +218,7 @@ impl EntryTable {
     pub fn unlock(&mut self, at: u32)
         requires { at < length self.old.slots }
         ensures size { length self.new.slots ≡ length self.old.slots }
+        ensures pages { page_in self.new.slots ≡ page_in self.old.slots }
         ensures entries { (id : PageId) → holds_at self.old.slots at id ≡ true → entries_in self.new ≡ at_entry id cast_out (entries_in self.old) }
     {
         let slot = self.slot(at);
@@ -201,6 +228,7 @@ impl EntryTable {
     /// Frees the castout locks of a member.
     pub fn free_locks(&mut self, member: MemberId)
         ensures size { length self.new.slots ≡ length self.old.slots }
+        ensures pages { page_in self.new.slots ≡ page_in self.old.slots }
         ensures entries { entries_in self.new ≡ map (freed_of member) (entries_in self.old) }
     {
         for at in 0..self.size() {
@@ -238,6 +266,7 @@ impl EntryTable {
         requires there { at < length self.old.slots }
         requires page { slot.page ≡ (slot_at self.old.slots at).page }
         ensures slots { self.new ≡ record self.old { slots = slice_set self.old.slots at slot } }
+        ensures pages { page_in self.new.slots ≡ page_in self.old.slots }
         ensures entries { (id : PageId) (change : Entry → Entry) → holds_at self.old.slots at id ≡ true → entry_in slot (slice_get self.old.pages at) ≡ option_map change (entry_at self.old at) → entries_in self.new ≡ at_entry id change (entries_in self.old) }
     {
         self.slots[at as usize] = slot;

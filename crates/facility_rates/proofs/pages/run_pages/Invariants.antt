@@ -3,4 +3,4 @@ use Rattle.cache_structure.specs.State.{directory_of}
 use Rattle.facility_rates.proofs.pages.run_pages.Given as goal
 
 abbrev pub invariant-loop-turn : goal.invariant-loop-turn
-invariant-loop-turn l = (directory_of l.cache).frames ≡ 256
+invariant-loop-turn l = (directory_of l.cache).frames ≡ l.frames
