@@ -1,0 +1,69 @@
+-- Tables, and the pages that stand for them.
+use Rattle.std.specs.Prelude.{◌≡◌, ℕ, ◌-◌, ◌<◌, List, length, Option, Some, None, slice_index_or}
+use Rattle.std.specs.FinMap as finite
+use Rattle.ds_base.specs.Ids.{IsTable}
+use Rattle.ds_base.specs.declared.names.Place.{Place}
+use Rattle.index_leaf.specs.declared.layout.Entry.{Entry}
+use Rattle.index_leaf.specs.Search.{find}
+use Rattle.ds_model.specs.Rows.{Rows, spot_cmp}
+use Rattle.tran_pages.specs.Chains.{Images, Node, IsIndex, HasNoIndex, IsHeap, entries_in, place_at}
+
+-- which of the new keys of its table a key was, counted from 0
+abbrev pub Places : Type 0
+Places = finite.FinMap spot_cmp ℕ
+
+-- the rows, the numbers of the keys that have slots, and how many of these each of the tables 1, 2, .. has
+pub record Tables : Type 0 where
+  pub rows : Rows
+  pub places : Places
+  pub counts : List ℕ
+
+abbrev pub row_of : Tables → ℕ → ℕ → Option (List ℕ)
+row_of x table key = finite.get x.rows (table, key)
+
+abbrev pub number_of : Tables → ℕ → ℕ → Option ℕ
+number_of x table key = finite.get x.places (table, key)
+
+abbrev pub count_in : Tables → ℕ → ℕ
+count_in x table = slice_index_or x.counts (table - 1) 0
+
+-- ---- their pages
+
+-- an index: its branches, its leaves, and the number of its next free page
+pub record Tree : Type 0 where
+  pub branches : List Node
+  pub leaves : List Node
+  pub next : ℕ
+
+-- of each table the index, if it has one, and the keys of its slots
+pub record Shape : Type 0 where
+  pub trees : ℕ → Option Tree
+  pub keys : ℕ → ℕ → ℕ
+
+-- the entry of a key that has a slot
+abbrev pub entry_of : ℕ → Option ℕ → Option Entry
+entry_of key None = None
+entry_of key (Some n) = Some (record { key = key; place = place_at n })
+
+-- each key that has a slot has its entry, and no other has one
+abbrev pub IndexHolds : Images → Tables → ℕ → Option Tree → Type 0
+IndexHolds at x table None = HasNoIndex at table × ((key : ℕ) → number_of x table key ≡ None)
+IndexHolds at x table (Some tree) =
+    IsIndex at table tree.branches tree.leaves tree.next
+    × ((key : ℕ) → find (entries_in tree.leaves) key ≡ entry_of key (number_of x table key))
+
+abbrev pub slot_row : Tables → Shape → ℕ → ℕ → Option (List ℕ)
+slot_row x w table n = row_of x table (w.keys table n)
+
+-- the pages of one table hold its rows and numbers
+pub record TableHolds (at : Images) (x : Tables) (w : Shape) (table : ℕ) : Type 0 where
+  pub index : IndexHolds at x table (w.trees table)
+  pub heap : IsHeap at table (count_in x table) (w.keys table) (slot_row x w table)
+  pub placed : (key n : ℕ) → number_of x table key ≡ Some n → (n < count_in x table) × (w.keys table n ≡ key)
+  pub taken : (n : ℕ) → n < count_in x table → number_of x table (w.keys table n) ≡ Some n
+  pub rowless : (key : ℕ) → number_of x table key ≡ None → row_of x table key ≡ None
+
+-- the pages hold the rows and numbers of all tables
+pub record Holds (at : Images) (x : Tables) (w : Shape) : Type 0 where
+  pub counted : length x.counts ≡ 64
+  pub tables : (table : ℕ) → IsTable table → TableHolds at x w table

@@ -1,0 +1,4 @@
+//! What a transaction's agent makes of pages.
+#![tactic(auto)]
+
+mod laws;
