@@ -125,6 +125,11 @@ rows_at x table es = flat_map (λ (e : Entry). row_at table e.key (row_of x tabl
 abbrev pub rows_between : Tables → ℕ → Option Tree → ℕ → ℕ → List Row
 rows_between x table tree low high = rows_at x table (filter (is_between low high) (entries_by tree))
 
+-- a scan goes on in a leaf whose low key it looks for, where it doesn't look for its own least key
+abbrev pub StartsAt : Images → ℕ → Level → ℕ → ℕ → ℕ → Type 0
+StartsAt at table level.Branch page own key = key ≡ own
+StartsAt at table level.Leaf page own key = (key ≡ own) ⊎ (low_of (at (index_page table page)) ≡ key)
+
 -- a search for one key looks for the key of its operation; a scan looks for the least key of a leaf on, and the rows
 -- that it has read and those from that key on are all of its rows
 abbrev pub IsSought : Images → Tables → Option Tree → List Row → ℕ → Level → ℕ → ℕ → ℕ → Aim → Type 0
@@ -132,7 +137,7 @@ IsSought at x tree rows table l page own key aim.Get = key ≡ own
 IsSought at x tree rows table l page own key (aim.Put value) = key ≡ own
 IsSought at x tree rows table l page own key aim.Del = key ≡ own
 IsSought at x tree rows table l page own key (aim.Scan high) =
-    (own ≤ key) × ((key ≡ own) ⊎ (low_of (at (index_page table page)) ≡ key))
+    (own ≤ key) × StartsAt at table l page own key
     × (rows ++ rows_between x table tree key high ≡ scanned x.rows table own high)
 
 -- the rows behind a leaf
