@@ -51,7 +51,7 @@ to_step start ops at x w s task tree it is i k = record {
 -- ---- branches
 
 -- what is sought doesn't depend on the branch
-same_sought : (at : Images) (x : Tables) (tree : Option Tree) (rows : List Row) (table page next own key : ℕ) (a : Aim)
+pub same_sought : (at : Images) (x : Tables) (tree : Option Tree) (rows : List Row) (table page next own key : ℕ) (a : Aim)
     → IsSought at x tree rows table level.Branch page own key a → IsSought at x tree rows table level.Branch next own key a
 same_sought at x tree rows table page next own key aim.Get k = k
 same_sought at x tree rows table page next own key (aim.Put value) k = k

@@ -1,3 +1,4 @@
 pub mod Ends
 pub mod Searches
 pub mod Going
+pub mod Meeting
