@@ -2,3 +2,5 @@ pub mod Ends
 pub mod Searches
 pub mod Going
 pub mod Meeting
+pub mod Given
+pub mod Rows
