@@ -4,3 +4,4 @@ pub mod Going
 pub mod Meeting
 pub mod Given
 pub mod Rows
+pub mod Scans
