@@ -96,7 +96,7 @@ right_sought at x tree rows table page next own key aim.Del up le k = k
 right_sought at x tree rows table page next own key (aim.Scan high) up le k =
     (k.0, right_start (low_of (at (index_page table page))) (low_of (at (index_page table next))) own key up le k.1, k.2)
 
-abbrev place_in : Place → Option Entry → Place
+abbrev pub place_in : Place → Option Entry → Place
 place_in other None = other
 place_in other (Some e) = e.place
 
