@@ -5,3 +5,4 @@ pub mod Meeting
 pub mod Given
 pub mod Rows
 pub mod Scans
+pub mod Scanned
