@@ -105,7 +105,7 @@ place_is : (key : ℕ) (place : Place) (o : Option ℕ) → entry_of key o ≡ S
 place_is key place None e = absurd (cc)
 place_is key place (Some n) e = ap (λ (f : Option Entry). place_in place f) (sym e)
 
-none_is : (key : ℕ) (o : Option ℕ) → entry_of key o ≡ None → o ≡ None
+pub none_is : (key : ℕ) (o : Option ℕ) → entry_of key o ≡ None → o ≡ None
 none_is key None e = refl
 none_is key (Some n) e = absurd (cc)
 

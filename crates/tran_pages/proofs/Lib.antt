@@ -6,3 +6,5 @@ pub mod Given
 pub mod Rows
 pub mod Scans
 pub mod Scanned
+pub mod Doing
+pub mod Changing

@@ -92,7 +92,7 @@ slot_goes g start ops at x w s task place is holds c i quiet p =
 
 -- ---- the header page of a heap
 
-only_put : (rows : List Row) (a : Aim) → IsPut a → IsQuiet rows a → rows ≡ []
+pub only_put : (rows : List Row) (a : Aim) → IsPut a → IsQuiet rows a → rows ≡ []
 only_put rows aim.Get p quiet = absurd p
 only_put rows (aim.Put value) p quiet = quiet
 only_put rows aim.Del p quiet = absurd p
@@ -137,7 +137,7 @@ put_searches start ops at x w s table own a None is leads k i quiet =
 put_searches start ops at x w s table own a (Some tree) is leads k i quiet =
     to_step start ops at x w s (record { table = table; key = own; aim = a }) (Some tree) (step.Read (root own)) is i (quiet, ((leads tree is).begins own, k))
 
-put_sought : (at : Images) (x : Tables) (tree : Option Tree) (rows : List Row) (table own : ℕ) (a : Aim) → IsPut a → IsSought at x tree rows table level.Branch 1 own own a
+pub put_sought : (at : Images) (x : Tables) (tree : Option Tree) (rows : List Row) (table own : ℕ) (a : Aim) → IsPut a → IsSought at x tree rows table level.Branch 1 own own a
 put_sought at x tree rows table own aim.Get p = absurd p
 put_sought at x tree rows table own (aim.Put value) p = refl
 put_sought at x tree rows table own aim.Del p = absurd p

@@ -32,7 +32,8 @@ use Rattle.tran_core.specs.declared.stage.Step.TheVariants as step
 use Rattle.tran_core.specs.declared.stage.Stage.{Stage}
 use Rattle.tran_core.specs.declared.stage.Stage.TheVariants as stage
 use Rattle.tran_core.specs.declared.stage.Undone.{Undone}
-use Rattle.tran_core.specs.Wants.{Content}
+use Rattle.tran_core.specs.Wants.{Content, Wanted}
+use Rattle.tran_core.specs.Wants as wanted
 use Rattle.tran_core.specs.Looks.{is_between}
 use Rattle.tran_core.specs.States.{State}
 use Rattle.tran_pages.specs.Chains.{Images, zeros, index_page, heap_page, IsReached, HasNode, HasHeader, entries_in, place_at}
@@ -255,3 +256,26 @@ pub record IsOnCourse (start : Rows) (ops : List Op) (at : Images) (x : Tables) 
   pub sound : s.damage ≡ None
   pub part : PartAt start ops x.rows s.reads s.rest s.stage
   pub knows : StageKnows at x w s s.stage
+
+-- ---- changes
+
+-- a change after which the transaction searches again
+abbrev pub SearchesAgain : Update → Type 0
+SearchesAgain update.FormatIndex = Unit {0}
+SearchesAgain update.FormatHeap = Unit {0}
+SearchesAgain (update.GiveSlot leaf) = Unit {0}
+SearchesAgain (update.Split left branch) = ⊥
+SearchesAgain (update.BranchEntry branch low child) = Unit {0}
+SearchesAgain (update.RowChange place back) = ⊥
+
+-- a want that changes no page
+abbrev pub IsNoChange : Wanted → Type 0
+IsNoChange (wanted.Lock name mode) = Unit {0}
+IsNoChange (wanted.ReadPage id) = Unit {0}
+IsNoChange (wanted.Change it) = ⊥
+IsNoChange wanted.Commit = Unit {0}
+IsNoChange (wanted.Undo table key place back) = ⊥
+IsNoChange (wanted.Raise flag) = Unit {0}
+IsNoChange (wanted.Await flag) = Unit {0}
+IsNoChange wanted.LoseCache = Unit {0}
+IsNoChange wanted.Ended = Unit {0}

@@ -1,11 +1,12 @@
 -- Tables, and the pages that stand for them.
-use Rattle.std.specs.Prelude.{◌≡◌, ℕ, ◌-◌, ◌<◌, List, length, Option, Some, None, slice_index_or}
+use Rattle.std.specs.Prelude.{◌≡◌, ℕ, ◌-◌, ◌<◌, List, length, Option, Some, None, slice_index_or, slice_set, ◌+◌}
 use Rattle.std.specs.FinMap as finite
 use Rattle.ds_base.specs.Ids.{IsTable}
 use Rattle.ds_base.specs.declared.names.Place.{Place}
 use Rattle.index_leaf.specs.declared.layout.Entry.{Entry}
 use Rattle.index_leaf.specs.Search.{find}
 use Rattle.ds_model.specs.Rows.{Rows, spot_cmp}
+use Rattle.ds_model.specs.Logs.{set_row}
 use Rattle.tran_pages.specs.Chains.{Images, Node, IsIndex, HasNoIndex, IsHeap, entries_in, place_at}
 
 -- which of the new keys of its table a key was, counted from 0
@@ -26,6 +27,22 @@ number_of x table key = finite.get x.places (table, key)
 
 abbrev pub count_in : Tables → ℕ → ℕ
 count_in x table = slice_index_or x.counts (table - 1) 0
+
+-- the row has this value, or there is none
+abbrev pub with_row : Tables → ℕ → ℕ → Option (List ℕ) → Tables
+with_row x table key value = record x { rows = set_row x.rows table key value }
+
+-- the key has the next slot of its table
+abbrev pub with_place : Tables → ℕ → ℕ → Tables
+with_place x table key = record x {
+  places = finite.insert x.places (table, key) (count_in x table);
+  counts = slice_set x.counts (table - 1) (count_in x table + 1);
+}
+
+-- each key that had a slot has it still, and the rows are as they were
+pub record Grows (x new : Tables) : Type 0 where
+  pub rows_are : new.rows ≡ x.rows
+  pub places_stay : (table key n : ℕ) → number_of x table key ≡ Some n → number_of new table key ≡ Some n
 
 -- ---- their pages
 
