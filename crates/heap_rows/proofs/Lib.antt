@@ -1,0 +1,10 @@
+mod Formats
+mod Gives
+mod Header_reads
+mod Laws
+mod Patched_pages
+mod Places
+mod Row_changes
+mod Same_heaps
+mod Slot_reads
+mod Slot_steps

@@ -1,0 +1,4 @@
+mod Fronts
+mod Kept_fronts
+mod Parts
+mod Written

@@ -1,0 +1,88 @@
+-- What is read of a page after a patch: its bytes at its place, and elsewhere what stood there.
+use Rattle.std.proofs.Common.{◌≡◌, ◌≤◌, ◌<◌, ◌^◌, ℕ, ◌+◌, inl, inr, List, [], ◌++◌, length, take, drop, refl, sym, ap, ◌∙◌, arith, append_assoc}
+use Rattle.std.proofs.lemmas.List.{append-nil, drop-drop, drop-take, drop_at, length-take-le, length-append, length-drop}
+use Rattle.std.proofs.lemmas.Slice.{take-put_mid_below, take-put_mid, drop-put_mid}
+use borrow.Rule.Slice.PartMut.{put_mid}
+use Rattle.byteorder.specs.Endian.{big_bytes, big_number}
+use Rattle.byteorder.specs.Numbers.{big_from-take, big_number-reads_back, length-bytes_high_first}
+use Rattle.page_format.specs.Fields.{patched, set_lrsn, number_in, lrsn_of}
+use Rattle.page_format.specs.declared.patch.Patch.{Patch}
+use Rattle.heap_space.specs.Written.{after_patch}
+use Rattle.page_images.specs.Parts.{part, AreApart, IsOffStamp, Lies}
+
+as_put : (page : List ℕ) (off : ℕ) (bytes : List ℕ) → patched page off bytes ≡ put_mid off (length bytes) page bytes
+unfolding patched
+as_put page off bytes =
+    append_assoc (take off page) bytes (drop (off + length bytes) page)
+    ∙ ap (λ (rest : List ℕ). take off page ++ (bytes ++ rest)) (sym (drop-drop (length bytes) off page))
+
+behind : (page : List ℕ) (off : ℕ) (bytes : List ℕ) (at : ℕ) → off ≤ length page → off + length bytes ≤ at → drop at (patched page off bytes) ≡ drop at page
+behind page off bytes at le past =
+    ap (λ (l : List ℕ). drop at l) (as_put page off bytes) ∙ drop-put_mid off (length bytes) page bytes at past le refl
+
+before : (page : List ℕ) (off : ℕ) (bytes : List ℕ) (n : ℕ) → off ≤ length page → n ≤ off → take n (patched page off bytes) ≡ take n page
+before page off bytes n le short =
+    ap (λ (l : List ℕ). take n l) (as_put page off bytes) ∙ take-put_mid_below off (length bytes) page bytes n short le
+
+-- what lies apart from the patch
+kept : (page : List ℕ) (off : ℕ) (bytes : List ℕ) (at width : ℕ) → off ≤ length page → AreApart at width off (length bytes) → part at width (patched page off bytes) ≡ part at width page
+kept page off bytes at width le (inl short) =
+    sym (drop-take at width (patched page off bytes))
+    ∙ ap (λ (l : List ℕ). drop at l) (before page off bytes (at + width) le short)
+    ∙ drop-take at width page
+kept page off bytes at width le (inr past) = ap (λ (l : List ℕ). take width l) (behind page off bytes at le past)
+
+-- what the patch wrote
+put : (page : List ℕ) (off : ℕ) (bytes : List ℕ) → off ≤ length page → part off (length bytes) (patched page off bytes) ≡ bytes
+put page off bytes le =
+    sym (drop-take off (length bytes) (patched page off bytes))
+    ∙ ap (λ (l : List ℕ). drop off l) (ap (λ (l : List ℕ). take (off + length bytes) l) (as_put page off bytes) ∙ take-put_mid off (length bytes) page bytes (off + length bytes) refl le)
+    ∙ drop_at (take off page) bytes off (length-take-le off page le)
+
+-- a number is that of its bytes
+pub number_of_part : (page : List ℕ) (at width : ℕ) → number_in page at width ≡ big_number width (part at width page)
+number_of_part page at width = sym (big_from-take 0 width width (drop at page) (omega arith))
+
+-- ---- a change of a whole page: the patch, and then the LRSN
+
+length_kept : (page : List ℕ) (off : ℕ) (bytes : List ℕ) → off + length bytes ≤ length page → length (patched page off bytes) ≡ length page
+unfolding patched
+length_kept page off bytes fits =
+    omega (arith, length-append (take off page ++ bytes) (drop (off + length bytes) page), length-append (take off page) bytes, length-take-le off page (omega arith), length-drop (off + length bytes) page)
+
+pub patched_whole : (page : List ℕ) (patch : Patch) → Lies page patch → length (patched page patch.offset patch.bytes) ≡ 4096
+patched_whole page patch h =
+    let w = h.whole in
+    length_kept page patch.offset patch.bytes (omega (arith, w, h.within)) ∙ w
+
+pub stamp_whole : (lrsn : ℕ) (page : List ℕ) → length page ≡ 4096 → length (set_lrsn page lrsn) ≡ 4096
+unfolding set_lrsn
+stamp_whole lrsn page h =
+    let w = length-bytes_high_first 6 lrsn in
+    length_kept page 16 (big_bytes 6 lrsn) (omega (arith, h, w)) ∙ h
+
+pub step_whole : (lrsn : ℕ) (page : List ℕ) (patch : Patch) → Lies page patch → length (after_patch lrsn page patch) ≡ 4096
+step_whole lrsn page patch h = stamp_whole lrsn (patched page patch.offset patch.bytes) (patched_whole page patch h)
+
+pub stamp_kept : (lrsn : ℕ) (page : List ℕ) (at width : ℕ) → length page ≡ 4096 → IsOffStamp at width → part at width (set_lrsn page lrsn) ≡ part at width page
+unfolding set_lrsn
+stamp_kept lrsn page at width whole apart = kept page 16 (big_bytes 6 lrsn) at width (omega (arith, whole)) apart
+
+pub step_kept : (lrsn : ℕ) (page : List ℕ) (patch : Patch) (at width : ℕ) → Lies page patch → IsOffStamp at width → AreApart at width patch.offset (length patch.bytes) → part at width (after_patch lrsn page patch) ≡ part at width page
+step_kept lrsn page patch at width h free apart =
+    stamp_kept lrsn (patched page patch.offset patch.bytes) at width (patched_whole page patch h) free
+    ∙ kept page patch.offset patch.bytes at width (omega (arith, h.whole, h.within)) apart
+
+pub step_put : (lrsn : ℕ) (page : List ℕ) (patch : Patch) → Lies page patch → IsOffStamp patch.offset (length patch.bytes) → part patch.offset (length patch.bytes) (after_patch lrsn page patch) ≡ patch.bytes
+step_put lrsn page patch h free =
+    stamp_kept lrsn (patched page patch.offset patch.bytes) patch.offset (length patch.bytes) (patched_whole page patch h) free
+    ∙ put page patch.offset patch.bytes (omega (arith, h.whole, h.within))
+
+-- ---- the stamp itself
+
+pub stamp_read : (lrsn : ℕ) (page : List ℕ) → length page ≡ 4096 → lrsn < 2 ^ 48 → lrsn_of (set_lrsn page lrsn) ≡ lrsn
+unfolding set_lrsn
+stamp_read lrsn page whole lt =
+    number_of_part (patched page 16 (big_bytes 6 lrsn)) 16 6
+    ∙ ap (big_number 6) (put page 16 (big_bytes 6 lrsn) (omega (arith, whole)) ∙ sym (append-nil (big_bytes 6 lrsn)))
+    ∙ big_number-reads_back 6 lrsn [] lt

@@ -1,0 +1,11 @@
+use Rattle.page_images.proofs.Written.{stamped, both, free}
+use Rattle.page_images.proofs.written_laws.Goals as goal
+
+pub returns-clause-stamped : goal.returns-clause-stamped
+returns-clause-stamped c = λ id lrsn ps page. stamped id lrsn ps page
+
+pub returns-clause-both : goal.returns-clause-both
+returns-clause-both c = λ id lrsn ps qs page. both id lrsn ps qs page
+
+pub returns-clause-free : goal.returns-clause-free
+returns-clause-free c = λ id lrsn ps page h. free id lrsn ps page h
