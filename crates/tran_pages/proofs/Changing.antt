@@ -28,7 +28,7 @@ use Rattle.tran_core.specs.declared.stage.Stage.TheVariants as stage
 use Rattle.tran_core.specs.declared.stage.Undone.{Undone}
 use Rattle.tran_core.specs.Wants.{Content, row_after}
 use Rattle.tran_core.specs.States.{State, search, at_step, next_op, opened, refused_at, step_done, done_at, after_done, after_refusal, changed}
-use Rattle.tran_pages.specs.Chains.{Images}
+use Rattle.page_images.specs.Images.{Images}
 use Rattle.tran_pages.specs.Tables.{Tables, Shape, Tree, Holds, Grows, number_of, row_of, with_row}
 use Rattle.tran_pages.specs.Course.{op_by, op_of, IsPart, IsAt, IsPlaceOf, CanUndo, taken_back, IsQuiet, IsPut, IsContent, Changes, CanChange, IsOnWay, StageKnows, ChangeKnows, PartAt, IsOnCourse, SearchesAgain}
 use Rattle.tran_pages.proofs.Ends.{IsBetween, IsWithin, part_goes, next_course}

@@ -31,7 +31,7 @@ use Rattle.tran_core.specs.declared.stage.Stage.TheVariants as stage
 use Rattle.tran_core.specs.declared.stage.Undone.{Undone}
 use Rattle.tran_core.specs.Wants.{Content, row_after, want_undo}
 use Rattle.tran_core.specs.States.{State, want_of, want_at, newest, search, scan_read, at_step, next_op, space_locked, step_done, done_at, after_done, changed}
-use Rattle.tran_pages.specs.Chains.{Images}
+use Rattle.page_images.specs.Images.{Images}
 use Rattle.tran_pages.specs.Tables.{Tables, Shape, Tree, Holds, TableHolds, IndexHolds, Grows, entry_of, number_of, row_of, with_row}
 use Rattle.tran_pages.specs.Course.{op_by, op_of, IsPart, IsAt, IsPlaceOf, CanUndo, taken_back, IsSought, IsSingle, IsQuiet, IsPut, IsContent, Changes, CanChange, IsOnWay, StageKnows, PartAt, IsOnCourse, IsNoChange, SearchesAgain, entries_by, rows_between}
 use Rattle.tran_pages.proofs.Ends.{IsBetween, IsWithin, part_goes, next_course, nothing_ends, scan_ends}
@@ -43,6 +43,9 @@ use Rattle.tran_pages.proofs.Meeting.{within, knows_at, table_of, leads_in}
 use Rattle.tran_pages.proofs.Scanned.{scan_is, scan_none}
 
 -- ---- locks
+
+lt_from : (a b : ℕ) → nat_lt a b ≡ true → a < b
+lt_from a b e = grind arith
 
 -- a scan that begins has all its rows before it
 all_ahead : (at : Images) (x : Tables) (w : Shape) (table low high : ℕ) (tree : Option Tree) → w.trees table ≡ tree
@@ -60,7 +63,7 @@ scan_begins : (g : Given) (start : Rows) (ops : List Op) (at : Images) (x : Tabl
     → let task : Task = record { table = table; key = low; aim = aim.Scan high } in
     IsOnCourse start ops at x w (if none then scan_read s else search s task)
 scan_begins g start ops at x w s table low high true lt is holds i quiet =
-    scan_ends start ops at x w s table low high (scan_none x table low high (grind (arith, lt)) ∙ sym quiet) i
+    scan_ends start ops at x w s table low high (scan_none x table low high (lt_from high low lt) ∙ sym quiet) i
 scan_begins g start ops at x w s table low high false lt is holds i quiet =
     let leads : (t : Tree) → w.trees table ≡ Some t → Leads at table t.branches t.leaves = leads_in g at x w table is holds in
     let ahead : rows_between x table (w.trees table) low high ≡ scanned x.rows table low high = all_ahead at x w table low high (w.trees table) refl leads holds in

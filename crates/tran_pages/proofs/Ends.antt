@@ -17,7 +17,7 @@ use Rattle.tran_core.specs.declared.stage.Step.TheVariants as step
 use Rattle.tran_core.specs.declared.stage.Stage.{Stage}
 use Rattle.tran_core.specs.declared.stage.Stage.TheVariants as stage
 use Rattle.tran_core.specs.States.{State, advanced, next_op, scan_read, get_read, without_row}
-use Rattle.tran_pages.specs.Chains.{Images}
+use Rattle.page_images.specs.Images.{Images}
 use Rattle.tran_pages.specs.Tables.{Tables, Shape, Holds, row_of}
 use Rattle.tran_pages.specs.Course.{op_by, op_of, IsPart, taken_back, CanUndo, IsOnCourse}
 

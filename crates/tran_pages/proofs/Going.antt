@@ -33,7 +33,10 @@ use Rattle.tran_core.specs.Looks.{search_outcome, searched, looked, absent_in, f
 use Rattle.tran_core.specs.States.{State, at_step, scan_read, without_row}
 use Rattle.tran_core.specs.Pages.{followed, collected}
 use Rattle.tran_core.specs.Looks.{next_leaf}
-use Rattle.tran_pages.specs.Chains.{Images, zeros, index_page, IsReached, entries_in, place_at}
+use Rattle.page_images.specs.Images.{Images, zeros, index_page}
+use Rattle.index_chain.specs.Chains.{entries_in}
+use Rattle.index_chain.specs.Searches.{IsReached}
+use Rattle.heap_rows.specs.Heaps.{place_at}
 use Rattle.tran_pages.specs.Tables.{Tables, Shape, Tree, TableHolds, IndexHolds, entry_of, number_of, row_of}
 use Rattle.tran_pages.specs.Course.{op_by, op_of, IsAt, IsPlaceOf, IsOnWay, IsSought, StartsAt, IsQuiet, IsSingle, StepKnows, IsOnCourse, rows_between}
 use Rattle.tran_pages.proofs.Ends.{IsWithin, nothing_ends, get_ends, scan_ends}

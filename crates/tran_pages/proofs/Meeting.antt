@@ -36,7 +36,10 @@ use Rattle.tran_core.specs.Wants.{Content, heap_page}
 use Rattle.tran_core.specs.Looks.{next_leaf, search_outcome, searched, looked, no_index, is_leaf, is_empty, is_of, kind_fault, unless, entered, halved, halves_outcome, headed, header_outcome, row_read}
 use Rattle.tran_core.specs.States.{State, want_of, want_at, at_step, search, scan_read}
 use Rattle.tran_core.specs.Pages.{followed, collected, read_met, page_met, after_page}
-use Rattle.tran_pages.specs.Chains.{Images, zeros, index_page, IsReached, HasNode, HasHeader, IsIndex, IsHeap, place_at}
+use Rattle.page_images.specs.Images.{Images, zeros, index_page}
+use Rattle.index_chain.specs.Chains.{HasNode, IsIndex}
+use Rattle.index_chain.specs.Searches.{IsReached}
+use Rattle.heap_rows.specs.Heaps.{HasHeader, IsHeap, place_at}
 use Rattle.tran_pages.specs.Tables.{Tables, Shape, Tree, TableHolds, IndexHolds, slot_row, count_in, number_of, row_of}
 use Rattle.tran_pages.specs.Course.{op_by, op_of, IsPart, IsAt, IsPlaceOf, IsOnWay, IsSought, IsPut, IsContent, HasRoomIn, IsChild, CanChange, IsQuiet, ReadKnows, StepKnows, StageKnows, PartAt, IsOnCourse}
 use Rattle.tran_pages.proofs.Ends.{IsWithin, nothing_ends, get_ends, scan_ends}

@@ -25,13 +25,16 @@ use Rattle.tran_core.specs.Wants.{Content, heap_page}
 use Rattle.tran_core.specs.Looks.{is_leaf, is_empty, is_of, kind_fault, unless, entered, halved, halves_outcome, headed, header_outcome, row_read, make}
 use Rattle.tran_core.specs.States.{State, root, at_step, search}
 use Rattle.tran_core.specs.Pages.{followed, row_met, slot_met}
-use Rattle.tran_pages.specs.Chains.{Images, zeros, index_page, IsReached, HasNode, HasHeader, IsHeap, place_at}
+use Rattle.page_images.specs.Images.{Images, zeros, index_page}
+use Rattle.index_chain.specs.Chains.{HasNode}
+use Rattle.index_chain.specs.Searches.{IsReached}
+use Rattle.heap_rows.specs.Heaps.{HasHeader, IsHeap, place_at}
 use Rattle.tran_pages.specs.Tables.{Tables, Shape, Tree, TableHolds, slot_row, count_in, number_of, row_of}
 use Rattle.tran_pages.specs.Course.{op_by, op_of, IsAt, IsPlaceOf, IsOnWay, IsSought, IsPut, IsContent, HasRoomIn, IsChild, CanChange, Changes, IsQuiet, IsSingle, IsOnCourse}
 use Rattle.tran_pages.proofs.Ends.{IsWithin, nothing_ends, get_ends}
 use Rattle.tran_pages.proofs.Searches.{IsGood, IsLinked, Leads, reached_above}
 use Rattle.tran_pages.proofs.Going.{to_step}
-use Rattle.tran_pages.proofs.Given.{Given, HasHead}
+use Rattle.tran_pages.proofs.Given.{Given, HasNoHead, HasHead}
 
 -- ---- the slot of a key
 
@@ -46,7 +49,7 @@ slot_at g at x w table key place None is holds e p = absurd p
 slot_at g at x w table key place (Some n) is holds e p =
     let there : _ = holds.placed key n e in
     let read : row_read (heap_page table (place_at n).page) (place_at n).slot (w.keys table n) (at (heap_page table (place_at n).page)) ≡ Ok (slot_row x w table n) =
-      g.row at table (count_in x table) (w.keys table) (slot_row x w table) n is holds.heap there.0 in
+      g.row at table (count_in x table) (w.keys table) (slot_row x w table) n is holds.few holds.heap there.0 in
     let value : IsContent (slot_row x w table n) = g.value at table (count_in x table) (w.keys table) (slot_row x w table) n holds.heap there.0 in
     record {
       row = subst (λ (q : Place). row_read (heap_page table q.page) q.slot key (at (heap_page table q.page)) ≡ Ok (row_of x table key)) (sym p)
@@ -100,16 +103,15 @@ only_put rows (aim.Scan high) p quiet = absurd p
 
 head_goes : (start : Rows) (ops : List Op) (at : Images) (x : Tables) (w : Shape) (s : State) (task : Task) (leaf : ℕ)
     → let bytes : List ℕ = at (heap_page task.table 0) in
-    header_of zeros (heap_page task.table 0) ≡ Ok empty_header → IsWithin start ops at x w s (op_of task) → s.rows ≡ [] → IsPut task.aim
+    IsWithin start ops at x w s (op_of task) → s.rows ≡ [] → IsPut task.aim
     → number_of x task.table task.key ≡ None → HasRoomIn at task.table (w.trees task.table) leaf task.key
-    → (bytes ≡ zeros) ⊎ HasHead at task.table
+    → HasNoHead at task.table ⊎ HasHead at task.table
     → IsOnCourse start ops at x w (followed s task (heap_page task.table 0) bytes (header_outcome task leaf bytes))
-head_goes start ops at x w s task leaf empty i quiet p none room (inl z) =
+head_goes start ops at x w s task leaf i quiet p none room (inl z) =
     let bytes : List ℕ = at (heap_page task.table 0) in
-    let header : header_of bytes (heap_page task.table 0) ≡ Ok empty_header = ap (λ (b : List ℕ). header_of b (heap_page task.table 0)) z ∙ empty in
-    subst (λ (o : Outcome). IsOnCourse start ops at x w (followed s task (heap_page task.table 0) bytes o)) (sym (ap (headed leaf) header))
-      (to_step start ops at x w s task (w.trees task.table) (step.Change update.FormatHeap) refl i (quiet, (p, z)))
-head_goes start ops at x w s task leaf empty i quiet p none room (inr h) =
+    subst (λ (o : Outcome). IsOnCourse start ops at x w (followed s task (heap_page task.table 0) bytes o)) (sym (ap (headed leaf) z.header))
+      (to_step start ops at x w s task (w.trees task.table) (step.Change update.FormatHeap) refl i (quiet, (p, z.zeros)))
+head_goes start ops at x w s task leaf i quiet p none room (inr h) =
     let bytes : List ℕ = at (heap_page task.table 0) in
     subst (λ (o : Outcome). IsOnCourse start ops at x w (followed s task (heap_page task.table 0) bytes o))
       (sym (ap (headed leaf) h.header ∙ ap (λ b. make (if b then update.FormatHeap else update.GiveSlot leaf)) h.some))
@@ -121,7 +123,7 @@ pub header_goes : (g : Given) (start : Rows) (ops : List Op) (at : Images) (x : 
     → number_of x task.table task.key ≡ None → HasRoomIn at task.table (w.trees task.table) leaf task.key
     → IsOnCourse start ops at x w (followed s task (heap_page task.table 0) bytes (header_outcome task leaf bytes))
 header_goes g start ops at x w s task leaf is holds i quiet p none room =
-    head_goes start ops at x w s task leaf (g.empty (heap_page task.table 0)) i (only_put s.rows task.aim p quiet) p none room
+    head_goes start ops at x w s task leaf i (only_put s.rows task.aim p quiet) p none room
       (g.head at task.table (count_in x task.table) (w.keys task.table) (slot_row x w task.table) is holds.heap)
 
 -- ---- a leaf behind its split

@@ -24,7 +24,10 @@ use Rattle.tran_core.specs.Wants.{Content, heap_page}
 use Rattle.tran_core.specs.Looks.{is_between, between, onward, next_leaf_at, next_leaf, row_read}
 use Rattle.tran_core.specs.States.{State, scan_read}
 use Rattle.tran_core.specs.Pages.{scan_from, scan_on, collected, entry_met}
-use Rattle.tran_pages.specs.Chains.{Images, index_page, IsReached, Node, entries_in, place_at}
+use Rattle.page_images.specs.Images.{Images, index_page}
+use Rattle.index_chain.specs.Chains.{Node, entries_in}
+use Rattle.index_chain.specs.Searches.{IsReached}
+use Rattle.heap_rows.specs.Heaps.{place_at}
 use Rattle.tran_pages.specs.Tables.{Tables, Shape, Tree, TableHolds, IndexHolds, entry_of, number_of, row_of}
 use Rattle.tran_pages.specs.Course.{op_by, IsAt, IsPlaceOf, IsOnWay, StartsAt, IsSought, IsNext, IsCollecting, row_at, rows_at, rows_between, rows_beyond, IsOnCourse}
 use Rattle.tran_pages.proofs.Ends.{IsWithin, scan_ends}

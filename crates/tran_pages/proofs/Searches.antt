@@ -16,7 +16,9 @@ use Rattle.tran_core.specs.declared.stage.Level.TheVariants as level
 use Rattle.tran_core.specs.declared.stage.Task.{Task}
 use Rattle.tran_core.specs.Wants as wanted
 use Rattle.tran_core.specs.Looks.{is_empty, is_of, kind_fault, fall_from, fall_of, or_fault, index_fault, is_root, searched, search_outcome, looked, unless, no_index, is_between}
-use Rattle.tran_pages.specs.Chains.{Images, index_page, Node, IsReached, HasNode, entries_in}
+use Rattle.page_images.specs.Images.{Images, index_page}
+use Rattle.index_chain.specs.Chains.{Node, HasNode, entries_in}
+use Rattle.index_chain.specs.Searches.{IsReached}
 
 -- a page of this level whose low key isn't above the key
 pub record IsGood (page : List ℕ) (id : PageId) (l : Level) (key : ℕ) : Type 0 where

@@ -1,11 +1,11 @@
 -- What a transaction in hand knows of the pages at each of its steps.
-use Rattle.std.specs.Prelude.{◌≡◌, ℕ, ◌≤◌, ◌<◌, ◌⊎◌, List, [], ◌∷◌, ◌++◌, filter, Option, Some, None}
+use Rattle.std.specs.Prelude.{◌≡◌, ℕ, ◌≤◌, ◌<◌, ◌⊎◌, List, [], ◌∷◌, ◌++◌, true, filter, Option, Some, None, IfSome}
 use Rattle.std.specs.List.{AllByRecursion, flat_map}
 use Rattle.ds_base.specs.Ids.{IsTable}
 use Rattle.ds_base.specs.Values.{IsValue}
 use Rattle.ds_base.specs.declared.names.Place.{Place}
 use Rattle.ds_base.specs.declared.row.Row.{Row}
-use Rattle.page_format.specs.Header.{entries_per_page}
+use Rattle.page_format.specs.Header.{entries_per_page, is_zeros}
 use Rattle.index_leaf.specs.declared.layout.Entry.{Entry}
 use Rattle.index_leaf.specs.declared.step.Look.TheVariants as look
 use Rattle.index_leaf.specs.Entries.{count_of, low_of}
@@ -36,7 +36,11 @@ use Rattle.tran_core.specs.Wants.{Content, Wanted}
 use Rattle.tran_core.specs.Wants as wanted
 use Rattle.tran_core.specs.Looks.{is_between}
 use Rattle.tran_core.specs.States.{State}
-use Rattle.tran_pages.specs.Chains.{Images, zeros, index_page, heap_page, IsReached, HasNode, HasHeader, entries_in, place_at}
+use Rattle.heap_space.specs.Changes.{heap_page}
+use Rattle.page_images.specs.Images.{Images, index_page}
+use Rattle.index_chain.specs.Chains.{HasNode, entries_in}
+use Rattle.index_chain.specs.Searches.{IsReached}
+use Rattle.heap_rows.specs.Heaps.{HasHeader, place_at}
 use Rattle.tran_pages.specs.Tables.{Tables, Tree, Shape, Holds, row_of, number_of}
 
 -- ---- operations that are left
@@ -92,8 +96,7 @@ abbrev pub IsPlaceOf : Tables → ℕ → ℕ → Place → Type 0
 IsPlaceOf x table key place = IsAt (number_of x table key) place
 
 abbrev pub IsContent : Content → Type 0
-IsContent None = Unit {0}
-IsContent (Some value) = IsValue value
+IsContent content = IfSome content IsValue
 
 pub record CanUndo (x : Tables) (u : Undone) : Type 0 where
   pub table : IsTable u.table
@@ -212,7 +215,7 @@ ReadKnows at x tree s task (reading.Entry entry next) = IsCollecting at x tree s
 
 abbrev pub ChangeKnows : Images → Tables → Option Tree → Task → Update → Type 0
 ChangeKnows at x tree task update.FormatIndex = IsPut task.aim × (tree ≡ None)
-ChangeKnows at x tree task update.FormatHeap = IsPut task.aim × (at (heap_page task.table 0) ≡ zeros)
+ChangeKnows at x tree task update.FormatHeap = IsPut task.aim × (is_zeros (at (heap_page task.table 0)) ≡ true)
 ChangeKnows at x tree task (update.GiveSlot leaf) =
     IsPut task.aim × (number_of x task.table task.key ≡ None) × HasRoomIn at task.table tree leaf task.key × HasHeader at task.table
 ChangeKnows at x tree task (update.Split left branch) = IsPut task.aim × IsFullIn at task.table tree left branch task.key

@@ -7,7 +7,9 @@ use Rattle.index_leaf.specs.declared.layout.Entry.{Entry}
 use Rattle.index_leaf.specs.Search.{find}
 use Rattle.ds_model.specs.Rows.{Rows, spot_cmp}
 use Rattle.ds_model.specs.Logs.{set_row}
-use Rattle.tran_pages.specs.Chains.{Images, Node, IsIndex, HasNoIndex, IsHeap, entries_in, place_at}
+use Rattle.page_images.specs.Images.{Images}
+use Rattle.index_chain.specs.Chains.{Node, IsIndex, HasNoIndex, entries_in}
+use Rattle.heap_rows.specs.Heaps.{IsHeap, IsCount, place_at}
 
 -- which of the new keys of its table a key was, counted from 0
 abbrev pub Places : Type 0
@@ -75,6 +77,7 @@ slot_row x w table n = row_of x table (w.keys table n)
 -- the pages of one table hold its rows and numbers
 pub record TableHolds (at : Images) (x : Tables) (w : Shape) (table : ℕ) : Type 0 where
   pub index : IndexHolds at x table (w.trees table)
+  pub few : IsCount (count_in x table)
   pub heap : IsHeap at table (count_in x table) (w.keys table) (slot_row x w table)
   pub placed : (key n : ℕ) → number_of x table key ≡ Some n → (n < count_in x table) × (w.keys table n ≡ key)
   pub taken : (n : ℕ) → n < count_in x table → number_of x table (w.keys table n) ≡ Some n
