@@ -17,3 +17,5 @@ pub mod Split_page
 pub mod Header
 pub mod Splits
 pub mod Formats
+pub mod Under
+pub mod Patches

@@ -57,6 +57,7 @@ pub record Stands (at : Images) (table kind page key : ℕ) (ns : List Node) (n 
   pub behind : IsChain at table kind rest
   pub number : n.number ≡ page
   pub low : n.low ≤ key
+  pub stands : HasNode ns page n.low
   pub entries : entries_in ns ≡ before ++ (n.entries ++ entries_in rest)
   pub less : AllBelow n.low before
   pub more : (q k : ℕ) → IsReached rest q k → IsReached ns q k
@@ -84,6 +85,7 @@ first at table kind page key n ns h is le = (
     behind = h.3;
     number = is;
     low = le;
+    stands = inl (is, refl);
     entries = refl;
     less = tt;
     more = λ q k r. inr r;
@@ -108,6 +110,7 @@ later at table kind page key n m ms h (x, rest, before, s, up) =
         behind = s.behind;
         number = s.number;
         low = s.low;
+        stands = inr s.stands;
         entries = ap (λ (es : List Entry). n.entries ++ es) s.entries ∙ sym (append_assoc n.entries before (x.entries ++ entries_in rest));
         less = below_append n.entries before x.low (below_more n.entries m.low x.low up below) s.less;
         more = λ q k r. inr (s.more q k r);

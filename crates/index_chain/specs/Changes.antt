@@ -9,7 +9,7 @@ use Rattle.index_leaf.specs.Search.{is_beyond, find, look_of}
 use Rattle.index_leaf.specs.Changes.{next_patch, insert_patches, entered, first_entry, format_patches, half, left_patches, right_patches}
 use Rattle.index_leaf.specs.Nodes.{all_stamped}
 use Rattle.index_chain.specs.Chains.{Node, HasNode, entries_in, IsIndex, HasNoIndex}
-use Rattle.index_chain.specs.Searches.{IsReached}
+use Rattle.index_chain.specs.Searches.{IsReached, IsUnder}
 
 -- an LRSN that a change may have
 abbrev pub IsLrsn : ℕ → Type 0
@@ -133,3 +133,10 @@ InsertReaches = (ns : List Node) (page other key : ℕ) (e : Entry) → IsReache
 
 abbrev pub InsertHas : Type 0
 InsertHas = (ns : List Node) (page other low : ℕ) (e : Entry) → HasNode ns other low → HasNode (entered_at ns page e) other low
+
+-- a leaf stays under its branch
+abbrev pub InsertUnder : Type 0
+InsertUnder = (bs ls : List Node) (number other page : ℕ) (e : Entry) → IsUnder bs ls number other → IsUnder bs (entered_at ls page e) number other × IsUnder (entered_at bs page e) ls number other
+
+abbrev pub SplitUnder : Type 0
+SplitUnder = (bs ls : List Node) (number other page next : ℕ) → IsUnder bs ls number other → IsUnder bs (split_at ls page next) number other × IsUnder (split_at bs page next) ls number other

@@ -1,3 +1,4 @@
 pub mod Chains
 pub mod Searches
 pub mod Changes
+pub mod Records

@@ -16,6 +16,11 @@ abbrev pub IsReached : List Node → ℕ → ℕ → Type 0
 IsReached [] page key = ⊥
 IsReached (n ∷ ns) page key = ((n.number ≡ page) × (n.low ≤ key)) ⊎ IsReached ns page key
 
+-- the leaf of this number has a low key that is not below the low key of the branch of this number
+abbrev pub IsUnder : List Node → List Node → ℕ → ℕ → Type 0
+IsUnder bs [] branch_number page = ⊥
+IsUnder bs (n ∷ ns) branch_number page = ((n.number ≡ page) × IsReached bs branch_number n.low) ⊎ IsUnder bs ns branch_number page
+
 -- ---- what is read of a page
 
 -- a page of this kind that the search for the key may stand at
@@ -70,6 +75,21 @@ BranchLeadsOn = (at : Images) (table next page key : ℕ) (bs ls : List Node) �
 abbrev pub LeafAnswers : Type 0
 LeafAnswers = (at : Images) (table next page key child : ℕ) (bs ls : List Node) → IsIndex at table bs ls next → IsReached ls page key
     → look_of (at (index_page table page)) key ≡ Down child → ⊥
+
+-- ---- the branch through which a leaf was reached
+
+abbrev pub DownIsUnder : Type 0
+DownIsUnder = (at : Images) (table next page key child : ℕ) (bs ls : List Node) → IsIndex at table bs ls next → IsReached bs page key
+    → look_of (at (index_page table page)) key ≡ Down child → IsUnder bs ls page child
+
+abbrev pub RightIsUnder : Type 0
+RightIsUnder = (at : Images) (table next number page key right : ℕ) (bs ls : List Node) → IsIndex at table bs ls next → IsUnder bs ls number page
+    → look_of (at (index_page table page)) key ≡ Right right → IsUnder bs ls number right
+
+-- the entry of the leaf to the right belongs in that branch, or in one to its right
+abbrev pub EndsUnder : Type 0
+EndsUnder = (at : Images) (table next number page low : ℕ) (bs ls : List Node) → IsIndex at table bs ls next → IsUnder bs ls number page
+    → high_of (at (index_page table page)) ≡ Some low → IsReached bs number low
 
 -- ---- answers
 

@@ -1,4 +1,4 @@
-ghost use Rattle.index_chain.specs.Changes.{BranchInserts, BranchSplits, Formats, InsertHas, InsertReaches, LeafGains, LeafInserts, LeafSplits, SplitHas, SplitKeeps, SplitReaches, Stays, StaysWithout};
+ghost use Rattle.index_chain.specs.Changes.{BranchInserts, BranchSplits, Formats, InsertHas, InsertReaches, InsertUnder, LeafGains, LeafInserts, LeafSplits, SplitHas, SplitKeeps, SplitReaches, SplitUnder, Stays, StaysWithout};
 
 use index_leaf::{format_laws, insert_laws, split_laws};
 use page_images::{front_laws, header_laws, part_laws, written_laws};
@@ -16,6 +16,7 @@ pub fn insertion_laws()
     ensures branch { BranchInserts }
     ensures reaches { InsertReaches }
     ensures has { InsertHas }
+    ensures under { InsertUnder }
 {
     insert_laws();
     front_laws();
@@ -29,6 +30,7 @@ pub fn split_chain_laws()
     ensures keeps { SplitKeeps }
     ensures reaches { SplitReaches }
     ensures has { SplitHas }
+    ensures under { SplitUnder }
 {
     split_laws();
     header_laws();

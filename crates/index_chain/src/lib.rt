@@ -5,7 +5,9 @@
 #![tactic(auto)]
 
 mod changes;
+mod records;
 mod searches;
 
 pub use changes::{format_chain_laws, insertion_laws, split_chain_laws, stays_laws};
+pub use records::record_laws;
 pub use searches::search_laws;

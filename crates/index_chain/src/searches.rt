@@ -1,4 +1,4 @@
-ghost use Rattle.index_chain.specs.Searches.{BranchGoesDown, BranchGoesRight, BranchIsRead, BranchLeadsOn, HeaderIsRead, LeafAnswers, LeafEnds, LeafFinds, LeafGoesRight, LeafIsRead, LeafLacks, LeafScans, LeavesRise, SearchBegins};
+ghost use Rattle.index_chain.specs.Searches.{BranchGoesDown, BranchGoesRight, BranchIsRead, BranchLeadsOn, DownIsUnder, EndsUnder, HeaderIsRead, LeafAnswers, LeafEnds, LeafFinds, LeafGoesRight, LeafIsRead, LeafLacks, LeafScans, LeavesRise, RightIsUnder, SearchBegins};
 
 use index_leaf::search_step_laws;
 use page_images::header_laws;
@@ -14,6 +14,9 @@ pub fn search_laws()
     ensures branch_right { BranchGoesRight }
     ensures leaf_right { LeafGoesRight }
     ensures down { BranchGoesDown }
+    ensures down_under { DownIsUnder }
+    ensures right_under { RightIsUnder }
+    ensures ends_under { EndsUnder }
     ensures leads { BranchLeadsOn }
     ensures answers { LeafAnswers }
     ensures found { LeafFinds }

@@ -1,3 +1,4 @@
+use Rattle.index_chain.proofs.Under.{insert_under}
 use Rattle.index_chain.proofs.Entered_chain.{reaches, has}
 use Rattle.index_chain.proofs.Entered_page.{Laws}
 use Rattle.index_chain.proofs.Inserts.{leaf_inserts, leaf_gains, branch_inserts}
@@ -11,4 +12,4 @@ returns c =
       front = c.front_laws.ensures.patches;
       stamped = c.front_laws.ensures.all_stamped;
     } in
-    record { leaf = leaf_inserts law; gains = leaf_gains; branch = branch_inserts law; reaches = reaches; has = has }
+    record { leaf = leaf_inserts law; gains = leaf_gains; branch = branch_inserts law; reaches = reaches; has = has; under = insert_under }

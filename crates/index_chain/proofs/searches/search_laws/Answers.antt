@@ -1,3 +1,4 @@
+use Rattle.index_chain.proofs.Under.{down_under, right_under, ends_under}
 use Rattle.index_chain.proofs.Steps.{begins, branch_right, leaf_right, down, leads, answers}
 use Rattle.index_chain.proofs.Leaves.{found, absent, halves, rising}
 use Rattle.index_chain.proofs.Read.{header_read, branch_read, leaf_read}
@@ -13,6 +14,9 @@ returns c = record {
   branch_right = branch_right;
   leaf_right = leaf_right;
   down = down c.search_step_laws.ensures.down;
+  down_under = down_under c.search_step_laws.ensures.down;
+  right_under = right_under;
+  ends_under = ends_under;
   leads = leads c.search_step_laws.ensures.lost;
   answers = answers;
   found = found;
