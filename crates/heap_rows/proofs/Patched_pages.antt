@@ -1,11 +1,12 @@
 -- What each page of a heap is after the patches that format it, or give one of its slots.
-use Rattle.std.proofs.Common.{◌≡◌, ◌≤◌, ℕ, ◌*◌, ◌-◌, Bool, true, false, ◌&&◌, ◌==◌, if◌then◌else◌, List, [], ◌∷◌, ◌++◌, refl, ap, ◌∙◌, arith}
-use Rattle.std.proofs.lemmas.Bool.{eq-eqb, ne_eqb}
+use Rattle.std.proofs.Common.{◌≡◌, ◌≤◌, ℕ, ◌*◌, ◌-◌, Bool, true, false, ◌&&◌, ◌==◌, if◌then◌else◌, List, [], ◌∷◌, ◌++◌, Option, inl, inr, refl, sym, ap, subst, ◌∙◌, arith}
+use Rattle.std.proofs.lemmas.Bool.{cases_eq, eq-eqb, ne_eqb}
 use Rattle.ds_base.specs.declared.names.PageId.{PageId}
 use Rattle.ds_base.specs.declared.names.Place.{Place}
 use Rattle.page_format.specs.declared.patch.Patch.{Patch}
 use Rattle.heap_space.specs.Changes.{heap_page, front_patch, front_patches, last_patch, count_patch, slot_patch, format_patches, give_patches}
 use Rattle.heap_space.specs.Written.{same_page, after_patch, written}
+use Rattle.heap_rows.specs.Heaps.{row_patch, row_page}
 
 passed : (id : PageId) (lrsn : ℕ) (patch : Patch) (rest : List Patch) (page : List ℕ) → same_page patch.page id ≡ false → written id lrsn (patch ∷ rest) page ≡ written id lrsn rest page
 passed id lrsn patch rest page other =
@@ -89,3 +90,14 @@ rows_given table place key lrsn page h =
     ∙ front_taken (place.slot == 0) id lrsn (front_patch 2 id) tail page mine
     ∙ taken id lrsn (count_patch table place) (slot_patch table place key ∷ []) (fronted table place lrsn page) mine
     ∙ taken id lrsn (slot_patch table place key) [] (counted table place lrsn page) mine
+
+-- ---- a changed row
+
+pub row_written : (table p : ℕ) (place : Place) (key : ℕ) (value : Option (List ℕ)) (lrsn : ℕ) (page : List ℕ) → written (heap_page table p) lrsn (row_patch table place key value ∷ []) page ≡ row_page lrsn place key value p page
+row_written table p place key value lrsn page =
+    let patch = row_patch table place key value in
+    let pick : Bool → List ℕ = λ b. if b then after_patch lrsn page patch else page in
+    elim (cases_eq p place.page) as (λ _. written (heap_page table p) lrsn (row_patch table place key value ∷ []) page ≡ row_page lrsn place key value p page) [
+      | inl e ↦ taken (heap_page table p) lrsn patch [] page (subst (λ (q : ℕ). same_page (heap_page table q) (heap_page table p) ≡ true) e (same table p)) ∙ ap pick (sym (eq-eqb p place.page e))
+      | inr ne ↦ passed (heap_page table p) lrsn patch [] page (apart table place.page p (λ e. ne (sym e))) ∙ ap pick (sym (ne_eqb p place.page ne))
+    ]

@@ -3,7 +3,7 @@
 //! The crate has definitions and proofs alone. Its functions do nothing: each is called where its facts are needed.
 #![tactic(auto)]
 
-ghost use Rattle.std.specs.Prelude.{◌≡◌, ℕ, ◌+◌, ◌*◌, ◌^◌, ◌<◌, ◌≤◌, ◌==◌, if◌then◌else◌, List, Option, Some, None, IfSome, true, Ok, Err};
+ghost use Rattle.std.specs.Prelude.{◌≡◌, ℕ, ◌+◌, ◌*◌, ◌^◌, ◌<◌, ◌≤◌, ◌==◌, if◌then◌else◌, List, [], ◌∷◌, Option, Some, None, IfSome, true, Ok, Err};
 ghost use Rattle.ds_base.specs.Ids.{IsTable};
 ghost use Rattle.ds_base.specs.Values.{IsValue};
 ghost use Rattle.ds_base.specs.declared.names.Place.{Place};
@@ -13,8 +13,8 @@ ghost use Rattle.page_format.specs.declared.header.PageKind.TheVariants as kind;
 ghost use Rattle.heap_space.specs.Changes.{heap_page, format_patches, give_patches};
 ghost use Rattle.heap_space.specs.Next.{last_page_of, given_of, header_allowed, next_place};
 ghost use Rattle.heap_space.specs.Slots.{slot_in, content, fault_in};
-ghost use Rattle.page_images.specs.Images.{Images};
-ghost use Rattle.heap_rows.specs.Heaps.{place_at, slots_on, last_for, given_for, IsCount, HasHeader, IsHeap, SameHeap, changed, IsAfter, row_page};
+ghost use Rattle.page_images.specs.Images.{Images, zeros};
+ghost use Rattle.heap_rows.specs.Heaps.{place_at, slots_on, last_for, given_for, IsCount, HasHeader, IsHeap, SameHeap, changed, IsAfter, row_patch, row_page};
 
 use heap_space::{give_laws, image_laws};
 use page_images::{front_laws, header_laws, part_laws};
@@ -49,14 +49,16 @@ pub fn heap_header_laws()
     place_laws();
 }
 
-/// Images that agree on the heap of a table have the same heap.
+/// A heap that was never written has no slots that are given. Images that agree on the heap of a table have the same heap.
 pub fn same_heap_laws()
+    ensures start { (at : Images) (table : ℕ) (key : ℕ → ℕ) (row : ℕ → Option (List ℕ)) → ((p : ℕ) → at (heap_page table p) ≡ zeros) → IsHeap at table 0 key row }
     ensures stays { (at new : Images) (table count : ℕ) (key : ℕ → ℕ) (row : ℕ → Option (List ℕ)) → IsHeap at table count key row → SameHeap at new table → IsHeap new table count key row }
     ensures formatted { (at new : Images) (table : ℕ) → HasHeader at table → SameHeap at new table → HasHeader new table }
 {}
 
 /// The change of a row gives its slot the new value, and all other slots stay.
 pub fn row_change_laws()
+    ensures written { (at new : Images) (table : ℕ) (place : Place) (key : ℕ) (value : Option (List ℕ)) (lrsn : ℕ) → IsAfter at new table lrsn (row_patch table place key value ∷ []) → (p : ℕ) → new (heap_page table p) ≡ row_page lrsn place key value p (at (heap_page table p)) }
     ensures change { (at new : Images) (table count : ℕ) (key : ℕ → ℕ) (row : ℕ → Option (List ℕ)) (n : ℕ) (value : Option (List ℕ)) (lrsn : ℕ) → IsHeap at table count key row → n < count → IfSome value IsValue → 1 ≤ lrsn → lrsn < 2 ^ 48 → ((p : ℕ) → new (heap_page table p) ≡ row_page lrsn (place_at n) (key n) value p (at (heap_page table p))) → IsHeap new table count key (changed row n value) }
     ensures formatted { (at new : Images) (table : ℕ) (place : Place) (key : ℕ) (value : Option (List ℕ)) (lrsn : ℕ) → 1 ≤ place.page → HasHeader at table → ((p : ℕ) → new (heap_page table p) ≡ row_page lrsn place key value p (at (heap_page table p))) → HasHeader new table }
 {

@@ -1,4 +1,5 @@
 mod Fronts
 mod Kept_fronts
+mod Names
 mod Parts
 mod Written

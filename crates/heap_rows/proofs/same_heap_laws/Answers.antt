@@ -1,5 +1,8 @@
-use Rattle.heap_rows.proofs.Same_heaps.{stays, stays_formatted}
+use Rattle.heap_rows.proofs.Same_heaps.{start, stays, stays_formatted}
 use Rattle.heap_rows.proofs.same_heap_laws.Goals as goal
+
+pub returns-clause-start : goal.returns-clause-start
+returns-clause-start c = λ at table key row h. start at table key row h
 
 pub returns-clause-stays : goal.returns-clause-stays
 returns-clause-stays c = λ at new table count key row h same. stays at new table count key row h same
