@@ -40,7 +40,7 @@ use Rattle.heap_rows.specs.Heaps.{place_at}
 use Rattle.tran_pages.specs.Tables.{Tables, Shape, Tree, TableHolds, IndexHolds, entry_of, number_of, row_of}
 use Rattle.tran_pages.specs.Course.{op_by, op_of, IsAt, IsPlaceOf, IsOnWay, IsSought, StartsAt, IsQuiet, IsSingle, StepKnows, IsOnCourse, rows_between}
 use Rattle.tran_pages.proofs.Ends.{IsWithin, nothing_ends, get_ends, scan_ends}
-use Rattle.tran_pages.proofs.Searches.{IsGood, Leads, good_outcome, reached_above}
+use Rattle.tran_pages.proofs.Searches.{IsGood, Leads, good_outcome}
 
 -- the operation goes on with this step
 pub to_step : (start : Rows) (ops : List Op) (at : Images) (x : Tables) (w : Shape) (s : State) (task : Task) (tree : Option Tree) (it : Step)
@@ -206,7 +206,7 @@ pub leaf_goes : (start : Rows) (ops : List Op) (at : Images) (x : Tables) (w : S
 leaf_goes start ops at x w s table own a tree page branch key (look.Right next) is leads holds saw i quiet r k more =
     let on : _ = leads.leaf_right page key next r.0 saw in
     to_step start ops at x w s (record { table = table; key = own; aim = a }) (Some tree) (step.Read (reading.Index level.Leaf next branch key)) is i
-      (quiet, ((on.0, reached_above tree.branches branch _ _ r.1 on.1), right_sought at x (Some tree) s.rows table page next own key a on.1 (leads.leaf next key on.0).low k))
+      (quiet, ((on.0, leads.leaf_under branch page key next r.1 saw), right_sought at x (Some tree) s.rows table page next own key a on.1 (leads.leaf next key on.0).low k))
 leaf_goes start ops at x w s table own a tree page branch key (look.Down child) is leads holds saw i quiet r k more = absurd (leads.is_last page key child r.0 saw)
 leaf_goes start ops at x w s table own a tree page branch key (look.Found place) is leads holds saw i quiet r k more =
     let index : IndexHolds at x table (Some tree) = subst (λ (t : Option Tree). IndexHolds at x table t) is holds.index in

@@ -43,7 +43,7 @@ use Rattle.heap_rows.specs.Heaps.{HasHeader, IsHeap, place_at}
 use Rattle.tran_pages.specs.Tables.{Tables, Shape, Tree, TableHolds, IndexHolds, slot_row, count_in, number_of, row_of}
 use Rattle.tran_pages.specs.Course.{op_by, op_of, IsPart, IsAt, IsPlaceOf, IsOnWay, IsSought, IsPut, IsContent, HasRoomIn, IsChild, CanChange, IsQuiet, ReadKnows, StepKnows, StageKnows, PartAt, IsOnCourse}
 use Rattle.tran_pages.proofs.Ends.{IsWithin, nothing_ends, get_ends, scan_ends}
-use Rattle.tran_pages.proofs.Searches.{IsGood, IsLinked, Leads, good_outcome, reached_above}
+use Rattle.tran_pages.proofs.Searches.{IsGood, IsLinked, Leads, good_outcome}
 use Rattle.tran_pages.proofs.Given.{Given}
 use Rattle.tran_pages.proofs.Rows.{slot_goes, header_goes, halves_goes}
 use Rattle.tran_pages.proofs.Scans.{collect_goes, entry_goes_on}

@@ -32,7 +32,7 @@ use Rattle.heap_rows.specs.Heaps.{HasHeader, IsHeap, place_at}
 use Rattle.tran_pages.specs.Tables.{Tables, Shape, Tree, TableHolds, slot_row, count_in, number_of, row_of}
 use Rattle.tran_pages.specs.Course.{op_by, op_of, IsAt, IsPlaceOf, IsOnWay, IsSought, IsPut, IsContent, HasRoomIn, IsChild, CanChange, Changes, IsQuiet, IsSingle, IsOnCourse}
 use Rattle.tran_pages.proofs.Ends.{IsWithin, nothing_ends, get_ends}
-use Rattle.tran_pages.proofs.Searches.{IsGood, IsLinked, Leads, reached_above}
+use Rattle.tran_pages.proofs.Searches.{IsGood, IsLinked, Leads}
 use Rattle.tran_pages.proofs.Going.{to_step}
 use Rattle.tran_pages.proofs.Given.{Given, HasNoHead, HasHead}
 
@@ -158,12 +158,11 @@ enters : (start : Rows) (ops : List Op) (at : Images) (x : Tables) (w : Shape) (
 enters start ops at x w s task tree left branch None right is leads h r i none quiet p on =
     put_searches start ops at x w s task.table task.key task.aim (Some tree) is leads (put_sought at x (Some tree) s.rows task.table task.key task.aim p) i quiet
 enters start ops at x w s task tree left branch (Some low) None is leads h r i none quiet p on =
-    absurd (subst (λ (o : Option ℕ). IsLinked at task.table tree.leaves o low) r ((leads tree is).linked left task.key low on.0 h).0)
+    absurd (subst (λ (o : Option ℕ). IsLinked at task.table tree.leaves o low) r ((leads tree is).linked left task.key low on.0 h))
 enters start ops at x w s task tree left branch (Some low) (Some child) is leads h r i none quiet p on =
-    let there : _ = (leads tree is).linked left task.key low on.0 h in
-    let it : IsLinked at task.table tree.leaves (Some child) low = subst (λ (o : Option ℕ). IsLinked at task.table tree.leaves o low) r there.0 in
+    let it : IsLinked at task.table tree.leaves (Some child) low = subst (λ (o : Option ℕ). IsLinked at task.table tree.leaves o low) r ((leads tree is).linked left task.key low on.0 h) in
     to_step start ops at x w s task (Some tree) (step.Change (update.BranchEntry branch low child)) is i
-      (none, (p, (reached_above tree.branches branch _ low on.1 there.1, it.2)))
+      (none, (p, ((leads tree is).ends branch left low on.1 h, it.2)))
 
 halves_go : (start : Rows) (ops : List Op) (at : Images) (x : Tables) (w : Shape) (s : State) (task : Task) (tree : Option Tree) (left branch : ℕ)
     → let bytes : List ℕ = at (index_page task.table left) in

@@ -181,7 +181,7 @@ collects_to start ops at x w s table own high page tree top right false tests is
     hands start ops at x w s table own high page tree None is i all tt e
 collects_to start ops at x w s table own high page tree top None true tests is leads le linked i all e = absurd linked
 collects_to start ops at x w s table own high page tree top (Some next) true tests is leads le linked i all e =
-    hands start ops at x w s table own high page tree (Some (record { page = next; key = top })) is i all (le, linked.1, (linked.0, leads.begins _)) e
+    hands start ops at x w s table own high page tree (Some (record { page = next; key = top })) is i all (le, linked.1, (linked.0, leads.under_first next top linked.0)) e
 
 -- where there is a right page, the scan's step to it is no fault
 next_same : (top high : ℕ) (right : Option ℕ) (at : Images) (table : ℕ) (leaves : List Node) → IsLinked at table leaves right top
@@ -199,7 +199,7 @@ collects_by : (start : Rows) (ops : List Op) (at : Images) (x : Tables) (w : Sha
 collects_by start ops at x w s table own high page key tree None h is leads r le below i all e = hands start ops at x w s table own high page tree None is i all tt e
 collects_by start ops at x w s table own high page key tree (Some top) h is leads r le below i all e =
     let bytes : List ℕ = at (index_page table page) in
-    let linked : IsLinked at table tree.leaves (right_of bytes) top = (leads.linked page key top r h).0 in
+    let linked : IsLinked at table tree.leaves (right_of bytes) top = leads.linked page key top r h in
     subst (λ (n : Result (Option NextLeaf) ℕ). IsOnCourse start ops at x w (collected s (record { table = table; key = own; aim = aim.Scan high }) (index_page table page) high bytes n))
       (sym (next_same top high (right_of bytes) at table tree.leaves linked))
       (collects_to start ops at x w s table own high page tree top (right_of bytes) (nat_le top high) refl is leads (above_own own key top le below) linked i all e)

@@ -18,7 +18,7 @@ use Rattle.tran_core.specs.Wants as wanted
 use Rattle.tran_core.specs.Looks.{is_empty, is_of, kind_fault, fall_from, fall_of, or_fault, index_fault, is_root, searched, search_outcome, looked, unless, no_index, is_between}
 use Rattle.page_images.specs.Images.{Images, index_page}
 use Rattle.index_chain.specs.Chains.{Node, HasNode, entries_in}
-use Rattle.index_chain.specs.Searches.{IsReached}
+use Rattle.index_chain.specs.Searches.{IsReached, IsUnder}
 
 -- a page of this level whose low key isn't above the key
 pub record IsGood (page : List ℕ) (id : PageId) (l : Level) (key : ℕ) : Type 0 where
@@ -46,28 +46,25 @@ pub record Leads (at : Images) (table : ℕ) (branches leaves : List Node) : Typ
   pub leaf : (page key : ℕ) → IsReached leaves page key → IsGood (at (index_page table page)) (index_page table page) level.Leaf key
   pub branch_right : (page key next : ℕ) → IsReached branches page key → look_of (at (index_page table page)) key ≡ look.Right next → IsReached branches next key
   pub down : (page key child : ℕ) → IsReached branches page key → look_of (at (index_page table page)) key ≡ look.Down child
-      → IsReached leaves child key × IsReached branches page (low_of (at (index_page table child)))
+      → IsReached leaves child key × IsUnder branches leaves page child
   pub leads : (page key : ℕ) → IsReached branches page key → look_of (at (index_page table page)) key ≡ look.Absent → ⊥
   pub has_no_place : (page key : ℕ) (place : Place) → IsReached branches page key → look_of (at (index_page table page)) key ≡ look.Found place → ⊥
   pub leaf_right : (page key next : ℕ) → IsReached leaves page key → look_of (at (index_page table page)) key ≡ look.Right next
       → IsReached leaves next key × (low_of (at (index_page table page)) ≤ low_of (at (index_page table next)))
+  pub leaf_under : (number page key next : ℕ) → IsUnder branches leaves number page → look_of (at (index_page table page)) key ≡ look.Right next → IsUnder branches leaves number next
+  pub under_first : (page key : ℕ) → IsReached leaves page key → IsUnder branches leaves 1 page
   pub is_last : (page key child : ℕ) → IsReached leaves page key → look_of (at (index_page table page)) key ≡ look.Down child → ⊥
   pub found : (page key : ℕ) (place : Place) → IsReached leaves page key → look_of (at (index_page table page)) key ≡ look.Found place
       → find (entries_in leaves) key ≡ Some (record { key = key; place = place })
   pub absent : (page key : ℕ) → IsReached leaves page key → look_of (at (index_page table page)) key ≡ look.Absent → find (entries_in leaves) key ≡ None
   pub linked : (page key low : ℕ) → IsReached leaves page key → high_of (at (index_page table page)) ≡ Some low
-      → IsLinked at table leaves (right_of (at (index_page table page))) low × (low_of (at (index_page table page)) ≤ low)
+      → IsLinked at table leaves (right_of (at (index_page table page))) low
+  pub ends : (number page low : ℕ) → IsUnder branches leaves number page → high_of (at (index_page table page)) ≡ Some low → IsReached branches number low
   pub from_low : (page key : ℕ) (e : Entry) → IsReached leaves page key → Contains (entries_of (at (index_page table page))) e → low_of (at (index_page table page)) ≤ e.key
   pub among : (page key : ℕ) (e : Entry) → IsReached leaves page key → Contains (entries_of (at (index_page table page))) e → find (entries_in leaves) e.key ≡ Some e
   pub scan : (page low high : ℕ) → IsReached leaves page low → is_beyond (high_of (at (index_page table page))) low ≡ false
       → filter (is_between low high) (entries_in leaves) ≡ filter (is_between low high) (entries_of (at (index_page table page))) ++ entries_beyond leaves high (high_of (at (index_page table page)))
   pub rising : IsRising (entries_in leaves)
-
--- what is reached by a key is reached by each that isn't below it
-pub reached_above : (nodes : List Node) (page low key : ℕ) → IsReached nodes page low → low ≤ key → IsReached nodes page key
-reached_above [] page low key h le = absurd h
-reached_above (n ∷ ns) page low key (inl h) le = inl (h.0, omega (arith, h.1))
-reached_above (n ∷ ns) page low key (inr h) le = inr (reached_above ns page low key h le)
 
 -- ---- what such a page answers
 

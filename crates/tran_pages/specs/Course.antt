@@ -39,7 +39,7 @@ use Rattle.tran_core.specs.States.{State}
 use Rattle.heap_space.specs.Changes.{heap_page}
 use Rattle.page_images.specs.Images.{Images, index_page}
 use Rattle.index_chain.specs.Chains.{HasNode, entries_in}
-use Rattle.index_chain.specs.Searches.{IsReached}
+use Rattle.index_chain.specs.Searches.{IsReached, IsUnder}
 use Rattle.heap_rows.specs.Heaps.{HasHeader, place_at}
 use Rattle.tran_pages.specs.Tables.{Tables, Tree, Shape, Holds, row_of, number_of}
 
@@ -111,7 +111,7 @@ IsOnWay at table None level.Branch page branch key = page ≡ 1
 IsOnWay at table None level.Leaf page branch key = ⊥
 IsOnWay at table (Some tree) level.Branch page branch key = IsReached tree.branches page key
 IsOnWay at table (Some tree) level.Leaf page branch key =
-    IsReached tree.leaves page key × IsReached tree.branches branch (low_of (at (index_page table page)))
+    IsReached tree.leaves page key × IsUnder tree.branches tree.leaves branch page
 
 abbrev pub entries_by : Option Tree → List Entry
 entries_by None = []
