@@ -8,3 +8,5 @@ pub mod Scans
 pub mod Scanned
 pub mod Doing
 pub mod Changing
+pub mod Leading
+pub mod Heaping
