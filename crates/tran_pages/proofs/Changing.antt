@@ -31,6 +31,7 @@ use Rattle.tran_core.specs.States.{State, search, at_step, next_op, opened, refu
 use Rattle.page_images.specs.Images.{Images}
 use Rattle.tran_pages.specs.Tables.{Tables, Shape, Tree, Holds, Grows, number_of, row_of, with_row}
 use Rattle.tran_pages.specs.Course.{op_by, op_of, IsPart, IsAt, IsPlaceOf, CanUndo, taken_back, IsQuiet, IsPut, IsContent, Changes, CanChange, IsOnWay, StageKnows, ChangeKnows, PartAt, IsOnCourse, SearchesAgain}
+use Rattle.tran_pages.specs.Steps.{IsDone}
 use Rattle.tran_pages.proofs.Ends.{IsBetween, IsWithin, part_goes, next_course}
 use Rattle.tran_pages.proofs.Going.{to_step}
 use Rattle.tran_pages.proofs.Given.{Given}
@@ -233,12 +234,6 @@ pub starts : (ops : List Op) (at : Images) (x : Tables) (w : Shape) → Holds at
 starts ops at x w holds are =
     next_course x.rows ops at x w (record { rest = ops; stage = stage.Commit; reads = []; undo = []; rows = []; entries = []; damage = None })
       (record { holds = holds; back = refl; undos = tt; sound = refl; part = record { reads_are = refl; rows_are = refl; aborts_are = refl; ops_are = are }; quiet = refl })
-
--- what a transaction has read and left when it commits
-pub record IsDone (start : Rows) (ops : List Op) (x : Tables) (s : State) : Type 0 where
-  pub reads_are : s.reads ≡ reads_of start ops
-  pub rows_are : x.rows ≡ after_ops start ops
-  pub aborts_are : aborts ops ≡ false
 
 pub commits : (start : Rows) (ops : List Op) (at : Images) (x : Tables) (w : Shape) (s : State)
     → IsOnCourse start ops at x w s → s.stage ≡ stage.Commit → IsDone start ops x s

@@ -10,3 +10,4 @@ pub mod Doing
 pub mod Changing
 pub mod Leading
 pub mod Heaping
+pub mod Wanting

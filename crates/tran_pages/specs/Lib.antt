@@ -1,2 +1,3 @@
 pub mod Tables
 pub mod Course
+pub mod Steps

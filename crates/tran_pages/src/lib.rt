@@ -1,4 +1,9 @@
-//! What a transaction's agent makes of pages.
+//! Transactions over pages: where pages stand for rows and their places, an agent that is given the pages that it asks
+//! for reads and changes exactly what the definition of its operations says.
+//!
+//! The crate has definitions and proofs alone. Its functions do nothing: each is called where its facts are needed.
 #![tactic(auto)]
 
-mod laws;
+mod course;
+
+pub use course::course_laws;
