@@ -1,6 +1,6 @@
 -- A chain with one entry more.
 use Rattle.std.proofs.Common.{◌≡◌, ℕ, ◌^◌, ◌<◌, ◌≤◌, refl, sym, ap, ◌∙◌, subst, inl, inr, arith, Bool, true, false, List, [], ◌∷◌, ◌++◌, Option, Some, None, if◌then◌else◌}
-use Rattle.std.proofs.lemmas.Bool.{eqb-true, eqb-false, eq-eqb}
+use Rattle.std.proofs.lemmas.Bool.{eqb-true}
 use Rattle.std.specs.Prelude.{◌==◌}
 use Rattle.page_images.specs.Images.{Images, index_page}
 use Rattle.index_leaf.specs.declared.layout.Entry.{Entry}
@@ -8,7 +8,6 @@ use Rattle.index_leaf.specs.Entries.{low_of}
 use Rattle.index_leaf.specs.Search.{or_else, find}
 use Rattle.index_leaf.specs.Changes.{entered}
 use Rattle.index_chain.specs.Chains.{Node, low_of_first, number_of_first, has_number, HasNode, entries_in, IsApart, IsNodePage, NodeFits, IsBelow, IsChain, LeadsTo, AllLeadTo, BeginsWith}
-use Rattle.index_chain.specs.Searches.{IsReached}
 use Rattle.index_chain.specs.Changes.{ChangesPage, entered_at, InsertReaches, InsertHas}
 use Rattle.index_chain.proofs.Lists.{find_append}
 use Rattle.index_chain.proofs.Entered.{finds, fit_entered, lead_entered, opens_entered}

@@ -1,19 +1,19 @@
 -- The index after its format.
-use Rattle.std.proofs.Common.{◌≡◌, ℕ, ◌+◌, ◌*◌, ◌^◌, ◌<◌, ◌≤◌, ◌⊎◌, refl, sym, ap, ◌∙◌, subst, inl, inr, arith, Bool, true, false, List, [], ◌∷◌, length, Option, Some, None, if◌then◌else◌}
+use Rattle.std.proofs.Common.{◌≡◌, ℕ, ◌*◌, ◌≤◌, refl, sym, ap, ◌∙◌, subst, inl, inr, arith, Bool, true, false, List, [], ◌∷◌, length, if◌then◌else◌}
 use Rattle.std.proofs.lemmas.Bool.{eqb-true, eq-eqb, ne_eqb}
-use Rattle.std.specs.Prelude.{◌==◌, ◌&&◌, slice_index}
+use Rattle.std.specs.Prelude.{◌==◌, slice_index}
 use Rattle.byteorder.specs.Endian.{big_number}
 use Rattle.ds_base.specs.declared.names.PageId.{PageId}
 use Rattle.page_format.specs.Fields.{mark_at, number_in, patched, set_lrsn}
 use Rattle.page_format.specs.declared.patch.Patch.{Patch}
 use Rattle.heap_space.specs.Written.{after_patch, written}
-use Rattle.page_images.specs.Images.{Images, zeros, index_page, after_change, HasFront, IsStamped}
-use Rattle.page_images.specs.Parts.{Lies, AreBehindFront, AreWithin}
+use Rattle.page_images.specs.Images.{Images, zeros, index_page, after_change, HasFront}
+use Rattle.page_images.specs.Parts.{Lies}
 use Rattle.index_leaf.specs.declared.layout.Entry.{Entry}
-use Rattle.index_leaf.specs.Entries.{count_of, entries_of}
-use Rattle.index_leaf.specs.Changes.{spelt, entry_bytes, front_of, front_patch, count_patch, next_patch, next_page_of, patch_of, page_of, first_entry, format_patches}
-use Rattle.index_leaf.specs.Nodes.{IsNode, is_same, patches_for, all_stamped, IsFirst}
-use Rattle.index_chain.specs.Chains.{Node, has_number, IsApart, IsNodePage, IsIndexHeader, IsChain, AllLeadTo, AreNumbered, IsIndex, HasNoIndex}
+use Rattle.index_leaf.specs.Entries.{count_of}
+use Rattle.index_leaf.specs.Changes.{spelt, entry_bytes, front_of, front_patch, count_patch, next_patch, patch_of, page_of, first_entry, format_patches}
+use Rattle.index_leaf.specs.Nodes.{IsNode, patches_for, all_stamped, IsFirst}
+use Rattle.index_chain.specs.Chains.{IsNodePage, IsIndexHeader, AreNumbered, HasNoIndex}
 use Rattle.index_chain.specs.Changes.{IsLrsn, first_branches, first_leaves, Formats}
 use Rattle.index_chain.proofs.Header.{next_kept}
 use Rattle.index_chain.proofs.Header.{Laws as HeaderLaws}

@@ -1,9 +1,9 @@
 -- The two halves of the entries of a full page.
-use Rattle.std.proofs.Common.{◌≡◌, ℕ, zero, suc, ◌+◌, ◌*◌, ◌^◌, ◌<◌, ◌≤◌, refl, sym, ap, ◌∙◌, subst, arith, List, [], ◌∷◌, ◌++◌, take, drop}
+use Rattle.std.proofs.Common.{◌≡◌, ℕ, zero, suc, ◌+◌, ◌*◌, ◌^◌, ◌<◌, refl, sym, ap, ◌∙◌, subst, arith, List, [], ◌∷◌, take, drop}
 use Rattle.index_leaf.specs.declared.layout.Entry.{Entry}
 use Rattle.index_leaf.specs.Entries.{count_of, entry_in, entries_from, entries_of, AllAbove, IsRising}
 use Rattle.index_leaf.specs.Changes.{low_of_split}
-use Rattle.index_chain.specs.Chains.{Node, HasNode, AllFit, AllLead, Opens}
+use Rattle.index_chain.specs.Chains.{Node, AllFit, AllLead, Opens}
 use Rattle.index_chain.specs.Changes.{key_of_first}
 use Rattle.index_chain.proofs.Lists.{AllBelow, AllFrom}
 

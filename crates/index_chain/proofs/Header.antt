@@ -1,16 +1,16 @@
 -- The header page that gave the next free page.
-use Rattle.std.proofs.Common.{◌≡◌, ℕ, ◌+◌, ◌^◌, ◌<◌, ◌≤◌, ◌⊎◌, refl, sym, ap, ◌∙◌, subst, inl, inr, arith, List, [], ◌∷◌, ◌++◌, length, take}
+use Rattle.std.proofs.Common.{◌≡◌, ℕ, ◌^◌, ◌<◌, ◌≤◌, refl, sym, ap, ◌∙◌, inl, inr, arith, List, [], ◌∷◌, length}
 use Rattle.std.proofs.lemmas.List.{append-nil}
 use Rattle.byteorder.specs.Endian.{big_number}
 use Rattle.byteorder.specs.Numbers.{big_number-reads_back}
 use Rattle.ds_base.specs.declared.names.PageId.{PageId}
-use Rattle.page_format.specs.Fields.{page_size, number_in}
+use Rattle.page_format.specs.Fields.{number_in}
 use Rattle.page_format.specs.declared.patch.Patch.{Patch}
 use Rattle.heap_space.specs.Written.{after_patch}
-use Rattle.page_images.specs.Images.{index_page, HasFront, IsStamped}
+use Rattle.page_images.specs.Images.{HasFront, IsStamped}
 use Rattle.page_images.specs.Parts.{part, AreApart, IsOffStamp, Lies, AreBehindFront, AreWithin}
 use Rattle.index_leaf.specs.Entries.{count_of}
-use Rattle.index_leaf.specs.Changes.{spelt, next_at, next_page_of, next_patch, patch_of}
+use Rattle.index_leaf.specs.Changes.{spelt, next_page_of, next_patch}
 use Rattle.index_leaf.specs.Nodes.{all_stamped}
 use Rattle.index_chain.specs.Chains.{IsIndexHeader}
 use Rattle.index_chain.specs.Changes.{IsLrsn}

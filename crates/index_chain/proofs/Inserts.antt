@@ -1,16 +1,16 @@
 -- The index after an insertion.
-use Rattle.std.proofs.Common.{◌≡◌, ℕ, ◌^◌, ◌<◌, ◌≤◌, refl, sym, ap, ◌∙◌, subst, inl, inr, arith, Bool, true, false, List, [], ◌∷◌, Option, Some, None, if◌then◌else◌}
-use Rattle.std.proofs.lemmas.Bool.{eqb-true, ne_eqb}
+use Rattle.std.proofs.Common.{◌≡◌, ℕ, ◌^◌, ◌<◌, ◌≤◌, refl, sym, ap, ◌∙◌, inl, inr, arith, true, false, List, [], ◌∷◌, None, if◌then◌else◌}
+use Rattle.std.proofs.lemmas.Bool.{ne_eqb}
 use Rattle.std.specs.Prelude.{◌==◌}
 use Rattle.page_images.specs.Images.{Images, index_page}
 use Rattle.index_leaf.specs.declared.layout.Entry.{Entry}
 use Rattle.index_leaf.specs.Entries.{count_of, low_of, high_of, entries_of}
 use Rattle.index_leaf.specs.Search.{is_branch, is_beyond, find}
-use Rattle.index_leaf.specs.Changes.{insert_patches, entered}
+use Rattle.index_leaf.specs.Changes.{insert_patches}
 use Rattle.index_leaf.specs.Nodes.{all_stamped}
-use Rattle.index_chain.specs.Chains.{Node, has_number, HasNode, IsApart, IsNodePage, IsChain, NodeFits, AreNumbered, IsIndex}
+use Rattle.index_chain.specs.Chains.{Node, has_number, HasNode, IsApart, IsChain, AreNumbered}
 use Rattle.index_chain.specs.Searches.{IsReached}
-use Rattle.index_chain.specs.Changes.{IsLrsn, EntryFits, ChangesByInsert, entered_at, entry_to, LeafInserts, LeafGains, BranchInserts}
+use Rattle.index_chain.specs.Changes.{IsLrsn, EntryFits, entered_at, entry_to, LeafInserts, LeafGains, BranchInserts}
 use Rattle.index_chain.proofs.Places.{reached_has, node_reached}
 use Rattle.index_chain.proofs.Reached.{Standing, standing}
 use Rattle.index_chain.proofs.Looks.{absent_inside, absent_lacks}

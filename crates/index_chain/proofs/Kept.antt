@@ -1,10 +1,10 @@
 -- Chains whose pages stay, and chains of the same numbers.
-use Rattle.std.proofs.Common.{◌≡◌, ℕ, ◌<◌, ◌≤◌, refl, sym, ap, ◌∙◌, subst, inl, inr, arith, Bool, true, false, List, [], ◌∷◌, Option, Some, None, if◌then◌else◌}
-use Rattle.std.proofs.lemmas.Bool.{eqb-true, eq-eqb}
+use Rattle.std.proofs.Common.{◌≡◌, ℕ, refl, sym, ◌∙◌, subst, Bool, true, false, List, [], ◌∷◌, if◌then◌else◌}
+use Rattle.std.proofs.lemmas.Bool.{eq-eqb}
 use Rattle.std.specs.Prelude.{◌==◌}
 use Rattle.page_images.specs.Images.{Images, index_page}
 use Rattle.index_leaf.specs.declared.layout.Entry.{Entry}
-use Rattle.index_chain.specs.Chains.{Node, has_number, HasNode, AllLead, IsApart, IsNodePage, IsIndexHeader, IsChain, LeadsTo, AllLeadTo, BeginsWith, AreNumbered, IsIndex}
+use Rattle.index_chain.specs.Chains.{Node, has_number, HasNode, AllLead, IsNodePage, IsIndexHeader, IsChain, AllLeadTo}
 use Rattle.index_chain.specs.Changes.{Stays, StaysWithout}
 
 -- ---- numbers

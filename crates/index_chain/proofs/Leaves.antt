@@ -1,15 +1,13 @@
 -- What a leaf answers is what all leaves have.
-use Rattle.std.proofs.Common.{◌≡◌, ℕ, ◌<◌, ◌≤◌, refl, sym, ap, ◌∙◌, subst, inl, inr, arith, Bool, true, false, List, [], ◌∷◌, ◌++◌, Option, Some, None, if◌then◌else◌}
+use Rattle.std.proofs.Common.{◌≡◌, ℕ, refl, sym, ap, ◌∙◌, inl, arith, false, List, [], ◌∷◌, ◌++◌, Option, Some, None}
 use Rattle.std.proofs.lemmas.Bool.{leb-false}
-use Rattle.std.specs.Prelude.{leb, ◌==◌}
 use Rattle.ds_base.specs.declared.names.Place.{Place}
 use Rattle.page_images.specs.Images.{Images, index_page}
 use Rattle.index_leaf.specs.declared.layout.Entry.{Entry}
-use Rattle.index_leaf.specs.declared.step.Look.TheVariants.{Found, Absent}
 use Rattle.index_leaf.specs.Entries.{high_of, right_field, entries_of}
-use Rattle.index_leaf.specs.Search.{is_beyond, or_else, find, look_of}
-use Rattle.index_chain.specs.Chains.{Node, HasNode, entries_in, IsIndex}
-use Rattle.index_chain.specs.Searches.{IsReached, LeafFinds, LeafLacks, HasRightLeaf, LeafEnds, LeavesRise}
+use Rattle.index_leaf.specs.Search.{is_beyond, or_else, find}
+use Rattle.index_chain.specs.Chains.{Node, HasNode, entries_in}
+use Rattle.index_chain.specs.Searches.{IsReached, LeafFinds, LeafLacks, LeafEnds, LeavesRise}
 use Rattle.index_chain.proofs.Lists.{find_append, find_below, find_from, find_key}
 use Rattle.index_chain.proofs.Places.{reached_has}
 use Rattle.index_chain.proofs.Reached.{Stands, Standing, standing, chain_from, chain_rising}

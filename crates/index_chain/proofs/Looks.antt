@@ -1,5 +1,5 @@
 -- What the answer of a page shows.
-use Rattle.std.proofs.Common.{◌≡◌, ℕ, refl, sym, ap, ◌∙◌, Bool, true, false, List, Option, Some, None, if◌then◌else◌}
+use Rattle.std.proofs.Common.{◌≡◌, ℕ, refl, Bool, true, false, List, Option, Some, None, if◌then◌else◌}
 use Rattle.ds_base.specs.declared.names.Place.{Place}
 use Rattle.index_leaf.specs.declared.layout.Entry.{Entry}
 use Rattle.index_leaf.specs.declared.step.Look.{Look}

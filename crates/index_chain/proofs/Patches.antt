@@ -1,20 +1,18 @@
 -- What a record with patches of several pages makes of those of an index.
-use Rattle.std.proofs.Common.{◌≡◌, ℕ, ◌+◌, ◌*◌, ◌^◌, ◌<◌, ◌≤◌, ◌⊎◌, refl, sym, ap, ◌∙◌, subst, inl, inr, arith, Bool, true, false, List, [], ◌∷◌, ◌++◌, if◌then◌else◌}
+use Rattle.std.proofs.Common.{◌≡◌, ℕ, ◌+◌, ◌*◌, ◌^◌, ◌<◌, ◌≤◌, refl, sym, ap, ◌∙◌, subst, inl, inr, arith, Bool, true, false, List, [], ◌∷◌, ◌++◌, if◌then◌else◌}
 use Rattle.std.proofs.lemmas.Bool.{eq-eqb, ne_eqb, and_right, cases_eq}
 use Rattle.std.proofs.lemmas.List.{append-nil}
-use Rattle.std.specs.Prelude.{◌==◌, ◌&&◌}
+use Rattle.std.specs.Prelude.{◌==◌}
 use Rattle.ds_base.specs.declared.names.PageId.{PageId}
 use Rattle.page_format.specs.declared.patch.Patch.{Patch}
 use Rattle.heap_space.specs.Written.{written}
 use Rattle.page_images.specs.Images.{Images, zeros, index_page, after_change, HasFront}
 use Rattle.index_leaf.specs.declared.layout.Entry.{Entry}
-use Rattle.index_leaf.specs.Entries.{entries_of}
-use Rattle.index_leaf.specs.Search.{how_many}
 use Rattle.index_leaf.specs.Changes.{page_of, id_of, next_patch, moved_patch, insert_patches, left_patches, right_id, right_patches}
 use Rattle.index_leaf.specs.Nodes.{is_same, patches_for, all_stamped}
-use Rattle.index_chain.specs.Chains.{Node, has_number, IsNodePage, IsChain, IsIndex}
+use Rattle.index_chain.specs.Chains.{Node, IsChain, IsIndex}
 use Rattle.index_chain.specs.Searches.{IsReached}
-use Rattle.index_chain.specs.Changes.{KeepsIndex, ChangesPage, ChangesByInsert, ChangesBySplit}
+use Rattle.index_chain.specs.Changes.{ChangesByInsert, ChangesBySplit}
 use Rattle.index_chain.specs.Records.{AreElsewhere, ElsewhereKeeps, LeafRecord, BranchRecord, split_patches, LeafSplitRecord, BranchSplitRecord}
 use Rattle.index_chain.proofs.Places.{reached_has}
 use Rattle.index_chain.proofs.Reached.{Standing, standing}

@@ -1,10 +1,9 @@
 -- Nodes of a chain by their numbers.
-use Rattle.std.proofs.Common.{◌≡◌, ℕ, zero, suc, ◌<◌, ◌≤◌, ◌⊎◌, refl, sym, ap, ◌∙◌, subst, inl, inr, arith, Bool, true, false, List, [], ◌∷◌, Option, Some, None, if◌then◌else◌}
-use Rattle.std.proofs.lemmas.Bool.{eqb-true, eq-eqb}
+use Rattle.std.proofs.Common.{◌≡◌, ℕ, zero, suc, ◌≤◌, refl, subst, inl, inr, arith, Bool, true, false, List, [], ◌∷◌, if◌then◌else◌}
+use Rattle.std.proofs.lemmas.Bool.{eq-eqb}
 use Rattle.std.specs.Prelude.{◌==◌, Contains}
-use Rattle.page_images.specs.Images.{Images, index_page}
 use Rattle.index_leaf.specs.declared.layout.Entry.{Entry}
-use Rattle.index_chain.specs.Chains.{Node, has_number, HasNode, AllLead, IsNodePage, NodeFits, IsBelow, IsChain, LeadsTo, AllLeadTo, BeginsWith}
+use Rattle.index_chain.specs.Chains.{Node, has_number, HasNode, AllLead, BeginsWith}
 use Rattle.index_chain.specs.Searches.{IsReached}
 
 -- ---- what is reached

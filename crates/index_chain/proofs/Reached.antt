@@ -1,13 +1,13 @@
 -- A page that a search reached: its node, the chain behind it, and what the nodes before it have.
-use Rattle.std.proofs.Common.{◌≡◌, ℕ, ◌<◌, ◌≤◌, refl, sym, ap, ◌∙◌, subst, inl, inr, arith, true, false, List, [], ◌∷◌, ◌++◌, Option, Some, None}
+use Rattle.std.proofs.Common.{◌≡◌, ℕ, ◌≤◌, refl, sym, ap, ◌∙◌, subst, inl, inr, arith, false, List, [], ◌∷◌, ◌++◌, Option}
 use Rattle.std.proofs.lemmas.Bool.{leb-false}
 use Rattle.std.proofs.lemmas.List.{append-nil, append_assoc}
-use Rattle.std.specs.Prelude.{leb, Contains}
+use Rattle.std.specs.Prelude.{Contains}
 use Rattle.page_images.specs.Images.{Images, index_page}
 use Rattle.index_leaf.specs.declared.layout.Entry.{Entry}
-use Rattle.index_leaf.specs.Entries.{low_of, high_of, entries_of, IsRising}
+use Rattle.index_leaf.specs.Entries.{IsRising}
 use Rattle.index_leaf.specs.Search.{is_beyond}
-use Rattle.index_chain.specs.Chains.{Node, low_of_first, HasNode, entries_in, IsNodePage, NodeFits, IsBelow, IsChain, LeadsTo, AllLeadTo}
+use Rattle.index_chain.specs.Chains.{Node, HasNode, entries_in, IsNodePage, NodeFits, IsBelow, IsChain, LeadsTo, AllLeadTo}
 use Rattle.index_chain.specs.Searches.{IsReached}
 use Rattle.index_chain.proofs.Lists.{AllBelow, AllFrom, all_below, all_from, below_more, from_less, below_append, from_append, rising_append}
 

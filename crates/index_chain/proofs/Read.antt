@@ -1,16 +1,16 @@
 -- What is read of a page that a search reached.
-use Rattle.std.proofs.Common.{◌≡◌, ℕ, ◌+◌, ◌*◌, ◌^◌, ◌%◌, ◌<◌, ◌≤◌, refl, sym, ap, ◌∙◌, subst, arith, Bool, true, false, List, [], ◌∷◌, Option, Some, None, if◌then◌else◌}
-use Rattle.std.proofs.lemmas.Bool.{eqb-true, ne_eqb}
+use Rattle.std.proofs.Common.{◌≡◌, ℕ, ◌*◌, ◌^◌, ◌%◌, ◌<◌, ◌≤◌, refl, ◌∙◌, arith, true, false, List}
+use Rattle.std.proofs.lemmas.Bool.{ne_eqb}
 use Rattle.std.proofs.Math.Nat.{mul-mod_right}
-use Rattle.std.specs.Prelude.{◌==◌, not, ◌&&◌, Ok}
+use Rattle.std.specs.Prelude.{◌==◌, Ok}
 use Rattle.ds_base.specs.declared.names.PageId.{PageId}
 use Rattle.page_format.specs.Fields.{count_at, number_in, lrsn_of}
 use Rattle.page_format.specs.Header.{kind_of, may_have, most, header_of}
 use Rattle.page_images.specs.Images.{Images, index_page, HasFront, IsStamped}
 use Rattle.index_leaf.specs.declared.layout.Entry.{Entry}
 use Rattle.index_leaf.specs.Entries.{count_of}
-use Rattle.index_chain.specs.Chains.{Node, has_number, IsChain, IsIndex}
-use Rattle.index_chain.specs.Searches.{IsReached, IsRead, HeaderIsRead, BranchIsRead, LeafIsRead}
+use Rattle.index_chain.specs.Chains.{Node}
+use Rattle.index_chain.specs.Searches.{IsRead, HeaderIsRead, BranchIsRead, LeafIsRead}
 use Rattle.index_chain.proofs.Places.{reached_has}
 use Rattle.index_chain.proofs.Reached.{Stands, Standing, standing}
 use Rattle.index_chain.proofs.Steps.{branch_is}

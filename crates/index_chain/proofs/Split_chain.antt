@@ -1,18 +1,18 @@
 -- A chain with one of its nodes split.
-use Rattle.std.proofs.Common.{◌≡◌, ℕ, ◌+◌, ◌^◌, ◌<◌, ◌≤◌, ◌⊎◌, refl, sym, ap, ◌∙◌, subst, inl, inr, arith, Bool, true, false, List, [], ◌∷◌, ◌++◌, take, drop, Option, Some, None, if◌then◌else◌}
-use Rattle.std.proofs.lemmas.Bool.{eqb-true, eqb-false, eq-eqb, ne_eqb}
+use Rattle.std.proofs.Common.{◌≡◌, ℕ, ◌<◌, ◌⊎◌, refl, sym, ap, ◌∙◌, subst, inl, inr, Bool, true, false, List, [], ◌∷◌, ◌++◌, take, drop, Some, if◌then◌else◌}
+use Rattle.std.proofs.lemmas.Bool.{eqb-true, eqb-false, ne_eqb}
 use Rattle.std.proofs.lemmas.List.{append_assoc, take-append-drop}
 use Rattle.std.specs.Prelude.{◌==◌}
 use Rattle.page_images.specs.Images.{Images, index_page}
 use Rattle.index_leaf.specs.declared.layout.Entry.{Entry}
-use Rattle.index_leaf.specs.Entries.{count_of, entries_of}
+use Rattle.index_leaf.specs.Entries.{count_of}
 use Rattle.index_chain.specs.Chains.{Node, low_of_first, number_of_first, has_number, HasNode, entries_in, IsApart, IsNodePage, NodeFits, IsBelow, IsChain, LeadsTo, AllLeadTo, BeginsWith}
 use Rattle.index_chain.specs.Searches.{IsReached}
 use Rattle.index_chain.specs.Changes.{key_of_first, left_half, right_half, split_at, SplitKeeps, SplitReaches, SplitHas}
 use Rattle.index_chain.proofs.Reached.{node_from, node_below, node_rising}
 use Rattle.index_chain.proofs.Kept.{not_true, has_here, has_more}
 use Rattle.index_chain.proofs.Entered_chain.{same_rest}
-use Rattle.index_chain.proofs.Halves.{IsHalved, halved, first_is, fit_first, fit_last, fit_key, lead_first, lead_last, opens_first, opens_last, low_below, high_above}
+use Rattle.index_chain.proofs.Halves.{IsHalved, halved, fit_first, fit_last, fit_key, lead_first, lead_last, opens_first, opens_last, low_below, high_above}
 
 -- the chain by the test of its first node
 abbrev pub split_if : Bool → Node → List Node → ℕ → ℕ → List Node

@@ -1,21 +1,20 @@
 -- The two pages of a split.
-use Rattle.std.proofs.Common.{◌≡◌, ℕ, ◌+◌, ◌*◌, ◌^◌, ◌<◌, ◌≤◌, refl, sym, ap, ◌∙◌, subst, arith, List, [], ◌∷◌, ◌++◌, length, take, drop, Option, Some, None}
-use Rattle.std.proofs.lemmas.List.{length-append, length-replicate}
+use Rattle.std.proofs.Common.{◌≡◌, ℕ, ◌^◌, ◌<◌, ◌≤◌, refl, sym, ap, ◌∙◌, subst, arith, List, [], ◌∷◌, length, take, drop, Some}
+use Rattle.std.proofs.lemmas.List.{length-replicate}
 use Rattle.std.proofs.lemmas.List.Edits.{length-between}
-use Rattle.std.specs.Prelude.{slice_range, slice_index}
+use Rattle.std.specs.Prelude.{slice_index}
 use Rattle.ds_base.specs.declared.names.PageId.{PageId}
 use Rattle.page_format.specs.Fields.{mark_at, kind_at, patched, set_lrsn}
 use Rattle.page_format.specs.declared.patch.Patch.{Patch}
-use Rattle.page_images.specs.Images.{Images, zeros, index_page, HasFront, IsStamped}
+use Rattle.page_images.specs.Images.{zeros, index_page, HasFront, IsStamped}
 use Rattle.page_images.specs.Parts.{AreBehindFront, AreWithin}
-use Rattle.index_leaf.specs.declared.layout.Entry.{Entry}
-use Rattle.index_leaf.specs.Entries.{count_of, low_of, high_of, right_field, entries_of}
+use Rattle.index_leaf.specs.Entries.{count_of}
 use Rattle.index_leaf.specs.Changes.{spelt, id_of, half, low_of_split, link_bytes, fields_bytes, half_bytes, front_of, front_patch, count_patch, patch_of, right_id, left_patches, right_patches, IsLeftOf, IsRightOf}
 use Rattle.index_leaf.specs.Changes.{zeros as zero_bytes}
 use Rattle.index_leaf.specs.Nodes.{IsNode, CanSplit, all_stamped}
 use Rattle.index_chain.specs.Chains.{Node, low_of_first, number_of_first, IsNodePage, NodeFits}
-use Rattle.index_chain.specs.Changes.{IsLrsn, key_of_first, left_half, right_half}
-use Rattle.index_chain.proofs.Halves.{IsHalved, halved, first_is, fit_last, fit_key}
+use Rattle.index_chain.specs.Changes.{IsLrsn, left_half, right_half}
+use Rattle.index_chain.proofs.Halves.{halved, first_is, fit_last, fit_key}
 
 -- what is known of splits, fronts and stamps
 pub record Laws : Type 0 where
@@ -39,7 +38,7 @@ length_link : (high number : ℕ) → length (link_bytes high number) ≡ 16
 unfolding link_bytes spelt
 length_link high number = refl
 
-length_zeros : (n : ℕ) → length (zero_bytes n) ≡ n
+pub length_zeros : (n : ℕ) → length (zero_bytes n) ≡ n
 unfolding zero_bytes
 length_zeros n = length-replicate n 0
 

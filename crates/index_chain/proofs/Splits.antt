@@ -1,20 +1,23 @@
 -- The index after a split.
-use Rattle.std.proofs.Common.{◌≡◌, ℕ, ◌+◌, ◌-◌, ◌^◌, ◌<◌, ◌≤◌, ◌⊎◌, refl, sym, ap, ◌∙◌, subst, inl, inr, arith, Bool, true, false, List, [], ◌∷◌, Option, Some, None, if◌then◌else◌}
+use Rattle.std.proofs.Common.{◌≡◌, ℕ, ◌+◌, ◌^◌, ◌<◌, ◌≤◌, refl, sym, ap, ◌∙◌, subst, inl, inr, arith, true, false, List, [], ◌∷◌, length, take, drop}
+use Rattle.std.proofs.lemmas.List.{length-take-le, length-drop}
 use Rattle.std.proofs.lemmas.Bool.{eq-eqb, ne_eqb}
 use Rattle.std.specs.Prelude.{◌==◌}
 use Rattle.page_images.specs.Images.{Images, zeros, index_page}
 use Rattle.index_leaf.specs.declared.layout.Entry.{Entry}
-use Rattle.index_leaf.specs.Entries.{count_of}
+use Rattle.index_leaf.specs.Entries.{count_of, entries_of}
 use Rattle.index_leaf.specs.Changes.{next_patch, left_patches, right_patches}
 use Rattle.index_leaf.specs.Nodes.{all_stamped}
-use Rattle.index_chain.specs.Chains.{Node, has_number, IsApart, IsNodePage, IsIndexHeader, IsChain, NodeFits, AreNumbered, IsIndex}
+use Rattle.index_chain.specs.Chains.{Node, has_number, IsNodePage, IsIndexHeader, IsChain, AreNumbered}
 use Rattle.index_chain.specs.Searches.{IsReached}
-use Rattle.index_chain.specs.Changes.{IsLrsn, ChangesBySplit, left_half, right_half, split_at, LeafSplits, BranchSplits}
+use Rattle.index_chain.specs.Changes.{IsLrsn, ChangesBySplit, left_half, right_half, split_at, LeafSplits, BranchSplits, HaveHalves, LeafHalves, BranchHalves}
 use Rattle.index_chain.proofs.Places.{reached_has}
+use Rattle.index_chain.proofs.Reached.{Standing, standing}
+use Rattle.index_chain.proofs.Entered_page.{length_entries}
 use Rattle.index_chain.proofs.Kept.{not_true, kept_chain, leads_more}
 use Rattle.index_chain.proofs.Inserts.{apart_from, no_branch}
 use Rattle.index_chain.proofs.Split_chain.{split_begins, split_has, old_or_new, split_apart, HoldsHalves, split_chain, split_leads}
-use Rattle.index_chain.proofs.Split_page.{left_page, right_page}
+use Rattle.index_chain.proofs.Split_page.{length_zeros, can_split, left_page, right_page}
 use Rattle.index_chain.proofs.Split_page.{Laws as PageLaws}
 use Rattle.index_chain.proofs.Header.{next_header}
 use Rattle.index_chain.proofs.Header.{Laws as HeaderLaws}
@@ -157,3 +160,33 @@ branch_splits law heads at new table next page key lrsn bs ls h r t full most st
       free = still_free at new table page next lrsn p lt h.free;
       down = split_leads at table 4 page next ls bs full h.branch_pages h.down;
     }
+
+-- ---- the counts
+
+half_count : (page : List ℕ) (es : List Entry) → entries_of page ≡ es → length es ≡ 126 → count_of page ≡ 126
+half_count page es is l = sym (length_entries page 64 (count_of page)) ∙ ap length is ∙ l
+
+have_halves : (at new : Images) (table kind page next key lrsn : ℕ) (ns : List Node) → PageLaws → Parts at new table page next lrsn → count_of (at (index_page table page)) ≡ 252 → next < 2 ^ 32 → IsChain at table kind ns → IsReached ns page key → HaveHalves new table page next
+unfolding Standing
+have_halves at new table kind page next key lrsn ns law p full most h r =
+    let s = standing at table kind page key ns h r in
+    let old = at (index_page table page) in
+    let can = can_split old (index_page table page) kind s.0 s.1 s.3.holds s.3.fits full in
+    let all = length_entries old 64 (count_of old) in
+    let left = law.left old next lrsn can most in
+    let right = law.right old zeros next lrsn can (length_zeros 4096) in
+    let first = length-take-le 126 (entries_of old) (omega (arith, all, full)) in
+    let rest = length-drop 126 (entries_of old) in (
+      ap count_of p.left ∙ half_count (all_stamped lrsn old (left_patches old next)) (take 126 (entries_of old)) left.entries first,
+      ap count_of p.right ∙ half_count (all_stamped lrsn zeros (right_patches old next)) (drop 126 (entries_of old)) right.entries (omega (arith, rest, all, full)),
+    )
+
+pub leaf_halves : PageLaws → LeafHalves
+leaf_halves law at new table next page key lrsn bs ls h r full same =
+    let used = h.numbers.leaves_used page (reached_has ls page key r) in
+    have_halves at new table 5 page next key lrsn ls law (parts at new table page next lrsn same used.0 used.1) full h.most h.leaf_pages r
+
+pub branch_halves : PageLaws → BranchHalves
+branch_halves law at new table next page key lrsn bs ls h r full same =
+    let used = h.numbers.branches_used page (reached_has bs page key r) in
+    have_halves at new table 4 page next key lrsn bs law (parts at new table page next lrsn same used.0 used.1) full h.most h.branch_pages r

@@ -1,17 +1,16 @@
 -- The steps of a search.
-use Rattle.std.proofs.Common.{◌≡◌, ℕ, ◌<◌, ◌≤◌, refl, sym, ap, ◌∙◌, subst, inl, inr, arith, Bool, true, false, List, [], ◌∷◌, get_or, take, Option, Some, None, if◌then◌else◌}
-use Rattle.std.proofs.lemmas.Bool.{leb-true, eqb-true, ne_eqb}
+use Rattle.std.proofs.Common.{◌≡◌, ℕ, ◌<◌, ◌≤◌, refl, sym, ap, ◌∙◌, subst, inl, arith, true, false, List, [], ◌∷◌, get_or, Option, Some}
+use Rattle.std.proofs.lemmas.Bool.{leb-true, ne_eqb}
 use Rattle.std.proofs.lemmas.List.{get_or-take}
-use Rattle.std.specs.Prelude.{leb, ◌==◌, ◌↔◌, IsTrue, slice_index, Contains}
-use Rattle.ds_base.specs.declared.names.Place.{Place}
+use Rattle.std.specs.Prelude.{◌==◌, slice_index, Contains}
 use Rattle.ds_base.specs.declared.names.PageId.{PageId}
 use Rattle.page_images.specs.Images.{Images, index_page, HasFront}
 use Rattle.index_leaf.specs.declared.layout.Entry.{Entry}
-use Rattle.index_leaf.specs.declared.step.Look.TheVariants.{Right, Down, Found, Absent}
+use Rattle.index_leaf.specs.declared.step.Look.TheVariants.{Right, Down, Absent}
 use Rattle.index_leaf.specs.Entries.{high_of, right_field, right_of, entries_of, IsRising}
 use Rattle.index_leaf.specs.Search.{is_branch, is_beyond, look_of, IsFloor}
 use Rattle.index_leaf.specs.Changes.{front_of}
-use Rattle.index_chain.specs.Chains.{Node, has_number, HasNode, Opens, IsNodePage, IsChain, LeadsTo, AllLeadTo, IsIndex}
+use Rattle.index_chain.specs.Chains.{Node, has_number, Opens, IsChain}
 use Rattle.index_chain.specs.Searches.{IsReached, SearchBegins, GoesRight, BranchGoesRight, LeafGoesRight, BranchGoesDown, BranchLeadsOn, LeafAnswers}
 use Rattle.index_chain.proofs.Lists.{contains_here}
 use Rattle.index_chain.proofs.Places.{begins_reached, reached_has, node_reached, lead_at}

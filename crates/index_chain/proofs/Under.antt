@@ -1,13 +1,13 @@
 -- Leaves whose low keys are not below that of a branch.
-use Rattle.std.proofs.Common.{◌≡◌, ℕ, ◌<◌, ◌≤◌, refl, sym, ap, ◌∙◌, subst, inl, inr, arith, Bool, true, false, List, [], ◌∷◌, Option, Some, None, if◌then◌else◌}
+use Rattle.std.proofs.Common.{◌≡◌, ℕ, ◌≤◌, sym, ap, ◌∙◌, subst, inl, inr, arith, Bool, true, false, List, [], ◌∷◌, Option, Some}
 use Rattle.std.specs.Prelude.{◌==◌, Contains}
 use Rattle.page_images.specs.Images.{Images, index_page}
 use Rattle.index_leaf.specs.declared.layout.Entry.{Entry}
-use Rattle.index_leaf.specs.Entries.{low_of, high_of, right_field, entries_of}
+use Rattle.index_leaf.specs.Entries.{high_of, right_field}
 use Rattle.index_leaf.specs.Search.{is_beyond}
 use Rattle.index_chain.specs.Chains.{Node, low_of_first, HasNode, IsNodePage, IsBelow, IsChain}
 use Rattle.index_chain.specs.Searches.{IsReached, IsUnder, DownIsUnder, RightIsUnder, EndsUnder}
-use Rattle.index_chain.specs.Changes.{left_half, right_half, split_at, entered_at, InsertUnder, SplitUnder}
+use Rattle.index_chain.specs.Changes.{split_at, entered_at, InsertUnder, SplitUnder}
 use Rattle.index_chain.proofs.Places.{node_reached, lead_at}
 use Rattle.index_chain.proofs.Reached.{Standing, standing}
 use Rattle.index_chain.proofs.Looks.{right_is}

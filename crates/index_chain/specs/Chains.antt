@@ -1,5 +1,5 @@
 -- The index pages of a table as two chains of nodes: the branches, and the leaves.
-use Rattle.std.specs.Prelude.{◌≡◌, ℕ, ◌<◌, ◌≤◌, ◌^◌, ◌==◌, ◌⊎◌, Bool, true, false, if◌then◌else◌, List, [], ◌∷◌, ◌++◌, Contains, Option, Some, None}
+use Rattle.std.specs.Prelude.{◌≡◌, ℕ, ◌<◌, ◌≤◌, ◌^◌, ◌==◌, ◌⊎◌, Bool, true, false, if◌then◌else◌, List, [], ◌∷◌, ◌++◌, Option, Some, None}
 use Rattle.ds_base.specs.declared.names.PageId.{PageId}
 use Rattle.page_images.specs.Images.{Images, zeros, index_page, HasFront, IsStamped}
 use Rattle.index_leaf.specs.declared.layout.Entry.{Entry}

@@ -1,5 +1,5 @@
 -- What the changes of an index make of its two chains.
-use Rattle.std.specs.Prelude.{◌≡◌, ℕ, ◌+◌, ◌-◌, ◌<◌, ◌≤◌, ◌^◌, ◌==◌, true, false, if◌then◌else◌, List, [], ◌∷◌, take, drop, Option, Some, None}
+use Rattle.std.specs.Prelude.{◌≡◌, ℕ, ◌+◌, ◌-◌, ◌<◌, ◌≤◌, ◌^◌, ◌==◌, false, if◌then◌else◌, List, [], ◌∷◌, take, drop, Some, None}
 use Rattle.page_format.specs.Header.{entries_per_page}
 use Rattle.page_images.specs.Images.{Images, zeros, index_page, after_change}
 use Rattle.index_leaf.specs.declared.layout.Entry.{Entry}
@@ -115,6 +115,18 @@ abbrev pub BranchSplits : Type 0
 BranchSplits = (at new : Images) (table next page key lrsn : ℕ) (bs ls : List Node) → IsIndex at table bs ls next → IsReached bs page key → table ≤ 64
     → count_of (at (index_page table page)) ≡ entries_per_page → next < 2 ^ 32 - 1 → IsLrsn lrsn → ChangesBySplit at new table page next lrsn
     → IsIndex new table (split_at bs page next) ls (next + 1)
+
+-- both pages of a split have room
+abbrev pub HaveHalves : Images → ℕ → ℕ → ℕ → Type 0
+HaveHalves new table page next = (count_of (new (index_page table page)) ≡ half) × (count_of (new (index_page table next)) ≡ half)
+
+abbrev pub LeafHalves : Type 0
+LeafHalves = (at new : Images) (table next page key lrsn : ℕ) (bs ls : List Node) → IsIndex at table bs ls next → IsReached ls page key
+    → count_of (at (index_page table page)) ≡ entries_per_page → ChangesBySplit at new table page next lrsn → HaveHalves new table page next
+
+abbrev pub BranchHalves : Type 0
+BranchHalves = (at new : Images) (table next page key lrsn : ℕ) (bs ls : List Node) → IsIndex at table bs ls next → IsReached bs page key
+    → count_of (at (index_page table page)) ≡ entries_per_page → ChangesBySplit at new table page next lrsn → HaveHalves new table page next
 
 -- ---- what stays reached
 

@@ -1,5 +1,5 @@
 -- What a search through the index of a table comes to.
-use Rattle.std.specs.Prelude.{◌≡◌, ℕ, ◌<◌, ◌≤◌, ◌^◌, ◌==◌, ◌⊎◌, Bool, true, false, nat_lt, nat_le, ◌&&◌, if◌then◌else◌, List, [], ◌∷◌, ◌++◌, filter, Option, Some, None, Ok}
+use Rattle.std.specs.Prelude.{◌≡◌, ℕ, ◌<◌, ◌≤◌, ◌^◌, ◌==◌, ◌⊎◌, Bool, false, nat_le, ◌&&◌, if◌then◌else◌, List, [], ◌∷◌, ◌++◌, filter, Option, Some, None, Ok}
 use Rattle.ds_base.specs.declared.names.Place.{Place}
 use Rattle.page_format.specs.Fields.{lrsn_of}
 use Rattle.page_format.specs.Header.{header_of, kind_of, entries_per_page}
@@ -125,7 +125,7 @@ between low high es = filter (is_between low high) es
 -- what a scan finds behind a leaf with this high key
 abbrev pub behind : List Node → Option ℕ → ℕ → List Entry
 behind ls None high = []
-behind ls (Some low) high = if nat_lt high low then [] else between low high (entries_in ls)
+behind ls (Some low) high = if nat_le low high then between low high (entries_in ls) else []
 
 abbrev pub LeafScans : Type 0
 LeafScans = (at : Images) (table next page low high : ℕ) (bs ls : List Node) → IsIndex at table bs ls next → IsReached ls page low

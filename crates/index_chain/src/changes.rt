@@ -1,4 +1,4 @@
-ghost use Rattle.index_chain.specs.Changes.{BranchInserts, BranchSplits, Formats, InsertHas, InsertReaches, InsertUnder, LeafGains, LeafInserts, LeafSplits, SplitHas, SplitKeeps, SplitReaches, SplitUnder, Stays, StaysWithout};
+ghost use Rattle.index_chain.specs.Changes.{BranchHalves, BranchInserts, BranchSplits, Formats, InsertHas, InsertReaches, InsertUnder, LeafGains, LeafHalves, LeafInserts, LeafSplits, SplitHas, SplitKeeps, SplitReaches, SplitUnder, Stays, StaysWithout};
 
 use index_leaf::{format_laws, insert_laws, split_laws};
 use page_images::{front_laws, header_laws, part_laws, written_laws};
@@ -27,6 +27,8 @@ pub fn insertion_laws()
 pub fn split_chain_laws()
     ensures leaf { LeafSplits }
     ensures branch { BranchSplits }
+    ensures leaf_halves { LeafHalves }
+    ensures branch_halves { BranchHalves }
     ensures keeps { SplitKeeps }
     ensures reaches { SplitReaches }
     ensures has { SplitHas }

@@ -2,7 +2,7 @@ use Rattle.index_chain.proofs.Under.{split_under}
 use Rattle.index_chain.proofs.Split_chain.{split_keeps, split_reaches, split_has}
 use Rattle.index_chain.proofs.Split_page.{Laws as PageLaws}
 use Rattle.index_chain.proofs.Header.{Laws as HeaderLaws}
-use Rattle.index_chain.proofs.Splits.{leaf_splits, branch_splits}
+use Rattle.index_chain.proofs.Splits.{leaf_splits, branch_splits, leaf_halves, branch_halves}
 use Rattle.index_chain.proofs.changes.split_chain_laws.Goals as goal
 
 pub returns : goal.returns
@@ -25,4 +25,4 @@ returns c =
       front = c.front_laws.ensures.patches;
       stamped = c.front_laws.ensures.all_stamped;
     } in
-    record { leaf = leaf_splits pages heads; branch = branch_splits pages heads; keeps = split_keeps; reaches = split_reaches; has = split_has; under = split_under }
+    record { leaf = leaf_splits pages heads; branch = branch_splits pages heads; leaf_halves = leaf_halves pages; branch_halves = branch_halves pages; keeps = split_keeps; reaches = split_reaches; has = split_has; under = split_under }
