@@ -1,3 +1,4 @@
+mod Elsewhere
 mod Formats
 mod Gives
 mod Header_reads

@@ -10,6 +10,7 @@ use Rattle.heap_space.specs.Changes.{heap_page}
 use Rattle.heap_space.specs.Layout.{slot_at}
 use Rattle.heap_space.specs.Next.{last_page_of, given_of}
 use Rattle.heap_space.specs.Slots.{image, slot_in}
+use Rattle.index_leaf.specs.Nodes.{is_same}
 use Rattle.page_images.specs.Images.{Images, zeros, after_change, HasFront, IsStamped}
 
 -- ---- where slots lie
@@ -89,3 +90,7 @@ row_patch table place key value = record { page = heap_page table place.page; of
 abbrev pub row_page : ℕ → Place → ℕ → Option (List ℕ) → ℕ → List ℕ → List ℕ
 row_page lrsn place key value p page =
     if p == place.page then set_lrsn (patched page (slot_at place.slot) (image key value)) lrsn else page
+
+-- a page that is not of the heap of this table
+abbrev pub IsElsewhere : PageId → ℕ → Type 0
+IsElsewhere id table = (p : ℕ) → is_same (heap_page table p) id ≡ false

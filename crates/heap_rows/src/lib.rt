@@ -6,6 +6,7 @@
 ghost use Rattle.std.specs.Prelude.{◌≡◌, ℕ, ◌+◌, ◌*◌, ◌^◌, ◌<◌, ◌≤◌, ◌==◌, if◌then◌else◌, List, [], ◌∷◌, Option, Some, None, IfSome, true, Ok, Err};
 ghost use Rattle.ds_base.specs.Ids.{IsTable};
 ghost use Rattle.ds_base.specs.Values.{IsValue};
+ghost use Rattle.ds_base.specs.declared.names.PageId.{PageId};
 ghost use Rattle.ds_base.specs.declared.names.Place.{Place};
 ghost use Rattle.page_format.specs.Fields.{lrsn_of};
 ghost use Rattle.page_format.specs.Header.{slots_per_page, is_zeros, empty_header, header_of};
@@ -13,11 +14,11 @@ ghost use Rattle.page_format.specs.declared.header.PageKind.TheVariants as kind;
 ghost use Rattle.heap_space.specs.Changes.{heap_page, format_patches, give_patches};
 ghost use Rattle.heap_space.specs.Next.{last_page_of, given_of, header_allowed, next_place};
 ghost use Rattle.heap_space.specs.Slots.{slot_in, content, fault_in};
-ghost use Rattle.page_images.specs.Images.{Images, zeros};
-ghost use Rattle.heap_rows.specs.Heaps.{place_at, slots_on, last_for, given_for, IsCount, HasHeader, IsHeap, SameHeap, changed, IsAfter, row_patch, row_page};
+ghost use Rattle.page_images.specs.Images.{Images, IsFree, index_page, zeros};
+ghost use Rattle.heap_rows.specs.Heaps.{place_at, slots_on, last_for, given_for, IsCount, HasHeader, IsHeap, SameHeap, changed, IsAfter, IsElsewhere, row_patch, row_page};
 
 use heap_space::{give_laws, image_laws};
-use page_images::{front_laws, header_laws, part_laws};
+use page_images::{front_laws, header_laws, name_laws, part_laws};
 
 /// Each slot lies among those of its page, and the header page leads to the place of the first slot that is not given.
 pub fn place_laws()
@@ -76,4 +77,15 @@ pub fn heap_laws()
     part_laws();
     header_laws();
     give_laws();
+}
+
+/// The changes of a heap have patches for no page of another one, nor of an index.
+pub fn elsewhere_laws()
+    ensures format { (id : PageId) (table : ℕ) → IsElsewhere id table → IsFree id (format_patches table) }
+    ensures give { (id : PageId) (table : ℕ) (place : Place) (key : ℕ) → IsElsewhere id table → IsFree id (give_patches table place key) }
+    ensures row { (id : PageId) (table : ℕ) (place : Place) (key : ℕ) (value : Option (List ℕ)) → IsElsewhere id table → IsFree id (row_patch table place key value ∷ []) }
+    ensures heap { (table other : ℕ) (p : ℕ) → 1 ≤ table → 1 ≤ other → (table ≡ other → ⊥) → IsElsewhere (heap_page other p) table }
+    ensures index { (table other : ℕ) (p : ℕ) → 1 ≤ table → IsElsewhere (index_page other p) table }
+{
+    name_laws();
 }

@@ -36,3 +36,7 @@ free id lrsn [] page h = refl
 free id lrsn (p ∷ ps) page h =
     ap (λ (b : Bool). written id lrsn ps (if b then after_patch lrsn page p else page)) (same p.page id ∙ h.0)
     ∙ free id lrsn ps page h.1
+
+pub free_both : (id : PageId) (ps qs : List Patch) → IsFree id ps → IsFree id qs → IsFree id (ps ++ qs)
+free_both id [] qs h k = k
+free_both id (p ∷ ps) qs h k = (h.0, free_both id ps qs h.1 k)

@@ -32,6 +32,7 @@ pub fn written_laws()
     ensures stamped { (id : PageId) (lrsn : ℕ) (ps : List Patch) (page : List ℕ) → written id lrsn ps page ≡ all_stamped lrsn page (patches_for id ps) }
     ensures both { (id : PageId) (lrsn : ℕ) (ps qs : List Patch) (page : List ℕ) → written id lrsn (ps ++ qs) page ≡ written id lrsn qs (written id lrsn ps page) }
     ensures free { (id : PageId) (lrsn : ℕ) (ps : List Patch) (page : List ℕ) → IsFree id ps → written id lrsn ps page ≡ page }
+    ensures free_both { (id : PageId) (ps qs : List Patch) → IsFree id ps → IsFree id qs → IsFree id (ps ++ qs) }
 {}
 
 /// After a patch and its stamp a page is as long as it was, has the bytes of the patch at their place and the LRSN of the
