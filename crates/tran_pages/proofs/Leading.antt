@@ -140,19 +140,10 @@ filter_same p q (e ∷ es) h =
 between_same : (low high : ℕ) (es : List Entry) → filter (is_between low high) es ≡ chain.between low high es
 between_same low high es = filter_same (is_between low high) (chain.is_between low high) es (same_range low high)
 
-le_or_lt : (a b : ℕ) → nat_lt b a ≡ not (nat_le a b)
-le_or_lt a b = grind arith
-
-turned : (b : Bool) (xs : List Entry) → (if not b then [] else xs) ≡ (if b then xs else [])
-turned true xs = refl
-turned false xs = refl
-
 beyond_same : (ls : List Node) (top : Option ℕ) (high : ℕ) → behind ls top high ≡ entries_beyond ls high top
 beyond_same ls None high = refl
 beyond_same ls (Some low) high =
-    ap (λ b. if b then [] else chain.between low high (entries_in ls)) (le_or_lt low high)
-    ∙ turned (nat_le low high) (chain.between low high (entries_in ls))
-    ∙ ap (λ (l : List Entry). if nat_le low high then l else []) (sym (between_same low high (entries_in ls)))
+    ap (λ (l : List Entry). if nat_le low high then l else []) (sym (between_same low high (entries_in ls)))
 
 -- ---- all of it
 

@@ -11,3 +11,4 @@ pub mod Changing
 pub mod Leading
 pub mod Heaping
 pub mod Wanting
+pub mod Frames

@@ -1,5 +1,5 @@
 -- Tables, and the pages that stand for them.
-use Rattle.std.specs.Prelude.{◌≡◌, ℕ, ◌-◌, ◌<◌, List, length, Option, Some, None, slice_index_or, slice_set, ◌+◌}
+use Rattle.std.specs.Prelude.{◌≡◌, ℕ, ◌-◌, ◌<◌, List, length, Option, Some, None, slice_index_or, slice_set, ◌+◌, ◌==◌, if◌then◌else◌}
 use Rattle.std.specs.FinMap as finite
 use Rattle.ds_base.specs.Ids.{IsTable}
 use Rattle.ds_base.specs.declared.names.Place.{Place}
@@ -9,7 +9,7 @@ use Rattle.ds_model.specs.Rows.{Rows, spot_cmp}
 use Rattle.ds_model.specs.Logs.{set_row}
 use Rattle.page_images.specs.Images.{Images}
 use Rattle.index_chain.specs.Chains.{Node, IsIndex, HasNoIndex, entries_in}
-use Rattle.heap_rows.specs.Heaps.{IsHeap, IsCount, place_at}
+use Rattle.heap_rows.specs.Heaps.{IsHeap, IsCount, place_at, changed}
 
 -- which of the new keys of its table a key was, counted from 0
 abbrev pub Places : Type 0
@@ -58,6 +58,14 @@ pub record Tree : Type 0 where
 pub record Shape : Type 0 where
   pub trees : ℕ → Option Tree
   pub keys : ℕ → ℕ → ℕ
+
+-- a table's index is this one
+abbrev pub with_tree : Shape → ℕ → Tree → Shape
+with_tree w table tree = record w { trees = λ t. if t == table then Some tree else w.trees t }
+
+-- a table's slot of this number is the key's
+abbrev pub with_key : Shape → ℕ → ℕ → ℕ → Shape
+with_key w table n key = record w { keys = λ t. if t == table then changed (w.keys table) n key else w.keys t }
 
 -- the entry of a key that has a slot
 abbrev pub entry_of : ℕ → Option ℕ → Option Entry
