@@ -91,7 +91,7 @@ heap_as at table count more key key' row row' counts keys rows heap =
     subst (λ c. IsHeap at table c key' row') (sym counts)
       (subst (λ (f : ℕ → ℕ). IsHeap at table count f row') keys_are (subst (λ (f : ℕ → Option (List ℕ)). IsHeap at table count key f) rows_are heap))
 
-index_as : (law : FrameLaws) (at to : Images) (x new : Tables) (table : ℕ) (tree : Option Tree) → KeepsIndex at to table → ((key : ℕ) → number_of new table key ≡ number_of x table key)
+pub index_as : (law : FrameLaws) (at to : Images) (x new : Tables) (table : ℕ) (tree : Option Tree) → KeepsIndex at to table → ((key : ℕ) → number_of new table key ≡ number_of x table key)
     → IndexHolds at x table tree → IndexHolds to new table tree
 index_as law at to x new table None stays numbers h = (law.no_index at to table h.0 stays, λ key. numbers key ∙ h.1 key)
 index_as law at to x new table (Some tree) stays numbers h =

@@ -12,3 +12,6 @@ pub mod Leading
 pub mod Heaping
 pub mod Wanting
 pub mod Frames
+pub mod Maps
+pub mod Row_making
+pub mod Tree_making
