@@ -15,3 +15,4 @@ pub mod Frames
 pub mod Maps
 pub mod Row_making
 pub mod Tree_making
+pub mod Slot_making
