@@ -16,3 +16,4 @@ pub mod Maps
 pub mod Row_making
 pub mod Tree_making
 pub mod Slot_making
+pub mod Beginning

@@ -1,6 +1,8 @@
 -- What the changes that transactions want make of the pages of all tables.
-use Rattle.std.specs.Prelude.{◌≡◌, ℕ, ◌+◌, ◌-◌, ◌^◌, ◌<◌, false, List, [], ◌∷◌, ◌++◌, Some, None}
+use Rattle.std.specs.Prelude.{◌≡◌, ℕ, ◌+◌, ◌-◌, ◌^◌, ◌<◌, false, List, [], ◌∷◌, ◌++◌, replicate, Some, None}
+use Rattle.std.specs.FinMap as finite
 use Rattle.ds_base.specs.Ids.{IsTable}
+use Rattle.ds_base.specs.declared.names.PageId.{PageId}
 use Rattle.ds_base.specs.declared.names.Place.{Place}
 use Rattle.page_format.specs.Header.{entries_per_page}
 use Rattle.page_format.specs.declared.patch.Patch.{Patch}
@@ -11,14 +13,14 @@ use Rattle.index_leaf.specs.Entries.{count_of, high_of, entries_of}
 use Rattle.index_leaf.specs.Search.{is_beyond, find}
 use Rattle.index_leaf.specs.Changes.{insert_patches}
 use Rattle.index_leaf.specs.Changes as index
-use Rattle.page_images.specs.Images.{Images, index_page, after_change}
+use Rattle.page_images.specs.Images.{Images, zeros, index_page, after_change}
 use Rattle.index_chain.specs.Searches.{IsReached}
 use Rattle.index_chain.specs.Chains.{HasNode}
 use Rattle.index_chain.specs.Changes.{IsLrsn, first_branches, first_leaves, entered_at, entry_to, split_at}
 use Rattle.index_chain.specs.Records.{split_patches}
 use Rattle.heap_rows.specs.Heaps.{IsCount, place_at, row_patch}
 use Rattle.tran_core.specs.Wants.{Content, FormatIndex, FormatHeap, GiveSlot, Split}
-use Rattle.tran_pages.specs.Tables.{Tables, Tree, Shape, Holds, count_in, with_row, with_place, with_tree, with_key}
+use Rattle.tran_pages.specs.Tables.{Tables, Tree, Shape, Holds, Grows, number_of, count_in, with_row, with_place, with_tree, with_key}
 use Rattle.tran_pages.specs.Course.{IsChild}
 use Rattle.tran_pages.specs.Steps.{Needs, MayChange, KeepsWays}
 
@@ -95,3 +97,23 @@ SlotIsGiven = (at : Images) (x : Tables) (w : Shape) (lrsn table key leaf : ℕ)
     → IsCount (count_in x table + 1) → IsLrsn lrsn
     → let n : ℕ = count_in x table in let patches : List Patch = give_patches table (place_at n) key ++ insert_patches (at (index_page table leaf)) (entry_at key n) in
     Holds (after_change lrsn patches at) (with_place x table key) (with_key (with_tree w table (leaf_entered tree leaf (entry_at key n))) table n key)
+
+-- a key that had no slot has one, and all others have theirs
+abbrev pub SlotGrows : Type 0
+SlotGrows = (x : Tables) (table key : ℕ) → number_of x table key ≡ None → Grows x (with_place x table key)
+
+abbrev pub SameGrows : Type 0
+SameGrows = (x : Tables) → Grows x x
+
+-- ---- the start
+
+-- no table has a row or a slot
+abbrev pub no_tables : Tables
+no_tables = record { rows = finite.empty; places = finite.empty; counts = replicate 64 0 }
+
+abbrev pub no_shape : Shape
+no_shape = record { trees = λ t. None; keys = λ t n. 0 }
+
+-- pages that were never written hold no rows
+abbrev pub EmptyHolds : Type 0
+EmptyHolds = (at : Images) → ((id : PageId) → at id ≡ zeros) → Holds at no_tables no_shape

@@ -5,5 +5,7 @@
 #![tactic(auto)]
 
 mod course;
+mod makes;
 
 pub use course::course_laws;
+pub use makes::make_laws;
