@@ -47,14 +47,14 @@ pub empty_holds : ((at : Images) (table : ℕ) (key : ℕ → ℕ) (row : ℕ �
 empty_holds law at none = record {
   counted = refl;
   tables = λ table is.
-    let count : count_in no_tables table ≡ 0 = all_zero 64 (table - 1) in
-    record {
-      index = (λ n. none (index_page table n), no_number table);
-      few = subst (λ c. IsCount c) (sym count) (omega arith);
-      heap = subst (λ c. IsHeap at table c (no_shape.keys table) (slot_row no_tables no_shape table)) (sym count)
-        (law at table (no_shape.keys table) (slot_row no_tables no_shape table) (λ p. none (heap_page table p)));
-      placed = λ key n e. let both : None ≡ Some n = sym (no_number table key) ∙ e in absurd (cc);
-      taken = λ n lt. let below : n < 0 = subst (λ c. n < c) count lt in absurd (omega (arith, below));
-      rowless = λ key e. finite.get-empty spot_cmp (table, key);
-    };
+      let count : count_in no_tables table ≡ 0 = all_zero 64 (table - 1) in
+      record {
+        index = (λ n. none (index_page table n), no_number table);
+        few = subst (λ c. IsCount c) (sym count) (omega arith);
+        heap = subst (λ c. IsHeap at table c (no_shape.keys table) (slot_row no_tables no_shape table)) (sym count)
+            (law at table (no_shape.keys table) (slot_row no_tables no_shape table) (λ p. none (heap_page table p)));
+        placed = λ key n e. let both : None ≡ Some n = sym (no_number table key) ∙ e in absurd (cc);
+        taken = λ n lt. let below : n < 0 = subst (λ c. n < c) count lt in absurd (omega (arith, below));
+        rowless = λ key e. finite.get-empty spot_cmp (table, key);
+      };
 }

@@ -46,12 +46,14 @@ still_at (Some n) p place h k = subst (λ (q : Option ℕ). IsAt q place) (sym (
 
 still_undone : (x new : Tables) → Grows x new → (us : List Undone) → AllByRecursion (CanUndo x) us → AllByRecursion (CanUndo new) us
 still_undone x new grows [] k = tt
-still_undone x new grows (u ∷ us) k =
-    (record {
-      table = k.0.table;
-      place = still_at (number_of x u.table u.key) (number_of new u.table u.key) u.place (grows.places_stay u.table u.key) k.0.place;
-      back = k.0.back;
-    }, still_undone x new grows us k.1)
+still_undone x new grows (u ∷ us) k = (
+  record {
+    table = k.0.table;
+    place = still_at (number_of x u.table u.key) (number_of new u.table u.key) u.place (grows.places_stay u.table u.key) k.0.place;
+    back = k.0.back;
+  },
+  still_undone x new grows us k.1,
+)
 
 -- an operation stays in hand over tables that have grown
 moved : (start : Rows) (ops : List Op) (at to : Images) (x new : Tables) (w shape : Shape) (s : State) (o : Op) → Holds to new shape → Grows x new
@@ -75,8 +77,8 @@ again : (g : Given) (start : Rows) (ops : List Op) (at to : Images) (x new : Tab
     → IsOnCourse start ops to new shape (search s task)
 again g start ops at to x new w shape s task is i put quiet holds grows =
     put_searches start ops to new shape s task.table task.key task.aim (shape.trees task.table) refl (leads_in g to new shape task.table is (holds.tables task.table is))
-      (put_sought to new (shape.trees task.table) s.rows task.table task.key task.aim put)
-      (moved start ops at to x new w shape s (op_of task) holds grows i) (quiet_put s.rows task.aim put quiet)
+    (put_sought to new (shape.trees task.table) s.rows task.table task.key task.aim put)
+    (moved start ops at to x new w shape s (op_of task) holds grows i) (quiet_put s.rows task.aim put quiet)
 
 update_again : (g : Given) (start : Rows) (ops : List Op) (at to : Images) (x new : Tables) (w shape : Shape) (s : State) (task : Task) (u : Update)
     → IsTable task.table → IsWithin start ops at x w s (op_of task) → s.rows ≡ [] → ChangeKnows at x (w.trees task.table) task u → SearchesAgain u
@@ -96,7 +98,7 @@ again_keeps g start ops at to x new w shape s task u c e may holds grows =
     let i : IsWithin start ops at x w s (op_of task) = within start ops at x w s task (step.Change u) e c in
     let k : StageKnows at x w s (stage.Work task (step.Change u)) = knows_at start ops at x w s (stage.Work task (step.Change u)) e c in
     subst (λ (h : Stage). IsOnCourse start ops to new shape (done_at s h)) (sym e)
-      (update_again g start ops at to x new w shape s task u (table_of start ops at x w s task i) i k.0 k.1 may holds grows)
+    (update_again g start ops at to x new w shape s task u (table_of start ops at x w s task i) i k.0 k.1 may holds grows)
 
 -- ---- the split of a leaf
 
@@ -109,8 +111,8 @@ split_keeps start ops at to x new w shape s task left branch c e holds grows on 
     let i : IsWithin start ops at x w s (op_of task) = within start ops at x w s task (step.Change u) e c in
     let k : StageKnows at x w s (stage.Work task (step.Change u)) = knows_at start ops at x w s (stage.Work task (step.Change u)) e c in
     subst (λ (h : Stage). IsOnCourse start ops to new shape (done_at s h)) (sym e)
-      (to_step start ops to new shape s task (shape.trees task.table) (step.Read (reading.Halves left branch)) refl
-        (moved start ops at to x new w shape s (op_of task) holds grows i) (quiet_put s.rows task.aim k.1.0 k.0, (k.1.0, on)))
+    (to_step start ops to new shape s task (shape.trees task.table) (step.Read (reading.Halves left branch)) refl
+    (moved start ops at to x new w shape s (op_of task) holds grows i) (quiet_put s.rows task.aim k.1.0 k.0, (k.1.0, on)))
 
 -- ---- a row change
 
@@ -162,24 +164,24 @@ row_keeps start ops at to x w shape s task place back c e holds =
     let k : StageKnows at x w s (stage.Work task (step.Change u)) = knows_at start ops at x w s (stage.Work task (step.Change u)) e c in
     let can : CanChange x task.table task.key place back = k.1.1 in
     let there : IsPart start ops (after_op x.rows (op_of task)) (s.reads ++ answer_of x.rows (op_of task)) s.rest =
-      part_goes start ops x.rows s.reads (op_of task) s.rest (never_aborts task.table task.key task.aim) i.part in
+    part_goes start ops x.rows s.reads (op_of task) s.rest (never_aborts task.table task.key task.aim) i.part in
     let silent : IsPart start ops (after_op x.rows (op_of task)) s.reads s.rest =
-      subst (λ (reads : List Answer). IsPart start ops (after_op x.rows (op_of task)) reads s.rest)
-        (ap (λ (more : List Answer). s.reads ++ more) (reads_none x.rows task.table task.key task.aim k.1.0) ∙ append-nil s.reads) there in
+    subst (λ (reads : List Answer). IsPart start ops (after_op x.rows (op_of task)) reads s.rest)
+    (ap (λ (more : List Answer). s.reads ++ more) (reads_none x.rows task.table task.key task.aim k.1.0) ∙ append-nil s.reads) there in
     let part : IsPart start ops new.rows s.reads s.rest =
-      subst (λ (rows : Rows). IsPart start ops rows s.reads s.rest) (effect_is x.rows task.table task.key task.aim k.1.0) silent in
+    subst (λ (rows : Rows). IsPart start ops rows s.reads s.rest) (effect_is x.rows task.table task.key task.aim k.1.0) silent in
     let was : taken_back (set_row new.rows task.table task.key back) s.undo ≡ start =
-      ap (λ (rows : Rows). taken_back rows s.undo) (row_back x.rows task.table task.key (row_after task.aim) back (sym can.back_is)) ∙ c.back in
+    ap (λ (rows : Rows). taken_back rows s.undo) (row_back x.rows task.table task.key (row_after task.aim) back (sym can.back_is)) ∙ c.back in
     subst (λ (h : Stage). IsOnCourse start ops to new shape (done_at s h)) (sym e)
-      (next_course start ops to new shape (record s { undo = record { table = task.table; key = task.key; place = place; back = back } ∷ s.undo })
-        (record {
-          holds = holds;
-          back = was;
-          undos = (record { table = is; place = can.place_is; back = can.value_is }, same_places x task.table task.key (row_after task.aim) s.undo c.undos);
-          sound = c.sound;
-          part = part;
-          quiet = k.0;
-        }))
+    (next_course start ops to new shape (record s { undo = record { table = task.table; key = task.key; place = place; back = back } ∷ s.undo })
+    (record {
+      holds = holds;
+      back = was;
+      undos = (record { table = is; place = can.place_is; back = can.value_is }, same_places x task.table task.key (row_after task.aim) s.undo c.undos);
+      sound = c.sound;
+      part = part;
+      quiet = k.0;
+    }))
 
 -- ---- a transaction that is refused
 
@@ -192,15 +194,15 @@ undo_keeps start ops at to x w shape s u us c e are holds =
     let new : Tables = with_row x u.table u.key u.back in
     let undos : AllByRecursion (CanUndo x) (u ∷ us) = subst (λ (l : List Undone). AllByRecursion (CanUndo x) l) are c.undos in
     subst (λ (h : Stage). IsOnCourse start ops to new shape (done_at s h)) (sym e)
-      (subst (λ (l : List Undone). IsOnCourse start ops to new shape (record s { undo = drop 1 l })) (sym are)
-        (record {
-          holds = holds;
-          back = subst (λ (l : List Undone). taken_back x.rows l ≡ start) are c.back;
-          undos = same_places x u.table u.key u.back us undos.1;
-          sound = c.sound;
-          part = subst (λ (h : Stage). PartAt start ops new.rows s.reads s.rest h) (sym e) tt;
-          knows = subst (λ (h : Stage). StageKnows to new shape (record s { undo = us }) h) (sym e) tt;
-        }))
+    (subst (λ (l : List Undone). IsOnCourse start ops to new shape (record s { undo = drop 1 l })) (sym are)
+    (record {
+      holds = holds;
+      back = subst (λ (l : List Undone). taken_back x.rows l ≡ start) are c.back;
+      undos = same_places x u.table u.key u.back us undos.1;
+      sound = c.sound;
+      part = subst (λ (h : Stage). PartAt start ops new.rows s.reads s.rest h) (sym e) tt;
+      knows = subst (λ (h : Stage). StageKnows to new shape (record s { undo = us }) h) (sym e) tt;
+    }))
 
 refused_part : (start : Rows) (ops : List Op) (rows : Rows) (reads : List Answer) (rest : List Op) (h : Stage) → PartAt start ops rows reads rest (refused_at h)
 refused_part start ops rows reads rest (stage.Work task it) = tt
@@ -223,7 +225,10 @@ refused_knows at x w s stage.Ended = tt
 pub refusal_keeps : (start : Rows) (ops : List Op) (at : Images) (x : Tables) (w : Shape) (s : State)
     → IsOnCourse start ops at x w s → IsOnCourse start ops at x w (after_refusal s)
 refusal_keeps start ops at x w s c = record {
-  holds = c.holds; back = c.back; undos = c.undos; sound = c.sound;
+  holds = c.holds;
+  back = c.back;
+  undos = c.undos;
+  sound = c.sound;
   part = refused_part start ops x.rows s.reads s.rest s.stage;
   knows = refused_knows at x w (after_refusal s) s.stage;
 }
@@ -233,7 +238,7 @@ refusal_keeps start ops at x w s c = record {
 pub starts : (ops : List Op) (at : Images) (x : Tables) (w : Shape) → Holds at x w → AllByRecursion IsOp ops → IsOnCourse x.rows ops at x w (opened ops)
 starts ops at x w holds are =
     next_course x.rows ops at x w (record { rest = ops; stage = stage.Commit; reads = []; undo = []; rows = []; entries = []; damage = None })
-      (record { holds = holds; back = refl; undos = tt; sound = refl; part = record { reads_are = refl; rows_are = refl; aborts_are = refl; ops_are = are }; quiet = refl })
+    (record { holds = holds; back = refl; undos = tt; sound = refl; part = record { reads_are = refl; rows_are = refl; aborts_are = refl; ops_are = are }; quiet = refl })
 
 pub commits : (start : Rows) (ops : List Op) (at : Images) (x : Tables) (w : Shape) (s : State)
     → IsOnCourse start ops at x w s → s.stage ≡ stage.Commit → IsDone start ops x s

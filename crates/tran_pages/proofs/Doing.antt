@@ -68,7 +68,7 @@ scan_begins g start ops at x w s table low high false lt is holds i quiet =
     let leads : (t : Tree) → w.trees table ≡ Some t → Leads at table t.branches t.leaves = leads_in g at x w table is holds in
     let ahead : rows_between x table (w.trees table) low high ≡ scanned x.rows table low high = all_ahead at x w table low high (w.trees table) refl leads holds in
     put_searches start ops at x w s table low (aim.Scan high) (w.trees table) refl leads
-      (omega arith, refl, ap (λ (l : List Row). l ++ rows_between x table (w.trees table) low high) quiet ∙ ahead) i tt
+    (omega arith, refl, ap (λ (l : List Row). l ++ rows_between x table (w.trees table) low high) quiet ∙ ahead) i tt
 
 space_goes : (g : Given) (start : Rows) (ops : List Op) (at : Images) (x : Tables) (w : Shape) (s : State) (table own : ℕ) (a : Aim)
     → IsTable table → TableHolds at x w table → IsWithin start ops at x w s (op_by table own a) → s.rows ≡ []
@@ -104,7 +104,7 @@ step_goes g start ops at x w s task step.Row c e none =
     let is : IsTable task.table = table_of start ops at x w s task i in
     let k : StageKnows at x w s (stage.Work task step.Row) = knows_at start ops at x w s (stage.Work task step.Row) e c in
     put_searches start ops at x w s task.table task.key task.aim (w.trees task.table) refl (leads_in g at x w task.table is (c.holds.tables task.table is))
-      (single_sought at x (w.trees task.table) s.rows task.table task.key task.aim k.1) i (quiet_for s.rows task.aim k.0)
+    (single_sought at x (w.trees task.table) s.rows task.table task.key task.aim k.1) i (quiet_for s.rows task.aim k.0)
 step_goes g start ops at x w s task (step.Read r) c e none = c
 step_goes g start ops at x w s task (step.Change u) c e none = absurd none
 

@@ -78,7 +78,7 @@ pub nothing_ends : (start : Rows) (ops : List Op) (at : Images) (x : Tables) (w 
 nothing_ends start ops at x w s o goes none same quiet i =
     let there : IsPart start ops (after_op x.rows o) (s.reads ++ answer_of x.rows o) s.rest = part_goes start ops x.rows s.reads o s.rest goes i.part in
     let silent : IsPart start ops (after_op x.rows o) s.reads s.rest =
-      subst (λ (reads : List Answer). IsPart start ops (after_op x.rows o) reads s.rest) (ap (λ (more : List Answer). s.reads ++ more) none ∙ append-nil s.reads) there in
+    subst (λ (reads : List Answer). IsPart start ops (after_op x.rows o) reads s.rest) (ap (λ (more : List Answer). s.reads ++ more) none ∙ append-nil s.reads) there in
     let part : IsPart start ops x.rows s.reads s.rest = subst (λ (rows : Rows). IsPart start ops rows s.reads s.rest) same silent in
     next_course start ops at x w s (record { holds = i.holds; back = i.back; undos = i.undos; sound = i.sound; part = part; quiet = quiet })
 
@@ -89,9 +89,9 @@ pub get_ends : (start : Rows) (ops : List Op) (at : Images) (x : Tables) (w : Sh
 get_ends start ops at x w s table key value is quiet i =
     let there : IsPart start ops x.rows (s.reads ++ answer.Value (row_of x table key) ∷ []) s.rest = part_goes start ops x.rows s.reads (op.Get table key) s.rest refl i.part in
     let part : IsPart start ops x.rows (s.reads ++ answer.Value value ∷ []) s.rest =
-      subst (λ (v : Option (List ℕ)). IsPart start ops x.rows (s.reads ++ answer.Value v ∷ []) s.rest) is there in
+    subst (λ (v : Option (List ℕ)). IsPart start ops x.rows (s.reads ++ answer.Value v ∷ []) s.rest) is there in
     next_course start ops at x w (record s { reads = s.reads ++ answer.Value value ∷ [] })
-      (record { holds = i.holds; back = i.back; undos = i.undos; sound = i.sound; part = part; quiet = quiet })
+    (record { holds = i.holds; back = i.back; undos = i.undos; sound = i.sound; part = part; quiet = quiet })
 
 -- all rows of a scan were read
 pub scan_ends : (start : Rows) (ops : List Op) (at : Images) (x : Tables) (w : Shape) (s : State) (table low high : ℕ)
@@ -100,6 +100,6 @@ pub scan_ends : (start : Rows) (ops : List Op) (at : Images) (x : Tables) (w : S
 scan_ends start ops at x w s table low high is i =
     let there : IsPart start ops x.rows (s.reads ++ answer.Rows (scanned x.rows table low high) ∷ []) s.rest = part_goes start ops x.rows s.reads (op.Scan table low high) s.rest refl i.part in
     let part : IsPart start ops x.rows (s.reads ++ answer.Rows s.rows ∷ []) s.rest =
-      subst (λ rows. IsPart start ops x.rows (s.reads ++ answer.Rows rows ∷ []) s.rest) is there in
+    subst (λ rows. IsPart start ops x.rows (s.reads ++ answer.Rows rows ∷ []) s.rest) is there in
     next_course start ops at x w (record s { reads = s.reads ++ answer.Rows s.rows ∷ []; rows = [] })
-      (record { holds = i.holds; back = i.back; undos = i.undos; sound = i.sound; part = part; quiet = refl })
+    (record { holds = i.holds; back = i.back; undos = i.undos; sound = i.sound; part = part; quiet = refl })

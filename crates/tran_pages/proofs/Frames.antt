@@ -89,7 +89,7 @@ heap_as at table count more key key' row row' counts keys rows heap =
     let keys_are : key ≡ key' = λ i. λ n. sym (keys n) i in
     let rows_are : row ≡ row' = λ i. λ n. sym (rows n) i in
     subst (λ c. IsHeap at table c key' row') (sym counts)
-      (subst (λ (f : ℕ → ℕ). IsHeap at table count f row') keys_are (subst (λ (f : ℕ → Option (List ℕ)). IsHeap at table count key f) rows_are heap))
+    (subst (λ (f : ℕ → ℕ). IsHeap at table count f row') keys_are (subst (λ (f : ℕ → Option (List ℕ)). IsHeap at table count key f) rows_are heap))
 
 pub index_as : (law : FrameLaws) (at to : Images) (x new : Tables) (table : ℕ) (tree : Option Tree) → KeepsIndex at to table → ((key : ℕ) → number_of new table key ≡ number_of x table key)
     → IndexHolds at x table tree → IndexHolds to new table tree
@@ -106,10 +106,10 @@ table_stays law at to x new w shape table index heap same h = record {
   index = subst (λ (t : Option Tree). IndexHolds to new table t) (sym same.tree) (index_as law at to x new table (w.trees table) index same.numbers h.index);
   few = subst (λ c. c ≤ 31 * (2 ^ 32 - 2)) (sym same.counts) h.few;
   heap = heap_as to table (count_in x table) (count_in new table) (w.keys table) (shape.keys table) (slot_row x w table) (slot_row new shape table) same.counts same.keys (slots_as x new w shape table same)
-    (law.heap at to table (count_in x table) (w.keys table) (slot_row x w table) h.heap heap);
+      (law.heap at to table (count_in x table) (w.keys table) (slot_row x w table) h.heap heap);
   placed = λ key n e.
-    let was : (n < count_in x table) × (w.keys table n ≡ key) = h.placed key n (sym (same.numbers key) ∙ e) in
-    (subst (λ c. n < c) (sym same.counts) was.0, same.keys n ∙ was.1);
+      let was : (n < count_in x table) × (w.keys table n ≡ key) = h.placed key n (sym (same.numbers key) ∙ e) in
+      (subst (λ c. n < c) (sym same.counts) was.0, same.keys n ∙ was.1);
   taken = λ n lt. same.numbers (shape.keys table n) ∙ ap (λ key. number_of x table key) (same.keys n) ∙ h.taken n (subst (λ c. n < c) same.counts lt);
   rowless = λ key e. same.rows key ∙ h.rowless key (sym (same.numbers key) ∙ e);
 }

@@ -47,7 +47,11 @@ pub to_step : (start : Rows) (ops : List Op) (at : Images) (x : Tables) (w : Sha
     → w.trees task.table ≡ tree → IsWithin start ops at x w s (op_of task) → StepKnows at x tree s task it
     → IsOnCourse start ops at x w (at_step s task it)
 to_step start ops at x w s task tree it is i k = record {
-  holds = i.holds; back = i.back; undos = i.undos; sound = i.sound; part = i.part;
+  holds = i.holds;
+  back = i.back;
+  undos = i.undos;
+  sound = i.sound;
+  part = i.part;
   knows = subst (λ (t : Option Tree). StepKnows at x t s task it) (sym is) k;
 }
 
@@ -77,10 +81,10 @@ pub branch_goes : (start : Rows) (ops : List Op) (at : Images) (x : Tables) (w :
     → IsOnCourse start ops at x w (followed s task (index_page table page) bytes (looked level.Branch a page branch key (count_of bytes) it))
 branch_goes start ops at x w s table own a tree page branch key (look.Right next) is leads saw i quiet r k =
     to_step start ops at x w s (record { table = table; key = own; aim = a }) (Some tree) (step.Read (reading.Index level.Branch next next key)) is i
-      (quiet, (leads.branch_right page key next r saw, same_sought at x (Some tree) s.rows table page next own key a k))
+    (quiet, (leads.branch_right page key next r saw, same_sought at x (Some tree) s.rows table page next own key a k))
 branch_goes start ops at x w s table own a tree page branch key (look.Down child) is leads saw i quiet r k =
     to_step start ops at x w s (record { table = table; key = own; aim = a }) (Some tree) (step.Read (reading.Index level.Leaf child page key)) is i
-      (quiet, (leads.down page key child r saw, down_sought at x (Some tree) s.rows table page child own key a k))
+    (quiet, (leads.down page key child r saw, down_sought at x (Some tree) s.rows table page child own key a k))
 branch_goes start ops at x w s table own a tree page branch key (look.Found place) is leads saw i quiet r k = absurd (leads.has_no_place page key place r saw)
 branch_goes start ops at x w s table own a tree page branch key look.Absent is leads saw i quiet r k = absurd (leads.leads page key r saw)
 
@@ -136,10 +140,10 @@ put_goes : (start : Rows) (ops : List Op) (at : Images) (x : Tables) (w : Shape)
     → IsOnCourse start ops at x w (followed s task (index_page table page) bytes (if full then make (update.Split page branch) else outcome.Go (step.Read (reading.Header page))))
 put_goes start ops at x w s table own value tree page branch count true is counted full room i quiet r none saw =
     to_step start ops at x w s (record { table = table; key = own; aim = aim.Put value }) (Some tree) (step.Change (update.Split page branch)) is i
-      (quiet, (tt, (r, counted ∙ grind (arith, full))))
+    (quiet, (tt, (r, counted ∙ grind (arith, full))))
 put_goes start ops at x w s table own value tree page branch count false is counted full room i quiet r none saw =
     to_step start ops at x w s (record { table = table; key = own; aim = aim.Put value }) (Some tree) (step.Read (reading.Header page)) is i
-      (quiet, (tt, none, (r.0, saw, grind (arith, counted, full, room))))
+    (quiet, (tt, none, (r.0, saw, grind (arith, counted, full, room))))
 
 -- the search ends at this leaf, and the key has no place and no row
 record HasNoKey (at : Images) (x : Tables) (tree : Option Tree) (table page branch key : ℕ) : Type 0 where
@@ -206,18 +210,18 @@ pub leaf_goes : (start : Rows) (ops : List Op) (at : Images) (x : Tables) (w : S
 leaf_goes start ops at x w s table own a tree page branch key (look.Right next) is leads holds saw i quiet r k more =
     let on : _ = leads.leaf_right page key next r.0 saw in
     to_step start ops at x w s (record { table = table; key = own; aim = a }) (Some tree) (step.Read (reading.Index level.Leaf next branch key)) is i
-      (quiet, ((on.0, leads.leaf_under branch page key next r.1 saw), right_sought at x (Some tree) s.rows table page next own key a on.1 (leads.leaf next key on.0).low k))
+    (quiet, ((on.0, leads.leaf_under branch page key next r.1 saw), right_sought at x (Some tree) s.rows table page next own key a on.1 (leads.leaf next key on.0).low k))
 leaf_goes start ops at x w s table own a tree page branch key (look.Down child) is leads holds saw i quiet r k more = absurd (leads.is_last page key child r.0 saw)
 leaf_goes start ops at x w s table own a tree page branch key (look.Found place) is leads holds saw i quiet r k more =
     let index : IndexHolds at x table (Some tree) = subst (λ (t : Option Tree). IndexHolds at x table t) is holds.index in
     let there : IsPlaceOf x table key place = key_found at x w table key tree place index (leads.found page key place r.0 saw) in
     found_goes start ops at x w s table own a (Some tree) (index_page table page) (at (index_page table page)) place is i quiet
-      (λ (one : IsSingle a). subst (λ q. IsPlaceOf x table q place) (own_key at x (Some tree) s.rows table level.Leaf page own key a k one) there)
-      (λ high e. more high e (not_beyond_place (is_beyond (high_of (at (index_page table page))) key) _ place _ saw))
+    (λ (one : IsSingle a). subst (λ q. IsPlaceOf x table q place) (own_key at x (Some tree) s.rows table level.Leaf page own key a k one) there)
+    (λ high e. more high e (not_beyond_place (is_beyond (high_of (at (index_page table page))) key) _ place _ saw))
 leaf_goes start ops at x w s table own a tree page branch key look.Absent is leads holds saw i quiet r k more =
     let index : IndexHolds at x table (Some tree) = subst (λ (t : Option Tree). IndexHolds at x table t) is holds.index in
     let there : number_of x table key ≡ None = key_absent at x w table key tree index (leads.absent page key r.0 saw) in
     absent_goes start ops at x w s table own a tree page branch is (leads.leaf page key r.0).room i quiet
-      (λ (one : IsSingle a). subst (λ q. HasNoKey at x (Some tree) table page branch q) (own_key at x (Some tree) s.rows table level.Leaf page own key a k one)
-        (record { way = r; number = there; row = holds.rowless key there; saw = saw }))
-      (λ high e. more high e (not_beyond (is_beyond (high_of (at (index_page table page))) key) _ _ saw))
+    (λ (one : IsSingle a). subst (λ q. HasNoKey at x (Some tree) table page branch q) (own_key at x (Some tree) s.rows table level.Leaf page own key a k one)
+    (record { way = r; number = there; row = holds.rowless key there; saw = saw }))
+    (λ high e. more high e (not_beyond (is_beyond (high_of (at (index_page table page))) key) _ _ saw))

@@ -72,7 +72,7 @@ pub row_by : (law : HeapReads) (at : Images) (table count : ℕ) (key : ℕ → 
     → row_read (heap_page table (place_at n).page) (place_at n).slot (key n) (at (heap_page table (place_at n).page)) ≡ Ok (row n)
 row_by law at table count key row n is few heap below =
     read_by (at (heap_page table (place_at n).page)) (place_at n).slot (key n) _ (slots_on count (place_at n).page) (row n) (header_of (at (heap_page table (place_at n).page)) (heap_page table (place_at n).page))
-      (law.page at table count key row n heap is few below) (law.inside count n below) (law.fault at table count key row n heap below) (law.slot at table count key row n heap below)
+    (law.page at table count key row n heap is few below) (law.inside count n below) (law.fault at table count key row n heap below) (law.slot at table count key row n heap below)
 
 head_when : (law : HeapReads) (at : Images) (table count : ℕ) (key : ℕ → ℕ) (row : ℕ → Option (List ℕ)) (none : Bool) → is_zeros (at (heap_page table 0)) ≡ none → IsTable table → IsHeap at table count key row
     → HasNoHead at table ⊎ HasHead at table

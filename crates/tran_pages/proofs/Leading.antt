@@ -157,8 +157,8 @@ leads_by law at table bs ls next is ix = record {
   leads = λ page key r saw. (law.leads at table next page key bs ls ix r).0 saw;
   has_no_place = λ page key place r saw. (law.leads at table next page key bs ls ix r).1 place saw;
   leaf_right = λ page key number r saw.
-    let on : chain.GoesRight ls (at (index_page table page)) key number = law.leaf_right at table next page key number bs ls ix r saw in
-    (on.0, right_low at table page key number bs ls (high_of (at (index_page table page))) law.halves next ix r refl saw on.1);
+      let on : chain.GoesRight ls (at (index_page table page)) key number = law.leaf_right at table next page key number bs ls ix r saw in
+      (on.0, right_low at table page key number bs ls (high_of (at (index_page table page))) law.halves next ix r refl saw on.1);
   leaf_under = λ number page key right u saw. law.right_under at table next number page key right bs ls ix u saw;
   under_first = λ page key r. under_first bs ls page key (λ k. law.begins at table next k bs ls ix) r;
   is_last = λ page key child r saw. law.answers at table next page key child bs ls ix r saw;
@@ -168,14 +168,14 @@ leads_by law at table bs ls next is ix = record {
   ends = λ number page low u high. law.ends_under at table next number page low bs ls ix u high;
   from_low = λ page key e r c. (stands at table page key ls ix.leaf_pages r).node.from_low e c;
   among = λ page key e r c.
-    let s : Stands (at (index_page table page)) page ls = stands at table page key ls ix.leaf_pages r in
-    let low : low_of (at (index_page table page)) ≤ e.key = s.node.from_low e c in
-    let saw : look_of (at (index_page table page)) e.key ≡ look.Found e.place =
+      let s : Stands (at (index_page table page)) page ls = stands at table page key ls ix.leaf_pages r in
+      let low : low_of (at (index_page table page)) ≤ e.key = s.node.from_low e c in
+      let saw : look_of (at (index_page table page)) e.key ≡ look.Found e.place =
       law.finds (at (index_page table page)) e s.node.rising (law.leaf at table next page key bs ls ix r).is_of (s.node.below_high e c) c in
-    law.found at table next page e.key e.place bs ls ix (reached_above ls page (low_of (at (index_page table page))) e.key s.by_low low) saw;
+      law.found at table next page e.key e.place bs ls ix (reached_above ls page (low_of (at (index_page table page))) e.key s.by_low low) saw;
   scan = λ page low high r below.
-    between_same low high (entries_in ls) ∙ law.scan at table next page low high bs ls ix r below
-    ∙ ap (λ (l : List Entry). l ++ behind ls (high_of (at (index_page table page))) high) (sym (between_same low high (entries_of (at (index_page table page)))))
-    ∙ ap (λ (l : List Entry). filter (is_between low high) (entries_of (at (index_page table page))) ++ l) (beyond_same ls (high_of (at (index_page table page))) high);
+      between_same low high (entries_in ls) ∙ law.scan at table next page low high bs ls ix r below
+      ∙ ap (λ (l : List Entry). l ++ behind ls (high_of (at (index_page table page))) high) (sym (between_same low high (entries_of (at (index_page table page)))))
+      ∙ ap (λ (l : List Entry). filter (is_between low high) (entries_of (at (index_page table page))) ++ l) (beyond_same ls (high_of (at (index_page table page))) high);
   rising = law.rising at table next bs ls ix;
 }

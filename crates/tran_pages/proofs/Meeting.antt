@@ -80,8 +80,8 @@ scan_collects : (start : Rows) (ops : List Op) (at : Images) (x : Tables) (w : S
 scan_collects start ops at x w s table own a tree page key is leads holds i r k high e below =
     let bytes : List ℕ = at (index_page table page) in
     subst (λ (b : Aim). IsOnCourse start ops at x w (collected s (record { table = table; key = own; aim = b }) (index_page table page) high bytes (next_leaf high bytes))) (sym e)
-      (collect_goes start ops at x w s table own high page key tree is leads holds (subst (λ (b : Aim). IsWithin start ops at x w s (op_by table own b)) e i) r
-        (subst (λ (b : Aim). IsSought at x (Some tree) s.rows table level.Leaf page own key b) e k) below)
+    (collect_goes start ops at x w s table own high page key tree is leads holds (subst (λ (b : Aim). IsWithin start ops at x w s (op_by table own b)) e i) r
+    (subst (λ (b : Aim). IsSought at x (Some tree) s.rows table level.Leaf page own key b) e k) below)
 
 index_goes : (start : Rows) (ops : List Op) (at : Images) (x : Tables) (w : Shape) (s : State) (table own : ℕ) (a : Aim) (tree : Option Tree) (l : Level) (page branch key : ℕ)
     → let task : Task = record { table = table; key = own; aim = a } in let bytes : List ℕ = at (index_page table page) in
@@ -97,21 +97,21 @@ index_goes start ops at x w s table own a None level.Branch page branch key is l
     let header : header_of bytes (index_page table page) ≡ Ok empty_header = ap (λ (b : List ℕ). header_of b (index_page table page)) (index.0 page) ∙ empty in
     let nothing : search_outcome task level.Branch page branch key bytes ≡ no_index a = root_outcome task page branch key bytes header r in
     subst (λ (o : Outcome). IsOnCourse start ops at x w (followed s task (index_page table page) bytes o)) (sym nothing)
-      (subst (λ n. IsOnCourse start ops at x w (followed s task (index_page table n) bytes (no_index a))) (sym r)
-        (empty_goes start ops at x w s table own a bytes key is holds index.1 i quiet (same_sought at x None s.rows table page 1 own key a k)))
+    (subst (λ n. IsOnCourse start ops at x w (followed s task (index_page table n) bytes (no_index a))) (sym r)
+    (empty_goes start ops at x w s table own a bytes key is holds index.1 i quiet (same_sought at x None s.rows table page 1 own key a k)))
 index_goes start ops at x w s table own a None level.Leaf page branch key is leads empty holds i quiet r k = absurd r
 index_goes start ops at x w s table own a (Some tree) level.Branch page branch key is leads empty holds i quiet r k =
     let task : Task = record { table = table; key = own; aim = a } in
     let bytes : List ℕ = at (index_page table page) in
     subst (λ (o : Outcome). IsOnCourse start ops at x w (followed s task (index_page table page) bytes o))
-      (sym (good_outcome task level.Branch page branch key bytes ((leads tree is).branch page key r)))
-      (branch_goes start ops at x w s table own a tree page branch key (look_of bytes key) is (leads tree is) refl i quiet r k)
+    (sym (good_outcome task level.Branch page branch key bytes ((leads tree is).branch page key r)))
+    (branch_goes start ops at x w s table own a tree page branch key (look_of bytes key) is (leads tree is) refl i quiet r k)
 index_goes start ops at x w s table own a (Some tree) level.Leaf page branch key is leads empty holds i quiet r k =
     let task : Task = record { table = table; key = own; aim = a } in
     let bytes : List ℕ = at (index_page table page) in
     subst (λ (o : Outcome). IsOnCourse start ops at x w (followed s task (index_page table page) bytes o))
-      (sym (good_outcome task level.Leaf page branch key bytes ((leads tree is).leaf page key r.0)))
-      (leaf_goes start ops at x w s table own a tree page branch key (look_of bytes key) is (leads tree is) holds refl i quiet r k (scan_collects start ops at x w s table own a tree page key is (leads tree is) holds i r.0 k))
+    (sym (good_outcome task level.Leaf page branch key bytes ((leads tree is).leaf page key r.0)))
+    (leaf_goes start ops at x w s table own a tree page branch key (look_of bytes key) is (leads tree is) holds refl i quiet r k (scan_collects start ops at x w s table own a tree page key is (leads tree is) holds i r.0 k))
 
 -- ---- the page that was asked for
 
@@ -119,7 +119,10 @@ index_goes start ops at x w s table own a (Some tree) level.Leaf page branch key
 pub within : (start : Rows) (ops : List Op) (at : Images) (x : Tables) (w : Shape) (s : State) (task : Task) (it : Step) → s.stage ≡ stage.Work task it
     → IsOnCourse start ops at x w s → IsWithin start ops at x w s (op_of task)
 within start ops at x w s task it e c = record {
-  holds = c.holds; back = c.back; undos = c.undos; sound = c.sound;
+  holds = c.holds;
+  back = c.back;
+  undos = c.undos;
+  sound = c.sound;
   part = subst (λ (g : Stage). PartAt start ops x.rows s.reads s.rest g) e c.part;
 }
 
@@ -148,7 +151,7 @@ read_goes : (g : Given) (start : Rows) (ops : List Op) (at : Images) (x : Tables
     → ReadKnows at x (w.trees task.table) s task r → IsOnCourse start ops at x w (read_met s task (at (page_read task.table r)) r)
 read_goes g start ops at x w s task (reading.Index l page branch key) is holds c i quiet k =
     index_goes start ops at x w s task.table task.key task.aim (w.trees task.table) l page branch key refl (leads_in g at x w task.table is holds)
-      (g.empty (index_page task.table page)) holds i quiet k.0 k.1
+    (g.empty (index_page task.table page)) holds i quiet k.0 k.1
 read_goes g start ops at x w s task (reading.Slot place) is holds c i quiet k = slot_goes g start ops at x w s task place is holds c i quiet k
 read_goes g start ops at x w s task (reading.Header leaf) is holds c i quiet k = header_goes g start ops at x w s task leaf is holds i quiet k.0 k.1 k.2
 read_goes g start ops at x w s task (reading.Halves left branch) is holds c i quiet k =
@@ -180,7 +183,7 @@ work_goes g start ops at x w s id task (step.Read r) c e wants =
     let is : IsTable task.table = table_of start ops at x w s task i in
     let k : StageKnows at x w s (stage.Work task (step.Read r)) = knows_at start ops at x w s (stage.Work task (step.Read r)) e c in
     subst (λ (q : PageId). IsOnCourse start ops at x w (read_met s task (at q) r)) (same_page (page_read task.table r) id wants)
-      (read_goes g start ops at x w s task r is (c.holds.tables task.table is) c i k.0 k.1)
+    (read_goes g start ops at x w s task r is (c.holds.tables task.table is) c i k.0 k.1)
 work_goes g start ops at x w s id task (step.Change u) c e wants = c
 
 page_goes : (g : Given) (start : Rows) (ops : List Op) (at : Images) (x : Tables) (w : Shape) (s : State) (id : PageId) (h : Stage)

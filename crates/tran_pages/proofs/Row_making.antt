@@ -78,14 +78,14 @@ row_own frame law at x w lrsn table key n value is h stamp here fits =
     let new : Tables = with_row x table key value in
     let there : (n < count_in x table) × (w.keys table n ≡ key) = h.placed key n here in
     let pages : (p : ℕ) → to (heap_page table p) ≡ row_page lrsn (place_at n) (w.keys table n) value p (at (heap_page table p)) =
-      λ p. law.written at to table (place_at n) key value lrsn (λ q. refl) p ∙ ap (λ k. row_page lrsn (place_at n) k value p (at (heap_page table p))) (sym there.1) in
+    λ p. law.written at to table (place_at n) key value lrsn (λ q. refl) p ∙ ap (λ k. row_page lrsn (place_at n) k value p (at (heap_page table p))) (sym there.1) in
     let keeps : KeepsIndex at to table = index_stays at table lrsn patches (none_of (2 * table - 1) (2 * table) patches (heap_index_sets table table is.0) (refl, tt)) in
     record {
       index = index_as frame at to x new table (w.trees table) keeps (λ k. refl) h.index;
       few = h.few;
       heap = heap_with to table (count_in x table) (w.keys table) (w.keys table) (changed (slot_row x w table) n value) (slot_row new w table) (λ m lt. refl)
-        (λ m lt. row_slot at x w table key n m value h here lt)
-        (law.change at to table (count_in x table) (w.keys table) (slot_row x w table) n value lrsn h.heap there.0 fits stamp.0 stamp.1 pages);
+          (λ m lt. row_slot at x w table key n m value h here lt)
+          (law.change at to table (count_in x table) (w.keys table) (slot_row x w table) n value lrsn h.heap there.0 fits stamp.0 stamp.1 pages);
       placed = h.placed;
       taken = h.taken;
       rowless = λ k none. still_rowless x table key k n value (k == key) refl here none (h.rowless k none);
@@ -96,15 +96,15 @@ row_other : (frame : FrameLaws) (at : Images) (x : Tables) (w : Shape) (lrsn tab
 row_other frame at x w lrsn table key t place value is there apart h =
     let patches : List Patch = row_patch table place key value ∷ [] in
     table_stays frame at (after_change lrsn patches at) x (with_row x table key value) w w t
-      (index_stays at t lrsn patches (none_of (2 * table - 1) (2 * t) patches (heap_index_sets table t is.0) (refl, tt)))
-      (heap_stays at t lrsn patches (none_of (2 * table - 1) (2 * t - 1) patches (heap_sets table t is.0 there.0 apart) (refl, tt)))
-      (record {
-        numbers = λ k. refl;
-        rows = λ k. row_set x table key t k value ∙ ap (λ b. cond b value (row_of x t k)) (other_table table key t k apart);
-        counts = refl;
-        tree = refl;
-        keys = λ n. refl;
-      }) h
+    (index_stays at t lrsn patches (none_of (2 * table - 1) (2 * t) patches (heap_index_sets table t is.0) (refl, tt)))
+    (heap_stays at t lrsn patches (none_of (2 * table - 1) (2 * t - 1) patches (heap_sets table t is.0 there.0 apart) (refl, tt)))
+    (record {
+      numbers = λ k. refl;
+      rows = λ k. row_set x table key t k value ∙ ap (λ b. cond b value (row_of x t k)) (other_table table key t k apart);
+      counts = refl;
+      tree = refl;
+      keys = λ n. refl;
+    }) h
 
 row_each : (frame : FrameLaws) (law : RowLaws) (at : Images) (x : Tables) (w : Shape) (lrsn table key n t : ℕ) (value : Content) (own : Bool) → (t == table) ≡ own
     → Holds at x w → IsTable table → IsTable t → IsLrsn lrsn → number_of x table key ≡ Some n → IsContent value
@@ -112,7 +112,7 @@ row_each : (frame : FrameLaws) (law : RowLaws) (at : Images) (x : Tables) (w : S
 row_each frame law at x w lrsn table key n t value true e holds is there stamp here fits =
     let same : t ≡ table = is_same t table e in
     subst (λ u. TableHolds (after_change lrsn (row_patch table (place_at n) key value ∷ []) at) (with_row x table key value) w u) (sym same)
-      (row_own frame law at x w lrsn table key n value is (holds.tables table is) stamp here fits)
+    (row_own frame law at x w lrsn table key n value is (holds.tables table is) stamp here fits)
 row_each frame law at x w lrsn table key n t value false e holds is there stamp here fits =
     row_other frame at x w lrsn table key t (place_at n) value is there (λ same. not_equal t table e (sym same)) (holds.tables t there)
 
@@ -122,7 +122,7 @@ row_at : (frame : FrameLaws) (law : RowLaws) (at : Images) (x : Tables) (w : Sha
 row_at frame law at x w lrsn table key place value None e p holds is stamp fits = absurd p
 row_at frame law at x w lrsn table key place value (Some n) e p holds is stamp fits =
     subst (λ (q : Place). Holds (after_change lrsn (row_patch table q key value ∷ []) at) (with_row x table key value) w) (sym p)
-      (record { counted = holds.counted; tables = λ t there. row_each frame law at x w lrsn table key n t value (t == table) refl holds is there stamp e fits })
+    (record { counted = holds.counted; tables = λ t there. row_each frame law at x w lrsn table key n t value (t == table) refl holds is there stamp e fits })
 
 pub row_makes : FrameLaws → RowLaws → RowMakes
 row_makes frame law at x w lrsn table key place value holds is may stamp =

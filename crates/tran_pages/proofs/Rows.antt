@@ -49,11 +49,11 @@ slot_at g at x w table key place None is holds e p = absurd p
 slot_at g at x w table key place (Some n) is holds e p =
     let there : _ = holds.placed key n e in
     let read : row_read (heap_page table (place_at n).page) (place_at n).slot (w.keys table n) (at (heap_page table (place_at n).page)) ≡ Ok (slot_row x w table n) =
-      g.row at table (count_in x table) (w.keys table) (slot_row x w table) n is holds.few holds.heap there.0 in
+    g.row at table (count_in x table) (w.keys table) (slot_row x w table) n is holds.few holds.heap there.0 in
     let value : IsContent (slot_row x w table n) = g.value at table (count_in x table) (w.keys table) (slot_row x w table) n holds.heap there.0 in
     record {
       row = subst (λ (q : Place). row_read (heap_page table q.page) q.slot key (at (heap_page table q.page)) ≡ Ok (row_of x table key)) (sym p)
-        (subst (λ k. row_read (heap_page table (place_at n).page) (place_at n).slot k (at (heap_page table (place_at n).page)) ≡ Ok (row_of x table k)) there.1 read);
+          (subst (λ k. row_read (heap_page table (place_at n).page) (place_at n).slot k (at (heap_page table (place_at n).page)) ≡ Ok (row_of x table k)) there.1 read);
       value = subst (λ k. IsContent (row_of x table k)) there.1 value;
     }
 
@@ -91,7 +91,7 @@ pub slot_goes : (g : Given) (start : Rows) (ops : List Op) (at : Images) (x : Ta
 slot_goes g start ops at x w s task place is holds c i quiet p =
     let there : IsSlot at x task.table task.key place = slot_of g at x w task.table task.key place is holds p in
     subst (λ (r : Result Content ℕ). IsOnCourse start ops at x w (slot_met s task place r)) (sym there.row)
-      (row_goes start ops at x w s task.table task.key place task.aim c i quiet (record { place_is = p; back_is = refl; value_is = there.value }))
+    (row_goes start ops at x w s task.table task.key place task.aim c i quiet (record { place_is = p; back_is = refl; value_is = there.value }))
 
 -- ---- the header page of a heap
 
@@ -110,12 +110,12 @@ head_goes : (start : Rows) (ops : List Op) (at : Images) (x : Tables) (w : Shape
 head_goes start ops at x w s task leaf i quiet p none room (inl z) =
     let bytes : List ℕ = at (heap_page task.table 0) in
     subst (λ (o : Outcome). IsOnCourse start ops at x w (followed s task (heap_page task.table 0) bytes o)) (sym (ap (headed leaf) z.header))
-      (to_step start ops at x w s task (w.trees task.table) (step.Change update.FormatHeap) refl i (quiet, (p, z.zeros)))
+    (to_step start ops at x w s task (w.trees task.table) (step.Change update.FormatHeap) refl i (quiet, (p, z.zeros)))
 head_goes start ops at x w s task leaf i quiet p none room (inr h) =
     let bytes : List ℕ = at (heap_page task.table 0) in
     subst (λ (o : Outcome). IsOnCourse start ops at x w (followed s task (heap_page task.table 0) bytes o))
-      (sym (ap (headed leaf) h.header ∙ ap (λ b. make (if b then update.FormatHeap else update.GiveSlot leaf)) h.some))
-      (to_step start ops at x w s task (w.trees task.table) (step.Change (update.GiveSlot leaf)) refl i (quiet, (p, none, room, h.has)))
+    (sym (ap (headed leaf) h.header ∙ ap (λ b. make (if b then update.FormatHeap else update.GiveSlot leaf)) h.some))
+    (to_step start ops at x w s task (w.trees task.table) (step.Change (update.GiveSlot leaf)) refl i (quiet, (p, none, room, h.has)))
 
 pub header_goes : (g : Given) (start : Rows) (ops : List Op) (at : Images) (x : Tables) (w : Shape) (s : State) (task : Task) (leaf : ℕ)
     → let bytes : List ℕ = at (heap_page task.table 0) in
@@ -124,7 +124,7 @@ pub header_goes : (g : Given) (start : Rows) (ops : List Op) (at : Images) (x : 
     → IsOnCourse start ops at x w (followed s task (heap_page task.table 0) bytes (header_outcome task leaf bytes))
 header_goes g start ops at x w s task leaf is holds i quiet p none room =
     head_goes start ops at x w s task leaf i (only_put s.rows task.aim p quiet) p none room
-      (g.head at task.table (count_in x task.table) (w.keys task.table) (slot_row x w task.table) is holds.heap)
+    (g.head at task.table (count_in x task.table) (w.keys task.table) (slot_row x w task.table) is holds.heap)
 
 -- ---- a leaf behind its split
 
@@ -162,7 +162,7 @@ enters start ops at x w s task tree left branch (Some low) None is leads h r i n
 enters start ops at x w s task tree left branch (Some low) (Some child) is leads h r i none quiet p on =
     let it : IsLinked at task.table tree.leaves (Some child) low = subst (λ (o : Option ℕ). IsLinked at task.table tree.leaves o low) r ((leads tree is).linked left task.key low on.0 h) in
     to_step start ops at x w s task (Some tree) (step.Change (update.BranchEntry branch low child)) is i
-      (none, (p, ((leads tree is).ends branch left low on.1 h, it.2)))
+    (none, (p, ((leads tree is).ends branch left low on.1 h, it.2)))
 
 halves_go : (start : Rows) (ops : List Op) (at : Images) (x : Tables) (w : Shape) (s : State) (task : Task) (tree : Option Tree) (left branch : ℕ)
     → let bytes : List ℕ = at (index_page task.table left) in
@@ -174,8 +174,8 @@ halves_go start ops at x w s task (Some tree) left branch is leads i quiet p on 
     let bytes : List ℕ = at (index_page task.table left) in
     let good : IsGood bytes (index_page task.table left) level.Leaf task.key = (leads tree is).leaf left task.key on.0 in
     subst (λ (o : Outcome). IsOnCourse start ops at x w (followed s task (index_page task.table left) bytes o))
-      (sym (ap (halved task.key branch bytes) good.header ∙ ap (λ f. unless f (entered task.key branch (high_of bytes) (right_of bytes))) (leaf_is good.head.kind good.kind)))
-      (enters start ops at x w s task tree left branch (high_of bytes) (right_of bytes) is leads refl refl i (only_put s.rows task.aim p quiet) quiet p on)
+    (sym (ap (halved task.key branch bytes) good.header ∙ ap (λ f. unless f (entered task.key branch (high_of bytes) (right_of bytes))) (leaf_is good.head.kind good.kind)))
+    (enters start ops at x w s task tree left branch (high_of bytes) (right_of bytes) is leads refl refl i (only_put s.rows task.aim p quiet) quiet p on)
 
 pub halves_goes : (g : Given) (start : Rows) (ops : List Op) (at : Images) (x : Tables) (w : Shape) (s : State) (task : Task) (left branch : ℕ)
     → let bytes : List ℕ = at (index_page task.table left) in

@@ -175,9 +175,9 @@ found_kept true false r e es kept k is same ih = ih ∙ ap (λ t. has_key es k &
 
 find_kept : (low high k : ℕ) (es : List Entry) → has_key (filter (is_between low high) es) k ≡ (has_key es k && (nat_le low k && nat_le k high))
 find_kept low high k [] = refl
-find_kept low high k (e ∷ es) = 
+find_kept low high k (e ∷ es) =
     found_kept (e.key == k) (is_between low high e) (nat_le low k && nat_le k high) e es (filter (is_between low high) es) k refl
-      (λ same. in_range low high e ∙ same_range low high e.key k same) (find_kept low high k es)
+    (λ same. in_range low high e ∙ same_range low high e.key k same) (find_kept low high k es)
 
 and_assoc : (a b c : Bool) → ((a && b) && c) ≡ (a && (b && c))
 and_assoc true b c = refl
@@ -206,7 +206,7 @@ seen_by true false true c d same none = same refl ∙ none refl
 -- two maps' rows of a spot
 seen_same : (m : Rows) (table low high a k : ℕ) (es : List Entry) → (has_key es k ≡ false → finite.get m (table, k) ≡ None)
     → cond (is_within table low high (a, k)) (finite.get m (a, k)) None ≡ seen m table (filter (is_between low high) es) a k
-seen_same m table low high a k es rowless = 
+seen_same m table low high a k es rowless =
     ap (λ b. cond b (finite.get m (a, k)) None) (and_assoc (a == table) (nat_le low k) (nat_le k high))
     ∙ seen_by (a == table) (has_key es k) (nat_le low k && nat_le k high) (finite.get m (a, k)) (finite.get m (table, k)) (λ e. row_same m a table k e) rowless
     ∙ ap (λ b. cond ((a == table) && b) (finite.get m (table, k)) None) (sym (find_kept low high k es))
@@ -215,12 +215,12 @@ pairs_are : (m : Rows) (table low high : ℕ) (es : List Entry) → IsRising es 
     → filter (λ (e : Pair). is_within table low high e.0) (finite.entries m) ≡ pairs_at m table (filter (is_between low high) es)
 pairs_are m table low high es up rowless =
     sorted.same_entries spot_cmp spot_cmp_total exact_spots
-      (filter (λ (e : Pair). is_within table low high e.0) (finite.entries m)) (pairs_at m table (filter (is_between low high) es))
-      (sorted.is_sorted-where_key spot_cmp (is_within table low high) (finite.entries m) (finite.entries_sorted m))
-      (sorted_pairs m table (filter (is_between low high) es) (rising_kept (is_between low high) es up))
-      (λ (q : Spot). sorted.find-where_key spot_cmp (is_within table low high) q (λ x e. ap (is_within table low high) (sym (exact_spots q x e))) (finite.entries m)
-        ∙ ap (λ (c : Content). cond (is_within table low high q) c None) (sym (finite.get-entries m q))
-        ∙ seen_same m table low high q.0 q.1 es (rowless q.1) ∙ sym (find_pairs m table q.0 q.1 (filter (is_between low high) es)))
+    (filter (λ (e : Pair). is_within table low high e.0) (finite.entries m)) (pairs_at m table (filter (is_between low high) es))
+    (sorted.is_sorted-where_key spot_cmp (is_within table low high) (finite.entries m) (finite.entries_sorted m))
+    (sorted_pairs m table (filter (is_between low high) es) (rising_kept (is_between low high) es up))
+    (λ (q : Spot). sorted.find-where_key spot_cmp (is_within table low high) q (λ x e. ap (is_within table low high) (sym (exact_spots q x e))) (finite.entries m)
+    ∙ ap (λ (c : Content). cond (is_within table low high q) c None) (sym (finite.get-entries m q))
+    ∙ seen_same m table low high q.0 q.1 es (rowless q.1) ∙ sym (find_pairs m table q.0 q.1 (filter (is_between low high) es)))
 
 -- a scan reads the rows of all entries between its keys
 pub scan_is : (x : Tables) (table low high : ℕ) (es : List Entry) → IsRising es → ((k : ℕ) → find es k ≡ None → row_of x table k ≡ None)

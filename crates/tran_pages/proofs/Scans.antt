@@ -70,10 +70,10 @@ scan_goes : (start : Rows) (ops : List Op) (at : Images) (x : Tables) (w : Shape
 scan_goes start ops at x w s table own high None [] i k = scan_ends start ops at x w s table own high (sym k.2 ∙ append-nil s.rows) i
 scan_goes start ops at x w s table own high (Some next) [] i k =
     to_step start ops at x w s (record { table = table; key = own; aim = aim.Scan high }) (w.trees table) (step.Read (reading.Index level.Leaf next.page 1 next.key)) refl i
-      (tt, (k.1.2, (k.1.0, inr k.1.1, k.2)))
+    (tt, (k.1.2, (k.1.0, inr k.1.1, k.2)))
 scan_goes start ops at x w s table own high next (e ∷ es) i k =
     to_step start ops at x w (record s { entries = es }) (record { table = table; key = own; aim = aim.Scan high }) (w.trees table) (step.Read (reading.Entry e next)) refl
-      (record { holds = i.holds; back = i.back; undos = i.undos; sound = i.sound; part = i.part }) (tt, k)
+    (record { holds = i.holds; back = i.back; undos = i.undos; sound = i.sound; part = i.part }) (tt, k)
 
 -- ---- a row of a scan
 
@@ -88,14 +88,14 @@ entry_goes : (start : Rows) (ops : List Op) (at : Images) (x : Tables) (w : Shap
     → IsOnCourse start ops at x w (entry_met s task e next (Ok back))
 entry_goes start ops at x w s table own high e next None is i k =
     let all : s.rows ++ ((row_at table e.key None ++ rows_at x table s.entries) ++ rows_beyond x table (w.trees table) high next) ≡ scanned x.rows table own high =
-      subst (λ (o : Content). s.rows ++ ((row_at table e.key o ++ rows_at x table s.entries) ++ rows_beyond x table (w.trees table) high next) ≡ scanned x.rows table own high) is k.2 in
+    subst (λ (o : Content). s.rows ++ ((row_at table e.key o ++ rows_at x table s.entries) ++ rows_beyond x table (w.trees table) high next) ≡ scanned x.rows table own high) is k.2 in
     scan_goes start ops at x w s table own high next s.entries i (k.0.1, k.1, all)
 entry_goes start ops at x w s table own high e next (Some value) is i k =
     let all : s.rows ++ ((row_at table e.key (Some value) ++ rows_at x table s.entries) ++ rows_beyond x table (w.trees table) high next) ≡ scanned x.rows table own high =
-      subst (λ (o : Content). s.rows ++ ((row_at table e.key o ++ rows_at x table s.entries) ++ rows_beyond x table (w.trees table) high next) ≡ scanned x.rows table own high) is k.2 in
+    subst (λ (o : Content). s.rows ++ ((row_at table e.key o ++ rows_at x table s.entries) ++ rows_beyond x table (w.trees table) high next) ≡ scanned x.rows table own high) is k.2 in
     scan_goes start ops at x w (record s { rows = s.rows ++ record { table = table; key = e.key; value = value } ∷ [] }) table own high next s.entries
-      (record { holds = i.holds; back = i.back; undos = i.undos; sound = i.sound; part = i.part })
-      (k.0.1, k.1, row_seen s.rows (rows_at x table s.entries) (rows_beyond x table (w.trees table) high next) table e.key value ∙ all)
+    (record { holds = i.holds; back = i.back; undos = i.undos; sound = i.sound; part = i.part })
+    (k.0.1, k.1, row_seen s.rows (rows_at x table s.entries) (rows_beyond x table (w.trees table) high next) table e.key value ∙ all)
 
 pub entry_goes_on : (g : Given) (start : Rows) (ops : List Op) (at : Images) (x : Tables) (w : Shape) (s : State) (table own : ℕ) (a : Aim) (e : Entry) (next : Option NextLeaf)
     → let task : Task = record { table = table; key = own; aim = a } in let bytes : List ℕ = at (heap_page table e.place.page) in
@@ -109,7 +109,7 @@ entry_goes_on g start ops at x w s table own (aim.Scan high) e next is holds i k
     let task : Task = record { table = table; key = own; aim = aim.Scan high } in
     let there : IsSlot at x table e.key e.place = slot_of g at x w table e.key e.place is holds k.0.0 in
     subst (λ (r : Result Content ℕ). IsOnCourse start ops at x w (entry_met s task e next r)) (sym there.row)
-      (entry_goes start ops at x w s table own high e next (row_of x table e.key) refl i k)
+    (entry_goes start ops at x w s table own high e next (row_of x table e.key) refl i k)
 
 -- ---- a leaf of a scan
 
@@ -144,8 +144,8 @@ hands : (start : Rows) (ops : List Op) (at : Images) (x : Tables) (w : Shape) (s
     → Entered start ops at x w s table own high page next
 hands start ops at x w s table own high page tree next is i all on e =
     scan_goes start ops at x w (record s { entries = between own high (at (index_page table page)) }) table own high next (between own high (at (index_page table page)))
-      (record { holds = i.holds; back = i.back; undos = i.undos; sound = i.sound; part = i.part })
-      (subst (λ (t : Option Tree). IsCollecting at x t s.rows table own (between own high (at (index_page table page))) next (aim.Scan high)) (sym is) (all, on, e))
+    (record { holds = i.holds; back = i.back; undos = i.undos; sound = i.sound; part = i.part })
+    (subst (λ (t : Option Tree). IsCollecting at x t s.rows table own (between own high (at (index_page table page))) next (aim.Scan high)) (sym is) (all, on, e))
 
 abbrev Collected : Rows → List Op → Images → Tables → Shape → State → ℕ → ℕ → ℕ → ℕ → Option ℕ → Option ℕ → Type 0
 Collected start ops at x w s table own high page top right =
@@ -201,8 +201,8 @@ collects_by start ops at x w s table own high page key tree (Some top) h is lead
     let bytes : List ℕ = at (index_page table page) in
     let linked : IsLinked at table tree.leaves (right_of bytes) top = leads.linked page key top r h in
     subst (λ (n : Result (Option NextLeaf) ℕ). IsOnCourse start ops at x w (collected s (record { table = table; key = own; aim = aim.Scan high }) (index_page table page) high bytes n))
-      (sym (next_same top high (right_of bytes) at table tree.leaves linked))
-      (collects_to start ops at x w s table own high page tree top (right_of bytes) (nat_le top high) refl is leads (above_own own key top le below) linked i all e)
+    (sym (next_same top high (right_of bytes) at table tree.leaves linked))
+    (collects_to start ops at x w s table own high page tree top (right_of bytes) (nat_le top high) refl is leads (above_own own key top le below) linked i all e)
 
 place_same : (d e : Entry) → Some d ≡ Some e → e.place ≡ d.place
 place_same d e is = sym (ap (λ (o : Option Entry). place_in d.place o) is)
@@ -221,10 +221,10 @@ collect_goes start ops at x w s table own high page key tree is leads holds i r 
     let bytes : List ℕ = at (index_page table page) in
     let index : IndexHolds at x table (Some tree) = subst (λ (t : Option Tree). IndexHolds at x table t) is holds.index in
     let all : AllByRecursion (λ (e : Entry). IsPlaceOf x table e.key e.place) (between own high bytes) =
-      all_kept (λ (e : Entry). IsPlaceOf x table e.key e.place) (is_between own high) (entries_of bytes)
-        (λ e c. placed_by e.key e (number_of x table e.key) (sym (index.1 e.key) ∙ leads.among page key e r c)) in
+    all_kept (λ (e : Entry). IsPlaceOf x table e.key e.place) (is_between own high) (entries_of bytes)
+    (λ e c. placed_by e.key e (number_of x table e.key) (sym (index.1 e.key) ∙ leads.among page key e r c)) in
     let split : filter (is_between key high) (entries_in tree.leaves) ≡ between own high bytes ++ entries_beyond tree.leaves high (high_of bytes) =
-      leads.scan page key high r below
-      ∙ ap (λ (l : List Entry). l ++ entries_beyond tree.leaves high (high_of bytes)) (kept_same at table page own key high k.0 k.1 (λ e c. leads.from_low page key e r c)) in
+    leads.scan page key high r below
+    ∙ ap (λ (l : List Entry). l ++ entries_beyond tree.leaves high (high_of bytes)) (kept_same at table page own key high k.0 k.1 (λ e c. leads.from_low page key e r c)) in
     collects_by start ops at x w s table own high page key tree (high_of bytes) refl is leads r k.0 below i all
-      (leaf_rows x table key high s.rows (scanned x.rows table own high) (entries_in tree.leaves) (between own high bytes) (entries_beyond tree.leaves high (high_of bytes)) split k.2)
+    (leaf_rows x table key high s.rows (scanned x.rows table own high) (entries_in tree.leaves) (between own high bytes) (entries_beyond tree.leaves high (high_of bytes)) split k.2)

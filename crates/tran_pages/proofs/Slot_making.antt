@@ -75,10 +75,10 @@ table_by to new shape table tree count key tree_is keys_are counts index few hea
   index = subst (λ (t : Option Tree). IndexHolds to new table t) (sym tree_is) index;
   few = subst (λ c. IsCount c) (sym counts) few;
   heap = subst (λ c. IsHeap to table c (shape.keys table) (slot_row new shape table)) (sym counts)
-    (subst (λ (f : ℕ → ℕ). IsHeap to table count f (λ n. row_of new table (f n))) (sym keys_are) heap);
+      (subst (λ (f : ℕ → ℕ). IsHeap to table count f (λ n. row_of new table (f n))) (sym keys_are) heap);
   placed = λ k n e.
-    let there : (n < count) × (key n ≡ k) = placed k n e in
-    (subst (λ c. n < c) (sym counts) there.0, ap (λ (f : ℕ → ℕ). f n) keys_are ∙ there.1);
+      let there : (n < count) × (key n ≡ k) = placed k n e in
+      (subst (λ c. n < c) (sym counts) there.0, ap (λ (f : ℕ → ℕ). f n) keys_are ∙ there.1);
   taken = λ n lt. ap (λ (f : ℕ → ℕ). number_of new table (f n)) keys_are ∙ taken n (subst (λ c. n < c) counts lt);
   rowless = rowless;
 }
@@ -154,20 +154,22 @@ slot_own frame trees law at x w lrsn table key leaf tree is counted h ix fits no
     let are : AreOf (2 * table) entry = insert_sets (at (index_page table leaf)) e (2 * table) (leaf_set trees at table leaf key tree is ix.0 room.0) in
     let apart : AreElsewhere table give = elsewhere table give (none_of (2 * table - 1) (2 * table) give (heap_index_sets table table is.0) (give_set table key (place_at n))) in
     let index : IsIndex to table tree.branches (entered_at tree.leaves leaf e) tree.next =
-      law.inserts at to table tree.next leaf lrsn e tree.branches tree.leaves ix.0 room.0 room.1 room.2
-        (record { key = fits; leads_to = place_fits n few; slot = slot_fits n }) stamp
-        (law.leaf_record at table tree.next leaf key lrsn e give [] tree.branches tree.leaves ix.0 room.0 is.1 apart tt) in
+    law.inserts at to table tree.next leaf lrsn e tree.branches tree.leaves ix.0 room.0 room.1 room.2
+    (record { key = fits; leads_to = place_fits n few; slot = slot_fits n }) stamp
+    (law.leaf_record at table tree.next leaf key lrsn e give [] tree.branches tree.leaves ix.0 room.0 is.1 apart tt) in
     let heap : IsHeap to table (n + 1) (changed keys n key) (changed (slot_row x w table) n None) =
-      (law.give at to table n keys (slot_row x w table) key lrsn h.heap head fits (place_fits n few) stamp.0 stamp.1 (heap_after at lrsn table key leaf n is.0 are)).0 in
-    table_by to new shape table (Some taller) (n + 1) (changed keys n key) (own_tree w table taller) (ap (λ b. if b then changed keys n key else keys) (itself table)) (count_same x table key counted is)
-      (index, λ k. law.gains at table tree.next leaf k e tree.branches tree.leaves ix.0 room.0 room.1
-        ∙ entry_when table key k n (number_of x table k) (find (entries_in tree.leaves) k) (k == key) refl (ix.1 k) ∙ ap (entry_of k) (sym (new_number x table key k)))
-      few
-      (heap_as to table (n + 1) (n + 1) (changed keys n key) (changed keys n key) (changed (slot_row x w table) n None) (λ m. row_of new table (changed keys n key m)) refl (λ m. refl)
-        (λ m. row_when x table key n m keys (m == n) (h.rowless key none)) heap)
-      (λ k m is_there. placed_when x table key k m n keys (k == key) refl h.placed (sym (new_number x table key k) ∙ is_there))
-      (λ m lt. new_number x table key (changed keys n key m) ∙ taken_when x table key m n keys (m == n) refl none h.taken lt)
-      (λ k is_none. rowless_when x table key k n (k == key) (h.rowless k) (sym (new_number x table key k) ∙ is_none))
+    (law.give at to table n keys (slot_row x w table) key lrsn h.heap head fits (place_fits n few) stamp.0 stamp.1 (heap_after at lrsn table key leaf n is.0 are)).0 in
+    table_by to new shape table (Some taller) (n + 1) (changed keys n key) (own_tree w table taller) (ap (λ b. if b then changed keys n key else keys) (itself table)) (count_same x table key counted is) (
+      index,
+      λ k. law.gains at table tree.next leaf k e tree.branches tree.leaves ix.0 room.0 room.1
+          ∙ entry_when table key k n (number_of x table k) (find (entries_in tree.leaves) k) (k == key) refl (ix.1 k) ∙ ap (entry_of k) (sym (new_number x table key k)),
+    )
+    few
+    (heap_as to table (n + 1) (n + 1) (changed keys n key) (changed keys n key) (changed (slot_row x w table) n None) (λ m. row_of new table (changed keys n key m)) refl (λ m. refl)
+    (λ m. row_when x table key n m keys (m == n) (h.rowless key none)) heap)
+    (λ k m is_there. placed_when x table key k m n keys (k == key) refl h.placed (sym (new_number x table key k) ∙ is_there))
+    (λ m lt. new_number x table key (changed keys n key m) ∙ taken_when x table key m n keys (m == n) refl none h.taken lt)
+    (λ k is_none. rowless_when x table key k n (k == key) (h.rowless k) (sym (new_number x table key k) ∙ is_none))
 
 slot_other : (frame : FrameLaws) (trees : TreeLaws) (at : Images) (x : Tables) (w : Shape) (lrsn table key leaf u : ℕ) (tree : Tree) → IsTable table → IsTable u → (table ≡ u → ⊥) → TableHolds at x w u
     → AreOf (2 * table) (insert_patches (at (index_page table leaf)) (entry_at key (count_in x table)))
@@ -183,15 +185,15 @@ slot_other frame trees at x w lrsn table key leaf u tree is there apart h are =
     let shape : Shape = with_key (with_tree w table taller) table n key in
     let given : AreOf (2 * table - 1) give = give_set table key (place_at n) in
     table_stays frame at (after_change lrsn patches at) x (with_place x table key) w shape u
-      (index_stays at u lrsn patches (none_both (2 * u) give entry (none_of (2 * table - 1) (2 * u) give (heap_index_sets table u is.0) given) (none_of (2 * table) (2 * u) entry (index_sets table u apart) are)))
-      (heap_stays at u lrsn patches (none_both (2 * u - 1) give entry (none_of (2 * table - 1) (2 * u - 1) give (heap_sets table u is.0 there.0 apart) given) (none_of (2 * table) (2 * u - 1) entry (index_heap_sets table u there.0) are)))
-      (record {
-        numbers = λ k. number_set x table key u k ∙ ap (λ b. cond b (Some n) (number_of x u k)) (other_table table key u k apart);
-        rows = λ k. refl;
-        counts = count_other x table key u is there apart;
-        tree = other_tree w table u taller apart;
-        keys = λ m. ap (λ b. (if b then changed (w.keys table) n key else w.keys u) m) (not_same u table (λ q. apart (sym q)));
-      }) h
+    (index_stays at u lrsn patches (none_both (2 * u) give entry (none_of (2 * table - 1) (2 * u) give (heap_index_sets table u is.0) given) (none_of (2 * table) (2 * u) entry (index_sets table u apart) are)))
+    (heap_stays at u lrsn patches (none_both (2 * u - 1) give entry (none_of (2 * table - 1) (2 * u - 1) give (heap_sets table u is.0 there.0 apart) given) (none_of (2 * table) (2 * u - 1) entry (index_heap_sets table u there.0) are)))
+    (record {
+      numbers = λ k. number_set x table key u k ∙ ap (λ b. cond b (Some n) (number_of x u k)) (other_table table key u k apart);
+      rows = λ k. refl;
+      counts = count_other x table key u is there apart;
+      tree = other_tree w table u taller apart;
+      keys = λ m. ap (λ b. (if b then changed (w.keys table) n key else w.keys u) m) (not_same u table (λ q. apart (sym q)));
+    }) h
 
 pub slot_is_given : FrameLaws → TreeLaws → SlotLaws → SlotIsGiven
 slot_is_given frame trees law at x w lrsn table key leaf tree holds e needs few stamp =
@@ -200,8 +202,8 @@ slot_is_given frame trees law at x w lrsn table key leaf tree holds e needs few 
     let ix : IndexHolds at x table (Some tree) = index_of at x w table tree is holds e in
     let room : HasRoomIn at table (Some tree) leaf key = subst (λ (t : Option Tree). HasRoomIn at table t leaf key) e needs.3 in
     let are : AreOf (2 * table) (insert_patches (at (index_page table leaf)) (entry_at key n)) =
-      insert_sets (at (index_page table leaf)) (entry_at key n) (2 * table) (leaf_set trees at table leaf key tree is ix.0 room.0) in
+    insert_sets (at (index_page table leaf)) (entry_at key n) (2 * table) (leaf_set trees at table leaf key tree is ix.0 room.0) in
     each (after_change lrsn (all_patches at table key leaf n) at) (with_place x table key) (with_key (with_tree w table (leaf_entered tree leaf (entry_at key n))) table n key) table
-      (counts_still x table key holds.counted)
-      (slot_own frame trees law at x w lrsn table key leaf tree is holds.counted (holds.tables table is) ix needs.1 needs.2 room needs.4 few stamp)
-      (λ u there apart. slot_other frame trees at x w lrsn table key leaf u tree is there apart (holds.tables u there) are)
+    (counts_still x table key holds.counted)
+    (slot_own frame trees law at x w lrsn table key leaf tree is holds.counted (holds.tables table is) ix needs.1 needs.2 room needs.4 few stamp)
+    (λ u there apart. slot_other frame trees at x w lrsn table key leaf u tree is there apart (holds.tables u there) are)

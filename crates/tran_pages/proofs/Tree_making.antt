@@ -75,20 +75,20 @@ tree_makes frame at x w lrsn table tree patches is holds are index entries =
     let shape : Shape = with_tree w table tree in
     let h : TableHolds at x w table = holds.tables table is in
     each to x shape table holds.counted
-      (record {
-        index = subst (λ (t : Option Tree). IndexHolds to x table t) (sym (own_tree w table tree)) (index, entries);
-        few = h.few;
-        heap = frame.heap at to table (count_in x table) (w.keys table) (slot_row x w table) h.heap
+    (record {
+      index = subst (λ (t : Option Tree). IndexHolds to x table t) (sym (own_tree w table tree)) (index, entries);
+      few = h.few;
+      heap = frame.heap at to table (count_in x table) (w.keys table) (slot_row x w table) h.heap
           (heap_stays at table lrsn patches (none_of (2 * table) (2 * table - 1) patches (index_heap_sets table table is.0) are));
-        placed = h.placed;
-        taken = h.taken;
-        rowless = h.rowless;
-      })
-      (λ u there apart. table_stays frame at to x x w shape u
-        (index_stays at u lrsn patches (none_of (2 * table) (2 * u) patches (index_sets table u apart) are))
-        (heap_stays at u lrsn patches (none_of (2 * table) (2 * u - 1) patches (index_heap_sets table u there.0) are))
-        (record { numbers = λ k. refl; rows = λ k. refl; counts = refl; tree = other_tree w table u tree apart; keys = λ n. refl })
-        (holds.tables u there))
+      placed = h.placed;
+      taken = h.taken;
+      rowless = h.rowless;
+    })
+    (λ u there apart. table_stays frame at to x x w shape u
+    (index_stays at u lrsn patches (none_of (2 * table) (2 * u) patches (index_sets table u apart) are))
+    (heap_stays at u lrsn patches (none_of (2 * table) (2 * u - 1) patches (index_heap_sets table u there.0) are))
+    (record { numbers = λ k. refl; rows = λ k. refl; counts = refl; tree = other_tree w table u tree apart; keys = λ n. refl })
+    (holds.tables u there))
 
 -- ---- the names of index pages
 
@@ -104,13 +104,13 @@ pub branch_set : (law : TreeLaws) (at : Images) (table page key : ℕ) (tree : T
     → (id_of (at (index_page table page))).set ≡ 2 * table
 branch_set law at table page key tree is ix r =
     ap (λ (id : PageId). id.set) (law.name (at (index_page table page)) (index_page table page) 4 (front_here at table 4 page key tree.branches ix.branch_pages r) (set_fits table is)
-      (law.branch at table tree.next page key tree.branches tree.leaves ix r).fits)
+    (law.branch at table tree.next page key tree.branches tree.leaves ix r).fits)
 
 pub leaf_set : (law : TreeLaws) (at : Images) (table page key : ℕ) (tree : Tree) → IsTable table → IsIndex at table tree.branches tree.leaves tree.next → IsReached tree.leaves page key
     → (id_of (at (index_page table page))).set ≡ 2 * table
 leaf_set law at table page key tree is ix r =
     ap (λ (id : PageId). id.set) (law.name (at (index_page table page)) (index_page table page) 5 (front_here at table 5 page key tree.leaves ix.leaf_pages r) (set_fits table is)
-      (law.leaf at table tree.next page key tree.branches tree.leaves ix r).fits)
+    (law.leaf at table tree.next page key tree.branches tree.leaves ix r).fits)
 
 header_set : (law : TreeLaws) (at : Images) (table : ℕ) (tree : Tree) → IsTable table → IsIndex at table tree.branches tree.leaves tree.next → (id_of (at (index_page table 0))).set ≡ 2 * table
 header_set law at table tree is ix = ap (λ (id : PageId). id.set) (law.name (at (index_page table 0)) (index_page table 0) 3 ix.header.front (set_fits table is) (omega arith))
@@ -129,7 +129,7 @@ index_formats frame law at x w lrsn table holds needs stamp =
     let h : TableHolds at x w table = holds.tables table needs.0 in
     let none : IndexHolds at x table None = subst (λ (t : Option Tree). IndexHolds at x table t) needs.1 h.index in
     tree_makes frame at x w lrsn table first_tree (index.format_patches table) needs.0 holds (refl, (refl, (refl, (refl, (refl, (refl, tt))))))
-      (law.formats at table lrsn none.0 stamp) (λ key. sym (ap (entry_of key) (none.1 key)))
+    (law.formats at table lrsn none.0 stamp) (λ key. sym (ap (entry_of key) (none.1 key)))
 
 heap_patches_are : (table : ℕ) → AreOf (2 * table - 1) (heap.format_patches table)
 unfolding heap.format_patches
@@ -143,18 +143,18 @@ heap_formats frame law at x w lrsn table holds needs stamp =
     let are : AreOf (2 * table - 1) patches = heap_patches_are table in
     let h : TableHolds at x w table = holds.tables table is in
     each to x w table holds.counted
-      (record {
-        index = index_as frame at to x x table (w.trees table) (index_stays at table lrsn patches (none_of (2 * table - 1) (2 * table) patches (heap_index_sets table table is.0) are)) (λ k. refl) h.index;
-        few = h.few;
-        heap = (law.format_heap at to table (count_in x table) (w.keys table) (slot_row x w table) lrsn h.heap needs.1 stamp.0 stamp.1 (λ p. refl)).0;
-        placed = h.placed;
-        taken = h.taken;
-        rowless = h.rowless;
-      })
-      (λ u there apart. table_stays frame at to x x w w u
-        (index_stays at u lrsn patches (none_of (2 * table - 1) (2 * u) patches (heap_index_sets table u is.0) are))
-        (heap_stays at u lrsn patches (none_of (2 * table - 1) (2 * u - 1) patches (heap_sets table u is.0 there.0 apart) are))
-        (same_all x w u) (holds.tables u there))
+    (record {
+      index = index_as frame at to x x table (w.trees table) (index_stays at table lrsn patches (none_of (2 * table - 1) (2 * table) patches (heap_index_sets table table is.0) are)) (λ k. refl) h.index;
+      few = h.few;
+      heap = (law.format_heap at to table (count_in x table) (w.keys table) (slot_row x w table) lrsn h.heap needs.1 stamp.0 stamp.1 (λ p. refl)).0;
+      placed = h.placed;
+      taken = h.taken;
+      rowless = h.rowless;
+    })
+    (λ u there apart. table_stays frame at to x x w w u
+    (index_stays at u lrsn patches (none_of (2 * table - 1) (2 * u) patches (heap_index_sets table u is.0) are))
+    (heap_stays at u lrsn patches (none_of (2 * table - 1) (2 * u - 1) patches (heap_sets table u is.0 there.0 apart) are))
+    (same_all x w u) (holds.tables u there))
 
 -- ---- splits
 
@@ -169,7 +169,7 @@ ways_kept : (law : TreeLaws) (at to : Images) (w : Shape) (table left : ℕ) (tr
 ways_kept law at to w table left tree e branch key on =
     let was : IsOnWay at table (Some tree) level.Leaf left branch key = subst (λ (t : Option Tree). IsOnWay at table t level.Leaf left branch key) e on in
     subst (λ (t : Option Tree). IsOnWay to table t level.Leaf left branch key) (sym (own_tree w table (leaf_split tree left)))
-      (law.split_reaches tree.leaves left tree.next left key was.0, (law.split_under tree.branches tree.leaves branch left left tree.next was.1).0)
+    (law.split_reaches tree.leaves left tree.next left key was.0, (law.split_under tree.branches tree.leaves branch left left tree.next was.1).0)
 
 pub leaf_is_split : FrameLaws → TreeLaws → LeafIsSplit
 leaf_is_split frame law at x w lrsn table left tree holds e needs few stamp =
@@ -178,25 +178,26 @@ leaf_is_split frame law at x w lrsn table left tree holds e needs few stamp =
     let ix : IndexHolds at x table (Some tree) = index_of at x w table tree is holds e in
     let patches : List Patch = split_patches (at (index_page table 0)) (at (index_page table left)) tree.next in
     let are : AreOf (2 * table) patches = split_sets (at (index_page table 0)) (at (index_page table left)) tree.next (2 * table) (header_set law at table tree is ix.0)
-      (leaf_set law at table left needs.1.key tree is ix.0 f.0.0) in
-    let to : Images = after_split lrsn table left tree.next at in
-    (tree_makes frame at x w lrsn table (leaf_split tree left) patches is holds are
-      (law.leaf_splits at to table tree.next left needs.1.key lrsn tree.branches tree.leaves ix.0 f.0.0 is.1 f.1 few stamp
-        (law.leaf_split_record at table tree.next left needs.1.key lrsn tree.branches tree.leaves ix.0 f.0.0 is.1))
-      (λ key. ap (λ (es : List Entry). find es key) (law.split_keeps tree.leaves left tree.next) ∙ ix.1 key),
-    ways_kept law at to w table left tree e)
+    (leaf_set law at table left needs.1.key tree is ix.0 f.0.0) in
+    let to : Images = after_split lrsn table left tree.next at in (
+      tree_makes frame at x w lrsn table (leaf_split tree left) patches is holds are
+          (law.leaf_splits at to table tree.next left needs.1.key lrsn tree.branches tree.leaves ix.0 f.0.0 is.1 f.1 few stamp
+          (law.leaf_split_record at table tree.next left needs.1.key lrsn tree.branches tree.leaves ix.0 f.0.0 is.1))
+          (λ key. ap (λ (es : List Entry). find es key) (law.split_keeps tree.leaves left tree.next) ∙ ix.1 key),
+      ways_kept law at to w table left tree e,
+    )
 
 pub branch_is_split : FrameLaws → TreeLaws → BranchIsSplit
 branch_is_split frame law at x w lrsn table page key tree holds e is r full few stamp =
     let ix : IndexHolds at x table (Some tree) = index_of at x w table tree is holds e in
     let patches : List Patch = split_patches (at (index_page table 0)) (at (index_page table page)) tree.next in
     let are : AreOf (2 * table) patches = split_sets (at (index_page table 0)) (at (index_page table page)) tree.next (2 * table) (header_set law at table tree is ix.0)
-      (branch_set law at table page key tree is ix.0 r) in
+    (branch_set law at table page key tree is ix.0 r) in
     let to : Images = after_split lrsn table page tree.next at in
     tree_makes frame at x w lrsn table (branch_split tree page) patches is holds are
-      (law.branch_splits at to table tree.next page key lrsn tree.branches tree.leaves ix.0 r is.1 full few stamp
-        (law.branch_split_record at table tree.next page key lrsn tree.branches tree.leaves ix.0 r is.1))
-      ix.1
+    (law.branch_splits at to table tree.next page key lrsn tree.branches tree.leaves ix.0 r is.1 full few stamp
+    (law.branch_split_record at table tree.next page key lrsn tree.branches tree.leaves ix.0 r is.1))
+    ix.1
 
 pub split_keeps_child : TreeLaws → SplitKeepsChild
 split_keeps_child law tree page branch low child c = (law.split_reaches tree.branches page tree.next branch low c.0, c.1)
@@ -211,6 +212,6 @@ child_is_entered frame law at x w lrsn table branch low child tree holds e is c 
     let are : AreOf (2 * table) patches = insert_sets (at (index_page table branch)) entry (2 * table) (branch_set law at table branch low tree is ix.0 c.0) in
     let to : Images = after_change lrsn patches at in
     tree_makes frame at x w lrsn table (branch_entered tree branch entry) patches is holds are
-      (law.branch_inserts at to table tree.next branch lrsn low child tree.branches tree.leaves ix.0 c.0 within none room c.1 stamp
-        (law.branch_record at table tree.next branch low lrsn entry [] [] tree.branches tree.leaves ix.0 c.0 is.1 tt tt))
-      ix.1
+    (law.branch_inserts at to table tree.next branch lrsn low child tree.branches tree.leaves ix.0 c.0 within none room c.1 stamp
+    (law.branch_record at table tree.next branch low lrsn entry [] [] tree.branches tree.leaves ix.0 c.0 is.1 tt tt))
+    ix.1

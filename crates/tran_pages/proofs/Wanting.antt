@@ -105,7 +105,7 @@ update_keeps g start ops at to x new w shape s task (update.BranchEntry branch l
     again_keeps g start ops at to x new w shape s task (update.BranchEntry branch low child) c e tt holds made
 update_keeps g start ops at to x new w shape s task (update.RowChange place back) c e holds made =
     subst (λ (y : Tables). IsOnCourse start ops to y shape (after_done s)) (sym made)
-      (row_keeps start ops at to x w shape s task place back c e (subst (λ (y : Tables). Holds to y shape) made holds))
+    (row_keeps start ops at to x w shape s task place back c e (subst (λ (y : Tables). Holds to y shape) made holds))
 
 pub change_keeps : Given → ChangeKeeps
 change_keeps g start ops at to x new w shape s it c wants holds made =

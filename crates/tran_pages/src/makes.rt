@@ -1,7 +1,9 @@
 ghost use Rattle.tran_pages.specs.Makes.{BranchIsSplit, ChildIsEntered, EmptyHolds, HeapFormats, IndexFormats, LeafIsSplit, RowMakes, SameGrows, SlotGrows, SlotIsGiven, SplitKeepsChild};
 
 use heap_rows::{heap_laws, row_change_laws, same_heap_laws};
-use index_chain::{format_chain_laws, insertion_laws, record_laws, search_laws, split_chain_laws, stays_laws};
+use index_chain::{
+    format_chain_laws, insertion_laws, record_laws, search_laws, split_chain_laws, stays_laws,
+};
 use page_images::header_laws;
 
 /// Pages that were never written hold no rows. Over pages that hold tables each change that a transaction wants, with
