@@ -32,7 +32,7 @@ use Rattle.tran_core.specs.declared.stage.Undone.{Undone}
 use Rattle.tran_core.specs.Wants.{Content, row_after, want_undo}
 use Rattle.tran_core.specs.States.{State, want_of, want_at, newest, search, scan_read, at_step, next_op, space_locked, step_done, done_at, after_done, changed}
 use Rattle.page_images.specs.Images.{Images}
-use Rattle.tran_pages.specs.Tables.{Tables, Shape, Tree, Holds, TableHolds, IndexHolds, Grows, entry_of, number_of, row_of, with_row}
+use Rattle.tran_pages.specs.Tables.{Tables, tables_after, Shape, Tree, Holds, TableHolds, IndexHolds, Grows, entry_of, number_of, row_of, with_row}
 use Rattle.tran_pages.specs.Course.{op_by, op_of, IsPart, IsAt, IsPlaceOf, CanUndo, taken_back, IsSought, IsSingle, IsQuiet, IsPut, IsContent, Changes, CanChange, IsOnWay, StageKnows, PartAt, IsOnCourse, IsNoChange, SearchesAgain, entries_by, rows_between}
 use Rattle.tran_pages.proofs.Ends.{IsBetween, IsWithin, part_goes, next_course, nothing_ends, scan_ends}
 use Rattle.tran_pages.proofs.Searches.{Leads}
@@ -58,7 +58,7 @@ all_ahead at x w table low high (Some tree) is leads holds =
     let index : IndexHolds at x table (Some tree) = subst (λ (t : Option Tree). IndexHolds at x table t) is holds.index in
     scan_is x table low high (entries_by (Some tree)) (leads tree is).rising (λ k e. holds.rowless k (none_is k (number_of x table k) (sym (index.1 k) ∙ e)))
 
-scan_begins : (g : Given) (start : Rows) (ops : List Op) (at : Images) (x : Tables) (w : Shape) (s : State) (table low high : ℕ) (none : Bool)
+scan_begins : (g : Given) (start : Tables) (ops : List Op) (at : Images) (x : Tables) (w : Shape) (s : State) (table low high : ℕ) (none : Bool)
     → nat_lt high low ≡ none → IsTable table → TableHolds at x w table → IsWithin start ops at x w s (op.Scan table low high) → s.rows ≡ []
     → let task : Task = record { table = table; key = low; aim = aim.Scan high } in
     IsOnCourse start ops at x w (if none then scan_read s else search s task)
@@ -70,7 +70,7 @@ scan_begins g start ops at x w s table low high false lt is holds i quiet =
     put_searches start ops at x w s table low (aim.Scan high) (w.trees table) refl leads
     (omega arith, refl, ap (λ (l : List Row). l ++ rows_between x table (w.trees table) low high) quiet ∙ ahead) i tt
 
-space_goes : (g : Given) (start : Rows) (ops : List Op) (at : Images) (x : Tables) (w : Shape) (s : State) (table own : ℕ) (a : Aim)
+space_goes : (g : Given) (start : Tables) (ops : List Op) (at : Images) (x : Tables) (w : Shape) (s : State) (table own : ℕ) (a : Aim)
     → IsTable table → TableHolds at x w table → IsWithin start ops at x w s (op_by table own a) → s.rows ≡ []
     → let task : Task = record { table = table; key = own; aim = a } in IsOnCourse start ops at x w (space_locked s task a)
 space_goes g start ops at x w s table own aim.Get is holds i quiet = to_step start ops at x w s (record { table = table; key = own; aim = aim.Get }) (w.trees table) step.Row refl i (quiet, tt)
@@ -92,7 +92,7 @@ quiet_for rows (aim.Scan high) e = tt
 
 -- ---- wants that change nothing
 
-step_goes : (g : Given) (start : Rows) (ops : List Op) (at : Images) (x : Tables) (w : Shape) (s : State) (task : Task) (it : Step)
+step_goes : (g : Given) (start : Tables) (ops : List Op) (at : Images) (x : Tables) (w : Shape) (s : State) (task : Task) (it : Step)
     → IsOnCourse start ops at x w s → s.stage ≡ stage.Work task it → IsNoChange (want_at (stage.Work task it) s.undo)
     → IsOnCourse start ops at x w (step_done s task it)
 step_goes g start ops at x w s task step.Space c e none =
@@ -109,23 +109,23 @@ step_goes g start ops at x w s task (step.Read r) c e none = c
 step_goes g start ops at x w s task (step.Change u) c e none = absurd none
 
 -- an operation that reads and changes nothing ends
-ends_at : (start : Rows) (ops : List Op) (at : Images) (x : Tables) (w : Shape) (s : State) (o : Op)
-    → is_abort o ≡ false → answer_of x.rows o ≡ [] → after_op x.rows o ≡ x.rows
-    → IsOnCourse start ops at x w s → IsPart start ops x.rows s.reads (o ∷ s.rest) → s.rows ≡ [] → IsOnCourse start ops at x w (next_op s)
+ends_at : (start : Tables) (ops : List Op) (at : Images) (x : Tables) (w : Shape) (s : State) (o : Op)
+    → is_abort o ≡ false → answer_of x.rows o ≡ [] → tables_after x o ≡ x
+    → IsOnCourse start ops at x w s → IsPart start ops x s.reads (o ∷ s.rest) → s.rows ≡ [] → IsOnCourse start ops at x w (next_op s)
 ends_at start ops at x w s o goes none same c part quiet =
     nothing_ends start ops at x w s o goes none same quiet (record { holds = c.holds; back = c.back; undos = c.undos; sound = c.sound; part = part })
 
-part_at : (start : Rows) (ops : List Op) (at : Images) (x : Tables) (w : Shape) (s : State) (h : Stage) → s.stage ≡ h → IsOnCourse start ops at x w s
-    → PartAt start ops x.rows s.reads s.rest h
-part_at start ops at x w s h e c = subst (λ (q : Stage). PartAt start ops x.rows s.reads s.rest q) e c.part
+part_at : (start : Tables) (ops : List Op) (at : Images) (x : Tables) (w : Shape) (s : State) (h : Stage) → s.stage ≡ h → IsOnCourse start ops at x w s
+    → PartAt start ops x s.reads s.rest h
+part_at start ops at x w s h e c = subst (λ (q : Stage). PartAt start ops x s.reads s.rest q) e c.part
 
 -- nothing is left to undo
-still_undo : (start : Rows) (ops : List Op) (at : Images) (x : Tables) (w : Shape) (s : State) (us : List Undone)
+still_undo : (start : Tables) (ops : List Op) (at : Images) (x : Tables) (w : Shape) (s : State) (us : List Undone)
     → IsOnCourse start ops at x w s → s.stage ≡ stage.Undo → s.undo ≡ us → IsNoChange (want_undo (newest us))
     → IsOnCourse start ops at x w (record s { undo = drop 1 us })
 still_undo start ops at x w s [] c e are none = record {
   holds = c.holds;
-  back = subst (λ (us : List Undone). taken_back x.rows us ≡ start) are c.back;
+  back = subst (λ (us : List Undone). taken_back x.rows us ≡ start.rows) are c.back;
   undos = tt;
   sound = c.sound;
   part = c.part;
@@ -133,7 +133,7 @@ still_undo start ops at x w s [] c e are none = record {
 }
 still_undo start ops at x w s (u ∷ us) c e are none = absurd none
 
-none_goes : (g : Given) (start : Rows) (ops : List Op) (at : Images) (x : Tables) (w : Shape) (s : State) (h : Stage)
+none_goes : (g : Given) (start : Tables) (ops : List Op) (at : Images) (x : Tables) (w : Shape) (s : State) (h : Stage)
     → IsOnCourse start ops at x w s → s.stage ≡ h → IsNoChange (want_at h s.undo) → IsOnCourse start ops at x w (done_at s h)
 none_goes g start ops at x w s (stage.Work task it) c e none = step_goes g start ops at x w s task it c e none
 none_goes g start ops at x w s (stage.Raise flag) c e none =
@@ -148,6 +148,6 @@ none_goes g start ops at x w s stage.Undo c e none =
 none_goes g start ops at x w s stage.Ended c e none = c
 
 -- what changes no page keeps the course
-pub done_keeps : (g : Given) (start : Rows) (ops : List Op) (at : Images) (x : Tables) (w : Shape) (s : State)
+pub done_keeps : (g : Given) (start : Tables) (ops : List Op) (at : Images) (x : Tables) (w : Shape) (s : State)
     → IsOnCourse start ops at x w s → IsNoChange (want_of s) → IsOnCourse start ops at x w (after_done s)
 done_keeps g start ops at x w s c none = none_goes g start ops at x w s s.stage c refl none

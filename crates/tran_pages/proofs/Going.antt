@@ -9,7 +9,6 @@ use Rattle.ds_base.specs.declared.names.Place.{Place}
 use Rattle.ds_base.specs.declared.row.Row.{Row}
 use Rattle.page_format.specs.Header.{header_of}
 use Rattle.page_format.specs.Header.{entries_per_page, empty_header}
-use Rattle.spot_map.specs.Undo.{remove-absent}
 use Rattle.index_leaf.specs.declared.layout.Entry.{Entry}
 use Rattle.index_leaf.specs.declared.step.Look.{Look}
 use Rattle.index_leaf.specs.declared.step.Look.TheVariants as look
@@ -39,11 +38,11 @@ use Rattle.index_chain.specs.Searches.{IsReached}
 use Rattle.heap_rows.specs.Heaps.{place_at}
 use Rattle.tran_pages.specs.Tables.{Tables, Shape, Tree, TableHolds, IndexHolds, entry_of, number_of, row_of}
 use Rattle.tran_pages.specs.Course.{op_by, op_of, IsAt, IsPlaceOf, IsOnWay, IsSought, StartsAt, IsQuiet, IsSingle, StepKnows, IsOnCourse, rows_between}
-use Rattle.tran_pages.proofs.Ends.{IsWithin, nothing_ends, get_ends, scan_ends}
+use Rattle.tran_pages.proofs.Ends.{IsWithin, remove_none, nothing_ends, get_ends, scan_ends}
 use Rattle.tran_pages.proofs.Searches.{IsGood, Leads, good_outcome}
 
 -- the operation goes on with this step
-pub to_step : (start : Rows) (ops : List Op) (at : Images) (x : Tables) (w : Shape) (s : State) (task : Task) (tree : Option Tree) (it : Step)
+pub to_step : (start : Tables) (ops : List Op) (at : Images) (x : Tables) (w : Shape) (s : State) (task : Task) (tree : Option Tree) (it : Step)
     → w.trees task.table ≡ tree → IsWithin start ops at x w s (op_of task) → StepKnows at x tree s task it
     → IsOnCourse start ops at x w (at_step s task it)
 to_step start ops at x w s task tree it is i k = record {
@@ -73,7 +72,7 @@ down_sought at x tree rows table page next own key (aim.Put value) k = k
 down_sought at x tree rows table page next own key aim.Del k = k
 down_sought at x tree rows table page next own key (aim.Scan high) k = (k.0, inl k.1, k.2)
 
-pub branch_goes : (start : Rows) (ops : List Op) (at : Images) (x : Tables) (w : Shape) (s : State) (table own : ℕ) (a : Aim) (tree : Tree) (page branch key : ℕ) (it : Look)
+pub branch_goes : (start : Tables) (ops : List Op) (at : Images) (x : Tables) (w : Shape) (s : State) (table own : ℕ) (a : Aim) (tree : Tree) (page branch key : ℕ) (it : Look)
     → let task : Task = record { table = table; key = own; aim = a } in let bytes : List ℕ = at (index_page table page) in
     w.trees table ≡ Some tree → Leads at table tree.branches tree.leaves → look_of bytes key ≡ it
     → IsWithin start ops at x w s (op_by table own a) → IsQuiet s.rows a → IsReached tree.branches page key
@@ -117,7 +116,7 @@ none_is key None e = refl
 none_is key (Some n) e = absurd (cc)
 
 -- the leaf has the key's entry
-pub found_goes : (start : Rows) (ops : List Op) (at : Images) (x : Tables) (w : Shape) (s : State) (table own : ℕ) (a : Aim) (tree : Option Tree) (id : PageId) (bytes : List ℕ) (place : Place)
+pub found_goes : (start : Tables) (ops : List Op) (at : Images) (x : Tables) (w : Shape) (s : State) (table own : ℕ) (a : Aim) (tree : Option Tree) (id : PageId) (bytes : List ℕ) (place : Place)
     → let task : Task = record { table = table; key = own; aim = a } in
     w.trees table ≡ tree → IsWithin start ops at x w s (op_by table own a) → IsQuiet s.rows a
     → (IsSingle a → IsPlaceOf x table own place)
@@ -132,7 +131,7 @@ found_goes start ops at x w s table own aim.Del tree id bytes place is i quiet k
 found_goes start ops at x w s table own (aim.Scan high) tree id bytes place is i quiet k more = more high refl
 
 -- the put of a new key goes on to the heap, or splits the leaf
-put_goes : (start : Rows) (ops : List Op) (at : Images) (x : Tables) (w : Shape) (s : State) (table own : ℕ) (value : List ℕ) (tree : Tree) (page branch count : ℕ) (full : Bool)
+put_goes : (start : Tables) (ops : List Op) (at : Images) (x : Tables) (w : Shape) (s : State) (table own : ℕ) (value : List ℕ) (tree : Tree) (page branch count : ℕ) (full : Bool)
     → let task : Task = record { table = table; key = own; aim = aim.Put value } in let bytes : List ℕ = at (index_page table page) in
     w.trees table ≡ Some tree → count_of bytes ≡ count → (count == 252) ≡ full → count ≤ 252
     → IsWithin start ops at x w s (op.Put table own value) → s.rows ≡ []
@@ -153,7 +152,7 @@ record HasNoKey (at : Images) (x : Tables) (tree : Option Tree) (table page bran
   saw : look_of (at (index_page table page)) key ≡ look.Absent
 
 -- the leaf has no entry of the key
-absent_goes : (start : Rows) (ops : List Op) (at : Images) (x : Tables) (w : Shape) (s : State) (table own : ℕ) (a : Aim) (tree : Tree) (page branch : ℕ)
+absent_goes : (start : Tables) (ops : List Op) (at : Images) (x : Tables) (w : Shape) (s : State) (table own : ℕ) (a : Aim) (tree : Tree) (page branch : ℕ)
     → let task : Task = record { table = table; key = own; aim = a } in let bytes : List ℕ = at (index_page table page) in
     w.trees table ≡ Some tree → count_of bytes ≤ 252 → IsWithin start ops at x w s (op_by table own a) → IsQuiet s.rows a
     → (IsSingle a → HasNoKey at x (Some tree) table page branch own)
@@ -163,7 +162,7 @@ absent_goes start ops at x w s table own aim.Get tree page branch is room i quie
 absent_goes start ops at x w s table own (aim.Put value) tree page branch is room i quiet k more =
     put_goes start ops at x w s table own value tree page branch (count_of (at (index_page table page))) (count_of (at (index_page table page)) == 252) is refl refl room i quiet (k tt).way (k tt).number (k tt).saw
 absent_goes start ops at x w s table own aim.Del tree page branch is room i quiet k more =
-    nothing_ends start ops at x w s (op.Del table own) refl refl (remove-absent x.rows (table, own) (k tt).row) quiet i
+    nothing_ends start ops at x w s (op.Del table own) refl refl (remove_none x table own (k tt).row) quiet i
 absent_goes start ops at x w s table own (aim.Scan high) tree page branch is room i quiet k more = more high refl
 
 -- ---- a leaf that was met
@@ -195,13 +194,13 @@ not_beyond_place true number place other e = absurd (cc)
 not_beyond_place false number place other e = refl
 
 -- what a scan does with its leaf
-abbrev pub Collects : Rows → List Op → Images → Tables → Shape → State → ℕ → ℕ → Aim → ℕ → ℕ → Type 0
+abbrev pub Collects : Tables → List Op → Images → Tables → Shape → State → ℕ → ℕ → Aim → ℕ → ℕ → Type 0
 Collects start ops at x w s table own a page key =
     let task : Task = record { table = table; key = own; aim = a } in let bytes : List ℕ = at (index_page table page) in
     (high : ℕ) → a ≡ aim.Scan high → is_beyond (high_of bytes) key ≡ false
     → IsOnCourse start ops at x w (collected s task (index_page table page) high bytes (next_leaf high bytes))
 
-pub leaf_goes : (start : Rows) (ops : List Op) (at : Images) (x : Tables) (w : Shape) (s : State) (table own : ℕ) (a : Aim) (tree : Tree) (page branch key : ℕ) (it : Look)
+pub leaf_goes : (start : Tables) (ops : List Op) (at : Images) (x : Tables) (w : Shape) (s : State) (table own : ℕ) (a : Aim) (tree : Tree) (page branch key : ℕ) (it : Look)
     → let task : Task = record { table = table; key = own; aim = a } in let bytes : List ℕ = at (index_page table page) in
     w.trees table ≡ Some tree → Leads at table tree.branches tree.leaves → TableHolds at x w table → look_of bytes key ≡ it
     → IsWithin start ops at x w s (op_by table own a) → IsQuiet s.rows a → IsOnWay at table (Some tree) level.Leaf page branch key

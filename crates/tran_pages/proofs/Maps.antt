@@ -58,3 +58,8 @@ count_other x table key t is there apart = get_or-set_other x.counts (table - 1)
 
 pub counts_still : (x : Tables) (table key : ℕ) → length x.counts ≡ 64 → length (with_place x table key).counts ≡ 64
 counts_still x table key counted = length-set x.counts (table - 1) (count_in x table + 1) ∙ counted
+
+-- a key that was given a slot has it
+pub own_number : (x : Tables) (table key : ℕ) → number_of (with_place x table key) table key ≡ Some (count_in x table)
+own_number x table key =
+    number_set x table key table key ∙ ap (λ b. cond b (Some (count_in x table)) (number_of x table key)) (own_table table key key ∙ itself key)

@@ -9,7 +9,6 @@ use Rattle.page_format.specs.Header.{header_of, empty_header}
 use Rattle.page_format.specs.declared.header.Header.{Header}
 use Rattle.page_format.specs.declared.header.PageKind.{PageKind}
 use Rattle.page_format.specs.declared.header.PageKind.TheVariants as kind
-use Rattle.spot_map.specs.Undo.{remove-absent}
 use Rattle.index_leaf.specs.Entries.{count_of, low_of, high_of, right_of, entries_of}
 use Rattle.index_leaf.specs.Search.{look_of}
 use Rattle.ds_model.specs.declared.script.Op.{Op}
@@ -42,7 +41,7 @@ use Rattle.index_chain.specs.Searches.{IsReached}
 use Rattle.heap_rows.specs.Heaps.{HasHeader, IsHeap, place_at}
 use Rattle.tran_pages.specs.Tables.{Tables, Shape, Tree, TableHolds, IndexHolds, slot_row, count_in, number_of, row_of}
 use Rattle.tran_pages.specs.Course.{op_by, op_of, IsPart, IsAt, IsPlaceOf, IsOnWay, IsSought, IsPut, IsContent, HasRoomIn, IsChild, CanChange, IsQuiet, ReadKnows, StepKnows, StageKnows, PartAt, IsOnCourse}
-use Rattle.tran_pages.proofs.Ends.{IsWithin, nothing_ends, get_ends, scan_ends}
+use Rattle.tran_pages.proofs.Ends.{IsWithin, remove_none, nothing_ends, get_ends, scan_ends}
 use Rattle.tran_pages.proofs.Searches.{IsGood, IsLinked, Leads, good_outcome}
 use Rattle.tran_pages.proofs.Given.{Given}
 use Rattle.tran_pages.proofs.Rows.{slot_goes, header_goes, halves_goes}
@@ -51,7 +50,7 @@ use Rattle.tran_pages.proofs.Going.{to_step, same_sought, branch_goes, leaf_goes
 
 -- ---- a table without an index
 
-empty_goes : (start : Rows) (ops : List Op) (at : Images) (x : Tables) (w : Shape) (s : State) (table own : ℕ) (a : Aim) (bytes : List ℕ) (key : ℕ)
+empty_goes : (start : Tables) (ops : List Op) (at : Images) (x : Tables) (w : Shape) (s : State) (table own : ℕ) (a : Aim) (bytes : List ℕ) (key : ℕ)
     → let task : Task = record { table = table; key = own; aim = a } in
     w.trees table ≡ None → TableHolds at x w table → ((k : ℕ) → number_of x table k ≡ None)
     → IsWithin start ops at x w s (op_by table own a) → IsQuiet s.rows a → IsSought at x None s.rows table level.Branch 1 own key a
@@ -60,7 +59,7 @@ empty_goes start ops at x w s table own aim.Get bytes key is holds none i quiet 
 empty_goes start ops at x w s table own (aim.Put value) bytes key is holds none i quiet k =
     to_step start ops at x w s (record { table = table; key = own; aim = aim.Put value }) None (step.Change update.FormatIndex) is i (quiet, (tt, refl))
 empty_goes start ops at x w s table own aim.Del bytes key is holds none i quiet k =
-    nothing_ends start ops at x w s (op.Del table own) refl refl (remove-absent x.rows (table, own) (holds.rowless own (none own))) quiet i
+    nothing_ends start ops at x w s (op.Del table own) refl refl (remove_none x table own (holds.rowless own (none own))) quiet i
 empty_goes start ops at x w s table own (aim.Scan high) bytes key is holds none i quiet k =
     scan_ends start ops at x w s table own high (sym k.2 ∙ append-nil s.rows) i
 
@@ -73,7 +72,7 @@ root_outcome task page branch key bytes header is =
     ∙ ap (λ n. searched task.aim level.Branch n branch key bytes (Ok empty_header)) is
 
 -- a scan takes the entries of the leaf that it has come to
-scan_collects : (start : Rows) (ops : List Op) (at : Images) (x : Tables) (w : Shape) (s : State) (table own : ℕ) (a : Aim) (tree : Tree) (page key : ℕ)
+scan_collects : (start : Tables) (ops : List Op) (at : Images) (x : Tables) (w : Shape) (s : State) (table own : ℕ) (a : Aim) (tree : Tree) (page key : ℕ)
     → w.trees table ≡ Some tree → Leads at table tree.branches tree.leaves → TableHolds at x w table
     → IsWithin start ops at x w s (op_by table own a) → IsReached tree.leaves page key
     → IsSought at x (Some tree) s.rows table level.Leaf page own key a → Collects start ops at x w s table own a page key
@@ -83,7 +82,7 @@ scan_collects start ops at x w s table own a tree page key is leads holds i r k 
     (collect_goes start ops at x w s table own high page key tree is leads holds (subst (λ (b : Aim). IsWithin start ops at x w s (op_by table own b)) e i) r
     (subst (λ (b : Aim). IsSought at x (Some tree) s.rows table level.Leaf page own key b) e k) below)
 
-index_goes : (start : Rows) (ops : List Op) (at : Images) (x : Tables) (w : Shape) (s : State) (table own : ℕ) (a : Aim) (tree : Option Tree) (l : Level) (page branch key : ℕ)
+index_goes : (start : Tables) (ops : List Op) (at : Images) (x : Tables) (w : Shape) (s : State) (table own : ℕ) (a : Aim) (tree : Option Tree) (l : Level) (page branch key : ℕ)
     → let task : Task = record { table = table; key = own; aim = a } in let bytes : List ℕ = at (index_page table page) in
     w.trees table ≡ tree → ((t : Tree) → w.trees table ≡ Some t → Leads at table t.branches t.leaves)
     → (header_of zeros (index_page table page) ≡ Ok empty_header) → TableHolds at x w table
@@ -116,17 +115,17 @@ index_goes start ops at x w s table own a (Some tree) level.Leaf page branch key
 -- ---- the page that was asked for
 
 -- the operation that is in hand
-pub within : (start : Rows) (ops : List Op) (at : Images) (x : Tables) (w : Shape) (s : State) (task : Task) (it : Step) → s.stage ≡ stage.Work task it
+pub within : (start : Tables) (ops : List Op) (at : Images) (x : Tables) (w : Shape) (s : State) (task : Task) (it : Step) → s.stage ≡ stage.Work task it
     → IsOnCourse start ops at x w s → IsWithin start ops at x w s (op_of task)
 within start ops at x w s task it e c = record {
   holds = c.holds;
   back = c.back;
   undos = c.undos;
   sound = c.sound;
-  part = subst (λ (g : Stage). PartAt start ops x.rows s.reads s.rest g) e c.part;
+  part = subst (λ (g : Stage). PartAt start ops x s.reads s.rest g) e c.part;
 }
 
-pub knows_at : (start : Rows) (ops : List Op) (at : Images) (x : Tables) (w : Shape) (s : State) (g : Stage) → s.stage ≡ g
+pub knows_at : (start : Tables) (ops : List Op) (at : Images) (x : Tables) (w : Shape) (s : State) (g : Stage) → s.stage ≡ g
     → IsOnCourse start ops at x w s → StageKnows at x w s g
 knows_at start ops at x w s g e c = subst (λ (h : Stage). StageKnows at x w s h) e c.knows
 
@@ -136,7 +135,7 @@ op_table table key (aim.Put value) o = o.0
 op_table table key aim.Del o = o.0
 op_table table key (aim.Scan high) o = o.0
 
-pub table_of : (start : Rows) (ops : List Op) (at : Images) (x : Tables) (w : Shape) (s : State) (task : Task) → IsWithin start ops at x w s (op_of task) → IsTable task.table
+pub table_of : (start : Tables) (ops : List Op) (at : Images) (x : Tables) (w : Shape) (s : State) (task : Task) → IsWithin start ops at x w s (op_of task) → IsTable task.table
 table_of start ops at x w s task i = op_table task.table task.key task.aim i.part.ops_are.0
 
 -- what the pages of a table's index say
@@ -146,7 +145,7 @@ leads_in g at x w table is holds t e =
     let index : IndexHolds at x table (Some t) = subst (λ (o : Option Tree). IndexHolds at x table o) e holds.index in
     g.leads at table t.branches t.leaves t.next is index.0
 
-read_goes : (g : Given) (start : Rows) (ops : List Op) (at : Images) (x : Tables) (w : Shape) (s : State) (task : Task) (r : Reading)
+read_goes : (g : Given) (start : Tables) (ops : List Op) (at : Images) (x : Tables) (w : Shape) (s : State) (task : Task) (r : Reading)
     → IsTable task.table → TableHolds at x w task.table → IsOnCourse start ops at x w s → IsWithin start ops at x w s (op_of task) → IsQuiet s.rows task.aim
     → ReadKnows at x (w.trees task.table) s task r → IsOnCourse start ops at x w (read_met s task (at (page_read task.table r)) r)
 read_goes g start ops at x w s task (reading.Index l page branch key) is holds c i quiet k =
@@ -173,7 +172,7 @@ same_page : (a b : PageId) → ReadPage a ≡ ReadPage b → a ≡ b
 unfolding page_asked
 same_page a b e = ap (λ (want : Wanted). page_asked a want) e
 
-work_goes : (g : Given) (start : Rows) (ops : List Op) (at : Images) (x : Tables) (w : Shape) (s : State) (id : PageId) (task : Task) (it : Step)
+work_goes : (g : Given) (start : Tables) (ops : List Op) (at : Images) (x : Tables) (w : Shape) (s : State) (id : PageId) (task : Task) (it : Step)
     → IsOnCourse start ops at x w s → s.stage ≡ stage.Work task it → want_at (stage.Work task it) s.undo ≡ ReadPage id
     → IsOnCourse start ops at x w (page_met s (at id) (stage.Work task it))
 work_goes g start ops at x w s id task step.Space c e wants = c
@@ -186,7 +185,7 @@ work_goes g start ops at x w s id task (step.Read r) c e wants =
     (read_goes g start ops at x w s task r is (c.holds.tables task.table is) c i k.0 k.1)
 work_goes g start ops at x w s id task (step.Change u) c e wants = c
 
-page_goes : (g : Given) (start : Rows) (ops : List Op) (at : Images) (x : Tables) (w : Shape) (s : State) (id : PageId) (h : Stage)
+page_goes : (g : Given) (start : Tables) (ops : List Op) (at : Images) (x : Tables) (w : Shape) (s : State) (id : PageId) (h : Stage)
     → IsOnCourse start ops at x w s → s.stage ≡ h → want_at h s.undo ≡ ReadPage id → IsOnCourse start ops at x w (page_met s (at id) h)
 page_goes g start ops at x w s id (stage.Work task it) c e wants = work_goes g start ops at x w s id task it c e wants
 page_goes g start ops at x w s id (stage.Raise flag) c e wants = c
@@ -197,6 +196,6 @@ page_goes g start ops at x w s id stage.Undo c e wants = c
 page_goes g start ops at x w s id stage.Ended c e wants = c
 
 -- a page that was asked for keeps the course
-pub page_keeps : (g : Given) (start : Rows) (ops : List Op) (at : Images) (x : Tables) (w : Shape) (s : State) (id : PageId)
+pub page_keeps : (g : Given) (start : Tables) (ops : List Op) (at : Images) (x : Tables) (w : Shape) (s : State) (id : PageId)
     → IsOnCourse start ops at x w s → want_of s ≡ ReadPage id → IsOnCourse start ops at x w (after_page s (at id))
 page_keeps g start ops at x w s id c wants = page_goes g start ops at x w s id s.stage c refl wants

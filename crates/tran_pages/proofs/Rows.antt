@@ -7,7 +7,6 @@ use Rattle.page_format.specs.Header.{header_of, empty_header}
 use Rattle.page_format.specs.declared.header.Header.{Header}
 use Rattle.page_format.specs.declared.header.PageKind.{PageKind}
 use Rattle.page_format.specs.declared.header.PageKind.TheVariants as kind
-use Rattle.spot_map.specs.Undo.{remove-absent}
 use Rattle.index_leaf.specs.Entries.{low_of, high_of, right_of}
 use Rattle.ds_model.specs.declared.script.Op.{Op}
 use Rattle.ds_model.specs.declared.script.Op.TheVariants as op
@@ -31,7 +30,7 @@ use Rattle.index_chain.specs.Searches.{IsReached}
 use Rattle.heap_rows.specs.Heaps.{HasHeader, IsHeap, place_at}
 use Rattle.tran_pages.specs.Tables.{Tables, Shape, Tree, TableHolds, slot_row, count_in, number_of, row_of}
 use Rattle.tran_pages.specs.Course.{op_by, op_of, IsAt, IsPlaceOf, IsOnWay, IsSought, IsPut, IsContent, HasRoomIn, IsChild, CanChange, Changes, IsQuiet, IsSingle, IsOnCourse}
-use Rattle.tran_pages.proofs.Ends.{IsWithin, nothing_ends, get_ends}
+use Rattle.tran_pages.proofs.Ends.{IsWithin, remove_none, nothing_ends, get_ends}
 use Rattle.tran_pages.proofs.Searches.{IsGood, IsLinked, Leads}
 use Rattle.tran_pages.proofs.Going.{to_step}
 use Rattle.tran_pages.proofs.Given.{Given, HasNoHead, HasHead}
@@ -61,19 +60,19 @@ pub slot_of : (g : Given) (at : Images) (x : Tables) (w : Shape) (table key : �
     → IsPlaceOf x table key place → IsSlot at x table key place
 slot_of g at x w table key place is holds p = slot_at g at x w table key place (number_of x table key) is holds refl p
 
-change_goes : (start : Rows) (ops : List Op) (at : Images) (x : Tables) (w : Shape) (s : State) (task : Task) (place : Place) (back : Content)
+change_goes : (start : Tables) (ops : List Op) (at : Images) (x : Tables) (w : Shape) (s : State) (task : Task) (place : Place) (back : Content)
     → Changes task.aim → IsWithin start ops at x w s (op_of task) → s.rows ≡ [] → CanChange x task.table task.key place back
     → IsOnCourse start ops at x w (at_step s task (step.Change (update.RowChange place back)))
 change_goes start ops at x w s task place back may i quiet c = to_step start ops at x w s task (w.trees task.table) (step.Change (update.RowChange place back)) refl i (quiet, (may, c))
 
-del_goes : (start : Rows) (ops : List Op) (at : Images) (x : Tables) (w : Shape) (s : State) (table own : ℕ) (place : Place) (back : Content)
+del_goes : (start : Tables) (ops : List Op) (at : Images) (x : Tables) (w : Shape) (s : State) (table own : ℕ) (place : Place) (back : Content)
     → let task : Task = record { table = table; key = own; aim = aim.Del } in
     row_of x table own ≡ back → IsWithin start ops at x w s (op.Del table own) → s.rows ≡ [] → CanChange x table own place back
     → IsOnCourse start ops at x w (row_met s task place back aim.Del)
-del_goes start ops at x w s table own place None e i quiet c = nothing_ends start ops at x w s (op.Del table own) refl refl (remove-absent x.rows (table, own) e) quiet i
+del_goes start ops at x w s table own place None e i quiet c = nothing_ends start ops at x w s (op.Del table own) refl refl (remove_none x table own e) quiet i
 del_goes start ops at x w s table own place (Some value) e i quiet c = change_goes start ops at x w s (record { table = table; key = own; aim = aim.Del }) place (Some value) tt i quiet c
 
-row_goes : (start : Rows) (ops : List Op) (at : Images) (x : Tables) (w : Shape) (s : State) (table own : ℕ) (place : Place) (a : Aim)
+row_goes : (start : Tables) (ops : List Op) (at : Images) (x : Tables) (w : Shape) (s : State) (table own : ℕ) (place : Place) (a : Aim)
     → let task : Task = record { table = table; key = own; aim = a } in
     IsOnCourse start ops at x w s → IsWithin start ops at x w s (op_by table own a) → IsQuiet s.rows a → CanChange x table own place (row_of x table own)
     → IsOnCourse start ops at x w (row_met s task place (row_of x table own) a)
@@ -83,7 +82,7 @@ row_goes start ops at x w s table own place (aim.Put value) c i quiet can =
 row_goes start ops at x w s table own place aim.Del c i quiet can = del_goes start ops at x w s table own place (row_of x table own) refl i quiet can
 row_goes start ops at x w s table own place (aim.Scan high) c i quiet can = c
 
-pub slot_goes : (g : Given) (start : Rows) (ops : List Op) (at : Images) (x : Tables) (w : Shape) (s : State) (task : Task) (place : Place)
+pub slot_goes : (g : Given) (start : Tables) (ops : List Op) (at : Images) (x : Tables) (w : Shape) (s : State) (task : Task) (place : Place)
     → let bytes : List ℕ = at (heap_page task.table place.page) in
     IsTable task.table → TableHolds at x w task.table → IsOnCourse start ops at x w s → IsWithin start ops at x w s (op_of task) → IsQuiet s.rows task.aim
     → IsPlaceOf x task.table task.key place
@@ -101,7 +100,7 @@ only_put rows (aim.Put value) p quiet = quiet
 only_put rows aim.Del p quiet = absurd p
 only_put rows (aim.Scan high) p quiet = absurd p
 
-head_goes : (start : Rows) (ops : List Op) (at : Images) (x : Tables) (w : Shape) (s : State) (task : Task) (leaf : ℕ)
+head_goes : (start : Tables) (ops : List Op) (at : Images) (x : Tables) (w : Shape) (s : State) (task : Task) (leaf : ℕ)
     → let bytes : List ℕ = at (heap_page task.table 0) in
     IsWithin start ops at x w s (op_of task) → s.rows ≡ [] → IsPut task.aim
     → number_of x task.table task.key ≡ None → HasRoomIn at task.table (w.trees task.table) leaf task.key
@@ -117,7 +116,7 @@ head_goes start ops at x w s task leaf i quiet p none room (inr h) =
     (sym (ap (headed leaf) h.header ∙ ap (λ b. make (if b then update.FormatHeap else update.GiveSlot leaf)) h.some))
     (to_step start ops at x w s task (w.trees task.table) (step.Change (update.GiveSlot leaf)) refl i (quiet, (p, none, room, h.has)))
 
-pub header_goes : (g : Given) (start : Rows) (ops : List Op) (at : Images) (x : Tables) (w : Shape) (s : State) (task : Task) (leaf : ℕ)
+pub header_goes : (g : Given) (start : Tables) (ops : List Op) (at : Images) (x : Tables) (w : Shape) (s : State) (task : Task) (leaf : ℕ)
     → let bytes : List ℕ = at (heap_page task.table 0) in
     IsTable task.table → TableHolds at x w task.table → IsWithin start ops at x w s (op_of task) → IsQuiet s.rows task.aim → IsPut task.aim
     → number_of x task.table task.key ≡ None → HasRoomIn at task.table (w.trees task.table) leaf task.key
@@ -129,7 +128,7 @@ header_goes g start ops at x w s task leaf is holds i quiet p none room =
 -- ---- a leaf behind its split
 
 -- a put begins its search
-pub put_searches : (start : Rows) (ops : List Op) (at : Images) (x : Tables) (w : Shape) (s : State) (table own : ℕ) (a : Aim) (tree : Option Tree)
+pub put_searches : (start : Tables) (ops : List Op) (at : Images) (x : Tables) (w : Shape) (s : State) (table own : ℕ) (a : Aim) (tree : Option Tree)
     → let task : Task = record { table = table; key = own; aim = a } in
     w.trees table ≡ tree → ((t : Tree) → w.trees table ≡ Some t → Leads at table t.branches t.leaves)
     → IsSought at x tree s.rows table level.Branch 1 own own a
@@ -148,7 +147,7 @@ put_sought at x tree rows table own (aim.Scan high) p = absurd p
 leaf_is : (k : PageKind) → is_of level.Leaf k ≡ true → kind_fault (is_leaf k) k ≡ None
 leaf_is k e = ap (λ b. if b then None else Some (if is_empty k then 0 else 4)) e
 
-enters : (start : Rows) (ops : List Op) (at : Images) (x : Tables) (w : Shape) (s : State) (task : Task) (tree : Tree) (left branch : ℕ) (high right : Option ℕ)
+enters : (start : Tables) (ops : List Op) (at : Images) (x : Tables) (w : Shape) (s : State) (task : Task) (tree : Tree) (left branch : ℕ) (high right : Option ℕ)
     → let bytes : List ℕ = at (index_page task.table left) in
     w.trees task.table ≡ Some tree → ((t : Tree) → w.trees task.table ≡ Some t → Leads at task.table t.branches t.leaves)
     → high_of bytes ≡ high → right_of bytes ≡ right
@@ -164,7 +163,7 @@ enters start ops at x w s task tree left branch (Some low) (Some child) is leads
     to_step start ops at x w s task (Some tree) (step.Change (update.BranchEntry branch low child)) is i
     (none, (p, ((leads tree is).ends branch left low on.1 h, it.2)))
 
-halves_go : (start : Rows) (ops : List Op) (at : Images) (x : Tables) (w : Shape) (s : State) (task : Task) (tree : Option Tree) (left branch : ℕ)
+halves_go : (start : Tables) (ops : List Op) (at : Images) (x : Tables) (w : Shape) (s : State) (task : Task) (tree : Option Tree) (left branch : ℕ)
     → let bytes : List ℕ = at (index_page task.table left) in
     w.trees task.table ≡ tree → ((t : Tree) → w.trees task.table ≡ Some t → Leads at task.table t.branches t.leaves)
     → IsWithin start ops at x w s (op_of task) → IsQuiet s.rows task.aim → IsPut task.aim → IsOnWay at task.table tree level.Leaf left branch task.key
@@ -177,7 +176,7 @@ halves_go start ops at x w s task (Some tree) left branch is leads i quiet p on 
     (sym (ap (halved task.key branch bytes) good.header ∙ ap (λ f. unless f (entered task.key branch (high_of bytes) (right_of bytes))) (leaf_is good.head.kind good.kind)))
     (enters start ops at x w s task tree left branch (high_of bytes) (right_of bytes) is leads refl refl i (only_put s.rows task.aim p quiet) quiet p on)
 
-pub halves_goes : (g : Given) (start : Rows) (ops : List Op) (at : Images) (x : Tables) (w : Shape) (s : State) (task : Task) (left branch : ℕ)
+pub halves_goes : (g : Given) (start : Tables) (ops : List Op) (at : Images) (x : Tables) (w : Shape) (s : State) (task : Task) (left branch : ℕ)
     → let bytes : List ℕ = at (index_page task.table left) in
     ((t : Tree) → w.trees task.table ≡ Some t → Leads at task.table t.branches t.leaves)
     → IsWithin start ops at x w s (op_of task) → IsQuiet s.rows task.aim → IsPut task.aim → IsOnWay at task.table (w.trees task.table) level.Leaf left branch task.key

@@ -63,7 +63,7 @@ same_between low key high (e ∷ es) le up =
 
 -- ---- a scan in hand goes on
 
-scan_goes : (start : Rows) (ops : List Op) (at : Images) (x : Tables) (w : Shape) (s : State) (table own high : ℕ) (next : Option NextLeaf) (es : List Entry)
+scan_goes : (start : Tables) (ops : List Op) (at : Images) (x : Tables) (w : Shape) (s : State) (table own high : ℕ) (next : Option NextLeaf) (es : List Entry)
     → let task : Task = record { table = table; key = own; aim = aim.Scan high } in
     IsWithin start ops at x w s (op.Scan table own high) → IsCollecting at x (w.trees table) s.rows table own es next (aim.Scan high)
     → IsOnCourse start ops at x w (scan_from s task next es)
@@ -81,7 +81,7 @@ row_seen : (rows more beyond : List Row) (table key : ℕ) (value : List ℕ)
     → (rows ++ record { table = table; key = key; value = value } ∷ []) ++ (more ++ beyond) ≡ rows ++ ((row_at table key (Some value) ++ more) ++ beyond)
 row_seen rows more beyond table key value = append_assoc rows (row_at table key (Some value)) (more ++ beyond)
 
-entry_goes : (start : Rows) (ops : List Op) (at : Images) (x : Tables) (w : Shape) (s : State) (table own high : ℕ) (e : Entry) (next : Option NextLeaf) (back : Content)
+entry_goes : (start : Tables) (ops : List Op) (at : Images) (x : Tables) (w : Shape) (s : State) (table own high : ℕ) (e : Entry) (next : Option NextLeaf) (back : Content)
     → let task : Task = record { table = table; key = own; aim = aim.Scan high } in
     row_of x table e.key ≡ back → IsWithin start ops at x w s (op.Scan table own high)
     → IsCollecting at x (w.trees table) s.rows table own (e ∷ s.entries) next (aim.Scan high)
@@ -97,7 +97,7 @@ entry_goes start ops at x w s table own high e next (Some value) is i k =
     (record { holds = i.holds; back = i.back; undos = i.undos; sound = i.sound; part = i.part })
     (k.0.1, k.1, row_seen s.rows (rows_at x table s.entries) (rows_beyond x table (w.trees table) high next) table e.key value ∙ all)
 
-pub entry_goes_on : (g : Given) (start : Rows) (ops : List Op) (at : Images) (x : Tables) (w : Shape) (s : State) (table own : ℕ) (a : Aim) (e : Entry) (next : Option NextLeaf)
+pub entry_goes_on : (g : Given) (start : Tables) (ops : List Op) (at : Images) (x : Tables) (w : Shape) (s : State) (table own : ℕ) (a : Aim) (e : Entry) (next : Option NextLeaf)
     → let task : Task = record { table = table; key = own; aim = a } in let bytes : List ℕ = at (heap_page table e.place.page) in
     IsTable table → TableHolds at x w table → IsWithin start ops at x w s (op_by table own a)
     → IsCollecting at x (w.trees table) s.rows table own (e ∷ s.entries) next a
@@ -131,12 +131,12 @@ leaf_rows x table key high rows all entries here beyond split e =
 above_own : (own key top : ℕ) → own ≤ key → leb top key ≡ false → own ≤ top
 above_own own key top le e = grind arith
 
-abbrev Entered : Rows → List Op → Images → Tables → Shape → State → ℕ → ℕ → ℕ → ℕ → Option NextLeaf → Type 0
+abbrev Entered : Tables → List Op → Images → Tables → Shape → State → ℕ → ℕ → ℕ → ℕ → Option NextLeaf → Type 0
 Entered start ops at x w s table own high page next =
     IsOnCourse start ops at x w (collected s (record { table = table; key = own; aim = aim.Scan high }) (index_page table page) high (at (index_page table page)) (Ok next))
 
 -- the entries of the leaf are in hand, and what comes next is known
-hands : (start : Rows) (ops : List Op) (at : Images) (x : Tables) (w : Shape) (s : State) (table own high page : ℕ) (tree : Tree) (next : Option NextLeaf)
+hands : (start : Tables) (ops : List Op) (at : Images) (x : Tables) (w : Shape) (s : State) (table own high page : ℕ) (tree : Tree) (next : Option NextLeaf)
     → let es : List Entry = between own high (at (index_page table page)) in
     w.trees table ≡ Some tree → IsWithin start ops at x w s (op.Scan table own high)
     → AllByRecursion (λ (e : Entry). IsPlaceOf x table e.key e.place) es → IsNext at table (Some tree) own next
@@ -147,7 +147,7 @@ hands start ops at x w s table own high page tree next is i all on e =
     (record { holds = i.holds; back = i.back; undos = i.undos; sound = i.sound; part = i.part })
     (subst (λ (t : Option Tree). IsCollecting at x t s.rows table own (between own high (at (index_page table page))) next (aim.Scan high)) (sym is) (all, on, e))
 
-abbrev Collected : Rows → List Op → Images → Tables → Shape → State → ℕ → ℕ → ℕ → ℕ → Option ℕ → Option ℕ → Type 0
+abbrev Collected : Tables → List Op → Images → Tables → Shape → State → ℕ → ℕ → ℕ → ℕ → Option ℕ → Option ℕ → Type 0
 Collected start ops at x w s table own high page top right =
     let bytes : List ℕ = at (index_page table page) in
     IsOnCourse start ops at x w (collected s (record { table = table; key = own; aim = aim.Scan high }) (index_page table page) high bytes (next_leaf_at high top right))
@@ -170,7 +170,7 @@ next_when : (b : Bool) (top next : ℕ) → ◌≡◌ {A = NextAnswer} (leaf_if 
 next_when true top next = refl
 next_when false top next = refl
 
-collects_to : (start : Rows) (ops : List Op) (at : Images) (x : Tables) (w : Shape) (s : State) (table own high page : ℕ) (tree : Tree) (top : ℕ) (right : Option ℕ) (more : Bool)
+collects_to : (start : Tables) (ops : List Op) (at : Images) (x : Tables) (w : Shape) (s : State) (table own high page : ℕ) (tree : Tree) (top : ℕ) (right : Option ℕ) (more : Bool)
     → let es : List Entry = between own high (at (index_page table page)) in
     nat_le top high ≡ more → w.trees table ≡ Some tree → Leads at table tree.branches tree.leaves → own ≤ top → IsLinked at table tree.leaves right top
     → IsWithin start ops at x w s (op.Scan table own high)
@@ -189,7 +189,7 @@ next_same : (top high : ℕ) (right : Option ℕ) (at : Images) (table : ℕ) (l
 next_same top high None at table leaves linked = absurd linked
 next_same top high (Some next) at table leaves linked = next_when (nat_le top high) top next
 
-collects_by : (start : Rows) (ops : List Op) (at : Images) (x : Tables) (w : Shape) (s : State) (table own high page key : ℕ) (tree : Tree) (top : Option ℕ)
+collects_by : (start : Tables) (ops : List Op) (at : Images) (x : Tables) (w : Shape) (s : State) (table own high page key : ℕ) (tree : Tree) (top : Option ℕ)
     → let bytes : List ℕ = at (index_page table page) in let es : List Entry = between own high bytes in
     high_of bytes ≡ top → w.trees table ≡ Some tree → Leads at table tree.branches tree.leaves → IsReached tree.leaves page key → own ≤ key → is_beyond top key ≡ false
     → IsWithin start ops at x w s (op.Scan table own high)
@@ -212,7 +212,7 @@ placed_by : (key : ℕ) (e : Entry) (o : Option ℕ) → entry_of key o ≡ Some
 placed_by key e None is = absurd (cc)
 placed_by key e (Some n) is = place_same (record { key = key; place = place_at n }) e is
 
-pub collect_goes : (start : Rows) (ops : List Op) (at : Images) (x : Tables) (w : Shape) (s : State) (table own high page key : ℕ) (tree : Tree)
+pub collect_goes : (start : Tables) (ops : List Op) (at : Images) (x : Tables) (w : Shape) (s : State) (table own high page key : ℕ) (tree : Tree)
     → let bytes : List ℕ = at (index_page table page) in
     w.trees table ≡ Some tree → Leads at table tree.branches tree.leaves → TableHolds at x w table → IsWithin start ops at x w s (op.Scan table own high)
     → IsReached tree.leaves page key → IsSought at x (Some tree) s.rows table level.Leaf page own key (aim.Scan high) → is_beyond (high_of bytes) key ≡ false

@@ -92,7 +92,7 @@ change_needs start ops at x w s it c wants =
     let k : StageKnows at x w s (stage.Work here.task (step.Change here.make)) = knows_at start ops at x w s (stage.Work here.task (step.Change here.make)) here.stands c in
     subst (λ (a : Acted). Needs at x w a) here.is (needs_update at x w here.task here.make (table_of start ops at x w s here.task i) i.part.ops_are.0 k.1)
 
-update_keeps : (g : Given) (start : Rows) (ops : List Op) (at to : Images) (x new : Tables) (w shape : Shape) (s : State) (task : Task) (u : Update)
+update_keeps : (g : Given) (start : Tables) (ops : List Op) (at to : Images) (x new : Tables) (w shape : Shape) (s : State) (task : Task) (u : Update)
     → IsOnCourse start ops at x w s → s.stage ≡ stage.Work task (step.Change u) → Holds to new shape → IsMade at x w to new shape (update_of task u)
     → IsOnCourse start ops to new shape (after_done s)
 update_keeps g start ops at to x new w shape s task update.FormatIndex c e holds made = again_keeps g start ops at to x new w shape s task update.FormatIndex c e tt holds made

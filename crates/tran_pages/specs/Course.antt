@@ -16,7 +16,7 @@ use Rattle.ds_model.specs.declared.fate.Answer.{Answer}
 use Rattle.ds_model.specs.Rows.{Rows, scanned}
 use Rattle.ds_model.specs.Logs.{set_row}
 use Rattle.ds_model.specs.Scripts.{IsOp}
-use Rattle.ds_model.specs.Effect.{after_ops, reads_of, aborts}
+use Rattle.ds_model.specs.Effect.{reads_of, aborts}
 use Rattle.tran_core.specs.declared.stage.Aim.{Aim}
 use Rattle.tran_core.specs.declared.stage.Aim.TheVariants as aim
 use Rattle.tran_core.specs.declared.stage.Level.{Level}
@@ -41,7 +41,7 @@ use Rattle.page_images.specs.Images.{Images, index_page}
 use Rattle.index_chain.specs.Chains.{HasNode, entries_in}
 use Rattle.index_chain.specs.Searches.{IsReached, IsUnder}
 use Rattle.heap_rows.specs.Heaps.{HasHeader, place_at}
-use Rattle.tran_pages.specs.Tables.{Tables, Tree, Shape, Holds, row_of, number_of}
+use Rattle.tran_pages.specs.Tables.{Tables, tables_after_all, Tree, Shape, Holds, row_of, number_of}
 
 -- ---- operations that are left
 
@@ -65,20 +65,20 @@ left_at stage.Undo rest = []
 left_at stage.Ended rest = []
 
 -- what is done, and then the operations that are left, is what the operations do from the start
-pub record IsPart (start : Rows) (ops : List Op) (rows : Rows) (reads : List Answer) (left : List Op) : Type 0 where
-  pub reads_are : reads ++ reads_of rows left ≡ reads_of start ops
-  pub rows_are : after_ops rows left ≡ after_ops start ops
+pub record IsPart (start : Tables) (ops : List Op) (x : Tables) (reads : List Answer) (left : List Op) : Type 0 where
+  pub reads_are : reads ++ reads_of x.rows left ≡ reads_of start.rows ops
+  pub tables_are : tables_after_all x left ≡ tables_after_all start ops
   pub aborts_are : aborts left ≡ aborts ops
   pub ops_are : AllByRecursion IsOp left
 
-abbrev pub PartAt : Rows → List Op → Rows → List Answer → List Op → Stage → Type 0
-PartAt start ops rows reads rest (stage.Work task step) = IsPart start ops rows reads (op_of task ∷ rest)
-PartAt start ops rows reads rest (stage.Raise flag) = IsPart start ops rows reads (op.Raise flag ∷ rest)
-PartAt start ops rows reads rest (stage.Await flag) = IsPart start ops rows reads (op.Await flag ∷ rest)
-PartAt start ops rows reads rest stage.LoseCache = IsPart start ops rows reads (op.LoseCache ∷ rest)
-PartAt start ops rows reads rest stage.Commit = IsPart start ops rows reads []
-PartAt start ops rows reads rest stage.Undo = Unit {0}
-PartAt start ops rows reads rest stage.Ended = Unit {0}
+abbrev pub PartAt : Tables → List Op → Tables → List Answer → List Op → Stage → Type 0
+PartAt start ops x reads rest (stage.Work task step) = IsPart start ops x reads (op_of task ∷ rest)
+PartAt start ops x reads rest (stage.Raise flag) = IsPart start ops x reads (op.Raise flag ∷ rest)
+PartAt start ops x reads rest (stage.Await flag) = IsPart start ops x reads (op.Await flag ∷ rest)
+PartAt start ops x reads rest stage.LoseCache = IsPart start ops x reads (op.LoseCache ∷ rest)
+PartAt start ops x reads rest stage.Commit = IsPart start ops x reads []
+PartAt start ops x reads rest stage.Undo = Unit {0}
+PartAt start ops x reads rest stage.Ended = Unit {0}
 
 -- ---- changes that were made
 
@@ -251,13 +251,13 @@ StageKnows at x w s stage.Commit = Unit {0}
 StageKnows at x w s stage.Undo = Unit {0}
 StageKnows at x w s stage.Ended = Unit {0}
 
--- a transaction of these operations that began over these rows, and now stands over pages that hold these tables
-pub record IsOnCourse (start : Rows) (ops : List Op) (at : Images) (x : Tables) (w : Shape) (s : State) : Type 0 where
+-- a transaction of these operations that began over these tables, and now stands over pages that hold these tables
+pub record IsOnCourse (start : Tables) (ops : List Op) (at : Images) (x : Tables) (w : Shape) (s : State) : Type 0 where
   pub holds : Holds at x w
-  pub back : taken_back x.rows s.undo ≡ start
+  pub back : taken_back x.rows s.undo ≡ start.rows
   pub undos : AllByRecursion (CanUndo x) s.undo
   pub sound : s.damage ≡ None
-  pub part : PartAt start ops x.rows s.reads s.rest s.stage
+  pub part : PartAt start ops x s.reads s.rest s.stage
   pub knows : StageKnows at x w s s.stage
 
 -- ---- changes

@@ -17,7 +17,7 @@ use Rattle.tran_core.specs.declared.stage.Stage.TheVariants as stage
 use Rattle.tran_core.specs.Wants.{Acted, FormatIndex, FormatHeap, GiveSlot, Split, BranchEntry, RowChange, Content, Change, Commit, Ended, ReadPage, Undo}
 use Rattle.tran_core.specs.States.{State, opened, want_of, after_done, after_refusal}
 use Rattle.tran_core.specs.Pages.{after_page}
-use Rattle.tran_pages.specs.Tables.{Tables, Shape, Holds, Grows, number_of, with_row}
+use Rattle.tran_pages.specs.Tables.{Tables, Shape, Holds, tables_after_all, number_of, with_row, with_place}
 use Rattle.tran_pages.specs.Course.{IsPlaceOf, IsContent, IsOnWay, HasRoomIn, IsFullIn, IsChild, IsNoChange, IsOnCourse}
 
 -- ---- what a change that is wanted may rest on
@@ -48,71 +48,72 @@ KeepsWays at w to shape table left =
     (branch key : ℕ) → IsOnWay at table (w.trees table) level.Leaf left branch key → IsOnWay to table (shape.trees table) level.Leaf left branch key
 
 abbrev pub IsMade : Images → Tables → Shape → Images → Tables → Shape → Acted → Type 0
-IsMade at x w to new shape (FormatIndex table) = Grows x new
-IsMade at x w to new shape (FormatHeap table) = Grows x new
-IsMade at x w to new shape (GiveSlot table key leaf) = Grows x new
-IsMade at x w to new shape (Split table left) = Grows x new × KeepsWays at w to shape table left
-IsMade at x w to new shape (BranchEntry table branch low child) = Grows x new
+IsMade at x w to new shape (FormatIndex table) = new ≡ x
+IsMade at x w to new shape (FormatHeap table) = new ≡ x
+IsMade at x w to new shape (GiveSlot table key leaf) = new ≡ with_place x table key
+IsMade at x w to new shape (Split table left) = (new ≡ x) × KeepsWays at w to shape table left
+IsMade at x w to new shape (BranchEntry table branch low child) = new ≡ x
 IsMade at x w to new shape (RowChange table key place after) = new ≡ with_row x table key after
 
 -- ---- steps
 
 -- a transaction begins over pages that hold tables
 abbrev pub Starts : Type 0
-Starts = (ops : List Op) (at : Images) (x : Tables) (w : Shape) → Holds at x w → AllByRecursion IsOp ops → IsOnCourse x.rows ops at x w (opened ops)
+Starts = (ops : List Op) (at : Images) (x : Tables) (w : Shape) → Holds at x w → AllByRecursion IsOp ops → IsOnCourse x ops at x w (opened ops)
 
 -- it is given the page that it asks for
 abbrev pub PageKeeps : Type 0
-PageKeeps = (start : Rows) (ops : List Op) (at : Images) (x : Tables) (w : Shape) (s : State) (id : PageId)
+PageKeeps = (start : Tables) (ops : List Op) (at : Images) (x : Tables) (w : Shape) (s : State) (id : PageId)
     → IsOnCourse start ops at x w s → want_of s ≡ ReadPage id → IsOnCourse start ops at x w (after_page s (at id))
 
 -- a lock, a flag, the loss of the cache or the commit is done
 abbrev pub DoneKeeps : Type 0
-DoneKeeps = (start : Rows) (ops : List Op) (at : Images) (x : Tables) (w : Shape) (s : State)
+DoneKeeps = (start : Tables) (ops : List Op) (at : Images) (x : Tables) (w : Shape) (s : State)
     → IsOnCourse start ops at x w s → IsNoChange (want_of s) → IsOnCourse start ops at x w (after_done s)
 
 abbrev pub ChangeNeeds : Type 0
-ChangeNeeds = (start : Rows) (ops : List Op) (at : Images) (x : Tables) (w : Shape) (s : State) (it : Acted)
+ChangeNeeds = (start : Tables) (ops : List Op) (at : Images) (x : Tables) (w : Shape) (s : State) (it : Acted)
     → IsOnCourse start ops at x w s → want_of s ≡ Change it → Needs at x w it
 
 -- the change that it wants is made
 abbrev pub ChangeKeeps : Type 0
-ChangeKeeps = (start : Rows) (ops : List Op) (at to : Images) (x new : Tables) (w shape : Shape) (s : State) (it : Acted)
+ChangeKeeps = (start : Tables) (ops : List Op) (at to : Images) (x new : Tables) (w shape : Shape) (s : State) (it : Acted)
     → IsOnCourse start ops at x w s → want_of s ≡ Change it → Holds to new shape → IsMade at x w to new shape it
     → IsOnCourse start ops to new shape (after_done s)
 
 -- a refusal
 abbrev pub RefusalKeeps : Type 0
-RefusalKeeps = (start : Rows) (ops : List Op) (at : Images) (x : Tables) (w : Shape) (s : State)
+RefusalKeeps = (start : Tables) (ops : List Op) (at : Images) (x : Tables) (w : Shape) (s : State)
     → IsOnCourse start ops at x w s → IsOnCourse start ops at x w (after_refusal s)
 
 abbrev pub UndoNeeds : Type 0
-UndoNeeds = (start : Rows) (ops : List Op) (at : Images) (x : Tables) (w : Shape) (s : State) (table key : ℕ) (place : Place) (back : Content)
+UndoNeeds = (start : Tables) (ops : List Op) (at : Images) (x : Tables) (w : Shape) (s : State) (table key : ℕ) (place : Place) (back : Content)
     → IsOnCourse start ops at x w s → want_of s ≡ Undo table key place back → IsTable table × MayChange x table key place back
 
 -- one of its changes is undone
 abbrev pub UndoKeeps : Type 0
-UndoKeeps = (start : Rows) (ops : List Op) (at to : Images) (x : Tables) (w shape : Shape) (s : State) (table key : ℕ) (place : Place) (back : Content)
+UndoKeeps = (start : Tables) (ops : List Op) (at to : Images) (x : Tables) (w shape : Shape) (s : State) (table key : ℕ) (place : Place) (back : Content)
     → IsOnCourse start ops at x w s → want_of s ≡ Undo table key place back → Holds to (with_row x table key back) shape
     → IsOnCourse start ops to (with_row x table key back) shape (after_done s)
 
 -- ---- ends
 
--- what it has read, and the rows that it leaves, are those of its operations
-pub record IsDone (start : Rows) (ops : List Op) (x : Tables) (s : State) : Type 0 where
-  pub reads_are : s.reads ≡ reads_of start ops
-  pub rows_are : x.rows ≡ after_ops start ops
+-- what it has read, and the rows and places that it leaves, are those of its operations
+pub record IsDone (start : Tables) (ops : List Op) (x : Tables) (s : State) : Type 0 where
+  pub reads_are : s.reads ≡ reads_of start.rows ops
+  pub rows_are : x.rows ≡ after_ops start.rows ops
+  pub tables_are : x ≡ tables_after_all start ops
   pub aborts_are : aborts ops ≡ false
 
 abbrev pub Commits : Type 0
-Commits = (start : Rows) (ops : List Op) (at : Images) (x : Tables) (w : Shape) (s : State)
+Commits = (start : Tables) (ops : List Op) (at : Images) (x : Tables) (w : Shape) (s : State)
     → IsOnCourse start ops at x w s → want_of s ≡ Commit → IsDone start ops x s
 
 -- a transaction that was refused has left the rows that it met
 abbrev pub Returns : Type 0
-Returns = (start : Rows) (ops : List Op) (at : Images) (x : Tables) (w : Shape) (s : State)
-    → IsOnCourse start ops at x w s → s.stage ≡ stage.Undo → want_of s ≡ Ended → x.rows ≡ start
+Returns = (start : Tables) (ops : List Op) (at : Images) (x : Tables) (w : Shape) (s : State)
+    → IsOnCourse start ops at x w s → s.stage ≡ stage.Undo → want_of s ≡ Ended → x.rows ≡ start.rows
 
 -- no page is found damaged
 abbrev pub NeverDamaged : Type 0
-NeverDamaged = (start : Rows) (ops : List Op) (at : Images) (x : Tables) (w : Shape) (s : State) → IsOnCourse start ops at x w s → s.damage ≡ None
+NeverDamaged = (start : Tables) (ops : List Op) (at : Images) (x : Tables) (w : Shape) (s : State) → IsOnCourse start ops at x w s → s.damage ≡ None

@@ -1,10 +1,12 @@
 -- Tables, and the pages that stand for them.
-use Rattle.std.specs.Prelude.{◌≡◌, ℕ, ◌-◌, ◌<◌, List, length, Option, Some, None, slice_index_or, slice_set, ◌+◌, ◌==◌, if◌then◌else◌}
+use Rattle.std.specs.Prelude.{◌≡◌, ℕ, ◌-◌, ◌<◌, List, [], ◌∷◌, length, Option, Some, None, slice_index_or, slice_set, ◌+◌, ◌==◌, if◌then◌else◌}
 use Rattle.std.specs.FinMap as finite
 use Rattle.ds_base.specs.Ids.{IsTable}
 use Rattle.ds_base.specs.declared.names.Place.{Place}
 use Rattle.index_leaf.specs.declared.layout.Entry.{Entry}
 use Rattle.index_leaf.specs.Search.{find}
+use Rattle.ds_model.specs.declared.script.Op.{Op}
+use Rattle.ds_model.specs.declared.script.Op.TheVariants as op
 use Rattle.ds_model.specs.Rows.{Rows, spot_cmp}
 use Rattle.ds_model.specs.Logs.{set_row}
 use Rattle.page_images.specs.Images.{Images}
@@ -40,6 +42,27 @@ with_place x table key = record x {
   places = finite.insert x.places (table, key) (count_in x table);
   counts = slice_set x.counts (table - 1) (count_in x table + 1);
 }
+
+-- ---- what operations make of tables
+
+-- a key that has no slot gets the next of its table
+abbrev pub placed_as : Tables → ℕ → ℕ → Option ℕ → Tables
+placed_as x table key (Some n) = x
+placed_as x table key None = with_place x table key
+
+abbrev pub tables_after : Tables → Op → Tables
+tables_after x (op.Get table key) = x
+tables_after x (op.Put table key value) = with_row (placed_as x table key (number_of x table key)) table key (Some value)
+tables_after x (op.Del table key) = with_row x table key None
+tables_after x (op.Scan table low high) = x
+tables_after x (op.Raise flag) = x
+tables_after x (op.Await flag) = x
+tables_after x op.LoseCache = x
+tables_after x op.Abort = x
+
+abbrev pub tables_after_all : Tables → List Op → Tables
+tables_after_all x [] = x
+tables_after_all x (o ∷ ops) = tables_after_all (tables_after x o) ops
 
 -- each key that had a slot has it still, and the rows are as they were
 pub record Grows (x new : Tables) : Type 0 where
