@@ -8,13 +8,14 @@ use Rattle.page_format.specs.declared.patch.Patch.{Patch}
 use Rattle.heap_space.specs.Changes.{heap_page}
 use Rattle.heap_space.specs.Changes as heap
 use Rattle.index_leaf.specs.declared.layout.Entry.{Entry}
-use Rattle.index_leaf.specs.Entries.{count_of, high_of, entries_of}
-use Rattle.index_leaf.specs.Search.{is_beyond, find, how_many}
+use Rattle.index_leaf.specs.Entries.{count_of, high_of, right_field, entries_of}
+use Rattle.index_leaf.specs.Search.{is_beyond, is_branch, floor, down_to, found_at, look_of, find, how_many}
+use Rattle.index_leaf.specs.declared.step.Look.TheVariants as look
 use Rattle.index_leaf.specs.Changes.{id_of, insert_patches, moved_patch, left_patches, right_patches}
 use Rattle.index_leaf.specs.Changes as index
 use Rattle.page_images.specs.Images.{Images, index_page, after_change, HasFront}
 use Rattle.index_chain.specs.Chains.{Node, HasNode, IsNodePage, IsChain, IsIndex, HasNoIndex, entries_in}
-use Rattle.index_chain.specs.Searches.{IsReached, IsUnder, IsRead, BranchIsRead, LeafIsRead}
+use Rattle.index_chain.specs.Searches.{IsReached, IsUnder, IsRead, BranchIsRead, LeafIsRead, BranchGoesRight, GoesRight}
 use Rattle.index_chain.specs.Changes.{KeepsIndex, IsLrsn, Formats, LeafSplits, BranchSplits, BranchInserts, SplitKeeps, SplitReaches, SplitHas, SplitUnder, split_at, entered_at, entry_to, first_branches, first_leaves}
 use Rattle.index_chain.specs.Records.{BranchRecord, LeafSplitRecord, BranchSplitRecord, split_patches}
 use Rattle.heap_rows.specs.Heaps.{IsHeap, SameHeap, HasHeader, IsAfter}
@@ -23,7 +24,7 @@ use Rattle.tran_core.specs.Wants.{FormatIndex, FormatHeap, Split}
 use Rattle.tran_pages.specs.Tables.{Tables, Shape, Tree, Holds, TableHolds, IndexHolds, entry_of, slot_row, number_of, row_of, count_in, with_tree}
 use Rattle.tran_pages.specs.Course.{IsChild, IsOnWay, IsFullIn}
 use Rattle.tran_pages.specs.Steps.{Needs, IsFull, KeepsWays}
-use Rattle.tran_pages.specs.Makes.{first_tree, IndexFormats, HeapFormats, after_split, leaf_split, branch_split, LeafIsSplit, BranchIsSplit, SplitKeepsChild, branch_entered, ChildIsEntered}
+use Rattle.tran_pages.specs.Makes.{first_tree, IndexFormats, HeapFormats, after_split, leaf_split, branch_split, LeafIsSplit, BranchIsSplit, SplitKeepsChild, branch_entered, ChildIsEntered, ChildGoesRight, HasIndex}
 use Rattle.tran_pages.proofs.Frames.{FrameLaws, Alike, AreOf, NoneOf, none_of, index_stays, heap_stays, index_sets, heap_sets, index_heap_sets, heap_index_sets, index_as, table_stays, same_all}
 use Rattle.tran_pages.proofs.Maps.{itself, is_same, not_equal, not_same}
 
@@ -41,6 +42,7 @@ pub record TreeLaws : Type 0 where
   pub branch_split_record : BranchSplitRecord
   pub branch : BranchIsRead
   pub leaf : LeafIsRead
+  pub branch_right : BranchGoesRight
   pub name : (page : List ℕ) (id : PageId) (kind : ℕ) → HasFront page id kind → id.set < 2 ^ 16 → id.number < 2 ^ 32 → id_of page ≡ id
   pub format_heap : (at new : Images) (table count : ℕ) (key : ℕ → ℕ) (row : ℕ → Option (List ℕ)) (lrsn : ℕ) → IsHeap at table count key row → is_zeros (at (heap_page table 0)) ≡ true
       → 1 ≤ lrsn → lrsn < 2 ^ 48 → IsAfter at new table lrsn (heap.format_patches table) → IsHeap new table count key row × HasHeader new table
@@ -215,3 +217,16 @@ child_is_entered frame law at x w lrsn table branch low child tree holds e is c 
     (law.branch_inserts at to table tree.next branch lrsn low child tree.branches tree.leaves ix.0 c.0 within none room c.1 stamp
     (law.branch_record at table tree.next branch low lrsn entry [] [] tree.branches tree.leaves ix.0 c.0 is.1 tt tt))
     ix.1
+
+beyond_look : (page : List ℕ) (key : ℕ) → is_beyond (high_of page) key ≡ true → look_of page key ≡ look.Right (right_field page)
+beyond_look page key e = ap (λ b. if b then look.Right (right_field page) else (if is_branch page then down_to (floor (entries_of page) key) else found_at (find (entries_of page) key))) e
+
+pub child_goes_right : TreeLaws → ChildGoesRight
+child_goes_right law at x w table branch low child tree holds e is c beyond =
+    let ix : IndexHolds at x table (Some tree) = index_of at x w table tree is holds e in
+    let on : GoesRight tree.branches (at (index_page table branch)) low (right_field (at (index_page table branch))) =
+      law.branch_right at table tree.next branch low (right_field (at (index_page table branch))) tree.branches tree.leaves ix.0 c.0 (beyond_look (at (index_page table branch)) low beyond) in
+    (on.1, (on.0, c.1))
+
+pub has_index : HasIndex
+has_index at x w table tree holds e is = (index_of at x w table tree is holds e).0

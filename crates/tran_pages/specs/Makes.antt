@@ -1,5 +1,5 @@
 -- What the changes that transactions want make of the pages of all tables.
-use Rattle.std.specs.Prelude.{◌≡◌, ℕ, ◌+◌, ◌-◌, ◌^◌, ◌<◌, false, List, [], ◌∷◌, ◌++◌, replicate, Some, None}
+use Rattle.std.specs.Prelude.{◌≡◌, ℕ, ◌+◌, ◌-◌, ◌^◌, ◌<◌, true, false, List, [], ◌∷◌, ◌++◌, replicate, Some, None}
 use Rattle.std.specs.FinMap as finite
 use Rattle.ds_base.specs.Ids.{IsTable}
 use Rattle.ds_base.specs.declared.names.PageId.{PageId}
@@ -9,13 +9,13 @@ use Rattle.page_format.specs.declared.patch.Patch.{Patch}
 use Rattle.heap_space.specs.Changes.{give_patches}
 use Rattle.heap_space.specs.Changes as heap
 use Rattle.index_leaf.specs.declared.layout.Entry.{Entry}
-use Rattle.index_leaf.specs.Entries.{count_of, high_of, entries_of}
+use Rattle.index_leaf.specs.Entries.{count_of, high_of, right_field, right_of, entries_of}
 use Rattle.index_leaf.specs.Search.{is_beyond, find}
 use Rattle.index_leaf.specs.Changes.{insert_patches}
 use Rattle.index_leaf.specs.Changes as index
 use Rattle.page_images.specs.Images.{Images, zeros, index_page, after_change}
 use Rattle.index_chain.specs.Searches.{IsReached}
-use Rattle.index_chain.specs.Chains.{HasNode}
+use Rattle.index_chain.specs.Chains.{IsIndex}
 use Rattle.index_chain.specs.Changes.{IsLrsn, first_branches, first_leaves, entered_at, entry_to, split_at}
 use Rattle.index_chain.specs.Records.{split_patches}
 use Rattle.heap_rows.specs.Heaps.{IsCount, place_at, row_patch}
@@ -97,6 +97,18 @@ SlotIsGiven = (at : Images) (x : Tables) (w : Shape) (lrsn table key leaf : ℕ)
     → IsCount (count_in x table + 1) → IsLrsn lrsn
     → let n : ℕ = count_in x table in let patches : List Patch = give_patches table (place_at n) key ++ insert_patches (at (index_page table leaf)) (entry_at key n) in
     Holds (after_change lrsn patches at) (with_place x table key) (with_key (with_tree w table (leaf_entered tree leaf (entry_at key n))) table n key)
+
+-- the branch to the right is where the child is entered, if its low key lies beyond this one
+abbrev pub ChildGoesRight : Type 0
+ChildGoesRight = (at : Images) (x : Tables) (w : Shape) (table branch low child : ℕ) (tree : Tree) → Holds at x w → w.trees table ≡ Some tree → IsTable table
+    → IsChild (Some tree) branch low child → is_beyond (high_of (at (index_page table branch))) low ≡ true
+    → let right : ℕ = right_field (at (index_page table branch)) in
+    (right_of (at (index_page table branch)) ≡ Some right) × IsChild (Some tree) right low child
+
+-- the index of a table that has one
+abbrev pub HasIndex : Type 0
+HasIndex = (at : Images) (x : Tables) (w : Shape) (table : ℕ) (tree : Tree) → Holds at x w → w.trees table ≡ Some tree → IsTable table
+    → IsIndex at table tree.branches tree.leaves tree.next
 
 -- a key that had no slot has one, and all others have theirs
 abbrev pub SlotGrows : Type 0

@@ -1,4 +1,4 @@
-ghost use Rattle.tran_pages.specs.Makes.{BranchIsSplit, ChildIsEntered, EmptyHolds, HeapFormats, IndexFormats, LeafIsSplit, RowMakes, SameGrows, SlotGrows, SlotIsGiven, SplitKeepsChild};
+ghost use Rattle.tran_pages.specs.Makes.{BranchIsSplit, ChildGoesRight, ChildIsEntered, EmptyHolds, HasIndex, HeapFormats, IndexFormats, LeafIsSplit, RowMakes, SameGrows, SlotGrows, SlotIsGiven, SplitKeepsChild};
 
 use heap_rows::{heap_laws, row_change_laws, same_heap_laws};
 use index_chain::{
@@ -18,6 +18,8 @@ pub fn make_laws()
     ensures branch_split { BranchIsSplit }
     ensures child_stays { SplitKeepsChild }
     ensures child { ChildIsEntered }
+    ensures child_right { ChildGoesRight }
+    ensures has_index { HasIndex }
     ensures slot { SlotIsGiven }
     ensures slot_grows { SlotGrows }
     ensures same_grows { SameGrows }

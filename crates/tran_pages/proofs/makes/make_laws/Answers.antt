@@ -1,6 +1,6 @@
 use Rattle.tran_pages.proofs.Frames.{FrameLaws}
 use Rattle.tran_pages.proofs.Row_making.{RowLaws, row_makes}
-use Rattle.tran_pages.proofs.Tree_making.{TreeLaws, index_formats, heap_formats, leaf_is_split, branch_is_split, split_keeps_child, child_is_entered}
+use Rattle.tran_pages.proofs.Tree_making.{TreeLaws, index_formats, heap_formats, leaf_is_split, branch_is_split, split_keeps_child, child_is_entered, child_goes_right, has_index}
 use Rattle.tran_pages.proofs.Slot_making.{SlotLaws, slot_is_given}
 use Rattle.tran_pages.proofs.Beginning.{empty_holds, slot_grows, same_grows}
 use Rattle.tran_pages.proofs.makes.make_laws.Goals as goal
@@ -27,6 +27,7 @@ returns c =
       branch_split_record = c.record_laws.ensures.branch_split;
       branch = c.search_laws.ensures.branch;
       leaf = c.search_laws.ensures.leaf;
+      branch_right = c.search_laws.ensures.branch_right;
       name = c.header_laws.ensures.name;
       format_heap = c.heap_laws.ensures.format;
     } in
@@ -45,6 +46,8 @@ returns c =
       branch_split = branch_is_split frame trees;
       child_stays = split_keeps_child trees;
       child = child_is_entered frame trees;
+      child_right = child_goes_right trees;
+      has_index = has_index;
       slot = slot_is_given frame trees slots;
       slot_grows = slot_grows;
       same_grows = same_grows;
