@@ -10,7 +10,7 @@ returns c =
       root_node = c.format_laws.ensures.root_node;
       leaf_node = c.format_laws.ensures.leaf_node;
       made = c.front_laws.ensures.made;
-      nothing = c.header_laws.ensures.zeros;
+      nothing = let z = c.header_laws.ensures.zeros in (z.1, z.2, z.3);
       header = record {
         put = c.part_laws.ensures.put;
         kept = c.part_laws.ensures.kept;

@@ -1,0 +1,4 @@
+pub mod Tables
+pub mod Course
+pub mod Steps
+pub mod Makes
