@@ -1,0 +1,5 @@
+//! The page frames of one pool over a disk, with the log buffer of the member whose transaction is in hand.
+#![tactic(auto)]
+
+mod force;
+mod state;
