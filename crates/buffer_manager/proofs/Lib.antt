@@ -1,2 +1,4 @@
-pub mod Logs
 pub mod Finds
+pub mod Keeping
+pub mod Logs
+pub mod Pages
