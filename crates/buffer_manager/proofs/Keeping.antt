@@ -24,6 +24,9 @@ with_pool b p = record b { pool = p }
 pub presents_held : (pool : PoolState) (c : Contents) (f : ℕ) (id : PageId) → AreSound pool → holds id (frame_of pool f) ≡ true → present pool c id ≡ bytes_of pool f
 presents_held pool c f id sound h = ap (present_in pool c id) (sound.apart f id h)
 
+pub lrsn_put : (b : BufferState) (c : Contents) (f : ℕ) (id : PageId) → AreSound b.pool → holds id (frame_of b.pool f) ≡ true → Backs b c → lrsn_of (bytes_of b.pool f) ≤ b.log.last
+lrsn_put b c f id sound h backs = subst (λ (bytes : List ℕ). lrsn_of bytes ≤ b.log.last) (presents_held b.pool c f id sound h) (backs.logged.presents id)
+
 -- a step over the same contents that keeps the log buffer
 pub keeps_by : (b : BufferState) (p : PoolState) (c : Contents) → (Backs b c → (q : PageId) → present p c q ≡ present b.pool c q) → (Backs b c → IsClean p c) → Keeps b (with_pool b p) c c
 keeps_by b p c same clean = record {
@@ -79,7 +82,7 @@ keeps_marked b c f x l same own =
 
 -- ---- a frame that is dropped
 
-pub keeps_drop : (b : BufferState) (c : Contents) (f : ℕ) (order : List ℕ) → AreSound b.pool → f < length b.pool.frames → (frame_of b.pool f).changed ≡ false
+pub keeps_drop : (b : BufferState) (c : Contents) (f : ℕ) (order : List ℕ) → AreSound b.pool → f < length b.pool.frames → ((q : PageId) → holds q (frame_of b.pool f) ≡ true → (frame_of b.pool f).changed ≡ false)
     → Keeps b (with_pool b (record { pages = b.pool.pages; frames = slice_set b.pool.frames f free_frame; order = order })) c c
 keeps_drop b c f order sound l clean =
     keeps_by b _ c same
@@ -92,7 +95,7 @@ keeps_drop b c f order sound l clean =
         by : (t : Bool) → holds q (frame_of b.pool f) ≡ t → present (record { pages = b.pool.pages; frames = slice_set b.pool.frames f free_frame; order = order }) c q ≡ present b.pool c q
         by true h =
             ap (present_in b.pool c q) (find_gone b.pool.frames f free_frame q sound.apart h (λ t. true≢false (sym t)))
-            ∙ sym (backs.clean f q h clean)
+            ∙ sym (backs.clean f q h (clean q h))
             ∙ sym (presents_held b.pool c f q sound h)
         by false h = ap (present_in b.pool c q) (find_kept b.pool.frames f free_frame q (sym h))
 

@@ -6,7 +6,7 @@ use Rattle.ds_disk.specs.declared.disk.DiskError.{DiskError}
 use Rattle.ds_disk.specs.declared.disk.DiskError.TheVariants.{Failed}
 use Rattle.member_log.specs.Buffers.{after_force}
 use Rattle.member_pool.specs.Frames.{holds, find_page}
-use Rattle.member_pool.specs.Pools.{PoolState, frame_of}
+use Rattle.member_pool.specs.Pools.{PoolState, frame_of, with_frame}
 use Rattle.buffer_manager.specs.declared.state.BufferState.{BufferState}
 use Rattle.buffer_manager.specs.States.{present, with_more, logs_with_pending, Backs}
 
@@ -62,3 +62,7 @@ module _ {T : Type 0} (was_alive now_alive : Bool) (before after : Option Conten
 -- what was pending is stable
 abbrev pub forced : BufferState → BufferState
 forced b = record b { log = after_force b.log }
+
+-- the page of a frame was written to the disk
+abbrev pub unmarked : BufferState → ℕ → BufferState
+unmarked b f = record b { pool = with_frame b.pool f (record (frame_of b.pool f) { changed = false }) }

@@ -3,12 +3,17 @@ use Rattle.std.specs.Prelude.{ℕ, ◌≡◌, ◌-◌, ◌≤◌, true, false, L
 use Rattle.ds_base.specs.declared.names.PageId.{PageId}
 use Rattle.ds_disk.specs.Pages.{page_at}
 use Rattle.ds_disk.specs.Contents.{Contents, log_of}
-use Rattle.member_pool.specs.Frames.{holds, find_page}
+use Rattle.member_pool.specs.declared.frame.Frame.{Frame}
+use Rattle.member_pool.specs.Frames.{holding, holds, find_page}
 use Rattle.member_pool.specs.Pools.{PoolState, frame_of}
 use Rattle.page_format.specs.Fields.{lrsn_of}
 use Rattle.buffer_manager.specs.declared.state.BufferState.{BufferState}
 
 -- ---- pages
+
+-- a frame that holds a page as the disk has it
+abbrev pub holding_read : PageId → Frame
+holding_read id = record (holding id) { filled = true }
 
 -- the bytes of the frame of this number
 abbrev pub bytes_of : PoolState → ℕ → List ℕ

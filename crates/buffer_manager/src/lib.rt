@@ -1,5 +1,8 @@
 //! The page frames of one pool over a disk, with the log buffer of the member whose transaction is in hand.
 #![tactic(auto)]
 
+mod fetch;
 mod force;
+mod frames;
 mod state;
+mod write;

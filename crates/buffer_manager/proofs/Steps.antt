@@ -1,0 +1,112 @@
+-- The steps of the frames, and what stays sound.
+use Rattle.std.proofs.Common.{◌≡◌, ◌≢◌, ℕ, ◌<◌, ◌≤◌, Bool, true, false, ◌⊎◌, inl, inr, List, [], length, Option, Some, None, refl, sym, ap, subst, ◌∙◌, true≢false, arith, slice_set}
+use Rattle.std.specs.FinMap as map
+use Rattle.std.proofs.lemmas.List.{length-set}
+use Rattle.ds_base.specs.declared.names.PageId.{PageId}
+use Rattle.ds_disk.specs.Contents.{Contents, Same}
+use Rattle.ds_disk.specs.Pages.{page_at}
+use Rattle.page_format.specs.Fields.{lrsn_of}
+use Rattle.member_pool.specs.declared.frame.Frame.{Frame}
+use Rattle.member_pool.specs.Frames.{holds, free_frame, frame_at, find_page}
+use Rattle.member_pool.specs.Pools.{PoolState, frame_of, with_frame, dropped}
+use Rattle.buffer_manager.specs.declared.state.BufferState.{BufferState}
+use Rattle.buffer_manager.specs.States.{bytes_of, holding_read, present, Backs}
+use Rattle.buffer_manager.specs.Goings.{AreSound, Keeps, unmarked}
+use Rattle.buffer_manager.proofs.Finds.{AreApart, at_same, one_page, each_set, apart_kept, apart_gone, apart_new, held_in, own_page}
+use Rattle.buffer_manager.proofs.Pages.{page_written}
+use Rattle.buffer_manager.proofs.Keeping.{with_pool, keeps_by, keeps_write, keeps_marked, keeps_drop, keeps_read, keeps_placed}
+use Rattle.buffer_manager.proofs.Goings.{Step, keeps_trans}
+
+-- ---- sound frames
+
+pub sound_by : (pool p : PoolState) (f : ℕ) (x : Frame) → AreSound pool → f < length pool.frames → length p.pages ≡ length pool.pages → p.frames ≡ slice_set pool.frames f x
+    → AreApart (slice_set pool.frames f x) → ((q : PageId) → holds q x ≡ true → x.filled ≡ true) → x.pins ≡ 0 → AreSound p
+sound_by pool p f x sound l pages frames apart filled unpinned =
+    let long : length p.frames ≡ length pool.frames = ap length frames ∙ length-set pool.frames f x in
+    record {
+      enough = subst (λ (n : ℕ). 4 ≤ n) (sym long) sound.enough;
+      same = pages ∙ sound.same ∙ sym long;
+      apart = subst AreApart (sym frames) apart;
+      filled = λ g q. subst (λ (fs : List Frame). holds q (frame_at fs g) ≡ true → (frame_at fs g).filled ≡ true) (sym frames)
+          (each_set (λ n y. holds q y ≡ true → y.filled ≡ true) pool.frames f x l (λ n other h. sound.filled n q h) (filled q) g);
+      unpinned = λ g. subst (λ (fs : List Frame). (frame_at fs g).pins ≡ 0) (sym frames)
+          (each_set (λ n y. y.pins ≡ 0) pool.frames f x l (λ n other. sound.unpinned n) unpinned g);
+    }
+
+pub sound_marked : (pool p : PoolState) (f : ℕ) (changed : Bool) → AreSound pool → f < length pool.frames → p ≡ with_frame pool f (record (frame_of pool f) { changed = changed }) → AreSound p
+sound_marked pool p f changed sound l is =
+    sound_by pool p f (record (frame_of pool f) { changed = changed }) sound l (ap (λ (s : PoolState). length s.pages) is) (ap (λ (s : PoolState). s.frames) is)
+    (apart_kept pool.frames f (record (frame_of pool f) { changed = changed }) l sound.apart (λ q. refl)) (λ q h. sound.filled f q h) (sound.unpinned f)
+
+-- ---- a page is written
+
+pub step_write : (b : BufferState) (c d : Contents) (f : ℕ) (id : PageId) (page : List ℕ) → AreSound b.pool → holds id (frame_of b.pool f) ≡ true → page ≡ bytes_of b.pool f
+    → (Backs b c → lrsn_of (bytes_of b.pool f) ≤ b.log.stable) → Same c d ⊎ (d ≡ record c { pages = map.insert c.pages id page }) → Step b b c d
+step_write b c d f id page sound h is stable (inl e) =
+    subst (λ (t : Contents). Step b b c t) (sym e) (record { keeps = keeps_by b b.pool c (λ backs q. refl) (λ backs. backs.clean); logs = refl })
+step_write b c d f id page sound h is stable (inr e) =
+    subst (λ (t : Contents). Step b b c t) (sym (e ∙ ap (λ p. record c { pages = map.insert c.pages id p }) is))
+    (record { keeps = keeps_write b c f id sound h stable; logs = refl })
+
+pub either : {A B : Type 0} → A ⊎ (A ⊎ B) → A ⊎ B
+either (inl a) = inl a
+either (inr t) = t
+
+pub reads_as : (c d : Contents) (id : PageId) (page bytes : List ℕ) → page ≡ bytes → d ≡ record c { pages = map.insert c.pages id page } → page_at d.pages id ≡ bytes
+reads_as c d id page bytes is e = ap (λ (t : Contents). page_at t.pages id) e ∙ page_written c.pages id page ∙ is
+
+pub step_unmark : (b : BufferState) (c d : Contents) (p : PoolState) (f : ℕ) (id : PageId) → AreSound b.pool → holds id (frame_of b.pool f) ≡ true → p ≡ with_frame b.pool f (record (frame_of b.pool f) { changed = false })
+    → Step b b c d → page_at d.pages id ≡ bytes_of b.pool f → Step b (with_pool b p) c d
+step_unmark b c d p f id sound h is s written =
+    subst (λ (pool : PoolState). Step b (with_pool b pool) c d) (sym is)
+    (record {
+      keeps = keeps_trans b b (unmarked b f) c d d s.keeps
+          (keeps_marked b d f (record (frame_of b.pool f) { changed = false }) (held_in b.pool.frames f id h) (λ q. refl)
+          (λ q t clean backs. sym (ap (page_at d.pages) (one_page q id (frame_of b.pool f) t h) ∙ written)));
+      logs = s.logs;
+    })
+
+-- ---- a frame is dropped, and filled
+
+pub sound_dropped : (pool p : PoolState) (f : ℕ) → AreSound pool → f < length pool.frames → p ≡ dropped pool f → AreSound p
+sound_dropped pool p f sound l is =
+    sound_by pool p f free_frame sound l (ap (λ (s : PoolState). length s.pages) is) (ap (λ (s : PoolState). s.frames) is)
+    (apart_gone pool.frames f free_frame l sound.apart (λ q t. true≢false (sym t))) (λ q t. absurd (true≢false (sym t))) refl
+
+pub step_drop : (b : BufferState) (c : Contents) (p : PoolState) (f : ℕ) → AreSound b.pool → f < length b.pool.frames → ((q : PageId) → holds q (frame_of b.pool f) ≡ true → (frame_of b.pool f).changed ≡ false)
+    → p ≡ dropped b.pool f → Step b (with_pool b p) c c
+step_drop b c p f sound l clean is =
+    subst (λ (pool : PoolState). Step b (with_pool b pool) c c) (sym is) (record { keeps = keeps_drop b c f _ sound l clean; logs = refl })
+
+pub sound_read : (pool p : PoolState) (f : ℕ) (bytes : List ℕ) → AreSound pool → p ≡ record pool { pages = slice_set pool.pages f bytes } → AreSound p
+sound_read pool p f bytes sound is = subst AreSound (sym is) (record {
+  enough = sound.enough;
+  same = length-set pool.pages f bytes ∙ sound.same;
+  apart = sound.apart;
+  filled = sound.filled;
+  unpinned = sound.unpinned;
+})
+
+pub sound_placed : (pool p : PoolState) (f : ℕ) (id : PageId) (order : List ℕ) → AreSound pool → f < length pool.frames → ((q : PageId) → holds q (frame_of pool f) ≡ false) → find_page pool.frames id ≡ None
+    → p ≡ record { pages = pool.pages; frames = slice_set pool.frames f (holding_read id); order = order } → AreSound p
+sound_placed pool p f id order sound l free none is =
+    sound_by pool p f (holding_read id) sound l (ap (λ (s : PoolState). length s.pages) is) (ap (λ (s : PoolState). s.frames) is)
+    (apart_new pool.frames f (holding_read id) id l sound.apart free (own_page id) none) (λ q t. refl) refl
+
+pub step_read : (b : BufferState) (c d : Contents) (p : PoolState) (f : ℕ) (bytes : List ℕ) → ((q : PageId) → holds q (frame_of b.pool f) ≡ false) → p ≡ record b.pool { pages = slice_set b.pool.pages f bytes }
+    → d ≡ c → Step b (with_pool b p) c d
+step_read b c d p f bytes free is e =
+    subst (λ (t : Contents). Step b (with_pool b p) c t) (sym e)
+    (subst (λ (pool : PoolState). Step b (with_pool b pool) c c) (sym is) (record { keeps = keeps_read b c f bytes b.pool.order free; logs = refl }))
+
+pub step_placed : (b : BufferState) (c d : Contents) (p s : PoolState) (f : ℕ) (id : PageId) (order : List ℕ) → AreSound b.pool → f < length b.pool.frames → ((q : PageId) → holds q (frame_of b.pool f) ≡ false) → find_page b.pool.frames id ≡ None
+    → p ≡ record b.pool { pages = slice_set b.pool.pages f (bytes_of p f) } → s ≡ record { pages = p.pages; frames = slice_set p.frames f (holding_read id); order = order }
+    → d ≡ c → bytes_of p f ≡ page_at c.pages id → Step b (with_pool b s) c d
+step_placed b c d p s f id order sound l free none is then e reads =
+    subst (λ (t : Contents). Step b (with_pool b s) c t) (sym e)
+    (subst (λ (pool : PoolState). Step b (with_pool b pool) c c)
+    (sym (then ∙ ap (λ (pool : PoolState). record { pages = pool.pages; frames = slice_set pool.frames f (holding_read id); order = order }) is))
+    (record {
+      keeps = keeps_placed b c f id (holding_read id) (bytes_of p f) order l (subst (λ n. f < n) (sym sound.same) l) free none (own_page id) reads;
+      logs = refl;
+    }))

@@ -1,0 +1,61 @@
+ghost use Rattle.std.specs.Prelude.{◌≡◌, ◌<◌, true, false, None, length, OnOk, OnErr};
+ghost use Rattle.ds_base.specs.declared.names.PageId.{PageId};
+ghost use Rattle.ds_disk.specs.Answers.{HasCause};
+ghost use Rattle.ds_disk.specs.Contents.{Becomes};
+ghost use Rattle.member_pool.specs.Frames.{holds, find_page};
+ghost use Rattle.member_pool.specs.Pools.{frame_of};
+ghost use Rattle.member_pool.specs.Uses.{newest};
+ghost use Rattle.buffer_manager.specs.Goings.{IsManaged, Goes};
+
+use crate::frames::{place_read, read_into, touch};
+use crate::state::BufferState;
+use crate::write::clean;
+use ds_base::PageId;
+use ds_disk::{Disk, DiskError};
+use member_pool::Frame;
+
+// Reads a page into a free frame.
+fn read_in<D: Disk>(
+    b: &mut BufferState,
+    disk: &mut D,
+    frame: u16,
+    id: PageId,
+) -> Result<(), DiskError>
+    requires sound { IsManaged b.old }
+    requires there { frame < length b.old.pool.frames }
+    requires free { (q : PageId) → holds q (frame_of b.old.pool frame) ≡ false }
+    requires absent { find_page b.old.pool.frames id ≡ None }
+    ensures sound { IsManaged b.new }
+    ensures goes { Goes (D.alive disk.old) (D.alive disk.new) (D.contents disk.old) (D.contents disk.new) b.old b.new result }
+    ensures quiet { Becomes (D.contents disk.old) (D.contents disk.new) (λ c d. d.logs ≡ c.logs) }
+    ensures log { b.new.log ≡ b.old.log }
+    ensures held { OnOk result (holds id (frame_of b.new.pool frame) ≡ true) }
+    ensures order { OnOk result (b.new.pool.order ≡ newest frame b.old.pool.order) }
+    ensures cause { HasCause (D.faults disk.old) (D.faults disk.new) result }
+{
+    read_into(&mut b.pool, disk, frame, id)?;
+    place_read(&mut b.pool, frame, id);
+    Ok(())
+}
+
+// Writes the page of a frame, if it holds one that was changed.
+fn clean_marked<D: Disk>(b: &mut BufferState, disk: &mut D, frame: u16) -> Result<(), DiskError>
+    requires sound { IsManaged b.old }
+    requires there { frame < length b.old.pool.frames }
+    ensures sound { IsManaged b.new }
+    ensures goes { Goes (D.alive disk.old) (D.alive disk.new) (D.contents disk.old) (D.contents disk.new) b.old b.new result }
+    ensures clean { OnOk result ((q : PageId) → holds q (frame_of b.new.pool frame) ≡ true → (frame_of b.new.pool frame).changed ≡ false) }
+    ensures found { (q : PageId) → find_page b.new.pool.frames q ≡ find_page b.old.pool.frames q }
+    ensures order { b.new.pool.order ≡ b.old.pool.order }
+    ensures count { length b.new.pool.frames ≡ length b.old.pool.frames }
+    ensures cause { HasCause (D.faults disk.old) (D.faults disk.new) result }
+{
+    match b.pool.frame(frame) {
+        Frame {
+            page: Some(id),
+            changed: true,
+            ..
+        } => clean(b, disk, frame, id),
+        _ => Ok(()),
+    }
+}
