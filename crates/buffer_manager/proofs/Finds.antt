@@ -99,6 +99,13 @@ find_new frames f x q l none h = by (find_page (slice_set frames f x) q) refl
       | inr is ↦ absurd (misses frames q g none (sym (ap (holds q) (at_other frames f g x is.1)) ∙ find_some (slice_set frames f x) q g e))
     ]
 
+pub find_absent : (frames : List Frame) (f : ℕ) (x : Frame) (q : PageId) → f < length frames → find_page frames q ≡ None → (holds q x ≡ true → ⊥) → find_page (slice_set frames f x) q ≡ None
+find_absent frames f x q l none bars = find_none (slice_set frames f x) q (λ g t.
+    elim (eqb_tells g f) [
+      | inl e ↦ bars (sym (ap (holds q) (ap (frame_at (slice_set frames f x)) e.1 ∙ at_same frames f x l)) ∙ t)
+      | inr e ↦ misses frames q g none (sym (ap (holds q) (at_other frames f g x e.1)) ∙ t)
+    ])
+
 -- a fact of each frame after a change of one
 pub each_set : (P : ℕ → Frame → Type 0) (frames : List Frame) (f : ℕ) (x : Frame) → f < length frames → ((g : ℕ) → g ≢ f → P g (frame_at frames g)) → P f x → (g : ℕ) → P g (frame_at (slice_set frames f x) g)
 each_set P frames f x l others own g =

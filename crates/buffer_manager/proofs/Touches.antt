@@ -1,11 +1,11 @@
 -- What two calls on one frame make of a pool.
-use Rattle.std.proofs.Common.{◌≡◌, ℕ, zero, suc, ◌+◌, ◌-◌, ◌<◌, Bool, true, List, [], ◌∷◌, length, refl, sym, ap, ◌∙◌, arith, slice_set}
+use Rattle.std.proofs.Common.{◌≡◌, ℕ, zero, suc, ◌+◌, ◌-◌, ◌<◌, Bool, true, List, [], ◌∷◌, ◌++◌, false, nat_eq, length, refl, sym, ap, ◌∙◌, arith, slice_set}
 use Rattle.std.proofs.lemmas.List.{set-set}
 use Rattle.ds_base.specs.declared.names.PageId.{PageId}
 use Rattle.member_pool.specs.declared.frame.Frame.{Frame}
 use Rattle.member_pool.specs.Frames.{frame_at, holding}
 use Rattle.member_pool.specs.Pools.{PoolState, frame_of, with_frame, pinned, placed}
-use Rattle.member_pool.specs.Uses.{newest}
+use Rattle.member_pool.specs.Uses.{newest, oldest, without}
 use Rattle.buffer_manager.specs.States.{holding_read}
 use Rattle.buffer_manager.proofs.Finds.{at_same}
 
@@ -36,3 +36,19 @@ placed_read pool p q f id l place fill =
     ∙ ap (λ (s : PoolState). with_frame s f (record (frame_of s f) { filled = true })) place
     ∙ ap (λ (x : Frame). with_frame (placed pool f id) f (record x { filled = true })) (at_same pool.frames f (holding id) l)
     ∙ ap (λ frames. with_frames pool frames (newest f pool.order)) (set-set pool.frames f (holding id) (holding_read id))
+
+-- ---- the order of use
+
+stays_without : (f : ℕ) (order : List ℕ) → without f (without f order) ≡ without f order
+stays_without f [] = refl
+stays_without f (g ∷ order) = by (nat_eq f g) refl
+  where
+    by : (b : Bool) → nat_eq f g ≡ b → without f (without f (g ∷ order)) ≡ without f (g ∷ order)
+    by true e = grind (arith, stays_without f order)
+    by false e = grind (arith, stays_without f order)
+
+-- the oldest becomes the newest
+pub newest_again : (f : ℕ) (order : List ℕ) → newest f (oldest f order) ≡ newest f order
+newest_again f order =
+    let e : without f (f ∷ without f order) ≡ without f order = grind (arith, stays_without f order) in
+    ap (λ (o : List ℕ). o ++ f ∷ []) e

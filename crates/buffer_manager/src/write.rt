@@ -1,8 +1,9 @@
 ghost use Rattle.std.specs.Prelude.{◌≡◌, ◌≤◌, true, false, OnOk, OnErr, length};
+ghost use Rattle.ds_base.specs.declared.names.PageId.{PageId};
 ghost use Rattle.ds_disk.specs.Answers.{HasCause};
 ghost use Rattle.ds_disk.specs.Contents.{Becomes, WhenTold};
 ghost use Rattle.ds_disk.specs.Pages.{page_at};
-ghost use Rattle.member_pool.specs.Frames.{holds};
+ghost use Rattle.member_pool.specs.Frames.{holds, find_page};
 ghost use Rattle.member_pool.specs.Pools.{frame_of};
 ghost use Rattle.page_format.specs.Fields.{lrsn_of};
 ghost use Rattle.buffer_manager.specs.States.{bytes_of, Backs};
@@ -70,7 +71,9 @@ fn write_back<D: Disk>(
     ensures sound { IsManaged b.new }
     ensures goes { Goes (D.alive disk.old) (D.alive disk.new) (D.contents disk.old) (D.contents disk.new) b.old b.new result }
     ensures quiet { Becomes (D.contents disk.old) (D.contents disk.new) (λ c d. d.logs ≡ c.logs) }
-    ensures ok { OnOk result (b.new ≡ unmarked b.old frame) }
+    ensures log { b.new.log ≡ b.old.log }
+    ensures found { (q : PageId) → find_page b.new.pool.frames q ≡ find_page b.old.pool.frames q }
+    ensures ok { OnOk result (b.new.pool ≡ (unmarked b.old frame).pool) }
     ensures err { OnErr result (b.new ≡ b.old) }
     ensures cause { HasCause (D.faults disk.old) (D.faults disk.new) result }
 {
@@ -80,7 +83,6 @@ fn write_back<D: Disk>(
 }
 
 /// Writes a changed page to the disk, its records first.
-#[tactic(auto, using(crate::proofs::Goings::goes_quietly))]
 pub fn clean<D: Disk>(
     b: &mut BufferState,
     disk: &mut D,
@@ -91,6 +93,7 @@ pub fn clean<D: Disk>(
     requires held { holds id (frame_of b.old.pool frame) ≡ true }
     ensures sound { IsManaged b.new }
     ensures goes { Goes (D.alive disk.old) (D.alive disk.new) (D.contents disk.old) (D.contents disk.new) b.old b.new result }
+    ensures found { (q : PageId) → find_page b.new.pool.frames q ≡ find_page b.old.pool.frames q }
     ensures ok { OnOk result (b.new.pool ≡ (unmarked b.old frame).pool) }
     ensures err { OnErr result (b.new.pool ≡ b.old.pool) }
     ensures cause { HasCause (D.faults disk.old) (D.faults disk.new) result }

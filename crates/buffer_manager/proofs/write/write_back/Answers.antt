@@ -1,5 +1,7 @@
-use Rattle.std.proofs.Common.{false, refl}
-use Rattle.buffer_manager.proofs.Finds.{held_in}
+use Rattle.std.proofs.Common.{false, refl, ap, ◌∙◌}
+use Rattle.member_pool.specs.Frames.{find_page}
+use Rattle.member_pool.specs.Pools.{PoolState, frame_of}
+use Rattle.buffer_manager.proofs.Finds.{held_in, find_kept}
 use Rattle.buffer_manager.proofs.Goings.{Step, quiet_goes, step_both, becomes_both}
 use Rattle.buffer_manager.proofs.Keeping.{with_pool}
 use Rattle.buffer_manager.proofs.Steps.{sound_marked, step_unmark}
@@ -25,3 +27,8 @@ returns-clause-goes g c =
         (λ s t step written. step_unmark b s t c.set_changed.new.self c.args.frame c.args.id c.requires.sound.frames c.requires.held c.set_changed.ensures step written)
         (step_both x y b e.goes.keeps e.quiet) e.written)
     refl refl
+
+pub returns-clause-found : goal.returns-clause-found
+returns-clause-found g c = λ q.
+    let b = c.args.b.now in
+    ap (λ (p : PoolState). find_page p.frames q) c.set_changed.ensures ∙ find_kept b.pool.frames c.args.frame (record (frame_of b.pool c.args.frame) { changed = false }) q refl
