@@ -32,7 +32,7 @@ held_in [] f q h = absurd (true≢false (sym h))
 held_in (x ∷ frames) zero q h = omega arith
 held_in (x ∷ frames) (suc f) q h = let ih = held_in frames f q h in omega (arith, ih)
 
-same_name : (a b : PageId) → same_page a b ≡ true → a ≡ b
+pub same_name : (a b : PageId) → same_page a b ≡ true → a ≡ b
 same_name a b h =
     let p : a.set ≡ b.set = grind arith in
     let q : a.number ≡ b.number = grind arith in

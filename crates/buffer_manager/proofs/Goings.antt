@@ -124,3 +124,10 @@ pub goes_quietly : {S T : Type 0} (was between now : Bool) (x y z : Option Conte
     → Goes was between x y a b r → Goes between now y z b m s → m.log ≡ b.log → Becomes y z (λ c d. d.logs ≡ c.logs) → Goes was now x z a m s
 goes_quietly was between now x y z a b m r s is f g log quiet =
     goes_on was between now x y z a b m r s is f g.lives (becomes_both y z (Keeps b m) (λ c d. d.logs ≡ c.logs) (Step b m) (λ c d k l. record { keeps = k; logs = l }) g.keeps quiet) log g.member
+
+pub goes_last : {T : Type 0} (was now : Bool) (x y : Option Contents) (b m : BufferState) (r : Result T DiskError) → Goes was now x y b m r → m.log.last ≡ b.log.last
+goes_last was now x y b m r f = elim f.logs [
+  | inl quiet ↦ ap (λ (l : LogBuffer). l.last) quiet.0
+  | inr (inl forced) ↦ ap (λ (l : LogBuffer). l.last) forced.0
+  | inr (inr torn) ↦ ap (λ (l : LogBuffer). l.last) torn.2.0
+]

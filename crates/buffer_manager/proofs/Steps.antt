@@ -1,20 +1,22 @@
 -- The steps of the frames, and what stays sound.
 use Rattle.std.proofs.Common.{◌≡◌, ◌≢◌, ℕ, ◌<◌, ◌≤◌, Bool, true, false, ◌⊎◌, inl, inr, List, [], length, Option, Some, None, refl, sym, ap, subst, ◌∙◌, true≢false, arith, slice_set}
 use Rattle.std.specs.FinMap as map
-use Rattle.std.proofs.lemmas.List.{length-set}
+use Rattle.std.specs.Prelude.{IsSome}
+use Rattle.std.specs.Option.{option_map_or}
+use Rattle.std.proofs.lemmas.List.{get_or-set_same, get_or-set_other, length-set}
 use Rattle.ds_base.specs.declared.names.PageId.{PageId}
 use Rattle.ds_disk.specs.Contents.{Contents, Same}
 use Rattle.ds_disk.specs.Pages.{page_at}
 use Rattle.page_format.specs.Fields.{lrsn_of}
 use Rattle.member_pool.specs.declared.frame.Frame.{Frame}
-use Rattle.member_pool.specs.Frames.{holds, free_frame, frame_at, find_page}
+use Rattle.member_pool.specs.Frames.{holds, same_page, free_frame, frame_at, find_page}
 use Rattle.member_pool.specs.Pools.{PoolState, frame_of, with_frame, dropped}
 use Rattle.buffer_manager.specs.declared.state.BufferState.{BufferState}
-use Rattle.buffer_manager.specs.States.{bytes_of, holding_read, present, Backs}
-use Rattle.buffer_manager.specs.Goings.{AreSound, Keeps, unmarked}
-use Rattle.buffer_manager.proofs.Finds.{AreApart, at_same, one_page, each_set, apart_kept, apart_gone, apart_new, held_in, own_page}
+use Rattle.buffer_manager.specs.States.{bytes_of, holding_read, present, present_in, Backs}
+use Rattle.buffer_manager.specs.Goings.{AreSound, Keeps, Alters, unmarked, altered}
+use Rattle.buffer_manager.proofs.Finds.{AreApart, at_same, one_page, each_set, apart_kept, apart_gone, apart_new, held_in, own_page, same_name, find_kept, find_some}
 use Rattle.buffer_manager.proofs.Pages.{page_written}
-use Rattle.buffer_manager.proofs.Keeping.{with_pool, keeps_by, keeps_write, keeps_marked, keeps_drop, keeps_read, keeps_placed}
+use Rattle.buffer_manager.proofs.Keeping.{with_pool, keeps_by, keeps_write, keeps_marked, keeps_drop, keeps_read, keeps_placed, presents_held}
 use Rattle.buffer_manager.proofs.Goings.{Step, keeps_trans}
 
 -- ---- sound frames
@@ -110,3 +112,79 @@ step_placed b c d p s f id order sound l free none is then e reads =
       keeps = keeps_placed b c f id (holding_read id) (bytes_of p f) order l (subst (λ n. f < n) (sym sound.same) l) free none (own_page id) reads;
       logs = refl;
     }))
+
+-- ---- a page is changed
+
+pub held_some : (q : PageId) (x : Frame) → holds q x ≡ true → IsSome x.page
+held_some q x = by x.page
+  where
+    by : (o : Option PageId) → option_map_or (same_page q) o false ≡ true → IsSome o
+    by None h = absurd (true≢false (sym h))
+    by (Some p) h = refl
+
+pub sound_altered : (pool p : PoolState) (f : ℕ) (bytes : List ℕ) → AreSound pool → f < length pool.frames → p ≡ altered pool f bytes → AreSound p
+sound_altered pool p f bytes sound l is =
+    sound_by pool p f (record (frame_of pool f) { changed = true }) sound l (ap (λ (s : PoolState). length s.pages) is ∙ length-set pool.pages f bytes) (ap (λ (s : PoolState). s.frames) is)
+    (apart_kept pool.frames f (record (frame_of pool f) { changed = true }) l sound.apart (λ q. refl)) (λ q h. sound.filled f q h) (sound.unpinned f)
+
+alters_pool : (change : List ℕ → List ℕ) (b : BufferState) (c : Contents) (f : ℕ) (id : PageId) → AreSound b.pool → holds id (frame_of b.pool f) ≡ true
+    → lrsn_of (change (bytes_of b.pool f)) ≤ b.log.last → Alters id change b (with_pool b (altered b.pool f (change (bytes_of b.pool f)))) c c
+alters_pool change b c f id sound h put = record {
+  own = λ backs. own;
+  others = λ backs q other. others q other;
+  backs = λ backs. record {
+    clean = λ g q. each_set (λ n y. holds q y ≡ true → y.changed ≡ false → bytes_of p n ≡ page_at c.pages q) b.pool.frames f x l
+        (λ n other t clean. get_or-set_other b.pool.pages f n new [] other ∙ backs.clean n q t clean) (λ t clean. absurd (true≢false clean)) g;
+    logged = record {
+      on_disk = backs.logged.on_disk;
+      presents = λ q. elim (is_page q) [
+        | inl e ↦ subst (λ k. lrsn_of (present p c k) ≤ b.log.last) (sym e) (subst (λ (bytes : List ℕ). lrsn_of bytes ≤ b.log.last) (sym own_bytes) put)
+        | inr e ↦ subst (λ (bytes : List ℕ). lrsn_of bytes ≤ b.log.last) (sym (others q e)) (backs.logged.presents q)
+      ];
+    };
+  };
+}
+  where
+    x : Frame
+    x = record (frame_of b.pool f) { changed = true }
+
+    new : List ℕ
+    new = change (bytes_of b.pool f)
+
+    p : PoolState
+    p = altered b.pool f new
+
+    l : f < length b.pool.frames
+    l = held_in b.pool.frames f id h
+
+    own_bytes : present p c id ≡ new
+    own_bytes = ap (present_in p c id) (find_kept b.pool.frames f x id refl ∙ sound.apart f id h) ∙ get_or-set_same b.pool.pages f new [] (subst (λ n. f < n) (sym sound.same) l)
+
+    own : present p c id ≡ change (present b.pool c id)
+    own = own_bytes ∙ ap change (sym (presents_held b.pool c f id sound h))
+
+    is_page : (q : PageId) → (q ≡ id) ⊎ (q ≢ id)
+    is_page q = by (same_page q id) refl
+      where
+        by : (t : Bool) → same_page q id ≡ t → (q ≡ id) ⊎ (q ≢ id)
+        by true e = inl (same_name q id e)
+        by false e = inr (λ is. true≢false (sym (own_page id) ∙ sym (ap (λ k. same_page k id) is) ∙ e))
+
+    others : (q : PageId) → q ≢ id → present p c q ≡ present b.pool c q
+    others q other = ap (present_in p c q) (find_kept b.pool.frames f x q refl) ∙ by (find_page b.pool.frames q) refl
+      where
+        by : (o : Option ℕ) → find_page b.pool.frames q ≡ o → present_in p c q o ≡ present_in b.pool c q o
+        by None e = refl
+        by (Some g) e = get_or-set_other b.pool.pages f g new [] (λ is. other (one_page q id (frame_of b.pool f) (subst (λ n. holds q (frame_of b.pool n) ≡ true) is (find_some b.pool.frames q g e)) h))
+
+-- a fetch, and then the change
+pub step_alter : (change : List ℕ → List ℕ) (a b : BufferState) (c d : Contents) (p : PoolState) (f : ℕ) (id : PageId) → AreSound b.pool → holds id (frame_of b.pool f) ≡ true
+    → lrsn_of (change (bytes_of b.pool f)) ≤ b.log.last → p ≡ altered b.pool f (change (bytes_of b.pool f)) → Keeps a b c d → Alters id change a (with_pool b p) c d
+step_alter change a b c d p f id sound h put is keeps =
+    subst (λ (s : PoolState). Alters id change a (with_pool b s) c d) (sym is)
+    (let alters = alters_pool change b d f id sound h put in
+    record {
+      own = λ backs. alters.own (keeps.backs backs) ∙ ap change (keeps.pages backs id);
+      others = λ backs q other. alters.others (keeps.backs backs) q other ∙ keeps.pages backs q;
+      backs = λ backs. alters.backs (keeps.backs backs);
+    })

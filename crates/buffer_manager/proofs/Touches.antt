@@ -39,13 +39,13 @@ placed_read pool p q f id l place fill =
 
 -- ---- the order of use
 
+stays_by : (f g : ℕ) (order : List ℕ) (b : Bool) → nat_eq f g ≡ b → without f (without f order) ≡ without f order → without f (without f (g ∷ order)) ≡ without f (g ∷ order)
+stays_by f g order true e ih = grind (arith, ih)
+stays_by f g order false e ih = grind (arith, ih)
+
 stays_without : (f : ℕ) (order : List ℕ) → without f (without f order) ≡ without f order
 stays_without f [] = refl
-stays_without f (g ∷ order) = by (nat_eq f g) refl
-  where
-    by : (b : Bool) → nat_eq f g ≡ b → without f (without f (g ∷ order)) ≡ without f (g ∷ order)
-    by true e = grind (arith, stays_without f order)
-    by false e = grind (arith, stays_without f order)
+stays_without f (g ∷ order) = stays_by f g order (nat_eq f g) refl (stays_without f order)
 
 -- the oldest becomes the newest
 pub newest_again : (f : ℕ) (order : List ℕ) → newest f (oldest f order) ≡ newest f order

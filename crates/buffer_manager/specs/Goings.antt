@@ -1,5 +1,5 @@
 -- How a buffer manager and the disk go on together.
-use Rattle.std.specs.Prelude.{ℕ, ◌≡◌, ◌⊎◌, ◌≤◌, Bool, true, false, List, ◌++◌, length, take, Option, Some, Result, IsErrOf}
+use Rattle.std.specs.Prelude.{ℕ, ◌≡◌, ◌≢◌, ◌⊎◌, ◌≤◌, Bool, true, false, List, ◌++◌, length, take, slice_set, Option, Some, Result, IsErrOf}
 use Rattle.ds_base.specs.declared.names.PageId.{PageId}
 use Rattle.ds_disk.specs.Contents.{Contents, Becomes}
 use Rattle.ds_disk.specs.declared.disk.DiskError.{DiskError}
@@ -30,6 +30,12 @@ pub record IsManaged (b : BufferState) : Type 0 where
 -- each page is as before, and log before page
 pub record Keeps (b now : BufferState) (c d : Contents) : Type 0 where
   pub pages : Backs b c → (id : PageId) → present now.pool d id ≡ present b.pool c id
+  pub backs : Backs b c → Backs now d
+
+-- this page is changed so, and every other is as before
+pub record Alters (id : PageId) (change : List ℕ → List ℕ) (b now : BufferState) (c d : Contents) : Type 0 where
+  pub own : Backs b c → present now.pool d id ≡ change (present b.pool c id)
+  pub others : Backs b c → (q : PageId) → q ≢ id → present now.pool d q ≡ present b.pool c q
   pub backs : Backs b c → Backs now d
 
 -- a front of the pending bytes stands at the end of the member's log
@@ -66,3 +72,7 @@ forced b = record b { log = after_force b.log }
 -- the page of a frame was written to the disk
 abbrev pub unmarked : BufferState → ℕ → BufferState
 unmarked b f = record b { pool = with_frame b.pool f (record (frame_of b.pool f) { changed = false }) }
+
+-- the page of a frame has these bytes, and is marked as changed
+abbrev pub altered : PoolState → ℕ → List ℕ → PoolState
+altered pool f bytes = record { pages = slice_set pool.pages f bytes; frames = slice_set pool.frames f (record (frame_of pool f) { changed = true }); order = pool.order }

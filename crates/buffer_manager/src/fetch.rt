@@ -100,6 +100,26 @@ fn release<D: Disk>(b: &mut BufferState, disk: &mut D, frame: u16) -> Result<(),
     Ok(())
 }
 
+// Reads a page that no frame holds into this frame, whose own page is written before if it was changed.
+fn turn_over<D: Disk>(
+    b: &mut BufferState,
+    disk: &mut D,
+    frame: u16,
+    id: PageId,
+) -> Result<(), DiskError>
+    requires sound { IsManaged b.old }
+    requires there { frame < length b.old.pool.frames }
+    requires absent { find_page b.old.pool.frames id ≡ None }
+    ensures sound { IsManaged b.new }
+    ensures goes { Goes (D.alive disk.old) (D.alive disk.new) (D.contents disk.old) (D.contents disk.new) b.old b.new result }
+    ensures held { OnOk result (holds id (frame_of b.new.pool frame) ≡ true) }
+    ensures order { OnOk result (b.new.pool.order ≡ newest frame b.old.pool.order) }
+    ensures cause { HasCause (D.faults disk.old) (D.faults disk.new) result }
+{
+    release(b, disk, frame)?;
+    read_in(b, disk, frame, id)
+}
+
 // Reads a page that no frame holds into the frame that was used longest ago.
 fn load<D: Disk>(b: &mut BufferState, disk: &mut D, id: PageId) -> Result<u16, DiskError>
     requires sound { IsManaged b.old }
@@ -113,8 +133,7 @@ fn load<D: Disk>(b: &mut BufferState, disk: &mut D, id: PageId) -> Result<u16, D
     let Some(frame) = b.pool.victim() else {
         unreachable!()
     };
-    release(b, disk, frame)?;
-    read_in(b, disk, frame, id)?;
+    turn_over(b, disk, frame, id)?;
     Ok(frame)
 }
 
