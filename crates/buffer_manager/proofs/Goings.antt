@@ -129,5 +129,5 @@ pub goes_last : {T : Type 0} (was now : Bool) (x y : Option Contents) (b m : Buf
 goes_last was now x y b m r f = elim f.logs [
   | inl quiet ↦ ap (λ (l : LogBuffer). l.last) quiet.0
   | inr (inl forced) ↦ ap (λ (l : LogBuffer). l.last) forced.0
-  | inr (inr torn) ↦ ap (λ (l : LogBuffer). l.last) torn.2.0
+  | inr (inr torn) ↦ ap (λ (l : LogBuffer). l.last) torn.2
 ]

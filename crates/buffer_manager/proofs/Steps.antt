@@ -1,11 +1,13 @@
 -- The steps of the frames, and what stays sound.
-use Rattle.std.proofs.Common.{◌≡◌, ◌≢◌, ℕ, ◌<◌, ◌≤◌, Bool, true, false, ◌⊎◌, inl, inr, List, [], length, Option, Some, None, refl, sym, ap, subst, ◌∙◌, true≢false, arith, slice_set}
+use Rattle.std.proofs.Common.{◌≡◌, ◌≢◌, ℕ, zero, suc, replicate, Result, Ok, Err, ◌<◌, ◌≤◌, Bool, true, false, ◌⊎◌, inl, inr, List, [], length, Option, Some, None, refl, sym, ap, subst, ◌∙◌, true≢false, arith, slice_set}
 use Rattle.std.specs.FinMap as map
-use Rattle.std.specs.Prelude.{IsSome}
+use Rattle.std.specs.Prelude.{IsSome, IfOk}
 use Rattle.std.specs.Option.{option_map_or}
-use Rattle.std.proofs.lemmas.List.{get_or-set_same, get_or-set_other, length-set}
+use Rattle.std.proofs.lemmas.List.{get_or-set_same, get_or-set_other, length-set, length-replicate}
 use Rattle.ds_base.specs.declared.names.PageId.{PageId}
-use Rattle.ds_disk.specs.Contents.{Contents, Same}
+use Rattle.ds_disk.specs.Contents.{Contents, Becomes, Same}
+use Rattle.ds_disk.specs.declared.disk.DiskError.{DiskError}
+use Rattle.member_log.specs.Buffers.{LogBuffer, empty_buffer}
 use Rattle.ds_disk.specs.Pages.{page_at}
 use Rattle.page_format.specs.Fields.{lrsn_of}
 use Rattle.member_pool.specs.declared.frame.Frame.{Frame}
@@ -14,10 +16,11 @@ use Rattle.member_pool.specs.Pools.{PoolState, frame_of, with_frame, dropped}
 use Rattle.buffer_manager.specs.declared.state.BufferState.{BufferState}
 use Rattle.buffer_manager.specs.States.{bytes_of, holding_read, present, present_in, Backs}
 use Rattle.buffer_manager.specs.Goings.{AreSound, Keeps, Alters, unmarked, altered}
-use Rattle.buffer_manager.proofs.Finds.{AreApart, at_same, one_page, each_set, apart_kept, apart_gone, apart_new, held_in, own_page, same_name, find_kept, find_some}
+use Rattle.buffer_manager.proofs.Finds.{AreApart, at_same, one_page, each_set, apart_kept, apart_gone, apart_new, held_in, own_page, same_name, find_kept, find_some, find_none}
 use Rattle.buffer_manager.proofs.Pages.{page_written}
 use Rattle.buffer_manager.proofs.Keeping.{with_pool, keeps_by, keeps_write, keeps_marked, keeps_drop, keeps_read, keeps_placed, presents_held}
 use Rattle.buffer_manager.proofs.Goings.{Step, keeps_trans}
+use Rattle.buffer_manager.proofs.Logs.{becomes_map}
 
 -- ---- sound frames
 
@@ -188,3 +191,54 @@ step_alter change a b c d p f id sound h put is keeps =
       others = λ backs q other. alters.others (keeps.backs backs) q other ∙ keeps.pages backs q;
       backs = λ backs. alters.backs (keeps.backs backs);
     })
+
+-- ---- a page is fetched
+
+pub fetched : (b m : BufferState) (id : PageId) (x y : Option Contents) (r : Result ℕ DiskError) → IfOk r (λ f. holds id (frame_of m.pool f) ≡ true) → AreSound m.pool → Becomes x y (Keeps b m)
+    → IfOk r (λ f. Becomes x y (λ c d. Backs b c → bytes_of m.pool f ≡ present b.pool c id))
+fetched b m id x y (Err e) h sound keeps = tt
+fetched b m id x y (Ok f) h sound keeps = becomes_map x y (Keeps b m) _ (λ c d k backs. sym (presents_held m.pool d f id sound h) ∙ k.pages backs id) keeps
+
+pub fetched_there : (pool : PoolState) (id : PageId) (r : Result ℕ DiskError) → IfOk r (λ f. holds id (frame_of pool f) ≡ true) → IfOk r (λ f. f < length pool.frames)
+fetched_there pool id (Err e) h = tt
+fetched_there pool id (Ok f) h = held_in pool.frames f id h
+
+-- ---- the start
+
+none_held : (n f : ℕ) (q : PageId) → holds q (frame_at (replicate n free_frame) f) ≡ false
+none_held zero f q = refl
+none_held (suc n) zero q = refl
+none_held (suc n) (suc f) q = none_held n f q
+
+none_pinned : (n f : ℕ) → (frame_at (replicate n free_frame) f).pins ≡ 0
+none_pinned zero f = refl
+none_pinned (suc n) zero = refl
+none_pinned (suc n) (suc f) = none_pinned n f
+
+pub none_found : (n : ℕ) (frames : List Frame) → frames ≡ replicate n free_frame → (q : PageId) → find_page frames q ≡ None
+none_found n frames is q = find_none frames q (λ f h. true≢false (sym h ∙ ap (λ (fs : List Frame). holds q (frame_at fs f)) is ∙ none_held n f q))
+
+pub sound_new : (n : ℕ) (page : List ℕ) (pool : PoolState) → 4 ≤ n → pool.pages ≡ replicate n page → pool.frames ≡ replicate n free_frame → AreSound pool
+sound_new n page pool enough pages frames =
+    let long : length pool.frames ≡ n = ap length frames ∙ length-replicate n free_frame in
+    let free : (f : ℕ) (q : PageId) → holds q (frame_of pool f) ≡ true → ⊥ = λ f q h. true≢false (sym h ∙ ap (λ (fs : List Frame). holds q (frame_at fs f)) frames ∙ none_held n f q) in
+    record {
+      enough = subst (λ (k : ℕ). 4 ≤ k) (sym long) enough;
+      same = ap length pages ∙ length-replicate n page ∙ sym long;
+      apart = λ f q h. absurd (free f q h);
+      filled = λ f q h. absurd (free f q h);
+      unpinned = λ f. ap (λ (fs : List Frame). (frame_at fs f).pins) frames ∙ none_pinned n f;
+    }
+
+-- the frames are free, and each page on disk has a change whose record is stable
+pub backs_new : (n : ℕ) (b : BufferState) (c : Contents) → b.pool.frames ≡ replicate n free_frame → b.log ≡ empty_buffer 65536 → ((id : PageId) → lrsn_of (page_at c.pages id) ≡ 0) → Backs b c
+backs_new n b c frames log fresh =
+    let stable : b.log.stable ≡ 0 = ap (λ (l : LogBuffer). l.stable) log in
+    let last : b.log.last ≡ 0 = ap (λ (l : LogBuffer). l.last) log in
+    record {
+      clean = λ f q h. absurd (true≢false (sym h ∙ ap (λ (fs : List Frame). holds q (frame_at fs f)) frames ∙ none_held n f q));
+      logged = record {
+        on_disk = λ id. omega (arith, fresh id, stable);
+        presents = λ id. subst (λ (bytes : List ℕ). lrsn_of bytes ≤ b.log.last) (sym (ap (present_in b.pool c id) (none_found n b.pool.frames frames id))) (omega (arith, fresh id, last));
+      };
+    }

@@ -154,3 +154,21 @@ pub fn fetch<D: Disk>(b: &mut BufferState, disk: &mut D, id: PageId) -> Result<u
         None => load(b, disk, id),
     }
 }
+
+/// Finds a page in its frame, or reads it into one.
+pub fn fetch_page<D: Disk>(
+    b: &mut BufferState,
+    disk: &mut D,
+    id: PageId,
+) -> Result<u16, DiskError>
+    requires sound { IsManaged b.old }
+    ensures sound { IsManaged b.new }
+    ensures goes { Goes (D.alive disk.old) (D.alive disk.new) (D.contents disk.old) (D.contents disk.new) b.old b.new result }
+    ensures page { IfOk result (λ f. Becomes (D.contents disk.old) (D.contents disk.new) (λ c _. Backs b.old c → bytes_of b.new.pool f ≡ present b.old.pool c id)) }
+    ensures there { IfOk result (λ f. f < length b.new.pool.frames) }
+    ensures held { IfOk result (λ f. holds id (frame_of b.new.pool f) ≡ true) }
+    ensures order { IfOk result (λ f. b.new.pool.order ≡ newest f b.old.pool.order) }
+    ensures cause { HasCause (D.faults disk.old) (D.faults disk.new) result }
+{
+    fetch(b, disk, id)
+}

@@ -5,5 +5,8 @@ mod change;
 mod fetch;
 mod force;
 mod frames;
+mod manager;
 mod state;
 mod write;
+
+pub use manager::BufferManager;
