@@ -78,7 +78,7 @@ keeps_marked b c f x l same own =
     keeps_by b (with_frame b.pool f x) c
     (λ backs q. ap (present_in b.pool c q) (find_kept b.pool.frames f x q (same q)))
     (λ backs g q. each_set (λ n y. holds q y ≡ true → y.changed ≡ false → bytes_of b.pool n ≡ page_at c.pages q) b.pool.frames f x l
-        (λ n other h clean. backs.clean n q h clean) (λ h clean. own q h clean backs) g)
+    (λ n other h clean. backs.clean n q h clean) (λ h clean. own q h clean backs) g)
 
 -- ---- a frame that is dropped
 
@@ -87,7 +87,7 @@ pub keeps_drop : (b : BufferState) (c : Contents) (f : ℕ) (order : List ℕ) �
 keeps_drop b c f order sound l clean =
     keeps_by b _ c same
     (λ backs g q. each_set (λ n y. holds q y ≡ true → y.changed ≡ false → bytes_of b.pool n ≡ page_at c.pages q) b.pool.frames f free_frame l
-        (λ n other h is. backs.clean n q h is) (λ h is. absurd (true≢false (sym h))) g)
+    (λ n other h is. backs.clean n q h is) (λ h is. absurd (true≢false (sym h))) g)
   where
     same : Backs b c → (q : PageId) → present (record { pages = b.pool.pages; frames = slice_set b.pool.frames f free_frame; order = order }) c q ≡ present b.pool c q
     same backs q = by (holds q (frame_of b.pool f)) refl

@@ -17,12 +17,7 @@ use ds_disk::{Disk, DiskError};
 use member_pool::Frame;
 
 // Reads the bytes of a page into a free frame, which stays free.
-fn fill<D: Disk>(
-    b: &mut BufferState,
-    disk: &mut D,
-    frame: u16,
-    id: PageId,
-) -> Result<(), DiskError>
+fn fill<D: Disk>(b: &mut BufferState, disk: &mut D, frame: u16, id: PageId) -> Result<(), DiskError>
     requires sound { IsManaged b.old }
     requires there { frame < length b.old.pool.frames }
     requires free { (q : PageId) → holds q (frame_of b.old.pool frame) ≡ false }
@@ -156,11 +151,7 @@ pub fn fetch<D: Disk>(b: &mut BufferState, disk: &mut D, id: PageId) -> Result<u
 }
 
 /// Finds a page in its frame, or reads it into one.
-pub fn fetch_page<D: Disk>(
-    b: &mut BufferState,
-    disk: &mut D,
-    id: PageId,
-) -> Result<u16, DiskError>
+pub fn fetch_page<D: Disk>(b: &mut BufferState, disk: &mut D, id: PageId) -> Result<u16, DiskError>
     requires sound { IsManaged b.old }
     ensures sound { IsManaged b.new }
     ensures goes { Goes (D.alive disk.old) (D.alive disk.new) (D.contents disk.old) (D.contents disk.new) b.old b.new result }

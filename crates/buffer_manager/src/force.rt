@@ -27,11 +27,7 @@ pub fn force<D: Disk>(b: &mut BufferState, disk: &mut D) -> Result<(), DiskError
 }
 
 // Forces the log buffer where it has no room for so many bytes.
-fn make_room<D: Disk>(
-    b: &mut BufferState,
-    disk: &mut D,
-    length: usize,
-) -> Result<(), DiskError>
+fn make_room<D: Disk>(b: &mut BufferState, disk: &mut D, length: usize) -> Result<(), DiskError>
     requires sound { IsManaged b.old }
     requires short { length ≤ 65536 }
     ensures sound { IsManaged b.new }
@@ -50,11 +46,7 @@ fn make_room<D: Disk>(
 }
 
 /// Adds a record behind the pending ones. Where there is no room they go to the log first.
-pub fn put<D: Disk>(
-    b: &mut BufferState,
-    disk: &mut D,
-    it: &LogRecord,
-) -> Result<(), DiskError>
+pub fn put<D: Disk>(b: &mut BufferState, disk: &mut D, it: &LogRecord) -> Result<(), DiskError>
     requires sound { IsManaged b.old }
     requires fits { Fits it.now }
     requires next { b.old.log.last ≤ it.now.lrsn }

@@ -10,3 +10,6 @@ mod state;
 mod write;
 
 pub use manager::BufferManager;
+
+#[cfg(test)]
+mod tests;

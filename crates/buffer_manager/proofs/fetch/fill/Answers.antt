@@ -17,5 +17,5 @@ returns-clause-goes g c =
     let x = g.D.Disk.contents c.args.disk.now in
     (goes_told _ _ x _ b (with_pool b p) _ (λ t. t ≡ t) _ _ (told x (λ t. t ≡ t) (λ t. refl)) c.read_into.ensures.answers
     (λ u s t r is. step_read b s t p c.args.frame (bytes_of p c.args.frame) c.requires.free c.read_into.ensures.pool is.0)
-    (λ s t r is. step_read b s t p c.args.frame (bytes_of p c.args.frame) c.requires.free c.read_into.ensures.pool (elim is [ | inl e ↦ e | inr e ↦ e ]))
+    (λ s t r is. step_read b s t p c.args.frame (bytes_of p c.args.frame) c.requires.free c.read_into.ensures.pool (elim is [ inl e ↦ e | inr e ↦ e ]))
     refl refl).0

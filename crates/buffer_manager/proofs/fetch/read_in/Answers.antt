@@ -32,9 +32,9 @@ returns-clause-goes g c =
     let p = c.fill.new.b.pool in
     quiet_goes _ _ _ _ b (record { pool = c.place_read.new.pool; log = c.fill.new.b.log; member = c.fill.new.b.member }) _ e.goes.lives
     (becomes_map _ _ _ _ (λ s t is. subst (λ l. Step b (record { pool = c.place_read.new.pool; log = l; member = c.fill.new.b.member }) s t) (sym e.log)
-        (subst (λ n. Step b (record { pool = c.place_read.new.pool; log = b.log; member = n }) s t) (sym e.goes.member)
-        (step_placed b s t p c.place_read.new.pool f c.args.id (newest f p.order) c.requires.sound.frames c.requires.there c.requires.free c.requires.absent e.pool c.place_read.ensures is.0 is.1)))
-        e.read)
+    (subst (λ n. Step b (record { pool = c.place_read.new.pool; log = b.log; member = n }) s t) (sym e.goes.member)
+    (step_placed b s t p c.place_read.new.pool f c.args.id (newest f p.order) c.requires.sound.frames c.requires.there c.requires.free c.requires.absent e.pool c.place_read.ensures is.0 is.1)))
+    e.read)
     e.log e.goes.member
 
 pub returns-clause-held : goal.returns-clause-held

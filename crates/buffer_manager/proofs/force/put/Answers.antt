@@ -12,8 +12,8 @@ returns-clause-ok g c =
     let goes = c.in_ok-make_room.ensures.goes in
     becomes_map _ _ (λ x d. logs_with_pending m d ≡ logs_with_pending b x) _
     (λ x d same.
-        ap (λ p. with_more d.logs m.member p) (ap (λ l. l.pending) c.in-Ok.ensures.ok ∙ refl)
-        ∙ more_twice d.logs m.member m.log.pending (record_bytes c.args.it.now)
-        ∙ ap (λ l. with_more l m.member (record_bytes c.args.it.now)) same
-        ∙ ap (λ n. with_more (logs_with_pending b x) n (record_bytes c.args.it.now)) goes.member)
+    ap (λ p. with_more d.logs m.member p) (ap (λ l. l.pending) c.in-Ok.ensures.ok ∙ refl)
+    ∙ more_twice d.logs m.member m.log.pending (record_bytes c.args.it.now)
+    ∙ ap (λ l. with_more l m.member (record_bytes c.args.it.now)) same
+    ∙ ap (λ n. with_more (logs_with_pending b x) n (record_bytes c.args.it.now)) goes.member)
     (goes.presents (λ e. cc))

@@ -24,8 +24,8 @@ returns-clause-goes g c =
     let y = g.D.Disk.contents c.write_page.new.disk in
     quiet_goes _ _ x y b (with_pool b c.set_changed.new.self) _ e.goes.lives
     (becomes_both x y (Step b b) _ (Step b (with_pool b c.set_changed.new.self))
-        (λ s t step written. step_unmark b s t c.set_changed.new.self c.args.frame c.args.id c.requires.sound.frames c.requires.held c.set_changed.ensures step written)
-        (step_both x y b e.goes.keeps e.quiet) e.written)
+    (λ s t step written. step_unmark b s t c.set_changed.new.self c.args.frame c.args.id c.requires.sound.frames c.requires.held c.set_changed.ensures step written)
+    (step_both x y b e.goes.keeps e.quiet) e.written)
     refl refl
 
 pub returns-clause-found : goal.returns-clause-found
