@@ -59,6 +59,21 @@ impl Pool {
         find_in(&self.places, self.frames.as_slice(), id)
     }
 
+    /// How many frames there are.
+    pub fn len(&self) -> u16
+        ensures { result ≡ length self.now.frames }
+    {
+        self.frames.len() as u16
+    }
+
+    /// What a frame holds, and how it is used.
+    pub fn frame(&self, frame: u16) -> Frame
+        requires { frame < length self.now.frames }
+        ensures { result ≡ frame_of self.now frame }
+    {
+        self.frames[frame as usize]
+    }
+
     pub fn page(&self, frame: u16) -> &Page
         requires { frame < length self.now.frames }
         ensures { slice_get self.now.pages frame ≡ Some result.now }
