@@ -5,10 +5,11 @@ use Rattle.ds_disk.specs.Answers.{Answers}
 use Rattle.ds_disk.specs.Contents.{Contents, Becomes, Same, WhenTold}
 use Rattle.ds_disk.specs.declared.disk.DiskError.{DiskError}
 use Rattle.ds_disk.specs.declared.disk.DiskError.TheVariants.{Failed, NoMemory}
-use Rattle.member_log.specs.Buffers.{LogBuffer, after_force}
+use Rattle.ds_model.specs.declared.log.LogRecord.{LogRecord}
+use Rattle.member_log.specs.Buffers.{LogBuffer, after_put, after_force}
 use Rattle.buffer_manager.specs.declared.state.BufferState.{BufferState}
 use Rattle.buffer_manager.specs.States.{with_more, logs_with_pending, Backs}
-use Rattle.buffer_manager.specs.Goings.{Keeps, IsTorn, Goes}
+use Rattle.buffer_manager.specs.Goings.{Keeps, IsTorn, AreQuiet, AreForced, AreTorn, Goes, LogsGoOn}
 use Rattle.buffer_manager.proofs.Logs.{more_twice, becomes_map}
 
 -- ---- told contents
@@ -131,3 +132,24 @@ goes_last was now x y b m r f = elim f.logs [
   | inr (inl forced) ↦ ap (λ (l : LogBuffer). l.last) forced.0
   | inr (inr torn) ↦ ap (λ (l : LogBuffer). l.last) torn.2
 ]
+
+-- ---- the logs behind a call that didn't fail
+
+logs_on : {T : Type 0} (was now : Bool) (before after : Option Contents) (b m : BufferState) (result : Result T DiskError) (log same forced_log : LogBuffer)
+    → ¬ IsErrOf result Failed → (m.log ≡ b.log → log ≡ same) → (m.log ≡ after_force b.log → log ≡ forced_log)
+    → AreQuiet was now before after b m result ⊎ AreForced was now before after b m result ⊎ AreTorn was now before after b m result
+    → LogsGoOn before after b log same forced_log
+logs_on was now before after b m result log same forced_log ok q f (inl h) = inl (q h.0, h.1)
+logs_on was now before after b m result log same forced_log ok q f (inr (inl h)) = inr (f h.0, h.1)
+logs_on was now before after b m result log same forced_log ok q f (inr (inr h)) = absurd (ok h.0)
+
+pub puts_behind : {T : Type 0} (was now : Bool) (before after : Option Contents) (b m : BufferState) (result : Result T DiskError) (log : LogBuffer) (r : LogRecord)
+    → ¬ IsErrOf result Failed → Goes was now before after b m result → log ≡ after_put m.log r
+    → LogsGoOn before after b log (after_put b.log r) (after_put (after_force b.log) r)
+puts_behind was now before after b m result log r ok goes is =
+    logs_on was now before after b m result log (after_put b.log r) (after_put (after_force b.log) r) ok
+    (λ e. is ∙ ap (λ l. after_put l r) e) (λ e. is ∙ ap (λ l. after_put l r) e) goes.logs
+
+pub log_goes_on : {T : Type 0} (was now : Bool) (before after : Option Contents) (b m : BufferState) (result : Result T DiskError)
+    → ¬ IsErrOf result Failed → Goes was now before after b m result → LogsGoOn before after b m.log b.log (after_force b.log)
+log_goes_on was now before after b m result ok goes = logs_on was now before after b m result m.log b.log (after_force b.log) ok (λ e. e) (λ e. e) goes.logs

@@ -4,7 +4,8 @@ use Rattle.ds_base.specs.declared.names.PageId.{PageId}
 use Rattle.ds_disk.specs.Contents.{Contents, Becomes}
 use Rattle.ds_disk.specs.declared.disk.DiskError.{DiskError}
 use Rattle.ds_disk.specs.declared.disk.DiskError.TheVariants.{Failed}
-use Rattle.member_log.specs.Buffers.{after_force}
+use Rattle.ds_model.specs.declared.log.LogRecord.{LogRecord}
+use Rattle.member_log.specs.Buffers.{LogBuffer, after_put, after_force}
 use Rattle.member_pool.specs.Frames.{holds, find_page}
 use Rattle.member_pool.specs.Pools.{PoolState, frame_of, with_frame}
 use Rattle.buffer_manager.specs.declared.state.BufferState.{BufferState}
@@ -76,3 +77,16 @@ unmarked b f = record b { pool = with_frame b.pool f (record (frame_of b.pool f)
 -- the page of a frame has these bytes, and is marked as changed
 abbrev pub altered : PoolState → ℕ → List ℕ → PoolState
 altered pool f bytes = record { pages = slice_set pool.pages f bytes; frames = slice_set pool.frames f (record (frame_of pool f) { changed = true }); order = pool.order }
+
+-- the logs on disk and the log buffer are as before, or what was pending stands in the member's log
+abbrev pub LogsGoOn : Option Contents → Option Contents → BufferState → LogBuffer → LogBuffer → LogBuffer → Type 0
+LogsGoOn before after b now same forced_now =
+    ((now ≡ same) × Becomes before after (λ c d. d.logs ≡ c.logs)) ⊎ ((now ≡ forced_now) × Becomes before after (λ c d. d.logs ≡ logs_with_pending b c))
+
+-- the record was put behind the pending ones, or behind a force
+abbrev pub PutsBehind : Option Contents → Option Contents → BufferState → BufferState → LogRecord → Type 0
+PutsBehind before after b now r = LogsGoOn before after b now.log (after_put b.log r) (after_put (after_force b.log) r)
+
+-- at most a force
+abbrev pub GoesOn : Option Contents → Option Contents → BufferState → BufferState → Type 0
+GoesOn before after b now = LogsGoOn before after b now.log b.log (after_force b.log)

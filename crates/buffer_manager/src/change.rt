@@ -5,7 +5,7 @@ ghost use Rattle.member_pool.specs.Frames.{holds};
 ghost use Rattle.member_pool.specs.Pools.{frame_of};
 ghost use Rattle.page_format.specs.Fields.{page_size, lrsn_of};
 ghost use Rattle.buffer_manager.specs.States.{bytes_of, patched_by, logs_with_pending};
-ghost use Rattle.buffer_manager.specs.Goings.{AreSound, IsManaged, Goes, Alters, altered};
+ghost use Rattle.buffer_manager.specs.Goings.{AreSound, IsManaged, Goes, Alters, GoesOn, altered};
 
 use crate::fetch::fetch;
 use crate::state::BufferState;
@@ -40,6 +40,7 @@ pub fn change<D: Disk>(
     ensures sound { IsManaged b.new }
     ensures alters { OnOk result (Becomes (D.contents disk.old) (D.contents disk.new) (Alters patch.now.page (patched_by patch.now lrsn) b.old b.new)) }
     ensures logs { OnOk result (Becomes (D.contents disk.old) (D.contents disk.new) (λ c d. logs_with_pending b.new d ≡ logs_with_pending b.old c)) }
+    ensures way { OnOk result (GoesOn (D.contents disk.old) (D.contents disk.new) b.old b.new) }
     ensures alive { OnOk result (D.alive disk.new ≡ D.alive disk.old) }
     ensures last { b.new.log.last ≡ b.old.log.last }
     ensures member { b.new.member ≡ b.old.member }

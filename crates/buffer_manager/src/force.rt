@@ -4,7 +4,7 @@ ghost use Rattle.ds_disk.specs.Contents.{Becomes};
 ghost use Rattle.ds_model.specs.RecordBytes.{record_bytes, Fits};
 ghost use Rattle.member_log.specs.Buffers.{room_of};
 ghost use Rattle.buffer_manager.specs.States.{with_more, logs_with_pending};
-ghost use Rattle.buffer_manager.specs.Goings.{IsManaged, Goes, Keeps, forced};
+ghost use Rattle.buffer_manager.specs.Goings.{IsManaged, Goes, Keeps, PutsBehind, forced};
 
 use crate::state::BufferState;
 use ds_disk::{Disk, DiskError};
@@ -53,6 +53,7 @@ pub fn put<D: Disk>(b: &mut BufferState, disk: &mut D, it: &LogRecord) -> Result
     ensures sound { IsManaged b.new }
     ensures keeps { Becomes (D.contents disk.old) (D.contents disk.new) (Keeps b.old b.new) }
     ensures ok { OnOk result (Becomes (D.contents disk.old) (D.contents disk.new) (λ c d. logs_with_pending b.new d ≡ with_more (logs_with_pending b.old c) b.old.member (record_bytes it.now))) }
+    ensures way { OnOk result (PutsBehind (D.contents disk.old) (D.contents disk.new) b.old b.new it.now) }
     ensures alive { OnOk result (D.alive disk.new ≡ D.alive disk.old) }
     ensures last { OnOk result (b.new.log.last ≡ it.now.lrsn) }
     ensures member { b.new.member ≡ b.old.member }

@@ -10,7 +10,7 @@ ghost use Rattle.member_pool.specs.Pools.{frame_of};
 ghost use Rattle.member_pool.specs.Uses.{newest};
 ghost use Rattle.page_format.specs.Fields.{page_size, lrsn_of};
 ghost use Rattle.buffer_manager.specs.States.{bytes_of, present, patched_by, with_more, logs_with_pending, Backs};
-ghost use Rattle.buffer_manager.specs.Goings.{Goes, Keeps, Alters, forced};
+ghost use Rattle.buffer_manager.specs.Goings.{Goes, Keeps, Alters, PutsBehind, GoesOn, forced};
 
 use crate::change::change;
 use crate::fetch::fetch_page;
@@ -104,6 +104,7 @@ impl BufferManager {
         requires next { self.old.log.last ≤ it.now.lrsn }
         ensures keeps { Becomes (D.contents disk.old) (D.contents disk.new) (Keeps self.old self.new) }
         ensures ok { OnOk result (Becomes (D.contents disk.old) (D.contents disk.new) (λ c d. logs_with_pending self.new d ≡ with_more (logs_with_pending self.old c) self.old.member (record_bytes it.now))) }
+        ensures way { OnOk result (PutsBehind (D.contents disk.old) (D.contents disk.new) self.old self.new it.now) }
         ensures alive { OnOk result (D.alive disk.new ≡ D.alive disk.old) }
         ensures last { OnOk result (self.new.log.last ≡ it.now.lrsn) }
         ensures member { self.new.member ≡ self.old.member }
@@ -126,6 +127,7 @@ impl BufferManager {
         requires put { lrsn ≤ self.old.log.last }
         ensures alters { OnOk result (Becomes (D.contents disk.old) (D.contents disk.new) (Alters patch.now.page (patched_by patch.now lrsn) self.old self.new)) }
         ensures logs { OnOk result (Becomes (D.contents disk.old) (D.contents disk.new) (λ c d. logs_with_pending self.new d ≡ logs_with_pending self.old c)) }
+        ensures way { OnOk result (GoesOn (D.contents disk.old) (D.contents disk.new) self.old self.new) }
         ensures alive { OnOk result (D.alive disk.new ≡ D.alive disk.old) }
         ensures last { self.new.log.last ≡ self.old.log.last }
         ensures member { self.new.member ≡ self.old.member }

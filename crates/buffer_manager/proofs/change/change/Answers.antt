@@ -2,7 +2,7 @@ use Rattle.std.proofs.Common.{◌≡◌, ℕ, ◌≤◌, sym, subst}
 use Rattle.buffer_manager.specs.States.{bytes_of, patched_by}
 use Rattle.buffer_manager.specs.Goings.{Keeps}
 use Rattle.buffer_manager.proofs.Finds.{held_in}
-use Rattle.buffer_manager.proofs.Goings.{goes_last}
+use Rattle.buffer_manager.proofs.Goings.{goes_last, log_goes_on}
 use Rattle.buffer_manager.proofs.Logs.{becomes_map}
 use Rattle.buffer_manager.proofs.Steps.{sound_altered, step_alter}
 use Rattle.buffer_manager.proofs.change.change.Goals as goal
@@ -30,3 +30,6 @@ returns-clause-alters g c =
     becomes_map _ _ (Keeps a b) _
     (λ s t keeps. step_alter (patched_by c.args.patch.now c.args.lrsn) a b s t c.alter.new.pool f id e.sound.frames e.held put c.alter.ensures.pool keeps)
     e.goes.keeps
+
+pub returns-clause-way : goal.returns-clause-way
+returns-clause-way g c = log_goes_on _ _ _ _ c.args.b.now c.fetch.new.b _ (λ e. cc) c.in_ok-frame.ensures.goes
