@@ -98,6 +98,13 @@ impl BufferManager {
         self.state.pool.page(frame)
     }
 
+    /// The number of the last record that was put, 0 where there is none.
+    pub fn last(&self) -> Lrsn
+        ensures { result ≡ self.now.log.last }
+    {
+        self.state.log.last()
+    }
+
     /// Adds a record behind the pending ones. Where there is no room they go to the member's log first.
     pub fn put<D: Disk>(&mut self, disk: &mut D, it: &LogRecord) -> Result<(), DiskError>
         requires fits { Fits it.now }
