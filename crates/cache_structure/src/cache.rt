@@ -28,7 +28,8 @@ use std::marker::Model;
 ///
 /// A look-up, the order of use and dropping a page's registrations cost the same for any number of entries and
 /// frames. Where no place is free, a new entry walks over the changed entries at the old end. `next_changed`,
-/// `changed_count` and `fail_member` walk over all entries, and `fail_member` over the member's frames.
+/// `changed_count`, `fail_member` and `lose` walk over all entries, `fail_member` over the member's frames, and
+/// `lose` over all frames.
 #[derive(Drop)]
 pub struct Cache {
     table: EntryTable,

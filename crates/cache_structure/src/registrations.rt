@@ -12,6 +12,7 @@ const MEMBERS: usize = 32;
 /// The slot with whose page each frame of each member is registered.
 ///
 /// What a write invalidates is not looked for: a registration is valid while its time isn't before that of its slot.
+/// Only where the time is at the end of its 64 bits, all frames are walked, and it begins anew.
 #[derive(Drop)]
 pub struct Registrations {
     frames: u16,
