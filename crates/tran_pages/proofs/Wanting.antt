@@ -1,5 +1,5 @@
 -- What is wanted says where a transaction stands.
-use Rattle.std.proofs.Common.{◌≡◌, ℕ, refl, sym, ap, subst, ◌∙◌, false, List, [], ◌∷◌, Option, Some, None}
+use Rattle.std.proofs.Common.{◌≡◌, ℕ, refl, sym, ap, subst, ◌∙◌, Bool, true, false, List, [], ◌∷◌, Option, Some, None}
 use Rattle.std.specs.List.{AllByRecursion}
 use Rattle.std.specs.Prelude.{IfSome}
 use Rattle.ds_base.specs.Ids.{IsTable}
@@ -86,31 +86,31 @@ needs_update at x w task (update.BranchEntry branch low child) is o k = (is, k.1
 needs_update at x w task (update.RowChange place back) is o k = (is, (k.1.place_is, after_is task.table task.key task.aim k.0 o))
 
 pub change_needs : ChangeNeeds
-change_needs start ops at x w s it c wants =
+change_needs start ops refused at x w s it c wants =
     let here : Wants s it = wants_at s s.stage it refl wants in
-    let i : IsWithin start ops at x w s (op_of here.task) = within start ops at x w s here.task (step.Change here.make) here.stands c in
-    let k : StageKnows at x w s (stage.Work here.task (step.Change here.make)) = knows_at start ops at x w s (stage.Work here.task (step.Change here.make)) here.stands c in
-    subst (λ (a : Acted). Needs at x w a) here.is (needs_update at x w here.task here.make (table_of start ops at x w s here.task i) i.part.ops_are.0 k.1)
+    let i : IsWithin start ops at x w s (op_of here.task) = within start ops refused at x w s here.task (step.Change here.make) here.stands c in
+    let k : StageKnows at x w s (stage.Work here.task (step.Change here.make)) = knows_at start ops refused at x w s (stage.Work here.task (step.Change here.make)) here.stands c in
+    subst (λ (a : Acted). Needs at x w a) here.is (needs_update at x w here.task here.make (table_of start ops refused at x w s here.task i) i.part.ops_are.0 k.1)
 
-update_keeps : (g : Given) (start : Tables) (ops : List Op) (at to : Images) (x new : Tables) (w shape : Shape) (s : State) (task : Task) (u : Update)
-    → IsOnCourse start ops at x w s → s.stage ≡ stage.Work task (step.Change u) → Holds to new shape → IsMade at x w to new shape (update_of task u)
-    → IsOnCourse start ops to new shape (after_done s)
-update_keeps g start ops at to x new w shape s task update.FormatIndex c e holds made = again_keeps g start ops at to x new w shape s task update.FormatIndex c e tt holds made
-update_keeps g start ops at to x new w shape s task update.FormatHeap c e holds made = again_keeps g start ops at to x new w shape s task update.FormatHeap c e tt holds made
-update_keeps g start ops at to x new w shape s task (update.GiveSlot leaf) c e holds made = again_keeps g start ops at to x new w shape s task (update.GiveSlot leaf) c e tt holds made
-update_keeps g start ops at to x new w shape s task (update.Split left branch) c e holds made =
-    let k : StageKnows at x w s (stage.Work task (step.Change (update.Split left branch))) = knows_at start ops at x w s (stage.Work task (step.Change (update.Split left branch))) e c in
-    split_keeps start ops at to x new w shape s task left branch c e holds made.0 (made.1 branch task.key k.1.1.0)
-update_keeps g start ops at to x new w shape s task (update.BranchEntry branch low child) c e holds made =
-    again_keeps g start ops at to x new w shape s task (update.BranchEntry branch low child) c e tt holds made
-update_keeps g start ops at to x new w shape s task (update.RowChange place back) c e holds made =
-    subst (λ (y : Tables). IsOnCourse start ops to y shape (after_done s)) (sym made)
-    (row_keeps start ops at to x w shape s task place back c e (subst (λ (y : Tables). Holds to y shape) made holds))
+update_keeps : (g : Given) (start : Tables) (ops : List Op) (refused : Bool) (at to : Images) (x new : Tables) (w shape : Shape) (s : State) (task : Task) (u : Update)
+    → IsOnCourse start ops refused at x w s → s.stage ≡ stage.Work task (step.Change u) → Holds to new shape → IsMade at x w to new shape (update_of task u)
+    → IsOnCourse start ops refused to new shape (after_done s)
+update_keeps g start ops refused at to x new w shape s task update.FormatIndex c e holds made = again_keeps g start ops refused at to x new w shape s task update.FormatIndex c e tt holds made
+update_keeps g start ops refused at to x new w shape s task update.FormatHeap c e holds made = again_keeps g start ops refused at to x new w shape s task update.FormatHeap c e tt holds made
+update_keeps g start ops refused at to x new w shape s task (update.GiveSlot leaf) c e holds made = again_keeps g start ops refused at to x new w shape s task (update.GiveSlot leaf) c e tt holds made
+update_keeps g start ops refused at to x new w shape s task (update.Split left branch) c e holds made =
+    let k : StageKnows at x w s (stage.Work task (step.Change (update.Split left branch))) = knows_at start ops refused at x w s (stage.Work task (step.Change (update.Split left branch))) e c in
+    split_keeps start ops refused at to x new w shape s task left branch c e holds made.0 (made.1 branch task.key k.1.1.0)
+update_keeps g start ops refused at to x new w shape s task (update.BranchEntry branch low child) c e holds made =
+    again_keeps g start ops refused at to x new w shape s task (update.BranchEntry branch low child) c e tt holds made
+update_keeps g start ops refused at to x new w shape s task (update.RowChange place back) c e holds made =
+    subst (λ (y : Tables). IsOnCourse start ops refused to y shape (after_done s)) (sym made)
+    (row_keeps start ops refused at to x w shape s task place back c e (subst (λ (y : Tables). Holds to y shape) made holds))
 
 pub change_keeps : Given → ChangeKeeps
-change_keeps g start ops at to x new w shape s it c wants holds made =
+change_keeps g start ops refused at to x new w shape s it c wants holds made =
     let here : Wants s it = wants_at s s.stage it refl wants in
-    update_keeps g start ops at to x new w shape s here.task here.make c here.stands holds (subst (λ (a : Acted). IsMade at x w to new shape a) (sym here.is) made)
+    update_keeps g start ops refused at to x new w shape s here.task here.make c here.stands holds (subst (λ (a : Acted). IsMade at x w to new shape a) (sym here.is) made)
 
 -- ---- a change that is undone
 
@@ -152,17 +152,17 @@ undoes_at s stage.Undo u e wants = first_undone s s.undo u e refl wants
 undoes_at s stage.Ended u e wants = absurd (cc)
 
 pub undo_needs : UndoNeeds
-undo_needs start ops at x w s table key place back c wants =
+undo_needs start ops refused at x w s table key place back c wants =
     let u : Undone = record { table = table; key = key; place = place; back = back } in
     let here : Undoes s u = undoes_at s s.stage u refl wants in
     let can : AllByRecursion (CanUndo x) (u ∷ here.others) = subst (λ (us : List Undone). AllByRecursion (CanUndo x) us) here.is c.undos in
     (can.0.table, (can.0.place, can.0.back))
 
 pub undo_want_keeps : UndoKeeps
-undo_want_keeps start ops at to x w shape s table key place back c wants holds =
+undo_want_keeps start ops refused at to x w shape s table key place back c wants holds =
     let u : Undone = record { table = table; key = key; place = place; back = back } in
     let here : Undoes s u = undoes_at s s.stage u refl wants in
-    undo_keeps start ops at to x w shape s u here.others c here.stands here.is holds
+    undo_keeps start ops refused at to x w shape s u here.others c here.stands here.is holds
 
 -- ---- ends
 
@@ -171,8 +171,8 @@ ended_none [] e = refl
 ended_none (u ∷ us) e = absurd (cc)
 
 pub returns_start : Returns
-returns_start start ops at x w s c e wants =
-    ends start ops at x w s c (ended_none s.undo (subst (λ (h : Stage). want_at h s.undo ≡ Ended) e wants))
+returns_start start ops refused at x w s c e wants =
+    ends start ops refused at x w s c (ended_none s.undo (subst (λ (h : Stage). want_at h s.undo ≡ Ended) e wants))
 
 undo_no_commit : (o : Option Undone) → want_undo o ≡ Commit → ⊥
 undo_no_commit None e = cc
@@ -191,4 +191,4 @@ commit_at s stage.Undo wants = absurd (undo_no_commit (newest s.undo) wants)
 commit_at s stage.Ended wants = absurd (cc)
 
 pub commits_done : Commits
-commits_done start ops at x w s c wants = commits start ops at x w s c (commit_at s s.stage wants)
+commits_done start ops refused at x w s c wants = commits start ops refused at x w s c (commit_at s s.stage wants)

@@ -1,5 +1,5 @@
 -- What keeps a transaction on its course, what it needs, and where it ends.
-use Rattle.std.specs.Prelude.{◌≡◌, ℕ, true, false, List, [], ◌∷◌, Some, None}
+use Rattle.std.specs.Prelude.{◌≡◌, ℕ, Bool, true, false, List, [], ◌∷◌, Some, None}
 use Rattle.std.specs.List.{AllByRecursion}
 use Rattle.ds_base.specs.Ids.{IsTable}
 use Rattle.ds_base.specs.declared.names.PageId.{PageId}
@@ -59,42 +59,42 @@ IsMade at x w to new shape (RowChange table key place after) = new ≡ with_row 
 
 -- a transaction begins over pages that hold tables
 abbrev pub Starts : Type 0
-Starts = (ops : List Op) (at : Images) (x : Tables) (w : Shape) → Holds at x w → AllByRecursion IsOp ops → IsOnCourse x ops at x w (opened ops)
+Starts = (ops : List Op) (at : Images) (x : Tables) (w : Shape) → Holds at x w → AllByRecursion IsOp ops → IsOnCourse x ops false at x w (opened ops)
 
 -- it is given the page that it asks for
 abbrev pub PageKeeps : Type 0
-PageKeeps = (start : Tables) (ops : List Op) (at : Images) (x : Tables) (w : Shape) (s : State) (id : PageId)
-    → IsOnCourse start ops at x w s → want_of s ≡ ReadPage id → IsOnCourse start ops at x w (after_page s (at id))
+PageKeeps = (start : Tables) (ops : List Op) (refused : Bool) (at : Images) (x : Tables) (w : Shape) (s : State) (id : PageId)
+    → IsOnCourse start ops refused at x w s → want_of s ≡ ReadPage id → IsOnCourse start ops refused at x w (after_page s (at id))
 
 -- a lock, a flag, the loss of the cache or the commit is done
 abbrev pub DoneKeeps : Type 0
-DoneKeeps = (start : Tables) (ops : List Op) (at : Images) (x : Tables) (w : Shape) (s : State)
-    → IsOnCourse start ops at x w s → IsNoChange (want_of s) → IsOnCourse start ops at x w (after_done s)
+DoneKeeps = (start : Tables) (ops : List Op) (refused : Bool) (at : Images) (x : Tables) (w : Shape) (s : State)
+    → IsOnCourse start ops refused at x w s → IsNoChange (want_of s) → IsOnCourse start ops refused at x w (after_done s)
 
 abbrev pub ChangeNeeds : Type 0
-ChangeNeeds = (start : Tables) (ops : List Op) (at : Images) (x : Tables) (w : Shape) (s : State) (it : Acted)
-    → IsOnCourse start ops at x w s → want_of s ≡ Change it → Needs at x w it
+ChangeNeeds = (start : Tables) (ops : List Op) (refused : Bool) (at : Images) (x : Tables) (w : Shape) (s : State) (it : Acted)
+    → IsOnCourse start ops refused at x w s → want_of s ≡ Change it → Needs at x w it
 
 -- the change that it wants is made
 abbrev pub ChangeKeeps : Type 0
-ChangeKeeps = (start : Tables) (ops : List Op) (at to : Images) (x new : Tables) (w shape : Shape) (s : State) (it : Acted)
-    → IsOnCourse start ops at x w s → want_of s ≡ Change it → Holds to new shape → IsMade at x w to new shape it
-    → IsOnCourse start ops to new shape (after_done s)
+ChangeKeeps = (start : Tables) (ops : List Op) (refused : Bool) (at to : Images) (x new : Tables) (w shape : Shape) (s : State) (it : Acted)
+    → IsOnCourse start ops refused at x w s → want_of s ≡ Change it → Holds to new shape → IsMade at x w to new shape it
+    → IsOnCourse start ops refused to new shape (after_done s)
 
 -- a refusal
 abbrev pub RefusalKeeps : Type 0
-RefusalKeeps = (start : Tables) (ops : List Op) (at : Images) (x : Tables) (w : Shape) (s : State)
-    → IsOnCourse start ops at x w s → IsOnCourse start ops at x w (after_refusal s)
+RefusalKeeps = (start : Tables) (ops : List Op) (refused : Bool) (at : Images) (x : Tables) (w : Shape) (s : State)
+    → IsOnCourse start ops refused at x w s → IsOnCourse start ops true at x w (after_refusal s)
 
 abbrev pub UndoNeeds : Type 0
-UndoNeeds = (start : Tables) (ops : List Op) (at : Images) (x : Tables) (w : Shape) (s : State) (table key : ℕ) (place : Place) (back : Content)
-    → IsOnCourse start ops at x w s → want_of s ≡ Undo table key place back → IsTable table × MayChange x table key place back
+UndoNeeds = (start : Tables) (ops : List Op) (refused : Bool) (at : Images) (x : Tables) (w : Shape) (s : State) (table key : ℕ) (place : Place) (back : Content)
+    → IsOnCourse start ops refused at x w s → want_of s ≡ Undo table key place back → IsTable table × MayChange x table key place back
 
 -- one of its changes is undone
 abbrev pub UndoKeeps : Type 0
-UndoKeeps = (start : Tables) (ops : List Op) (at to : Images) (x : Tables) (w shape : Shape) (s : State) (table key : ℕ) (place : Place) (back : Content)
-    → IsOnCourse start ops at x w s → want_of s ≡ Undo table key place back → Holds to (with_row x table key back) shape
-    → IsOnCourse start ops to (with_row x table key back) shape (after_done s)
+UndoKeeps = (start : Tables) (ops : List Op) (refused : Bool) (at to : Images) (x : Tables) (w shape : Shape) (s : State) (table key : ℕ) (place : Place) (back : Content)
+    → IsOnCourse start ops refused at x w s → want_of s ≡ Undo table key place back → Holds to (with_row x table key back) shape
+    → IsOnCourse start ops refused to (with_row x table key back) shape (after_done s)
 
 -- ---- ends
 
@@ -106,14 +106,14 @@ pub record IsDone (start : Tables) (ops : List Op) (x : Tables) (s : State) : Ty
   pub aborts_are : aborts ops ≡ false
 
 abbrev pub Commits : Type 0
-Commits = (start : Tables) (ops : List Op) (at : Images) (x : Tables) (w : Shape) (s : State)
-    → IsOnCourse start ops at x w s → want_of s ≡ Commit → IsDone start ops x s
+Commits = (start : Tables) (ops : List Op) (refused : Bool) (at : Images) (x : Tables) (w : Shape) (s : State)
+    → IsOnCourse start ops refused at x w s → want_of s ≡ Commit → IsDone start ops x s
 
 -- a transaction that was refused has left the rows that it met
 abbrev pub Returns : Type 0
-Returns = (start : Tables) (ops : List Op) (at : Images) (x : Tables) (w : Shape) (s : State)
-    → IsOnCourse start ops at x w s → s.stage ≡ stage.Undo → want_of s ≡ Ended → x.rows ≡ start.rows
+Returns = (start : Tables) (ops : List Op) (refused : Bool) (at : Images) (x : Tables) (w : Shape) (s : State)
+    → IsOnCourse start ops refused at x w s → s.stage ≡ stage.Undo → want_of s ≡ Ended → x.rows ≡ start.rows
 
 -- no page is found damaged
 abbrev pub NeverDamaged : Type 0
-NeverDamaged = (start : Tables) (ops : List Op) (at : Images) (x : Tables) (w : Shape) (s : State) → IsOnCourse start ops at x w s → s.damage ≡ None
+NeverDamaged = (start : Tables) (ops : List Op) (refused : Bool) (at : Images) (x : Tables) (w : Shape) (s : State) → IsOnCourse start ops refused at x w s → s.damage ≡ None

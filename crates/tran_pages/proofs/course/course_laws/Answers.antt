@@ -55,5 +55,5 @@ returns c =
       undo = undo_want_keeps;
       commit = commits_done;
       returns = returns_start;
-      sound = λ start ops at x w s k. k.sound;
+      sound = λ start ops refused at x w s k. k.sound;
     }
