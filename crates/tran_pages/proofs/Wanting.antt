@@ -1,5 +1,5 @@
 -- What is wanted says where a transaction stands.
-use Rattle.std.proofs.Common.{◌≡◌, ℕ, refl, sym, ap, subst, ◌∙◌, Bool, true, false, List, [], ◌∷◌, Option, Some, None}
+use Rattle.std.proofs.Common.{◌≡◌, ℕ, inl, inr, refl, sym, ap, subst, ◌∙◌, Bool, true, false, List, [], ◌∷◌, Option, Some, None}
 use Rattle.std.specs.List.{AllByRecursion}
 use Rattle.std.specs.Prelude.{IfSome}
 use Rattle.ds_base.specs.Ids.{IsTable}
@@ -7,6 +7,10 @@ use Rattle.ds_base.specs.Values.{IsValue}
 use Rattle.ds_base.specs.declared.names.Place.{Place}
 use Rattle.page_images.specs.Images.{Images}
 use Rattle.ds_model.specs.declared.script.Op.{Op}
+use Rattle.ds_model.specs.declared.script.Op.TheVariants as op
+use Rattle.ds_model.specs.declared.lock.Name.{Name}
+use Rattle.ds_model.specs.declared.fate.Answer.{Answer}
+use Rattle.lock_names.specs.declared.mode.Mode.{Mode}
 use Rattle.ds_model.specs.Rows.{Rows}
 use Rattle.ds_model.specs.Scripts.{IsKey, IsOp}
 use Rattle.tran_core.specs.declared.stage.Aim.{Aim}
@@ -19,12 +23,13 @@ use Rattle.tran_core.specs.declared.stage.Step.TheVariants as step
 use Rattle.tran_core.specs.declared.stage.Stage.{Stage}
 use Rattle.tran_core.specs.declared.stage.Stage.TheVariants as stage
 use Rattle.tran_core.specs.declared.stage.Undone.{Undone}
-use Rattle.tran_core.specs.Wants.{Wanted, Acted, Content, Change, Commit, Ended, Undo, update_of, row_after, want_undo}
+use Rattle.tran_core.specs.Wants.{Wanted, Acted, GiveSlot, Content, Lock, Change, Commit, Ended, Undo, update_of, row_after, want_undo}
 use Rattle.tran_core.specs.Wants as wanted
 use Rattle.tran_core.specs.States.{State, want_of, want_at, newest, after_done}
-use Rattle.tran_pages.specs.Tables.{Tables, Shape, Holds, with_row}
-use Rattle.tran_pages.specs.Course.{op_by, op_of, IsContent, Changes, CanUndo, StageKnows, ChangeKnows, IsOnCourse}
-use Rattle.tran_pages.specs.Steps.{Needs, IsMade, MayChange, ChangeNeeds, ChangeKeeps, UndoNeeds, UndoKeeps, Commits, Returns}
+use Rattle.tran_pages.specs.Tables.{Tables, Shape, Holds, tables_after_all, number_of, count_in, with_row}
+use Rattle.tran_pages.specs.Course.{op_by, op_of, IsPart, PartAt, IsBefore, IsPut, IsContent, Changes, CanUndo, StageKnows, ChangeKnows, IsOnCourse}
+use Rattle.tran_pages.specs.Steps.{Needs, IsMade, MayChange, ChangeNeeds, ChangeKeeps, UndoNeeds, UndoKeeps, Commits, Returns, IsFresh, IsFirstLock, LockIsFirst, IsFirstSlot, SlotIsFirst, AbortIsKnown}
+use Rattle.tran_pages.proofs.Maps.{own_number}
 use Rattle.tran_pages.proofs.Ends.{IsWithin}
 use Rattle.tran_pages.proofs.Given.{Given}
 use Rattle.tran_pages.proofs.Meeting.{within, knows_at, table_of}
@@ -192,3 +197,68 @@ commit_at s stage.Ended wants = absurd (cc)
 
 pub commits_done : Commits
 commits_done start ops refused at x w s c wants = commits start ops refused at x w s c (commit_at s s.stage wants)
+
+-- ---- what was done before
+
+fresh_by : (start : Tables) (ops : List Op) (x : Tables) (reads : List Answer) (rest : List Op) (hand : Op) → IsPart start ops x reads (hand ∷ rest) false → IsFresh start ops x rest hand
+fresh_by start ops x reads rest hand p = record { done = p.done; all = p.all; tables_are = p.stands }
+
+undo_no_lock : (o : Option Undone) (name : Name) (mode : Mode) → want_undo o ≡ Lock name mode → ⊥
+undo_no_lock None name mode e = cc
+undo_no_lock (Some u) name mode e = cc
+
+lock_at : (start : Tables) (ops : List Op) (refused : Bool) (at : Images) (x : Tables) (w : Shape) (s : State) (name : Name) (mode : Mode) (h : Stage)
+    → PartAt start ops refused x s.reads s.rest h → want_at h s.undo ≡ Lock name mode → IsFirstLock start ops x s.rest name mode
+lock_at start ops refused at x w s name mode (stage.Work task step.Space) p wants = record { task = task; fresh = fresh_by start ops x s.reads s.rest (op_of task) p; is = inl wants }
+lock_at start ops refused at x w s name mode (stage.Work task step.Row) p wants = record { task = task; fresh = fresh_by start ops x s.reads s.rest (op_of task) p; is = inr wants }
+lock_at start ops refused at x w s name mode (stage.Work task (step.Read r)) p wants = absurd (cc)
+lock_at start ops refused at x w s name mode (stage.Work task (step.Change u)) p wants = absurd (cc)
+lock_at start ops refused at x w s name mode (stage.Raise flag) p wants = absurd (cc)
+lock_at start ops refused at x w s name mode (stage.Await flag) p wants = absurd (cc)
+lock_at start ops refused at x w s name mode stage.LoseCache p wants = absurd (cc)
+lock_at start ops refused at x w s name mode stage.Commit p wants = absurd (cc)
+lock_at start ops refused at x w s name mode stage.Undo p wants = absurd (undo_no_lock (newest s.undo) name mode wants)
+lock_at start ops refused at x w s name mode stage.Ended p wants = absurd (cc)
+
+pub lock_is_first : LockIsFirst
+lock_is_first start ops refused at x w s name mode c wants = lock_at start ops refused at x w s name mode s.stage c.part wants
+
+same_tables : (y x : Tables) (table key : ℕ) (value : List ℕ) → number_of x table key ≡ None → IsBefore y x (op.Put table key value) → x ≡ y
+same_tables y x table key value none (inl same) = same
+same_tables y x table key value none (inr given) =
+    let some : number_of x table key ≡ Some (count_in y table) = ap (λ (z : Tables). number_of z table key) given.1 ∙ own_number y table key in
+    let both : None ≡ Some (count_in y table) = sym none ∙ some in absurd (cc)
+
+-- a `put` whose key has no slot stands on the tables that those before it have left
+slot_fresh : (start : Tables) (ops : List Op) (x : Tables) (reads : List Answer) (rest : List Op) (table key : ℕ) (a : Aim)
+    → IsPut a → number_of x table key ≡ None → IsPart start ops x reads (op_by table key a ∷ rest) true → IsFirstSlot start ops x rest table key
+slot_fresh start ops x reads rest table key aim.Get put none p = absurd put
+slot_fresh start ops x reads rest table key (aim.Put value) put none p = record {
+  value = value;
+  fresh = record { done = p.done; all = p.all; tables_are = same_tables (tables_after_all start p.done) x table key value none p.stands };
+}
+slot_fresh start ops x reads rest table key aim.Del put none p = absurd put
+slot_fresh start ops x reads rest table key (aim.Scan high) put none p = absurd put
+
+slot_update : (start : Tables) (ops : List Op) (at : Images) (x : Tables) (w : Shape) (s : State) (task : Task) (u : Update) (table key leaf : ℕ)
+    → update_of task u ≡ GiveSlot table key leaf → ChangeKnows at x (w.trees task.table) task u → IsPart start ops x s.reads (op_of task ∷ s.rest) true → IsFirstSlot start ops x s.rest table key
+slot_update start ops at x w s task update.FormatIndex table key leaf e k p = absurd (cc)
+slot_update start ops at x w s task update.FormatHeap table key leaf e k p = absurd (cc)
+slot_update start ops at x w s task (update.GiveSlot there) table key leaf e k p =
+    let same_table : task.table ≡ table = cc in
+    let same_key : task.key ≡ key = cc in
+    subst (λ t. IsFirstSlot start ops x s.rest t key) same_table
+    (subst (λ q. IsFirstSlot start ops x s.rest task.table q) same_key (slot_fresh start ops x s.reads s.rest task.table task.key task.aim k.0 k.1 p))
+slot_update start ops at x w s task (update.Split left branch) table key leaf e k p = absurd (cc)
+slot_update start ops at x w s task (update.BranchEntry branch low child) table key leaf e k p = absurd (cc)
+slot_update start ops at x w s task (update.RowChange place back) table key leaf e k p = absurd (cc)
+
+pub slot_is_first : SlotIsFirst
+slot_is_first start ops refused at x w s table key leaf c wants =
+    let here : Wants s (GiveSlot table key leaf) = wants_at s s.stage (GiveSlot table key leaf) refl wants in
+    let i : IsWithin start ops at x w s (op_of here.task) = within start ops refused at x w s here.task (step.Change here.make) here.stands c in
+    let k : StageKnows at x w s (stage.Work here.task (step.Change here.make)) = knows_at start ops refused at x w s (stage.Work here.task (step.Change here.make)) here.stands c in
+    slot_update start ops at x w s here.task here.make table key leaf here.is k.1 i.part
+
+pub abort_is_known : AbortIsKnown
+abort_is_known start ops at x w s c e = subst (λ (h : Stage). PartAt start ops false x s.reads s.rest h) e c.part

@@ -1,5 +1,5 @@
 -- What keeps a transaction on its course, what it needs, and where it ends.
-use Rattle.std.specs.Prelude.{◌≡◌, ℕ, Bool, true, false, List, [], ◌∷◌, Some, None}
+use Rattle.std.specs.Prelude.{◌≡◌, ◌⊎◌, ℕ, Bool, true, false, List, [], ◌∷◌, ◌++◌, Some, None}
 use Rattle.std.specs.List.{AllByRecursion}
 use Rattle.ds_base.specs.Ids.{IsTable}
 use Rattle.ds_base.specs.declared.names.PageId.{PageId}
@@ -9,16 +9,21 @@ use Rattle.heap_space.specs.Changes.{heap_page}
 use Rattle.page_images.specs.Images.{Images}
 use Rattle.heap_rows.specs.Heaps.{HasHeader}
 use Rattle.ds_model.specs.declared.script.Op.{Op}
+use Rattle.ds_model.specs.declared.script.Op.TheVariants as op
+use Rattle.ds_model.specs.declared.lock.Name.{Name}
+use Rattle.lock_names.specs.declared.mode.Mode.{Mode}
+use Rattle.tran_core.specs.declared.stage.Task.{Task}
+use Rattle.tran_core.specs.declared.stage.Step.TheVariants as step
 use Rattle.ds_model.specs.Rows.{Rows}
 use Rattle.ds_model.specs.Scripts.{IsKey, IsOp}
 use Rattle.ds_model.specs.Effect.{after_ops, reads_of, aborts}
 use Rattle.tran_core.specs.declared.stage.Level.TheVariants as level
 use Rattle.tran_core.specs.declared.stage.Stage.TheVariants as stage
-use Rattle.tran_core.specs.Wants.{Acted, FormatIndex, FormatHeap, GiveSlot, Split, BranchEntry, RowChange, Content, Change, Commit, Ended, ReadPage, Undo}
+use Rattle.tran_core.specs.Wants.{Acted, FormatIndex, FormatHeap, GiveSlot, Split, BranchEntry, RowChange, Content, Lock, Change, Commit, Ended, ReadPage, Undo, want_step}
 use Rattle.tran_core.specs.States.{State, opened, want_of, after_done, after_refusal}
 use Rattle.tran_core.specs.Pages.{after_page}
 use Rattle.tran_pages.specs.Tables.{Tables, Shape, Holds, tables_after_all, number_of, with_row, with_place}
-use Rattle.tran_pages.specs.Course.{IsPlaceOf, IsContent, IsOnWay, HasRoomIn, IsFullIn, IsChild, IsNoChange, IsOnCourse}
+use Rattle.tran_pages.specs.Course.{IsPlaceOf, IsContent, IsOnWay, HasRoomIn, IsFullIn, IsChild, IsNoChange, IsAborted, IsOnCourse, op_of}
 
 -- ---- what a change that is wanted may rest on
 
@@ -95,6 +100,39 @@ abbrev pub UndoKeeps : Type 0
 UndoKeeps = (start : Tables) (ops : List Op) (refused : Bool) (at to : Images) (x : Tables) (w shape : Shape) (s : State) (table key : ℕ) (place : Place) (back : Content)
     → IsOnCourse start ops refused at x w s → want_of s ≡ Undo table key place back → Holds to (with_row x table key back) shape
     → IsOnCourse start ops refused to (with_row x table key back) shape (after_done s)
+
+-- ---- what was done before
+
+-- the operations before this one are done, and the tables are those that they have left
+pub record IsFresh (start : Tables) (ops : List Op) (x : Tables) (rest : List Op) (hand : Op) : Type 0 where
+  pub done : List Op
+  pub all : done ++ hand ∷ rest ≡ ops
+  pub tables_are : x ≡ tables_after_all start done
+
+-- the lock is one that this operation begins with
+pub record IsFirstLock (start : Tables) (ops : List Op) (x : Tables) (rest : List Op) (name : Name) (mode : Mode) : Type 0 where
+  pub task : Task
+  pub fresh : IsFresh start ops x rest (op_of task)
+  pub is : (want_step task step.Space ≡ Lock name mode) ⊎ (want_step task step.Row ≡ Lock name mode)
+
+-- an operation that wants a lock has changed nothing
+abbrev pub LockIsFirst : Type 0
+LockIsFirst = (start : Tables) (ops : List Op) (refused : Bool) (at : Images) (x : Tables) (w : Shape) (s : State) (name : Name) (mode : Mode)
+    → IsOnCourse start ops refused at x w s → want_of s ≡ Lock name mode → IsFirstLock start ops x s.rest name mode
+
+-- the slot is that of a `put`, which has changed nothing
+pub record IsFirstSlot (start : Tables) (ops : List Op) (x : Tables) (rest : List Op) (table key : ℕ) : Type 0 where
+  pub value : List ℕ
+  pub fresh : IsFresh start ops x rest (op.Put table key value)
+
+abbrev pub SlotIsFirst : Type 0
+SlotIsFirst = (start : Tables) (ops : List Op) (refused : Bool) (at : Images) (x : Tables) (w : Shape) (s : State) (table key leaf : ℕ)
+    → IsOnCourse start ops refused at x w s → want_of s ≡ Change (GiveSlot table key leaf) → IsFirstSlot start ops x s.rest table key
+
+-- a transaction that undoes its changes and wasn't refused has come to its abort
+abbrev pub AbortIsKnown : Type 0
+AbortIsKnown = (start : Tables) (ops : List Op) (at : Images) (x : Tables) (w : Shape) (s : State)
+    → IsOnCourse start ops false at x w s → s.stage ≡ stage.Undo → IsAborted start ops x s.rest
 
 -- ---- ends
 
