@@ -1,5 +1,5 @@
 -- The changes that a transaction wants are made.
-use Rattle.std.proofs.Common.{◌≡◌, ℕ, ◌≤◌, ◌<◌, ◌+◌, ◌⊎◌, inl, inr, refl, sym, ap, subst, ◌∙◌, Bool, true, false, List, [], ◌∷◌, ◌++◌, drop, Option, Some, None, arith, if◌then◌else◌}
+use Rattle.std.proofs.Common.{◌≡◌, ℕ, inl, inr, refl, sym, ap, subst, ◌∙◌, Bool, true, false, List, [], ◌∷◌, ◌++◌, drop, Option, Some, None}
 use Rattle.std.specs.List.{AllByRecursion}
 use Rattle.std.specs.FinMap as finite
 use Rattle.std.proofs.lemmas.List.{append-nil}
@@ -8,12 +8,11 @@ use Rattle.ds_base.specs.declared.names.Place.{Place}
 use Rattle.ds_base.specs.declared.row.Row.{Row}
 use Rattle.spot_map.specs.Undo.{insert-insert_back, remove-insert_new, insert-remove_back, remove-absent}
 use Rattle.ds_model.specs.declared.script.Op.{Op}
-use Rattle.ds_model.specs.declared.script.Op.TheVariants as op
 use Rattle.ds_model.specs.declared.fate.Answer.{Answer}
 use Rattle.ds_model.specs.Rows.{Rows}
 use Rattle.ds_model.specs.Logs.{set_row}
 use Rattle.ds_model.specs.Scripts.{IsOp}
-use Rattle.ds_model.specs.Effect.{after_op, answer_of, after_ops, reads_of, aborts, is_abort, after_tran}
+use Rattle.ds_model.specs.Effect.{answer_of, reads_of, is_abort}
 use Rattle.tran_core.specs.declared.stage.Aim.{Aim}
 use Rattle.tran_core.specs.declared.stage.Aim.TheVariants as aim
 use Rattle.tran_core.specs.declared.stage.Level.TheVariants as level
@@ -21,19 +20,18 @@ use Rattle.tran_core.specs.declared.stage.Task.{Task}
 use Rattle.tran_core.specs.declared.stage.Reading.TheVariants as reading
 use Rattle.tran_core.specs.declared.stage.Update.{Update}
 use Rattle.tran_core.specs.declared.stage.Update.TheVariants as update
-use Rattle.tran_core.specs.declared.stage.Step.{Step}
 use Rattle.tran_core.specs.declared.stage.Step.TheVariants as step
 use Rattle.tran_core.specs.declared.stage.Stage.{Stage}
 use Rattle.tran_core.specs.declared.stage.Stage.TheVariants as stage
 use Rattle.tran_core.specs.declared.stage.Undone.{Undone}
 use Rattle.tran_core.specs.Wants.{Content, row_after, update_of}
-use Rattle.tran_core.specs.States.{State, search, at_step, next_op, opened, refused_at, step_done, done_at, after_done, after_refusal, changed}
+use Rattle.tran_core.specs.States.{State, search, opened, refused_at, done_at, after_done, after_refusal, changed}
 use Rattle.page_images.specs.Images.{Images}
-use Rattle.tran_pages.specs.Tables.{Tables, Shape, Tree, Holds, Grows, placed_as, tables_after, tables_after_all, count_in, number_of, row_of, with_row, with_place}
-use Rattle.tran_pages.specs.Course.{op_by, op_of, IsBefore, StoppedBy, IsPart, IsAt, IsPlaceOf, CanUndo, taken_back, IsQuiet, IsPut, IsContent, Changes, CanChange, IsOnWay, StageKnows, ChangeKnows, PartAt, IsOnCourse, SearchesAgain}
+use Rattle.tran_pages.specs.Tables.{Tables, Shape, Holds, Grows, placed_as, tables_after, tables_after_all, count_in, number_of, with_row, with_place}
+use Rattle.tran_pages.specs.Course.{op_by, op_of, IsBefore, StoppedBy, IsPart, IsAt, IsPlaceOf, CanUndo, taken_back, IsQuiet, IsPut, Changes, CanChange, IsOnWay, StageKnows, ChangeKnows, PartAt, IsOnCourse, SearchesAgain}
 use Rattle.tran_pages.specs.Steps.{IsDone, IsMade}
-use Rattle.tran_pages.proofs.Ends.{IsBetween, IsWithin, rows_after_all, part_goes, next_course}
-use Rattle.tran_pages.proofs.Going.{to_read, to_change, to_row}
+use Rattle.tran_pages.proofs.Ends.{IsWithin, rows_after_all, part_goes, next_course}
+use Rattle.tran_pages.proofs.Going.{to_read}
 use Rattle.tran_pages.proofs.Maps.{own_number}
 use Rattle.tran_pages.proofs.Beginning.{slot_grows, same_grows}
 use Rattle.tran_pages.proofs.Given.{Given}
@@ -264,7 +262,7 @@ undo_keeps start ops refused at to x w shape s u us c e are holds =
       undos = same_places x u.table u.key u.back us undos.1;
       sound = c.sound;
       part = subst (λ (h : Stage). PartAt start ops refused new s.reads s.rest h) (sym e)
-      (still_stopped start ops refused x u.table u.key u.back s.rest (subst (λ (h : Stage). PartAt start ops refused x s.reads s.rest h) e c.part));
+          (still_stopped start ops refused x u.table u.key u.back s.rest (subst (λ (h : Stage). PartAt start ops refused x s.reads s.rest h) e c.part));
       knows = subst (λ (h : Stage). StageKnows to new shape (record s { undo = us }) h) (sym e) tt;
     }))
 

@@ -1,44 +1,31 @@
 -- What was wanted is done.
-use Rattle.std.proofs.Common.{◌≡◌, ℕ, ◌≤◌, ◌<◌, ◌+◌, ◌⊎◌, inl, inr, refl, sym, ap, subst, ◌∙◌, Bool, true, false, List, [], ◌∷◌, ◌++◌, drop, Option, Some, None, arith, if◌then◌else◌}
+use Rattle.std.proofs.Common.{◌≡◌, ℕ, ◌<◌, refl, sym, ap, subst, ◌∙◌, Bool, true, false, List, [], ◌∷◌, ◌++◌, drop, Option, Some, None, arith, if◌then◌else◌}
 use Rattle.std.specs.Prelude.{nat_lt}
-use Rattle.std.specs.List.{AllByRecursion}
-use Rattle.std.specs.FinMap as finite
-use Rattle.std.proofs.lemmas.List.{append-nil}
 use Rattle.ds_base.specs.Ids.{IsTable}
-use Rattle.ds_base.specs.declared.names.Place.{Place}
 use Rattle.ds_base.specs.declared.row.Row.{Row}
-use Rattle.spot_map.specs.Undo.{insert-insert_back, remove-insert_new, insert-remove_back, remove-absent}
-use Rattle.index_leaf.specs.declared.layout.Entry.{Entry}
-use Rattle.index_leaf.specs.Entries.{IsRising}
-use Rattle.index_leaf.specs.Search.{find}
 use Rattle.ds_model.specs.declared.script.Op.{Op}
 use Rattle.ds_model.specs.declared.script.Op.TheVariants as op
-use Rattle.ds_model.specs.declared.fate.Answer.{Answer}
-use Rattle.ds_model.specs.Rows.{Rows, scanned}
-use Rattle.ds_model.specs.Logs.{set_row}
-use Rattle.ds_model.specs.Effect.{after_op, answer_of, after_ops, reads_of, aborts, is_abort}
+use Rattle.ds_model.specs.Rows.{scanned}
+use Rattle.ds_model.specs.Effect.{answer_of, is_abort}
 use Rattle.tran_core.specs.declared.stage.Aim.{Aim}
 use Rattle.tran_core.specs.declared.stage.Aim.TheVariants as aim
 use Rattle.tran_core.specs.declared.stage.Level.TheVariants as level
 use Rattle.tran_core.specs.declared.stage.Task.{Task}
-use Rattle.tran_core.specs.declared.stage.Reading.TheVariants as reading
-use Rattle.tran_core.specs.declared.stage.Update.{Update}
-use Rattle.tran_core.specs.declared.stage.Update.TheVariants as update
 use Rattle.tran_core.specs.declared.stage.Step.{Step}
 use Rattle.tran_core.specs.declared.stage.Step.TheVariants as step
 use Rattle.tran_core.specs.declared.stage.Stage.{Stage}
 use Rattle.tran_core.specs.declared.stage.Stage.TheVariants as stage
 use Rattle.tran_core.specs.declared.stage.Undone.{Undone}
-use Rattle.tran_core.specs.Wants.{Content, row_after, want_undo}
-use Rattle.tran_core.specs.States.{State, want_of, want_at, newest, search, scan_read, at_step, next_op, space_locked, step_done, done_at, after_done, changed}
+use Rattle.tran_core.specs.Wants.{want_undo}
+use Rattle.tran_core.specs.States.{State, want_of, want_at, newest, search, scan_read, next_op, space_locked, step_done, done_at, after_done}
 use Rattle.page_images.specs.Images.{Images}
-use Rattle.tran_pages.specs.Tables.{Tables, tables_after, Shape, Tree, Holds, TableHolds, IndexHolds, Grows, entry_of, number_of, row_of, with_row}
-use Rattle.tran_pages.specs.Course.{op_by, op_of, IsPart, IsAt, IsPlaceOf, CanUndo, taken_back, IsSought, IsSingle, IsQuiet, IsPut, IsContent, Changes, CanChange, IsOnWay, StageKnows, PartAt, IsOnCourse, IsNoChange, SearchesAgain, entries_by, rows_between}
-use Rattle.tran_pages.proofs.Ends.{IsBetween, IsWithin, part_begins, part_goes, next_course, nothing_ends, scan_ends}
+use Rattle.tran_pages.specs.Tables.{Tables, tables_after, Shape, Tree, TableHolds, IndexHolds, number_of}
+use Rattle.tran_pages.specs.Course.{op_by, op_of, IsPart, taken_back, IsSought, IsSingle, IsQuiet, StageKnows, PartAt, IsOnCourse, IsNoChange, entries_by, rows_between}
+use Rattle.tran_pages.proofs.Ends.{IsWithin, part_begins, nothing_ends, scan_ends}
 use Rattle.tran_pages.proofs.Searches.{Leads}
-use Rattle.tran_pages.proofs.Going.{to_read, to_change, to_row, none_is}
+use Rattle.tran_pages.proofs.Going.{to_row, none_is}
 use Rattle.tran_pages.proofs.Given.{Given}
-use Rattle.tran_pages.proofs.Rows.{put_searches, put_sought}
+use Rattle.tran_pages.proofs.Rows.{put_searches}
 use Rattle.tran_pages.proofs.Meeting.{within, knows_at, table_of, leads_in}
 use Rattle.tran_pages.proofs.Scanned.{scan_is, scan_none}
 
@@ -103,7 +90,7 @@ step_goes g start ops refused at x w s task step.Space c e none =
     let i : IsWithin start ops at x w s (op_of task) = within start ops refused at x w s task step.Space e c in
     let is : IsTable task.table = table_of start ops refused at x w s task i in
     space_goes g start ops refused at x w s task.table task.key task.aim is (c.holds.tables task.table is) i
-      (part_at start ops refused at x w s (stage.Work task step.Space) e c) (knows_at start ops refused at x w s (stage.Work task step.Space) e c)
+    (part_at start ops refused at x w s (stage.Work task step.Space) e c) (knows_at start ops refused at x w s (stage.Work task step.Space) e c)
 step_goes g start ops refused at x w s task step.Row c e none =
     let i : IsWithin start ops at x w s (op_of task) = within start ops refused at x w s task step.Row e c in
     let is : IsTable task.table = table_of start ops refused at x w s task i in

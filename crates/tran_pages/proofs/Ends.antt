@@ -2,7 +2,6 @@
 use Rattle.std.proofs.Common.{◌≡◌, ℕ, inl, inr, refl, sym, ap, subst, ◌∙◌, Bool, true, false, ◌||◌, List, [], ◌∷◌, ◌++◌, Option, Some, None}
 use Rattle.std.proofs.lemmas.List.{append_assoc, append-nil}
 use Rattle.std.specs.List.{AllByRecursion}
-use Rattle.std.specs.FinMap as finite
 use Rattle.spot_map.specs.Undo.{remove-absent}
 use Rattle.ds_model.specs.declared.script.Op.{Op}
 use Rattle.ds_model.specs.declared.script.Op.TheVariants as op
@@ -10,19 +9,12 @@ use Rattle.ds_model.specs.declared.fate.Answer.{Answer}
 use Rattle.ds_model.specs.declared.fate.Answer.TheVariants as answer
 use Rattle.ds_model.specs.Rows.{Rows, scanned}
 use Rattle.ds_model.specs.Logs.{set_row}
-use Rattle.ds_model.specs.Scripts.{IsOp}
 use Rattle.ds_model.specs.Effect.{after_op, answer_of, after_ops, reads_of, aborts, is_abort}
-use Rattle.tran_core.specs.declared.stage.Aim.{Aim}
-use Rattle.tran_core.specs.declared.stage.Aim.TheVariants as aim
-use Rattle.tran_core.specs.declared.stage.Task.{Task}
-use Rattle.tran_core.specs.declared.stage.Step.TheVariants as step
-use Rattle.tran_core.specs.declared.stage.Stage.{Stage}
-use Rattle.tran_core.specs.declared.stage.Stage.TheVariants as stage
-use Rattle.tran_core.specs.States.{State, advanced, next_op, scan_read, get_read, without_row}
+use Rattle.tran_core.specs.States.{State, advanced, next_op, scan_read, get_read}
 use Rattle.page_images.specs.Images.{Images}
 use Rattle.tran_pages.specs.Tables.{Tables, Shape, Holds, placed_as, tables_after, tables_after_all, number_of, row_of, with_row, with_place}
 use Rattle.tran_pages.proofs.Maps.{own_number}
-use Rattle.tran_pages.specs.Course.{op_by, op_of, IsBefore, StoppedBy, IsPart, taken_back, CanUndo, IsOnCourse}
+use Rattle.tran_pages.specs.Course.{IsBefore, StoppedBy, IsPart, taken_back, CanUndo, IsOnCourse}
 
 -- ---- lists of operations
 
@@ -97,7 +89,7 @@ part_goes start ops x reads o rest goes p = record {
   all = append_assoc p.done (o ∷ []) rest ∙ p.all;
   stands = before_after (tables_after_all start p.done) x o p.stands ∙ sym (after_push start p.done o);
   reads_are = ap (λ (rows : Rows). (reads ++ answer_of x.rows o) ++ reads_of rows rest) (rows_after x o)
-    ∙ append_assoc reads (answer_of x.rows o) (reads_of (after_op x.rows o) rest) ∙ p.reads_are;
+      ∙ append_assoc reads (answer_of x.rows o) (reads_of (after_op x.rows o) rest) ∙ p.reads_are;
   tables_are = p.tables_are;
   aborts_are = ap (λ b. b || aborts rest) (sym goes) ∙ p.aborts_are;
   ops_are = p.ops_are.1;

@@ -1,22 +1,16 @@
 -- A search goes on in the page that it has met.
-use Rattle.std.proofs.Common.{◌≡◌, ℕ, ◌≤◌, ◌<◌, ◌+◌, ◌⊎◌, inl, inr, refl, sym, ap, subst, ◌∙◌, Bool, true, false, List, [], ◌∷◌, ◌++◌, Option, Some, None, Result, Ok, arith, if◌then◌else◌}
+use Rattle.std.proofs.Common.{◌≡◌, ℕ, ◌≤◌, ◌⊎◌, inl, inr, refl, sym, ap, subst, ◌∙◌, Bool, true, false, List, [], ◌∷◌, Option, Some, None, arith, if◌then◌else◌}
 use Rattle.std.specs.Prelude.{◌==◌}
-use Rattle.std.proofs.lemmas.List.{append-nil}
-use Rattle.std.specs.FinMap as finite
-use Rattle.ds_base.specs.Ids.{IsTable}
 use Rattle.ds_base.specs.declared.names.PageId.{PageId}
 use Rattle.ds_base.specs.declared.names.Place.{Place}
 use Rattle.ds_base.specs.declared.row.Row.{Row}
-use Rattle.page_format.specs.Header.{header_of}
-use Rattle.page_format.specs.Header.{entries_per_page, empty_header}
 use Rattle.index_leaf.specs.declared.layout.Entry.{Entry}
 use Rattle.index_leaf.specs.declared.step.Look.{Look}
 use Rattle.index_leaf.specs.declared.step.Look.TheVariants as look
-use Rattle.index_leaf.specs.Entries.{count_of, low_of, high_of, entries_of}
+use Rattle.index_leaf.specs.Entries.{count_of, low_of, high_of}
 use Rattle.index_leaf.specs.Search.{find, is_beyond, look_of}
 use Rattle.ds_model.specs.declared.script.Op.{Op}
 use Rattle.ds_model.specs.declared.script.Op.TheVariants as op
-use Rattle.ds_model.specs.Rows.{Rows, scanned}
 use Rattle.tran_core.specs.declared.stage.Aim.{Aim}
 use Rattle.tran_core.specs.declared.stage.Aim.TheVariants as aim
 use Rattle.tran_core.specs.declared.stage.Level.{Level}
@@ -27,20 +21,18 @@ use Rattle.tran_core.specs.declared.stage.Update.{Update}
 use Rattle.tran_core.specs.declared.stage.Reading.TheVariants as reading
 use Rattle.tran_core.specs.declared.stage.Update.TheVariants as update
 use Rattle.tran_core.specs.declared.stage.Step.TheVariants as step
-use Rattle.tran_core.specs.declared.outcome.Outcome.{Outcome}
 use Rattle.tran_core.specs.declared.outcome.Outcome.TheVariants as outcome
-use Rattle.tran_core.specs.Looks.{search_outcome, searched, looked, absent_in, found, no_index, make}
-use Rattle.tran_core.specs.States.{State, at_step, scan_read, without_row}
+use Rattle.tran_core.specs.Looks.{looked, absent_in, found, make}
+use Rattle.tran_core.specs.States.{State, at_step}
 use Rattle.tran_core.specs.Pages.{followed, collected}
 use Rattle.tran_core.specs.Looks.{next_leaf}
-use Rattle.page_images.specs.Images.{Images, zeros, index_page}
+use Rattle.page_images.specs.Images.{Images, index_page}
 use Rattle.index_chain.specs.Chains.{entries_in}
 use Rattle.index_chain.specs.Searches.{IsReached}
-use Rattle.heap_rows.specs.Heaps.{place_at}
 use Rattle.tran_pages.specs.Tables.{Tables, Shape, Tree, TableHolds, IndexHolds, entry_of, number_of, row_of}
-use Rattle.tran_pages.specs.Course.{op_by, op_of, IsPart, IsAt, IsPlaceOf, IsOnWay, IsSought, StartsAt, IsQuiet, IsSingle, StepKnows, IsOnCourse, rows_between}
-use Rattle.tran_pages.proofs.Ends.{IsWithin, remove_none, nothing_ends, get_ends, scan_ends}
-use Rattle.tran_pages.proofs.Searches.{IsGood, Leads, good_outcome}
+use Rattle.tran_pages.specs.Course.{op_by, op_of, IsPart, IsAt, IsPlaceOf, IsOnWay, IsSought, IsQuiet, IsSingle, StepKnows, IsOnCourse}
+use Rattle.tran_pages.proofs.Ends.{IsWithin, remove_none, nothing_ends, get_ends}
+use Rattle.tran_pages.proofs.Searches.{Leads}
 
 -- the operation goes on with this step
 pub to_read : (start : Tables) (ops : List Op) (refused : Bool) (at : Images) (x : Tables) (w : Shape) (s : State) (task : Task) (tree : Option Tree) (r : Reading)

@@ -1,19 +1,11 @@
 -- Each page that a transaction asks for is met, but those of scans.
-use Rattle.std.proofs.Common.{◌≡◌, ℕ, ◌≤◌, ◌<◌, ◌+◌, ◌⊎◌, inl, inr, refl, sym, ap, subst, ◌∙◌, Bool, true, false, List, [], ◌∷◌, ◌++◌, Option, Some, None, Result, Ok, Err, arith, if◌then◌else◌}
-use Rattle.std.specs.Prelude.{◌==◌, ◌&&◌}
+use Rattle.std.proofs.Common.{◌≡◌, ℕ, refl, sym, ap, subst, ◌∙◌, Bool, List, Option, Some, None, Ok}
 use Rattle.std.proofs.lemmas.List.{append-nil}
 use Rattle.ds_base.specs.Ids.{IsTable}
-use Rattle.ds_base.specs.declared.names.Place.{Place}
-use Rattle.ds_base.specs.declared.row.Row.{Row}
 use Rattle.page_format.specs.Header.{header_of, empty_header}
-use Rattle.page_format.specs.declared.header.Header.{Header}
-use Rattle.page_format.specs.declared.header.PageKind.{PageKind}
-use Rattle.page_format.specs.declared.header.PageKind.TheVariants as kind
-use Rattle.index_leaf.specs.Entries.{count_of, low_of, high_of, right_of, entries_of}
 use Rattle.index_leaf.specs.Search.{look_of}
 use Rattle.ds_model.specs.declared.script.Op.{Op}
 use Rattle.ds_model.specs.declared.script.Op.TheVariants as op
-use Rattle.ds_model.specs.Rows.{Rows, scanned}
 use Rattle.ds_model.specs.Scripts.{IsOp}
 use Rattle.tran_core.specs.declared.stage.Aim.{Aim}
 use Rattle.tran_core.specs.declared.stage.Aim.TheVariants as aim
@@ -32,21 +24,19 @@ use Rattle.tran_core.specs.Wants.{Wanted, ReadPage, page_read}
 use Rattle.tran_core.specs.Wants as wanted
 use Rattle.tran_core.specs.declared.outcome.Outcome.{Outcome}
 use Rattle.tran_core.specs.Wants.{Content, heap_page}
-use Rattle.tran_core.specs.Looks.{next_leaf, search_outcome, searched, looked, no_index, is_leaf, is_empty, is_of, kind_fault, unless, entered, halved, halves_outcome, headed, header_outcome, row_read}
-use Rattle.tran_core.specs.States.{State, want_of, want_at, at_step, search, scan_read}
+use Rattle.tran_core.specs.Looks.{next_leaf, search_outcome, searched, no_index}
+use Rattle.tran_core.specs.States.{State, want_of, want_at}
 use Rattle.tran_core.specs.Pages.{followed, collected, read_met, page_met, after_page}
 use Rattle.page_images.specs.Images.{Images, zeros, index_page}
-use Rattle.index_chain.specs.Chains.{HasNode, IsIndex}
 use Rattle.index_chain.specs.Searches.{IsReached}
-use Rattle.heap_rows.specs.Heaps.{HasHeader, IsHeap, place_at}
-use Rattle.tran_pages.specs.Tables.{Tables, Shape, Tree, TableHolds, IndexHolds, slot_row, count_in, number_of, row_of}
-use Rattle.tran_pages.specs.Course.{op_by, op_of, has_begun, IsPart, IsAt, IsPlaceOf, IsOnWay, IsSought, IsPut, IsContent, HasRoomIn, IsChild, CanChange, IsQuiet, ReadKnows, StepKnows, StageKnows, PartAt, IsOnCourse}
+use Rattle.tran_pages.specs.Tables.{Tables, Shape, Tree, TableHolds, IndexHolds, number_of}
+use Rattle.tran_pages.specs.Course.{op_by, op_of, has_begun, IsOnWay, IsSought, IsQuiet, ReadKnows, StageKnows, PartAt, IsOnCourse}
 use Rattle.tran_pages.proofs.Ends.{IsWithin, part_begins, remove_none, nothing_ends, get_ends, scan_ends}
-use Rattle.tran_pages.proofs.Searches.{IsGood, IsLinked, Leads, good_outcome}
+use Rattle.tran_pages.proofs.Searches.{Leads, good_outcome}
 use Rattle.tran_pages.proofs.Given.{Given}
 use Rattle.tran_pages.proofs.Rows.{slot_goes, header_goes, halves_goes}
 use Rattle.tran_pages.proofs.Scans.{collect_goes, entry_goes_on}
-use Rattle.tran_pages.proofs.Going.{to_read, to_change, to_row, same_sought, branch_goes, leaf_goes, Collects}
+use Rattle.tran_pages.proofs.Going.{to_change, same_sought, branch_goes, leaf_goes, Collects}
 
 -- ---- a table without an index
 

@@ -1,38 +1,30 @@
 -- The heap pages of single rows, the header page of a heap, and a leaf behind its split are met.
-use Rattle.std.proofs.Common.{◌≡◌, ℕ, ◌≤◌, ◌<◌, ◌+◌, ◌⊎◌, inl, inr, refl, sym, ap, subst, ◌∙◌, Bool, true, false, List, [], ◌∷◌, ◌++◌, Option, Some, None, Result, Ok, Err, arith, if◌then◌else◌}
+use Rattle.std.proofs.Common.{◌≡◌, ℕ, ◌⊎◌, inl, inr, refl, sym, ap, subst, ◌∙◌, Bool, true, List, [], Option, Some, None, Result, Ok, if◌then◌else◌}
 use Rattle.ds_base.specs.Ids.{IsTable}
 use Rattle.ds_base.specs.declared.names.Place.{Place}
 use Rattle.ds_base.specs.declared.row.Row.{Row}
-use Rattle.page_format.specs.Header.{header_of, empty_header}
-use Rattle.page_format.specs.declared.header.Header.{Header}
 use Rattle.page_format.specs.declared.header.PageKind.{PageKind}
-use Rattle.page_format.specs.declared.header.PageKind.TheVariants as kind
-use Rattle.index_leaf.specs.Entries.{low_of, high_of, right_of}
+use Rattle.index_leaf.specs.Entries.{high_of, right_of}
 use Rattle.ds_model.specs.declared.script.Op.{Op}
 use Rattle.ds_model.specs.declared.script.Op.TheVariants as op
-use Rattle.ds_model.specs.Rows.{Rows}
 use Rattle.tran_core.specs.declared.stage.Aim.{Aim}
 use Rattle.tran_core.specs.declared.stage.Aim.TheVariants as aim
 use Rattle.tran_core.specs.declared.stage.Level.TheVariants as level
 use Rattle.tran_core.specs.declared.stage.Task.{Task}
-use Rattle.tran_core.specs.declared.stage.Reading.TheVariants as reading
 use Rattle.tran_core.specs.declared.stage.Update.TheVariants as update
 use Rattle.tran_core.specs.declared.stage.Step.TheVariants as step
 use Rattle.tran_core.specs.declared.outcome.Outcome.{Outcome}
-use Rattle.tran_core.specs.declared.outcome.Outcome.TheVariants as outcome
 use Rattle.tran_core.specs.Wants.{Content, heap_page}
 use Rattle.tran_core.specs.Looks.{is_leaf, is_empty, is_of, kind_fault, unless, entered, halved, halves_outcome, headed, header_outcome, row_read, make}
 use Rattle.tran_core.specs.States.{State, root, at_step, search}
 use Rattle.tran_core.specs.Pages.{followed, row_met, slot_met}
-use Rattle.page_images.specs.Images.{Images, zeros, index_page}
-use Rattle.index_chain.specs.Chains.{HasNode}
-use Rattle.index_chain.specs.Searches.{IsReached}
-use Rattle.heap_rows.specs.Heaps.{HasHeader, IsHeap, place_at}
+use Rattle.page_images.specs.Images.{Images, index_page}
+use Rattle.heap_rows.specs.Heaps.{place_at}
 use Rattle.tran_pages.specs.Tables.{Tables, Shape, Tree, TableHolds, slot_row, count_in, number_of, row_of}
-use Rattle.tran_pages.specs.Course.{op_by, op_of, IsAt, IsPlaceOf, IsOnWay, IsSought, IsPut, IsContent, HasRoomIn, IsChild, CanChange, Changes, IsQuiet, IsSingle, IsOnCourse}
+use Rattle.tran_pages.specs.Course.{op_by, op_of, IsAt, IsPlaceOf, IsOnWay, IsSought, IsPut, IsContent, HasRoomIn, CanChange, Changes, IsQuiet, IsOnCourse}
 use Rattle.tran_pages.proofs.Ends.{IsWithin, remove_none, nothing_ends, get_ends}
 use Rattle.tran_pages.proofs.Searches.{IsGood, IsLinked, Leads}
-use Rattle.tran_pages.proofs.Going.{to_read, to_change, to_row}
+use Rattle.tran_pages.proofs.Going.{to_read, to_change}
 use Rattle.tran_pages.proofs.Given.{Given, HasNoHead, HasHead}
 
 -- ---- the slot of a key

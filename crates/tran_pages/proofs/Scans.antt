@@ -1,35 +1,33 @@
 -- The pages of a scan are met.
-use Rattle.std.proofs.Common.{◌≡◌, ℕ, zero, suc, ◌≤◌, ◌<◌, ◌+◌, ◌⊎◌, inl, inr, refl, sym, ap, subst, ◌∙◌, Bool, true, false, cond, List, [], ◌∷◌, ◌++◌, length, Option, Some, None, Result, Ok, Err, arith, if◌then◌else◌}
+use Rattle.std.proofs.Common.{◌≡◌, ℕ, suc, ◌≤◌, inl, inr, refl, sym, ap, subst, ◌∙◌, Bool, true, false, cond, List, [], ◌∷◌, ◌++◌, Option, Some, None, Result, Ok, arith, if◌then◌else◌}
 use Rattle.std.specs.Prelude.{◌&&◌, nat_le, leb, Contains, filter}
-use Rattle.std.specs.List.{AllByRecursion, flat_map}
+use Rattle.std.specs.List.{AllByRecursion}
 use Rattle.std.proofs.lemmas.List.{append_assoc, append-nil}
 use Rattle.std.proofs.lemmas.Grind.{flat_map-append}
 use Rattle.ds_base.specs.Ids.{IsTable}
-use Rattle.ds_base.specs.declared.names.Place.{Place}
 use Rattle.ds_base.specs.declared.row.Row.{Row}
 use Rattle.index_leaf.specs.declared.layout.Entry.{Entry}
 use Rattle.index_leaf.specs.Entries.{low_of, high_of, right_of, entries_of}
-use Rattle.index_leaf.specs.Search.{find, is_beyond}
+use Rattle.index_leaf.specs.Search.{is_beyond}
 use Rattle.ds_model.specs.declared.script.Op.{Op}
 use Rattle.ds_model.specs.declared.script.Op.TheVariants as op
-use Rattle.ds_model.specs.Rows.{Rows, scanned}
+use Rattle.ds_model.specs.Rows.{scanned}
 use Rattle.tran_core.specs.declared.stage.Aim.{Aim}
 use Rattle.tran_core.specs.declared.stage.Aim.TheVariants as aim
 use Rattle.tran_core.specs.declared.stage.Level.TheVariants as level
 use Rattle.tran_core.specs.declared.stage.NextLeaf.{NextLeaf}
 use Rattle.tran_core.specs.declared.stage.Task.{Task}
 use Rattle.tran_core.specs.declared.stage.Reading.TheVariants as reading
-use Rattle.tran_core.specs.declared.stage.Step.TheVariants as step
 use Rattle.tran_core.specs.Wants.{Content, heap_page}
-use Rattle.tran_core.specs.Looks.{is_between, between, onward, next_leaf_at, next_leaf, row_read}
-use Rattle.tran_core.specs.States.{State, scan_read}
-use Rattle.tran_core.specs.Pages.{scan_from, scan_on, collected, entry_met}
+use Rattle.tran_core.specs.Looks.{is_between, between, onward, next_leaf_at, row_read}
+use Rattle.tran_core.specs.States.{State}
+use Rattle.tran_core.specs.Pages.{scan_from, collected, entry_met}
 use Rattle.page_images.specs.Images.{Images, index_page}
 use Rattle.index_chain.specs.Chains.{Node, entries_in}
 use Rattle.index_chain.specs.Searches.{IsReached}
 use Rattle.heap_rows.specs.Heaps.{place_at}
 use Rattle.tran_pages.specs.Tables.{Tables, Shape, Tree, TableHolds, IndexHolds, entry_of, number_of, row_of}
-use Rattle.tran_pages.specs.Course.{op_by, IsAt, IsPlaceOf, IsOnWay, StartsAt, IsSought, IsNext, IsCollecting, row_at, rows_at, rows_between, rows_beyond, IsOnCourse}
+use Rattle.tran_pages.specs.Course.{op_by, IsAt, IsPlaceOf, StartsAt, IsSought, IsNext, IsCollecting, row_at, rows_at, rows_beyond, IsOnCourse}
 use Rattle.tran_pages.proofs.Ends.{IsWithin, scan_ends}
 use Rattle.tran_pages.proofs.Searches.{IsLinked, Leads, entries_beyond}
 use Rattle.tran_pages.proofs.Going.{place_in, to_read}

@@ -1,34 +1,29 @@
 -- What is wanted says where a transaction stands.
 use Rattle.std.proofs.Common.{◌≡◌, ℕ, inl, inr, refl, sym, ap, subst, ◌∙◌, Bool, true, false, List, [], ◌∷◌, Option, Some, None}
 use Rattle.std.specs.List.{AllByRecursion}
-use Rattle.std.specs.Prelude.{IfSome}
 use Rattle.ds_base.specs.Ids.{IsTable}
-use Rattle.ds_base.specs.Values.{IsValue}
-use Rattle.ds_base.specs.declared.names.Place.{Place}
 use Rattle.page_images.specs.Images.{Images}
 use Rattle.ds_model.specs.declared.script.Op.{Op}
 use Rattle.ds_model.specs.declared.script.Op.TheVariants as op
 use Rattle.ds_model.specs.declared.lock.Name.{Name}
 use Rattle.ds_model.specs.declared.fate.Answer.{Answer}
 use Rattle.lock_names.specs.declared.mode.Mode.{Mode}
-use Rattle.ds_model.specs.Rows.{Rows}
 use Rattle.ds_model.specs.Scripts.{IsKey, IsOp}
 use Rattle.tran_core.specs.declared.stage.Aim.{Aim}
 use Rattle.tran_core.specs.declared.stage.Aim.TheVariants as aim
 use Rattle.tran_core.specs.declared.stage.Task.{Task}
 use Rattle.tran_core.specs.declared.stage.Update.{Update}
 use Rattle.tran_core.specs.declared.stage.Update.TheVariants as update
-use Rattle.tran_core.specs.declared.stage.Step.{Step}
 use Rattle.tran_core.specs.declared.stage.Step.TheVariants as step
 use Rattle.tran_core.specs.declared.stage.Stage.{Stage}
 use Rattle.tran_core.specs.declared.stage.Stage.TheVariants as stage
 use Rattle.tran_core.specs.declared.stage.Undone.{Undone}
 use Rattle.tran_core.specs.Wants.{Wanted, Acted, GiveSlot, Content, Lock, Change, Commit, Ended, Undo, update_of, row_after, want_undo}
 use Rattle.tran_core.specs.Wants as wanted
-use Rattle.tran_core.specs.States.{State, want_of, want_at, newest, after_done}
-use Rattle.tran_pages.specs.Tables.{Tables, Shape, Holds, tables_after_all, number_of, count_in, with_row}
+use Rattle.tran_core.specs.States.{State, want_at, newest, after_done}
+use Rattle.tran_pages.specs.Tables.{Tables, Shape, Holds, tables_after_all, number_of, count_in}
 use Rattle.tran_pages.specs.Course.{op_by, op_of, IsPart, PartAt, IsBefore, IsPut, IsContent, Changes, CanUndo, StageKnows, ChangeKnows, IsOnCourse}
-use Rattle.tran_pages.specs.Steps.{Needs, IsMade, MayChange, ChangeNeeds, ChangeKeeps, UndoNeeds, UndoKeeps, Commits, Returns, IsFresh, IsFirstLock, LockIsFirst, IsFirstSlot, SlotIsFirst, AbortIsKnown}
+use Rattle.tran_pages.specs.Steps.{Needs, IsMade, ChangeNeeds, ChangeKeeps, UndoNeeds, UndoKeeps, Commits, Returns, IsFresh, IsFirstLock, LockIsFirst, IsFirstSlot, SlotIsFirst, AbortIsKnown}
 use Rattle.tran_pages.proofs.Maps.{own_number}
 use Rattle.tran_pages.proofs.Ends.{IsWithin}
 use Rattle.tran_pages.proofs.Given.{Given}

@@ -1,5 +1,5 @@
 -- What keeps a transaction on its course, what it needs, and where it ends.
-use Rattle.std.specs.Prelude.{◌≡◌, ◌⊎◌, ℕ, Bool, true, false, List, [], ◌∷◌, ◌++◌, Some, None}
+use Rattle.std.specs.Prelude.{◌≡◌, ◌⊎◌, ℕ, Bool, true, false, List, ◌∷◌, ◌++◌, None}
 use Rattle.std.specs.List.{AllByRecursion}
 use Rattle.ds_base.specs.Ids.{IsTable}
 use Rattle.ds_base.specs.declared.names.PageId.{PageId}
@@ -14,7 +14,6 @@ use Rattle.ds_model.specs.declared.lock.Name.{Name}
 use Rattle.lock_names.specs.declared.mode.Mode.{Mode}
 use Rattle.tran_core.specs.declared.stage.Task.{Task}
 use Rattle.tran_core.specs.declared.stage.Step.TheVariants as step
-use Rattle.ds_model.specs.Rows.{Rows}
 use Rattle.ds_model.specs.Scripts.{IsKey, IsOp}
 use Rattle.ds_model.specs.Effect.{after_ops, reads_of, aborts}
 use Rattle.tran_core.specs.declared.stage.Level.TheVariants as level

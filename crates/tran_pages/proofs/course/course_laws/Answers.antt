@@ -1,4 +1,3 @@
-use Rattle.std.specs.Prelude.{List}
 use Rattle.tran_pages.proofs.Given.{Given}
 use Rattle.tran_pages.proofs.Leading.{SearchLaws, leads_by}
 use Rattle.tran_pages.proofs.Heaping.{HeapReads, row_by, head_by}
@@ -54,9 +53,9 @@ returns c =
       undo_needs = undo_needs;
       undo = undo_want_keeps;
       lock_first = lock_is_first;
-    slot_first = slot_is_first;
-    abort = abort_is_known;
-    commit = commits_done;
+      slot_first = slot_is_first;
+      abort = abort_is_known;
+      commit = commits_done;
       returns = returns_start;
       sound = λ start ops refused at x w s k. k.sound;
     }
