@@ -1,14 +1,12 @@
 -- Pages that were never written, and tables that grow.
-use Rattle.std.proofs.Common.{◌≡◌, ℕ, zero, suc, ◌+◌, ◌-◌, ◌*◌, ◌≤◌, ◌<◌, ◌^◌, refl, sym, ap, subst, ◌∙◌, Bool, true, false, cond, List, [], ◌∷◌, length, replicate, get_or, Option, Some, None, arith}
+use Rattle.std.proofs.Common.{◌≡◌, ℕ, zero, suc, ◌-◌, ◌<◌, refl, sym, subst, ◌∙◌, Bool, true, false, cond, List, replicate, get_or, Option, Some, None, arith}
 use Rattle.std.specs.Prelude.{◌==◌, ◌&&◌}
 use Rattle.std.specs.FinMap as finite
-use Rattle.ds_base.specs.Ids.{IsTable}
-use Rattle.ds_base.specs.declared.names.PageId.{PageId}
 use Rattle.heap_space.specs.Changes.{heap_page}
 use Rattle.page_images.specs.Images.{Images, zeros, index_page}
 use Rattle.heap_rows.specs.Heaps.{IsHeap, IsCount}
 use Rattle.ds_model.specs.Rows.{spot_cmp}
-use Rattle.tran_pages.specs.Tables.{Tables, Shape, Holds, TableHolds, Grows, slot_row, number_of, row_of, count_in, with_place}
+use Rattle.tran_pages.specs.Tables.{Tables, slot_row, number_of, count_in}
 use Rattle.tran_pages.specs.Makes.{SlotGrows, SameGrows, no_tables, no_shape, EmptyHolds}
 use Rattle.tran_pages.proofs.Maps.{is_key, number_set, is_same}
 

@@ -2,22 +2,15 @@
 use Rattle.std.proofs.Common.{◌≡◌, ℕ, ◌-◌, ◌*◌, ◌≤◌, ◌<◌, refl, sym, ap, subst, ◌∙◌, Bool, true, false, List, [], ◌∷◌, ◌++◌, ◌^◌, Option, Some, None, arith, if◌then◌else◌}
 use Rattle.std.specs.Prelude.{◌==◌, ◌&&◌}
 use Rattle.std.specs.List.{AllByRecursion}
-use Rattle.std.specs.FinMap as finite
-use Rattle.std.specs.Ordering.{eq_by_cmp}
 use Rattle.std.proofs.lemmas.Bool.Decides.{nat_tests}
-use Rattle.ds_base.specs.Ids.{IsTable}
 use Rattle.ds_base.specs.declared.names.PageId.{PageId}
 use Rattle.page_format.specs.declared.patch.Patch.{Patch}
 use Rattle.heap_space.specs.Changes.{heap_page}
-use Rattle.heap_space.specs.Written.{same_page, after_patch, written}
+use Rattle.heap_space.specs.Written.{after_patch, written}
 use Rattle.page_images.specs.Images.{Images, index_page, after_change}
-use Rattle.index_leaf.specs.declared.layout.Entry.{Entry}
-use Rattle.index_leaf.specs.Search.{find}
-use Rattle.index_chain.specs.Chains.{IsIndex, HasNoIndex, entries_in}
 use Rattle.index_chain.specs.Changes.{KeepsIndex, Stays, StaysWithout}
 use Rattle.heap_rows.specs.Heaps.{IsHeap, SameHeap}
-use Rattle.ds_model.specs.Rows.{spot_cmp, spot_cmp_total}
-use Rattle.tran_pages.specs.Tables.{Tables, Shape, Tree, Holds, TableHolds, IndexHolds, entry_of, slot_row, number_of, row_of, count_in}
+use Rattle.tran_pages.specs.Tables.{Tables, Shape, Tree, TableHolds, IndexHolds, entry_of, slot_row, number_of, row_of, count_in}
 
 -- ---- pages of other sets
 

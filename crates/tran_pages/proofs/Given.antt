@@ -1,5 +1,5 @@
 -- What indexes and heaps give to a transaction.
-use Rattle.std.proofs.Common.{◌≡◌, ℕ, ◌<◌, ◌⊎◌, true, false, List, Option, Some, None, Ok}
+use Rattle.std.proofs.Common.{◌≡◌, ℕ, ◌<◌, ◌⊎◌, true, false, List, Option, Ok}
 use Rattle.ds_base.specs.Ids.{IsTable}
 use Rattle.ds_base.specs.declared.names.PageId.{PageId}
 use Rattle.page_format.specs.Header.{header_of, empty_header, is_zeros}

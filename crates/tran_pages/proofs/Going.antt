@@ -1,57 +1,75 @@
 -- A search goes on in the page that it has met.
-use Rattle.std.proofs.Common.{◌≡◌, ℕ, ◌≤◌, ◌<◌, ◌+◌, ◌⊎◌, inl, inr, refl, sym, ap, subst, ◌∙◌, Bool, true, false, List, [], ◌∷◌, ◌++◌, Option, Some, None, Result, Ok, arith, if◌then◌else◌}
+use Rattle.std.proofs.Common.{◌≡◌, ℕ, ◌≤◌, ◌⊎◌, inl, inr, refl, sym, ap, subst, ◌∙◌, Bool, true, false, List, [], ◌∷◌, Option, Some, None, arith, if◌then◌else◌}
 use Rattle.std.specs.Prelude.{◌==◌}
-use Rattle.std.proofs.lemmas.List.{append-nil}
-use Rattle.std.specs.FinMap as finite
-use Rattle.ds_base.specs.Ids.{IsTable}
 use Rattle.ds_base.specs.declared.names.PageId.{PageId}
 use Rattle.ds_base.specs.declared.names.Place.{Place}
 use Rattle.ds_base.specs.declared.row.Row.{Row}
-use Rattle.page_format.specs.Header.{header_of}
-use Rattle.page_format.specs.Header.{entries_per_page, empty_header}
 use Rattle.index_leaf.specs.declared.layout.Entry.{Entry}
 use Rattle.index_leaf.specs.declared.step.Look.{Look}
 use Rattle.index_leaf.specs.declared.step.Look.TheVariants as look
-use Rattle.index_leaf.specs.Entries.{count_of, low_of, high_of, entries_of}
+use Rattle.index_leaf.specs.Entries.{count_of, low_of, high_of}
 use Rattle.index_leaf.specs.Search.{find, is_beyond, look_of}
 use Rattle.ds_model.specs.declared.script.Op.{Op}
 use Rattle.ds_model.specs.declared.script.Op.TheVariants as op
-use Rattle.ds_model.specs.Rows.{Rows, scanned}
 use Rattle.tran_core.specs.declared.stage.Aim.{Aim}
 use Rattle.tran_core.specs.declared.stage.Aim.TheVariants as aim
 use Rattle.tran_core.specs.declared.stage.Level.{Level}
 use Rattle.tran_core.specs.declared.stage.Level.TheVariants as level
 use Rattle.tran_core.specs.declared.stage.Task.{Task}
-use Rattle.tran_core.specs.declared.stage.Step.{Step}
+use Rattle.tran_core.specs.declared.stage.Reading.{Reading}
+use Rattle.tran_core.specs.declared.stage.Update.{Update}
 use Rattle.tran_core.specs.declared.stage.Reading.TheVariants as reading
 use Rattle.tran_core.specs.declared.stage.Update.TheVariants as update
 use Rattle.tran_core.specs.declared.stage.Step.TheVariants as step
-use Rattle.tran_core.specs.declared.outcome.Outcome.{Outcome}
 use Rattle.tran_core.specs.declared.outcome.Outcome.TheVariants as outcome
-use Rattle.tran_core.specs.Looks.{search_outcome, searched, looked, absent_in, found, no_index, make}
-use Rattle.tran_core.specs.States.{State, at_step, scan_read, without_row}
+use Rattle.tran_core.specs.Looks.{looked, absent_in, found, make}
+use Rattle.tran_core.specs.States.{State, at_step}
 use Rattle.tran_core.specs.Pages.{followed, collected}
 use Rattle.tran_core.specs.Looks.{next_leaf}
-use Rattle.page_images.specs.Images.{Images, zeros, index_page}
+use Rattle.page_images.specs.Images.{Images, index_page}
 use Rattle.index_chain.specs.Chains.{entries_in}
 use Rattle.index_chain.specs.Searches.{IsReached}
-use Rattle.heap_rows.specs.Heaps.{place_at}
 use Rattle.tran_pages.specs.Tables.{Tables, Shape, Tree, TableHolds, IndexHolds, entry_of, number_of, row_of}
-use Rattle.tran_pages.specs.Course.{op_by, op_of, IsAt, IsPlaceOf, IsOnWay, IsSought, StartsAt, IsQuiet, IsSingle, StepKnows, IsOnCourse, rows_between}
-use Rattle.tran_pages.proofs.Ends.{IsWithin, remove_none, nothing_ends, get_ends, scan_ends}
-use Rattle.tran_pages.proofs.Searches.{IsGood, Leads, good_outcome}
+use Rattle.tran_pages.specs.Course.{op_by, op_of, IsPart, IsAt, IsPlaceOf, IsOnWay, IsSought, IsQuiet, IsSingle, StepKnows, IsOnCourse}
+use Rattle.tran_pages.proofs.Ends.{IsWithin, remove_none, nothing_ends, get_ends}
+use Rattle.tran_pages.proofs.Searches.{Leads}
 
 -- the operation goes on with this step
-pub to_step : (start : Tables) (ops : List Op) (at : Images) (x : Tables) (w : Shape) (s : State) (task : Task) (tree : Option Tree) (it : Step)
-    → w.trees task.table ≡ tree → IsWithin start ops at x w s (op_of task) → StepKnows at x tree s task it
-    → IsOnCourse start ops at x w (at_step s task it)
-to_step start ops at x w s task tree it is i k = record {
+pub to_read : (start : Tables) (ops : List Op) (refused : Bool) (at : Images) (x : Tables) (w : Shape) (s : State) (task : Task) (tree : Option Tree) (r : Reading)
+    → w.trees task.table ≡ tree → IsWithin start ops at x w s (op_of task) → StepKnows at x tree s task (step.Read r)
+    → IsOnCourse start ops refused at x w (at_step s task (step.Read r))
+to_read start ops refused at x w s task tree r is i k = record {
   holds = i.holds;
   back = i.back;
   undos = i.undos;
   sound = i.sound;
   part = i.part;
-  knows = subst (λ (t : Option Tree). StepKnows at x t s task it) (sym is) k;
+  knows = subst (λ (t : Option Tree). StepKnows at x t s task (step.Read r)) (sym is) k;
+}
+
+pub to_change : (start : Tables) (ops : List Op) (refused : Bool) (at : Images) (x : Tables) (w : Shape) (s : State) (task : Task) (tree : Option Tree) (u : Update)
+    → w.trees task.table ≡ tree → IsWithin start ops at x w s (op_of task) → StepKnows at x tree s task (step.Change u)
+    → IsOnCourse start ops refused at x w (at_step s task (step.Change u))
+to_change start ops refused at x w s task tree u is i k = record {
+  holds = i.holds;
+  back = i.back;
+  undos = i.undos;
+  sound = i.sound;
+  part = i.part;
+  knows = subst (λ (t : Option Tree). StepKnows at x t s task (step.Change u)) (sym is) k;
+}
+
+-- the row is locked before the operation begins
+pub to_row : (start : Tables) (ops : List Op) (refused : Bool) (at : Images) (x : Tables) (w : Shape) (s : State) (task : Task) (tree : Option Tree)
+    → w.trees task.table ≡ tree → IsWithin start ops at x w s (op_of task) → IsPart start ops x s.reads (op_of task ∷ s.rest) false → StepKnows at x tree s task step.Row
+    → IsOnCourse start ops refused at x w (at_step s task step.Row)
+to_row start ops refused at x w s task tree is i p k = record {
+  holds = i.holds;
+  back = i.back;
+  undos = i.undos;
+  sound = i.sound;
+  part = p;
+  knows = subst (λ (t : Option Tree). StepKnows at x t s task step.Row) (sym is) k;
 }
 
 -- ---- branches
@@ -72,20 +90,20 @@ down_sought at x tree rows table page next own key (aim.Put value) k = k
 down_sought at x tree rows table page next own key aim.Del k = k
 down_sought at x tree rows table page next own key (aim.Scan high) k = (k.0, inl k.1, k.2)
 
-pub branch_goes : (start : Tables) (ops : List Op) (at : Images) (x : Tables) (w : Shape) (s : State) (table own : ℕ) (a : Aim) (tree : Tree) (page branch key : ℕ) (it : Look)
+pub branch_goes : (start : Tables) (ops : List Op) (refused : Bool) (at : Images) (x : Tables) (w : Shape) (s : State) (table own : ℕ) (a : Aim) (tree : Tree) (page branch key : ℕ) (it : Look)
     → let task : Task = record { table = table; key = own; aim = a } in let bytes : List ℕ = at (index_page table page) in
     w.trees table ≡ Some tree → Leads at table tree.branches tree.leaves → look_of bytes key ≡ it
     → IsWithin start ops at x w s (op_by table own a) → IsQuiet s.rows a → IsReached tree.branches page key
     → IsSought at x (Some tree) s.rows table level.Branch page own key a
-    → IsOnCourse start ops at x w (followed s task (index_page table page) bytes (looked level.Branch a page branch key (count_of bytes) it))
-branch_goes start ops at x w s table own a tree page branch key (look.Right next) is leads saw i quiet r k =
-    to_step start ops at x w s (record { table = table; key = own; aim = a }) (Some tree) (step.Read (reading.Index level.Branch next next key)) is i
+    → IsOnCourse start ops refused at x w (followed s task (index_page table page) bytes (looked level.Branch a page branch key (count_of bytes) it))
+branch_goes start ops refused at x w s table own a tree page branch key (look.Right next) is leads saw i quiet r k =
+    to_read start ops refused at x w s (record { table = table; key = own; aim = a }) (Some tree) ((reading.Index level.Branch next next key)) is i
     (quiet, (leads.branch_right page key next r saw, same_sought at x (Some tree) s.rows table page next own key a k))
-branch_goes start ops at x w s table own a tree page branch key (look.Down child) is leads saw i quiet r k =
-    to_step start ops at x w s (record { table = table; key = own; aim = a }) (Some tree) (step.Read (reading.Index level.Leaf child page key)) is i
+branch_goes start ops refused at x w s table own a tree page branch key (look.Down child) is leads saw i quiet r k =
+    to_read start ops refused at x w s (record { table = table; key = own; aim = a }) (Some tree) ((reading.Index level.Leaf child page key)) is i
     (quiet, (leads.down page key child r saw, down_sought at x (Some tree) s.rows table page child own key a k))
-branch_goes start ops at x w s table own a tree page branch key (look.Found place) is leads saw i quiet r k = absurd (leads.has_no_place page key place r saw)
-branch_goes start ops at x w s table own a tree page branch key look.Absent is leads saw i quiet r k = absurd (leads.leads page key r saw)
+branch_goes start ops refused at x w s table own a tree page branch key (look.Found place) is leads saw i quiet r k = absurd (leads.has_no_place page key place r saw)
+branch_goes start ops refused at x w s table own a tree page branch key look.Absent is leads saw i quiet r k = absurd (leads.leads page key r saw)
 
 -- ---- leaves
 
@@ -116,32 +134,32 @@ none_is key None e = refl
 none_is key (Some n) e = absurd (cc)
 
 -- the leaf has the key's entry
-pub found_goes : (start : Tables) (ops : List Op) (at : Images) (x : Tables) (w : Shape) (s : State) (table own : ℕ) (a : Aim) (tree : Option Tree) (id : PageId) (bytes : List ℕ) (place : Place)
+pub found_goes : (start : Tables) (ops : List Op) (refused : Bool) (at : Images) (x : Tables) (w : Shape) (s : State) (table own : ℕ) (a : Aim) (tree : Option Tree) (id : PageId) (bytes : List ℕ) (place : Place)
     → let task : Task = record { table = table; key = own; aim = a } in
     w.trees table ≡ tree → IsWithin start ops at x w s (op_by table own a) → IsQuiet s.rows a
     → (IsSingle a → IsPlaceOf x table own place)
-    → ((high : ℕ) → a ≡ aim.Scan high → IsOnCourse start ops at x w (collected s task id high bytes (next_leaf high bytes)))
-    → IsOnCourse start ops at x w (followed s task id bytes (found a place))
-found_goes start ops at x w s table own aim.Get tree id bytes place is i quiet k more =
-    to_step start ops at x w s (record { table = table; key = own; aim = aim.Get }) tree (step.Read (reading.Slot place)) is i (quiet, k tt)
-found_goes start ops at x w s table own (aim.Put value) tree id bytes place is i quiet k more =
-    to_step start ops at x w s (record { table = table; key = own; aim = aim.Put value }) tree (step.Read (reading.Slot place)) is i (quiet, k tt)
-found_goes start ops at x w s table own aim.Del tree id bytes place is i quiet k more =
-    to_step start ops at x w s (record { table = table; key = own; aim = aim.Del }) tree (step.Read (reading.Slot place)) is i (quiet, k tt)
-found_goes start ops at x w s table own (aim.Scan high) tree id bytes place is i quiet k more = more high refl
+    → ((high : ℕ) → a ≡ aim.Scan high → IsOnCourse start ops refused at x w (collected s task id high bytes (next_leaf high bytes)))
+    → IsOnCourse start ops refused at x w (followed s task id bytes (found a place))
+found_goes start ops refused at x w s table own aim.Get tree id bytes place is i quiet k more =
+    to_read start ops refused at x w s (record { table = table; key = own; aim = aim.Get }) tree ((reading.Slot place)) is i (quiet, k tt)
+found_goes start ops refused at x w s table own (aim.Put value) tree id bytes place is i quiet k more =
+    to_read start ops refused at x w s (record { table = table; key = own; aim = aim.Put value }) tree ((reading.Slot place)) is i (quiet, k tt)
+found_goes start ops refused at x w s table own aim.Del tree id bytes place is i quiet k more =
+    to_read start ops refused at x w s (record { table = table; key = own; aim = aim.Del }) tree ((reading.Slot place)) is i (quiet, k tt)
+found_goes start ops refused at x w s table own (aim.Scan high) tree id bytes place is i quiet k more = more high refl
 
 -- the put of a new key goes on to the heap, or splits the leaf
-put_goes : (start : Tables) (ops : List Op) (at : Images) (x : Tables) (w : Shape) (s : State) (table own : ℕ) (value : List ℕ) (tree : Tree) (page branch count : ℕ) (full : Bool)
+put_goes : (start : Tables) (ops : List Op) (refused : Bool) (at : Images) (x : Tables) (w : Shape) (s : State) (table own : ℕ) (value : List ℕ) (tree : Tree) (page branch count : ℕ) (full : Bool)
     → let task : Task = record { table = table; key = own; aim = aim.Put value } in let bytes : List ℕ = at (index_page table page) in
     w.trees table ≡ Some tree → count_of bytes ≡ count → (count == 252) ≡ full → count ≤ 252
     → IsWithin start ops at x w s (op.Put table own value) → s.rows ≡ []
     → IsOnWay at table (Some tree) level.Leaf page branch own → number_of x table own ≡ None → look_of bytes own ≡ look.Absent
-    → IsOnCourse start ops at x w (followed s task (index_page table page) bytes (if full then make (update.Split page branch) else outcome.Go (step.Read (reading.Header page))))
-put_goes start ops at x w s table own value tree page branch count true is counted full room i quiet r none saw =
-    to_step start ops at x w s (record { table = table; key = own; aim = aim.Put value }) (Some tree) (step.Change (update.Split page branch)) is i
+    → IsOnCourse start ops refused at x w (followed s task (index_page table page) bytes (if full then make (update.Split page branch) else outcome.Go (step.Read (reading.Header page))))
+put_goes start ops refused at x w s table own value tree page branch count true is counted full room i quiet r none saw =
+    to_change start ops refused at x w s (record { table = table; key = own; aim = aim.Put value }) (Some tree) ((update.Split page branch)) is i
     (quiet, (tt, (r, counted ∙ grind (arith, full))))
-put_goes start ops at x w s table own value tree page branch count false is counted full room i quiet r none saw =
-    to_step start ops at x w s (record { table = table; key = own; aim = aim.Put value }) (Some tree) (step.Read (reading.Header page)) is i
+put_goes start ops refused at x w s table own value tree page branch count false is counted full room i quiet r none saw =
+    to_read start ops refused at x w s (record { table = table; key = own; aim = aim.Put value }) (Some tree) ((reading.Header page)) is i
     (quiet, (tt, none, (r.0, saw, grind (arith, counted, full, room))))
 
 -- the search ends at this leaf, and the key has no place and no row
@@ -152,18 +170,18 @@ record HasNoKey (at : Images) (x : Tables) (tree : Option Tree) (table page bran
   saw : look_of (at (index_page table page)) key ≡ look.Absent
 
 -- the leaf has no entry of the key
-absent_goes : (start : Tables) (ops : List Op) (at : Images) (x : Tables) (w : Shape) (s : State) (table own : ℕ) (a : Aim) (tree : Tree) (page branch : ℕ)
+absent_goes : (start : Tables) (ops : List Op) (refused : Bool) (at : Images) (x : Tables) (w : Shape) (s : State) (table own : ℕ) (a : Aim) (tree : Tree) (page branch : ℕ)
     → let task : Task = record { table = table; key = own; aim = a } in let bytes : List ℕ = at (index_page table page) in
     w.trees table ≡ Some tree → count_of bytes ≤ 252 → IsWithin start ops at x w s (op_by table own a) → IsQuiet s.rows a
     → (IsSingle a → HasNoKey at x (Some tree) table page branch own)
-    → ((high : ℕ) → a ≡ aim.Scan high → IsOnCourse start ops at x w (collected s task (index_page table page) high bytes (next_leaf high bytes)))
-    → IsOnCourse start ops at x w (followed s task (index_page table page) bytes (absent_in a page branch (count_of bytes)))
-absent_goes start ops at x w s table own aim.Get tree page branch is room i quiet k more = get_ends start ops at x w s table own None (k tt).row quiet i
-absent_goes start ops at x w s table own (aim.Put value) tree page branch is room i quiet k more =
-    put_goes start ops at x w s table own value tree page branch (count_of (at (index_page table page))) (count_of (at (index_page table page)) == 252) is refl refl room i quiet (k tt).way (k tt).number (k tt).saw
-absent_goes start ops at x w s table own aim.Del tree page branch is room i quiet k more =
-    nothing_ends start ops at x w s (op.Del table own) refl refl (remove_none x table own (k tt).row) quiet i
-absent_goes start ops at x w s table own (aim.Scan high) tree page branch is room i quiet k more = more high refl
+    → ((high : ℕ) → a ≡ aim.Scan high → IsOnCourse start ops refused at x w (collected s task (index_page table page) high bytes (next_leaf high bytes)))
+    → IsOnCourse start ops refused at x w (followed s task (index_page table page) bytes (absent_in a page branch (count_of bytes)))
+absent_goes start ops refused at x w s table own aim.Get tree page branch is room i quiet k more = get_ends start ops refused at x w s table own None (k tt).row quiet i
+absent_goes start ops refused at x w s table own (aim.Put value) tree page branch is room i quiet k more =
+    put_goes start ops refused at x w s table own value tree page branch (count_of (at (index_page table page))) (count_of (at (index_page table page)) == 252) is refl refl room i quiet (k tt).way (k tt).number (k tt).saw
+absent_goes start ops refused at x w s table own aim.Del tree page branch is room i quiet k more =
+    nothing_ends start ops refused at x w s (op.Del table own) refl refl (remove_none x table own (k tt).row) quiet i
+absent_goes start ops refused at x w s table own (aim.Scan high) tree page branch is room i quiet k more = more high refl
 
 -- ---- a leaf that was met
 
@@ -194,33 +212,33 @@ not_beyond_place true number place other e = absurd (cc)
 not_beyond_place false number place other e = refl
 
 -- what a scan does with its leaf
-abbrev pub Collects : Tables → List Op → Images → Tables → Shape → State → ℕ → ℕ → Aim → ℕ → ℕ → Type 0
-Collects start ops at x w s table own a page key =
+abbrev pub Collects : Tables → List Op → Bool → Images → Tables → Shape → State → ℕ → ℕ → Aim → ℕ → ℕ → Type 0
+Collects start ops refused at x w s table own a page key =
     let task : Task = record { table = table; key = own; aim = a } in let bytes : List ℕ = at (index_page table page) in
     (high : ℕ) → a ≡ aim.Scan high → is_beyond (high_of bytes) key ≡ false
-    → IsOnCourse start ops at x w (collected s task (index_page table page) high bytes (next_leaf high bytes))
+    → IsOnCourse start ops refused at x w (collected s task (index_page table page) high bytes (next_leaf high bytes))
 
-pub leaf_goes : (start : Tables) (ops : List Op) (at : Images) (x : Tables) (w : Shape) (s : State) (table own : ℕ) (a : Aim) (tree : Tree) (page branch key : ℕ) (it : Look)
+pub leaf_goes : (start : Tables) (ops : List Op) (refused : Bool) (at : Images) (x : Tables) (w : Shape) (s : State) (table own : ℕ) (a : Aim) (tree : Tree) (page branch key : ℕ) (it : Look)
     → let task : Task = record { table = table; key = own; aim = a } in let bytes : List ℕ = at (index_page table page) in
     w.trees table ≡ Some tree → Leads at table tree.branches tree.leaves → TableHolds at x w table → look_of bytes key ≡ it
     → IsWithin start ops at x w s (op_by table own a) → IsQuiet s.rows a → IsOnWay at table (Some tree) level.Leaf page branch key
-    → IsSought at x (Some tree) s.rows table level.Leaf page own key a → Collects start ops at x w s table own a page key
-    → IsOnCourse start ops at x w (followed s task (index_page table page) bytes (looked level.Leaf a page branch key (count_of bytes) it))
-leaf_goes start ops at x w s table own a tree page branch key (look.Right next) is leads holds saw i quiet r k more =
+    → IsSought at x (Some tree) s.rows table level.Leaf page own key a → Collects start ops refused at x w s table own a page key
+    → IsOnCourse start ops refused at x w (followed s task (index_page table page) bytes (looked level.Leaf a page branch key (count_of bytes) it))
+leaf_goes start ops refused at x w s table own a tree page branch key (look.Right next) is leads holds saw i quiet r k more =
     let on : _ = leads.leaf_right page key next r.0 saw in
-    to_step start ops at x w s (record { table = table; key = own; aim = a }) (Some tree) (step.Read (reading.Index level.Leaf next branch key)) is i
+    to_read start ops refused at x w s (record { table = table; key = own; aim = a }) (Some tree) ((reading.Index level.Leaf next branch key)) is i
     (quiet, ((on.0, leads.leaf_under branch page key next r.1 saw), right_sought at x (Some tree) s.rows table page next own key a on.1 (leads.leaf next key on.0).low k))
-leaf_goes start ops at x w s table own a tree page branch key (look.Down child) is leads holds saw i quiet r k more = absurd (leads.is_last page key child r.0 saw)
-leaf_goes start ops at x w s table own a tree page branch key (look.Found place) is leads holds saw i quiet r k more =
+leaf_goes start ops refused at x w s table own a tree page branch key (look.Down child) is leads holds saw i quiet r k more = absurd (leads.is_last page key child r.0 saw)
+leaf_goes start ops refused at x w s table own a tree page branch key (look.Found place) is leads holds saw i quiet r k more =
     let index : IndexHolds at x table (Some tree) = subst (λ (t : Option Tree). IndexHolds at x table t) is holds.index in
     let there : IsPlaceOf x table key place = key_found at x w table key tree place index (leads.found page key place r.0 saw) in
-    found_goes start ops at x w s table own a (Some tree) (index_page table page) (at (index_page table page)) place is i quiet
+    found_goes start ops refused at x w s table own a (Some tree) (index_page table page) (at (index_page table page)) place is i quiet
     (λ (one : IsSingle a). subst (λ q. IsPlaceOf x table q place) (own_key at x (Some tree) s.rows table level.Leaf page own key a k one) there)
     (λ high e. more high e (not_beyond_place (is_beyond (high_of (at (index_page table page))) key) _ place _ saw))
-leaf_goes start ops at x w s table own a tree page branch key look.Absent is leads holds saw i quiet r k more =
+leaf_goes start ops refused at x w s table own a tree page branch key look.Absent is leads holds saw i quiet r k more =
     let index : IndexHolds at x table (Some tree) = subst (λ (t : Option Tree). IndexHolds at x table t) is holds.index in
     let there : number_of x table key ≡ None = key_absent at x w table key tree index (leads.absent page key r.0 saw) in
-    absent_goes start ops at x w s table own a tree page branch is (leads.leaf page key r.0).room i quiet
+    absent_goes start ops refused at x w s table own a tree page branch is (leads.leaf page key r.0).room i quiet
     (λ (one : IsSingle a). subst (λ q. HasNoKey at x (Some tree) table page branch q) (own_key at x (Some tree) s.rows table level.Leaf page own key a k one)
     (record { way = r; number = there; row = holds.rowless key there; saw = saw }))
     (λ high e. more high e (not_beyond (is_beyond (high_of (at (index_page table page))) key) _ _ saw))

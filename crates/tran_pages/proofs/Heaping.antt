@@ -1,9 +1,8 @@
 -- A heap gives a transaction its rows.
-use Rattle.std.proofs.Common.{◌≡◌, ℕ, ◌≤◌, ◌<◌, ◌⊎◌, inl, inr, refl, sym, ap, subst, ◌∙◌, Bool, true, false, List, Option, Some, None, Result, Ok, Err, arith, if◌then◌else◌}
-use Rattle.std.specs.Prelude.{◌==◌, nat_lt, IfSome, ◌+◌}
+use Rattle.std.proofs.Common.{◌≡◌, ℕ, ◌<◌, ◌⊎◌, inl, inr, refl, ap, ◌∙◌, Bool, true, false, List, Option, Some, None, Result, Ok, Err, arith, if◌then◌else◌}
+use Rattle.std.specs.Prelude.{◌==◌, nat_lt, ◌+◌}
 use Rattle.std.proofs.lemmas.Bool.Decides.{nat_tests}
 use Rattle.ds_base.specs.Ids.{IsTable}
-use Rattle.ds_base.specs.Values.{IsValue}
 use Rattle.page_format.specs.Fields.{lrsn_of}
 use Rattle.page_format.specs.Header.{header_of, empty_header, is_zeros}
 use Rattle.page_format.specs.declared.header.Header.{Header}

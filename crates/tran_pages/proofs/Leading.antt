@@ -1,21 +1,18 @@
 -- An index leads a transaction's searches.
-use Rattle.std.proofs.Common.{◌≡◌, ℕ, ◌≤◌, ◌<◌, ◌⊎◌, inl, inr, refl, sym, ap, subst, ◌∙◌, Bool, true, false, cond, not, List, [], ◌∷◌, ◌++◌, Option, Some, None, Result, Ok, arith, if◌then◌else◌}
-use Rattle.std.specs.Prelude.{◌==◌, ◌&&◌, Contains, filter, nat_lt, nat_le}
+use Rattle.std.proofs.Common.{◌≡◌, ℕ, ◌≤◌, inl, inr, refl, sym, ap, subst, ◌∙◌, Bool, true, false, cond, List, [], ◌∷◌, ◌++◌, Option, Some, None, arith, if◌then◌else◌}
+use Rattle.std.specs.Prelude.{Contains, filter, nat_le}
 use Rattle.ds_base.specs.Ids.{IsTable}
-use Rattle.ds_base.specs.declared.names.Place.{Place}
-use Rattle.page_format.specs.Header.{header_of, kind_of, entries_per_page}
 use Rattle.page_images.specs.Images.{Images, index_page}
 use Rattle.index_leaf.specs.declared.layout.Entry.{Entry}
-use Rattle.index_leaf.specs.declared.step.Look.{Look}
 use Rattle.index_leaf.specs.declared.step.Look.TheVariants as look
-use Rattle.index_leaf.specs.Entries.{count_of, low_of, high_of, right_of, right_field, entries_of, IsRising}
+use Rattle.index_leaf.specs.Entries.{low_of, high_of, right_of, right_field, entries_of, IsRising}
 use Rattle.index_leaf.specs.Search.{is_branch, is_beyond, find, floor, down_to, found_at, look_of}
 use Rattle.index_leaf.specs.Nodes.{IsNode}
 use Rattle.index_chain.specs.Chains.{Node, HasNode, IsNodePage, IsBelow, IsChain, IsIndex, entries_in, low_of_first}
 use Rattle.index_chain.specs.Searches as chain
 use Rattle.index_chain.specs.Searches.{IsReached, IsUnder, IsRead, SearchBegins, BranchIsRead, LeafIsRead, BranchGoesRight, LeafGoesRight, BranchGoesDown, DownIsUnder, RightIsUnder, EndsUnder, BranchLeadsOn, LeafAnswers, LeafFinds, LeafLacks, LeafEnds, LeafScans, LeavesRise, behind}
 use Rattle.tran_core.specs.declared.stage.Level.TheVariants as level
-use Rattle.tran_core.specs.Looks.{is_of, is_between}
+use Rattle.tran_core.specs.Looks.{is_between}
 use Rattle.tran_pages.proofs.Searches.{IsGood, IsLinked, Leads, entries_beyond}
 
 -- the laws of an index that are used here

@@ -1,13 +1,12 @@
 -- One row or one place of a table changes.
-use Rattle.std.proofs.Common.{◌≡◌, ℕ, ◌+◌, ◌-◌, ◌≤◌, ◌<◌, refl, sym, ap, subst, ◌∙◌, Bool, true, false, cond, List, length, Option, Some, None, arith, if◌then◌else◌, get_or, set}
+use Rattle.std.proofs.Common.{◌≡◌, ℕ, ◌+◌, ◌-◌, refl, sym, ap, ◌∙◌, Bool, true, false, cond, length, Some, None, arith}
 use Rattle.std.specs.Prelude.{◌==◌, ◌&&◌}
 use Rattle.std.specs.FinMap as finite
 use Rattle.std.specs.Ordering.{eq_by_cmp}
 use Rattle.std.proofs.lemmas.Bool.Decides.{nat_tests}
 use Rattle.std.proofs.lemmas.List.{length-set, get_or-set_same, get_or-set_other}
 use Rattle.ds_base.specs.Ids.{IsTable}
-use Rattle.ds_model.specs.Rows.{Spot, spot_cmp, spot_cmp_total}
-use Rattle.ds_model.specs.Logs.{set_row}
+use Rattle.ds_model.specs.Rows.{spot_cmp, spot_cmp_total}
 use Rattle.tran_core.specs.Wants.{Content}
 use Rattle.tran_pages.specs.Tables.{Tables, number_of, row_of, count_in, with_row, with_place}
 

@@ -1,22 +1,21 @@
 -- A row changes in its slot.
-use Rattle.std.proofs.Common.{◌≡◌, ℕ, ◌+◌, ◌-◌, ◌*◌, ◌≤◌, ◌<◌, ◌^◌, refl, sym, ap, subst, ◌∙◌, Bool, true, false, cond, List, [], ◌∷◌, Option, Some, None, arith, if◌then◌else◌}
-use Rattle.std.specs.Prelude.{◌==◌, ◌&&◌, IfSome}
+use Rattle.std.proofs.Common.{◌≡◌, ℕ, ◌-◌, ◌*◌, ◌≤◌, ◌<◌, ◌^◌, refl, sym, ap, subst, ◌∙◌, Bool, true, false, cond, List, [], ◌∷◌, Option, Some, None, if◌then◌else◌}
+use Rattle.std.specs.Prelude.{◌==◌, IfSome}
 use Rattle.ds_base.specs.Ids.{IsTable}
 use Rattle.ds_base.specs.Values.{IsValue}
 use Rattle.ds_base.specs.declared.names.Place.{Place}
 use Rattle.page_format.specs.declared.patch.Patch.{Patch}
 use Rattle.heap_space.specs.Changes.{heap_page}
-use Rattle.heap_space.specs.Slots.{image, slot_in}
-use Rattle.page_images.specs.Images.{Images, index_page, after_change}
+use Rattle.heap_space.specs.Slots.{image}
+use Rattle.page_images.specs.Images.{Images, after_change}
 use Rattle.index_chain.specs.Changes.{KeepsIndex, IsLrsn}
-use Rattle.heap_rows.specs.Heaps.{IsHeap, SameHeap, IsAfter, place_at, changed, row_patch, row_page}
+use Rattle.heap_rows.specs.Heaps.{IsHeap, IsAfter, place_at, changed, row_patch, row_page}
 use Rattle.tran_core.specs.Wants.{Content}
-use Rattle.tran_pages.specs.Tables.{Tables, Shape, Tree, Holds, TableHolds, IndexHolds, slot_row, number_of, row_of, count_in, with_row}
-use Rattle.tran_pages.specs.Course.{IsAt, IsPlaceOf, IsContent}
-use Rattle.tran_pages.specs.Steps.{MayChange}
+use Rattle.tran_pages.specs.Tables.{Tables, Shape, Holds, TableHolds, slot_row, number_of, row_of, count_in, with_row}
+use Rattle.tran_pages.specs.Course.{IsAt, IsContent}
 use Rattle.tran_pages.specs.Makes.{RowMakes}
-use Rattle.tran_pages.proofs.Frames.{FrameLaws, Alike, AreOf, NoneOf, none_of, index_stays, heap_stays, heap_sets, heap_index_sets, index_as, table_stays}
-use Rattle.tran_pages.proofs.Maps.{is_key, row_set, other_table, own_table, itself, is_same, not_equal, not_same}
+use Rattle.tran_pages.proofs.Frames.{FrameLaws, none_of, index_stays, heap_stays, heap_sets, heap_index_sets, index_as, table_stays}
+use Rattle.tran_pages.proofs.Maps.{row_set, other_table, own_table, itself, is_same, not_equal, not_same}
 
 pub record RowLaws : Type 0 where
   pub written : (at new : Images) (table : ℕ) (place : Place) (key : ℕ) (value : Option (List ℕ)) (lrsn : ℕ) → IsAfter at new table lrsn (row_patch table place key value ∷ [])

@@ -1,12 +1,10 @@
 -- The rows of an index's entries between two keys are the rows of its table between them.
-use Rattle.std.proofs.Common.{◌≡◌, ℕ, ◌<◌, ◌≤◌, Bool, true, false, cond, List, [], ◌∷◌, ◌++◌, map, Option, Some, None, T, if◌then◌else◌, refl, sym, ap, subst, ◌∙◌, arith}
-use Rattle.std.specs.Prelude.{◌&&◌, ◌||◌, nat_le, ◌==◌, filter, is_some}
-use Rattle.std.specs.List.{flat_map}
+use Rattle.std.proofs.Common.{◌≡◌, ℕ, ◌<◌, Bool, true, false, cond, List, [], ◌∷◌, ◌++◌, map, Option, Some, None, T, if◌then◌else◌, refl, sym, ap, subst, ◌∙◌, arith}
+use Rattle.std.specs.Prelude.{◌&&◌, nat_le, ◌==◌, filter, is_some}
 use Rattle.std.specs.FinMap as finite
 use Rattle.std.specs.FinMap.Entries as sorted
-use Rattle.std.specs.Ordering.{eq_by_cmp, is_lt, is_eq}
+use Rattle.std.specs.Ordering.{eq_by_cmp, is_lt}
 use Rattle.std.proofs.lemmas.Bool.Decides.{nat_tests}
-use Rattle.std.proofs.lemmas.List.{map-append}
 use Rattle.ds_base.specs.declared.row.Row.{Row}
 use Rattle.spot_map.specs.Undo.{exact_spots}
 use Rattle.index_leaf.specs.declared.layout.Entry.{Entry}

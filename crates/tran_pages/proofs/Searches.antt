@@ -1,5 +1,5 @@
 -- What the pages of an index say to searches.
-use Rattle.std.proofs.Common.{◌≡◌, ℕ, ◌≤◌, ◌+◌, ◌⊎◌, inl, inr, refl, sym, ap, subst, ◌∙◌, Bool, true, false, List, [], ◌∷◌, ◌++◌, Option, Some, None, Result, Ok, arith, if◌then◌else◌}
+use Rattle.std.proofs.Common.{◌≡◌, ℕ, ◌≤◌, ◌+◌, refl, ap, ◌∙◌, Bool, true, false, List, [], ◌∷◌, ◌++◌, Option, Some, None, Ok, arith, if◌then◌else◌}
 use Rattle.std.specs.Prelude.{Contains, filter, nat_lt, nat_le, ◌&&◌}
 use Rattle.ds_base.specs.declared.names.PageId.{PageId}
 use Rattle.ds_base.specs.declared.names.Place.{Place}
@@ -14,7 +14,6 @@ use Rattle.index_leaf.specs.Search.{find, is_beyond, look_of}
 use Rattle.tran_core.specs.declared.stage.Level.{Level}
 use Rattle.tran_core.specs.declared.stage.Level.TheVariants as level
 use Rattle.tran_core.specs.declared.stage.Task.{Task}
-use Rattle.tran_core.specs.Wants as wanted
 use Rattle.tran_core.specs.Looks.{is_empty, is_of, kind_fault, fall_from, fall_of, or_fault, index_fault, is_root, searched, search_outcome, looked, unless, no_index, is_between}
 use Rattle.page_images.specs.Images.{Images, index_page}
 use Rattle.index_chain.specs.Chains.{Node, HasNode, entries_in}

@@ -1,27 +1,26 @@
 -- A key gets the next slot of its table.
-use Rattle.std.proofs.Common.{◌≡◌, ℕ, ◌+◌, ◌-◌, ◌*◌, ◌/◌, ◌%◌, ◌≤◌, ◌<◌, ◌^◌, refl, sym, ap, subst, ◌∙◌, Bool, true, false, cond, List, [], ◌∷◌, ◌++◌, length, Option, Some, None, arith, if◌then◌else◌}
-use Rattle.std.specs.Prelude.{◌==◌, ◌&&◌}
+use Rattle.std.proofs.Common.{◌≡◌, ℕ, ◌+◌, ◌-◌, ◌*◌, ◌≤◌, ◌<◌, ◌^◌, refl, sym, ap, subst, ◌∙◌, Bool, true, false, cond, List, [], ◌∷◌, ◌++◌, length, Option, Some, None, arith, if◌then◌else◌}
+use Rattle.std.specs.Prelude.{◌==◌}
 use Rattle.ds_base.specs.Ids.{IsTable}
 use Rattle.ds_base.specs.declared.names.PageId.{PageId}
 use Rattle.ds_base.specs.declared.names.Place.{Place}
 use Rattle.page_format.specs.declared.patch.Patch.{Patch}
-use Rattle.heap_space.specs.Changes.{heap_page, front_patches, last_patch, count_patch, slot_patch, front_patch, give_patches}
+use Rattle.heap_space.specs.Changes.{heap_page, count_patch, slot_patch, front_patch, give_patches}
 use Rattle.heap_space.specs.Written.{same_page, after_patch, written}
 use Rattle.index_leaf.specs.declared.layout.Entry.{Entry}
 use Rattle.index_leaf.specs.Search.{find}
 use Rattle.index_leaf.specs.Changes.{insert_patches}
 use Rattle.page_images.specs.Images.{Images, index_page, after_change}
 use Rattle.index_chain.specs.Chains.{IsIndex, entries_in}
-use Rattle.index_chain.specs.Searches.{IsReached}
-use Rattle.index_chain.specs.Changes.{KeepsIndex, IsLrsn, EntryFits, LeafInserts, LeafGains, entered_at}
+use Rattle.index_chain.specs.Changes.{IsLrsn, LeafInserts, LeafGains, entered_at}
 use Rattle.index_chain.specs.Records.{AreElsewhere, LeafRecord}
-use Rattle.heap_rows.specs.Heaps.{IsHeap, IsCount, SameHeap, HasHeader, IsAfter, place_at, changed}
+use Rattle.heap_rows.specs.Heaps.{IsHeap, IsCount, HasHeader, IsAfter, place_at, changed}
 use Rattle.ds_model.specs.Scripts.{IsKey}
-use Rattle.tran_pages.specs.Tables.{Tables, Shape, Tree, Holds, TableHolds, IndexHolds, entry_of, slot_row, number_of, row_of, count_in, with_tree, with_key, with_place}
+use Rattle.tran_pages.specs.Tables.{Tables, Shape, Tree, TableHolds, IndexHolds, entry_of, slot_row, number_of, row_of, count_in, with_tree, with_key, with_place}
 use Rattle.tran_pages.specs.Course.{HasRoomIn}
 use Rattle.tran_pages.specs.Makes.{leaf_entered, entry_at, SlotIsGiven}
-use Rattle.tran_pages.proofs.Frames.{FrameLaws, Alike, AreOf, NoneOf, none_of, none_both, set_stays, index_stays, heap_stays, index_sets, heap_sets, index_heap_sets, heap_index_sets, heap_as, table_stays}
-use Rattle.tran_pages.proofs.Maps.{is_key, number_set, other_table, own_table, itself, is_same, not_equal, not_same, count_same, count_other, counts_still}
+use Rattle.tran_pages.proofs.Frames.{FrameLaws, AreOf, NoneOf, none_of, none_both, set_stays, index_stays, heap_stays, index_sets, heap_sets, index_heap_sets, heap_index_sets, heap_as, table_stays}
+use Rattle.tran_pages.proofs.Maps.{number_set, other_table, own_table, itself, is_same, not_equal, not_same, count_same, count_other, counts_still}
 use Rattle.tran_pages.proofs.Tree_making.{TreeLaws, each, own_tree, other_tree, leaf_set, insert_sets, index_of}
 
 pub record SlotLaws : Type 0 where

@@ -1,31 +1,30 @@
 -- The index of a table changes.
-use Rattle.std.proofs.Common.{◌≡◌, ℕ, ◌+◌, ◌-◌, ◌*◌, ◌≤◌, ◌<◌, ◌^◌, ◌⊎◌, inl, inr, refl, sym, ap, subst, ◌∙◌, Bool, true, false, cond, List, [], ◌∷◌, ◌++◌, length, Option, Some, None, arith, if◌then◌else◌}
-use Rattle.std.specs.Prelude.{◌==◌, ◌&&◌}
+use Rattle.std.proofs.Common.{◌≡◌, ℕ, ◌-◌, ◌*◌, ◌≤◌, ◌<◌, ◌^◌, inl, inr, refl, sym, ap, subst, ◌∙◌, Bool, true, false, List, [], ◌∷◌, length, Option, Some, None, arith, if◌then◌else◌}
+use Rattle.std.specs.Prelude.{◌==◌}
 use Rattle.ds_base.specs.Ids.{IsTable}
 use Rattle.ds_base.specs.declared.names.PageId.{PageId}
-use Rattle.page_format.specs.Header.{entries_per_page, is_zeros}
+use Rattle.page_format.specs.Header.{is_zeros}
 use Rattle.page_format.specs.declared.patch.Patch.{Patch}
 use Rattle.heap_space.specs.Changes.{heap_page}
 use Rattle.heap_space.specs.Changes as heap
 use Rattle.index_leaf.specs.declared.layout.Entry.{Entry}
-use Rattle.index_leaf.specs.Entries.{count_of, high_of, right_field, entries_of}
-use Rattle.index_leaf.specs.Search.{is_beyond, is_branch, floor, down_to, found_at, look_of, find, how_many}
+use Rattle.index_leaf.specs.Entries.{high_of, right_field, entries_of}
+use Rattle.index_leaf.specs.Search.{is_beyond, is_branch, floor, down_to, found_at, look_of, find}
 use Rattle.index_leaf.specs.declared.step.Look.TheVariants as look
 use Rattle.index_leaf.specs.Changes.{id_of, insert_patches, moved_patch, left_patches, right_patches}
 use Rattle.index_leaf.specs.Changes as index
 use Rattle.page_images.specs.Images.{Images, index_page, after_change, HasFront}
-use Rattle.index_chain.specs.Chains.{Node, HasNode, IsNodePage, IsChain, IsIndex, HasNoIndex, entries_in}
-use Rattle.index_chain.specs.Searches.{IsReached, IsUnder, IsRead, BranchIsRead, LeafIsRead, BranchGoesRight, GoesRight}
-use Rattle.index_chain.specs.Changes.{KeepsIndex, IsLrsn, Formats, LeafSplits, BranchSplits, BranchInserts, SplitKeeps, SplitReaches, SplitHas, SplitUnder, split_at, entered_at, entry_to, first_branches, first_leaves}
+use Rattle.index_chain.specs.Chains.{Node, IsChain, IsIndex, entries_in}
+use Rattle.index_chain.specs.Searches.{IsReached, BranchIsRead, LeafIsRead, BranchGoesRight, GoesRight}
+use Rattle.index_chain.specs.Changes.{Formats, LeafSplits, BranchSplits, BranchInserts, SplitKeeps, SplitReaches, SplitHas, SplitUnder, entry_to}
 use Rattle.index_chain.specs.Records.{BranchRecord, LeafSplitRecord, BranchSplitRecord, split_patches}
-use Rattle.heap_rows.specs.Heaps.{IsHeap, SameHeap, HasHeader, IsAfter}
+use Rattle.heap_rows.specs.Heaps.{IsHeap, HasHeader, IsAfter}
 use Rattle.tran_core.specs.declared.stage.Level.TheVariants as level
-use Rattle.tran_core.specs.Wants.{FormatIndex, FormatHeap, Split}
-use Rattle.tran_pages.specs.Tables.{Tables, Shape, Tree, Holds, TableHolds, IndexHolds, entry_of, slot_row, number_of, row_of, count_in, with_tree}
-use Rattle.tran_pages.specs.Course.{IsChild, IsOnWay, IsFullIn}
-use Rattle.tran_pages.specs.Steps.{Needs, IsFull, KeepsWays}
+use Rattle.tran_pages.specs.Tables.{Tables, Shape, Tree, Holds, TableHolds, IndexHolds, entry_of, slot_row, number_of, count_in, with_tree}
+use Rattle.tran_pages.specs.Course.{IsOnWay, IsFullIn}
+use Rattle.tran_pages.specs.Steps.{IsFull, KeepsWays}
 use Rattle.tran_pages.specs.Makes.{first_tree, IndexFormats, HeapFormats, after_split, leaf_split, branch_split, LeafIsSplit, BranchIsSplit, SplitKeepsChild, branch_entered, ChildIsEntered, ChildGoesRight, HasIndex}
-use Rattle.tran_pages.proofs.Frames.{FrameLaws, Alike, AreOf, NoneOf, none_of, index_stays, heap_stays, index_sets, heap_sets, index_heap_sets, heap_index_sets, index_as, table_stays, same_all}
+use Rattle.tran_pages.proofs.Frames.{FrameLaws, AreOf, none_of, index_stays, heap_stays, index_sets, heap_sets, index_heap_sets, heap_index_sets, index_as, table_stays, same_all}
 use Rattle.tran_pages.proofs.Maps.{itself, is_same, not_equal, not_same}
 
 pub record TreeLaws : Type 0 where
@@ -225,7 +224,7 @@ pub child_goes_right : TreeLaws → ChildGoesRight
 child_goes_right law at x w table branch low child tree holds e is c beyond =
     let ix : IndexHolds at x table (Some tree) = index_of at x w table tree is holds e in
     let on : GoesRight tree.branches (at (index_page table branch)) low (right_field (at (index_page table branch))) =
-      law.branch_right at table tree.next branch low (right_field (at (index_page table branch))) tree.branches tree.leaves ix.0 c.0 (beyond_look (at (index_page table branch)) low beyond) in
+    law.branch_right at table tree.next branch low (right_field (at (index_page table branch))) tree.branches tree.leaves ix.0 c.0 (beyond_look (at (index_page table branch)) low beyond) in
     (on.1, (on.0, c.1))
 
 pub has_index : HasIndex

@@ -1,5 +1,5 @@
 -- What a transaction in hand knows of the pages at each of its steps.
-use Rattle.std.specs.Prelude.{◌≡◌, ℕ, ◌≤◌, ◌<◌, ◌⊎◌, List, [], ◌∷◌, ◌++◌, true, filter, Option, Some, None, IfSome}
+use Rattle.std.specs.Prelude.{◌≡◌, ℕ, ◌≤◌, ◌<◌, ◌⊎◌, List, [], ◌∷◌, ◌++◌, Bool, true, false, filter, Option, Some, None, IfSome}
 use Rattle.std.specs.List.{AllByRecursion, flat_map}
 use Rattle.ds_base.specs.Ids.{IsTable}
 use Rattle.ds_base.specs.Values.{IsValue}
@@ -41,7 +41,7 @@ use Rattle.page_images.specs.Images.{Images, index_page}
 use Rattle.index_chain.specs.Chains.{HasNode, entries_in}
 use Rattle.index_chain.specs.Searches.{IsReached, IsUnder}
 use Rattle.heap_rows.specs.Heaps.{HasHeader, place_at}
-use Rattle.tran_pages.specs.Tables.{Tables, tables_after_all, Tree, Shape, Holds, row_of, number_of}
+use Rattle.tran_pages.specs.Tables.{Tables, tables_after_all, with_place, Tree, Shape, Holds, row_of, number_of}
 
 -- ---- operations that are left
 
@@ -64,21 +64,61 @@ left_at stage.Commit rest = []
 left_at stage.Undo rest = []
 left_at stage.Ended rest = []
 
--- what is done, and then the operations that are left, is what the operations do from the start
-pub record IsPart (start : Tables) (ops : List Op) (x : Tables) (reads : List Answer) (left : List Op) : Type 0 where
+-- the tables before an operation's change: a `put` may have given its key a slot
+abbrev pub IsBefore : Tables → Tables → Op → Type 0
+IsBefore y x (op.Get table key) = x ≡ y
+IsBefore y x (op.Put table key value) = (x ≡ y) ⊎ ((number_of y table key ≡ None) × (x ≡ with_place y table key))
+IsBefore y x (op.Del table key) = x ≡ y
+IsBefore y x (op.Scan table low high) = x ≡ y
+IsBefore y x (op.Raise flag) = x ≡ y
+IsBefore y x (op.Await flag) = x ≡ y
+IsBefore y x op.LoseCache = x ≡ y
+IsBefore y x op.Abort = x ≡ y
+
+-- the tables are those that the operations before have left, until the first that is left has begun
+abbrev pub StandsOn : Bool → Tables → Tables → List Op → Type 0
+StandsOn false y x left = x ≡ y
+StandsOn true y x [] = x ≡ y
+StandsOn true y x (o ∷ rest) = IsBefore y x o
+
+-- some operations are done, and with those that are left they are all; what is done, and then the operations that are
+-- left, is what the operations do from the start
+pub record IsPart (start : Tables) (ops : List Op) (x : Tables) (reads : List Answer) (left : List Op) (begun : Bool) : Type 0 where
+  pub done : List Op
+  pub all : done ++ left ≡ ops
+  pub stands : StandsOn begun (tables_after_all start done) x left
   pub reads_are : reads ++ reads_of x.rows left ≡ reads_of start.rows ops
   pub tables_are : tables_after_all x left ≡ tables_after_all start ops
   pub aborts_are : aborts left ≡ aborts ops
   pub ops_are : AllByRecursion IsOp left
 
-abbrev pub PartAt : Tables → List Op → Tables → List Answer → List Op → Stage → Type 0
-PartAt start ops x reads rest (stage.Work task step) = IsPart start ops x reads (op_of task ∷ rest)
-PartAt start ops x reads rest (stage.Raise flag) = IsPart start ops x reads (op.Raise flag ∷ rest)
-PartAt start ops x reads rest (stage.Await flag) = IsPart start ops x reads (op.Await flag ∷ rest)
-PartAt start ops x reads rest stage.LoseCache = IsPart start ops x reads (op.LoseCache ∷ rest)
-PartAt start ops x reads rest stage.Commit = IsPart start ops x reads []
-PartAt start ops x reads rest stage.Undo = Unit {0}
-PartAt start ops x reads rest stage.Ended = Unit {0}
+-- the operation has its locks
+abbrev pub has_begun : Step → Bool
+has_begun step.Space = false
+has_begun step.Row = false
+has_begun (step.Read reading) = true
+has_begun (step.Change update) = true
+
+-- the slots are those that the operations before an abort have left
+pub record IsAborted (start : Tables) (ops : List Op) (x : Tables) (rest : List Op) : Type 0 where
+  pub done : List Op
+  pub all : done ++ op.Abort ∷ rest ≡ ops
+  pub places_are : x.places ≡ (tables_after_all start done).places
+  pub counts_are : x.counts ≡ (tables_after_all start done).counts
+
+-- a transaction that wasn't refused undoes its changes for its own abort alone
+abbrev pub StoppedBy : Bool → Tables → List Op → Tables → List Op → Type 0
+StoppedBy false start ops x rest = IsAborted start ops x rest
+StoppedBy true start ops x rest = Unit {0}
+
+abbrev pub PartAt : Tables → List Op → Bool → Tables → List Answer → List Op → Stage → Type 0
+PartAt start ops refused x reads rest (stage.Work task step) = IsPart start ops x reads (op_of task ∷ rest) (has_begun step)
+PartAt start ops refused x reads rest (stage.Raise flag) = IsPart start ops x reads (op.Raise flag ∷ rest) false
+PartAt start ops refused x reads rest (stage.Await flag) = IsPart start ops x reads (op.Await flag ∷ rest) false
+PartAt start ops refused x reads rest stage.LoseCache = IsPart start ops x reads (op.LoseCache ∷ rest) false
+PartAt start ops refused x reads rest stage.Commit = IsPart start ops x reads [] false
+PartAt start ops refused x reads rest stage.Undo = StoppedBy refused start ops x rest
+PartAt start ops refused x reads rest stage.Ended = Unit {0}
 
 -- ---- changes that were made
 
@@ -252,12 +292,12 @@ StageKnows at x w s stage.Undo = Unit {0}
 StageKnows at x w s stage.Ended = Unit {0}
 
 -- a transaction of these operations that began over these tables, and now stands over pages that hold these tables
-pub record IsOnCourse (start : Tables) (ops : List Op) (at : Images) (x : Tables) (w : Shape) (s : State) : Type 0 where
+pub record IsOnCourse (start : Tables) (ops : List Op) (refused : Bool) (at : Images) (x : Tables) (w : Shape) (s : State) : Type 0 where
   pub holds : Holds at x w
   pub back : taken_back x.rows s.undo ≡ start.rows
   pub undos : AllByRecursion (CanUndo x) s.undo
   pub sound : s.damage ≡ None
-  pub part : PartAt start ops x s.reads s.rest s.stage
+  pub part : PartAt start ops refused x s.reads s.rest s.stage
   pub knows : StageKnows at x w s s.stage
 
 -- ---- changes

@@ -2,7 +2,6 @@
 use Rattle.std.specs.Prelude.{◌≡◌, ℕ, ◌-◌, ◌<◌, List, [], ◌∷◌, length, Option, Some, None, slice_index_or, slice_set, ◌+◌, ◌==◌, if◌then◌else◌}
 use Rattle.std.specs.FinMap as finite
 use Rattle.ds_base.specs.Ids.{IsTable}
-use Rattle.ds_base.specs.declared.names.Place.{Place}
 use Rattle.index_leaf.specs.declared.layout.Entry.{Entry}
 use Rattle.index_leaf.specs.Search.{find}
 use Rattle.ds_model.specs.declared.script.Op.{Op}

@@ -1,4 +1,4 @@
-ghost use Rattle.tran_pages.specs.Steps.{ChangeKeeps, ChangeNeeds, Commits, DoneKeeps, NeverDamaged, PageKeeps, RefusalKeeps, Returns, Starts, UndoKeeps, UndoNeeds};
+ghost use Rattle.tran_pages.specs.Steps.{AbortIsKnown, ChangeKeeps, ChangeNeeds, Commits, DoneKeeps, LockIsFirst, NeverDamaged, PageKeeps, RefusalKeeps, Returns, SlotIsFirst, Starts, UndoKeeps, UndoNeeds};
 
 use heap_rows::{heap_header_laws, place_laws, read_laws};
 use index_chain::search_laws;
@@ -17,6 +17,9 @@ pub fn course_laws()
     ensures refusal { RefusalKeeps }
     ensures undo_needs { UndoNeeds }
     ensures undo { UndoKeeps }
+    ensures lock_first { LockIsFirst }
+    ensures slot_first { SlotIsFirst }
+    ensures abort { AbortIsKnown }
     ensures commit { Commits }
     ensures returns { Returns }
     ensures sound { NeverDamaged }

@@ -1,11 +1,10 @@
-use Rattle.std.specs.Prelude.{List}
 use Rattle.tran_pages.proofs.Given.{Given}
 use Rattle.tran_pages.proofs.Leading.{SearchLaws, leads_by}
 use Rattle.tran_pages.proofs.Heaping.{HeapReads, row_by, head_by}
 use Rattle.tran_pages.proofs.Meeting.{page_keeps}
 use Rattle.tran_pages.proofs.Doing.{done_keeps}
 use Rattle.tran_pages.proofs.Changing.{starts, refusal_keeps}
-use Rattle.tran_pages.proofs.Wanting.{change_needs, change_keeps, undo_needs, undo_want_keeps, commits_done, returns_start}
+use Rattle.tran_pages.proofs.Wanting.{change_needs, change_keeps, undo_needs, undo_want_keeps, commits_done, returns_start, lock_is_first, slot_is_first, abort_is_known}
 use Rattle.tran_pages.proofs.course.course_laws.Goals as goal
 
 pub returns : goal.returns
@@ -53,7 +52,10 @@ returns c =
       refusal = refusal_keeps;
       undo_needs = undo_needs;
       undo = undo_want_keeps;
+      lock_first = lock_is_first;
+      slot_first = slot_is_first;
+      abort = abort_is_known;
       commit = commits_done;
       returns = returns_start;
-      sound = λ start ops at x w s k. k.sound;
+      sound = λ start ops refused at x w s k. k.sound;
     }
