@@ -54,16 +54,6 @@ op_by table key (aim.Scan high) = op.Scan table key high
 abbrev pub op_of : Task → Op
 op_of task = op_by task.table task.key task.aim
 
--- the operation in hand, and then those that weren't begun
-abbrev pub left_at : Stage → List Op → List Op
-left_at (stage.Work task step) rest = op_of task ∷ rest
-left_at (stage.Raise flag) rest = op.Raise flag ∷ rest
-left_at (stage.Await flag) rest = op.Await flag ∷ rest
-left_at stage.LoseCache rest = op.LoseCache ∷ rest
-left_at stage.Commit rest = []
-left_at stage.Undo rest = []
-left_at stage.Ended rest = []
-
 -- the tables before an operation's change: a `put` may have given its key a slot
 abbrev pub IsBefore : Tables → Tables → Op → Type 0
 IsBefore y x (op.Get table key) = x ≡ y
