@@ -1,12 +1,24 @@
-use Rattle.std.proofs.Common.{◌≡◌, ℕ, List, ◌++◌, map, length, drop, refl, sym, ap, ◌∙◌, arith}
+use Rattle.std.proofs.Common.{◌≡◌, ℕ, List, ◌++◌, map, length, drop, ◌*◌, refl, sym, ap, subst, ◌∙◌, arith}
 use Rattle.std.proofs.lemmas.List.{take_rest}
-use Rattle.ds_model.specs.Transactions.{Placed}
+use Rattle.ds_model.specs.Transactions.{Placed, placed}
 use Rattle.serial_run.specs.Entries.{stop_entry}
-use Rattle.serial_run.specs.States.{seen}
+use Rattle.serial_run.specs.declared.state.Limits.{Limits}
+use Rattle.serial_run.specs.States.{State, seen}
+use Rattle.serial_run.specs.Played.{HasRoom}
 use Rattle.serial_run.specs.Ran.{start, limits_of}
-use Rattle.serial_run.proofs.Whole.{state_is, run_is}
+use Rattle.serial_run.proofs.Whole.{state_is, has_room, run_is}
 use Rattle.serial_run.proofs.Standing.{sound_run}
 use Rattle.serial_run.proofs.run.run_script.Goals as goal
+
+pub play_trans-requires-clause-room : goal.play_trans-requires-clause-room
+play_trans-requires-clause-room g c =
+    let items = c.deref.result.now in
+    let its = c.deref.ensures.value ∙ c.in_ok-items.ensures in
+    let long : length items ≡ length (placed c.args.script) = ap length its in
+    let counter : c.in_ok-locking.locking.counter ≡ 0 = c.in_ok-locking.ensures.counter ∙ c.lrsn_of.ensures in
+    let limits : Limits = record { records = c.in_ok-locking.locking.records; pages = c.args.sizes.pages } in
+    let began = state_is c.new-2.result c.new-3.result _ c.in_ok-locking.locking.counter limits c.new-2.ensures c.new-3.ensures refl counter in
+    subst (λ (s : State). HasRoom s (65 * length items)) (sym began) (has_room limits (length items) (omega (arith, long, c.requires.counted.trans_short)))
 
 pub returns-clause-ran : goal.returns-clause-ran
 returns-clause-ran g c =
