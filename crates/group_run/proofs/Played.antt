@@ -11,9 +11,8 @@ use Rattle.group_run.specs.declared.status.Status.TheVariants as status
 use Rattle.group_run.specs.Opening.{IsOpening}
 use Rattle.group_run.specs.Outside.{Outside}
 use Rattle.group_run.specs.Reports.{HasRun, empty_report}
-use Rattle.group_run.specs.Played.{IsRead, IsPlayed, IsShown, limits_of}
+use Rattle.group_run.specs.Played.{IsRead, IsPlayed, IsShown}
 use Rattle.ds_base.specs.declared.names.Sizes.{Sizes}
-use Rattle.serial_run.specs.declared.state.Limits.{Limits}
 use Rattle.group_run.specs.Prepares.{IsOpened, IsReady, IsPrepared}
 use Rattle.group_run.specs.declared.prepare.Prepared.TheVariants as prepared
 use Rattle.group_words.specs.declared.order.Order.{Order}
@@ -51,7 +50,7 @@ same_script members before mid after script same read = record {
 
 pub is_played : (sizes : Sizes) (before mid after : Outside) (script : Script) (report : Report)
     → IsReady sizes.members before mid script → mid.left ≡ after.left → before.disk_faults ≤ mid.disk_faults
-    → HasRun (limits_of sizes) script report after.alive mid.contents after.contents mid.disk_faults after.disk_faults
+    → HasRun sizes script report after.alive mid.contents after.contents mid.disk_faults after.disk_faults
     → IsPlayed sizes before after report
 is_played sizes before mid after script report ready same le has =
     let run = has.run in
@@ -108,29 +107,29 @@ has_ran sizes before after report played = by_failure sizes before after report 
 
 -- ---- by what the words order
 
-pub counted_by : (o : Option Order) (script : Script) (limits : Limits) (before after : Outside) → IsPrepared o (prepared.Play script limits) before after → IsCounted script
-counted_by None script limits before after h = let f : prepared.Play script limits ≡ prepared.Ended status.WordsRefused = h in cc
-counted_by (Some (order.Play sizes seed trace)) script limits before after h = counted sizes.members script h.0.read.spelled.has_rules
-counted_by (Some order.Show) script limits before after h = absurd h
-counted_by (Some (order.Make n)) script limits before after h = let f : prepared.Play script limits ≡ prepared.Make n = h in cc
-counted_by (Some (order.Work n sizes)) script limits before after h = let f : prepared.Play script limits ≡ prepared.Ended status.NotYet = h in cc
+pub counted_by : (o : Option Order) (script : Script) (given : Sizes) (before after : Outside) → IsPrepared o (prepared.Play script given) before after → IsCounted script
+counted_by None script given before after h = let f : prepared.Play script given ≡ prepared.Ended status.WordsRefused = h in cc
+counted_by (Some (order.Play sizes seed trace)) script given before after h = counted sizes.members script h.0.read.spelled.has_rules
+counted_by (Some order.Show) script given before after h = absurd h
+counted_by (Some (order.Make n)) script given before after h = let f : prepared.Play script given ≡ prepared.Make n = h in cc
+counted_by (Some (order.Work n sizes)) script given before after h = let f : prepared.Play script given ≡ prepared.Ended status.NotYet = h in cc
 
-pub serial_by : (o : Option Order) (script : Script) (limits : Limits) (before after : Outside) → IsPrepared o (prepared.Play script limits) before after → IsSerial script
-serial_by None script limits before after h = let f : prepared.Play script limits ≡ prepared.Ended status.WordsRefused = h in cc
-serial_by (Some (order.Play sizes seed trace)) script limits before after h = h.0.serial
-serial_by (Some order.Show) script limits before after h = absurd h
-serial_by (Some (order.Make n)) script limits before after h = let f : prepared.Play script limits ≡ prepared.Make n = h in cc
-serial_by (Some (order.Work n sizes)) script limits before after h = let f : prepared.Play script limits ≡ prepared.Ended status.NotYet = h in cc
+pub serial_by : (o : Option Order) (script : Script) (given : Sizes) (before after : Outside) → IsPrepared o (prepared.Play script given) before after → IsSerial script
+serial_by None script given before after h = let f : prepared.Play script given ≡ prepared.Ended status.WordsRefused = h in cc
+serial_by (Some (order.Play sizes seed trace)) script given before after h = h.0.serial
+serial_by (Some order.Show) script given before after h = absurd h
+serial_by (Some (order.Make n)) script given before after h = let f : prepared.Play script given ≡ prepared.Make n = h in cc
+serial_by (Some (order.Work n sizes)) script given before after h = let f : prepared.Play script given ≡ prepared.Ended status.NotYet = h in cc
 
-pub ran_by : (o : Option Order) (before mid after : Outside) (script : Script) (limits : Limits) (report : Report)
-    → IsPrepared o (prepared.Play script limits) before mid → mid.left ≡ after.left → before.disk_faults ≤ mid.disk_faults
-    → HasRun limits script report after.alive mid.contents after.contents mid.disk_faults after.disk_faults
+pub ran_by : (o : Option Order) (before mid after : Outside) (script : Script) (given : Sizes) (report : Report)
+    → IsPrepared o (prepared.Play script given) before mid → mid.left ≡ after.left → before.disk_faults ≤ mid.disk_faults
+    → HasRun given script report after.alive mid.contents after.contents mid.disk_faults after.disk_faults
     → RanBy o (met_by report) before after report
-ran_by None before mid after script limits report h same le run = let f : prepared.Play script limits ≡ prepared.Ended status.WordsRefused = h in cc
-ran_by (Some (order.Play sizes seed trace)) before mid after script limits report h same le run = has_ran sizes before after report (is_played sizes before mid after script report h.0 same le (subst (λ (l : Limits). HasRun l script report after.alive mid.contents after.contents mid.disk_faults after.disk_faults) h.1 run))
-ran_by (Some order.Show) before mid after script limits report h same le run = absurd h
-ran_by (Some (order.Make n)) before mid after script limits report h same le run = let f : prepared.Play script limits ≡ prepared.Make n = h in cc
-ran_by (Some (order.Work n sizes)) before mid after script limits report h same le run = let f : prepared.Play script limits ≡ prepared.Ended status.NotYet = h in cc
+ran_by None before mid after script given report h same le run = let f : prepared.Play script given ≡ prepared.Ended status.WordsRefused = h in cc
+ran_by (Some (order.Play sizes seed trace)) before mid after script given report h same le run = has_ran sizes before after report (is_played sizes before mid after script report h.0 same le (subst (λ (l : Sizes). HasRun l script report after.alive mid.contents after.contents mid.disk_faults after.disk_faults) h.1 run))
+ran_by (Some order.Show) before mid after script given report h same le run = absurd h
+ran_by (Some (order.Make n)) before mid after script given report h same le run = let f : prepared.Play script given ≡ prepared.Make n = h in cc
+ran_by (Some (order.Work n sizes)) before mid after script given report h same le run = let f : prepared.Play script given ≡ prepared.Ended status.NotYet = h in cc
 
 met_shown : (report : Report) → report ≡ empty_report 0 → met_by report ≡ status.Done
 met_shown report e = ap met_by e

@@ -11,8 +11,7 @@ use Rattle.ds_model.specs.Sound.{IsSound}
 use Rattle.script_text.specs.Reading.{script_of}
 use Rattle.ds_base.specs.declared.names.Sizes.{Sizes}
 use Rattle.serial_run.specs.declared.run.Ran.{Ran}
-use Rattle.serial_run.specs.declared.state.Limits.{Limits}
-use Rattle.serial_run.specs.Ran.{IsRunOf}
+use Rattle.serial_run.specs.Ran.{IsRunOf, limits_of}
 use Rattle.serial_run.specs.Sounds.{HasEmptyLogs, DiskStandsFor}
 use Rattle.group_run.specs.Input.{script_limit}
 use Rattle.group_run.specs.Outside.{Outside, DiskIsSame}
@@ -34,10 +33,6 @@ pub record IsRead (members : ℕ) (before after : Outside) (script : Script) : T
 -- a disk that tells what it holds had empty logs
 abbrev pub BeganEmpty : Outside → Type 0
 BeganEmpty before = WhenTold before.contents HasEmptyLogs
-
--- how much a run of a group of these sizes may take
-abbrev pub limits_of : Sizes → Limits
-limits_of sizes = record { records = sizes.records; pages = sizes.pages }
 
 -- the script of the source was run within the limits from empty logs, and the report is sound for it and for the logs that are left
 pub record IsPlayed (sizes : Sizes) (before after : Outside) (report : Report) : Type 0 where

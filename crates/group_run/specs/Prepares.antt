@@ -14,14 +14,14 @@ use Rattle.group_run.specs.declared.prepare.Prepared.TheVariants as prepared
 use Rattle.script_text.specs.Reading.{script_of}
 use Rattle.group_run.specs.Opening.{IsOpening, IsNoOpening}
 use Rattle.group_run.specs.Outside.{Outside}
-use Rattle.group_run.specs.Played.{Spells, IsRead, limits_of}
+use Rattle.group_run.specs.Played.{Spells, IsRead}
 use Rattle.group_run.specs.Ends.{MetByPlay, MetByShow}
 
 -- ---- bytes and the disk alone
 
 -- what is ready to run of bytes that were read, and of the logs
 abbrev pub OpensToPlay : Sizes → Prepared → List ℕ → Bool → Option Contents → Option Contents → ℕ → ℕ → Type 0
-OpensToPlay sizes (prepared.Play script limits) bytes alive before after faults faults_now = Spells sizes.members bytes script × IsSerial script × Becomes before after IsOpening × (alive ≡ true) × (limits ≡ limits_of sizes)
+OpensToPlay sizes (prepared.Play script given) bytes alive before after faults faults_now = Spells sizes.members bytes script × IsSerial script × Becomes before after IsOpening × (alive ≡ true) × (given ≡ sizes)
 OpensToPlay sizes prepared.Show bytes alive before after faults faults_now = ⊥
 OpensToPlay sizes (prepared.Make n) bytes alive before after faults faults_now = ⊥
 OpensToPlay sizes (prepared.Ended status.Done) bytes alive before after faults faults_now = ⊥
@@ -48,13 +48,13 @@ pub record IsReady (members : ℕ) (before after : Outside) (script : Script) : 
   pub opened : IsOpened before after
 
 abbrev pub IsPreparedToPlay : Sizes → Prepared → Outside → Outside → Type 0
-IsPreparedToPlay sizes (prepared.Play script limits) before after = IsReady sizes.members before after script × (limits ≡ limits_of sizes)
+IsPreparedToPlay sizes (prepared.Play script given) before after = IsReady sizes.members before after script × (given ≡ sizes)
 IsPreparedToPlay sizes prepared.Show before after = ⊥
 IsPreparedToPlay sizes (prepared.Make n) before after = ⊥
 IsPreparedToPlay sizes (prepared.Ended met) before after = MetByPlay sizes.members met before after
 
 abbrev pub IsPreparedToShow : Prepared → Outside → Outside → Type 0
-IsPreparedToShow (prepared.Play script limits) before after = ⊥
+IsPreparedToShow (prepared.Play script given) before after = ⊥
 IsPreparedToShow prepared.Show before after = IsOpened before after
 IsPreparedToShow (prepared.Make n) before after = ⊥
 IsPreparedToShow (prepared.Ended met) before after = MetByShow met before after

@@ -8,8 +8,8 @@ use Rattle.ds_model.specs.declared.report.Report.{Report}
 use Rattle.ds_model.specs.Rows.{listed}
 use Rattle.ds_model.specs.Sound.{IsSound}
 use Rattle.serial_run.specs.declared.run.Ran.{Ran}
-use Rattle.serial_run.specs.declared.state.Limits.{Limits}
-use Rattle.serial_run.specs.Ran.{IsRunOf}
+use Rattle.ds_base.specs.declared.names.Sizes.{Sizes}
+use Rattle.serial_run.specs.Ran.{IsRunOf, limits_of}
 use Rattle.serial_run.specs.Sounds.{DiskStandsFor}
 
 abbrev pub no_trace : Trace
@@ -27,8 +27,8 @@ pub record Reports (ran : Ran) (report : Report) : Type 0 where
   pub status : report.status ≡ cond ran.failed 5 0
 
 -- a script has run, and this is its report, which is sound
-pub record HasRun (limits : Limits) (script : Script) (report : Report) (alive : Bool) (before after : Option Contents) (faults faults_now : ℕ) : Type 0 where
+pub record HasRun (sizes : Sizes) (script : Script) (report : Report) (alive : Bool) (before after : Option Contents) (faults faults_now : ℕ) : Type 0 where
   pub ran : Ran
   pub reports : Reports ran report
-  pub run : IsRunOf limits script ran alive before after faults faults_now
+  pub run : IsRunOf (limits_of sizes) script ran alive before after faults faults_now
   pub sound : IsSound script finite.empty report (DiskStandsFor alive before after)

@@ -3,7 +3,6 @@ ghost use Rattle.ds_disk.specs.Contents.{Becomes, Same};
 ghost use Rattle.ds_base.specs.Ids.{IsMember};
 ghost use Rattle.group_run.specs.Outside.{outside};
 ghost use Rattle.group_run.specs.Ends.{ordered, ReadsNothing};
-ghost use Rattle.group_run.specs.Played.{limits_of};
 ghost use Rattle.group_run.specs.Prepares.{OpensToPlay, IsPrepared, IsPreparedToPlay, IsPreparedToShow};
 
 use crate::input::{ReadError, read_all};
@@ -14,26 +13,17 @@ use ds_disk::{Disk, DiskError};
 use ds_model::Script;
 use group_words::{Order, WordsFault, member_laws, read_words};
 use script_text::{ScriptError, read_script};
-use serial_run::{Limits, plays};
+use serial_run::plays;
 use std::alloc::Global;
 
 /// What is ready to run, or the status that was met before.
 #[derive(Drop)]
 pub enum Prepared {
-    Play(Script, Limits),
+    Play(Script, Sizes),
     Show,
     /// The script of this number is to be written.
     Make(u64),
     Ended(Status),
-}
-
-fn limits_of(sizes: Sizes) -> Limits
-    ensures { result ≡ limits_of sizes }
-{
-    Limits {
-        records: sizes.records,
-        pages: sizes.pages,
-    }
 }
 
 // What is ready to run of these bytes, and of the logs.
@@ -62,7 +52,7 @@ fn open_to_play<D: Disk>(
         Err(DiskError::NoMemory) => Err(NoMemory),
         Err(DiskError::Failed) => Ok(Prepared::Ended(Status::DiskFailed)),
         Ok(false) => Ok(Prepared::Ended(Status::NotYet)),
-        Ok(true) => Ok(Prepared::Play(script, limits_of(sizes))),
+        Ok(true) => Ok(Prepared::Play(script, sizes)),
     }
 }
 

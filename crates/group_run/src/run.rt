@@ -1,13 +1,14 @@
 ghost use Rattle.std.specs.Prelude.{◌≡◌, ◌≤◌, true, IfOk};
 ghost use Rattle.ds_model.specs.Serial.{IsSerial, IsCounted};
 ghost use Rattle.ds_model.specs.ReportText.{report_text};
+ghost use Rattle.serial_run.specs.Ran.{IsRunOf, limits_of};
 ghost use Rattle.group_run.specs.Reports.{Reports, HasRun, no_trace, empty_report};
 
-use ds_base::{Bytes, NoMemory, Sequence};
+use ds_base::{Bytes, NoMemory, Sequence, Sizes};
 use ds_disk::Disk;
 use ds_model::{Report, Script, Trace};
 use report_text::write_report;
-use serial_run::{Limits, Ran, run_script};
+use serial_run::{Ran, run_script};
 use std::alloc::Global;
 
 fn no_trace(alloc: Global) -> Trace
@@ -43,21 +44,32 @@ fn report_of(alloc: Global, ran: Ran) -> Result<Report, NoMemory>
     })
 }
 
-/// Runs a script within the limits, and makes its report with the report's text.
+// The same sizes, with a lock table of one entry at least, as each order has it.
+fn with_a_lock(sizes: Sizes) -> Sizes
+    ensures locks { 1 ≤ result.locks }
+    ensures same { limits_of result ≡ limits_of sizes }
+{
+    Sizes {
+        locks: sizes.locks.max(1),
+        ..sizes
+    }
+}
+
+/// Runs a script in a group of these sizes, and makes its report with the report's text.
 pub fn run<D: Disk>(
     alloc: Global,
     disk: &mut D,
     script: Script,
-    limits: Limits,
+    sizes: Sizes,
 ) -> Result<(Report, Bytes), NoMemory>
     requires serial { IsSerial script }
     requires counted { IsCounted script }
     requires alive { D.alive disk.old ≡ true }
-    ensures run { IfOk result (λ r. HasRun limits script r.0 (D.alive disk.new) (D.contents disk.old) (D.contents disk.new) (D.faults disk.old) (D.faults disk.new)) }
+    ensures run { IfOk result (λ r. HasRun sizes script r.0 (D.alive disk.new) (D.contents disk.old) (D.contents disk.new) (D.faults disk.old) (D.faults disk.new)) }
     ensures text { IfOk result (λ r. r.1 ≡ report_text r.0) }
     ensures later { D.faults disk.old ≤ D.faults disk.new }
 {
-    let ran = run_script(alloc, disk, script, limits)?;
+    let ran = run_script(alloc, disk, script, with_a_lock(sizes))?;
     let report = report_of(alloc, ran)?;
     let text = write_report(alloc, &report)?;
     Ok((report, text))

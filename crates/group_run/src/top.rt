@@ -12,12 +12,11 @@ use crate::output::write_all;
 use crate::prepare::{Prepared, prepare};
 use crate::run::{empty_report, run};
 use crate::status::{Status, text_of};
-use ds_base::{NoMemory, RowList, Sequence, Sink, Source};
+use ds_base::{NoMemory, RowList, Sequence, Sink, Sizes, Source};
 use ds_disk::Disk;
 use ds_model::{Report, Script};
 use report_text::write_report;
 use script_text::script_bytes;
-use serial_run::Limits;
 use std::alloc::Global;
 use std::sync::Wait;
 use std::thread::Threads;
@@ -53,17 +52,17 @@ fn run_ready<K: Sink, D: Disk>(
     sink: &mut K,
     disk: &mut D,
     script: Script,
-    limits: Limits,
+    sizes: Sizes,
 ) -> Result<(Status, Report), NoMemory>
     requires serial { IsSerial script }
     requires counted { IsCounted script }
     requires alive { D.alive disk.old ≡ true }
-    ensures run { IfOk result (λ r. HasRun limits script r.1 (D.alive disk.new) (D.contents disk.old) (D.contents disk.new) (D.faults disk.old) (D.faults disk.new)) }
+    ensures run { IfOk result (λ r. HasRun sizes script r.1 (D.alive disk.new) (D.contents disk.old) (D.contents disk.new) (D.faults disk.old) (D.faults disk.new)) }
     ensures told { IfOk result (λ r. TellsReport r.0 r.1 (K.taken sink.old) (K.taken sink.new) (K.faults sink.old) (K.faults sink.new)) }
     ensures err { OnErr result (K.taken sink.new ≡ K.taken sink.old) }
     ensures later { D.faults disk.old ≤ D.faults disk.new }
 {
-    let (report, text) = run(alloc, disk, script, limits)?;
+    let (report, text) = run(alloc, disk, script, sizes)?;
     let met = if report.status == 5 {
         Status::DiskFailed
     } else {
@@ -142,7 +141,7 @@ fn perform<S: Source, K: Sink, D: Disk>(
             Err(NoMemory) => wanting(alloc, true),
             Ok((status, report)) => (status, true, report),
         },
-        Ok(Prepared::Play(script, limits)) => match run_ready(alloc, sink, disk, script, limits) {
+        Ok(Prepared::Play(script, sizes)) => match run_ready(alloc, sink, disk, script, sizes) {
             Err(NoMemory) => wanting(alloc, true),
             Ok((status, report)) => (status, true, report),
         },

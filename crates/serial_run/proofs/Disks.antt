@@ -11,7 +11,7 @@ use Rattle.ds_model.specs.declared.log.LogRecord.{LogRecord}
 use Rattle.ds_model.specs.RecordBytes.{log_bytes, record_bytes, IsAllowed}
 use Rattle.ds_model.specs.Logs.{IsLog, IsTorn, AreLogs, StandFor}
 use Rattle.ds_model.specs.Transactions.{Placed}
-use Rattle.serial_run.specs.declared.state.State.{State}
+use Rattle.serial_run.specs.States.{State}
 use Rattle.serial_run.specs.Steps.{after_all, changes, commit_record, records_of, committed, rolled_back}
 use Rattle.serial_run.specs.declared.state.Limits.{Limits}
 use Rattle.serial_run.specs.declared.cause.Cause.{Cause}

@@ -3,7 +3,7 @@ use Rattle.std.proofs.Common.{◌≡◌, ℕ, ◌+◌, List, [], ◌∷◌, ◌+
 use Rattle.ds_model.specs.declared.script.Op.{Op}
 use Rattle.ds_model.specs.declared.log.LogRecord.{LogRecord}
 use Rattle.ds_model.specs.declared.report.ToldRead.{ToldRead}
-use Rattle.serial_run.specs.declared.state.State.{State}
+use Rattle.serial_run.specs.States.{State}
 use Rattle.serial_run.specs.Steps.{after_all, changes, commit_record, records_of, told_all}
 use Rattle.serial_run.specs.Causes.{cause_of, reached}
 use Rattle.serial_run.proofs.Reaching.{reached-all}

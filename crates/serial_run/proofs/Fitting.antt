@@ -5,7 +5,7 @@ use Rattle.std.specs.FinMap as finite
 use Rattle.ds_model.specs.declared.script.Op.{Op}
 use Rattle.ds_model.specs.declared.script.Op.TheVariants as op
 use Rattle.ds_model.specs.RecordBytes.{Fits}
-use Rattle.serial_run.specs.declared.state.State.{State}
+use Rattle.serial_run.specs.States.{State}
 use Rattle.serial_run.proofs.Lists.{all_append}
 use Rattle.serial_run.specs.Steps.{after, added, removal, changes, change_record, records_of, number_in}
 

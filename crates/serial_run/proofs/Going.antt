@@ -10,7 +10,7 @@ use Rattle.ds_model.specs.RecordBytes.{log_bytes}
 use Rattle.ds_model.specs.Serial.{IsShortTran}
 use Rattle.ds_model.specs.Transactions.{Placed}
 use Rattle.serial_run.specs.declared.entry.Entries.{Entries}
-use Rattle.serial_run.specs.declared.state.State.{State}
+use Rattle.serial_run.specs.States.{State}
 use Rattle.serial_run.specs.Steps.{records_of}
 use Rattle.serial_run.specs.declared.cause.Cause.{Cause}
 use Rattle.serial_run.specs.Causes.{cause_of, next}

@@ -10,7 +10,7 @@ use Rattle.ds_model.specs.declared.script.Op.{Op}
 use Rattle.ds_model.specs.declared.log.LogRecord.{LogRecord}
 use Rattle.ds_model.specs.Rows.{Rows}
 use Rattle.ds_model.specs.Logs.{is_commit, has_commit, by_lrsn, after_records, rows_of_logs}
-use Rattle.serial_run.specs.declared.state.State.{State}
+use Rattle.serial_run.specs.States.{State}
 use Rattle.serial_run.specs.Steps.{after_all, changes, records_of, committed}
 use Rattle.serial_run.proofs.Lists.{all_append, all_first, all_last, all_weaker, filter-all, filter-none}
 use Rattle.serial_run.proofs.Sorting.{UpTo, rises_within, rises_below, latest_come_last}

@@ -15,3 +15,5 @@ pub mod Fronts
 pub mod Disks
 pub mod Soundness
 pub mod Standing
+pub mod Holdings
+pub mod Steps

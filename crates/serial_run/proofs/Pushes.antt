@@ -7,7 +7,7 @@ use Rattle.ds_model.specs.Rows.{Rows}
 use Rattle.ds_model.specs.Effect.{after_ops}
 use Rattle.ds_model.specs.declared.script.Op.{Op}
 use Rattle.ds_model.specs.Transactions.{Placed}
-use Rattle.serial_run.specs.declared.state.State.{State}
+use Rattle.serial_run.specs.States.{State}
 use Rattle.serial_run.specs.Steps.{after, after_all}
 use Rattle.serial_run.specs.declared.cause.Cause.{Cause}
 use Rattle.serial_run.specs.Causes.{cause_of, next_by, next}

@@ -3,9 +3,9 @@ use Rattle.std.proofs.Common.{◌≡◌, Bool, true, false, ◌||◌, List, [], 
 use Rattle.ds_model.specs.declared.script.Op.{Op}
 use Rattle.ds_model.specs.declared.script.Op.TheVariants as op
 use Rattle.ds_model.specs.Effect.{is_abort, aborts}
-use Rattle.serial_run.specs.declared.state.State.{State}
+use Rattle.serial_run.specs.States.{State}
 use Rattle.serial_run.specs.declared.cause.Cause.{Cause}
-use Rattle.serial_run.specs.declared.cause.Recorded.{Recorded}
+use Rattle.serial_run.specs.States.{Recorded}
 use Rattle.serial_run.specs.Steps.{after}
 use Rattle.serial_run.specs.Causes.{recorded_after, cause_at, or_later, cause_from, cause_of, none_recorded, unless, reached_from, reached}
 

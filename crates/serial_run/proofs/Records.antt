@@ -9,7 +9,7 @@ use Rattle.ds_model.specs.declared.script.Op.TheVariants as op
 use Rattle.ds_model.specs.declared.log.LogRecord.{LogRecord}
 use Rattle.ds_model.specs.Rows.{Rows}
 use Rattle.ds_model.specs.Logs.{is_commit, has_commit, after_body, after_records}
-use Rattle.serial_run.specs.declared.state.State.{State}
+use Rattle.serial_run.specs.States.{State}
 use Rattle.serial_run.specs.Steps.{after, after_all, added, removal, drawn_to_remove, changes, change_record, commit_record, records_of, committed}
 use Rattle.serial_run.proofs.Lists.{all_append}
 use Rattle.serial_run.proofs.Sorting.{Rises, rises-append}

@@ -14,7 +14,7 @@ use Rattle.ds_model.specs.Scripts.{counted}
 use Rattle.ds_model.specs.Transactions.{Placed, placed}
 use Rattle.ds_model.specs.Serial.{IsCounted}
 use Rattle.ds_model.specs.History.{played, is_committed, replay, IsLegal, RiseAbove, IsInOrder}
-use Rattle.serial_run.specs.declared.state.State.{State}
+use Rattle.serial_run.specs.States.{State}
 use Rattle.serial_run.specs.declared.state.Limits.{Limits}
 use Rattle.serial_run.specs.declared.cause.Cause.{Cause}
 use Rattle.serial_run.specs.Causes.{cause_of, next}

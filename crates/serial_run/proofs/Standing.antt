@@ -8,7 +8,7 @@ use Rattle.ds_model.specs.Transactions.{Placed, placed}
 use Rattle.ds_model.specs.Serial.{IsCounted}
 use Rattle.ds_model.specs.History.{replay}
 use Rattle.ds_model.specs.Logs.{StandFor}
-use Rattle.serial_run.specs.declared.state.State.{State}
+use Rattle.serial_run.specs.States.{State}
 use Rattle.serial_run.specs.declared.run.Ran.{Ran}
 use Rattle.serial_run.specs.Steps.{after_all, committed}
 use Rattle.serial_run.specs.declared.state.Limits.{Limits}

@@ -19,7 +19,7 @@ use Rattle.serial_run.specs.Steps.{told_all}
 use Rattle.serial_run.specs.Entries.{entry_with, commit_by, commit_entries, told_cause, refusal_by, refusal_entries, stop_entry}
 use Rattle.serial_run.specs.Ran.{start, committed_by, commits, refused_by, refused, stop, history_of}
 use Rattle.serial_run.specs.declared.state.Limits.{Limits}
-use Rattle.serial_run.specs.declared.state.State.{State}
+use Rattle.serial_run.specs.States.{State}
 use Rattle.serial_run.specs.declared.cause.Cause.{Cause}
 use Rattle.serial_run.specs.declared.cause.Cause.TheVariants as cause
 use Rattle.serial_run.specs.Causes.{cause_of, refusal_of, next}

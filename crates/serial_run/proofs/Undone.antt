@@ -7,7 +7,7 @@ use Rattle.ds_model.specs.declared.log.LogRecord.{LogRecord}
 use Rattle.ds_model.specs.Rows.{Rows}
 use Rattle.ds_model.specs.Logs.{set_row}
 use Rattle.spot_map.specs.Undo.{insert-insert_back, remove-insert_new, insert-remove_back, remove-absent}
-use Rattle.serial_run.specs.declared.state.State.{State}
+use Rattle.serial_run.specs.States.{State}
 use Rattle.serial_run.specs.Steps.{after, after_all, added, removal, changes, rolled_back, committed, records_of, commit_record}
 use Rattle.serial_run.specs.declared.cause.Cause.{Cause}
 use Rattle.serial_run.specs.Causes.{cause_of, reached, next_by, next}

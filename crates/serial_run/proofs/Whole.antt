@@ -10,7 +10,7 @@ use Rattle.ds_model.specs.Rows.{Rows}
 use Rattle.ds_model.specs.Transactions.{Placed, placed}
 use Rattle.serial_run.specs.declared.entry.Entries.{Entries}
 use Rattle.serial_run.specs.declared.state.Limits.{Limits}
-use Rattle.serial_run.specs.declared.state.State.{State}
+use Rattle.serial_run.specs.States.{State}
 use Rattle.serial_run.specs.Steps.{Places}
 use Rattle.serial_run.specs.Played.{HasRoom}
 use Rattle.serial_run.specs.Entries.{commit_entries, refusal_entries, stop_entry}

@@ -6,8 +6,8 @@ use Rattle.ds_model.specs.declared.script.Op.{Op}
 use Rattle.ds_model.specs.declared.script.Op.TheVariants as op
 use Rattle.ds_model.specs.declared.fate.Refusal.{Refusal}
 use Rattle.ds_model.specs.declared.fate.Refusal.TheVariants as refusal
-use Rattle.serial_run.specs.declared.state.State.{State}
-use Rattle.serial_run.specs.declared.cause.Recorded.{Recorded}
+use Rattle.serial_run.specs.States.{State}
+use Rattle.serial_run.specs.States.{Recorded}
 use Rattle.serial_run.specs.declared.cause.Cause.{Cause}
 use Rattle.serial_run.specs.declared.cause.Cause.TheVariants as cause
 use Rattle.serial_run.specs.Steps.{count_in, after, after_all, committed, rolled_back}
@@ -40,6 +40,11 @@ recorded_after r (op.Await flag) = r
 recorded_after r op.LoseCache = r
 recorded_after r op.Abort = r
 
+-- with the locks of all these operations
+abbrev pub recorded_all : Recorded → List Op → Recorded
+recorded_all r [] = r
+recorded_all r (o ∷ ops) = recorded_all (recorded_after r o) ops
+
 -- they are more than may stand
 abbrev pub is_over : ℕ → Recorded → Bool
 is_over limit r = nat_lt limit (length r.spaces + length r.rows)
@@ -62,6 +67,17 @@ cause_at s r (op.Raise flag) = None
 cause_at s r (op.Await flag) = None
 cause_at s r op.LoseCache = None
 cause_at s r op.Abort = Some cause.Aborted
+
+-- why it is where its locks are granted
+abbrev pub cause_with : State → Op → Option Cause
+cause_with s (op.Get table key) = None
+cause_with s (op.Put table key value) = cond (is_out_of_space s table key) (Some (cause.SpaceFull table s.limits.pages)) None
+cause_with s (op.Del table key) = None
+cause_with s (op.Scan table low high) = None
+cause_with s (op.Raise flag) = None
+cause_with s (op.Await flag) = None
+cause_with s op.LoseCache = None
+cause_with s op.Abort = Some cause.Aborted
 
 -- ---- why a transaction is refused: the first of its operations that is decides
 

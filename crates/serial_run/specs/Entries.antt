@@ -7,7 +7,7 @@ use Rattle.ds_model.specs.declared.report.ToldRefusal.TheVariants as told_refusa
 use Rattle.ds_model.specs.declared.report.ReportEntry.{ReportEntry}
 use Rattle.ds_model.specs.Rows.{Rows}
 use Rattle.ds_model.specs.Transactions.{Placed}
-use Rattle.serial_run.specs.declared.state.State.{State}
+use Rattle.serial_run.specs.States.{State}
 use Rattle.serial_run.specs.declared.cause.Cause.{Cause}
 use Rattle.serial_run.specs.declared.cause.Cause.TheVariants as cause
 use Rattle.serial_run.specs.Steps.{told_all}

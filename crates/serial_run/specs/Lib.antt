@@ -1,3 +1,5 @@
+pub mod States
+pub mod Locks
 pub mod Steps
 pub mod Causes
 pub mod Undo

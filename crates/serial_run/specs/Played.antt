@@ -12,7 +12,7 @@ use Rattle.ds_model.specs.RecordBytes.{log_bytes, IsAllowed}
 use Rattle.serial_run.specs.Steps.{records_of, told_all}
 use Rattle.serial_run.specs.Causes.{cause_of, next}
 use Rattle.serial_run.specs.declared.cause.Cause.{Cause}
-use Rattle.serial_run.specs.declared.state.State.{State}
+use Rattle.serial_run.specs.States.{State}
 use Rattle.serial_run.specs.declared.step.Draft.{Draft}
 use Rattle.serial_run.specs.declared.tran.Drafted.{Drafted}
 use Rattle.serial_run.specs.declared.tran.Drafted.TheVariants as drafted

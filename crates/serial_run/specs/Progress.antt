@@ -11,7 +11,7 @@ use Rattle.serial_run.specs.declared.cause.Cause.{Cause}
 use Rattle.serial_run.specs.Played.{appended, IsAppend}
 use Rattle.serial_run.specs.Entries.{commit_entries, refusal_entries}
 use Rattle.serial_run.specs.declared.entry.Entries.{Entries}
-use Rattle.serial_run.specs.declared.state.State.{State}
+use Rattle.serial_run.specs.States.{State}
 
 -- the state behind transactions of which each commits or is refused
 abbrev pub state_after : State → List Placed → State

@@ -2,6 +2,7 @@
 use Rattle.std.specs.Prelude.{◌≡◌, ◌↔◌, ℕ, ◌+◌, ◌<◌, ◌≤◌, Bool, true, false, List, [], ◌∷◌, ◌++◌, map, length, take, drop, replicate, Option, Some, None}
 use Rattle.std.specs.FinMap as finite
 use Rattle.ds_base.specs.Causes.{Rose}
+use Rattle.ds_base.specs.declared.names.Sizes.{Sizes}
 use Rattle.ds_disk.specs.Contents.{Contents, Becomes}
 use Rattle.ds_model.specs.declared.script.Script.{Script}
 use Rattle.ds_model.specs.declared.fate.Fate.TheVariants as fate
@@ -12,10 +13,14 @@ use Rattle.ds_model.specs.Transactions.{Placed, placed}
 use Rattle.ds_model.specs.Told.{entry_of}
 use Rattle.serial_run.specs.Progress.{state_after, contents_after, AreAllowed, FirstAppends, IsTornAt}
 use Rattle.serial_run.specs.declared.state.Limits.{Limits}
-use Rattle.serial_run.specs.declared.state.State.{State}
+use Rattle.serial_run.specs.States.{State}
 use Rattle.serial_run.specs.declared.cause.Cause.{Cause}
 use Rattle.serial_run.specs.Causes.{cause_of, refusal_of, next}
 use Rattle.serial_run.specs.declared.run.Ran.{Ran}
+
+-- how much a run of a group of these sizes may take
+abbrev pub limits_of : Sizes → Limits
+limits_of sizes = record { records = sizes.records; pages = sizes.pages }
 
 -- no rows, no places, and no number drawn
 abbrev pub start : Limits → State

@@ -12,7 +12,7 @@ use Rattle.ds_model.specs.declared.report.ToldRead.{ToldRead}
 use Rattle.ds_model.specs.declared.report.ToldRead.TheVariants as read
 use Rattle.ds_model.specs.Rows.{Rows, Spot, spot_cmp, scanned}
 use Rattle.ds_model.specs.Effect.{after_op}
-use Rattle.serial_run.specs.declared.state.State.{State}
+use Rattle.serial_run.specs.States.{State}
 
 -- ---- places
 

@@ -6,6 +6,7 @@
 mod cause;
 mod entry;
 mod flatten;
+mod locks;
 mod place;
 mod run;
 mod serial;

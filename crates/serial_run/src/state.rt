@@ -1,4 +1,5 @@
 use ds_base::Value;
+use serial_locks::Locking;
 use spot_map::SpotMap;
 
 /// How much a run may take.
@@ -10,13 +11,13 @@ pub struct Limits {
     pub pages: u32,
 }
 
-/// Where a run stands: the rows, which of the new keys of its table each key was, how many keys of the tables
-/// 1, 2, .. have places, the last number drawn, and how much the run may take.
+/// What plays a run: the rows, which of the new keys of its table each key was, how many keys of the tables
+/// 1, 2, .. have places, how many heap pages a table may have, and the locks with the count of log records.
 #[derive(Drop)]
-pub struct State {
+pub struct Runner {
     pub rows: SpotMap<Value>,
     pub places: SpotMap<u32>,
     pub counts: [u32; 64],
-    pub last: u64,
-    pub limits: Limits,
+    pub pages: u32,
+    pub locking: Locking,
 }

@@ -1,3 +1,5 @@
+use Rattle.std.proofs.Common.{subst}
+use Rattle.serial_run.specs.Ran.{IsRunOf}
 use Rattle.group_run.proofs.run.run.Goals as goal
 
 pub returns-clause-run : goal.returns-clause-run
@@ -6,6 +8,6 @@ returns-clause-run g c =
     record {
       ran = c.in_ok-ran.ran;
       reports = its;
-      run = c.in_ok-ran.ensures.ran;
+      run = subst (λ l. IsRunOf l c.args.script c.in_ok-ran.ran _ _ _ _ _) c.with_a_lock.ensures.same c.in_ok-ran.ensures.ran;
       sound = c.in_ok-ran.ensures.sound c.in_ok-report.report its.entries its.rows;
     }

@@ -7,10 +7,10 @@ use Rattle.group_run.proofs.Played.{counted_by, serial_by, ran_by, shown_by, not
 use Rattle.group_run.proofs.top.perform.Goals as goal
 
 pub run_ready-requires-clause-counted : goal.run_ready-requires-clause-counted
-run_ready-requires-clause-counted g c = counted_by (ordered c.args.words.now) c.in-Ok-Play.script c.in-Ok-Play.limits _ _ (rw c.in-Ok-Play.field-0-is at c.in-Ok-Play.ensures.prepared)
+run_ready-requires-clause-counted g c = counted_by (ordered c.args.words.now) c.in-Ok-Play.script c.in-Ok-Play.sizes _ _ (rw c.in-Ok-Play.field-0-is at c.in-Ok-Play.ensures.prepared)
 
 pub run_ready-requires-clause-serial : goal.run_ready-requires-clause-serial
-run_ready-requires-clause-serial g c = serial_by (ordered c.args.words.now) c.in-Ok-Play.script c.in-Ok-Play.limits _ _ (rw c.in-Ok-Play.field-0-is at c.in-Ok-Play.ensures.prepared)
+run_ready-requires-clause-serial g c = serial_by (ordered c.args.words.now) c.in-Ok-Play.script c.in-Ok-Play.sizes _ _ (rw c.in-Ok-Play.field-0-is at c.in-Ok-Play.ensures.prepared)
 
 pub returns-in-Ok-show : goal.returns-in-Ok-show
 returns-in-Ok-show g c =
@@ -32,7 +32,7 @@ returns-in-Ok-run_ready g c =
     let report = c.in-Ok-run_ready.report in
     let run = c.in-Ok-run_ready.ensures in
     record {
-      long = λ e not. (met_by report, ran_by (ordered c.args.words.now) _ _ _ c.in-Ok-Play.script c.in-Ok-Play.limits report ready refl c.prepare.ensures.later run.run, run.told);
+      long = λ e not. (met_by report, ran_by (ordered c.args.words.now) _ _ _ c.in-Ok-Play.script c.in-Ok-Play.sizes report ready refl c.prepare.ensures.later run.run, run.told);
       short = λ e not. let f : true ≡ false = e in cc;
       wanting = λ e. absurd (not_wanting report c.in-Ok-run_ready.status _ _ _ _ run.told e);
       same = λ e. let f : true ≡ false = e in cc;

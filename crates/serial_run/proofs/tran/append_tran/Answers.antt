@@ -4,21 +4,21 @@ use Rattle.ds_model.specs.declared.log.LogRecord.{LogRecord}
 use Rattle.ds_model.specs.RecordBytes.{log_bytes, IsAllowed, Fits}
 use Rattle.ds_disk.specs.Answers.{Appended}
 use Rattle.ds_disk.specs.Contents.{Becomes, Same}
-use Rattle.serial_run.specs.declared.state.State.{State}
+use Rattle.serial_run.specs.States.{State, seen}
 use Rattle.serial_run.specs.Steps.{after_all}
 use Rattle.serial_run.specs.Undo.{undone}
 use Rattle.serial_run.proofs.Undone.{next-goes, undone-records}
 use Rattle.serial_run.proofs.Fitting.{all_fit}
-use Rattle.serial_run.proofs.tran.play_tran.Goals as goal
+use Rattle.serial_run.proofs.tran.append_tran.Goals as goal
 
 pub records_bytes-requires : goal.records_bytes-requires
 records_bytes-requires g c =
     let drafted = rw c.in-Goes.is at c.in_ok-drafted.ensures.draft in
-    subst (AllByRecursion Fits) (sym (c.as_slice.ensures ∙ drafted.2)) (all_fit c.args.state.now c.args.ops.now)
+    subst (AllByRecursion Fits) (sym (c.as_slice.ensures ∙ drafted.2)) (all_fit (seen c.args.state.now) c.args.ops.now)
 
 pub returns-in_ok-undo-in-Err-Failed-clause-plays : goal.returns-in_ok-undo-in-Err-Failed-clause-plays
 returns-in_ok-undo-in-Err-Failed-clause-plays g c =
-    let was = c.args.state.now in
+    let was = (seen c.args.state.now) in
     let ops = c.args.ops.now in
     let drafted = rw c.in-Goes.is at c.in_ok-drafted.ensures.draft in
     let failed = c.in-Err-Failed.is ∙ ap Err c.in-Err-Failed.field-0-is in
