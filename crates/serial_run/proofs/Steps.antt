@@ -71,9 +71,9 @@ went s mid new r now o rest more result e m n k f is c =
     let at : cause_at s (recorded_after r o) o ≡ None = cause_granted s (recorded_after r o) o f ∙ ap (λ (z : State). cause_with z o) (sym m) ∙ sym c ∙ is in
     let there : new ≡ after s o = n ∙ ap (λ (z : State). after z o) m in (
       ap (λ (l : List Op). cause_from s r l) e ∙ ap (λ (z : Option Cause). or_later z (cause_from (after s o) (recorded_after r o) more)) at
-      ∙ ap (λ (z : State). cause_from z (recorded_after r o) more) (sym there) ∙ ap (λ (z : Recorded). cause_from new z more) (sym k),
+          ∙ ap (λ (z : State). cause_from z (recorded_after r o) more) (sym there) ∙ ap (λ (z : Recorded). cause_from new z more) (sym k),
       ap (λ (l : List Op). reached_from s r l) e ∙ ap (λ (z : Option Cause). unless z (o ∷ reached_from (after s o) (recorded_after r o) more)) at
-      ∙ ap (λ (z : State). o ∷ reached_from z (recorded_after r o) more) (sym there) ∙ ap (λ (z : Recorded). o ∷ reached_from new z more) (sym k),
+          ∙ ap (λ (z : State). o ∷ reached_from z (recorded_after r o) more) (sym there) ∙ ap (λ (z : Recorded). o ∷ reached_from new z more) (sym k),
       there,
     )
 

@@ -34,11 +34,7 @@ fn share(
 
 // Takes the lock of a table space of which a row is to be changed.
 #[tactic(auto, unfolding(serial_locks::specs::Standings::is_plain))]
-fn take_space(
-    locking: &mut Locking,
-    member: MemberId,
-    table: TableId,
-) -> Result<Locked, NoMemory>
+fn take_space(locking: &mut Locking, member: MemberId, table: TableId) -> Result<Locked, NoMemory>
     requires hand { IsInHand locking.old member }
     requires time { used locking.old + 2 < 2 ^ 63 }
     ensures locks { IfOk result (λ answer. (r : Recorded) → Holds locking.old member r → Locks locking.old locking.new member answer r (with_space r table)) }
@@ -118,11 +114,7 @@ fn read_row(
 
 /// Takes the locks of an operation of the member's transaction, which are those of its table space and its row.
 #[tactic(auto, unfolding(serial_locks::specs::Standings::is_plain, lock_names::specs::Modes::is_recorded))]
-pub fn take_locks(
-    locking: &mut Locking,
-    member: MemberId,
-    op: &Op,
-) -> Result<Locked, NoMemory>
+pub fn take_locks(locking: &mut Locking, member: MemberId, op: &Op) -> Result<Locked, NoMemory>
     requires hand { IsInHand locking.old member }
     requires time { HasTime locking.old 1 }
     ensures locks { IfOk result (λ answer. (r : Recorded) → Holds locking.old member r → Locks locking.old locking.new member answer r (recorded_after r op.now)) }

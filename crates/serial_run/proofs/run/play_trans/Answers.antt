@@ -46,18 +46,24 @@ loop-i-preserved g c =
           (let plays = rw w.in-Refused.is at c.in_ok-play_tran.ensures.plays in
           let refused = subst (λ (o : List Op). IsRefused s now o w.in-Refused.cause (g.D.Disk.alive c.loop-i.disk) alive before after) c.as_slice.ensures plays in
           let more : Entries = record { committed = so_far.committed; others = w.push.new.self } in
-          let pushed = w.in_ok-push-in-Refused.ensures.ok ∙ ap (λ (e : ReportEntry). so_far.others ++ e ∷ []) (w.in_ok-entry_of-in-Refused.ensures ∙ ap (λ (r : ToldRefusal). entry_with p (told.Refused r)) w.told.ensures) in
-          (subst (λ (e : Entries). Going c.args.items.now (c.loop-i.i + 1) (seen c.args.state.now) now c.args.entries.now e alive (g.D.Disk.contents c.args.disk.now) after (g.D.Disk.faults c.args.disk.now) (g.D.Disk.faults c.play_tran.new.disk)) (sym w.entries-is)
-          (refuses_one c.args.items.now c.loop-i.i p p (seen c.args.state.now) s now c.args.entries.now so_far more w.in-Refused.cause
-          _ alive _ before after _ _ _
-          c.loop-i-test.true c.index-items-i.is short c.loop-i.invariant.0 refused few drawn c.play_tran.ensures.later refl pushed), idle, spent))
+          let pushed = w.in_ok-push-in-Refused.ensures.ok ∙ ap (λ (e : ReportEntry). so_far.others ++ e ∷ []) (w.in_ok-entry_of-in-Refused.ensures ∙ ap (λ (r : ToldRefusal). entry_with p (told.Refused r)) w.told.ensures) in (
+            subst (λ (e : Entries). Going c.args.items.now (c.loop-i.i + 1) (seen c.args.state.now) now c.args.entries.now e alive (g.D.Disk.contents c.args.disk.now) after (g.D.Disk.faults c.args.disk.now) (g.D.Disk.faults c.play_tran.new.disk)) (sym w.entries-is)
+                (refuses_one c.args.items.now c.loop-i.i p p (seen c.args.state.now) s now c.args.entries.now so_far more w.in-Refused.cause
+                _ alive _ before after _ _ _
+                c.loop-i-test.true c.index-items-i.is short c.loop-i.invariant.0 refused few drawn c.play_tran.ensures.later refl pushed),
+            idle,
+            spent,
+          ))
       | in-Committed+in_ok-entry_of-in-Committed+in_ok-push-in-Committed w ↦
           (let plays = rw w.in-Committed.is at c.in_ok-play_tran.ensures.plays in
           let committed = subst (λ (o : List Op). IsCommitted p.0 s now o w.in-Committed.reads alive before after) c.as_slice.ensures plays in
           let more : Entries = record { committed = w.push-in-Committed.new.self; others = so_far.others } in
-          let pushed = w.in_ok-push-in-Committed.ensures.ok ∙ ap (λ (e : ReportEntry). so_far.committed ++ e ∷ []) w.in_ok-entry_of-in-Committed.ensures in
-          (subst (λ (e : Entries). Going c.args.items.now (c.loop-i.i + 1) (seen c.args.state.now) now c.args.entries.now e alive (g.D.Disk.contents c.args.disk.now) after (g.D.Disk.faults c.args.disk.now) (g.D.Disk.faults c.play_tran.new.disk)) (sym w.entries-is)
-          (commits_one c.args.items.now c.loop-i.i p p (seen c.args.state.now) s now c.args.entries.now so_far more w.in-Committed.reads
-          _ alive _ before after _ _ _
-          c.loop-i-test.true c.index-items-i.is short c.loop-i.invariant.0 committed few drawn c.play_tran.ensures.later pushed refl), idle, spent))
+          let pushed = w.in_ok-push-in-Committed.ensures.ok ∙ ap (λ (e : ReportEntry). so_far.committed ++ e ∷ []) w.in_ok-entry_of-in-Committed.ensures in (
+            subst (λ (e : Entries). Going c.args.items.now (c.loop-i.i + 1) (seen c.args.state.now) now c.args.entries.now e alive (g.D.Disk.contents c.args.disk.now) after (g.D.Disk.faults c.args.disk.now) (g.D.Disk.faults c.play_tran.new.disk)) (sym w.entries-is)
+                (commits_one c.args.items.now c.loop-i.i p p (seen c.args.state.now) s now c.args.entries.now so_far more w.in-Committed.reads
+                _ alive _ before after _ _ _
+                c.loop-i-test.true c.index-items-i.is short c.loop-i.invariant.0 committed few drawn c.play_tran.ensures.later pushed refl),
+            idle,
+            spent,
+          ))
     ]
