@@ -1,15 +1,14 @@
 -- What a change of one place of the table of registrations makes of it.
-use Rattle.std.proofs.Common.{◌≡◌, ◌≢◌, ℕ, zero, suc, ◌+◌, ◌-◌, ◌*◌, ◌<◌, ◌≤◌, Bool, true, false, cond, ◌&&◌, nat_lt, nat_le, nat_eq, List, length, get_or, replicate, Option, Some, None, refl, sym, ap, subst, ◌∙◌, arith, slice_set}
-use Rattle.std.proofs.lemmas.List.{get_or-set_same, get_or-set_other, length-replicate}
+use Rattle.std.proofs.Common.{◌≡◌, ◌≢◌, ℕ, zero, suc, ◌*◌, ◌<◌, Bool, true, false, cond, ◌&&◌, nat_le, nat_eq, List, length, get_or, replicate, Option, Some, None, refl, sym, ap, ◌∙◌, arith, slice_set}
+use Rattle.std.proofs.lemmas.List.{get_or-set_same, get_or-set_other}
 use Rattle.std.proofs.lemmas.Bool.{eqb-true}
-use Rattle.std.proofs.lemmas.Grind.{common_steps}
 use Rattle.std.specs.Option.{option_map_or}
 use Rattle.ds_base.specs.Ids.{IsMember}
 use Rattle.ds_base.specs.declared.names.PageId.{PageId}
 use Rattle.cache_structure.specs.Frames.{is_page, unless, page_dropped, others_dropped}
 use Rattle.cache_structure.specs.declared.validity.Registration.{Registration}
 use Rattle.cache_structure.specs.declared.validity.Validity.{Validity}
-use Rattle.cache_structure.specs.Bound.{Bound, IsBound, always, place_in, place_of, registered_by, renewed, slot_of, spot, is_frame, time_of, unless_at, valid_from, valid_since, valid_slot, with_place}
+use Rattle.cache_structure.specs.Bound.{Bound, always, place_in, registered_by, slot_of, spot, is_frame, time_of, unless_at, valid_from, valid_since, valid_slot, with_place}
 
 spots_apart : (n m i j frames : ℕ) → IsMember n → is_frame frames m i ≡ true → (nat_eq m n && nat_eq i j) ≡ false → spot m i ≢ spot n j
 spots_apart n m i j frames member frame apart = grind arith

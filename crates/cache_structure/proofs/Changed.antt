@@ -1,5 +1,5 @@
 -- The changed pages of a table, and the search for the next.
-use Rattle.std.proofs.Common.{◌≡◌, ℕ, zero, suc, ◌+◌, ◌<◌, ◌≤◌, Bool, true, false, cond, List, length, Option, Some, None, refl, sym, ap, subst, ◌∙◌, true≢false, arith, nat_eq, slice_get}
+use Rattle.std.proofs.Common.{◌≡◌, ℕ, ◌+◌, ◌<◌, ◌≤◌, Bool, true, false, cond, List, length, Option, Some, None, refl, sym, ap, subst, ◌∙◌, true≢false, arith, nat_eq, slice_get}
 use Rattle.std.specs.Prelude.{is_some, count_by}
 use Rattle.std.specs.Option.{option_map_or}
 use Rattle.std.proofs.lemmas.Bool.{eqb-true}
@@ -8,7 +8,7 @@ use Rattle.std.proofs.lemmas.List.Sums.{count_by-le-length}
 use Rattle.indexmap.specs.IndexMap.{IndexMap}
 use Rattle.ds_base.specs.declared.names.PageId.{PageId}
 use Rattle.cache_structure.specs.declared.slot.Slot.{Slot}
-use Rattle.cache_structure.specs.Entries.{Entry, entry_of, same_page}
+use Rattle.cache_structure.specs.Entries.{Entry, same_page}
 use Rattle.cache_structure.specs.Slots.{Table, holds, slot_at, find_slot, entry_in, entry_at, entries_in, changed_page}
 use Rattle.cache_structure.specs.Places.{holds_at}
 use Rattle.cache_structure.specs.Order.{comes_before, is_past, IsNextAmong, past_only, sooner_of, changed_in}

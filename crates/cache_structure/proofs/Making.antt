@@ -1,14 +1,14 @@
 -- An entry that is made in a free slot.
-use Rattle.std.proofs.Common.{◌≡◌, ℕ, Bool, true, false, List, length, Option, Some, None, sym, ap, ◌∙◌, arith}
+use Rattle.std.proofs.Common.{◌≡◌, ℕ, true, List, length, Option, Some, None, sym, ap, ◌∙◌, arith}
 use Rattle.std.specs.Prelude.{nat_lt, slice_get, if◌then◌else◌}
 use Rattle.std.specs.Option.{option_map_or, option_map}
 use Rattle.ds_base.specs.declared.names.PageId.{PageId}
 use Rattle.cache_structure.specs.declared.slot.Slot.{Slot}
 use Rattle.cache_structure.specs.Entries.{Entry, fresh, newest, without}
 use Rattle.cache_structure.specs.Frames.{page_dropped}
-use Rattle.cache_structure.specs.Slots.{Table, entry_in, entry_at, entries_in, page_in, slot_at}
+use Rattle.cache_structure.specs.Slots.{entry_in, entry_at, entries_in, page_in, slot_at}
 use Rattle.cache_structure.specs.State.{CacheState, directory_of}
-use Rattle.cache_structure.specs.Directory.{Directory, has_free_place, made, reclaimable, reclaimed, with_newest}
+use Rattle.cache_structure.specs.Directory.{made, reclaimable, reclaimed, with_newest}
 
 no_entry : (slot : Slot) (bytes : Option (List ℕ)) → slot.page ≡ None → entry_in slot bytes ≡ None
 no_entry slot bytes is = grind arith

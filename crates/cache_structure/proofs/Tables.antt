@@ -1,5 +1,5 @@
 -- What the moves of a table make of its entries.
-use Rattle.std.proofs.Common.{◌≡◌, ◌≢◌, ◌⊎◌, inl, inr, ℕ, zero, suc, ◌+◌, ◌*◌, ◌^◌, ◌<◌, ◌≤◌, add-one, Bool, true, false, cond, not, ◌&&◌, ◌||◌, List, [], ◌∷◌, ◌++◌, map, filter, length, replicate, Option, Some, None, refl, sym, ap, subst, ◌∙◌, true≢false, arith, nat_eq, slice_get, slice_set, get_or}
+use Rattle.std.proofs.Common.{◌≡◌, ◌⊎◌, inl, inr, ℕ, zero, suc, ◌+◌, ◌*◌, ◌^◌, ◌<◌, ◌≤◌, Bool, true, false, cond, List, [], ◌∷◌, ◌++◌, map, length, replicate, Option, Some, None, refl, sym, ap, subst, ◌∙◌, true≢false, arith, nat_eq, slice_get, slice_set, get_or}
 use Rattle.std.specs.Prelude.{find, filter_map, is_some, is_none, unwrap_or, IfSome, nat_lt}
 use Rattle.std.specs.List.{IsDistinct, cons_option, list_all}
 use Rattle.cache_structure.proofs.Orders.{within_newest, in_newest, within_countdown, in_countdown}
@@ -7,7 +7,7 @@ use Rattle.std.specs.Option.{option_map_or, option_map}
 use Rattle.std.proofs.lemmas.Bool.{eqb-true}
 use Rattle.std.proofs.lemmas.List.{length-set, length-append, length-replicate}
 use Rattle.std.proofs.lemmas.List.Elements.{filter_map-append}
-use Rattle.std.proofs.lemmas.Option.{none-some, slice_get_read, slice_get_within, slice_get_past}
+use Rattle.std.proofs.lemmas.Option.{slice_get_read, slice_get_within, slice_get_past}
 use Rattle.indexmap.specs.IndexMap.{IndexMap}
 use Rattle.ds_base.specs.declared.names.PageId.{PageId}
 use Rattle.cache_structure.specs.declared.slot.Slot.{Slot}
@@ -17,7 +17,7 @@ use Rattle.cache_structure.specs.Frames.{is_page}
 use Rattle.cache_structure.specs.Uses.{all_but, used_last, is_in, countdown}
 use Rattle.cache_structure.specs.Places.{holds_at, LeadsToAll, HasRoomFor}
 use Rattle.cache_structure.specs.Kept.{IsKept}
-use Rattle.cache_structure.proofs.Leading.{finds, misses, found_at, none_held, leads_set}
+use Rattle.cache_structure.proofs.Leading.{finds, misses, none_held, leads_set}
 use Rattle.cache_structure.proofs.Views.{others_same, page_leaves, nothing_leaves, stays_without, finds_entry, finds_none, mapped, as_many, none_left, first_passing, one_less}
 
 -- ---- one slot

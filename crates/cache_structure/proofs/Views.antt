@@ -1,14 +1,12 @@
 -- The entries of a table, seen through the order of use of its slots.
-use Rattle.std.proofs.Common.{◌≡◌, ℕ, zero, suc, ◌+◌, ◌<◌, ◌≤◌, add-one, Bool, true, false, cond, not, ◌&&◌, ◌||◌, List, [], ◌∷◌, ◌++◌, map, filter, length, Option, Some, None, refl, sym, ap, subst, ◌∙◌, true≢false, arith, nat_eq}
+use Rattle.std.proofs.Common.{◌≡◌, ℕ, ◌+◌, Bool, true, false, cond, not, ◌&&◌, ◌||◌, List, [], ◌∷◌, map, length, Option, Some, None, refl, sym, ap, subst, ◌∙◌, true≢false, arith, nat_eq}
 use Rattle.std.specs.Prelude.{find, filter_map, is_some, count_by}
 use Rattle.std.specs.List.{IsDistinct, AllByRecursion, cons_option}
 use Rattle.std.specs.Option.{option_map_or, option_map}
 use Rattle.std.proofs.lemmas.Bool.{eqb-true}
-use Rattle.std.proofs.lemmas.Option.{none-some}
-use Rattle.std.proofs.lemmas.List.Elements.{filter_map-append}
 use Rattle.std.proofs.lemmas.List.Sums.{sum_by-cons}
 use Rattle.ds_base.specs.declared.names.PageId.{PageId}
-use Rattle.cache_structure.specs.Entries.{Entry, is_of, is_idle, without}
+use Rattle.cache_structure.specs.Entries.{Entry, is_of, without}
 use Rattle.cache_structure.specs.Uses.{all_but, is_in}
 
 -- ---- one more entry, or none

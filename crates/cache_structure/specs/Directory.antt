@@ -1,8 +1,8 @@
 -- The directory of a cache structure, and what its commands make of it.
-use Rattle.std.specs.Prelude.{ℕ, ◌≡◌, ◌==◌, ◌&&◌, ◌||◌, nat_lt, Bool, true, false, List, [], ◌∷◌, ◌++◌, length, map, find, Option, Some, None, is_some, is_none, if◌then◌else◌, cond}
+use Rattle.std.specs.Prelude.{ℕ, ◌==◌, ◌&&◌, nat_lt, Bool, true, false, List, [], length, map, find, Option, Some, None, is_some, is_none, if◌then◌else◌}
 use Rattle.std.specs.Option.{option_map, option_map_or}
 use Rattle.ds_base.specs.declared.names.PageId.{PageId}
-use Rattle.cache_structure.specs.Entries.{Entry, fresh, is_idle, is_of, entry_of, without, newest, at_entry, written_with, locked_by, cast_out, is_locked_by, freed_of}
+use Rattle.cache_structure.specs.Entries.{Entry, fresh, is_idle, entry_of, without, newest, at_entry, written_with, locked_by, cast_out, is_locked_by, freed_of}
 use Rattle.cache_structure.specs.Order.{IsNextAmong}
 use Rattle.cache_structure.specs.Frames.{Registered, none_registered, is_page, with_frame, page_dropped, others_dropped, member_dropped}
 

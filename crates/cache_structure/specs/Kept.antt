@@ -1,8 +1,7 @@
 -- What a table of entries keeps.
-use Rattle.std.specs.Prelude.{ℕ, ◌≡◌, ◌<◌, ◌≤◌, ◌*◌, ◌^◌, true, List, length, nat_lt, Option, None}
+use Rattle.std.specs.Prelude.{ℕ, ◌≡◌, ◌<◌, ◌≤◌, ◌*◌, ◌^◌, true, length, nat_lt, None}
 use Rattle.std.specs.List.{list_all}
 use Rattle.indexmap.specs.IndexMap.{IndexMap}
-use Rattle.cache_structure.specs.declared.slot.Slot.{Slot}
 use Rattle.cache_structure.specs.Slots.{Table, slot_at, entries_in}
 use Rattle.cache_structure.specs.Uses.{is_in}
 use Rattle.cache_structure.specs.Places.{LeadsToAll, HasRoomFor}

@@ -2,6 +2,7 @@ pub mod Bound
 pub mod Directory
 pub mod Entries
 pub mod Frames
+pub mod Hashes
 pub mod Kept
 pub mod Order
 pub mod Places

@@ -1,9 +1,9 @@
 -- The slots of the directory: each has storage for one entry.
-use Rattle.std.specs.Prelude.{ℕ, ◌==◌, ◌&&◌, ◌||◌, Bool, true, false, not, List, slice_get, position, filter_map, Option, Some, None, is_none, is_some, unwrap_or, cond}
+use Rattle.std.specs.Prelude.{ℕ, ◌==◌, ◌&&◌, ◌||◌, Bool, true, false, not, List, slice_get, position, filter_map, Option, Some, None, is_some, unwrap_or, cond}
 use Rattle.std.specs.Option.{option_map_or, option_map}
 use Rattle.ds_base.specs.declared.names.PageId.{PageId}
 use Rattle.cache_structure.specs.declared.slot.Slot.{Slot}
-use Rattle.cache_structure.specs.Entries.{Entry, is_of}
+use Rattle.cache_structure.specs.Entries.{Entry}
 pub use Rattle.cache_structure.specs.Entries.{same_page}
 
 -- a slot that holds no entry

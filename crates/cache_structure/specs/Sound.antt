@@ -1,5 +1,5 @@
 -- What a directory keeps through every command.
-use Rattle.std.specs.Prelude.{ℕ, ◌≤◌, Bool, List, length}
+use Rattle.std.specs.Prelude.{◌≤◌, Bool, length}
 use Rattle.std.specs.List.{IsDistinct}
 use Rattle.cache_structure.specs.Entries.{Entry, same_page}
 use Rattle.cache_structure.specs.Directory.{Directory}

@@ -1,5 +1,5 @@
 -- A cache, and the directory that it keeps.
-use Rattle.std.specs.Prelude.{ℕ, Bool, length}
+use Rattle.std.specs.Prelude.{Bool, length}
 use Rattle.cache_structure.specs.Slots.{Table, entries_in, page_in}
 use Rattle.cache_structure.specs.Bound.{Bound, registered_by}
 use Rattle.cache_structure.specs.Directory.{Directory}

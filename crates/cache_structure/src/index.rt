@@ -7,19 +7,22 @@ ghost use Rattle.cache_structure.specs.Slots.{find_slot};
 ghost use Rattle.cache_structure.specs.Places.{AreApart, LeadsTo, LeadsToAll, HasRoomFor, holds_at, confirmed, same_key, key_of};
 ghost use Rattle.indexmap.specs.IndexMap.{index_map_len, spare, Updates};
 
+use crate::page_hash::PageHasher;
 use crate::slot::Slot;
 use ds_base::{NoMemory, PageId};
 use indexmap::IndexMap;
 use std::alloc::Global;
+use std::hash::BuildHasherDefault;
 
 /// From the page set and the number of a page to its slot.
-pub type PageIndex = IndexMap<(u16, u32), u32>;
+pub type PageIndex = IndexMap<(u16, u32), u32, BuildHasherDefault<PageHasher>>;
 
 /// An empty index for so many slots. It takes all memory that it will need.
 pub fn new_index(alloc: Global, slots: u32) -> Result<PageIndex, NoMemory>
     ensures room { IfOk result (λ places. HasRoomFor places (2 * slots)) }
 {
-    Ok(IndexMap::with_capacity(alloc, 2 * slots as usize)?)
+    let room = 2 * slots as usize;
+    Ok(IndexMap::with_capacity_and_hasher(alloc, room, BuildHasherDefault::new())?)
 }
 
 /// The slot that holds the page.

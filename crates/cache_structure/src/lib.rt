@@ -7,8 +7,10 @@ mod face;
 mod index;
 mod law;
 mod order;
+mod page_hash;
 mod registrations;
 mod slot;
+mod slot_hash;
 mod table;
 #[cfg(test)]
 mod tests;

@@ -5,11 +5,15 @@ ghost use Rattle.cache_structure.specs.Slots.{slot_at, is_idle_slot, changed_pag
 ghost use Rattle.cache_structure.specs.Uses.{used_last, countdown, is_in};
 
 use crate::slot::Slot;
+use crate::slot_hash::SlotHasher;
 use ds_base::NoMemory;
 use lru::LruCache;
 use std::alloc::Global;
+use std::hash::BuildHasherDefault;
 use std::marker::Model;
 use std::num::NonZeroUsize;
+
+type Uses = LruCache<u32, (), BuildHasherDefault<SlotHasher>>;
 
 /// The numbers of the slots, in the order of their use, the one used longest ago first.
 ///
@@ -17,7 +21,7 @@ use std::num::NonZeroUsize;
 /// use, so that a walk from there meets the slots in the order in which they are taken.
 #[derive(Drop)]
 pub struct Order {
-    uses: LruCache<u32, ()>,
+    uses: Uses,
 }
 
 impl Model for Order {
@@ -35,7 +39,7 @@ impl Order {
         ensures { IfOk result (λ order. order ≡ countdown slots) }
     {
         let capacity = NonZeroUsize::new(slots.max(1) as usize).unwrap();
-        let mut uses = LruCache::new(alloc, capacity)?;
+        let mut uses = LruCache::with_hasher(alloc, capacity, BuildHasherDefault::new())?;
         for slot in 0..slots {
             uses.put(slot, ())?;
         }
@@ -68,7 +72,7 @@ impl Order {
     }
 }
 
-fn count_changed_in(uses: &LruCache<u32, ()>, slots: &[Slot]) -> usize
+fn count_changed_in(uses: &Uses, slots: &[Slot]) -> usize
     ensures { result ≡ count_by (λ f. is_some (changed_page (slot_at slots.now f))) (keys_of uses.now.entries) }
 {
     uses.iter()
@@ -86,7 +90,7 @@ fn is_changed_at(slots: &[Slot], slot: u32) -> bool
     }
 }
 
-fn first_idle_in(uses: &LruCache<u32, ()>, slots: &[Slot]) -> Option<u32>
+fn first_idle_in(uses: &Uses, slots: &[Slot]) -> Option<u32>
     ensures { result ≡ find (λ f. is_idle_slot (slot_at slots.now f)) (keys_of uses.now.entries) }
 {
     uses.iter()

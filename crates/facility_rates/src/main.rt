@@ -1,14 +1,22 @@
 //! Runs commands of the structures of the facility, so that their cost can be taken.
 //!
-//! Without words it runs some. `locks N M` runs M pairs of an obtain and a release over N entries and N records. `pages N M F`
-//! runs M reads of pages, and a write for each fourth, over N entries of a cache for members with F frames each, 256 if F is left out.
+//! Without words it runs some. `locks N M` runs M pairs of an obtain and a release over N entries and N records.
+//!
+//! `pages N M F P ORDER D` runs M reads of pages, and a write for each fourth, over a cache of N entries, all with bytes,
+//! for members with F frames each, on P pages with numbers that are D apart, in the order of their numbers or, where ORDER
+//! is `scattered`, in another. `copies ..` makes the same copies of pages without a cache. `reads ..` reads entries without
+//! bytes, so that nothing is copied. `tests ..` tests F frames. F is 256 where it is left out, P is N, and D is 1.
 #![tactic(auto)]
 
+mod copies;
 mod locks;
 mod pages;
+mod walk;
 
+use crate::copies::run_copies;
 use crate::locks::run_locks;
-use crate::pages::run_pages;
+use crate::pages::{run_pages, run_reads, run_tests};
+use crate::walk::Walk;
 use ds_base::NoMemory;
 use std::alloc::Global;
 use std::{env, io};
@@ -20,17 +28,33 @@ fn number_of(word: Option<&String>, usual: u32) -> u32 {
     }
 }
 
-fn run(
-    alloc: Global,
-    of_pages: bool,
-    entries: u32,
-    frames: u16,
-    times: u32,
-) -> Result<u64, NoMemory> {
-    if of_pages {
-        run_pages(alloc, entries.max(1), frames.max(1), times)
+fn is_word(word: Option<&String>, wanted: &str) -> bool {
+    match word {
+        Some(word) => word.as_str() == wanted,
+        None => false,
+    }
+}
+
+fn run(alloc: Global, words: &[String]) -> Result<u64, NoMemory> {
+    let entries = number_of(words.get(2), 16).max(1);
+    let times = number_of(words.get(3), 8);
+    let frames = number_of(words.get(4), 256).clamp(1, 32_767) as u16;
+    let walk = Walk {
+        pages: number_of(words.get(5), entries),
+        apart: number_of(words.get(7), 1),
+        is_scattered: is_word(words.get(6), "scattered"),
+    };
+    let kind = words.get(1);
+    if is_word(kind, "pages") {
+        run_pages(alloc, entries, frames, walk, times)
+    } else if is_word(kind, "copies") {
+        run_copies(alloc, entries, walk, times)
+    } else if is_word(kind, "reads") {
+        run_reads(alloc, entries, frames, walk, times)
+    } else if is_word(kind, "tests") {
+        run_tests(alloc, entries, frames, walk, times)
     } else {
-        run_locks(alloc, entries.max(1), times)
+        run_locks(alloc, entries, times)
     }
 }
 
@@ -40,11 +64,7 @@ fn main(rt: HostRuntime) -> io::Result<()> {
     for word in env::args(&rt)? {
         words.push(word)?;
     }
-    let of_pages = words.get(1).is_some_and(|word| word.as_str() == "pages");
-    let entries = number_of(words.get(2), 16);
-    let times = number_of(words.get(3), 8);
-    let frames = number_of(words.get(4), 256).min(32_767) as u16;
-    match run(alloc, of_pages, entries, frames, times) {
+    match run(alloc, words.as_slice()) {
         Ok(done) => println!(rt; "{done} commands"),
         Err(NoMemory) => println!(rt; "there was no memory"),
     }

@@ -1,4 +1,4 @@
-use Rattle.std.proofs.Common.{◌≡◌, ◌≢◌, ◌<◌, true, subst, arith}
+use Rattle.std.proofs.Common.{◌≡◌, ◌≢◌, true, subst, arith}
 use Rattle.cache_structure.specs.Places.{holds_at}
 use Rattle.cache_structure.proofs.Leading.{entered, there_at, none_at}
 use Rattle.cache_structure.proofs.index.enter_next.Goals as goal

@@ -1,4 +1,4 @@
-use Rattle.std.proofs.Common.{◌≡◌, replicate, length}
+use Rattle.std.proofs.Common.{◌≡◌, replicate}
 use Rattle.page_format.specs.Fields.{page_size}
 use Rattle.cache_structure.proofs.table.zero_pages.Given as goal
 

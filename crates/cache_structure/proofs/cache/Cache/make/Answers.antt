@@ -1,5 +1,4 @@
-use Rattle.std.proofs.Common.{◌≡◌, ℕ, Some, None, true, length, nat_lt, sym, ap, ◌∙◌, subst}
-use Rattle.std.specs.Prelude.{is_some}
+use Rattle.std.proofs.Common.{◌≡◌, None, true, length, nat_lt, sym, subst}
 use Rattle.cache_structure.specs.Slots.{entries_in, page_in}
 use Rattle.cache_structure.specs.State.{CacheState}
 use Rattle.cache_structure.proofs.Making.{made_free}

@@ -1,4 +1,4 @@
-use Rattle.std.proofs.Common.{◌≡◌, ap, ◌∙◌}
+use Rattle.std.proofs.Common.{ap, ◌∙◌}
 use Rattle.cache_structure.specs.Slots.{Table, page_in}
 use Rattle.cache_structure.specs.State.{CacheState}
 use Rattle.cache_structure.proofs.cache.CacheCacheFace.write_register.Goals as goal

@@ -1,4 +1,4 @@
-use Rattle.std.proofs.Common.{◌≡◌, ◌<◌, ℕ, nat_eq, cond, length, refl, sym, ap, ◌∙◌, subst}
+use Rattle.std.proofs.Common.{◌≡◌, ◌<◌, nat_eq, cond, length, refl, sym, ap, ◌∙◌, subst}
 use Rattle.cache_structure.specs.Bound.{Bound, slot_of, place_of, time_of, unless_at, valid_since}
 use Rattle.cache_structure.proofs.Binding.{others_left}
 use Rattle.cache_structure.proofs.registrations.Registrations.drop_slot_of_others.Goals as goal

@@ -1,4 +1,4 @@
-use Rattle.std.proofs.Common.{◌≡◌, ℕ, nat_lt, ◌&&◌, nat_eq, cond, None}
+use Rattle.std.proofs.Common.{◌≡◌, ℕ, nat_lt, ◌&&◌, nat_eq, cond}
 use Rattle.cache_structure.specs.Bound.{place_of, renewed, slot_of}
 use Rattle.cache_structure.proofs.registrations.Registrations.renew_member.Given as goal
 

@@ -1,4 +1,4 @@
-use Rattle.std.proofs.Common.{◌≡◌, ◌<◌, ◌^◌, sym, ap, ◌∙◌, subst, arith, length}
+use Rattle.std.proofs.Common.{◌<◌, ◌^◌, ap, ◌∙◌, arith, length}
 use Rattle.std.specs.Prelude.{count_by, is_some}
 use Rattle.cache_structure.specs.Entries.{Entry}
 use Rattle.cache_structure.specs.Slots.{Table, slot_at, entries_in, changed_page}

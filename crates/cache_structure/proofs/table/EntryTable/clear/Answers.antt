@@ -1,4 +1,4 @@
-use Rattle.std.proofs.Common.{◌≡◌, ◌*◌, length, arith}
+use Rattle.std.proofs.Common.{◌*◌, length, arith}
 use Rattle.cache_structure.specs.Places.{HasRoomFor}
 use Rattle.cache_structure.proofs.Tables.{kept_cleared, no_entries}
 use Rattle.cache_structure.proofs.table.EntryTable.clear.Goals as goal

@@ -1,4 +1,4 @@
-use Rattle.std.proofs.Common.{◌≡◌, ◌<◌, sym, ap, ◌∙◌, subst, true, length, None}
+use Rattle.std.proofs.Common.{◌≡◌, ◌<◌, sym, ap, ◌∙◌, subst, length, None}
 use Rattle.std.specs.Prelude.{IfSome, find}
 use Rattle.std.specs.Option.{option_map_or}
 use Rattle.cache_structure.specs.Slots.{Table, entry_at, entries_in, slot_at, is_idle_slot}

@@ -1,4 +1,4 @@
-use Rattle.std.proofs.Common.{◌≡◌, ◌<◌, sym, ap, ◌∙◌, subst, false, length, nat_lt, arith}
+use Rattle.std.proofs.Common.{◌≡◌, ◌<◌, ap, ◌∙◌, false, length, nat_lt, arith}
 use Rattle.std.proofs.lemmas.List.{length-set}
 use Rattle.cache_structure.specs.Slots.{Table, slot_at, freed_slot}
 use Rattle.cache_structure.proofs.Tables.{freed_step, freed_entries, all_freed}

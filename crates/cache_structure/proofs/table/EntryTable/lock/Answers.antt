@@ -1,6 +1,6 @@
-use Rattle.std.proofs.Common.{◌≡◌, sym, ap, ◌∙◌, slice_get}
-use Rattle.cache_structure.specs.Slots.{slot_at, entry_in, locked_for, unlocked}
-use Rattle.cache_structure.specs.Entries.{locked_by, cast_out}
+use Rattle.std.proofs.Common.{ap, ◌∙◌, slice_get}
+use Rattle.cache_structure.specs.Slots.{slot_at, entry_in, locked_for}
+use Rattle.cache_structure.specs.Entries.{locked_by}
 use Rattle.cache_structure.proofs.Tables.{locked_in}
 use Rattle.cache_structure.proofs.table.EntryTable.lock.Goals as goal
 

@@ -1,14 +1,13 @@
-use Rattle.std.proofs.Common.{◌≡◌, ◌⊎◌, inl, inr, ℕ, ◌+◌, ◌*◌, arith, ◌<◌, sym, ap, ◌∙◌, subst, true, length, Option, Some, None, slice_set}
+use Rattle.std.proofs.Common.{◌≡◌, inl, inr, ◌+◌, ◌*◌, arith, ◌<◌, sym, ap, ◌∙◌, subst, length, None, slice_set}
 use Rattle.std.specs.Option.{option_map_or}
 use Rattle.std.proofs.lemmas.List.{length-set}
 use Rattle.std.proofs.lemmas.Option.{none-some}
-use Rattle.cache_structure.specs.declared.slot.Slot.{Slot}
 use Rattle.cache_structure.specs.Slots.{Table, slot_at, find_slot, entry_at, entries_in, holds}
 use Rattle.cache_structure.specs.Entries.{fresh, newest, without}
 use Rattle.cache_structure.specs.Places.{AreApart, LeadsTo, LeadsToAll, HasRoomFor}
 use Rattle.cache_structure.specs.Kept.{IsKept}
 use Rattle.cache_structure.proofs.Leading.{apart_set, others_set, there_set}
-use Rattle.cache_structure.proofs.Tables.{kept_made, made, in_free, in_taken, no_bytes, slot_read, slot_set, own, slot_here}
+use Rattle.cache_structure.proofs.Tables.{kept_made, made, in_free, in_taken, no_bytes, slot_read, own, slot_here}
 use Rattle.cache_structure.proofs.table.EntryTable.make.Goals as goal
 
 pub enter-requires-clause-apart : goal.enter-requires-clause-apart

@@ -1,4 +1,4 @@
-use Rattle.std.proofs.Common.{◌≡◌, ◌<◌, sym, ap, ◌∙◌, subst, true, length, slice_get, slice_set}
+use Rattle.std.proofs.Common.{◌≡◌, ◌<◌, sym, ap, ◌∙◌, subst, true, length, slice_get}
 use Rattle.std.specs.Option.{option_map}
 use Rattle.cache_structure.specs.Slots.{Table, slot_at, entry_at, entry_in, entries_in}
 use Rattle.cache_structure.specs.Entries.{at_entry}

@@ -1,6 +1,6 @@
-use Rattle.std.proofs.Common.{◌≡◌, sym, ap, ◌∙◌, slice_get}
-use Rattle.cache_structure.specs.Slots.{slot_at, entry_in, locked_for, unlocked}
-use Rattle.cache_structure.specs.Entries.{locked_by, cast_out}
+use Rattle.std.proofs.Common.{ap, ◌∙◌, slice_get}
+use Rattle.cache_structure.specs.Slots.{slot_at, entry_in, unlocked}
+use Rattle.cache_structure.specs.Entries.{cast_out}
 use Rattle.cache_structure.proofs.Tables.{unlocked_in}
 use Rattle.cache_structure.proofs.table.EntryTable.unlock.Goals as goal
 
