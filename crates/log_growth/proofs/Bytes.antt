@@ -1,5 +1,5 @@
 -- The bytes of logs that grow.
-use Rattle.std.proofs.Common.{◌≡◌, inl, ℕ, zero, suc, ◌+◌, ◌<◌, ◌≤◌, List, [], ◌∷◌, ◌++◌, length, map, set, get_or, refl, sym, ap, subst, ◌∙◌, arith, append_assoc}
+use Rattle.std.proofs.Common.{◌≡◌, inl, ℕ, zero, suc, ◌<◌, List, [], ◌∷◌, ◌++◌, length, map, set, get_or, refl, sym, ap, ◌∙◌, arith, append_assoc}
 use Rattle.std.proofs.lemmas.List.{append-nil, map-set}
 use Rattle.std.proofs.Math.ListN.{get_or-map}
 use Rattle.std.proofs.lemmas.Grind.{flat_map-append}
@@ -7,7 +7,7 @@ use Rattle.std.specs.List.{AllByRecursion}
 use Rattle.ds_model.specs.declared.log.LogRecord.{LogRecord}
 use Rattle.ds_model.specs.Rows.{Rows}
 use Rattle.ds_model.specs.RecordBytes.{record_bytes, log_bytes, IsAllowed}
-use Rattle.ds_model.specs.Logs.{IsLog, IsTorn, AreLogs, StandFor}
+use Rattle.ds_model.specs.Logs.{IsLog, AreLogs, StandFor}
 use Rattle.log_growth.specs.Growth.{AreOver, grown}
 use Rattle.log_growth.proofs.Lists.{all_append}
 

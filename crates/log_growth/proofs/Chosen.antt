@@ -1,5 +1,5 @@
 -- Which records count: those of transactions that have committed.
-use Rattle.std.proofs.Common.{◌≡◌, ℕ, ◌+◌, ◌<◌, ◌≤◌, Bool, true, false, cond, ◌||◌, ◌&&◌, eqb, List, [], ◌∷◌, ◌++◌, refl, sym, ap, ◌∙◌, arith}
+use Rattle.std.proofs.Common.{◌≡◌, ℕ, ◌<◌, Bool, true, false, cond, ◌||◌, ◌&&◌, eqb, List, [], ◌∷◌, ◌++◌, refl, sym, ap, ◌∙◌, arith}
 use Rattle.std.proofs.lemmas.List.Folds.{list_any-append}
 use Rattle.std.specs.List.{AllByRecursion, filter}
 use Rattle.ds_model.specs.declared.log.LogRecord.{LogRecord}
@@ -49,6 +49,11 @@ pub no_later_commit : (last t : ℕ) (rs : List LogRecord) → last < t → AllB
 no_later_commit last t [] lt h = refl
 no_later_commit last t (r ∷ rs) lt h =
     ap (λ b. b || has_commit rs t) (and-false (is_commit r.body) (eqb r.tran t) (eqb-below r.tran t (omega (arith, h.0.1)))) ∙ no_later_commit last t rs lt h.1
+
+-- neutral records have no commit
+pub no_neutral_commit : (t : ℕ) (rs : List LogRecord) → AllByRecursion (λ (r : LogRecord). (r.tran ≡ 0) × (is_neutral r.body ≡ true)) rs → has_commit rs t ≡ false
+no_neutral_commit t [] h = refl
+no_neutral_commit t (r ∷ rs) h = ap (λ b. (b && eqb r.tran t) || has_commit rs t) (neutral_is_no_commit r.body h.0.1) ∙ no_neutral_commit t rs h.1
 
 own_when : (same zero_tran neutral commit other : Bool) → (same || (zero_tran && neutral)) ≡ true → (neutral ≡ true → commit ≡ false) → (same ≡ true → other ≡ false) → (commit && other) ≡ false
 own_when true z n c o e f g = and-false c o (g refl)

@@ -1,16 +1,16 @@
 -- The course of a transaction's records through the log buffer to the log.
-use Rattle.std.proofs.Common.{◌≡◌, ◌⊎◌, ℕ, ◌+◌, ◌<◌, ◌≤◌, Bool, true, false, ◌||◌, ◌&&◌, eqb, List, [], ◌∷◌, ◌++◌, length, map, take, set, get_or, refl, sym, ap, subst, ◌∙◌, arith, append_assoc}
+use Rattle.std.proofs.Common.{◌≡◌, ℕ, ◌+◌, ◌<◌, ◌≤◌, Bool, true, false, ◌||◌, ◌&&◌, eqb, List, [], ◌∷◌, ◌++◌, length, map, take, set, get_or, refl, sym, ap, subst, ◌∙◌, arith, append_assoc}
 use Rattle.std.proofs.lemmas.List.{append-nil, set-get_or}
 use Rattle.std.proofs.lemmas.Grind.{flat_map-append}
 use Rattle.std.specs.List.{AllByRecursion}
 use Rattle.ds_model.specs.declared.log.LogRecord.{LogRecord}
-use Rattle.ds_model.specs.Rows.{Rows}
 use Rattle.ds_model.specs.RecordBytes.{record_bytes, log_bytes, IsAllowed}
 use Rattle.ds_model.specs.Logs.{StandFor}
-use Rattle.log_growth.specs.Growth.{AreOver, AreOf, IsRisingFrom, is_of, is_neutral, grown, rows_behind, IsFrontOf}
-use Rattle.log_growth.specs.Courses.{Start, IsStart, IsCourse, with_bytes, last_of, MayFollow, IsFront, StandsBehind, AllNeutral}
+use Rattle.log_growth.specs.Growth.{AreOver, AreOf, IsRisingFrom, is_of, is_neutral, grown, rows_by, rows_behind, IsUpTo, AreOver, IsFrontOf}
+use Rattle.log_growth.specs.Courses.{Start, IsStart, IsCourse, with_bytes, last_of, MayFollow, StandsBehind, AllNeutral}
 use Rattle.log_growth.proofs.Lists.{all_append, all_first, all_last, all_weaker}
-use Rattle.log_growth.proofs.Grows.{grows}
+use Rattle.log_growth.proofs.Chosen.{no_neutral_commit}
+use Rattle.log_growth.proofs.Grows.{grows, grown_up_to}
 use Rattle.log_growth.proofs.Bytes.{follow, has_more, still_allowed, stands}
 use Rattle.log_growth.proofs.Fronts.{cuts, torn_stands, fewer}
 
@@ -127,6 +127,27 @@ ends s tran high mine disk c =
         over = grows s.logs s.rows s.last tran high s.place mine c.start.over c.start.place_in c.are;
         place_in = c.start.place_in;
         allowed = still_allowed s.logs s.place mine c.start.allowed c.allowed;
+      },
+    )
+
+neutral_up : (upto : ℕ) (mine : List LogRecord) → AllNeutral mine → AllByRecursion (λ (r : LogRecord). r.lrsn ≤ upto) mine → AllByRecursion (IsUpTo upto) mine
+neutral_up upto [] neutral le = tt
+neutral_up upto (r ∷ rs) neutral le = ((le.0, omega (arith, neutral.0.0)), neutral_up upto rs neutral.1 le.1)
+
+pub neutrals_end : (s : Start) (tran high upto : ℕ) (mine : List LogRecord) (disk : List (List ℕ)) → IsCourse s tran high mine disk [] → AllNeutral mine → s.last ≤ upto → AllByRecursion (λ (r : LogRecord). r.lrsn ≤ upto) mine
+    → (disk ≡ map log_bytes (grown s.logs s.place mine)) × IsStart (record { logs = grown s.logs s.place mine; rows = s.rows; last = upto; place = s.place })
+neutrals_end s tran high upto mine disk c neutral le within =
+    let end = ends s tran high mine disk c in
+    let over : AreOver (grown s.logs s.place mine) (rows_behind s.rows tran mine) high = end.1.over in (
+      end.0,
+      record {
+        over = record {
+          count = over.count;
+          numbers = grown_up_to s.logs s.last upto s.place mine (omega (arith, c.start.over.count, c.start.place_in)) le c.start.over.numbers (neutral_up upto mine neutral within);
+          stands = over.stands ∙ ap (λ b. rows_by b s.rows mine) (no_neutral_commit tran mine neutral);
+        };
+        place_in = end.1.place_in;
+        allowed = end.1.allowed;
       },
     )
 

@@ -3,12 +3,12 @@ use Rattle.std.proofs.Common.{◌≡◌, ℕ, suc, ◌+◌, ◌<◌, ◌≤◌, 
 use Rattle.std.proofs.lemmas.List.{append-nil, set_split, set-get_or, length-set}
 use Rattle.std.proofs.lemmas.List.Elements.{filter-append}
 use Rattle.std.proofs.lemmas.Grind.{flat_map-append}
-use Rattle.std.specs.List.{AllByRecursion, flat_map, filter}
+use Rattle.std.specs.List.{AllByRecursion, filter}
 use Rattle.std.specs.FinMap as finite
 use Rattle.ds_model.specs.declared.log.LogRecord.{LogRecord}
 use Rattle.ds_model.specs.Rows.{Rows}
-use Rattle.ds_model.specs.Logs.{has_commit, by_lrsn, after_records, rows_of_logs}
-use Rattle.log_growth.specs.Growth.{flat, IsUpTo, AreOver, is_of, AreOf, grown, rows_by, rows_behind}
+use Rattle.ds_model.specs.Logs.{has_commit, by_lrsn, after_records}
+use Rattle.log_growth.specs.Growth.{flat, IsUpTo, AreOver, is_of, AreOf, grown, rows_behind}
 use Rattle.log_growth.proofs.Lists.{all_append, all_first, all_last, all_weaker}
 use Rattle.log_growth.proofs.Sorting.{UpTo, rises_filtered, up_to_filtered, latest_come_last}
 use Rattle.log_growth.proofs.Chosen.{commit-append, commit-parts, no_later_commit, no_earlier_commit, same_chosen, after_records-append, changes_by}
@@ -131,3 +131,14 @@ passes logs rows last high over le = record {
   numbers = all_weaker (IsUpTo last) (IsUpTo high) (λ (r : LogRecord) u. (omega (arith, u.0), omega (arith, u.1))) (flat logs) over.numbers;
   stands = over.stands;
 }
+
+-- where each record of the transaction has numbers up to this one, all have
+pub grown_up_to : (logs : List (List LogRecord)) (last upto place : ℕ) (mine : List LogRecord) → place < length logs → last ≤ upto → AllByRecursion (IsUpTo last) (flat logs) → AllByRecursion (IsUpTo upto) mine
+    → AllByRecursion (IsUpTo upto) (flat (grown logs place mine))
+grown_up_to logs last upto place mine lt le up more =
+    let xs = before_end logs place in
+    let ys = behind logs place in
+    let all : AllByRecursion (IsUpTo upto) (flat logs) = all_weaker (IsUpTo last) (IsUpTo upto) (λ (r : LogRecord) u. (omega (arith, u.0), omega (arith, u.1))) (flat logs) up in
+    let parts : AllByRecursion (IsUpTo upto) (xs ++ ys) = subst (AllByRecursion (IsUpTo upto)) (as_was logs place lt) all in
+    subst (AllByRecursion (IsUpTo upto)) (sym (flat_grown logs place mine lt))
+    (all_append (IsUpTo upto) xs (mine ++ ys) (all_first (IsUpTo upto) xs ys parts) (all_append (IsUpTo upto) mine ys more (all_last (IsUpTo upto) xs ys parts)))

@@ -5,7 +5,6 @@ use Rattle.std.specs.List.{AllByRecursion, filter}
 use Rattle.ds_model.specs.declared.log.LogRecord.{LogRecord}
 use Rattle.ds_model.specs.Logs.{put_by_lrsn, by_lrsn}
 use Rattle.log_growth.specs.Growth.{IsRisingFrom}
-use Rattle.log_growth.proofs.Lists.{all_weaker}
 
 abbrev pub UpTo : ℕ → List LogRecord → Type 0
 UpTo n rs = AllByRecursion (λ (r : LogRecord). r.lrsn ≤ n) rs

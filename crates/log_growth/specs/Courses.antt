@@ -1,5 +1,5 @@
 -- The records of the transaction in hand, of which some stand in its member's log and the others in the log buffer.
-use Rattle.std.specs.Prelude.{◌≡◌, ℕ, ◌+◌, ◌<◌, ◌≤◌, true, List, [], ◌∷◌, ◌++◌, map, take, length, slice_set, slice_index_or}
+use Rattle.std.specs.Prelude.{◌≡◌, ℕ, ◌+◌, ◌<◌, ◌≤◌, true, List, [], ◌∷◌, ◌++◌, map, take, slice_set, slice_index_or}
 use Rattle.std.specs.List.{AllByRecursion}
 use Rattle.ds_model.specs.declared.log.LogRecord.{LogRecord}
 use Rattle.ds_model.specs.Rows.{Rows}
@@ -84,6 +84,11 @@ GetsNumber = (s : Start) (tran other high upto : ℕ) (mine : List LogRecord) (d
 abbrev pub EndsCourse : Type 0
 EndsCourse = (s : Start) (tran high : ℕ) (mine : List LogRecord) (disk : List (List ℕ)) → IsCourse s tran high mine disk []
     → (disk ≡ map log_bytes (grown s.logs s.place mine)) × IsStart (record { logs = grown s.logs s.place mine; rows = rows_behind s.rows tran mine; last = high; place = s.place })
+
+-- a transaction that has changed no row leaves the rows as they were, and only the numbers of its records count as drawn
+abbrev pub NeutralsEnd : Type 0
+NeutralsEnd = (s : Start) (tran high upto : ℕ) (mine : List LogRecord) (disk : List (List ℕ)) → IsCourse s tran high mine disk [] → AllNeutral mine → s.last ≤ upto → AllByRecursion (λ (r : LogRecord). r.lrsn ≤ upto) mine
+    → (disk ≡ map log_bytes (grown s.logs s.place mine)) × IsStart (record { logs = grown s.logs s.place mine; rows = s.rows; last = upto; place = s.place })
 
 -- at each moment, and after a stop inside the append of what is pending, the logs stand for the rows behind some of the records
 abbrev pub StandsOnTheWay : Type 0

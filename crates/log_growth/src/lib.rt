@@ -4,7 +4,7 @@
 //! The crate has definitions and proofs alone. Its functions do nothing: their contracts are the laws.
 #![tactic(auto)]
 
-ghost use Rattle.log_growth.specs.Courses.{BeginsCourse, PutsRecord, ForcesRecords, GetsNumber, EndsCourse, StandsOnTheWay, StandsTorn};
+ghost use Rattle.log_growth.specs.Courses.{BeginsCourse, PutsRecord, ForcesRecords, GetsNumber, EndsCourse, NeutralsEnd, StandsOnTheWay, StandsTorn};
 ghost use Rattle.log_growth.specs.Growth.{StartsEmpty, PassesNumbers, GrowsByTransactions, AppendsFollow, StandsForRows, BytesGrow, StaysAllowed, CutsWhole, TornStands};
 
 /// A transaction adds its row changes to the rows that logs stand for exactly where it commits.
@@ -32,6 +32,7 @@ pub fn course_laws()
     ensures forces { ForcesRecords }
     ensures number { GetsNumber }
     ensures ends { EndsCourse }
+    ensures neutral { NeutralsEnd }
     ensures stands { StandsOnTheWay }
     ensures torn { StandsTorn }
 {}

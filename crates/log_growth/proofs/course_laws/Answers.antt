@@ -1,4 +1,4 @@
-use Rattle.log_growth.proofs.Courses.{begins, puts, forces, gets_number, ends, stands_on, stands_torn}
+use Rattle.log_growth.proofs.Courses.{begins, puts, forces, gets_number, ends, neutrals_end, stands_on, stands_torn}
 use Rattle.log_growth.proofs.course_laws.Goals as goal
 
 pub returns-clause-begins : goal.returns-clause-begins
@@ -21,3 +21,6 @@ returns-clause-stands c = stands_on
 
 pub returns-clause-torn : goal.returns-clause-torn
 returns-clause-torn c = stands_torn
+
+pub returns-clause-neutral : goal.returns-clause-neutral
+returns-clause-neutral c = neutrals_end
