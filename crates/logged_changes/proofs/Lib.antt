@@ -1,0 +1,4 @@
+mod Going
+mod Ways
+mod Endings
+mod Fetched

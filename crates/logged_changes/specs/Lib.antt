@@ -1,0 +1,6 @@
+pub mod Works
+pub mod Trips
+pub mod Passages
+pub mod Ends
+pub mod Steps
+pub mod Fetches
