@@ -5,32 +5,33 @@ use Rattle.ds_base.specs.Causes.{Rose}
 use Rattle.ds_disk.specs.Contents.{Contents, WhenTold, Becomes}
 use Rattle.ds_model.specs.declared.script.Script.{Script}
 use Rattle.ds_model.specs.declared.report.Report.{Report}
-use Rattle.serial_run.specs.Sounds.{HasEmptyLogs}
+use Rattle.serial_run.specs.Ran.{HasOps, IsNew, BeginsNew}
+use Rattle.group_words.specs.Orders.{AreSizes}
 use Rattle.group_run.specs.declared.status.Status.{Status}
 use Rattle.group_run.specs.declared.status.Status.TheVariants as status
-use Rattle.group_run.specs.Opening.{IsOpening}
+use Rattle.group_run.specs.Opening.{HasEmptyLogs, IsOpening}
 use Rattle.group_run.specs.Outside.{Outside}
 use Rattle.group_run.specs.Reports.{HasRun, empty_report}
-use Rattle.group_run.specs.Played.{IsRead, IsPlayed, IsShown}
+use Rattle.group_run.specs.Played.{IsRead, IsPlayed, IsHalted, IsShown}
 use Rattle.ds_base.specs.declared.names.Sizes.{Sizes}
 use Rattle.group_run.specs.Prepares.{IsOpened, IsReady, IsPrepared}
 use Rattle.group_run.specs.declared.prepare.Prepared.TheVariants as prepared
 use Rattle.group_words.specs.declared.order.Order.{Order}
 use Rattle.group_words.specs.declared.order.Order.TheVariants as order
 use Rattle.ds_model.specs.Serial.{IsSerial, IsCounted}
-use Rattle.group_run.proofs.Counted.{counted}
-use Rattle.group_run.specs.Ends.{MetBy, text_for, RanByPlay, RanBy, Tells, TellsReport, met_by}
+use Rattle.group_run.proofs.Counted.{counted, has_ops}
+use Rattle.group_run.specs.Ends.{MetBy, text_for, RanByPlay, RanBy, Tells, TellsReport, RunsTo, run_text, met_by}
 use Rattle.group_run.specs.Statuses.{short_text}
 use Rattle.ds_model.specs.ScriptText.{script_text}
+use Rattle.ds_model.specs.ReportText.{report_text}
 use Rattle.work_maker.specs.Made.{made}
 use Rattle.group_run.proofs.Opened.{opening_same}
 
--- a step of an opened disk is a step of the disk before
-from_opening : (a b c : Option Contents) (P : Contents → Contents → Type 0) → Becomes a b IsOpening → Becomes b c P → Becomes a c P
-from_opening None b c P p q = tt
-from_opening (Some x) None c P p q = absurd p
-from_opening (Some x) (Some y) None P p q = absurd q
-from_opening (Some x) (Some y) (Some z) P p q = subst (λ (w : Contents). P w z) p.0 q
+-- a disk that was never written has been opened as it was
+begins_later : (a b : Option Contents) → Becomes a b IsOpening → BeginsNew a → BeginsNew b
+begins_later None b p new = absurd new
+begins_later (Some x) None p new = absurd p
+begins_later (Some x) (Some y) p new = subst IsNew (sym p.0) new
 
 began_empty : (a b : Option Contents) → Becomes a b IsOpening → WhenTold a HasEmptyLogs
 began_empty None b p = tt
@@ -53,36 +54,27 @@ pub is_played : (sizes : Sizes) (before mid after : Outside) (script : Script) (
     → HasRun sizes script report after.alive mid.contents after.contents mid.disk_faults after.disk_faults
     → IsPlayed sizes before after report
 is_played sizes before mid after script report ready same le has =
-    let run = has.run in
     record {
       script = script;
       read = same_script sizes.members before mid after script same ready.read;
       serial = ready.serial;
       empty = began_empty before.contents mid.contents ready.opened.opening;
       ran = has.ran;
-      run = record {
-        count = run.count;
-        few = run.few;
-        entries_are = run.entries_are;
-        rows_are = run.rows_are;
-        allowed = run.allowed;
-        appends = run.appends;
-        log = λ e. from_opening before.contents mid.contents after.contents _ ready.opened.opening (run.log e);
-        torn = λ e. from_opening before.contents mid.contents after.contents _ ready.opened.opening (run.torn e);
-        failed_is = run.failed_is;
-        cause = λ e. earlier before.disk_faults mid.disk_faults after.disk_faults le (run.cause e);
-      };
+      run = λ new. has.run (begins_later before.contents mid.contents ready.opened.opening new);
       reports = has.reports;
-      sound = record {
-        history = has.sound.history;
-        sound = has.sound.sound;
-        tells = has.sound.tells;
-        stands = record {
-          alive = λ e. from_opening before.contents mid.contents after.contents _ ready.opened.opening (has.sound.stands.alive e);
-          dead = λ e. from_opening before.contents mid.contents after.contents _ ready.opened.opening (has.sound.stands.dead e);
-        };
-      };
+      sound = λ new. has.sound (begins_later before.contents mid.contents ready.opened.opening new);
+      cause = λ e. earlier before.disk_faults mid.disk_faults after.disk_faults le (has.cause e);
     }
+
+pub is_halted : (members : ℕ) (before mid after : Outside) (script : Script)
+    → IsReady members before mid script → mid.left ≡ after.left → (BeginsNew mid.contents → ⊥) → IsHalted members before after
+is_halted members before mid after script ready same used = record {
+  script = script;
+  read = same_script members before mid after script same ready.read;
+  serial = ready.serial;
+  empty = began_empty before.contents mid.contents ready.opened.opening;
+  used = λ new. used (begins_later before.contents mid.contents ready.opened.opening new);
+}
 
 pub is_shown : (before after : Outside) (report : Report) → IsOpened before after → report ≡ empty_report 0 → IsShown before after report
 is_shown before after report opened is = record {
@@ -103,7 +95,7 @@ by_failure sizes before after report true played e rose = subst (λ m. RanByPlay
 by_failure sizes before after report false played e rose = subst (λ m. RanByPlay sizes m before after report) (sym (met_done report.status e)) (played, e)
 
 pub has_ran : (sizes : Sizes) (before after : Outside) (report : Report) → IsPlayed sizes before after report → RanByPlay sizes (met_by report) before after report
-has_ran sizes before after report played = by_failure sizes before after report played.ran.failed played played.reports.status played.run.cause
+has_ran sizes before after report played = by_failure sizes before after report played.ran.failed played played.reports.status played.cause
 
 -- ---- by what the words order
 
@@ -121,15 +113,51 @@ serial_by (Some order.Show) script given before after h = absurd h
 serial_by (Some (order.Make n)) script given before after h = let f : prepared.Play script given ≡ prepared.Make n = h in cc
 serial_by (Some (order.Work n sizes)) script given before after h = let f : prepared.Play script given ≡ prepared.Ended status.NotYet = h in cc
 
-pub ran_by : (o : Option Order) (before mid after : Outside) (script : Script) (given : Sizes) (report : Report)
+pub ops_by : (o : Option Order) (script : Script) (given : Sizes) (before after : Outside) → IsPrepared o (prepared.Play script given) before after → HasOps script
+ops_by None script given before after h = let f : prepared.Play script given ≡ prepared.Ended status.WordsRefused = h in cc
+ops_by (Some (order.Play sizes seed trace)) script given before after h = has_ops sizes.members script h.0.read.spelled.has_rules
+ops_by (Some order.Show) script given before after h = absurd h
+ops_by (Some (order.Make n)) script given before after h = let f : prepared.Play script given ≡ prepared.Make n = h in cc
+ops_by (Some (order.Work n sizes)) script given before after h = let f : prepared.Play script given ≡ prepared.Ended status.NotYet = h in cc
+
+pub sizes_by : (o : Option Order) (script : Script) (given : Sizes) (before after : Outside) → IsPrepared o (prepared.Play script given) before after → AreSizes given
+sizes_by None script given before after h = let f : prepared.Play script given ≡ prepared.Ended status.WordsRefused = h in cc
+sizes_by (Some (order.Play sizes seed trace)) script given before after h = subst AreSizes (sym h.1) h.2
+sizes_by (Some order.Show) script given before after h = absurd h
+sizes_by (Some (order.Make n)) script given before after h = let f : prepared.Play script given ≡ prepared.Make n = h in cc
+sizes_by (Some (order.Work n sizes)) script given before after h = let f : prepared.Play script given ≡ prepared.Ended status.NotYet = h in cc
+
+ran_to : (sizes : Sizes) (met : Status) (before mid after : Outside) (script : Script) (report : Report)
+    → IsReady sizes.members before mid script → mid.left ≡ after.left → before.disk_faults ≤ mid.disk_faults
+    → RunsTo sizes script met report after.alive mid.contents after.contents mid.disk_faults after.disk_faults
+    → RanByPlay sizes met before after report
+ran_to sizes status.Done before mid after script report ready same le run = subst (λ m. RanByPlay sizes m before after report) run.1 (has_ran sizes before after report (is_played sizes before mid after script report ready same le run.0))
+ran_to sizes status.WordsRefused before mid after script report ready same le run = run
+ran_to sizes (status.ScriptRefused fault) before mid after script report ready same le run = run
+ran_to sizes status.SourceFailed before mid after script report ready same le run = run
+ran_to sizes status.SinkFailed before mid after script report ready same le run = run
+ran_to sizes status.DiskFailed before mid after script report ready same le run = subst (λ m. RanByPlay sizes m before after report) run.1 (has_ran sizes before after report (is_played sizes before mid after script report ready same le run.0))
+ran_to sizes status.NoMemory before mid after script report ready same le run = run
+ran_to sizes (status.Damaged volume at) before mid after script report ready same le run = (is_halted sizes.members before mid after script ready same run.0, run.1)
+ran_to sizes status.NotYet before mid after script report ready same le run = run
+
+pub ran_by : (o : Option Order) (met : Status) (before mid after : Outside) (script : Script) (given : Sizes) (report : Report)
     → IsPrepared o (prepared.Play script given) before mid → mid.left ≡ after.left → before.disk_faults ≤ mid.disk_faults
-    → HasRun given script report after.alive mid.contents after.contents mid.disk_faults after.disk_faults
-    → RanBy o (met_by report) before after report
-ran_by None before mid after script given report h same le run = let f : prepared.Play script given ≡ prepared.Ended status.WordsRefused = h in cc
-ran_by (Some (order.Play sizes seed trace)) before mid after script given report h same le run = has_ran sizes before after report (is_played sizes before mid after script report h.0 same le (subst (λ (l : Sizes). HasRun l script report after.alive mid.contents after.contents mid.disk_faults after.disk_faults) h.1 run))
-ran_by (Some order.Show) before mid after script given report h same le run = absurd h
-ran_by (Some (order.Make n)) before mid after script given report h same le run = let f : prepared.Play script given ≡ prepared.Make n = h in cc
-ran_by (Some (order.Work n sizes)) before mid after script given report h same le run = let f : prepared.Play script given ≡ prepared.Ended status.NotYet = h in cc
+    → RunsTo given script met report after.alive mid.contents after.contents mid.disk_faults after.disk_faults
+    → RanBy o met before after report
+ran_by None met before mid after script given report h same le run = let f : prepared.Play script given ≡ prepared.Ended status.WordsRefused = h in cc
+ran_by (Some (order.Play sizes seed trace)) met before mid after script given report h same le run = ran_to sizes met before mid after script report h.0 same le (subst (λ (l : Sizes). RunsTo l script met report after.alive mid.contents after.contents mid.disk_faults after.disk_faults) h.1 run)
+ran_by (Some order.Show) met before mid after script given report h same le run = absurd h
+ran_by (Some (order.Make n)) met before mid after script given report h same le run = let f : prepared.Play script given ≡ prepared.Make n = h in cc
+ran_by (Some (order.Work n sizes)) met before mid after script given report h same le run = let f : prepared.Play script given ≡ prepared.Ended status.NotYet = h in cc
+
+text_when : (b : Bool) (report : Report) → run_text (cond b status.DiskFailed status.Done) report ≡ report_text report
+text_when true report = refl
+text_when false report = refl
+
+-- what is told of a run that ended with its report is the report's text
+pub tells_run : (report : Report) (ended : Status) (taken taken_now : Option (List ℕ)) (f g : ℕ) → TellsReport ended report taken taken_now f g → Tells (met_by report) ended (run_text (met_by report) report) taken taken_now f g
+tells_run report ended taken taken_now f g told = subst (λ (text : List ℕ). Tells (met_by report) ended text taken taken_now f g) (sym (text_when (nat_eq report.status 5) report)) told
 
 met_shown : (report : Report) → report ≡ empty_report 0 → met_by report ≡ status.Done
 met_shown report e = ap met_by e
@@ -189,6 +217,16 @@ pub short_not_wanting : (o : Option Order) (met ended : Status) (before after : 
 short_not_wanting o met ended before after text taken taken_now f g h told e =
     let other : ended ≡ status.SinkFailed → ⊥ = λ s. let same : status.NoMemory ≡ status.SinkFailed = sym e ∙ s in cc in
     meets_no_want o before after (subst (λ m. MetBy o m before after) (sym (told.whole other).0 ∙ e) h)
+
+runs_with_memory : (sizes : Sizes) (script : Script) (report : Report) (alive : Bool) (before after : Option Contents) (f g : ℕ) → RunsTo sizes script status.NoMemory report alive before after f g → ⊥
+runs_with_memory sizes script report alive before after f g h = h
+
+-- a run that is told leaves no want of memory
+pub run_not_wanting : (sizes : Sizes) (script : Script) (met ended : Status) (report : Report) (alive : Bool) (before after : Option Contents) (f g : ℕ) (text : List ℕ) (taken taken_now : Option (List ℕ)) (k l : ℕ)
+    → RunsTo sizes script met report alive before after f g → Tells met ended text taken taken_now k l → ended ≡ status.NoMemory → ⊥
+run_not_wanting sizes script met ended report alive before after f g text taken taken_now k l run told e =
+    let other : ended ≡ status.SinkFailed → ⊥ = λ s. let same : status.NoMemory ≡ status.SinkFailed = sym e ∙ s in cc in
+    runs_with_memory sizes script report alive before after f g (subst (λ m. RunsTo sizes script m report alive before after f g) (sym (told.whole other).0 ∙ e) run)
 
 met_is : (b : Bool) → cond b status.DiskFailed status.Done ≡ status.NoMemory → ⊥
 met_is true e = cc

@@ -4,7 +4,7 @@ use Rattle.std.specs.declared.alloc.Global.{Global}
 use Rattle.std.specs.Io.KnownBytes.{Appends}
 use Rattle.ds_base.specs.Causes.{Rose}
 use Rattle.ds_base.specs.declared.names.Sizes.{Sizes}
-use Rattle.ds_disk.specs.Contents.{Becomes}
+use Rattle.ds_disk.specs.Contents.{Contents, Becomes}
 use Rattle.ds_model.specs.declared.script.Script.{Script}
 use Rattle.ds_model.specs.declared.script.ScriptFault.{ScriptFault}
 use Rattle.ds_model.specs.declared.report.Report.{Report}
@@ -20,9 +20,11 @@ use Rattle.group_run.specs.declared.status.Status.{Status}
 use Rattle.group_run.specs.declared.status.Status.TheVariants as status
 use Rattle.group_run.specs.Statuses.{short_text}
 use Rattle.group_run.specs.Input.{WasRead}
+use Rattle.serial_run.specs.Ran.{BeginsNew}
 use Rattle.group_run.specs.Opening.{IsNoOpening}
 use Rattle.group_run.specs.Outside.{Outside, DiskIsSame}
-use Rattle.group_run.specs.Played.{IsRead, IsPlayed, IsShown}
+use Rattle.group_run.specs.Reports.{HasRun, empty_report}
+use Rattle.group_run.specs.Played.{IsRead, IsPlayed, IsHalted, IsShown}
 
 -- what the words order, if they order anything
 abbrev pub ordered : List (String Global) → Option Order
@@ -45,6 +47,7 @@ MetByPlay members status.SourceFailed before after = Rose before.source_faults a
 MetByPlay members status.SinkFailed before after = ⊥
 MetByPlay members status.DiskFailed before after = ((s : Script) × IsRead members before after s × IsSerial s) × Rose before.disk_faults after.disk_faults
 MetByPlay members status.NoMemory before after = ⊥
+MetByPlay members (status.Damaged volume at) before after = ⊥
 MetByPlay members status.NotYet before after = (s : Script) × IsRead members before after s × ((IsSerial s → ⊥) ⊎ FindsALog before after)
 
 abbrev pub MetByShow : Status → Outside → Outside → Type 0
@@ -55,6 +58,7 @@ MetByShow status.SourceFailed before after = ⊥
 MetByShow status.SinkFailed before after = ⊥
 MetByShow status.DiskFailed before after = Rose before.disk_faults after.disk_faults
 MetByShow status.NoMemory before after = ⊥
+MetByShow (status.Damaged volume at) before after = ⊥
 MetByShow status.NotYet before after = FindsALog before after
 
 -- by the order of the words, if there is one
@@ -83,6 +87,7 @@ RanByPlay sizes status.SourceFailed before after report = ⊥
 RanByPlay sizes status.SinkFailed before after report = ⊥
 RanByPlay sizes status.DiskFailed before after report = IsPlayed sizes before after report × (report.status ≡ 5) × Rose before.disk_faults after.disk_faults
 RanByPlay sizes status.NoMemory before after report = ⊥
+RanByPlay sizes (status.Damaged volume at) before after report = IsHalted sizes.members before after × (report ≡ empty_report 7)
 RanByPlay sizes status.NotYet before after report = ⊥
 
 abbrev pub RanBy : Option Order → Status → Outside → Outside → Report → Type 0
@@ -106,6 +111,36 @@ met_by report = cond (nat_eq report.status 5) status.DiskFailed status.Done
 abbrev pub TellsReport : Status → Report → Option (List ℕ) → Option (List ℕ) → ℕ → ℕ → Type 0
 TellsReport ended report taken taken_now faults faults_now = Tells (met_by report) ended (report_text report) taken taken_now faults faults_now
 
+-- what is written where a run has opened: its report, but where a byte can't stand there
+abbrev pub run_text : Status → Report → List ℕ
+run_text status.Done report = report_text report
+run_text status.WordsRefused report = report_text report
+run_text (status.ScriptRefused fault) report = report_text report
+run_text status.SourceFailed report = report_text report
+run_text status.SinkFailed report = report_text report
+run_text status.DiskFailed report = report_text report
+run_text status.NoMemory report = report_text report
+run_text (status.Damaged volume at) report = short_text (status.Damaged volume at)
+run_text status.NotYet report = report_text report
+
+-- how a script that was ready has run: to its report, or to a page that can't be
+abbrev pub RunsTo : Sizes → Script → Status → Report → Bool → Option Contents → Option Contents → ℕ → ℕ → Type 0
+RunsTo sizes script status.Done report alive before after faults faults_now = HasRun sizes script report alive before after faults faults_now × (met_by report ≡ status.Done)
+RunsTo sizes script status.WordsRefused report alive before after faults faults_now = ⊥
+RunsTo sizes script (status.ScriptRefused fault) report alive before after faults faults_now = ⊥
+RunsTo sizes script status.SourceFailed report alive before after faults faults_now = ⊥
+RunsTo sizes script status.SinkFailed report alive before after faults faults_now = ⊥
+RunsTo sizes script status.DiskFailed report alive before after faults faults_now = HasRun sizes script report alive before after faults faults_now × (met_by report ≡ status.DiskFailed)
+RunsTo sizes script status.NoMemory report alive before after faults faults_now = ⊥
+RunsTo sizes script (status.Damaged volume at) report alive before after faults faults_now = (BeginsNew before → ⊥) × (report ≡ empty_report 7)
+RunsTo sizes script status.NotYet report alive before after faults faults_now = ⊥
+
+-- and that was told
+pub record RunIsTold (sizes : Sizes) (script : Script) (ended : Status) (report : Report) (alive : Bool) (before after : Option Contents) (faults faults_now : ℕ) (taken taken_now : Option (List ℕ)) (failed failed_now : ℕ) : Type 0 where
+  pub met : Status
+  pub runs : RunsTo sizes script met report alive before after faults faults_now
+  pub told : Tells met ended (run_text met report) taken taken_now failed failed_now
+
 -- before a run opened: a status was met, and its text was told
 abbrev pub EndsShort : Option Order → Outside → Outside → Status → Option (List ℕ) → Option (List ℕ) → ℕ → ℕ → Type 0
 EndsShort o before after ended taken taken_now faults faults_now =
@@ -114,7 +149,7 @@ EndsShort o before after ended taken taken_now faults faults_now =
 -- a run ended with a status, and its report was told
 abbrev pub EndsLong : Option Order → Outside → Outside → Status → Report → Option (List ℕ) → Option (List ℕ) → ℕ → ℕ → Type 0
 EndsLong o before after ended report taken taken_now faults faults_now =
-    (met : Status) × RanBy o met before after report × Tells met ended (report_text report) taken taken_now faults faults_now
+    (met : Status) × RanBy o met before after report × Tells met ended (run_text met report) taken taken_now faults faults_now
 
 -- the order is one for which nothing is read
 abbrev pub ReadsNothing : Option Order → Type 0

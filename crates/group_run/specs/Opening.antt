@@ -1,10 +1,13 @@
 -- Whether the logs of a disk are empty.
-use Rattle.std.specs.Prelude.{◌≡◌, ℕ, ◌+◌, ◌<◌, ◌≤◌, Bool, true, false, [], Option, Result, IfOk, IsErrOf}
+use Rattle.std.specs.Prelude.{◌≡◌, ℕ, ◌+◌, ◌<◌, ◌≤◌, Bool, true, false, [], replicate, Option, Result, IfOk, IsErrOf}
 use Rattle.ds_base.specs.Causes.{Rose}
 use Rattle.ds_disk.specs.declared.disk.DiskError.{DiskError}
 use Rattle.ds_disk.specs.declared.disk.DiskError.TheVariants.{Failed}
 use Rattle.ds_disk.specs.Contents.{Contents, log_of, Becomes, Same}
-use Rattle.serial_run.specs.Sounds.{HasEmptyLogs}
+
+-- all 32 logs are empty
+abbrev pub HasEmptyLogs : Contents → Type 0
+HasEmptyLogs c = c.logs ≡ replicate 32 []
 
 -- nothing has changed, and the logs of the first members are empty
 abbrev pub EmptyUpTo : ℕ → Contents → Contents → Type 0

@@ -5,6 +5,7 @@ use Rattle.ds_base.specs.declared.names.Sizes.{Sizes}
 use Rattle.ds_disk.specs.Contents.{Contents, Becomes}
 use Rattle.ds_model.specs.declared.script.Script.{Script}
 use Rattle.ds_model.specs.Serial.{IsSerial}
+use Rattle.group_words.specs.Orders.{AreSizes}
 use Rattle.group_words.specs.declared.order.Order.{Order}
 use Rattle.group_words.specs.declared.order.Order.TheVariants as order
 use Rattle.group_run.specs.declared.status.Status.{Status}
@@ -31,6 +32,7 @@ OpensToPlay sizes (prepared.Ended status.SourceFailed) bytes alive before after 
 OpensToPlay sizes (prepared.Ended status.SinkFailed) bytes alive before after faults faults_now = ⊥
 OpensToPlay sizes (prepared.Ended status.DiskFailed) bytes alive before after faults faults_now = ((s : Script) × Spells sizes.members bytes s × IsSerial s) × Rose faults faults_now
 OpensToPlay sizes (prepared.Ended status.NoMemory) bytes alive before after faults faults_now = ⊥
+OpensToPlay sizes (prepared.Ended (status.Damaged volume at)) bytes alive before after faults faults_now = ⊥
 OpensToPlay sizes (prepared.Ended status.NotYet) bytes alive before after faults faults_now =
     (s : Script) × Spells sizes.members bytes s × ((IsSerial s → ⊥) ⊎ Becomes before after IsNoOpening)
 
@@ -48,7 +50,7 @@ pub record IsReady (members : ℕ) (before after : Outside) (script : Script) : 
   pub opened : IsOpened before after
 
 abbrev pub IsPreparedToPlay : Sizes → Prepared → Outside → Outside → Type 0
-IsPreparedToPlay sizes (prepared.Play script given) before after = IsReady sizes.members before after script × (given ≡ sizes)
+IsPreparedToPlay sizes (prepared.Play script given) before after = IsReady sizes.members before after script × (given ≡ sizes) × AreSizes sizes
 IsPreparedToPlay sizes prepared.Show before after = ⊥
 IsPreparedToPlay sizes (prepared.Make n) before after = ⊥
 IsPreparedToPlay sizes (prepared.Ended met) before after = MetByPlay sizes.members met before after

@@ -4,6 +4,8 @@ use Rattle.ds_model.specs.declared.script.FaultKind.{FaultKind}
 use Rattle.ds_model.specs.declared.script.FaultKind.TheVariants as fault
 use Rattle.ds_model.specs.declared.script.ScriptFault.{ScriptFault}
 use Rattle.ds_model.specs.ScriptText.{line}
+use Rattle.ds_base.specs.declared.names.Volume.{Volume}
+use Rattle.ds_base.specs.declared.names.Volume.TheVariants as volume
 use Rattle.group_run.specs.declared.status.Status.{Status}
 use Rattle.group_run.specs.declared.status.Status.TheVariants as status
 
@@ -15,6 +17,7 @@ number_of status.SourceFailed = 3
 number_of status.SinkFailed = 4
 number_of status.DiskFailed = 5
 number_of status.NoMemory = 6
+number_of (status.Damaged v at) = 7
 number_of status.NotYet = 8
 
 abbrev pub kind_word : FaultKind → List ℕ
@@ -34,7 +37,15 @@ place_text number = codes "script refused line " ++ decimal number
 abbrev pub fault_text : ScriptFault → List ℕ
 fault_text f = line (place_text f.line ++ codes " " ++ kind_word f.kind)
 
--- the text where the run didn't open
+unfoldable pub volume_text : Volume → List ℕ
+volume_text (volume.Log member) = codes "damaged log M" ++ decimal member
+volume_text (volume.Page id) = codes "damaged page " ++ decimal id.set ++ codes " " ++ decimal id.number
+
+-- the byte that can't stand there
+abbrev pub damage_text : Volume → ℕ → List ℕ
+damage_text v at = line (volume_text v ++ codes " at " ++ decimal at)
+
+-- the text where there is no report
 abbrev pub short_text : Status → List ℕ
 short_text status.Done = []
 short_text status.WordsRefused = line (codes "words refused")
@@ -43,4 +54,5 @@ short_text status.SourceFailed = line (codes "source failed")
 short_text status.SinkFailed = []
 short_text status.DiskFailed = line (codes "disk failed")
 short_text status.NoMemory = []
+short_text (status.Damaged v at) = damage_text v at
 short_text status.NotYet = line (codes "not yet")

@@ -1,6 +1,7 @@
 ghost use Rattle.std.specs.Prelude.{◌≡◌, ℕ, List, Option, ◌≤◌, IfOk};
 ghost use Rattle.ds_disk.specs.Contents.{Becomes, Same};
 ghost use Rattle.ds_base.specs.Ids.{IsMember};
+ghost use Rattle.group_words.specs.Orders.{AreSizes};
 ghost use Rattle.group_run.specs.Outside.{outside};
 ghost use Rattle.group_run.specs.Ends.{ordered, ReadsNothing};
 ghost use Rattle.group_run.specs.Prepares.{OpensToPlay, IsPrepared, IsPreparedToPlay, IsPreparedToShow};
@@ -11,7 +12,7 @@ use crate::status::Status;
 use ds_base::{NoMemory, Sizes, Source};
 use ds_disk::{Disk, DiskError};
 use ds_model::Script;
-use group_words::{Order, WordsFault, member_laws, read_words};
+use group_words::{Order, WordsFault, read_words, size_laws};
 use script_text::{ScriptError, read_script};
 use serial_run::plays;
 use std::alloc::Global;
@@ -63,7 +64,7 @@ fn prepare_to_play<S: Source, D: Disk>(
     disk: &mut D,
     sizes: Sizes,
 ) -> Result<Prepared, NoMemory>
-    requires { IsMember sizes.members }
+    requires { AreSizes sizes }
     ensures prepared { IfOk result (λ p. IsPreparedToPlay sizes p (outside (S.left source.old) (S.faults source.old) (D.contents disk.old) (D.alive disk.old) (D.faults disk.old)) (outside (S.left source.new) (S.faults source.new) (D.contents disk.new) (D.alive disk.new) (D.faults disk.new))) }
     ensures same { Becomes (D.contents disk.old) (D.contents disk.new) Same }
     ensures later { D.faults disk.old ≤ D.faults disk.new }
@@ -101,7 +102,7 @@ pub fn prepare<S: Source, D: Disk>(
     ensures later { D.faults disk.old ≤ D.faults disk.new }
     ensures unread { ReadsNothing (ordered words.now) → S.left source.new ≡ S.left source.old }
 {
-    member_laws();
+    size_laws();
     match read_words(alloc, words) {
         Err(WordsFault::NoMemory) => Err(NoMemory),
         Err(WordsFault::Refused) => Ok(Prepared::Ended(Status::WordsRefused)),

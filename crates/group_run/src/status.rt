@@ -1,7 +1,7 @@
-ghost use Rattle.std.specs.Prelude.{◌≡◌, ◌++◌, OnOk, IfOk, decimal};
-ghost use Rattle.group_run.specs.Statuses.{kind_word, place_text, fault_text, short_text};
+ghost use Rattle.std.specs.Prelude.{◌≡◌, ℕ, ◌++◌, OnOk, IfOk, decimal};
+ghost use Rattle.group_run.specs.Statuses.{kind_word, place_text, fault_text, volume_text, damage_text, short_text};
 
-use ds_base::{Bytes, NoMemory};
+use ds_base::{Bytes, NoMemory, Volume};
 use ds_model::{FaultKind, ScriptFault};
 use std::alloc::Global;
 
@@ -22,6 +22,8 @@ pub enum Status {
     DiskFailed,
     /// Memory was wanting.
     NoMemory,
+    /// The byte of a page or a log at this offset can't stand there.
+    Damaged { volume: Volume, at: u64 },
     /// The order, the script, or a disk with a log that isn't empty, is for a later stage.
     NotYet,
 }
@@ -41,6 +43,7 @@ impl Status {
             Status::SinkFailed => 4,
             Status::DiskFailed => 5,
             Status::NoMemory => 6,
+            Status::Damaged { .. } => 7,
             Status::NotYet => 8,
         }
     }
@@ -86,27 +89,54 @@ fn put_fault(alloc: Global, out: &mut Bytes, fault: ScriptFault) -> Result<(), N
     out.extend(b"\n")
 }
 
+#[tactic(auto, unfolding(crate::specs::Statuses::volume_text))]
+fn put_volume(alloc: Global, out: &mut Bytes, volume: &Volume) -> Result<(), NoMemory>
+    ensures { OnOk result (out.new ≡ out.old ++ volume_text volume.now) }
+{
+    match volume {
+        Volume::Log(member) => put_number(alloc, out, b"damaged log M", member.number()),
+        Volume::Page(id) => {
+            put_number(alloc, out, b"damaged page ", id.set as u64)?;
+            put_number(alloc, out, b" ", id.number as u64)
+        }
+    }
+}
+
+fn put_damage(alloc: Global, out: &mut Bytes, volume: &Volume, at: u64) -> Result<(), NoMemory>
+    ensures { OnOk result (out.new ≡ out.old ++ damage_text volume.now at) }
+{
+    put_volume(alloc, out, volume)?;
+    put_number(alloc, out, b" at ", at)?;
+    out.extend(b"\n")
+}
+
 // The text of a status that is always the same.
-fn fixed_text(status: Status) -> &'static [u8]
-    requires { (f : ScriptFault) → status ≡ Status.ScriptRefused f → ⊥ }
-    ensures { result.now ≡ short_text status }
+fn fixed_text(status: &Status) -> &'static [u8]
+    requires unrefused { (f : ScriptFault) → status.now ≡ Status.ScriptRefused f → ⊥ }
+    requires undamaged { (v : Volume) (at : ℕ) → status.now ≡ Status.Damaged v at → ⊥ }
+    ensures { result.now ≡ short_text status.now }
 {
     match status {
         Status::WordsRefused => b"words refused\n",
         Status::SourceFailed => b"source failed\n",
         Status::DiskFailed => b"disk failed\n",
         Status::NotYet => b"not yet\n",
-        Status::Done | Status::SinkFailed | Status::NoMemory | Status::ScriptRefused(_) => b"",
+        Status::Done
+        | Status::SinkFailed
+        | Status::NoMemory
+        | Status::ScriptRefused(_)
+        | Status::Damaged { .. } => b"",
     }
 }
 
-/// The text of a status before a run has opened.
-pub fn text_of(alloc: Global, status: Status) -> Result<Bytes, NoMemory>
-    ensures { IfOk result (λ text. text ≡ short_text status) }
+/// The text of a status without a report.
+pub fn text_of(alloc: Global, status: &Status) -> Result<Bytes, NoMemory>
+    ensures { IfOk result (λ text. text ≡ short_text status.now) }
 {
     let mut out = Bytes::new(alloc);
     match status {
-        Status::ScriptRefused(fault) => put_fault(alloc, &mut out, fault)?,
+        Status::ScriptRefused(fault) => put_fault(alloc, &mut out, *fault)?,
+        Status::Damaged { volume, at } => put_damage(alloc, &mut out, volume, *at)?,
         other => out.extend(fixed_text(other))?,
     }
     Ok(out)

@@ -1,10 +1,12 @@
 ghost use Rattle.std.specs.Prelude.{◌≡◌, ◌≤◌, true, [], IfOk, OnErr};
 ghost use Rattle.group_run.specs.Outside.{outside};
 ghost use Rattle.group_run.specs.Statuses.{short_text};
-ghost use Rattle.group_run.specs.Ends.{ordered, Tells, TellsReport, Ends};
+ghost use Rattle.group_run.specs.Ends.{ordered, met_by, Tells, TellsReport, RunIsTold, Ends};
+ghost use Rattle.group_words.specs.Orders.{AreSizes};
+ghost use Rattle.serial_run.specs.Ran.{HasOps};
 ghost use Rattle.ds_model.specs.ScriptText.{script_text};
 ghost use Rattle.work_maker.specs.Made.{made};
-ghost use Rattle.group_run.specs.Reports.{HasRun, empty_report};
+ghost use Rattle.group_run.specs.Reports.{empty_report};
 ghost use Rattle.ds_model.specs.Serial.{IsSerial, IsCounted};
 
 use crate::gate::Gate;
@@ -12,11 +14,12 @@ use crate::output::write_all;
 use crate::prepare::{Prepared, prepare};
 use crate::run::{empty_report, run};
 use crate::status::{Status, text_of};
-use ds_base::{NoMemory, RowList, Sequence, Sink, Sizes, Source};
+use ds_base::{NoMemory, RowList, Sequence, Sink, Sizes, Source, Volume};
 use ds_disk::Disk;
 use ds_model::{Report, Script};
 use report_text::write_report;
 use script_text::script_bytes;
+use serial_run::RunFault;
 use std::alloc::Global;
 use std::sync::Wait;
 use std::thread::Threads;
@@ -46,6 +49,17 @@ fn tell<K: Sink>(sink: &mut K, met: Status, text: &[u8]) -> Status
     }
 }
 
+// The status that a report ends with.
+fn met_by(report: &Report) -> Status
+    ensures { result ≡ met_by report.now }
+{
+    if report.status == 5 {
+        Status::DiskFailed
+    } else {
+        Status::Done
+    }
+}
+
 // Runs a script that is ready, and tells its report.
 fn run_ready<K: Sink, D: Disk>(
     alloc: Global,
@@ -54,21 +68,27 @@ fn run_ready<K: Sink, D: Disk>(
     script: Script,
     sizes: Sizes,
 ) -> Result<(Status, Report), NoMemory>
+    requires sizes { AreSizes sizes }
     requires serial { IsSerial script }
     requires counted { IsCounted script }
+    requires ops { HasOps script }
     requires alive { D.alive disk.old ≡ true }
-    ensures run { IfOk result (λ r. HasRun sizes script r.1 (D.alive disk.new) (D.contents disk.old) (D.contents disk.new) (D.faults disk.old) (D.faults disk.new)) }
-    ensures told { IfOk result (λ r. TellsReport r.0 r.1 (K.taken sink.old) (K.taken sink.new) (K.faults sink.old) (K.faults sink.new)) }
+    ensures told { IfOk result (λ r. RunIsTold sizes script r.0 r.1 (D.alive disk.new) (D.contents disk.old) (D.contents disk.new) (D.faults disk.old) (D.faults disk.new) (K.taken sink.old) (K.taken sink.new) (K.faults sink.old) (K.faults sink.new)) }
     ensures err { OnErr result (K.taken sink.new ≡ K.taken sink.old) }
     ensures later { D.faults disk.old ≤ D.faults disk.new }
 {
-    let (report, text) = run(alloc, disk, script, sizes)?;
-    let met = if report.status == 5 {
-        Status::DiskFailed
-    } else {
-        Status::Done
-    };
-    Ok((tell(sink, met, text.as_slice()), report))
+    match run(alloc, disk, script, sizes) {
+        Ok((report, text)) => Ok((tell(sink, met_by(&report), text.as_slice()), report)),
+        Err(RunFault::NoMemory) => Err(NoMemory),
+        Err(RunFault::Damaged { page, at }) => {
+            let met = Status::Damaged {
+                volume: Volume::Page(page),
+                at: at as u64,
+            };
+            let status = tell_short(alloc, sink, met)?;
+            Ok((status, empty_report(alloc, 7)))
+        }
+    }
 }
 
 // Tells a status that was met before a run opened.
@@ -77,7 +97,7 @@ fn tell_short<K: Sink>(alloc: Global, sink: &mut K, met: Status) -> Result<Statu
     ensures told { IfOk result (λ status. Tells met status (short_text met) (K.taken sink.old) (K.taken sink.new) (K.faults sink.old) (K.faults sink.new)) }
     ensures err { OnErr result (K.taken sink.new ≡ K.taken sink.old) }
 {
-    let text = text_of(alloc, met)?;
+    let text = text_of(alloc, &met)?;
     Ok(tell(sink, met, text.as_slice()))
 }
 

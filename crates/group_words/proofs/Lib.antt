@@ -8,4 +8,4 @@ mod Ties
 mod Law
 mod Found
 mod Formed
-mod Members
+mod Sizes

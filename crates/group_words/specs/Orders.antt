@@ -1,5 +1,5 @@
 -- What the words of a command line order.
-use Rattle.std.specs.Prelude.{ℕ, Bool, false, ◌&&◌, ◌||◌, ◌==◌, if◌then◌else◌, List, [], ◌∷◌, map, Option, Some, None, option_map, option_and_then, is_some, codes}
+use Rattle.std.specs.Prelude.{ℕ, ◌≤◌, Bool, false, ◌&&◌, ◌||◌, ◌==◌, if◌then◌else◌, List, [], ◌∷◌, map, Option, Some, None, option_map, option_and_then, is_some, codes}
 use Rattle.std.specs.Prelude.{String}
 use Rattle.std.specs.Global.{Global}
 use Rattle.std.specs.List.{list_all}
@@ -76,12 +76,19 @@ abbrev pub may_be_work : List (List ℕ) → Bool
 may_be_work [] = false
 may_be_work (number ∷ words) = is_some (number_of number) && may_be_options words
 
--- a group that plays, or does measured work, has 1 to 32 members
-abbrev pub HasMembers : Order → Type 0
-HasMembers (Play sizes seed trace) = IsMember sizes.members
-HasMembers Show = Unit {0}
-HasMembers (Make n) = Unit {0}
-HasMembers (Work n sizes) = IsMember sizes.members
+-- the sizes of a group are in the ranges of their options
+pub record AreSizes (sizes : Sizes) : Type 0 where
+  pub members : IsMember sizes.members
+  pub locks : 1 ≤ sizes.locks
+  pub pool : 4 ≤ sizes.pool
+  pub pages : (1 ≤ sizes.pages) × (sizes.pages ≤ 65536)
+
+-- those of a group that plays, or does measured work
+abbrev pub HasSizes : Order → Type 0
+HasSizes (Play sizes seed trace) = AreSizes sizes
+HasSizes Show = Unit {0}
+HasSizes (Make n) = Unit {0}
+HasSizes (Work n sizes) = AreSizes sizes
 
 -- the words are those of a command that takes options, and words that may be options stand behind it
 abbrev pub may_have_options : List (List ℕ) → Bool

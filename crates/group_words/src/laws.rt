@@ -3,7 +3,7 @@ ghost use Rattle.std.specs.Prelude.{◌≡◌, ℕ, List, Some};
 ghost use Rattle.group_words.specs.declared.order.Order.{Order};
 ghost use Rattle.group_words.specs.Orders as spec;
 
-/// A group that plays a script, or does measured work, has 1 to 32 members.
-pub fn member_laws()
-    ensures { (words : List (List ℕ)) (o : Order) → spec.order_of words ≡ Some o → spec.HasMembers o }
+/// A group that plays a script, or does measured work, has sizes in the ranges of their options.
+pub fn size_laws()
+    ensures { (words : List (List ℕ)) (o : Order) → spec.order_of words ≡ Some o → spec.HasSizes o }
 {}

@@ -10,6 +10,6 @@ mod setting;
 #[cfg(test)]
 mod tests;
 
-pub use laws::member_laws;
+pub use laws::size_laws;
 pub use order::{Order, WordsFault};
 pub use read::read_words;

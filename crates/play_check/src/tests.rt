@@ -1,6 +1,6 @@
 use super::*;
-use ds_base::{Bytes, MemberId, MemorySink, MemorySource, ReadSource, WriteSink};
-use ds_disk::{DiskFailure, DiskOp, MemoryDisk};
+use ds_base::{Bytes, MemberId, MemorySink, MemorySource, PageId, ReadSource, WriteSink};
+use ds_disk::{Disk, DiskFailure, DiskOp, MemoryDisk};
 use group_run::{OpenGate, Status, play};
 use report_text::{ReportError, read_report};
 use std::alloc::Global;
@@ -112,16 +112,18 @@ fn faults_of_the_ends_are_told(rt: HostRuntime) -> Result<(), Fail> {
 fn a_disk_that_dies_in_an_append_keeps_a_front_of_it(rt: HostRuntime) -> Result<(), Fail> {
     let alloc = rt.alloc();
     let member = MemberId::new(1).ok_or("member")?;
+    let whole = plays(&rt, alloc, &Setting::new("play", HELLO), 0, HELLO_REPORT)?;
     let stopped =
         "dsgroup 1\ncommitted a M1 answered\nstopped b M1\nrows 1\nrow 1 10 =hello\nend 5\n";
-    // The first append has 68 bytes, and the second, a commit alone, 22.
-    for (kept, length) in [(0, 68), (21, 89), (22, 90)] {
+    // The second append is that of a commit alone, which has 22 bytes.
+    for kept in [0u64, 21, 22] {
         let dies = Setting {
             disk: Some((DiskOp::AppendLog, 2, Some(kept))),
             ..Setting::new("play", HELLO)
         };
         let disk = plays(&rt, alloc, &dies, 5, stopped)?;
-        assert_eq!(rt; disk.log(member).len(), length);
+        let left = whole.log(member).len().wrapping_sub(22);
+        assert_eq!(rt; disk.log(member).len(), left.wrapping_add(kept as usize));
     }
     Ok(())
 }
@@ -131,11 +133,23 @@ fn a_disk_with_a_log_is_left_as_it_is(rt: HostRuntime) -> Result<(), Fail> {
     let alloc = rt.alloc();
     let member = MemberId::new(1).ok_or("member")?;
     let disk = plays(&rt, alloc, &Setting::new("play", HELLO), 0, HELLO_REPORT)?;
-    assert_eq!(rt; disk.log(member).len(), 90);
+    let length = disk.log(member).len();
     let (status, taken, disk) = played(&rt, alloc, &Setting::new("show", ""), disk)?;
     assert_eq!(rt; status.number(), 8);
     assert_eq!(rt; taken.as_slice(), "not yet\n".as_bytes());
-    assert_eq!(rt; disk.log(member).len(), 90);
+    assert_eq!(rt; disk.log(member).len(), length);
+    Ok(())
+}
+
+#[test]
+fn a_page_that_cannot_be_is_named(rt: HostRuntime) -> Result<(), Fail> {
+    let alloc = rt.alloc();
+    let mut disk = MemoryDisk::new(alloc, Vec::new(alloc))?;
+    let branch = PageId { set: 2, number: 1 };
+    assert_eq!(rt; disk.write_page(branch, &[1; 4096]), Ok(()));
+    let (status, taken, _disk) = played(&rt, alloc, &Setting::new("play", HELLO), disk)?;
+    assert_eq!(rt; taken.as_slice(), "damaged page 2 1 at 0\n".as_bytes());
+    assert_eq!(rt; status.number(), 7);
     Ok(())
 }
 

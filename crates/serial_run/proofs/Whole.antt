@@ -1,63 +1,119 @@
 -- What a whole run leaves, of what its transactions leave.
-use Rattle.std.proofs.Common.{◌≡◌, ◌↔◌, ℕ, ◌+◌, ◌*◌, ◌<◌, ◌≤◌, Bool, true, nat_lt, List, [], ◌++◌, map, length, take, drop, replicate, Option, zero, suc, ap, subst, ◌∙◌, arith}
+use Rattle.std.proofs.Common.{◌≡◌, ◌↔◌, ◌⊎◌, ℕ, zero, suc, All, ◌<◌, Bool, true, false, nat_lt, List, [], ◌∷◌, ◌++◌, map, length, take, drop, Option, Some, None, refl, sym, ap, subst, ◌∙◌, arith, inl, inr}
 use Rattle.std.proofs.lemmas.Bool.Decides.{nat_tests}
-use Rattle.std.specs.List.{AllByRecursion}
 use Rattle.std.specs.FinMap as finite
-use Rattle.ds_disk.specs.Contents.{Contents, Becomes}
+use Rattle.ds_disk.specs.Contents.{Contents}
 use Rattle.ds_model.specs.declared.script.Script.{Script}
 use Rattle.ds_model.specs.declared.report.ReportEntry.{ReportEntry}
-use Rattle.ds_model.specs.Rows.{Rows}
+use Rattle.ds_model.specs.Rows.{Rows, listed}
+use Rattle.ds_model.specs.History.{replay}
+use Rattle.ds_model.specs.Logs.{StandFor}
+use Rattle.ds_model.specs.Serial.{IsCounted}
 use Rattle.ds_model.specs.Transactions.{Placed, placed}
+use Rattle.logged_changes.specs.Passages.{LogsStandFor}
+use Rattle.tran_pages.specs.Makes.{no_tables}
+use Rattle.tran_fates.specs.Causes.{Limits}
 use Rattle.serial_run.specs.declared.entry.Entries.{Entries}
-use Rattle.serial_run.specs.declared.state.Limits.{Limits}
-use Rattle.serial_run.specs.States.{State}
-use Rattle.serial_run.specs.Steps.{Places}
-use Rattle.serial_run.specs.Played.{HasRoom}
 use Rattle.serial_run.specs.Entries.{commit_entries, refusal_entries, stop_entry}
-use Rattle.serial_run.specs.Progress.{state_after, contents_after, AreAllowed, FirstAppends, IsTornAt, HasPlayed}
-use Rattle.serial_run.specs.Ran.{start, IsRunOf}
+use Rattle.serial_run.specs.Progress.{tables_behind, FirstStands, LogsStand, HasPlayed}
+use Rattle.ds_model.specs.Told.{entry_of}
+use Rattle.std.specs.List.{AllByRecursion}
+use Rattle.serial_run.specs.Ran.{history_of, IsRunOf}
+use Rattle.serial_run.specs.Sounds.{WhenLeft, MayStandFor, DiskStandsFor, IsSoundRun}
 use Rattle.serial_run.proofs.Telling.{entries_told}
+use Rattle.serial_run.proofs.Soundness.{each_once, in_order, legal_history, replay_history, replay_stopped}
 
-pub state_is : (rows : Rows) (places : Places) (counts : List ℕ) (last : ℕ) (limits : Limits) → rows ≡ finite.empty → places ≡ finite.empty → counts ≡ replicate 64 0 → last ≡ 0
-    → ◌≡◌ {A = State} (record { rows = rows; places = places; counts = counts; last = last; limits = limits }) (start limits)
-state_is rows places counts last limits r p n l i = record { rows = r i; places = p i; counts = n i; last = l i; limits = limits }
-
-zeros : (n : ℕ) → AllByRecursion (λ m. m ≤ 0) (replicate n 0)
-zeros zero = tt
-zeros (suc n) = (omega arith, zeros n)
-
-pub has_room : (limits : Limits) (n : ℕ) → n ≤ 65536 → HasRoom (start limits) (65 * n)
-has_room limits n le = record { placed_few = zeros 64; drawn_few = omega arith }
+-- ---- the run
 
 less_is : (m n : ℕ) → (nat_lt m n ≡ true) ↔ (m < n)
 less_is m n = (λ e. grind (arith, nat_tests), λ l. grind (arith, nat_tests))
 
-pub run_is : (limits : Limits) (s : Script) (items : List Placed) (count : ℕ) (was now : State) (none mid : Entries) (others final : List ReportEntry) (alive : Bool) (x y : Option Contents) (f g n : ℕ)
-    → items ≡ placed s → was ≡ start limits → none.committed ≡ [] → none.others ≡ [] → HasPlayed items count was now none mid alive x y f g
-    → others ≡ mid.others ++ map stop_entry (drop count items) → final ≡ mid.committed ++ others → n ≡ length items
-    → IsRunOf limits s (record { rows = now.rows; entries = final; failed = nat_lt count n }) alive x y f g
-run_is limits s items count was now none mid others final alive x y f g n its began no_committed no_others played rest gathered long =
-    let first = ap (take count) its in
-    let more = ap (take (count + 1)) its in
-    let less : length items ≡ length (placed s) = ap length its in
-    let counted : (nat_lt count n ≡ true) ↔ (count < length items) = subst (λ m. (nat_lt count n ≡ true) ↔ (count < m)) long (less_is count n) in
+-- the entries that were made, of those that are played, and then of those that are stopped
+entries_of : (l : Limits) (s : Script) (items : List Placed) (count : ℕ) (rows : Rows) (none mid : Entries) (others final : List ReportEntry) (alive : Bool) (o : Option Contents)
+    → items ≡ placed s → none.committed ≡ [] → none.others ≡ [] → HasPlayed l no_tables items count rows none mid alive o
+    → others ≡ mid.others ++ map stop_entry (drop count items) → final ≡ mid.committed ++ others
+    → final ≡ map (entry_of s) (history_of l (placed s) count)
+entries_of l s items count rows none mid others final alive o its no_committed no_others played rest gathered =
     let ended = take count items in
+    gathered
+    ∙ ap (λ (es : List ReportEntry). es ++ others) (played.committed_are ∙ ap (λ (es : List ReportEntry). es ++ commit_entries l no_tables ended) no_committed)
+    ∙ ap (λ (es : List ReportEntry). commit_entries l no_tables ended ++ es) (rest ∙ ap (λ (es : List ReportEntry). es ++ map stop_entry (drop count items)) (played.others_are ∙ ap (λ (es : List ReportEntry). es ++ refusal_entries l no_tables ended) no_others))
+    ∙ ap (λ (ps : List Placed). commit_entries l no_tables (take count ps) ++ (refusal_entries l no_tables (take count ps) ++ map stop_entry (drop count ps))) its
+    ∙ entries_told s l (placed s) count
+
+rows_of : (l : Limits) (s : Script) (items : List Placed) (count : ℕ) (rows : Rows) (none mid : Entries) (alive : Bool) (o : Option Contents)
+    → items ≡ placed s → HasPlayed l no_tables items count rows none mid alive o → rows ≡ (tables_behind l no_tables (take count (placed s))).rows
+rows_of l s items count rows none mid alive o its played = played.rows_are ∙ ap (λ (ps : List Placed). (tables_behind l no_tables (take count ps)).rows) its
+
+pub run_is : (l : Limits) (s : Script) (items : List Placed) (count n : ℕ) (rows : Rows) (none mid : Entries) (others final : List ReportEntry) (alive : Bool) (o : Option Contents)
+    → items ≡ placed s → none.committed ≡ [] → none.others ≡ [] → HasPlayed l no_tables items count rows none mid alive o
+    → others ≡ mid.others ++ map stop_entry (drop count items) → final ≡ mid.committed ++ others → n ≡ length items
+    → IsRunOf l s (record { rows = rows; entries = final; failed = nat_lt count n })
+run_is l s items count n rows none mid others final alive o its no_committed no_others played rest gathered long =
+    let less : n ≡ length (placed s) = long ∙ ap length its in
     record {
       count = count;
-      few = omega (arith, played.few);
-      entries_are = gathered
-          ∙ ap (λ (l : List ReportEntry). l ++ others) (played.committed_are ∙ ap (λ (l : List ReportEntry). l ++ commit_entries was ended) no_committed ∙ ap (λ (t : State). commit_entries t ended) began)
-          ∙ ap (λ (l : List ReportEntry). commit_entries (start limits) ended ++ l) (rest ∙ ap (λ (l : List ReportEntry). l ++ map stop_entry (drop count items)) (played.others_are ∙ ap (λ (l : List ReportEntry). l ++ refusal_entries was ended) no_others ∙ ap (λ (t : State). refusal_entries t ended) began))
-          ∙ ap (λ (ps : List Placed). commit_entries (start limits) (take count ps) ++ (refusal_entries (start limits) (take count ps) ++ map stop_entry (drop count ps))) its
-          ∙ entries_told s limits (placed s) count;
-      rows_are = played.rows_are ∙ ap (λ (t : State). (state_after t ended).rows) began ∙ ap (λ (ps : List Placed). (state_after (start limits) ps).rows) first;
-      allowed = subst (AreAllowed (start limits)) more (subst (λ (t : State). AreAllowed t (take (count + 1) items)) began played.allowed);
-      appends = subst (λ (ps : List Placed). FirstAppends (state_after (start limits) (take count ps)) (drop count ps)) its
-          (subst (λ (t : State). FirstAppends (state_after t ended) (drop count items)) began played.appends);
-      log = λ e. subst (λ (ps : List Placed). Becomes x y (λ c d. d ≡ contents_after (start limits) ps c)) first
-          (subst (λ (t : State). Becomes x y (λ c d. d ≡ contents_after t ended c)) began (played.log e));
-      torn = λ e. subst (λ (ps : List Placed). Becomes x y (λ c d. IsTornAt (state_after (start limits) (take count ps)) (drop count ps) (contents_after (start limits) (take count ps) c) d)) its
-          (subst (λ (t : State). Becomes x y (λ c d. IsTornAt (state_after t ended) (drop count items) (contents_after t ended c) d)) began (played.torn e));
-      failed_is = subst (λ m. (nat_lt count n ≡ true) ↔ (count < m)) less counted;
-      cause = λ e. played.cause (counted.0 e);
+      few = omega (arith, played.few, less, long);
+      entries_are = entries_of l s items count rows none mid others final alive o its no_committed no_others played rest gathered;
+      rows_are = rows_of l s items count rows none mid alive o its played;
+      failed_is = subst (λ m. (nat_lt count n ≡ true) ↔ (count < m)) less (less_is count n);
     }
+
+-- ---- its soundness
+
+when_left : (o : Option Contents) (rows : Rows) (P : List (List ℕ) → Type 0) → ((logs : List (List ℕ)) → StandFor logs rows → P logs) → LogsStandFor o rows → WhenLeft o (λ c. P c.logs)
+when_left None rows P so it = it
+when_left (Some c) rows P so it = so c.logs it
+
+alive_stands : (l : Limits) (ps : List Placed) (count : ℕ) (o : Option Contents)
+    → LogsStandFor o (tables_behind l no_tables (take count ps)).rows → WhenLeft o (λ c. StandFor c.logs (replay finite.empty (history_of l ps count)))
+alive_stands l ps count o it =
+    when_left o (tables_behind l no_tables (take count ps)).rows (λ (logs : List (List ℕ)). StandFor logs (replay finite.empty (history_of l ps count)))
+    (λ logs stands. subst (λ (r : Rows). StandFor logs r) (sym (replay_history l ps count)) stands) it
+
+with_first : (l : Limits) (ps left : List Placed) (count : ℕ) (o : Option Contents)
+    → drop count ps ≡ left → FirstStands l (tables_behind l no_tables (take count ps)) left o → WhenLeft o (λ c. MayStandFor c.logs (history_of l ps count))
+with_first l ps [] count o is it = absurd it
+with_first l ps (p ∷ rest) count o is it =
+    when_left o _ (λ (logs : List (List ℕ)). MayStandFor logs (history_of l ps count))
+    (λ logs stands. inr (subst (λ (r : Rows). StandFor logs r) (sym (replay_stopped l ps rest p count is it.0)) stands)) it.1
+
+dead_stands : (l : Limits) (ps : List Placed) (count : ℕ) (o : Option Contents)
+    → LogsStandFor o (tables_behind l no_tables (take count ps)).rows ⊎ FirstStands l (tables_behind l no_tables (take count ps)) (drop count ps) o
+    → WhenLeft o (λ c. MayStandFor c.logs (history_of l ps count))
+dead_stands l ps count o (inl it) =
+    when_left o (tables_behind l no_tables (take count ps)).rows (λ (logs : List (List ℕ)). MayStandFor logs (history_of l ps count))
+    (λ logs stands. inl (subst (λ (r : Rows). StandFor logs r) (sym (replay_history l ps count)) stands)) it
+dead_stands l ps count o (inr it) = with_first l ps (drop count ps) count o refl it
+
+disk_stands : (b : Bool) (l : Limits) (ps : List Placed) (count : ℕ) (o : Option Contents)
+    → LogsStand b l (tables_behind l no_tables (take count ps)) (drop count ps) o → DiskStandsFor b o (history_of l ps count)
+disk_stands true l ps count o it = record { alive = λ e. alive_stands l ps count o it; dead = λ e. let f : true ≡ false = e in cc }
+disk_stands false l ps count o it = record { alive = λ e. let f : false ≡ true = e in cc; dead = λ e. dead_stands l ps count o it }
+
+pub sound_run : (l : Limits) (s : Script) (items : List Placed) (count : ℕ) (rows : Rows) (none mid : Entries) (others final : List ReportEntry) (failed alive : Bool) (o : Option Contents)
+    → IsCounted s → items ≡ placed s → none.committed ≡ [] → none.others ≡ [] → HasPlayed l no_tables items count rows none mid alive o
+    → others ≡ mid.others ++ map stop_entry (drop count items) → final ≡ mid.committed ++ others
+    → IsSoundRun s (record { rows = rows; entries = final; failed = failed }) alive o
+sound_run l s items count rows none mid others final failed alive o counted its no_committed no_others played rest gathered report entries told_rows =
+    let ps = placed s in
+    record {
+      history = history_of l ps count;
+      sound = record {
+        each_once = each_once l ps count;
+        order = in_order l s count counted;
+        legal = legal_history l ps count;
+      };
+      tells = record {
+        entries = entries ∙ entries_of l s items count rows none mid others final alive o its no_committed no_others played rest gathered;
+        rows = told_rows ∙ ap listed (rows_of l s items count rows none mid alive o its played ∙ sym (replay_history l ps count));
+      };
+      stands = disk_stands alive l ps count o (subst (λ (qs : List Placed). LogsStand alive l (tables_behind l no_tables (take count qs)) (drop count qs) o) its played.logs);
+    }
+
+-- ---- what holds of each transaction
+
+pub all_of : (P : Placed → Type 0) (ps : List Placed) → AllByRecursion P ps → All P ps
+all_of P [] h k d lt = absurd (omega arith)
+all_of P (p ∷ ps) h zero d lt = h.0
+all_of P (p ∷ ps) h (suc k) d lt = all_of P ps h.1 k d (omega arith)

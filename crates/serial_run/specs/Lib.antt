@@ -1,10 +1,5 @@
-pub mod States
-pub mod Locks
-pub mod Steps
-pub mod Causes
-pub mod Undo
-pub mod Played
 pub mod Entries
 pub mod Progress
 pub mod Ran
 pub mod Sounds
+pub mod Steps

@@ -1,7 +1,7 @@
 -- That a run is sound.
-use Rattle.std.specs.Prelude.{◌≡◌, ◌⊎◌, ℕ, Bool, true, false, cond, List, [], ◌∷◌, replicate, Option}
+use Rattle.std.specs.Prelude.{◌≡◌, ◌⊎◌, ℕ, Bool, true, false, cond, List, [], ◌∷◌, Option, Some, None}
 use Rattle.std.specs.FinMap as finite
-use Rattle.ds_disk.specs.Contents.{Contents, Becomes}
+use Rattle.ds_disk.specs.Contents.{Contents}
 use Rattle.ds_model.specs.declared.script.Script.{Script}
 use Rattle.ds_model.specs.declared.report.Report.{Report}
 use Rattle.ds_model.specs.declared.history.Entry.{Entry}
@@ -14,9 +14,10 @@ use Rattle.ds_model.specs.Logs.{StandFor}
 use Rattle.ds_model.specs.Sound.{IsSound}
 use Rattle.serial_run.specs.declared.run.Ran.{Ran}
 
--- all 32 logs are empty
-abbrev pub HasEmptyLogs : Contents → Type 0
-HasEmptyLogs c = c.logs ≡ replicate 32 []
+-- the disk tells what it holds, of which this is true
+abbrev pub WhenLeft : Option Contents → (Contents → Type 0) → Type 0
+WhenLeft None P = ⊥
+WhenLeft (Some c) P = P c
 
 abbrev pub is_stopped : Fate → Bool
 is_stopped (fate.Committed answered reads) = false
@@ -33,13 +34,13 @@ replay_with_stopped rows (e ∷ es) = cond (is_stopped e.fate) (after_tran rows 
 abbrev pub MayStandFor : List (List ℕ) → List Entry → Type 0
 MayStandFor logs history = StandFor logs (replay finite.empty history) ⊎ StandFor logs (replay_with_stopped finite.empty history)
 
--- what the logs of a disk that tells what it holds stand for, if they were empty before: an alive one's for the rows
--- of the history, and a dead one's for these or for these with the transaction whose append it died in
-pub record DiskStandsFor (now_alive : Bool) (before after : Option Contents) (history : List Entry) : Type 0 where
-  pub alive : now_alive ≡ true → Becomes before after (λ c d. HasEmptyLogs c → StandFor d.logs (replay finite.empty history))
-  pub dead : now_alive ≡ false → Becomes before after (λ c d. HasEmptyLogs c → MayStandFor d.logs history)
+-- what the logs of a disk that tells what it holds stand for: an alive one's for the rows of the history, and a dead one's
+-- for these or for these with the transaction whose append it died in
+pub record DiskStandsFor (now_alive : Bool) (after : Option Contents) (history : List Entry) : Type 0 where
+  pub alive : now_alive ≡ true → WhenLeft after (λ d. StandFor d.logs (replay finite.empty history))
+  pub dead : now_alive ≡ false → WhenLeft after (λ d. MayStandFor d.logs history)
 
 -- a report of this run's entries and rows is sound, from no rows on
-abbrev pub IsSoundRun : Script → Ran → Bool → Option Contents → Option Contents → Type 0
-IsSoundRun script ran alive before after =
-    (report : Report) → report.entries ≡ ran.entries → report.rows ≡ listed ran.rows → IsSound script finite.empty report (DiskStandsFor alive before after)
+abbrev pub IsSoundRun : Script → Ran → Bool → Option Contents → Type 0
+IsSoundRun script ran alive after =
+    (report : Report) → report.entries ≡ ran.entries → report.rows ≡ listed ran.rows → IsSound script finite.empty report (DiskStandsFor alive after)

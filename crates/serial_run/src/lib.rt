@@ -1,20 +1,17 @@
-//! A run of a script by one thread, one transaction after the other, over a map of rows.
-//!
-//! It is the plain form of a run: what the members of a group do side by side has to come to the same.
+//! A run of a script by one thread, one transaction after the other, over pages: rows lie in slots of heap pages, a linked
+//! index leads to them, and one pool of frames serves all members in turn.
 #![tactic(auto)]
 
-mod cause;
+mod copies;
 mod entry;
+mod fault;
 mod flatten;
-mod locks;
-mod place;
+mod play;
 mod run;
 mod serial;
-mod state;
-mod step;
-mod tran;
-mod undo;
+mod start;
+mod told;
 
+pub use fault::RunFault;
 pub use run::{Ran, run_script};
 pub use serial::plays;
-pub use state::Limits;

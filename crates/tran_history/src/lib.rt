@@ -13,3 +13,4 @@ mod tests;
 pub use ds_model::{Answer, Cycle, Entry, Fate, Reads, Refusal, Report, ReportEntry};
 pub use history::History;
 pub use one_thread::replay;
+pub use ops::replay_tran;

@@ -3,7 +3,7 @@ use Rattle.ds_model.specs.declared.report.Report.{Report}
 use Rattle.group_run.specs.Ends.{Tells, ordered, met_by}
 use Rattle.group_run.specs.declared.status.Status.TheVariants as status
 use Rattle.group_run.specs.Statuses.{short_text}
-use Rattle.group_run.proofs.Played.{counted_by, serial_by, ran_by, shown_by, not_wanting, made_by, met_by_order, told_as, short_not_wanting}
+use Rattle.group_run.proofs.Played.{counted_by, serial_by, ops_by, sizes_by, ran_by, shown_by, tells_run, not_wanting, run_not_wanting, made_by, met_by_order, told_as, short_not_wanting}
 use Rattle.group_run.proofs.top.perform.Goals as goal
 
 pub run_ready-requires-clause-counted : goal.run_ready-requires-clause-counted
@@ -18,7 +18,7 @@ returns-in-Ok-show g c =
     let report = c.in-Ok-show.report in
     let shown = c.in-Ok-show.ensures in
     record {
-      long = λ e not. (met_by report, shown_by (ordered c.args.words.now) _ _ report ready shown.report, shown.told);
+      long = λ e not. (met_by report, shown_by (ordered c.args.words.now) _ _ report ready shown.report, tells_run report c.in-Ok-show.status _ _ _ _ shown.told);
       short = λ e not. let f : true ≡ false = e in cc;
       wanting = λ e. absurd (not_wanting report c.in-Ok-show.status _ _ _ _ shown.told e);
       same = λ e. let f : true ≡ false = e in cc;
@@ -26,15 +26,21 @@ returns-in-Ok-show g c =
       unread = c.prepare.ensures.unread;
     }
 
+pub run_ready-requires-clause-ops : goal.run_ready-requires-clause-ops
+run_ready-requires-clause-ops g c = ops_by (ordered c.args.words.now) c.in-Ok-Play.script c.in-Ok-Play.sizes _ _ (rw c.in-Ok-Play.field-0-is at c.in-Ok-Play.ensures.prepared)
+
+pub run_ready-requires-clause-sizes : goal.run_ready-requires-clause-sizes
+run_ready-requires-clause-sizes g c = sizes_by (ordered c.args.words.now) c.in-Ok-Play.script c.in-Ok-Play.sizes _ _ (rw c.in-Ok-Play.field-0-is at c.in-Ok-Play.ensures.prepared)
+
 pub returns-in-Ok-run_ready : goal.returns-in-Ok-run_ready
 returns-in-Ok-run_ready g c =
     let ready = rw c.in-Ok-Play.field-0-is at c.in-Ok-Play.ensures.prepared in
     let report = c.in-Ok-run_ready.report in
     let run = c.in-Ok-run_ready.ensures in
     record {
-      long = λ e not. (met_by report, ran_by (ordered c.args.words.now) _ _ _ c.in-Ok-Play.script c.in-Ok-Play.sizes report ready refl c.prepare.ensures.later run.run, run.told);
+      long = λ e not. (run.told.met, ran_by (ordered c.args.words.now) run.told.met _ _ _ c.in-Ok-Play.script c.in-Ok-Play.sizes report ready refl c.prepare.ensures.later run.told.runs, run.told.told);
       short = λ e not. let f : true ≡ false = e in cc;
-      wanting = λ e. absurd (not_wanting report c.in-Ok-run_ready.status _ _ _ _ run.told e);
+      wanting = λ e. absurd (run_not_wanting c.in-Ok-Play.sizes c.in-Ok-Play.script run.told.met c.in-Ok-run_ready.status report _ _ _ _ _ _ _ _ _ _ run.told.runs run.told.told e);
       same = λ e. let f : true ≡ false = e in cc;
       unreported = λ e. let f : true ≡ false = e in cc;
       unread = c.prepare.ensures.unread;
