@@ -1,5 +1,5 @@
 -- The records of the locks of the transaction that is played.
-use Rattle.std.proofs.Common.{◌≡◌, ℕ, zero, suc, ◌+◌, ◌<◌, ◌≤◌, ◌^◌, Bool, true, false, List, [], ◌∷◌, ◌++◌, length, refl, sym, ◌∙◌, ap, subst, arith, if◌then◌else◌, ◌==◌, ◌⊎◌, inl, inr, cond}
+use Rattle.std.proofs.Common.{◌≡◌, ℕ, ◌+◌, Bool, true, false, List, [], ◌∷◌, ◌++◌, length, refl, sym, ◌∙◌, ap, subst, arith, if◌then◌else◌, ◌==◌, inr, cond}
 use Rattle.std.specs.Prelude.{Option, Some, None, ◌&&◌, ◌||◌, not, nat_lt}
 use Rattle.std.specs.List.{list_any}
 use Rattle.std.proofs.lemmas.Grind.{common_steps}
@@ -16,7 +16,7 @@ use Rattle.serial_locks.specs.declared.locked.Locked.{Locked}
 use Rattle.serial_locks.specs.declared.locked.Locked.TheVariants as locked
 use Rattle.tran_fates.specs.Causes.{Recorded, has_space, has_row, is_over, with_space, with_row}
 use Rattle.tran_fates.specs.Onward.{recorded_with}
-use Rattle.tran_run.specs.Locks.{Agrees, HasLocks, IsInHand, LockIsMet, locks_answer}
+use Rattle.tran_run.specs.Locks.{Agrees, HasLocks, LockIsMet}
 
 share_join : (h m : Mode) → is_recorded m ≡ false → is_recorded (join_of h m) ≡ is_recorded h
 unfolding join_of is_recorded

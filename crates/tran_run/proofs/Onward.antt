@@ -1,16 +1,15 @@
 -- What each step of a transaction that goes forward leaves.
-use Rattle.std.proofs.Common.{Bor, ◌≡◌, ◌⊎◌, ℕ, ◌+◌, ◌*◌, ◌<◌, ◌≤◌, Bool, true, false, List, [], ◌∷◌, length, drop, refl, sym, ◌∙◌, ap, subst, inl, inr, arith}
-use Rattle.std.specs.Prelude.{Option, Some, None, Result, Ok, Err, if◌then◌else◌}
+use Rattle.std.proofs.Common.{Bor, ◌≡◌, ◌⊎◌, ℕ, ◌*◌, ◌<◌, ◌≤◌, Bool, true, false, List, refl, sym, ◌∙◌, ap, subst, inl, inr}
+use Rattle.std.specs.Prelude.{Option, Some, None, if◌then◌else◌}
 use Rattle.std.specs.List.{AllByRecursion}
 use Rattle.ds_base.specs.declared.names.PageId.{PageId}
 use Rattle.ds_base.specs.declared.names.Place.{Place}
 use Rattle.ds_disk.specs.Contents.{Contents}
 use Rattle.page_format.specs.Header.{slots_per_page}
-use Rattle.page_images.specs.Images.{Images}
 use Rattle.ds_model.specs.declared.script.Op.{Op}
 use Rattle.ds_model.specs.declared.lock.Name.{Name}
 use Rattle.lock_names.specs.declared.mode.Mode.{Mode}
-use Rattle.serial_locks.specs.Standings.{Standing, used}
+use Rattle.serial_locks.specs.Standings.{Standing}
 use Rattle.ds_model.specs.declared.log.LogRecord.{LogRecord}
 use Rattle.ds_model.specs.Rows.{Rows}
 use Rattle.ds_model.specs.Logs.{has_commit}
@@ -27,12 +26,12 @@ use Rattle.tran_core.specs.States.{State, want_of, want_at, after_done, after_re
 use Rattle.tran_core.specs.Pages.{after_page}
 use Rattle.tran_pages.specs.Tables.{Tables, Shape, Holds, count_in}
 use Rattle.tran_pages.specs.Course.{IsOnCourse, IsNoChange}
-use Rattle.tran_pages.specs.Steps.{Needs, IsMade, PageKeeps, DoneKeeps, ChangeNeeds, ChangeKeeps, RefusalKeeps, Commits, NeverDamaged}
+use Rattle.tran_pages.specs.Steps.{Needs, PageKeeps, DoneKeeps, ChangeNeeds, ChangeKeeps, RefusalKeeps, Commits}
 use Rattle.logged_changes.specs.declared.halt.Halt.{Halt}
 use Rattle.logged_changes.specs.declared.halt.Halt.TheVariants as halt
 use Rattle.logged_changes.specs.declared.work.Work.{Work}
-use Rattle.logged_changes.specs.Works.{IsReady, IsSameRun}
-use Rattle.logged_changes.specs.Trips.{Trip, IsOn, IsUnderWay, rows_of, tran_by, high_by}
+use Rattle.logged_changes.specs.Works.{IsSameRun}
+use Rattle.logged_changes.specs.Trips.{Trip, IsOn, rows_of, tran_by, high_by}
 use Rattle.logged_changes.specs.Ends.{Ended, CommitHalts, MayHaveCommitted}
 use Rattle.logged_changes.specs.Passages.{Went, Halts, LogsStandFor}
 use Rattle.table_changes.specs.declared.made.Made.{Made}
@@ -42,12 +41,11 @@ use Rattle.table_changes.specs.Makings as makings
 use Rattle.tran_fates.specs.declared.cause.Cause.{Cause}
 use Rattle.tran_fates.specs.declared.cause.Cause.TheVariants as cause
 use Rattle.tran_fates.specs.Causes.{Limits, Recorded, Fate, is_over, fate_of, left_by, next}
-use Rattle.tran_fates.specs.Onward.{IsDecided, Onward, OnwardAt, recorded_with}
+use Rattle.tran_fates.specs.Onward.{IsDecided, OnwardAt, recorded_with}
 use Rattle.tran_fates.specs.Laws.{LockIsGranted, LockIsRefused, PageIsRead, WantIsPassedOver, ChangeIsMade, SlotIsRefused, CommitIsReached, IsPassedOver}
 use Rattle.tran_fates.specs.Laws as laws
 use Rattle.tran_run.specs.declared.way.Way.{Way}
-use Rattle.tran_run.specs.declared.way.Way.TheVariants as way
-use Rattle.tran_run.specs.Locks.{IsInHand, HasLocks}
+use Rattle.tran_run.specs.Locks.{HasLocks}
 use Rattle.tran_run.specs.Plays.{limits_of, Stands, HaltedBy, FailedWithin}
 use Rattle.tran_run.specs.Ways.{GoesForward, GoesBack, HasCommitted, Goes, IsAnswered, LockIsAnswered, lock_refusal, slot_refusal, table_of}
 

@@ -1,6 +1,6 @@
 -- The beginning of a transaction, and its end.
-use Rattle.std.proofs.Common.{◌≡◌, ◌⊎◌, ℕ, ◌+◌, ◌-◌, ◌≤◌, Bool, true, false, List, [], ◌∷◌, length, refl, sym, ◌∙◌, ap, subst, inl, inr, arith}
-use Rattle.std.specs.Prelude.{Option, Some, None, Result, Ok, Err, nat_lt}
+use Rattle.std.proofs.Common.{◌≡◌, ℕ, ◌-◌, ◌≤◌, Bool, false, List, [], length, refl, sym, ◌∙◌, ap, subst, inl, arith}
+use Rattle.std.specs.Prelude.{Option, Some, None, Result, Ok, Err}
 use Rattle.std.specs.List.{AllByRecursion}
 use Rattle.std.specs.Result.{IsErrAnd}
 use Rattle.ds_disk.specs.Contents.{Contents}
@@ -9,20 +9,19 @@ use Rattle.ds_model.specs.Scripts.{IsOp}
 use Rattle.page_images.specs.Images.{Images}
 use Rattle.log_growth.specs.Courses.{Start}
 use Rattle.lock_manager.specs.declared.claim.Claim.{Claim}
-use Rattle.serial_locks.specs.Standings.{Standing, used}
+use Rattle.serial_locks.specs.Standings.{Standing}
 use Rattle.tran_core.specs.States.{State, opened}
 use Rattle.tran_pages.specs.Tables.{Tables}
 use Rattle.tran_pages.specs.Steps.{Starts}
 use Rattle.logged_changes.specs.declared.halt.Halt.{Halt}
 use Rattle.logged_changes.specs.declared.work.Work.{Work}
 use Rattle.logged_changes.specs.Works.{IsReady}
-use Rattle.logged_changes.specs.Trips.{Trip, IsOn}
+use Rattle.logged_changes.specs.Trips.{IsOn}
 use Rattle.logged_changes.specs.Ends.{IsOver}
-use Rattle.table_changes.specs.Makings.{IsWithin}
-use Rattle.tran_fates.specs.Causes.{Limits, Recorded, none_recorded, is_over}
+use Rattle.tran_fates.specs.Causes.{Limits, none_recorded, is_over}
 use Rattle.tran_fates.specs.Laws.{Begins}
 use Rattle.tran_run.specs.declared.outcome.Outcome.{Outcome}
-use Rattle.tran_run.specs.Locks.{Agrees, IsInHand, HasLocks}
+use Rattle.tran_run.specs.Locks.{Agrees, HasLocks}
 use Rattle.tran_run.specs.Plays.{IsIdle, Stands, limits_of, HaltedBy, IsPlayed}
 use Rattle.tran_run.specs.Ways.{IsSteady, IsLogged, GoesForward}
 use Rattle.tran_run.proofs.Undos.{opened_undo}

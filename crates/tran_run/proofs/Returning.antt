@@ -1,13 +1,11 @@
 -- What each step of a transaction that takes its changes back leaves.
-use Rattle.std.proofs.Common.{Bor, ◌≡◌, ◌⊎◌, ℕ, ◌+◌, ◌*◌, ◌<◌, ◌≤◌, Bool, true, false, List, [], ◌∷◌, length, refl, sym, ◌∙◌, ap, subst, arith}
-use Rattle.std.specs.Prelude.{Option, Some, None, Result, Ok, Err}
+use Rattle.std.proofs.Common.{Bor, ◌≡◌, ℕ, Bool, List, [], ◌∷◌, refl, sym, ◌∙◌, ap, subst}
+use Rattle.std.specs.Prelude.{Option, Result, Ok, Err}
 use Rattle.std.specs.Result.{IsErrAnd}
-use Rattle.ds_base.specs.Ids.{IsTable}
 use Rattle.ds_base.specs.declared.names.Place.{Place}
 use Rattle.ds_disk.specs.Contents.{Contents}
 use Rattle.ds_model.specs.declared.script.Op.{Op}
 use Rattle.tran_core.specs.declared.stage.Stage.{Stage}
-use Rattle.tran_core.specs.declared.stage.Stage.TheVariants as stage
 use Rattle.tran_core.specs.declared.stage.Undone.{Undone}
 use Rattle.tran_core.specs.declared.want.Want.{Want}
 use Rattle.tran_core.specs.declared.want.Want.TheVariants as want
@@ -15,22 +13,21 @@ use Rattle.tran_core.specs.Wants.{Wanted, Content, said, want_undo}
 use Rattle.tran_core.specs.Wants as wanted
 use Rattle.tran_core.specs.States.{State, want_of, want_at, after_done, done_at, newest}
 use Rattle.tran_pages.specs.Tables.{Tables, Shape, Holds, with_row}
-use Rattle.tran_pages.specs.Course.{IsOnCourse}
 use Rattle.tran_pages.specs.Steps.{MayChange, UndoNeeds, UndoKeeps, Returns}
 use Rattle.logged_changes.specs.declared.halt.Halt.{Halt}
 use Rattle.logged_changes.specs.declared.halt.Halt.TheVariants as halt
 use Rattle.logged_changes.specs.declared.work.Work.{Work}
-use Rattle.logged_changes.specs.Works.{IsReady, IsSameRun}
+use Rattle.logged_changes.specs.Works.{IsSameRun}
 use Rattle.logged_changes.specs.Trips.{Trip, IsOn}
-use Rattle.logged_changes.specs.Passages.{Went, Halts, LogsStandFor}
+use Rattle.logged_changes.specs.Passages.{Went}
 use Rattle.logged_changes.specs.Ends.{Ended, ReturnHalts}
 use Rattle.logged_changes.specs.Ends as ends
 use Rattle.table_changes.specs.Makings.{IsWithin}
 use Rattle.tran_fates.specs.declared.cause.Cause.{Cause}
-use Rattle.tran_fates.specs.Causes.{Limits, fate_of, next}
+use Rattle.tran_fates.specs.Causes.{Limits}
 use Rattle.tran_fates.specs.Laws.{UndoKeepsFate, EndIsNext}
-use Rattle.tran_run.specs.Plays.{limits_of, Stands, HaltedBy}
-use Rattle.tran_run.specs.Ways.{GoesBack, HasReturned, FollowsBack, EndsBack}
+use Rattle.tran_run.specs.Plays.{Stands, HaltedBy}
+use Rattle.tran_run.specs.Ways.{GoesBack, FollowsBack, EndsBack}
 use Rattle.tran_run.proofs.Onward.{same_limits, halted}
 
 pub back_fails : (alive : Bool) (l : Limits) (x : Tables) (ops : List Op) (why : Cause) (s : State) (w : Work) (c : Option Contents) (r : Result Bool Halt) (h : Halt)

@@ -1,15 +1,13 @@
 -- What holds whatever the disk tells.
-use Rattle.std.proofs.Common.{◌≡◌, ◌⊎◌, ℕ, ◌+◌, ◌≤◌, List, [], length, refl, sym, ◌∙◌, ap, subst, inl, inr, arith}
+use Rattle.std.proofs.Common.{ℕ, ◌+◌, ◌≤◌, length, refl, sym, ◌∙◌, ap, inl, inr, arith}
 use Rattle.std.specs.Prelude.{Result}
 use Rattle.ds_base.specs.Causes.{Rose}
 use Rattle.serial_locks.specs.Standings.{Standing, used}
-use Rattle.tran_core.specs.declared.stage.Undone.{Undone}
 use Rattle.tran_core.specs.States.{State}
 use Rattle.logged_changes.specs.declared.work.Work.{Work}
 use Rattle.logged_changes.specs.declared.halt.Halt.{Halt}
 use Rattle.logged_changes.specs.Works.{IsReady, IsSameRun, HasHaltCause}
 use Rattle.tran_run.specs.Locks.{IsInHand}
-use Rattle.tran_run.specs.Plays.{limits_of}
 use Rattle.tran_run.specs.Ways.{IsSteady, Stays}
 use Rattle.tran_run.proofs.Onward.{same_limits}
 

@@ -1,5 +1,5 @@
 -- The changes that an agent may undo: a page and a want that is met leave them, but for a row change and its undoing.
-use Rattle.std.proofs.Common.{◌≡◌, ℕ, ◌+◌, ◌-◌, ◌≤◌, Bool, true, false, List, [], ◌∷◌, ◌++◌, length, drop, refl, sym, ◌∙◌, ap, subst, arith}
+use Rattle.std.proofs.Common.{◌≡◌, ℕ, ◌+◌, ◌≤◌, Bool, true, false, List, [], ◌∷◌, ◌++◌, length, drop, refl, sym, ap, arith}
 use Rattle.std.specs.Prelude.{Option, Some, None, Result, Ok, Err, if◌then◌else◌, nat_lt}
 use Rattle.ds_base.specs.declared.names.PageId.{PageId}
 use Rattle.ds_base.specs.declared.names.Place.{Place}

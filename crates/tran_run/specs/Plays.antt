@@ -1,9 +1,7 @@
 -- What playing one transaction leaves.
 use Rattle.std.specs.Prelude.{◌≡◌, ◌⊎◌, ℕ, ◌+◌, ◌*◌, ◌<◌, ◌^◌, Bool, true, false, List, [], Option, Some, None, Result, Ok, Err}
-use Rattle.ds_base.specs.declared.names.PageId.{PageId}
 use Rattle.ds_disk.specs.Contents.{Contents}
 use Rattle.ds_model.specs.declared.script.Op.{Op}
-use Rattle.ds_model.specs.Rows.{Rows}
 use Rattle.ds_model.specs.Effect.{reads_of}
 use Rattle.page_images.specs.Images.{Images}
 use Rattle.log_growth.specs.Courses.{Start}

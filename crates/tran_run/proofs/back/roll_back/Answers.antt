@@ -1,4 +1,4 @@
-use Rattle.std.proofs.Common.{◌≡◌, sym, subst, Bool}
+use Rattle.std.proofs.Common.{subst, Bool}
 use Rattle.tran_run.specs.Ways.{GoesOrIsBack}
 use Rattle.tran_run.proofs.Returning.{ends_err, end_goes}
 use Rattle.tran_run.proofs.back.roll_back.Goals as goal

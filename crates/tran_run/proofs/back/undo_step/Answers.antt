@@ -1,6 +1,5 @@
-use Rattle.std.proofs.Common.{◌≡◌, ◌∙◌, sym, ap, ℕ, length, arith, List}
+use Rattle.std.proofs.Common.{sym}
 use Rattle.std.specs.Prelude.{option_copied}
-use Rattle.tran_run.specs.Ways.{FollowsBack}
 use Rattle.tran_run.proofs.Onward.{halted}
 use Rattle.tran_run.proofs.Returning.{back_fails, undo_call, undo_goes, back_ended}
 use Rattle.tran_run.proofs.back.undo_step.Goals as goal

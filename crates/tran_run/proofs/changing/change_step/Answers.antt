@@ -1,7 +1,6 @@
-use Rattle.std.proofs.Common.{◌≡◌, sym, ◌∙◌, ap, subst, ℕ}
+use Rattle.std.proofs.Common.{sym, ◌∙◌, ap, subst, ℕ}
 use Rattle.std.specs.Prelude.{Option}
 use Rattle.tran_core.specs.Wants.{did}
-use Rattle.tran_core.specs.Wants as wanted
 use Rattle.tran_fates.specs.declared.cause.Cause.{Cause}
 use Rattle.tran_run.specs.Ways.{IsAnswered, slot_refusal}
 use Rattle.tran_run.proofs.Onward.{halted, change_goes, change_needs}

@@ -1,4 +1,4 @@
-use Rattle.std.proofs.Common.{◌≡◌, sym, subst}
+use Rattle.std.proofs.Common.{subst}
 use Rattle.tran_run.specs.declared.way.Way.{Way}
 use Rattle.tran_run.specs.Ways.{Goes}
 use Rattle.tran_run.proofs.Ending.{ends_err}

@@ -1,7 +1,5 @@
-use Rattle.std.proofs.Common.{◌≡◌, ◌∙◌, sym, ap, subst, List}
+use Rattle.std.proofs.Common.{◌∙◌, subst}
 use Rattle.std.specs.Prelude.{Option}
-use Rattle.ds_disk.specs.Contents.{Contents}
-use Rattle.serial_locks.specs.Standings.{Standing}
 use Rattle.tran_fates.specs.declared.cause.Cause.{Cause}
 use Rattle.tran_run.specs.Plays.{limits_of}
 use Rattle.tran_run.specs.Ways.{Comes}

@@ -1,7 +1,6 @@
-use Rattle.std.proofs.Common.{◌≡◌, ◌≤◌, ℕ, length, sym, ◌∙◌, ap, arith, List}
+use Rattle.std.proofs.Common.{◌≡◌, ℕ, length, ◌∙◌, ap, arith, List}
 use Rattle.tran_core.specs.declared.stage.Undone.{Undone}
 use Rattle.tran_core.specs.States.{State}
-use Rattle.tran_run.specs.Ways.{Follows}
 use Rattle.tran_run.proofs.Onward.{page_goes, page_halts}
 use Rattle.tran_run.proofs.Ending.{err_follows, undamaged}
 use Rattle.tran_run.proofs.Undos.{page_undo}
