@@ -1,5 +1,5 @@
 //! The copies of pages that the commands of a cache make, without the cache.
-ghost use Rattle.std.specs.Prelude.{◌<◌, length};
+ghost use Rattle.std.specs.Prelude.{◌≡◌, ◌<◌, length, IfOk};
 
 use crate::walk::Walk;
 use ds_base::NoMemory;
@@ -9,7 +9,9 @@ use std::alloc::Global;
 /// Copies so many pages, and one back for each fourth, from and to as many pages as there are entries.
 ///
 /// The pages lie in memory as those of a cache do, and the same are copied in the same order as by `run_pages`.
-pub fn run_copies(alloc: Global, entries: u32, walk: Walk, times: u32) -> Result<u64, NoMemory> {
+pub fn run_copies(alloc: Global, entries: u32, walk: Walk, times: u32) -> Result<u64, NoMemory>
+    ensures { IfOk result (λ count. count ≡ times) }
+{
     let mut pages = zero_pages(alloc, entries)?;
     let mut page = Page::zero(alloc)?;
     for turn in 0..times {

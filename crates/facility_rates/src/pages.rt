@@ -17,6 +17,7 @@ pub fn run_pages(
     times: u32,
 ) -> Result<u64, NoMemory>
     requires { 1 ≤ frames }
+    ensures { IfOk result (λ count. count ≡ times) }
 {
     let mut cache = new_cache(alloc, entries, frames)?;
     let mut page = Page::zero(alloc)?;
@@ -41,6 +42,7 @@ pub fn run_reads(
     times: u32,
 ) -> Result<u64, NoMemory>
     requires { 1 ≤ frames }
+    ensures { IfOk result (λ count. count ≡ times) }
 {
     let mut cache = new_cache(alloc, entries, frames)?;
     let mut page = Page::zero(alloc)?;
