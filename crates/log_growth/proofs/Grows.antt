@@ -66,7 +66,7 @@ chosen last tran xs mine ys lt own ux uy =
     ∙ ap (λ (l : List LogRecord). l ++ (filter p mine ++ filter p ys)) (same_chosen p q xs (kept_as_before last tran xs mine ys xs lt own ux))
     ∙ ap (λ (l : List LogRecord). filter q xs ++ (filter p mine ++ l)) (same_chosen p q ys (kept_as_before last tran xs mine ys ys lt own uy))
 
-numbers_of : (last : ℕ) (rs : List LogRecord) → AllByRecursion (IsUpTo last) rs → UpTo last rs
+pub numbers_of : (last : ℕ) (rs : List LogRecord) → AllByRecursion (IsUpTo last) rs → UpTo last rs
 numbers_of last rs h = all_weaker (IsUpTo last) (λ (r : LogRecord). r.lrsn ≤ last) (λ (r : LogRecord) u. u.0) rs h
 
 -- the rows of records with those of a transaction between them, whose numbers are greater

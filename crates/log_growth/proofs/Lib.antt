@@ -5,3 +5,4 @@ mod Grows
 mod Bytes
 mod Fronts
 mod Courses
+mod Chains

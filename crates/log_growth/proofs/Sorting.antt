@@ -58,7 +58,7 @@ up_to_put : (n : ℕ) (r : LogRecord) (rs : List LogRecord) → r.lrsn ≤ n →
 up_to_put n r [] le h = (le, tt)
 up_to_put n r (s ∷ ss) le h = up_to_when n (leb r.lrsn s.lrsn) (r ∷ s ∷ ss) (s ∷ put_by_lrsn r ss) (le, h) (h.0, up_to_put n r ss le h.1)
 
-up_to_sorted : (n : ℕ) (rs : List LogRecord) → UpTo n rs → UpTo n (by_lrsn rs)
+pub up_to_sorted : (n : ℕ) (rs : List LogRecord) → UpTo n rs → UpTo n (by_lrsn rs)
 up_to_sorted n [] h = tt
 up_to_sorted n (r ∷ rs) h = up_to_put n r (by_lrsn rs) h.0 (up_to_sorted n rs h.1)
 

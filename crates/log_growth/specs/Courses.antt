@@ -5,7 +5,7 @@ use Rattle.ds_model.specs.declared.log.LogRecord.{LogRecord}
 use Rattle.ds_model.specs.Rows.{Rows}
 use Rattle.ds_model.specs.RecordBytes.{record_bytes, log_bytes, IsAllowed}
 use Rattle.ds_model.specs.Logs.{StandFor}
-use Rattle.log_growth.specs.Growth.{AreOver, AreOf, is_of, is_neutral, grown, rows_behind}
+use Rattle.log_growth.specs.Growth.{AreOver, AreOf, is_of, is_neutral, grown, rows_behind, chain_of}
 
 -- where a transaction began: the logs and the rows that they stood for, the last number that was drawn, and the place of
 -- its member's log
@@ -89,6 +89,14 @@ EndsCourse = (s : Start) (tran high : ℕ) (mine : List LogRecord) (disk : List 
 abbrev pub NeutralsEnd : Type 0
 NeutralsEnd = (s : Start) (tran high upto : ℕ) (mine : List LogRecord) (disk : List (List ℕ)) → IsCourse s tran high mine disk [] → AllNeutral mine → s.last ≤ upto → AllByRecursion (λ (r : LogRecord). r.lrsn ≤ upto) mine
     → (disk ≡ map log_bytes (grown s.logs s.place mine)) × IsStart (record { logs = grown s.logs s.place mine; rows = s.rows; last = upto; place = s.place })
+
+-- the records of a transaction stand behind all others in the order of the numbers
+abbrev pub ChainGrows : Type 0
+ChainGrows = (s : Start) (tran high : ℕ) (mine : List LogRecord) (disk : List (List ℕ)) (pending : List ℕ) → IsCourse s tran high mine disk pending → chain_of (grown s.logs s.place mine) ≡ chain_of s.logs ++ mine
+
+-- and none of the others has a number that was drawn since
+abbrev pub ChainIsBehind : Type 0
+ChainIsBehind = (s : Start) → IsStart s → AllByRecursion (λ (r : LogRecord). r.lrsn ≤ s.last) (chain_of s.logs)
 
 -- at each moment, and after a stop inside the append of what is pending, the logs stand for the rows behind some of the records
 abbrev pub StandsOnTheWay : Type 0

@@ -7,11 +7,15 @@ use Rattle.ds_model.specs.declared.log.Body.{Body}
 use Rattle.ds_model.specs.declared.log.Body.TheVariants as body
 use Rattle.ds_model.specs.Rows.{Rows}
 use Rattle.ds_model.specs.RecordBytes.{log_bytes, IsAllowed}
-use Rattle.ds_model.specs.Logs.{IsTorn, StandFor, has_commit, after_records, rows_of_logs}
+use Rattle.ds_model.specs.Logs.{IsTorn, StandFor, has_commit, by_lrsn, after_records, rows_of_logs}
 
 -- all records, log by log
 abbrev pub flat : List (List LogRecord) → List LogRecord
 flat logs = flat_map (λ (l : List LogRecord). l) logs
+
+-- all records in the order of their numbers, which is the order in which they change pages
+abbrev pub chain_of : List (List LogRecord) → List LogRecord
+chain_of logs = by_lrsn (flat logs)
 
 -- no record, and no transaction of one, has a greater number
 abbrev pub IsUpTo : ℕ → LogRecord → Type 0

@@ -4,7 +4,7 @@
 //! The crate has definitions and proofs alone. Its functions do nothing: their contracts are the laws.
 #![tactic(auto)]
 
-ghost use Rattle.log_growth.specs.Courses.{BeginsCourse, PutsRecord, ForcesRecords, GetsNumber, EndsCourse, NeutralsEnd, StandsOnTheWay, StandsTorn};
+ghost use Rattle.log_growth.specs.Courses.{BeginsCourse, PutsRecord, ForcesRecords, GetsNumber, EndsCourse, NeutralsEnd, ChainGrows, ChainIsBehind, StandsOnTheWay, StandsTorn};
 ghost use Rattle.log_growth.specs.Growth.{StartsEmpty, PassesNumbers, GrowsByTransactions, AppendsFollow, StandsForRows, BytesGrow, StaysAllowed, CutsWhole, TornStands};
 
 /// A transaction adds its row changes to the rows that logs stand for exactly where it commits.
@@ -25,7 +25,8 @@ pub fn byte_laws()
 {}
 
 /// The records of the transaction in hand go through a log buffer to its member's log. At each moment, and after a stop
-/// inside an append, the logs stand for the rows behind some of them, from the first on.
+/// inside an append, the logs stand for the rows behind some of them, from the first on. In the order of the numbers of all
+/// records they stand last.
 pub fn course_laws()
     ensures begins { BeginsCourse }
     ensures puts { PutsRecord }
@@ -33,6 +34,8 @@ pub fn course_laws()
     ensures number { GetsNumber }
     ensures ends { EndsCourse }
     ensures neutral { NeutralsEnd }
+    ensures chain { ChainGrows }
+    ensures behind { ChainIsBehind }
     ensures stands { StandsOnTheWay }
     ensures torn { StandsTorn }
 {}

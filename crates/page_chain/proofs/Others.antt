@@ -1,5 +1,5 @@
 -- What one record makes of one page.
-use Rattle.std.proofs.Common.{◌≡◌, ◌≢◌, ℕ, ◌+◌, ◌-◌, ◌*◌, ◌<◌, ◌≤◌, ◌^◌, Bool, true, false, ◌||◌, cond, List, [], ◌∷◌, ◌++◌, length, replicate, Option, Some, None, refl, sym, ap, subst, ◌∙◌, arith}
+use Rattle.std.proofs.Common.{◌≡◌, ℕ, ◌+◌, ◌-◌, ◌<◌, ◌^◌, Bool, true, false, ◌||◌, cond, List, [], ◌∷◌, ◌++◌, length, replicate, Option, Some, None, refl, ap, subst, ◌∙◌, arith}
 use Rattle.std.proofs.lemmas.List.{length-append, length-replicate}
 use Rattle.std.specs.List.{AllByRecursion, list_any}
 use Rattle.ds_base.specs.declared.names.PageId.{PageId}
@@ -10,12 +10,12 @@ use Rattle.ds_model.specs.declared.log.Body.TheVariants as body
 use Rattle.ds_model.specs.RecordBytes.{IsAllowed, StateIsAllowed, ChangeIsAllowed, PatchIsAllowed, BodyIsAllowed}
 use Rattle.page_format.specs.Fields.{lrsn_of}
 use Rattle.page_format.specs.declared.patch.Patch.{Patch}
-use Rattle.heap_space.specs.Slots.{head, padded, image}
+use Rattle.heap_space.specs.Slots.{head, image}
 use Rattle.heap_space.specs.Written.{written}
 use Rattle.index_leaf.specs.Nodes.{is_same, patches_for, all_stamped}
 use Rattle.page_images.specs.Images.{zeros, IsFree}
 use Rattle.page_images.specs.Parts.{AreWithin}
-use Rattle.page_chain.specs.Chains.{row_patch, changes_of, touches, after_record, version_from}
+use Rattle.page_chain.specs.Chains.{row_patch, changes_of, touches, after_record}
 
 -- ---- the patches of a record lie in their pages
 

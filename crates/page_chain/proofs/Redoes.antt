@@ -1,5 +1,5 @@
 -- Redo of records by the numbers of pages, and the records that a version needs.
-use Rattle.std.proofs.Common.{◌≡◌, ℕ, ◌+◌, ◌<◌, ◌≤◌, Bool, true, false, cond, nat_lt, nat_le, List, [], ◌∷◌, ◌++◌, length, refl, sym, ap, subst, ◌∙◌, arith}
+use Rattle.std.proofs.Common.{◌≡◌, ℕ, ◌<◌, ◌≤◌, Bool, true, false, cond, nat_lt, nat_le, List, [], ◌∷◌, ◌++◌, length, refl, sym, ap, ◌∙◌, arith}
 use Rattle.std.proofs.lemmas.Bool.Decides.{nat_tests}
 use Rattle.std.specs.List.{AllByRecursion}
 use Rattle.ds_base.specs.declared.names.PageId.{PageId}
@@ -9,7 +9,7 @@ use Rattle.page_format.specs.Fields.{lrsn_of}
 use Rattle.page_images.specs.Images.{zeros}
 use Rattle.page_chain.specs.Chains.{changes_of, touches, after_record, version_from, version_of, redo, AreInOrder, AreRecords, up_to}
 use Rattle.page_chain.proofs.Others.{Stamping, others_stay, record_whole, record_stamps}
-use Rattle.page_chain.proofs.Order.{no_less, greater, number_after, number_rises, version_whole, version-append, above_is_other}
+use Rattle.page_chain.proofs.Order.{greater, number_after, version_whole, version-append, above_is_other}
 
 below : (m n : ℕ) → nat_lt m n ≡ true → m < n
 below m n e = grind (arith, nat_tests)

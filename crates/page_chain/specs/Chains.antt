@@ -1,5 +1,5 @@
 -- What log records make of the pages, one after the other, and what redo makes of a page that has had some of them.
-use Rattle.std.specs.Prelude.{◌≡◌, ◌≢◌, ℕ, ◌+◌, ◌<◌, ◌≤◌, ◌^◌, nat_lt, nat_le, Bool, true, false, if◌then◌else◌, List, [], ◌∷◌, ◌++◌, filter}
+use Rattle.std.specs.Prelude.{◌≡◌, ℕ, ◌<◌, ◌≤◌, nat_lt, nat_le, Bool, true, false, if◌then◌else◌, List, [], ◌∷◌, ◌++◌, filter}
 use Rattle.std.specs.List.{list_any, AllByRecursion}
 use Rattle.ds_base.specs.declared.names.PageId.{PageId}
 use Rattle.ds_model.specs.declared.log.LogRecord.{LogRecord}
@@ -52,6 +52,13 @@ version_of id records = version_from id zeros records
 -- all pages after these records
 abbrev pub images_of : List LogRecord → Images
 images_of records = λ id. version_of id records
+
+-- the bytes are the page after some of these records, from the first on
+pub record IsVersion (id : PageId) (records : List LogRecord) (page : List ℕ) : Type 0 where
+  pub first : List LogRecord
+  pub rest : List LogRecord
+  pub whole : records ≡ first ++ rest
+  pub bytes : page ≡ version_of id first
 
 -- ---- redo: a record is applied where its number is above the page's
 

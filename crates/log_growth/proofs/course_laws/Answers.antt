@@ -1,4 +1,5 @@
 use Rattle.log_growth.proofs.Courses.{begins, puts, forces, gets_number, ends, neutrals_end, stands_on, stands_torn}
+use Rattle.log_growth.proofs.Chains.{chain_grows, chain_is_behind}
 use Rattle.log_growth.proofs.course_laws.Goals as goal
 
 pub returns-clause-begins : goal.returns-clause-begins
@@ -24,3 +25,9 @@ returns-clause-torn c = stands_torn
 
 pub returns-clause-neutral : goal.returns-clause-neutral
 returns-clause-neutral c = neutrals_end
+
+pub returns-clause-chain : goal.returns-clause-chain
+returns-clause-chain c = chain_grows
+
+pub returns-clause-behind : goal.returns-clause-behind
+returns-clause-behind c = chain_is_behind

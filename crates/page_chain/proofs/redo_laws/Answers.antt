@@ -1,4 +1,3 @@
-use Rattle.page_chain.proofs.Others.{Stamping}
 use Rattle.page_chain.proofs.Redoes.{redo_reaches, bears_its_number, number_tells}
 use Rattle.page_chain.proofs.redo_laws.Goals as goal
 
