@@ -1,21 +1,19 @@
 -- What each step of the frames keeps of the pages that are presented.
-use Rattle.std.proofs.Common.{◌≡◌, ◌≢◌, ℕ, ◌<◌, ◌≤◌, Bool, true, false, ◌⊎◌, inl, inr, List, [], length, get_or, Option, Some, None, refl, sym, ap, subst, ◌∙◌, true≢false, arith, slice_set}
+use Rattle.std.proofs.Common.{◌≡◌, ℕ, ◌<◌, ◌≤◌, Bool, true, false, ◌⊎◌, inl, inr, List, [], length, Option, Some, None, refl, sym, ap, subst, ◌∙◌, true≢false, arith, slice_set}
 use Rattle.std.specs.FinMap as map
-use Rattle.std.specs.Prelude.{slice_index_or}
-use Rattle.std.proofs.lemmas.Bool.Decides.{eqb_tells}
-use Rattle.std.proofs.lemmas.List.{get_or-set_same, get_or-set_other, length-set}
+use Rattle.std.proofs.lemmas.List.{get_or-set_same, get_or-set_other}
 use Rattle.ds_base.specs.declared.names.PageId.{PageId}
 use Rattle.ds_disk.specs.Contents.{Contents}
 use Rattle.ds_disk.specs.Pages.{page_at}
 use Rattle.page_format.specs.Fields.{lrsn_of}
 use Rattle.member_pool.specs.declared.frame.Frame.{Frame}
-use Rattle.member_pool.specs.Frames.{holds, free_frame, frame_at, find_page}
+use Rattle.member_pool.specs.Frames.{holds, free_frame, find_page}
 use Rattle.member_pool.specs.Pools.{PoolState, frame_of, with_frame}
 use Rattle.buffer_manager.specs.declared.state.BufferState.{BufferState}
-use Rattle.buffer_manager.specs.States.{bytes_of, present_in, present, IsLogged, IsClean, Backs}
+use Rattle.buffer_manager.specs.States.{bytes_of, present_in, present, IsClean, Backs}
 use Rattle.buffer_manager.specs.Goings.{AreSound, Keeps}
-use Rattle.buffer_manager.proofs.Finds.{AreApart, at_same, at_other, held_in, one_page, find_in, find_some, misses, find_none, find_kept, find_gone, find_new, each_set}
-use Rattle.buffer_manager.proofs.Pages.{page_written, page_other, each_page}
+use Rattle.buffer_manager.proofs.Finds.{one_page, find_some, misses, find_kept, find_gone, find_new, each_set}
+use Rattle.buffer_manager.proofs.Pages.{page_other, each_page}
 
 -- the same manager with these frames
 abbrev pub with_pool : BufferState → PoolState → BufferState
@@ -31,6 +29,7 @@ lrsn_put b c f id sound h backs = subst (λ (bytes : List ℕ). lrsn_of bytes �
 pub keeps_by : (b : BufferState) (p : PoolState) (c : Contents) → (Backs b c → (q : PageId) → present p c q ≡ present b.pool c q) → (Backs b c → IsClean p c) → Keeps b (with_pool b p) c c
 keeps_by b p c same clean = record {
   pages = same;
+  disk = λ backs id. inl refl;
   backs = λ backs. record {
     clean = clean backs;
     logged = record {
@@ -49,6 +48,7 @@ pub keeps_write : (b : BufferState) (c : Contents) (f : ℕ) (id : PageId) → A
     → Keeps b b c (after_write c id (bytes_of b.pool f))
 keeps_write b c f id sound h stable = record {
   pages = λ backs q. same q;
+  disk = λ backs. each_page (λ p bytes. (bytes ≡ page_at c.pages p) ⊎ (bytes ≡ present b.pool c p)) c.pages id (bytes_of b.pool f) (inr (sym (presents_held b.pool c f id sound h))) (λ p other. inl refl);
   backs = λ backs. record {
     clean = λ g q t clean. each_page (λ p bytes. holds p (frame_of b.pool g) ≡ true → bytes_of b.pool g ≡ bytes) c.pages id (bytes_of b.pool f)
         (λ own. ap (bytes_of b.pool) (some_is g f (sym (sound.apart g id own) ∙ sound.apart f id h)))

@@ -1,5 +1,5 @@
 -- Logs that get more bytes.
-use Rattle.std.proofs.Common.{◌≡◌, ℕ, zero, suc, ◌-◌, List, [], ◌∷◌, ◌++◌, set, get_or, Option, Some, None, refl, sym, ap, ◌∙◌, append_assoc}
+use Rattle.std.proofs.Common.{◌≡◌, ℕ, zero, suc, ◌-◌, List, [], ◌∷◌, ◌++◌, set, get_or, Option, Some, None, refl, sym, ap, append_assoc}
 use Rattle.ds_disk.specs.Contents.{Contents, Becomes}
 use Rattle.buffer_manager.specs.States.{with_more}
 

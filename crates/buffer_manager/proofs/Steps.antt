@@ -16,8 +16,9 @@ use Rattle.member_pool.specs.Pools.{PoolState, frame_of, with_frame, dropped}
 use Rattle.buffer_manager.specs.declared.state.BufferState.{BufferState}
 use Rattle.buffer_manager.specs.States.{bytes_of, holding_read, present, present_in, Backs}
 use Rattle.buffer_manager.specs.Goings.{AreSound, Keeps, Alters, unmarked, altered}
-use Rattle.buffer_manager.proofs.Finds.{AreApart, at_same, one_page, each_set, apart_kept, apart_gone, apart_new, held_in, own_page, same_name, find_kept, find_some, find_none}
-use Rattle.buffer_manager.proofs.Pages.{page_written}
+use Rattle.buffer_manager.specs.Ranks.{SameOthers}
+use Rattle.buffer_manager.proofs.Finds.{AreApart, one_page, each_set, apart_kept, apart_gone, apart_new, held_in, own_page, same_name, find_kept, find_some, find_none}
+use Rattle.buffer_manager.proofs.Pages.{page_written, page_other}
 use Rattle.buffer_manager.proofs.Keeping.{with_pool, keeps_by, keeps_write, keeps_marked, keeps_drop, keeps_read, keeps_placed, presents_held}
 use Rattle.buffer_manager.proofs.Goings.{Step, keeps_trans}
 use Rattle.buffer_manager.proofs.Logs.{becomes_map}
@@ -52,6 +53,10 @@ step_write b c d f id page sound h is stable (inl e) =
 step_write b c d f id page sound h is stable (inr e) =
     subst (λ (t : Contents). Step b b c t) (sym (e ∙ ap (λ p. record c { pages = map.insert c.pages id p }) is))
     (record { keeps = keeps_write b c f id sound h stable; logs = refl })
+
+pub others_stay : (c d : Contents) (id : PageId) (page : List ℕ) → Same c d ⊎ (d ≡ record c { pages = map.insert c.pages id page }) → SameOthers id c d
+others_stay c d id page (inl e) q other = ap (λ (t : Contents). page_at t.pages q) e
+others_stay c d id page (inr e) q other = ap (λ (t : Contents). page_at t.pages q) e ∙ page_other c.pages id q page other
 
 pub either : {A B : Type 0} → A ⊎ (A ⊎ B) → A ⊎ B
 either (inl a) = inl a
@@ -131,17 +136,18 @@ sound_altered pool p f bytes sound l is =
     (apart_kept pool.frames f (record (frame_of pool f) { changed = true }) l sound.apart (λ q. refl)) (λ q h. sound.filled f q h) (sound.unpinned f)
 
 alters_pool : (change : List ℕ → List ℕ) (b : BufferState) (c : Contents) (f : ℕ) (id : PageId) → AreSound b.pool → holds id (frame_of b.pool f) ≡ true
-    → lrsn_of (change (bytes_of b.pool f)) ≤ b.log.last → Alters id change b (with_pool b (altered b.pool f (change (bytes_of b.pool f)))) c c
+    → (Backs b c → lrsn_of (change (bytes_of b.pool f)) ≤ b.log.last) → Alters id change b (with_pool b (altered b.pool f (change (bytes_of b.pool f)))) c c
 alters_pool change b c f id sound h put = record {
   own = λ backs. own;
   others = λ backs q other. others q other;
+  disk = λ backs q. inl refl;
   backs = λ backs. record {
     clean = λ g q. each_set (λ n y. holds q y ≡ true → y.changed ≡ false → bytes_of p n ≡ page_at c.pages q) b.pool.frames f x l
         (λ n other t clean. get_or-set_other b.pool.pages f n new [] other ∙ backs.clean n q t clean) (λ t clean. absurd (true≢false clean)) g;
     logged = record {
       on_disk = backs.logged.on_disk;
       presents = λ q. elim (is_page q) [
-        | inl e ↦ subst (λ k. lrsn_of (present p c k) ≤ b.log.last) (sym e) (subst (λ (bytes : List ℕ). lrsn_of bytes ≤ b.log.last) (sym own_bytes) put)
+        | inl e ↦ subst (λ k. lrsn_of (present p c k) ≤ b.log.last) (sym e) (subst (λ (bytes : List ℕ). lrsn_of bytes ≤ b.log.last) (sym own_bytes) (put backs))
         | inr e ↦ subst (λ (bytes : List ℕ). lrsn_of bytes ≤ b.log.last) (sym (others q e)) (backs.logged.presents q)
       ];
     };
@@ -182,13 +188,14 @@ alters_pool change b c f id sound h put = record {
 
 -- a fetch, and then the change
 pub step_alter : (change : List ℕ → List ℕ) (a b : BufferState) (c d : Contents) (p : PoolState) (f : ℕ) (id : PageId) → AreSound b.pool → holds id (frame_of b.pool f) ≡ true
-    → lrsn_of (change (bytes_of b.pool f)) ≤ b.log.last → p ≡ altered b.pool f (change (bytes_of b.pool f)) → Keeps a b c d → Alters id change a (with_pool b p) c d
+    → (Backs b d → lrsn_of (change (bytes_of b.pool f)) ≤ b.log.last) → p ≡ altered b.pool f (change (bytes_of b.pool f)) → Keeps a b c d → Alters id change a (with_pool b p) c d
 step_alter change a b c d p f id sound h put is keeps =
     subst (λ (s : PoolState). Alters id change a (with_pool b s) c d) (sym is)
     (let alters = alters_pool change b d f id sound h put in
     record {
       own = λ backs. alters.own (keeps.backs backs) ∙ ap change (keeps.pages backs id);
       others = λ backs q other. alters.others (keeps.backs backs) q other ∙ keeps.pages backs q;
+      disk = keeps.disk;
       backs = λ backs. alters.backs (keeps.backs backs);
     })
 
@@ -242,3 +249,6 @@ backs_new n b c frames log fresh =
         presents = λ id. subst (λ (bytes : List ℕ). lrsn_of bytes ≤ b.log.last) (sym (ap (present_in b.pool c id) (none_found n b.pool.frames frames id))) (omega (arith, fresh id, last));
       };
     }
+
+pub room_new : (n capacity : ℕ) (frames : List Frame) → frames ≡ replicate n free_frame → n ≤ capacity → length frames ≤ capacity
+room_new n capacity frames is room = subst (λ (k : ℕ). k ≤ capacity) (sym (ap length is ∙ length-replicate n free_frame)) room

@@ -1,5 +1,5 @@
 -- What two calls on one frame make of a pool.
-use Rattle.std.proofs.Common.{◌≡◌, ℕ, zero, suc, ◌+◌, ◌-◌, ◌<◌, Bool, true, List, [], ◌∷◌, ◌++◌, false, nat_eq, length, refl, sym, ap, ◌∙◌, arith, slice_set}
+use Rattle.std.proofs.Common.{◌≡◌, ℕ, zero, suc, ◌+◌, ◌-◌, ◌<◌, Bool, true, List, [], ◌∷◌, ◌++◌, false, nat_eq, length, refl, ap, ◌∙◌, arith, slice_set}
 use Rattle.std.proofs.lemmas.List.{set-set}
 use Rattle.ds_base.specs.declared.names.PageId.{PageId}
 use Rattle.member_pool.specs.declared.frame.Frame.{Frame}

@@ -1,7 +1,8 @@
 -- How a buffer manager and the disk go on together.
-use Rattle.std.specs.Prelude.{ℕ, ◌≡◌, ◌≢◌, ◌⊎◌, ◌≤◌, Bool, true, false, List, ◌++◌, length, take, slice_set, Option, Some, Result, IsErrOf}
+use Rattle.std.specs.Prelude.{ℕ, ◌≡◌, ◌≢◌, ◌⊎◌, ◌≤◌, Bool, true, false, List, length, take, slice_set, Option, Some, Result, IsErrOf}
 use Rattle.ds_base.specs.declared.names.PageId.{PageId}
 use Rattle.ds_disk.specs.Contents.{Contents, Becomes}
+use Rattle.ds_disk.specs.Pages.{page_at}
 use Rattle.ds_disk.specs.declared.disk.DiskError.{DiskError}
 use Rattle.ds_disk.specs.declared.disk.DiskError.TheVariants.{Failed}
 use Rattle.ds_model.specs.declared.log.LogRecord.{LogRecord}
@@ -28,15 +29,21 @@ pub record IsManaged (b : BufferState) : Type 0 where
 
 -- ---- how it goes on
 
+-- each page on disk is as it was there, or as it was presented
+abbrev pub AreWritten : BufferState → Contents → Contents → Type 0
+AreWritten b c d = (id : PageId) → (page_at d.pages id ≡ page_at c.pages id) ⊎ (page_at d.pages id ≡ present b.pool c id)
+
 -- each page is as before, and log before page
 pub record Keeps (b now : BufferState) (c d : Contents) : Type 0 where
   pub pages : Backs b c → (id : PageId) → present now.pool d id ≡ present b.pool c id
+  pub disk : Backs b c → AreWritten b c d
   pub backs : Backs b c → Backs now d
 
--- this page is changed so, and every other is as before
+-- this page is changed so in its frame, and every other is as before
 pub record Alters (id : PageId) (change : List ℕ → List ℕ) (b now : BufferState) (c d : Contents) : Type 0 where
   pub own : Backs b c → present now.pool d id ≡ change (present b.pool c id)
   pub others : Backs b c → (q : PageId) → q ≢ id → present now.pool d q ≡ present b.pool c q
+  pub disk : Backs b c → AreWritten b c d
   pub backs : Backs b c → Backs now d
 
 -- a front of the pending bytes stands at the end of the member's log

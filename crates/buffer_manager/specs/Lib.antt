@@ -1,2 +1,4 @@
 pub mod Goings
+pub mod Lists
+pub mod Ranks
 pub mod States

@@ -6,8 +6,7 @@ use Rattle.ds_disk.specs.Contents.{Contents, log_of}
 use Rattle.member_pool.specs.declared.frame.Frame.{Frame}
 use Rattle.member_pool.specs.Frames.{holding, holds, find_page}
 use Rattle.member_pool.specs.Pools.{PoolState, frame_of}
-use Rattle.page_format.specs.Fields.{lrsn_of, patched, set_lrsn}
-use Rattle.page_format.specs.declared.patch.Patch.{Patch}
+use Rattle.page_format.specs.Fields.{lrsn_of}
 use Rattle.buffer_manager.specs.declared.state.BufferState.{BufferState}
 
 -- ---- pages
@@ -27,10 +26,6 @@ present_in pool c id (Some f) = bytes_of pool f
 -- the page as the frame has it that holds it, or else as the disk has it
 abbrev pub present : PoolState → Contents → PageId → List ℕ
 present pool c id = present_in pool c id (find_page pool.frames id)
-
--- the page with the bytes of this patch, and this number as that of its last change
-abbrev pub patched_by : Patch → ℕ → List ℕ → List ℕ
-patched_by patch lrsn page = set_lrsn (patched page patch.offset patch.bytes) lrsn
 
 -- ---- logs
 

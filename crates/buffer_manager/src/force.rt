@@ -15,6 +15,7 @@ pub fn force<D: Disk>(b: &mut BufferState, disk: &mut D) -> Result<(), DiskError
     requires sound { IsManaged b.old }
     ensures sound { IsManaged b.new }
     ensures goes { Goes (D.alive disk.old) (D.alive disk.new) (D.contents disk.old) (D.contents disk.new) b.old b.new result }
+    ensures pages { Becomes (D.contents disk.old) (D.contents disk.new) (λ c d. d.pages ≡ c.pages) }
     ensures cause { HasCause (D.faults disk.old) (D.faults disk.new) result }
     ensures ok { OnOk result (b.new ≡ forced b.old) }
     ensures err { OnErr result (b.new ≡ b.old) }
@@ -33,6 +34,7 @@ fn make_room<D: Disk>(b: &mut BufferState, disk: &mut D, length: usize) -> Resul
     ensures sound { IsManaged b.new }
     ensures room { OnOk result (length ≤ room_of b.new.log) }
     ensures goes { Goes (D.alive disk.old) (D.alive disk.new) (D.contents disk.old) (D.contents disk.new) b.old b.new result }
+    ensures pages { Becomes (D.contents disk.old) (D.contents disk.new) (λ c d. d.pages ≡ c.pages) }
     ensures cause { HasCause (D.faults disk.old) (D.faults disk.new) result }
     ensures last { b.new.log.last ≡ b.old.log.last }
     ensures pool { b.new.pool ≡ b.old.pool }
@@ -51,6 +53,7 @@ pub fn put<D: Disk>(b: &mut BufferState, disk: &mut D, it: &LogRecord) -> Result
     requires fits { Fits it.now }
     requires next { b.old.log.last ≤ it.now.lrsn }
     ensures sound { IsManaged b.new }
+    ensures pages { Becomes (D.contents disk.old) (D.contents disk.new) (λ c d. d.pages ≡ c.pages) }
     ensures keeps { Becomes (D.contents disk.old) (D.contents disk.new) (Keeps b.old b.new) }
     ensures ok { OnOk result (Becomes (D.contents disk.old) (D.contents disk.new) (λ c d. logs_with_pending b.new d ≡ with_more (logs_with_pending b.old c) b.old.member (record_bytes it.now))) }
     ensures way { OnOk result (PutsBehind (D.contents disk.old) (D.contents disk.new) b.old b.new it.now) }

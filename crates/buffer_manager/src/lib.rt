@@ -6,6 +6,8 @@ mod fetch;
 mod force;
 mod frames;
 mod manager;
+mod marked;
+mod order;
 mod state;
 mod write;
 

@@ -8,6 +8,7 @@ ghost use Rattle.member_pool.specs.Pools.{frame_of};
 ghost use Rattle.page_format.specs.Fields.{lrsn_of};
 ghost use Rattle.buffer_manager.specs.States.{bytes_of, Backs};
 ghost use Rattle.buffer_manager.specs.Goings.{IsManaged, Goes, unmarked};
+ghost use Rattle.buffer_manager.specs.Ranks.{IsFirst, WritesInOrder, StoresInOrder, Clears, SameOthers};
 
 use crate::force::force;
 use crate::frames::read_lrsn;
@@ -28,6 +29,7 @@ fn force_for<D: Disk>(
     ensures sound { IsManaged b.new }
     ensures goes { Goes (D.alive disk.old) (D.alive disk.new) (D.contents disk.old) (D.contents disk.new) b.old b.new result }
     ensures stable { OnOk result (WhenTold (D.contents disk.new) (λ d. Backs b.new d → lrsn_of (bytes_of b.new.pool frame) ≤ b.new.log.stable)) }
+    ensures pages { Becomes (D.contents disk.old) (D.contents disk.new) (λ c d. d.pages ≡ c.pages) }
     ensures pool { b.new.pool ≡ b.old.pool }
     ensures cause { HasCause (D.faults disk.old) (D.faults disk.new) result }
 {
@@ -38,7 +40,7 @@ fn force_for<D: Disk>(
     }
 }
 
-// Writes a page whose last change is stable.
+// Writes a page whose last change is stable, and before which no other has to be written.
 #[tactic(auto, using(crate::proofs::Finds::held_in))]
 fn write_page<D: Disk>(
     b: &BufferState,
@@ -48,9 +50,11 @@ fn write_page<D: Disk>(
 ) -> Result<(), DiskError>
     requires sound { IsManaged b.now }
     requires held { holds id (frame_of b.now.pool frame) ≡ true }
+    requires first { IsFirst b.now.pool id }
     requires stable { WhenTold (D.contents disk.old) (λ c. Backs b.now c → lrsn_of (bytes_of b.now.pool frame) ≤ b.now.log.stable) }
     ensures goes { Goes (D.alive disk.old) (D.alive disk.new) (D.contents disk.old) (D.contents disk.new) b.now b.now result }
     ensures quiet { Becomes (D.contents disk.old) (D.contents disk.new) (λ c d. d.logs ≡ c.logs) }
+    ensures others { Becomes (D.contents disk.old) (D.contents disk.new) (SameOthers id) }
     ensures written { OnOk result (Becomes (D.contents disk.old) (D.contents disk.new) (λ _ d. page_at d.pages id ≡ bytes_of b.now.pool frame)) }
     ensures cause { HasCause (D.faults disk.old) (D.faults disk.new) result }
 {
@@ -67,10 +71,12 @@ fn write_back<D: Disk>(
 ) -> Result<(), DiskError>
     requires sound { IsManaged b.old }
     requires held { holds id (frame_of b.old.pool frame) ≡ true }
+    requires first { IsFirst b.old.pool id }
     requires stable { WhenTold (D.contents disk.old) (λ c. Backs b.old c → lrsn_of (bytes_of b.old.pool frame) ≤ b.old.log.stable) }
     ensures sound { IsManaged b.new }
     ensures goes { Goes (D.alive disk.old) (D.alive disk.new) (D.contents disk.old) (D.contents disk.new) b.old b.new result }
     ensures quiet { Becomes (D.contents disk.old) (D.contents disk.new) (λ c d. d.logs ≡ c.logs) }
+    ensures others { Becomes (D.contents disk.old) (D.contents disk.new) (SameOthers id) }
     ensures log { b.new.log ≡ b.old.log }
     ensures found { (q : PageId) → find_page b.new.pool.frames q ≡ find_page b.old.pool.frames q }
     ensures ok { OnOk result (b.new.pool ≡ (unmarked b.old frame).pool) }
@@ -82,7 +88,8 @@ fn write_back<D: Disk>(
     Ok(())
 }
 
-/// Writes a changed page to the disk, its records first.
+/// Writes a changed page to the disk, its records first. No page has to be written before it.
+#[tactic(auto, using(crate::proofs::Finds::held_in, crate::proofs::Marks::clean_clears, crate::proofs::Marks::clean_in_order))]
 pub fn clean<D: Disk>(
     b: &mut BufferState,
     disk: &mut D,
@@ -91,8 +98,12 @@ pub fn clean<D: Disk>(
 ) -> Result<(), DiskError>
     requires sound { IsManaged b.old }
     requires held { holds id (frame_of b.old.pool frame) ≡ true }
+    requires first { IsFirst b.old.pool id }
     ensures sound { IsManaged b.new }
     ensures goes { Goes (D.alive disk.old) (D.alive disk.new) (D.contents disk.old) (D.contents disk.new) b.old b.new result }
+    ensures clears { Clears b.old.pool b.new.pool }
+    ensures in_order { WritesInOrder b.old.pool b.new.pool }
+    ensures stored { Becomes (D.contents disk.old) (D.contents disk.new) (StoresInOrder b.old.pool b.new.pool) }
     ensures found { (q : PageId) → find_page b.new.pool.frames q ≡ find_page b.old.pool.frames q }
     ensures ok { OnOk result (b.new.pool ≡ (unmarked b.old frame).pool) }
     ensures err { OnErr result (b.new.pool ≡ b.old.pool) }

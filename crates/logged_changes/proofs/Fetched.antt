@@ -8,9 +8,10 @@ use Rattle.buffer_manager.specs.States.{bytes_of, present, Backs}
 use Rattle.buffer_manager.specs.Goings.{Keeps}
 use Rattle.logged_changes.specs.declared.halt.Halt.{Halt}
 use Rattle.logged_changes.specs.declared.work.Work.{Work}
-use Rattle.logged_changes.specs.Trips.{Trip, tran_of, high_of, IsOn}
+use Rattle.logged_changes.specs.Trips.{Trip, chain_at, tran_of, high_of, IsOn}
 use Rattle.logged_changes.specs.Steps.{Carries, KeepsCourse, Stops}
 use Rattle.logged_changes.specs.Fetches.{Stays}
+use Rattle.logged_changes.proofs.Versions.{versions_kept}
 use Rattle.logged_changes.proofs.Ways.{halts}
 
 -- the transaction is where it was
@@ -32,6 +33,7 @@ stays_on t w b (Some c) (Some d) on course keeps last =
       };
       backs = keeps.backs on.backs;
       images = λ id. keeps.pages on.backs id ∙ on.images id;
+      versions = versions_kept (chain_at t) t.at w.buffers c d on.images on.versions (keeps.disk on.backs);
     }
 
 -- and the page is as it has it

@@ -1,6 +1,5 @@
 -- Calls of the buffer manager keep the course of a transaction's records.
-use Rattle.std.proofs.Common.{◌≡◌, ◌⊎◌, inl, inr, ℕ, ◌-◌, ◌≤◌, Bool, List, [], ◌∷◌, ◌++◌, length, take, Option, Some, None, Result, refl, sym, ap, subst, ◌∙◌, arith}
-use Rattle.ds_base.specs.declared.names.PageId.{PageId}
+use Rattle.std.proofs.Common.{◌≡◌, ◌⊎◌, inl, inr, ℕ, ◌+◌, ◌-◌, ◌≤◌, Bool, true, false, List, [], ◌∷◌, ◌++◌, length, take, Option, Some, None, Result, Ok, Err, OnOk, refl, sym, ap, subst, ◌∙◌, arith}
 use Rattle.ds_disk.specs.Contents.{Contents, Becomes}
 use Rattle.ds_disk.specs.declared.disk.DiskError.{DiskError}
 use Rattle.ds_disk.specs.declared.disk.DiskError.TheVariants as error
@@ -11,11 +10,12 @@ use Rattle.heap_space.specs.Written.{written}
 use Rattle.member_log.specs.Buffers.{LogBuffer, after_put, after_force}
 use Rattle.log_growth.specs.Courses.{Start, IsCourse, StandsBehind, MayFollow, with_bytes, PutsRecord, ForcesRecords, StandsOnTheWay, StandsTorn}
 use Rattle.buffer_manager.specs.declared.state.BufferState.{BufferState}
-use Rattle.buffer_manager.specs.States.{present, logs_with_pending}
-use Rattle.buffer_manager.specs.Goings.{Goes, AreQuiet, AreForced, AreTorn, GoesOn, PutsBehind}
+use Rattle.buffer_manager.specs.States.{logs_with_pending}
+use Rattle.buffer_manager.specs.Goings.{Alters, Goes, AreQuiet, AreForced, AreTorn, GoesOn, PutsBehind}
 use Rattle.logged_changes.specs.declared.halt.Halt.{Halt}
 use Rattle.logged_changes.specs.declared.halt.Halt.TheVariants as halt
-use Rattle.logged_changes.specs.Steps.{Carries, KeepsCourse, Follows, PutsNext, Leaves, Writes, HasChanged, Stops}
+use Rattle.logged_changes.specs.Steps.{Carries, KeepsCourse, Follows, PutsNext, Leaves, Writes, WritesSome, WritesNext, HasChanged, HasChangedSome, Stops, is_named}
+use Rattle.logged_changes.proofs.Named.{none_written, all_written, next_named, next_unnamed}
 
 -- ---- told contents
 
@@ -134,7 +134,7 @@ pub is_pending : (x y : Option Contents) (b now : BufferState) (r : LogRecord) �
 is_pending x y b now r (inl h) e = never_empty b.log.pending (record_bytes r) (some_bytes r) (sym (ap (λ (l : LogBuffer). l.pending) h.0) ∙ e)
 is_pending x y b now r (inr h) e = never_empty [] (record_bytes r) (some_bytes r) (sym (ap (λ (l : LogBuffer). l.pending) h.0) ∙ e)
 
--- ---- changes one after another
+-- ---- the pages of patches, one after another
 
 becomes_chain : (x y z : Option Contents) (P Q R : Contents → Contents → Type 0) → ((c d e : Contents) → P c d → Q d e → R c e) → Becomes x y P → Becomes y z Q → Becomes x z R
 becomes_chain None y z P Q R f g h = tt
@@ -146,35 +146,48 @@ becomes_same : (x : Option Contents) (P : Contents → Contents → Type 0) → 
 becomes_same None P f = tt
 becomes_same (Some c) P f = f c
 
-written-append : (id : PageId) (lrsn : ℕ) (ps qs : List Patch) (page : List ℕ) → written id lrsn (ps ++ qs) page ≡ written id lrsn qs (written id lrsn ps page)
-written-append id lrsn [] qs page = refl
-written-append id lrsn (p ∷ ps) qs page = written-append id lrsn ps qs _
-
-pub none_changed : (lrsn : ℕ) (b : BufferState) (x : Option Contents) → HasChanged lrsn [] b b x x
-none_changed lrsn b x = record {
+pub none_changed : (lrsn : ℕ) (patches : List Patch) (b : BufferState) (x : Option Contents) → HasChangedSome 0 lrsn patches b b x x
+none_changed lrsn patches b x = record {
   course = becomes_same x (KeepsCourse b b) (λ c. λ s tran high mine way. way);
-  pages = becomes_same x (Writes lrsn [] b b) (λ c. record { pages = λ backs id. refl; backs = λ backs. backs });
+  pages = becomes_same x (WritesSome 0 lrsn patches b b) (none_written lrsn patches b);
   last = refl;
   member = refl;
 }
 
-pub one_more_changed : (lrsn : ℕ) (ps qs more : List Patch) (b m now : BufferState) (x y z : Option Contents) → HasChanged lrsn ps b m x y → Becomes y z (KeepsCourse m now) → Becomes y z (Writes lrsn qs m now) → now.log.last ≡ m.log.last → now.member ≡ m.member
-    → more ≡ ps ++ qs → HasChanged lrsn more b now x z
-one_more_changed lrsn ps qs more b m now x y z h course pages last member is = record {
+pub one_more_changed : (upto lrsn : ℕ) (patches : List Patch) (b m now : BufferState) (x y z : Option Contents) → HasChangedSome upto lrsn patches b m x y → Becomes y z (KeepsCourse m now) → Becomes y z (WritesNext upto lrsn patches m now)
+    → now.log.last ≡ m.log.last → now.member ≡ m.member → HasChangedSome (upto + 1) lrsn patches b now x z
+one_more_changed upto lrsn patches b m now x y z h course pages last member = record {
   course = becomes_chain x y z (KeepsCourse b m) (KeepsCourse m now) (KeepsCourse b now) (λ c d e f g. λ s tran high mine way. g s tran high mine (f s tran high mine way)) h.course course;
-  pages = becomes_chain x y z (Writes lrsn ps b m) (Writes lrsn qs m now) (Writes lrsn more b now)
-      (λ c d e f g. record {
-        pages = λ backs id.
-            g.pages (f.backs backs) id
-            ∙ ap (written id lrsn qs) (f.pages backs id)
-            ∙ sym (written-append id lrsn ps qs (present b.pool c id))
-            ∙ sym (ap (λ (l : List Patch). written id lrsn l (present b.pool c id)) is);
-        backs = λ backs. g.backs (f.backs backs);
-      })
-      h.pages pages;
+  pages = becomes_chain x y z (WritesSome upto lrsn patches b m) (WritesNext upto lrsn patches m now) (WritesSome (upto + 1) lrsn patches b now) (λ c d e f g. g b c f) h.pages pages;
   last = last ∙ h.last;
   member = member ∙ h.member;
 }
+
+pub all_changed : (upto lrsn : ℕ) (patches : List Patch) (b now : BufferState) (x y : Option Contents) → upto ≡ length patches → HasChangedSome upto lrsn patches b now x y → HasChanged lrsn patches b now x y
+all_changed upto lrsn patches b now x y all h = record {
+  course = h.course;
+  pages = becomes x y (WritesSome upto lrsn patches b now) (Writes lrsn patches b now) (λ c d w. all_written lrsn patches b now c d (subst (λ n. WritesSome n lrsn patches b now c d) all w)) h.pages;
+  last = h.last;
+  member = h.member;
+}
+
+-- the page of a patch that one before names, or not
+pub next_where_named : (upto lrsn : ℕ) (patches : List Patch) (p : Patch) (m : BufferState) (x : Option Contents) → take (upto + 1) patches ≡ take upto patches ++ p ∷ [] → is_named p.page (take upto patches) ≡ true
+    → Becomes x x (WritesNext upto lrsn patches m m)
+next_where_named upto lrsn patches p m x next named = becomes_same x (WritesNext upto lrsn patches m m) (next_named lrsn patches upto p next named m)
+
+pub next_where_unnamed : (upto lrsn : ℕ) (patches : List Patch) (p : Patch) (m now : BufferState) (x y : Option Contents) → take (upto + 1) patches ≡ take upto patches ++ p ∷ [] → is_named p.page (take upto patches) ≡ false
+    → Becomes x y (Alters p.page (written p.page lrsn patches) m now) → Becomes x y (WritesNext upto lrsn patches m now)
+next_where_unnamed upto lrsn patches p m now x y next none h =
+    becomes x y (Alters p.page (written p.page lrsn patches) m now) (WritesNext upto lrsn patches m now) (next_unnamed lrsn patches upto p next none m now) h
+
+pub next_result : (upto lrsn : ℕ) (patches : List Patch) (p : Patch) (m now : BufferState) (x y : Option Contents) (r : Result (Unit {0}) Halt) → take (upto + 1) patches ≡ take upto patches ++ p ∷ [] → is_named p.page (take upto patches) ≡ false
+    → OnOk r (Becomes x y (Alters p.page (written p.page lrsn patches) m now)) → OnOk r (Becomes x y (WritesNext upto lrsn patches m now))
+next_result upto lrsn patches p m now x y (Ok u) next none h = next_where_unnamed upto lrsn patches p m now x y next none h
+next_result upto lrsn patches p m now x y (Err e) next none h = tt
+
+pub course_stays : (b : BufferState) (x : Option Contents) → Becomes x x (KeepsCourse b b)
+course_stays b x = becomes_same x (KeepsCourse b b) (λ c. λ s tran high mine way. way)
 
 pub stops_behind : (x y z : Option Contents) (b m : BufferState) (h : Halt) → Becomes x y (KeepsCourse b m) → Stops y z m h → Stops x z b h
 stops_behind x y z b m halt.NoMemory keeps s = tt

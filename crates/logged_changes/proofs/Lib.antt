@@ -1,3 +1,5 @@
+mod Named
+mod Versions
 mod Going
 mod Ways
 mod Endings

@@ -1,29 +1,34 @@
 -- A transaction on its way puts one record more, and what the logs stand for.
-use Rattle.std.proofs.Common.{◌^◌, ◌<◌, ◌≡◌, ℕ, ◌+◌, ◌≤◌, Bool, true, false, ◌||◌, ◌&&◌, eqb, List, [], ◌∷◌, ◌++◌, Option, Some, None, refl, sym, ap, subst, ◌∙◌, arith}
+use Rattle.std.proofs.Common.{◌≡◌, ℕ, ◌+◌, ◌-◌, ◌≤◌, length, Bool, true, false, ◌||◌, ◌&&◌, eqb, List, [], ◌∷◌, ◌++◌, Option, Some, None, refl, sym, ap, subst, ◌∙◌, arith, append_assoc}
+use Rattle.std.proofs.lemmas.List.{length-append}
 use Rattle.std.proofs.lemmas.List.Folds.{list_any-append}
+use Rattle.std.proofs.Math.Seq.{get_or-append_seam}
 use Rattle.std.specs.Prelude.{unwrap_or, Result, Ok, Err, OnOk, IfErr}
-use Rattle.std.specs.List.{AllByRecursion}
+use Rattle.std.specs.List.{AllByRecursion, slice_index}
 use Rattle.ds_base.specs.declared.names.PageId.{PageId}
 use Rattle.ds_disk.specs.Contents.{Contents, Becomes}
 use Rattle.ds_model.specs.declared.log.LogRecord.{LogRecord}
-use Rattle.ds_model.specs.declared.log.RowChange.{RowChange}
 use Rattle.ds_model.specs.declared.log.Body.{Body}
 use Rattle.ds_model.specs.declared.log.Body.TheVariants as body
 use Rattle.ds_model.specs.Logs.{StandFor, is_commit, has_commit}
+use Rattle.ds_model.specs.RecordBytes.{IsAllowed}
 use Rattle.page_format.specs.declared.patch.Patch.{Patch}
 use Rattle.heap_space.specs.Written.{written}
 use Rattle.page_images.specs.Images.{Images, after_change}
-use Rattle.log_growth.specs.Growth.{is_of, is_neutral, rows_by}
-use Rattle.log_growth.specs.Courses.{Start, AllNeutral, last_of, StandsBehind, GetsNumber}
+use Rattle.page_chain.specs.Chains.{changes_of, AreRecords}
+use Rattle.log_growth.specs.Growth.{is_of, is_neutral, rows_by, chain_of}
+use Rattle.log_growth.specs.Courses.{Start, AllNeutral, last_of, StandsBehind, GetsNumber, ChainIsBehind}
 use Rattle.buffer_manager.specs.declared.state.BufferState.{BufferState}
 use Rattle.buffer_manager.specs.States.{present, Backs}
 use Rattle.buffer_manager.specs.Goings.{Keeps}
 use Rattle.logged_changes.specs.declared.halt.Halt.{Halt}
 use Rattle.logged_changes.specs.declared.halt.Halt.TheVariants as halt
 use Rattle.logged_changes.specs.declared.work.Work.{Work}
-use Rattle.logged_changes.specs.Trips.{Trip, tran_by, tran_of, high_by, high_of, NumberIs, IsLogged, IsOn}
-use Rattle.logged_changes.specs.Passages.{Went, Changed, Halts, Passes}
+use Rattle.logged_changes.specs.Versions.{AreVersions}
+use Rattle.logged_changes.specs.Trips.{Trip, chain_at, tran_by, tran_of, high_by, high_of, NumberIs, IsLogged, IsOn}
+use Rattle.logged_changes.specs.Passages.{Went, Changed, newest, system_record, own_record, Halts, Passes}
 use Rattle.logged_changes.specs.Steps.{IsCarried, KeepsCourse, Follows, PutsNext, Writes, HasChanged, Stops}
+use Rattle.logged_changes.proofs.Versions.{versions_kept, versions_changed, follows_above, records_more}
 
 -- ---- lists
 
@@ -51,6 +56,13 @@ last_within low n (r ∷ rs) le h = last_within r.lrsn n rs h.0 h.1
 pub last_same : (low other : ℕ) (rs : List LogRecord) → (rs ≡ [] → ⊥) → last_of low rs ≡ last_of other rs
 last_same low other [] some = absurd (some refl)
 last_same low other (r ∷ rs) some = refl
+
+-- the last of numbers, of which one more was put
+pub newest_last : (xs : List ℕ) (n : ℕ) → newest (xs ++ n ∷ []) ≡ n
+newest_last xs n = ap (λ i. slice_index (xs ++ n ∷ []) i) last ∙ get_or-append_seam xs n [] 0
+  where
+    last : length (xs ++ n ∷ []) - 1 ≡ length xs
+    last = omega (arith, length-append xs (n ∷ []))
 
 -- ---- commits
 
@@ -144,15 +156,15 @@ pub record HasPut (w : Work) (x y : Option Contents) (b : BufferState) (r : LogR
   pub keeps : Becomes x y (Keeps w.buffers b)
   pub next : Next w r
   pub last : b.log.last ≡ r.lrsn
-  pub number_in : r.lrsn < 2 ^ 48
+  pub allowed : IsAllowed r
 
-pub has_put : (w : Work) (x y : Option Contents) (b0 b : BufferState) (r : LogRecord) → b0 ≡ w.buffers → Becomes x y (PutsNext r b0 b) → Becomes x y (Keeps b0 b) → b.log.last ≡ r.lrsn → Next w r → r.lrsn < 2 ^ 48 → HasPut w x y b r
-has_put w x y b0 b r same puts keeps last next number_in = record {
+pub has_put : (w : Work) (x y : Option Contents) (b0 b : BufferState) (r : LogRecord) → b0 ≡ w.buffers → Becomes x y (PutsNext r b0 b) → Becomes x y (Keeps b0 b) → b.log.last ≡ r.lrsn → Next w r → IsAllowed r → HasPut w x y b r
+has_put w x y b0 b r same puts keeps last next allowed = record {
   puts = subst (λ q. Becomes x y (PutsNext r q b)) same puts;
   keeps = subst (λ q. Becomes x y (Keeps q b)) same keeps;
   next = next;
   last = last;
-  number_in = number_in;
+  allowed = allowed;
 }
 
 -- a failure behind that record
@@ -172,27 +184,56 @@ carried_on s tran high mine (Some d) None b now way keeps = keeps
 carried_on s tran high mine (Some d) (Some e) b now way keeps = keeps s tran high mine way
 
 -- what a put and the changes behind it leave of frames and disk
-pub record Presents (at : Images) (b : BufferState) (c : Contents) : Type 0 where
+pub record Presents (records : List LogRecord) (at : Images) (b : BufferState) (c : Contents) : Type 0 where
   pub backs : Backs b c
   pub images : (id : PageId) → present b.pool c id ≡ at id
+  pub versions : AreVersions records at c
 
-abbrev pub ArePresent : Images → BufferState → Option Contents → Type 0
-ArePresent at b None = ⊥
-ArePresent at b (Some c) = Presents at b c
+abbrev pub ArePresent : List LogRecord → Images → BufferState → Option Contents → Type 0
+ArePresent records at b None = ⊥
+ArePresent records at b (Some c) = Presents records at b c
 
-pub presents_on : (t : Trip) (w : Work) (x : Option Contents) → IsOn t w x → ArePresent t.at w.buffers x
+pub presents_on : (t : Trip) (w : Work) (x : Option Contents) → IsOn t w x → ArePresent (chain_at t) t.at w.buffers x
 presents_on t w None on = on
-presents_on t w (Some c) on = record { backs = on.backs; images = on.images }
+presents_on t w (Some c) on = record { backs = on.backs; images = on.images; versions = on.versions }
 
-pub presents_kept : (at : Images) (x y : Option Contents) (b now : BufferState) → ArePresent at b x → Becomes x y (Keeps b now) → ArePresent at now y
-presents_kept at None y b now p k = absurd p
-presents_kept at (Some c) None b now p k = k
-presents_kept at (Some c) (Some d) b now p k = record { backs = k.backs p.backs; images = λ id. k.pages p.backs id ∙ p.images id }
+pub presents_kept : (records : List LogRecord) (at : Images) (x y : Option Contents) (b now : BufferState) → ArePresent records at b x → Becomes x y (Keeps b now) → ArePresent records at now y
+presents_kept records at None y b now p k = absurd p
+presents_kept records at (Some c) None b now p k = k
+presents_kept records at (Some c) (Some d) b now p k = record {
+  backs = k.backs p.backs;
+  images = λ id. k.pages p.backs id ∙ p.images id;
+  versions = versions_kept records at b c d p.images p.versions (k.disk p.backs);
+}
 
-pub presents_changed : (at : Images) (lrsn : ℕ) (patches : List Patch) (x y : Option Contents) (b now : BufferState) → ArePresent at b x → Becomes x y (Writes lrsn patches b now) → ArePresent (after_change lrsn patches at) now y
-presents_changed at lrsn patches None y b now p k = absurd p
-presents_changed at lrsn patches (Some c) None b now p k = k
-presents_changed at lrsn patches (Some c) (Some d) b now p k = record { backs = k.backs p.backs; images = λ id. k.pages p.backs id ∙ ap (written id lrsn patches) (p.images id) }
+presents_changed : (records : List LogRecord) (at : Images) (r : LogRecord) (patches : List Patch) → changes_of r.body ≡ patches → AreRecords (records ++ r ∷ []) → (x y : Option Contents) (b now : BufferState) → ArePresent records at b x
+    → Becomes x y (Writes r.lrsn patches b now) → ArePresent (records ++ r ∷ []) (after_change r.lrsn patches at) now y
+presents_changed records at r patches changes are None y b now p k = absurd p
+presents_changed records at r patches changes are (Some c) None b now p k = k
+presents_changed records at r patches changes are (Some c) (Some d) b now p k = record {
+  backs = k.backs p.backs;
+  images = λ id. k.pages p.backs id ∙ ap (written id r.lrsn patches) (p.images id);
+  versions = versions_changed records at b c d p.images p.versions r patches changes are (k.disk p.backs);
+}
+
+-- the records of all before and of the transaction, one after the other, with one more
+pub chain_more : (t : Trip) (r : LogRecord) → chain_at t ++ r ∷ [] ≡ chain_of t.start.logs ++ (t.mine ++ r ∷ [])
+chain_more t r = append_assoc (chain_of t.start.logs) t.mine (r ∷ [])
+
+pub records_at : (t : Trip) (w : Work) (x : Option Contents) → IsOn t w x → AreRecords (chain_at t)
+records_at t w None on = absurd on
+records_at t w (Some c) on = on.versions.are
+
+chain_within : ChainIsBehind → (t : Trip) (w : Work) (x : Option Contents) → IsOn t w x → AllByRecursion (λ (r : LogRecord). r.lrsn ≤ w.locks.counter) (chain_at t)
+chain_within behind t w None on = absurd on
+chain_within behind t w (Some c) on = all_append _ (chain_of t.start.logs) t.mine
+    (all_weaker (λ (r : LogRecord). r.lrsn ≤ t.start.last) (λ (r : LogRecord). r.lrsn ≤ w.locks.counter) (λ (r : LogRecord) h. omega (arith, h, on.logged.begun)) (chain_of t.start.logs) (behind t.start on.logged.course.start)) on.logged.within
+
+-- a record with the number that was drawn stands behind all others
+pub records_next : ChainIsBehind → (t : Trip) (w : Work) (x : Option Contents) (r : LogRecord) → IsOn t w x → r.lrsn ≡ w.locks.counter + 1 → IsAllowed r → AreRecords (chain_at t ++ r ∷ [])
+records_next behind t w x r on number allowed =
+    records_more (chain_at t) r (records_at t w x on) allowed
+    (follows_above (last_of 0 (chain_at t)) r (changes_of r.body) (omega (arith, number, last_within 0 w.locks.counter (chain_at t) (omega arith) (chain_within behind t w x on))))
 
 -- the work and the numbers after the change
 pub record Wrote (w now : Work) (r : LogRecord) : Type 0 where
@@ -214,7 +255,7 @@ module _ (t : Trip) (w now : Work) (r : LogRecord) (patches : List Patch) (n : N
 
   -- the rest is its number and its course
   pub under_way : (x z : Option Contents) → IsOn t w x → IsCarried t.start (tran_of now) (high_of now) (t.mine ++ r ∷ []) now.buffers z → NumberIs now.tran (t.mine ++ r ∷ []) → has_commit (t.mine ++ r ∷ []) (tran_of now) ≡ false
-      → ArePresent (after_change r.lrsn patches t.at) now.buffers z → IsOn (changed_trip t r patches) now z
+      → ArePresent (chain_at t ++ r ∷ []) (after_change r.lrsn patches t.at) now.buffers z → IsOn (changed_trip t r patches) now z
   under_way x None on way number running at = way
   under_way x (Some e) on way number running at = record {
     logged = record {
@@ -228,6 +269,7 @@ module _ (t : Trip) (w now : Work) (r : LogRecord) (patches : List Patch) (n : N
     };
     backs = at.backs;
     images = at.images;
+    versions = subst (λ (rs : List LogRecord). AreVersions rs (after_change r.lrsn patches t.at) e) (chain_more t r) at.versions;
   }
 
 -- ---- a record of the transaction, and a change behind it
@@ -265,13 +307,13 @@ is_own w m now lrsn own number drawn is given = record {
 }
 
 pub own_put : (w mid : Work) (x y : Option Contents) (b : BufferState) (lrsn own : ℕ) (bd : Body) → IsOwn w.locks.counter w.tran w.buffers mid lrsn own
-    → Becomes x y (PutsNext (record { lrsn = lrsn; tran = own; body = bd }) mid.buffers b) → Becomes x y (Keeps mid.buffers b) → b.log.last ≡ lrsn → lrsn < 2 ^ 48 → HasPut w x y b (record { lrsn = lrsn; tran = own; body = bd })
-own_put w mid x y b lrsn own bd is puts keeps last number_in =
-    has_put w x y mid.buffers b (record { lrsn = lrsn; tran = own; body = bd }) is.same puts keeps last (next_own w (record { lrsn = lrsn; tran = own; body = bd }) is.number is.own_is) number_in
+    → Becomes x y (PutsNext (record { lrsn = lrsn; tran = own; body = bd }) mid.buffers b) → Becomes x y (Keeps mid.buffers b) → b.log.last ≡ lrsn → IsAllowed (record { lrsn = lrsn; tran = own; body = bd }) → HasPut w x y b (record { lrsn = lrsn; tran = own; body = bd })
+own_put w mid x y b lrsn own bd is puts keeps last allowed =
+    has_put w x y mid.buffers b (record { lrsn = lrsn; tran = own; body = bd }) is.same puts keeps last (next_own w (record { lrsn = lrsn; tran = own; body = bd }) is.number is.own_is) allowed
 
-pub own_changed : (t : Trip) (w mid now : Work) (x y z : Option Contents) (b : BufferState) (lrsn own : ℕ) (bd : Body) (patches : List Patch) → IsOn t w x → HasPut w x y b (record { lrsn = lrsn; tran = own; body = bd }) → IsOwn w.locks.counter w.tran w.buffers mid lrsn own → now.tran ≡ mid.tran → now.locks.counter ≡ mid.locks.counter
-    → is_commit bd ≡ false → HasChanged lrsn patches b now.buffers y z → Went (λ new. Changed (w.locks.counter + 1) bd patches t new) t now z
-own_changed t w mid now x y z b lrsn own bd patches on p has same_tran same_counter none changed =
+pub own_changed : ChainIsBehind → (t : Trip) (w mid now : Work) (x y z : Option Contents) (b : BufferState) (lrsn own : ℕ) (bd : Body) (patches : List Patch) → IsOn t w x → HasPut w x y b (record { lrsn = lrsn; tran = own; body = bd }) → IsOwn w.locks.counter w.tran w.buffers mid lrsn own → now.tran ≡ mid.tran → now.locks.counter ≡ mid.locks.counter
+    → is_commit bd ≡ false → changes_of bd ≡ patches → HasChanged lrsn patches b now.buffers y z → Went (Changed (own_record w bd) patches t) t now z
+own_changed behind t w mid now x y z b lrsn own bd patches on p has same_tran same_counter none changes changed =
     let tran : now.tran ≡ Some own = same_tran ∙ has.given in
     let counter : now.locks.counter ≡ w.locks.counter + 1 = same_counter ∙ has.drawn in
     let r : LogRecord = record { lrsn = lrsn; tran = own; body = bd } in
@@ -288,13 +330,9 @@ own_changed t w mid now x y z b lrsn own bd patches on p has same_tran same_coun
       way = under_way t w now r patches p.next (record { counter = counter; last = changed.last ∙ p.last }) none x z on way
           (subst (λ q. NumberIs q more) (sym tran) (never_none t.mine r))
           (ap (has_commit more) same ∙ none_more t.mine r (tran_of w) (running t w x on) none)
-          (presents_changed t.at lrsn patches y z b now.buffers (presents_kept t.at x y w.buffers b (presents_on t w x on) p.keeps) changed.pages);
-      on = record {
-        own = own;
-        mine = ap (λ l. t.mine ++ record { lrsn = l; tran = own; body = bd } ∷ []) has.number;
-        at = ap (λ l. after_change l patches t.at) has.number;
-        number_in = subst (λ l. l < 2 ^ 48) has.number p.number_in;
-      };
+          (presents_changed (chain_at t) t.at r patches changes (records_next behind t w x r on p.next.number p.allowed) y z b now.buffers (presents_kept (chain_at t) t.at x y w.buffers b (presents_on t w x on) p.keeps) changed.pages);
+      on = subst (λ (q : LogRecord). Changed q patches t (changed_trip t r patches)) (ap (λ l. record { lrsn = l; tran = own; body = bd }) has.number ∙ ap (λ n. record { lrsn = w.locks.counter + 1; tran = n; body = bd }) mine)
+          (record { mine = refl; at = refl; number_in = p.allowed.lrsn_in });
     }
 
 -- ---- a record of no transaction
@@ -339,10 +377,10 @@ still_running : (p : Option ℕ) (counter : ℕ) (mine : List LogRecord) (r : Lo
 still_running None counter mine r h none e = none_neutral (counter + 1 + 1) (mine ++ r ∷ []) h
 still_running (Some n) counter mine r h none e = none_more mine r n none e
 
-pub system_changed : GetsNumber → (t : Trip) (w now : Work) (x y z : Option Contents) (b : BufferState) (lrsn : ℕ) (patches : List Patch) → IsOn t w x
+pub system_changed : GetsNumber → ChainIsBehind → (t : Trip) (w now : Work) (x y z : Option Contents) (b : BufferState) (lrsn : ℕ) (patches : List Patch) → IsOn t w x
     → HasPut w x y b (record { lrsn = lrsn; tran = 0; body = body.System patches }) → HasChanged lrsn patches b now.buffers y z → now.tran ≡ w.tran → now.locks.counter ≡ w.locks.counter + 1
-    → Went (λ new. Changed (w.locks.counter + 1) (body.System patches) patches t new) t now z
-system_changed gets t w now x y z b lrsn patches on p changed tran counter =
+    → Went (Changed (system_record (w.locks.counter + 1) patches) patches t) t now z
+system_changed gets behind t w now x y z b lrsn patches on p changed tran counter =
     let r : LogRecord = record { lrsn = lrsn; tran = 0; body = body.System patches } in
     let more : List LogRecord = t.mine ++ r ∷ [] in
     let numbered : NumberIs w.tran more = still_number w.tran t.mine r (number_of t w x on) refl refl in
@@ -357,32 +395,20 @@ system_changed gets t w now x y z b lrsn patches on p changed tran counter =
       way = under_way t w now r patches p.next (record { counter = counter; last = changed.last ∙ p.last }) refl x z on way
           (subst (λ q. NumberIs q more) (sym tran) numbered)
           (ap (has_commit more) same ∙ still_running w.tran w.locks.counter t.mine r numbered (running t w x on) refl)
-          (presents_changed t.at lrsn patches y z b now.buffers (presents_kept t.at x y w.buffers b (presents_on t w x on) p.keeps) changed.pages);
-      on = record {
-        own = 0;
-        mine = ap (λ l. t.mine ++ record { lrsn = l; tran = 0; body = body.System patches } ∷ []) p.next.number;
-        at = ap (λ l. after_change l patches t.at) p.next.number;
-        number_in = subst (λ l. l < 2 ^ 48) p.next.number p.number_in;
-      };
+          (presents_changed (chain_at t) t.at r patches refl (records_next behind t w x r on p.next.number p.allowed) y z b now.buffers (presents_kept (chain_at t) t.at x y w.buffers b (presents_on t w x on) p.keeps) changed.pages);
+      on = subst (λ (q : LogRecord). Changed q patches t (changed_trip t r patches)) (ap (λ l. system_record l patches) p.next.number) (record { mine = refl; at = refl; number_in = p.allowed.lrsn_in });
     }
 
 -- ---- what the last call of a change answers
 
-went_with : (P Q : Trip → Type 0) → ((new : Trip) → P new → Q new) → (t : Trip) (now : Work) (z : Option Contents) → Went P t now z → Went Q t now z
-went_with P Q f t now z h = record { trip = h.trip; same = h.same; way = h.way; on = f h.trip h.on }
-
 module _ (t : Trip) (w now : Work) (x y z : Option Contents) (b : BufferState) (lrsn : ℕ) (on : IsOn t w x) where
-  pub system_passes : GetsNumber → (patches : List Patch) (r : Result (Unit {0}) Halt) → HasPut w x y b (record { lrsn = lrsn; tran = 0; body = body.System patches }) → OnOk r (HasChanged lrsn patches b now.buffers y z) → IfErr r (λ h. Stops y z b h)
-      → now.tran ≡ w.tran → now.locks.counter ≡ w.locks.counter + 1 → Passes (λ _ new. Changed (w.locks.counter + 1) (body.System patches) patches t new) t now z r
-  system_passes gets patches (Ok u) p changed s tran counter = system_changed gets t w now x y z b lrsn patches on p changed tran counter
-  system_passes gets patches (Err h) p changed s tran counter = halts_more t w x y z b (record { lrsn = lrsn; tran = 0; body = body.System patches }) h on p refl s
+  pub system_passes : GetsNumber → ChainIsBehind → (patches : List Patch) (r : Result (Unit {0}) Halt) → HasPut w x y b (record { lrsn = lrsn; tran = 0; body = body.System patches }) → OnOk r (HasChanged lrsn patches b now.buffers y z) → IfErr r (λ h. Stops y z b h)
+      → now.tran ≡ w.tran → now.locks.counter ≡ w.locks.counter + 1 → Passes (λ _ new. Changed (system_record (w.locks.counter + 1) patches) patches t new) t now z r
+  system_passes gets behind patches (Ok u) p changed s tran counter = system_changed gets behind t w now x y z b lrsn patches on p changed tran counter
+  system_passes gets behind patches (Err h) p changed s tran counter = halts_more t w x y z b (record { lrsn = lrsn; tran = 0; body = body.System patches }) h on p refl s
 
-  pub undo_passes : (mid : Work) (own undone : ℕ) (change : RowChange) (patches : List Patch) (r : Result (Unit {0}) Halt) → HasPut w x y b (record { lrsn = lrsn; tran = own; body = body.Compensation change undone })
-      → IsOwn w.locks.counter w.tran w.buffers mid lrsn own → now.tran ≡ mid.tran → now.locks.counter ≡ mid.locks.counter → OnOk r (Becomes y z (KeepsCourse b now.buffers)) → OnOk r (Becomes y z (Writes lrsn patches b now.buffers))
-      → now.buffers.log.last ≡ b.log.last → now.buffers.member ≡ b.member → IfErr r (λ h. Stops y z b h)
-      → Passes (λ _ new. (n : ℕ) × Changed (w.locks.counter + 1) (body.Compensation change n) patches t new) t now z r
-  undo_passes mid own undone change patches (Ok u) p has tran counter course pages last member s =
-      went_with _ _ (λ new h. (undone, h)) t now z
-      (own_changed t w mid now x y z b lrsn own (body.Compensation change undone) patches on p has tran counter refl (record { course = course; pages = pages; last = last; member = member }))
-  undo_passes mid own undone change patches (Err h) p has tran counter course pages last member s =
-      halts_more t w x y z b (record { lrsn = lrsn; tran = own; body = body.Compensation change undone }) h on p refl s
+  pub row_passes : ChainIsBehind → (mid : Work) (own : ℕ) (bd : Body) (patches : List Patch) (r : Result (Unit {0}) Halt) → HasPut w x y b (record { lrsn = lrsn; tran = own; body = bd })
+      → IsOwn w.locks.counter w.tran w.buffers mid lrsn own → now.tran ≡ mid.tran → now.locks.counter ≡ mid.locks.counter → is_commit bd ≡ false → changes_of bd ≡ patches → OnOk r (HasChanged lrsn patches b now.buffers y z) → IfErr r (λ h. Stops y z b h)
+      → Passes (λ _ new. Changed (own_record w bd) patches t new) t now z r
+  row_passes behind mid own bd patches (Ok u) p has tran counter none changes changed s = own_changed behind t w mid now x y z b lrsn own bd patches on p has tran counter none changes changed
+  row_passes behind mid own bd patches (Err h) p has tran counter none changes changed s = halts_more t w x y z b (record { lrsn = lrsn; tran = own; body = bd }) h on p none s

@@ -1,4 +1,5 @@
 pub mod Works
+pub mod Versions
 pub mod Trips
 pub mod Passages
 pub mod Ends

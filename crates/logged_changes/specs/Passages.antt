@@ -1,5 +1,6 @@
 -- What a call leaves of a transaction on its way.
-use Rattle.std.specs.Prelude.{◌≡◌, ℕ, ◌^◌, ◌<◌, List, [], ◌∷◌, ◌++◌, Option, Some, None, Result, Ok, Err}
+use Rattle.std.specs.Prelude.{◌≡◌, ℕ, ◌+◌, ◌-◌, ◌^◌, ◌<◌, List, [], ◌∷◌, ◌++◌, length, Option, Some, None, Result, Ok, Err}
+use Rattle.std.specs.List.{slice_index}
 use Rattle.ds_disk.specs.Contents.{Contents}
 use Rattle.ds_model.specs.declared.log.LogRecord.{LogRecord}
 use Rattle.ds_model.specs.declared.log.Body.{Body}
@@ -11,7 +12,7 @@ use Rattle.page_images.specs.Images.{after_change}
 use Rattle.logged_changes.specs.declared.halt.Halt.{Halt}
 use Rattle.logged_changes.specs.declared.halt.Halt.TheVariants as halt
 use Rattle.logged_changes.specs.declared.work.Work.{Work}
-use Rattle.logged_changes.specs.Trips.{Trip, IsOn}
+use Rattle.logged_changes.specs.Trips.{Trip, tran_of, IsOn}
 
 -- the logs that are left stand for these rows
 abbrev pub LogsStandFor : Option Contents → Rows → Type 0
@@ -42,9 +43,16 @@ Passes On t w after (Err h) = Halts t after h
 abbrev pub system_record : ℕ → List Patch → LogRecord
 system_record lrsn patches = record { lrsn = lrsn; tran = 0; body = body.System patches }
 
--- one record more of this body, and the pages as these patches change them under its number, which fits its field
-pub record Changed (lrsn : ℕ) (b : Body) (patches : List Patch) (t new : Trip) : Type 0 where
-  pub own : ℕ
-  pub mine : new.mine ≡ t.mine ++ record { lrsn = lrsn; tran = own; body = b } ∷ []
-  pub at : new.at ≡ after_change lrsn patches t.at
-  pub number_in : lrsn < 2 ^ 48
+-- the next record of the transaction
+abbrev pub own_record : Work → Body → LogRecord
+own_record w b = record { lrsn = w.locks.counter + 1; tran = tran_of w; body = b }
+
+-- the last of the numbers
+abbrev pub newest : List ℕ → ℕ
+newest numbers = slice_index numbers (length numbers - 1)
+
+-- this record more, and the pages as these patches change them under its number, which fits its field
+pub record Changed (r : LogRecord) (patches : List Patch) (t new : Trip) : Type 0 where
+  pub mine : new.mine ≡ t.mine ++ r ∷ []
+  pub at : new.at ≡ after_change r.lrsn patches t.at
+  pub number_in : r.lrsn < 2 ^ 48

@@ -37,7 +37,7 @@ pub fn commit<D: Disk>(work: &mut Work, disk: &mut D) -> Result<(), Halt>
     ensures ready { OnOk result (IsReady work.new) }
     ensures same { IsSameRun work.old work.new }
     ensures idle { OnOk result (work.new.buffers.log.pending ≡ []) }
-    ensures over { (t : Trip) → IsOn t work.old (D.contents disk.old) → Commits (D.alive disk.new) t work.new (D.contents disk.new) result }
+    ensures over { (t : Trip) → IsOn t work.old (D.contents disk.old) → Commits (D.alive disk.new) t work.old work.new (D.contents disk.new) result }
     ensures cause { HasHaltCause (D.faults disk.old) (D.faults disk.new) result }
 {
     course_laws();
@@ -58,7 +58,7 @@ fn end_numbered<D: Disk>(work: &mut Work, disk: &mut D, tran: Lrsn) -> Result<()
     ensures ready { OnOk result (IsReady work.new) }
     ensures same { IsSameRun work.old work.new }
     ensures idle { OnOk result (work.new.buffers.log.pending ≡ []) }
-    ensures over { (t : Trip) → IsOn t work.old (D.contents disk.old) → Returns t work.new (D.contents disk.new) result }
+    ensures over { (t : Trip) → IsOn t work.old (D.contents disk.old) → Returns t work.old work.new (D.contents disk.new) result }
     ensures cause { HasHaltCause (D.faults disk.old) (D.faults disk.new) result }
 {
     course_laws();
@@ -77,7 +77,7 @@ pub fn end_rollback<D: Disk>(work: &mut Work, disk: &mut D) -> Result<(), Halt>
     ensures ready { OnOk result (IsReady work.new) }
     ensures same { IsSameRun work.old work.new }
     ensures idle { OnOk result (work.new.buffers.log.pending ≡ []) }
-    ensures over { (t : Trip) → IsOn t work.old (D.contents disk.old) → Returns t work.new (D.contents disk.new) result }
+    ensures over { (t : Trip) → IsOn t work.old (D.contents disk.old) → Returns t work.old work.new (D.contents disk.new) result }
     ensures cause { HasHaltCause (D.faults disk.old) (D.faults disk.new) result }
 {
     course_laws();

@@ -1,19 +1,19 @@
 //! Records and changes of pages, one call of the buffer manager each.
-ghost use Rattle.std.specs.Prelude.{◌≡◌, ◌+◌, ◌≤◌, true, [], ◌∷◌, Some, unwrap_or, length, IfOk, IfErr, IsErrOf, OnOk, OnErr};
+ghost use Rattle.std.specs.Prelude.{◌≡◌, ◌+◌, ◌<◌, ◌≤◌, true, [], Some, unwrap_or, length, IfOk, IfErr, IsErrOf, OnOk, OnErr};
 ghost use Rattle.std.specs.List.{AllByRecursion};
 ghost use Rattle.ds_base.specs.Causes.{Rose};
 ghost use Rattle.ds_disk.specs.Contents.{Becomes};
-ghost use Rattle.page_format.specs.Fields.{page_size};
 ghost use Rattle.ds_model.specs.RecordBytes.{IsAllowed, PatchIsAllowed};
-ghost use Rattle.buffer_manager.specs.Goings.{Keeps};
+ghost use Rattle.heap_space.specs.Written.{written};
+ghost use Rattle.buffer_manager.specs.Goings.{Keeps, Alters};
 ghost use Rattle.logged_changes.specs.declared.halt.Halt.TheVariants as halt;
 ghost use Rattle.logged_changes.specs.Works.{HasHaltCause};
-ghost use Rattle.logged_changes.specs.Steps.{KeepsCourse, PutsNext, Leaves, Writes, HasChanged, Stops};
+ghost use Rattle.logged_changes.specs.Steps.{KeepsCourse, PutsNext, Leaves, WritesNext, HasChanged, Stops, is_named};
 
 use crate::halt::{Halt, halt_of};
 use crate::work::Work;
 use buffer_manager::BufferManager;
-use ds_base::{LRSN_LIMIT, Lrsn};
+use ds_base::{LRSN_LIMIT, Lrsn, PageId};
 use ds_disk::Disk;
 use ds_model::LogRecord;
 use log_growth::course_laws;
@@ -66,30 +66,64 @@ pub fn put<D: Disk>(buffers: &mut BufferManager, disk: &mut D, it: &LogRecord) -
     }
 }
 
-/// Changes a page, of whose change the record was put before.
-pub fn change_page<D: Disk>(
+// Changes a page by those of the patches that are for it.
+fn change_page<D: Disk>(
     buffers: &mut BufferManager,
     disk: &mut D,
-    patch: &Patch,
+    id: PageId,
+    patches: &[Patch],
     lrsn: Lrsn,
 ) -> Result<(), Halt>
-    requires within { patch.now.offset + length patch.now.bytes ≤ page_size }
+    requires within { AllByRecursion PatchIsAllowed patches.now }
     requires put { lrsn ≤ buffers.old.log.last }
     ensures course { OnOk result (Becomes (D.contents disk.old) (D.contents disk.new) (KeepsCourse buffers.old buffers.new)) }
-    ensures pages { OnOk result (Becomes (D.contents disk.old) (D.contents disk.new) (Writes lrsn (patch.now ∷ []) buffers.old buffers.new)) }
+    ensures page { OnOk result (Becomes (D.contents disk.old) (D.contents disk.new) (Alters id (written id lrsn patches.now) buffers.old buffers.new)) }
     ensures last { buffers.new.log.last ≡ buffers.old.log.last }
     ensures member { buffers.new.member ≡ buffers.old.member }
     ensures err { IfErr result (λ h. Stops (D.contents disk.old) (D.contents disk.new) buffers.old h) }
     ensures cause { HasHaltCause (D.faults disk.old) (D.faults disk.new) result }
 {
     course_laws();
-    match buffers.change(disk, patch, lrsn) {
+    match buffers.change(disk, id, patches, lrsn) {
         Ok(()) => Ok(()),
         Err(error) => Err(halt_of(error)),
     }
 }
 
-/// Changes the pages of these patches, one after the other.
+// Whether one of the patches is for this page.
+fn is_named(patches: &[Patch], id: PageId) -> bool
+    ensures { result ≡ is_named id patches.now }
+{
+    patches.iter().any(|patch| patch.page == id)
+}
+
+// Changes the page of this patch by all that are for it, unless one before names the page.
+fn change_at<D: Disk>(
+    buffers: &mut BufferManager,
+    disk: &mut D,
+    patches: &[Patch],
+    at: usize,
+    lrsn: Lrsn,
+) -> Result<(), Halt>
+    requires there { at < length patches.now }
+    requires within { AllByRecursion PatchIsAllowed patches.now }
+    requires put { lrsn ≤ buffers.old.log.last }
+    ensures course { OnOk result (Becomes (D.contents disk.old) (D.contents disk.new) (KeepsCourse buffers.old buffers.new)) }
+    ensures pages { OnOk result (Becomes (D.contents disk.old) (D.contents disk.new) (WritesNext at lrsn patches.now buffers.old buffers.new)) }
+    ensures last { buffers.new.log.last ≡ buffers.old.log.last }
+    ensures member { buffers.new.member ≡ buffers.old.member }
+    ensures err { IfErr result (λ h. Stops (D.contents disk.old) (D.contents disk.new) buffers.old h) }
+    ensures cause { HasHaltCause (D.faults disk.old) (D.faults disk.new) result }
+{
+    let id = patches[at].page;
+    if is_named(&patches[..at], id) {
+        return Ok(());
+    }
+    change_page(buffers, disk, id, patches, lrsn)
+}
+
+/// Changes the pages of these patches, of whose change the record was put before. No page goes to the disk with some of its
+/// patches alone.
 pub fn change_all<D: Disk>(
     buffers: &mut BufferManager,
     disk: &mut D,
@@ -102,8 +136,8 @@ pub fn change_all<D: Disk>(
     ensures err { IfErr result (λ h. Stops (D.contents disk.old) (D.contents disk.new) buffers.old h) }
     ensures cause { HasHaltCause (D.faults disk.old) (D.faults disk.new) result }
 {
-    for patch in patches {
-        change_page(buffers, disk, patch, lrsn)?;
+    for at in 0..patches.len() {
+        change_at(buffers, disk, patches, at, lrsn)?;
     }
     Ok(())
 }

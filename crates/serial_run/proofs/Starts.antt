@@ -64,6 +64,11 @@ between law zero_numbers w member m c fresh new = record {
   drawn = omega arith;
   backs = subst (λ (b : BufferState). Backs b c) (sym fresh.is) (handed m member c (fresh.backs c (λ id. ap lrsn_of (new.pages id) ∙ zero_numbers lrsn_at lrsn_width)));
   images = λ id. ap (λ (b : BufferState). present b.pool c id) fresh.is ∙ ap (present_in m.pool c id) (fresh.free id) ∙ new.pages id;
+  versions = record {
+    are = (tt, tt);
+    last = λ id. refl;
+    on_disk = λ id. record { first = []; rest = []; whole = refl; bytes = new.pages id };
+  };
 }
 
 pub starts : StartsEmpty → EmptyHolds → ((at width : ℕ) → number_in zeros at width ≡ 0) → (w : Work) (member : ℕ) (m : BufferState) (o : Option Contents)

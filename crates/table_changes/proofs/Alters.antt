@@ -2,7 +2,6 @@
 use Rattle.std.proofs.Common.{◌≡◌, ◌⊎◌, inl, inr, ℕ, ◌+◌, ◌<◌, ◌^◌, List, [], ◌∷◌, ◌++◌, Option, Result, Ok, Err, refl, sym, ap, subst, ◌∙◌, arith}
 use Rattle.ds_disk.specs.Contents.{Contents}
 use Rattle.ds_model.specs.declared.log.LogRecord.{LogRecord}
-use Rattle.ds_model.specs.declared.log.Body.TheVariants as body
 use Rattle.ds_model.specs.Rows.{Rows}
 use Rattle.ds_model.specs.Logs.{after_body, after_records}
 use Rattle.page_format.specs.declared.patch.Patch.{Patch}
@@ -13,7 +12,7 @@ use Rattle.page_actions.specs.declared.plan.Plan.TheVariants as plan
 use Rattle.logged_changes.specs.declared.halt.Halt.{Halt}
 use Rattle.logged_changes.specs.declared.work.Work.{Work}
 use Rattle.logged_changes.specs.Trips.{Trip, rows_of, IsOn}
-use Rattle.logged_changes.specs.Passages.{Went, Passes, Changed}
+use Rattle.logged_changes.specs.Passages.{Went, Passes, Changed, system_record}
 use Rattle.table_changes.specs.Steps.{Altered, PlanMade}
 
 -- ---- one record more
@@ -34,17 +33,17 @@ number_in n h = (omega arith, h)
 pub went_with : (P Q : Trip → Type 0) (t : Trip) (now : Work) (z : Option Contents) → ((new : Trip) → new.start ≡ t.start → P new → Q new) → Went P t now z → Went Q t now z
 went_with P Q t now z f h = record { trip = h.trip; same = h.same; way = h.way; on = f h.trip h.same h.on }
 
-altered_by : (n : ℕ) (patches : List Patch) (t new : Trip) → new.start ≡ t.start → Changed (n + 1) (body.System patches) patches t new → Altered patches t new
+altered_by : (n : ℕ) (patches : List Patch) (t new : Trip) → new.start ≡ t.start → Changed (system_record (n + 1) patches) patches t new → Altered patches t new
 altered_by n patches t new same c = record {
   lrsn = n + 1;
   number = number_in n c.number_in;
   at = c.at;
-  rows = rows_more t new (record { lrsn = n + 1; tran = c.own; body = body.System patches }) same c.mine;
+  rows = rows_more t new (system_record (n + 1) patches) same c.mine;
 }
 
-pub altered : (n : ℕ) (patches : List Patch) (t : Trip) (now : Work) (z : Option Contents) (r : Result (Unit {0}) Halt) → Passes (λ _ new. Changed (n + 1) (body.System patches) patches t new) t now z r
+pub altered : (n : ℕ) (patches : List Patch) (t : Trip) (now : Work) (z : Option Contents) (r : Result (Unit {0}) Halt) → Passes (λ _ new. Changed (system_record (n + 1) patches) patches t new) t now z r
     → Passes (λ _ new. Altered patches t new) t now z r
-altered n patches t now z (Ok u) h = went_with (λ new. Changed (n + 1) (body.System patches) patches t new) (λ new. Altered patches t new) t now z (λ new same c. altered_by n patches t new same c) h
+altered n patches t now z (Ok u) h = went_with (λ new. Changed (system_record (n + 1) patches) patches t new) (λ new. Altered patches t new) t now z (λ new same c. altered_by n patches t new same c) h
 altered n patches t now z (Err e) h = h
 
 pub plan_made : (p : Plan) (patches : List Patch) (t : Trip) (now : Work) (z : Option Contents) (r : Result (Unit {0}) Halt) → p ≡ plan.Change patches → Passes (λ _ new. Altered patches t new) t now z r → Passes (λ _ new. PlanMade p t new) t now z r

@@ -1,5 +1,5 @@
 -- The entry of a leaf in a branch leaves the tables as they were.
-use Rattle.std.proofs.Common.{◌≡◌, ℕ, Bool, true, false, if◌then◌else◌, eqb, List, Option, Some, None, refl, sym, ap, subst, ◌∙◌, arith}
+use Rattle.std.proofs.Common.{◌≡◌, ℕ, true, if◌then◌else◌, eqb, List, Option, Some, None, refl, sym, ap, subst, ◌∙◌, arith}
 use Rattle.ds_base.specs.Ids.{IsTable}
 use Rattle.ds_disk.specs.Contents.{Contents}
 use Rattle.page_format.specs.Header.{entries_per_page}
@@ -24,7 +24,7 @@ use Rattle.logged_changes.specs.declared.work.Work.{Work}
 use Rattle.logged_changes.specs.Trips.{Trip, rows_of, IsOn}
 use Rattle.logged_changes.specs.Passages.{Went, Halts, LogsStandFor}
 use Rattle.table_changes.specs.declared.made.Made.TheVariants as made
-use Rattle.table_changes.specs.Makings.{IsWithin, IsDone, MadeIs}
+use Rattle.table_changes.specs.Makings.{IsWithin, MadeIs}
 use Rattle.table_changes.specs.Steps.{Altered, IsSplit, IsEntering}
 use Rattle.table_changes.proofs.Alters.{went_with, stayed}
 
@@ -114,4 +114,4 @@ pub entry_made : (limit : ℕ) (t : Trip) (x : Tables) (w : Shape) (table branch
     → Went (MadeIs limit t x w (BranchEntry table branch low child) made.Done) t now z
 entry_made limit t x w table branch low child within now z h =
     went_with (IsEntering x table low child t None) (MadeIs limit t x w (BranchEntry table branch low child) made.Done) t now z
-    (λ new same e. record { tables = x; shape = e.shape; holds = e.holds; is = refl; rows = λ k. e.rows ∙ k; within = within; room = tt }) h
+    (λ new same e. record { tables = x; shape = e.shape; holds = e.holds; is = refl; rows = λ k. e.rows ∙ k; within = within; room = tt; recorded = tt }) h

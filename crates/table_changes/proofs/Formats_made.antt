@@ -1,13 +1,11 @@
 -- A format leaves the tables as they were.
-use Rattle.std.proofs.Common.{◌≡◌, ℕ, List, Option, refl, sym, subst, ◌∙◌}
+use Rattle.std.proofs.Common.{◌≡◌, ℕ, Option, refl, sym, subst, ◌∙◌}
 use Rattle.ds_disk.specs.Contents.{Contents}
-use Rattle.page_format.specs.declared.patch.Patch.{Patch}
 use Rattle.heap_space.specs.Changes.{heap_page}
 use Rattle.heap_space.specs.Changes as heap
 use Rattle.index_leaf.specs.Changes as index
 use Rattle.page_images.specs.Images.{Images, index_page}
 use Rattle.page_actions.specs.declared.plan.Plan.{Plan}
-use Rattle.page_actions.specs.declared.plan.Plan.TheVariants as plan
 use Rattle.page_actions.specs.Plans.{index_format, heap_format}
 use Rattle.tran_core.specs.Wants.{FormatIndex, FormatHeap}
 use Rattle.tran_pages.specs.Tables.{Tables, Shape, Holds, with_tree}
@@ -32,6 +30,7 @@ module _ (limit : ℕ) (t : Trip) (x : Tables) (w : Shape) (table : ℕ) (holds 
     rows = λ e. a.rows ∙ e;
     within = within;
     room = tt;
+    recorded = tt;
   }
 
   pub index_made : IndexFormatIsPlanned → IndexFormats → Needs t.at x w (FormatIndex table) → (p : Plan) → p ≡ index_format table (t.at (index_page table 0)) → (now : Work) (z : Option Contents) → Went (λ new. PlanMade p t new) t now z
@@ -49,6 +48,7 @@ module _ (limit : ℕ) (t : Trip) (x : Tables) (w : Shape) (table : ℕ) (holds 
     rows = λ e. a.rows ∙ e;
     within = within;
     room = tt;
+    recorded = tt;
   }
 
   pub heap_made : HeapFormatIsPlanned → HeapFormats → Needs t.at x w (FormatHeap table) → (p : Plan) → p ≡ heap_format table (t.at (heap_page table 0)) → (now : Work) (z : Option Contents) → Went (λ new. PlanMade p t new) t now z

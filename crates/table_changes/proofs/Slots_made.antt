@@ -1,9 +1,8 @@
 -- A new slot gives its key a place, and leaves all rows.
-use Rattle.std.proofs.Common.{◌≡◌, ◌⊎◌, inl, inr, ℕ, ◌+◌, ◌-◌, ◌*◌, ◌^◌, ◌<◌, ◌≤◌, zero, suc, List, [], ◌∷◌, ◌++◌, set, get_or, Option, Some, Result, refl, sym, ap, subst, ◌∙◌, arith}
+use Rattle.std.proofs.Common.{◌≡◌, ◌⊎◌, inl, inr, ℕ, ◌+◌, ◌-◌, ◌*◌, ◌^◌, ◌<◌, ◌≤◌, zero, suc, List, [], ◌∷◌, ◌++◌, set, get_or, Option, Result, refl, sym, ap, subst, ◌∙◌, arith}
 use Rattle.ds_base.specs.declared.names.Place.{Place}
 use Rattle.ds_disk.specs.Contents.{Contents}
 use Rattle.page_format.specs.Header.{slots_per_page}
-use Rattle.page_format.specs.declared.header.PageKind.TheVariants as kind
 use Rattle.page_format.specs.declared.patch.Patch.{Patch}
 use Rattle.heap_space.specs.Changes.{heap_page, give_patches}
 use Rattle.index_leaf.specs.Changes.{insert_patches}
@@ -16,7 +15,7 @@ use Rattle.page_actions.specs.declared.plan.SlotPlan.{SlotPlan}
 use Rattle.page_actions.specs.declared.plan.SlotPlan.TheVariants as slot_plan
 use Rattle.page_actions.specs.Plans.{next_slot_plan}
 use Rattle.tran_core.specs.Wants.{GiveSlot}
-use Rattle.tran_pages.specs.Tables.{Tables, Tree, Shape, Holds, count_in, with_place, with_tree, with_key}
+use Rattle.tran_pages.specs.Tables.{Tables, Shape, Holds, count_in, with_place, with_tree, with_key}
 use Rattle.tran_pages.specs.Steps.{Needs}
 use Rattle.tran_pages.specs.Makes.{entry_at, leaf_entered, SlotIsGiven}
 use Rattle.planned_changes.specs.Planned.{IsSlotPlan, SlotPlanTells, SlotPageIsReady, CountMayGrow, LeafIsNode, LeafEntryIsPlanned, HasTree, SlotHasTree, SlotLeafIsReached}
@@ -95,6 +94,7 @@ module _ (limit : ℕ) (t : Trip) (x : Tables) (w : Shape) (table key leaf : ℕ
       rows = λ e. a.rows ∙ e;
       within = place_within limit x table key within next.1;
       room = next.1;
+      recorded = tt;
     }
 
     pub slot_made : SlotIsGiven → CountMayGrow → IsWithin limit x → (now : Work) (z : Option Contents) → Went (λ new. Altered (patches_at place) t new) t now z → Went (MadeIs limit t x w (GiveSlot table key leaf) made.Done) t now z

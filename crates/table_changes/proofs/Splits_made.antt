@@ -2,7 +2,7 @@
 use Rattle.std.proofs.Common.{◌≡◌, ℕ, ◌-◌, ◌<◌, ◌^◌, List, Option, Some, Result, Ok, Err, refl, sym, ap, subst, ◌∙◌}
 use Rattle.ds_disk.specs.Contents.{Contents}
 use Rattle.page_format.specs.declared.patch.Patch.{Patch}
-use Rattle.page_images.specs.Images.{Images, index_page, after_change}
+use Rattle.page_images.specs.Images.{Images, index_page}
 use Rattle.index_chain.specs.Records.{split_patches}
 use Rattle.page_actions.specs.declared.plan.Plan.{Plan}
 use Rattle.page_actions.specs.declared.plan.Plan.TheVariants as plan
@@ -11,7 +11,7 @@ use Rattle.tran_core.specs.Wants.{Split}
 use Rattle.tran_pages.specs.Tables.{Tables, Tree, Shape, Holds, with_tree}
 use Rattle.tran_pages.specs.Steps.{Needs, KeepsWays}
 use Rattle.tran_pages.specs.Makes.{after_split, leaf_split, LeafIsSplit}
-use Rattle.planned_changes.specs.Planned.{IsSplitPlanned, taken_of, HasTree, SplitHasTree, SplitIsPlanned}
+use Rattle.planned_changes.specs.Planned.{IsSplitPlanned, taken_of}
 use Rattle.logged_changes.specs.declared.halt.Halt.{Halt}
 use Rattle.logged_changes.specs.declared.work.Work.{Work}
 use Rattle.logged_changes.specs.Trips.{Trip}
@@ -57,6 +57,7 @@ module _ (limit : ℕ) (t : Trip) (x : Tables) (w : Shape) (table left : ℕ) (t
         rows = λ e. s.altered.rows ∙ e;
         within = within;
         room = tt;
+        recorded = tt;
       }
 
   pub leaf_made : (now : Work) (z : Option Contents) → Went (λ new. IsSplit table left tree.next t new) t now z → Went (MadeIs limit t x w (Split table left) made.Done) t now z

@@ -1,12 +1,12 @@
 //! The changes that a transaction wants.
 ghost use Rattle.std.specs.Prelude.{◌≡◌, ◌+◌, ◌-◌, ◌≤◌, OnOk, length, option_copied};
 ghost use Rattle.tran_core.specs.Wants.{did};
-ghost use Rattle.tran_pages.specs.Tables.{Tables, Shape, Holds, with_row};
+ghost use Rattle.tran_pages.specs.Tables.{Tables, Shape, Holds};
 ghost use Rattle.tran_pages.specs.Steps.{Needs, MayChange};
 ghost use Rattle.logged_changes.specs.Works.{IsReady, IsSameRun, HasHaltCause};
 ghost use Rattle.logged_changes.specs.Trips.{Trip, IsOn};
-ghost use Rattle.logged_changes.specs.Passages.{Passes};
-ghost use Rattle.table_changes.specs.Makings.{IsWithin, MadeIs, row_changes};
+ghost use Rattle.logged_changes.specs.Passages.{Passes, newest};
+ghost use Rattle.table_changes.specs.Makings.{IsWithin, MadeIs, IsUndone, row_changes};
 
 use crate::entries::enter_branch;
 use crate::formats::{format_heap, format_index};
@@ -70,7 +70,7 @@ pub fn undo<D: Disk>(
     ensures ready { OnOk result (IsReady work.new) }
     ensures same { IsSameRun work.old work.new }
     ensures changes { OnOk result (length work.new.changes.items ≡ length work.old.changes.items - 1) }
-    ensures undone { (t : Trip) (x : Tables) (w : Shape) → IsOn t work.old (D.contents disk.old) → Holds t.at x w → MayChange x table key place (option_copied back.entry) → Passes (λ _ new. Holds new.at (with_row x table key (option_copied back.entry)) w) t work.new (D.contents disk.new) result }
+    ensures undone { (t : Trip) (x : Tables) (w : Shape) → IsOn t work.old (D.contents disk.old) → Holds t.at x w → MayChange x table key place (option_copied back.entry) → Passes (λ _ new. IsUndone (newest work.old.changes.items) x w table key place (option_copied back.entry) t new) t work.new (D.contents disk.new) result }
     ensures cause { HasHaltCause (D.faults disk.old) (D.faults disk.new) result }
 {
     undo_row(alloc, work, disk, table, key, place, back)

@@ -6,14 +6,14 @@ ghost use Rattle.tran_core.specs.Wants.{Content};
 ghost use Rattle.tran_core.specs.Wants as wanted;
 ghost use Rattle.tran_core.specs.Looks.{row_read};
 ghost use Rattle.page_actions.specs.Plans.{row_patch};
-ghost use Rattle.tran_pages.specs.Tables.{Tables, Shape, Holds, with_row};
+ghost use Rattle.tran_pages.specs.Tables.{Tables, Shape, Holds};
 ghost use Rattle.tran_pages.specs.Steps.{Needs, MayChange};
 ghost use Rattle.planned_changes.specs.Planned.{IsPlace};
 ghost use Rattle.logged_changes.specs.Works.{IsReady, IsSameRun, HasHaltCause};
 ghost use Rattle.logged_changes.specs.Trips.{Trip, IsOn};
-ghost use Rattle.logged_changes.specs.Passages.{Passes};
+ghost use Rattle.logged_changes.specs.Passages.{Passes, newest};
 ghost use Rattle.logged_changes.specs.Fetches.{Stays};
-ghost use Rattle.table_changes.specs.Makings.{IsWithin, MadeIs};
+ghost use Rattle.table_changes.specs.Makings.{IsWithin, MadeIs, IsUndone};
 
 use crate::made::Made;
 use crate::pages::heap_page;
@@ -103,7 +103,7 @@ pub fn undo_row<D: Disk>(
     ensures ready { OnOk result (IsReady work.new) }
     ensures same { IsSameRun work.old work.new }
     ensures changes { OnOk result (length work.new.changes.items ≡ length work.old.changes.items - 1) }
-    ensures undone { (t : Trip) (x : Tables) (w : Shape) → IsOn t work.old (D.contents disk.old) → Holds t.at x w → MayChange x table key place (option_copied back.entry) → Passes (λ _ new. Holds new.at (with_row x table key (option_copied back.entry)) w) t work.new (D.contents disk.new) result }
+    ensures undone { (t : Trip) (x : Tables) (w : Shape) → IsOn t work.old (D.contents disk.old) → Holds t.at x w → MayChange x table key place (option_copied back.entry) → Passes (λ _ new. IsUndone (newest work.old.changes.items) x w table key place (option_copied back.entry) t new) t work.new (D.contents disk.new) result }
     ensures cause { HasHaltCause (D.faults disk.old) (D.faults disk.new) result }
 {
     row_laws();

@@ -14,7 +14,7 @@ use Rattle.tran_fates.specs.Causes.{Limits}
 use Rattle.tran_run.specs.declared.way.Way.{Way}
 use Rattle.tran_run.specs.declared.way.Way.TheVariants as way
 use Rattle.tran_run.specs.Plays.{HaltedBy}
-use Rattle.tran_run.specs.Ways.{IsSteady, IsSteadyAt, IsOpen, Goes, Follows, Ends, IsAnswered}
+use Rattle.tran_run.specs.Ways.{IsSteady, IsSteadyAt, IsOpen, Goes, Follows, Ends, IsAnswered, HasBeenTold}
 
 pub err_follows : (alive : Bool) (l : Limits) (x : Tables) (ops : List Op) (s : State) (w : Work) (c : Option Contents) (r : Result Way Halt) (h : Halt)
     → IsErrAnd r (λ (e : Halt). e ≡ h) → HaltedBy alive l x ops c h → Follows alive l x ops s w c r
@@ -26,6 +26,10 @@ pub answer_follows : (alive : Bool) (l : Limits) (x : Tables) (ops : List Op) (s
     → Follows alive l x ops now w c r
 answer_follows alive l x ops s now w c refusal (Ok how) met err goes = goes how met
 answer_follows alive l x ops s now w c refusal (Err h) met err goes = subst (λ (z : Halt). HaltedBy alive l x ops c z) (sym err) tt
+
+pub told_by : (refusal : Option Cause) (s now : State) (r : Result Way Halt) → IfOk r (λ (how : Way). IsAnswered refusal s how now) → IfOk r (λ (how : Way). HasBeenTold s now how)
+told_by refusal s now (Ok how) met = (refusal, met)
+told_by refusal s now (Err h) met = tt
 
 steady_at : (w : Work) (s : State) (how : Way) → IsSteady w s → IsOpen how → IsSteadyAt w s how
 steady_at w s way.On h o = h

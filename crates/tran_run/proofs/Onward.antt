@@ -1,5 +1,5 @@
 -- What each step of a transaction that goes forward leaves.
-use Rattle.std.proofs.Common.{Bor, ◌≡◌, ◌⊎◌, ℕ, ◌*◌, ◌<◌, ◌≤◌, Bool, true, false, List, refl, sym, ◌∙◌, ap, subst, inl, inr}
+use Rattle.std.proofs.Common.{Bor, ◌≡◌, ◌⊎◌, ℕ, ◌*◌, ◌<◌, ◌≤◌, Bool, true, false, List, [], ◌∷◌, ◌++◌, refl, sym, ◌∙◌, ap, subst, inl, inr}
 use Rattle.std.specs.Prelude.{Option, Some, None, if◌then◌else◌}
 use Rattle.std.specs.List.{AllByRecursion}
 use Rattle.ds_base.specs.declared.names.PageId.{PageId}
@@ -11,6 +11,7 @@ use Rattle.ds_model.specs.declared.lock.Name.{Name}
 use Rattle.lock_names.specs.declared.mode.Mode.{Mode}
 use Rattle.serial_locks.specs.Standings.{Standing}
 use Rattle.ds_model.specs.declared.log.LogRecord.{LogRecord}
+use Rattle.ds_model.specs.declared.log.Body.TheVariants as body
 use Rattle.ds_model.specs.Rows.{Rows}
 use Rattle.ds_model.specs.Logs.{has_commit}
 use Rattle.ds_model.specs.Effect.{reads_of}
@@ -33,7 +34,7 @@ use Rattle.logged_changes.specs.declared.work.Work.{Work}
 use Rattle.logged_changes.specs.Works.{IsSameRun}
 use Rattle.logged_changes.specs.Trips.{Trip, IsOn, rows_of, tran_by, high_by}
 use Rattle.logged_changes.specs.Ends.{Ended, CommitHalts, MayHaveCommitted}
-use Rattle.logged_changes.specs.Passages.{Went, Halts, LogsStandFor}
+use Rattle.logged_changes.specs.Passages.{Went, Halts, LogsStandFor, own_record}
 use Rattle.table_changes.specs.declared.made.Made.{Made}
 use Rattle.table_changes.specs.declared.made.Made.TheVariants as made
 use Rattle.table_changes.specs.Makings.{IsWithin, IsFull, IsDone, MadeIs}
@@ -192,6 +193,7 @@ relocked t w k (Some c) e on = record {
   };
   backs = on.backs;
   images = on.images;
+  versions = on.versions;
 }
 
 pub still_on : (t : Trip) (w v : Work) (c : Option Contents) → v ≡ record w { locks = v.locks } → v.locks.counter ≡ w.locks.counter → IsOn t w c → IsOn t v c
@@ -384,7 +386,7 @@ at_commit l x ops s w c commits reached f e =
     }
 
 pub commit_goes : (l : Limits) (x : Tables) (ops : List Op) (s : State) (w v : Work) (c after : Option Contents) → Commits → CommitIsReached → GoesForward l x ops s w c → want_of s ≡ wanted.Commit → IsSameRun w v
-    → ((t : Trip) → IsOn t w c → Ended (rows_of t) t.at v after) → HasCommitted l x ops s v after
+    → ((t : Trip) → IsOn t w c → Ended (t.mine ++ own_record w body.Commit ∷ []) (rows_of t) t v after) → HasCommitted l x ops s v after
 commit_goes l x ops s w v c after commits reached f e same call =
     let it = at_commit l x ops s w c commits reached f e in
     let ended = call f.trip f.way in

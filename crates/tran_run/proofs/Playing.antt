@@ -80,6 +80,7 @@ released_over k at w l (Some c) e over = record {
   drawn = subst (λ (n : ℕ). k.last ≤ n) (sym e) over.drawn;
   backs = over.backs;
   images = over.images;
+  versions = over.versions;
 }
 
 pub released_stands : (x : Tables) (w : Work) (l : Standing) (c : Option Contents) → l.counter ≡ w.locks.counter → Stands x w c → Stands x (record w { locks = l }) c

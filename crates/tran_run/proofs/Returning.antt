@@ -20,9 +20,9 @@ use Rattle.logged_changes.specs.declared.work.Work.{Work}
 use Rattle.logged_changes.specs.Works.{IsSameRun}
 use Rattle.logged_changes.specs.Trips.{Trip, IsOn}
 use Rattle.logged_changes.specs.Passages.{Went}
-use Rattle.logged_changes.specs.Ends.{Ended, ReturnHalts}
+use Rattle.logged_changes.specs.Ends.{ReturnHalts}
 use Rattle.logged_changes.specs.Ends as ends
-use Rattle.table_changes.specs.Makings.{IsWithin}
+use Rattle.table_changes.specs.Makings.{IsWithin, IsUndone}
 use Rattle.tran_fates.specs.declared.cause.Cause.{Cause}
 use Rattle.tran_fates.specs.Causes.{Limits}
 use Rattle.tran_fates.specs.Laws.{UndoKeepsFate, EndIsNext}
@@ -43,12 +43,12 @@ undo_call l x ops why s w c table key place back needs f e Call call =
     let may = needs x ops f.refused f.trip.at f.tables f.shape s table key place back f.course e in
     call f.trip f.tables f.shape f.way f.course.holds may.1
 
-pub undo_goes : (l : Limits) (x : Tables) (ops : List Op) (why : Cause) (s now : State) (w v : Work) (c after : Option Contents) (table key : ℕ) (place : Place) (back : Content) → UndoNeeds → UndoKeeps → UndoKeepsFate
+pub undo_goes : (l : Limits) (x : Tables) (ops : List Op) (why : Cause) (s now : State) (w v : Work) (c after : Option Contents) (table key : ℕ) (place : Place) (back : Content) (undone : ℕ) → UndoNeeds → UndoKeeps → UndoKeepsFate
     → GoesBack l x ops why s w c → want_of s ≡ wanted.Undo table key place back → IsSameRun w v
-    → ((t : Trip) (y : Tables) (z : Shape) → IsOn t w c → Holds t.at y z → MayChange y table key place back → Went (λ (new : Trip). Holds new.at (with_row y table key back) z) t v after)
+    → ((t : Trip) (y : Tables) (z : Shape) → IsOn t w c → Holds t.at y z → MayChange y table key place back → Went (IsUndone undone y z table key place back t) t v after)
     → now ≡ after_done s → GoesBack l x ops why now v after
-undo_goes l x ops why s now w v c after table key place back needs keeps fate f e same call is =
-    let went = undo_call l x ops why s w c table key place back needs f e (λ t y z. Went (λ (new : Trip). Holds new.at (with_row y table key back) z) t v after) call in
+undo_goes l x ops why s now w v c after table key place back undone needs keeps fate f e same call is =
+    let went = undo_call l x ops why s w c table key place back needs f e (λ t y z. Went (IsUndone undone y z table key place back t) t v after) call in
     let it : GoesBack l x ops why (after_done s) v after = record {
       trip = went.trip;
       tables = with_row f.tables table key back;
@@ -58,7 +58,7 @@ undo_goes l x ops why s now w v c after table key place back needs keeps fate f 
       start = ap (λ z. z.rows) went.same ∙ f.start;
       way = went.way;
       within = f.within;
-      course = keeps x ops f.refused f.trip.at went.trip.at f.tables f.shape f.shape s table key place back f.course e went.on;
+      course = keeps x ops f.refused f.trip.at went.trip.at f.tables f.shape f.shape s table key place back f.course e went.on.holds;
       decided = fate l x ops f.tables why table key back f.decided;
       undoes = ap (λ (g : Stage). (done_at s g).stage) f.undoes ∙ f.undoes;
     } in
@@ -94,11 +94,11 @@ halted_end alive l x ops c t halt.NoMemory e is = tt
 halted_end alive l x ops c t (halt.Damaged page at) e is = is
 
 pub end_goes : (alive : Bool) (l : Limits) (x : Tables) (ops : List Op) (why : Cause) (s : State) (w v : Work) (c after : Option Contents) (r : Result (Unit {0}) Halt) → Returns → EndIsNext
-    → GoesBack l x ops why s w c × (want_of s ≡ wanted.Ended) → IsSameRun w v → ((t : Trip) → IsOn t w c → ends.Returns t v after r) → EndsBack alive l x ops why v after r
+    → GoesBack l x ops why s w c × (want_of s ≡ wanted.Ended) → IsSameRun w v → ((t : Trip) → IsOn t w c → ends.Returns t w v after r) → EndsBack alive l x ops why v after r
 end_goes alive l x ops why s w v c after (Ok it) returns is_next p same call =
     let f = p.0 in
     let rows = returns x ops f.refused f.trip.at f.tables f.shape s f.course f.undoes p.1 in
-    let ended : Ended f.trip.start.rows f.trip.at v after = call f.trip f.way in
+    let ended = call f.trip f.way in
     let stands : Stands f.tables v after = record {
       start = ended.start;
       at = f.trip.at;

@@ -8,6 +8,7 @@ use Rattle.serial_locks.specs.Standings.{Standing, used}
 use Rattle.tran_core.specs.declared.stage.Stage.TheVariants as stage
 use Rattle.tran_core.specs.Wants as wanted
 use Rattle.tran_core.specs.Wants.{Wanted, Acted, FormatIndex, FormatHeap, GiveSlot, Split, BranchEntry, RowChange}
+use Rattle.tran_core.specs.Pages.{after_page}
 use Rattle.tran_core.specs.States.{State, want_of, after_done, after_refusal}
 use Rattle.tran_pages.specs.Tables.{Tables, Shape, count_in}
 use Rattle.tran_pages.specs.Course.{IsOnCourse}
@@ -144,6 +145,14 @@ ChangeIsAnswered limit t x w it (Some why) new = IsSlotRefused limit t x it why 
 abbrev pub IsAnswered : Option Cause → State → Way → State → Type 0
 IsAnswered None s how now = (how ≡ way.On) × (now ≡ after_done s)
 IsAnswered (Some why) s how now = (how ≡ way.Refused why) × (now ≡ after_refusal s)
+
+-- the agent was told one or the other
+abbrev pub HasBeenTold : State → State → Way → Type 0
+HasBeenTold s now how = (refusal : Option Cause) × IsAnswered refusal s how now
+
+-- the agent was given a page
+abbrev pub HasMetPage : State → State → Way → Type 0
+HasMetPage s now how = (page : List ℕ) × (how ≡ way.On) × (now ≡ after_page s page)
 
 -- ---- what a step leaves
 

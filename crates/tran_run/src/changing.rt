@@ -8,7 +8,7 @@ ghost use Rattle.tran_pages.specs.Tables.{Tables};
 ghost use Rattle.logged_changes.specs.declared.halt.Halt.TheVariants as halt;
 ghost use Rattle.logged_changes.specs.Works.{HasHaltCause};
 ghost use Rattle.tran_fates.specs.Causes.{Limits};
-ghost use Rattle.tran_run.specs.Ways.{GoesForward, Follows, IsAnswered, IsSteady, Stays, IsOpen, IsChange, table_of, slot_refusal};
+ghost use Rattle.tran_run.specs.Ways.{GoesForward, Follows, IsAnswered, IsSteady, Stays, IsOpen, HasBeenTold, IsChange, table_of, slot_refusal};
 
 use crate::way::Way;
 use ds_base::TableId;
@@ -86,6 +86,7 @@ pub fn change_step<D: Disk>(
     ensures steady { OnOk result (IsSteady work.new agent.new) }
     ensures stays { Stays 0 work.old work.new }
     ensures open { IfOk result IsOpen }
+    ensures told { IfOk result (λ how. HasBeenTold agent.old agent.new how) }
     ensures follows { (l : Limits) (x : Tables) (ops : List Op) → GoesForward l x ops agent.old work.old (D.contents disk.old) → Follows (D.alive disk.new) l x ops agent.new work.new (D.contents disk.new) result }
     ensures cause { HasHaltCause (D.faults disk.old) (D.faults disk.new) result }
 {

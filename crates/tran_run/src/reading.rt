@@ -8,7 +8,7 @@ ghost use Rattle.tran_pages.specs.Tables.{Tables};
 ghost use Rattle.logged_changes.specs.declared.halt.Halt.TheVariants as halt;
 ghost use Rattle.logged_changes.specs.Works.{HasHaltCause};
 ghost use Rattle.tran_fates.specs.Causes.{Limits};
-ghost use Rattle.tran_run.specs.Ways.{GoesForward, Follows, IsSteady, Stays, IsOpen};
+ghost use Rattle.tran_run.specs.Ways.{GoesForward, Follows, IsSteady, Stays, IsOpen, HasMetPage};
 
 use crate::way::Way;
 use ds_base::{PageId, Volume};
@@ -56,6 +56,7 @@ pub fn page_step<D: Disk>(
     ensures steady { OnOk result (IsSteady work.new agent.new) }
     ensures stays { Stays 0 work.old work.new }
     ensures open { IfOk result IsOpen }
+    ensures met { IfOk result (λ how. HasMetPage agent.old agent.new how) }
     ensures follows { (l : Limits) (x : Tables) (ops : List Op) → GoesForward l x ops agent.old work.old (D.contents disk.old) → Follows (D.alive disk.new) l x ops agent.new work.new (D.contents disk.new) result }
     ensures cause { HasHaltCause (D.faults disk.old) (D.faults disk.new) result }
 {

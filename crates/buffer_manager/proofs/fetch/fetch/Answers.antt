@@ -1,4 +1,4 @@
-use Rattle.std.proofs.Common.{◌≡◌, ap, sym, ◌∙◌}
+use Rattle.std.proofs.Common.{ap, sym, ◌∙◌}
 use Rattle.member_pool.specs.Frames.{holds}
 use Rattle.member_pool.specs.Pools.{PoolState, frame_of}
 use Rattle.buffer_manager.proofs.Finds.{find_some}

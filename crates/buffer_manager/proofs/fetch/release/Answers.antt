@@ -1,10 +1,12 @@
-use Rattle.std.proofs.Common.{◌≡◌, ◌<◌, true, false, true≢false, inl, length, ap, sym, subst, refl, ◌∙◌}
-use Rattle.std.proofs.lemmas.List.{length-set}
+use Rattle.std.proofs.Common.{◌<◌, true≢false, inl, ap, sym, subst, refl, ◌∙◌}
 use Rattle.member_pool.specs.Frames.{holds, find_page, free_frame}
 use Rattle.member_pool.specs.Pools.{PoolState, frame_of}
+use Rattle.buffer_manager.specs.Ranks.{StoresInOrder}
 use Rattle.buffer_manager.proofs.Finds.{at_same, find_absent}
 use Rattle.buffer_manager.proofs.Goings.{Step, goes_on, becomes_same}
+use Rattle.buffer_manager.proofs.Logs.{becomes_map}
 use Rattle.buffer_manager.proofs.Keeping.{with_pool}
+use Rattle.buffer_manager.proofs.Marks.{in_order_same, stored_same, dropped_marks}
 use Rattle.buffer_manager.proofs.Steps.{sound_dropped, step_drop}
 use Rattle.buffer_manager.proofs.fetch.release.Goals as goal
 
@@ -35,3 +37,17 @@ returns-clause-absent g c = λ q none.
     let e = c.in_ok-clean_marked.ensures in
     ap (λ (p : PoolState). find_page p.frames q) c.drop_page.ensures
     ∙ find_absent c.clean_marked.new.b.pool.frames c.args.frame free_frame q (subst (λ n. c.args.frame < n) (sym e.count) c.requires.there) (e.found q ∙ none) (λ t. true≢false (sym t))
+
+pub returns-clause-in_order : goal.returns-clause-in_order
+returns-clause-in_order g c =
+    let e = c.in_ok-clean_marked.ensures in
+    let p = c.clean_marked.new.b.pool in
+    in_order_same c.args.b.now.pool p c.drop_page.new.self e.in_order (dropped_marks p c.drop_page.new.self c.args.frame e.sound.frames e.clean (ap (λ (n : PoolState). n.frames) c.drop_page.ensures))
+
+pub returns-clause-stored : goal.returns-clause-stored
+returns-clause-stored g c =
+    let e = c.in_ok-clean_marked.ensures in
+    let p = c.clean_marked.new.b.pool in
+    let n = c.drop_page.new.self in
+    let same = dropped_marks p n c.args.frame e.sound.frames e.clean (ap (λ (s : PoolState). s.frames) c.drop_page.ensures) in
+    becomes_map _ _ (StoresInOrder c.args.b.now.pool p) (StoresInOrder c.args.b.now.pool n) (λ s t h. stored_same c.args.b.now.pool p n s t t h same refl) e.stored

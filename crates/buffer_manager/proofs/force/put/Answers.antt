@@ -1,5 +1,4 @@
-use Rattle.std.proofs.Common.{◌≡◌, ◌++◌, refl, sym, ap, ◌∙◌}
-use Rattle.ds_disk.specs.Contents.{Contents}
+use Rattle.std.proofs.Common.{◌≡◌, refl, ap, ◌∙◌}
 use Rattle.ds_model.specs.RecordBytes.{record_bytes}
 use Rattle.buffer_manager.specs.States.{with_more, logs_with_pending}
 use Rattle.buffer_manager.proofs.Logs.{more_twice, becomes_map}

@@ -3,6 +3,7 @@ use Rattle.std.specs.Prelude.{OnOk}
 use Rattle.std.proofs.lemmas.Result.{err_from_is_err_and}
 use Rattle.ds_disk.specs.Contents.{Becomes}
 use Rattle.ds_model.specs.declared.log.Body.TheVariants as body
+use Rattle.ds_model.specs.RecordBytes.{IsAllowed}
 use Rattle.page_format.specs.declared.patch.Patch.{Patch}
 use Rattle.logged_changes.specs.declared.work.Work.{Work}
 use Rattle.logged_changes.specs.Steps.{PutsNext, HasChanged}
@@ -34,6 +35,7 @@ returns-clause-way g c = λ t on.
     let puts : Becomes x y (PutsNext (record { lrsn = lrsn; tran = 0; body = body.System patches }) m.buffers b) =
     subst (λ n. Becomes x y (PutsNext (record { lrsn = lrsn; tran = n; body = body.System patches }) m.buffers b)) c.no_tran.ensures e.course in
     let changed : OnOk c.change_all.result (HasChanged lrsn patches b now y z) = subst (λ (ps : List Patch). OnOk c.change_all.result (HasChanged lrsn ps b now y z)) all k.changed in
-    let put = has_put w x y m.buffers b (record { lrsn = lrsn; tran = 0; body = body.System patches }) same puts e.pages e.last (next_system w lrsn patches c.in_ok-lrsn.ensures.ok) e.allowed.lrsn_in in
-    system_passes t w _ x y z b lrsn on c.course_laws.ensures.number patches c.change_all.result put changed k.err
+    let allowed : IsAllowed (record { lrsn = lrsn; tran = 0; body = body.System patches }) = subst (λ n. IsAllowed (record { lrsn = lrsn; tran = n; body = body.System patches })) c.no_tran.ensures e.allowed in
+    let put = has_put w x y m.buffers b (record { lrsn = lrsn; tran = 0; body = body.System patches }) same puts e.pages e.last (next_system w lrsn patches c.in_ok-lrsn.ensures.ok) allowed in
+    system_passes t w _ x y z b lrsn on c.course_laws.ensures.number c.course_laws.ensures.behind patches c.change_all.result put changed k.err
     (ap (λ (q : Work). q.tran) c.in_ok-lrsn.ensures.drawn) (ap (λ (q : Work). q.locks.counter) c.in_ok-lrsn.ensures.drawn)

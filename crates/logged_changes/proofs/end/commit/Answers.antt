@@ -18,6 +18,6 @@ returns-clause-over g c = λ t on.
     let w = c.args.work.now in
     let own = is_own w _ _ _ _ c.in_ok-lrsn.ensures.ok c.in_ok-lrsn.ensures.drawn c.tran_of.ensures.number c.tran_of.ensures.given in
     let e = c.in_ok-put.ensures in
-    let put = own_put w c.tran_of.new.work (g.D.Disk.contents c.args.disk.now) (g.D.Disk.contents c.put.new.disk) c.put.new.buffers _ _ body.Commit own e.course e.pages e.last e.allowed.lrsn_in in
+    let put = own_put w c.tran_of.new.work (g.D.Disk.contents c.args.disk.now) (g.D.Disk.contents c.put.new.disk) c.put.new.buffers _ _ body.Commit own e.course e.pages e.last e.allowed in
     let k = c.force.ensures in
-    commit_result c.course_laws.ensures.ends _ t w c.tran_of.new.work _ _ _ (g.D.Disk.contents c.force.new.disk) c.put.new.buffers _ _ c.force.result on put own e.stands e.pending refl k.course k.pages k.pending k.err k.quiet
+    commit_result c.course_laws.ensures.ends c.course_laws.ensures.chain c.course_laws.ensures.behind _ t w c.tran_of.new.work _ _ _ (g.D.Disk.contents c.force.new.disk) c.put.new.buffers _ _ c.force.result on put own e.stands e.pending refl k.course k.pages k.pending k.err k.quiet

@@ -1,6 +1,7 @@
 use Rattle.std.proofs.Common.{refl, subst}
 use Rattle.std.proofs.lemmas.Result.{err_from_is_err_and}
 use Rattle.ds_disk.specs.Contents.{Becomes}
+use Rattle.ds_model.specs.RecordBytes.{IsAllowed}
 use Rattle.logged_changes.specs.Steps.{PutsNext}
 use Rattle.logged_changes.proofs.Ways.{halts}
 use Rattle.logged_changes.proofs.Endings.{end_record, return_halts, return_result}
@@ -21,5 +22,6 @@ returns-clause-over g c = λ t on.
     let e = c.in_ok-put.ensures in
     let k = c.force.ensures in
     let puts : Becomes x y (PutsNext (end_record w.buffers.log.last c.args.tran) w.buffers c.put.new.buffers) = subst (λ n. Becomes x y (PutsNext (end_record n c.args.tran) w.buffers c.put.new.buffers)) c.last.ensures e.course in
-    return_result t w c.put.new.buffers c.args.tran c.requires.number c.requires.ready.put c.course_laws.ensures.ends _ x y (g.D.Disk.contents c.force.new.disk) c.force.result on
+    let allowed : IsAllowed (end_record w.buffers.log.last c.args.tran) = subst (λ n. IsAllowed (end_record n c.args.tran)) c.last.ensures e.allowed in
+    return_result t w c.put.new.buffers c.args.tran c.requires.number c.requires.ready.put c.course_laws.ensures.ends c.course_laws.ensures.chain allowed _ x y (g.D.Disk.contents c.force.new.disk) c.force.result on
     puts e.pages refl k.course k.pages k.pending k.err

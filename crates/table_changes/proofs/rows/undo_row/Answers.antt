@@ -1,5 +1,8 @@
+use Rattle.std.proofs.Common.{refl, ap}
 use Rattle.std.specs.Prelude.{option_copied}
 use Rattle.std.proofs.lemmas.Result.{err_from_is_err_and}
+use Rattle.logged_changes.specs.Trips.{tran_of}
+use Rattle.logged_changes.specs.Passages.{newest}
 use Rattle.table_changes.proofs.Rows_made.{row_undone}
 use Rattle.table_changes.proofs.rows.undo_row.Goals as goal
 
@@ -13,5 +16,5 @@ pub returns-clause-undone : goal.returns-clause-undone
 returns-clause-undone g c = λ t x w on holds may.
     let law = c.row_laws.ensures t.at x w c.args.table c.args.key c.args.place (option_copied c.args.back) holds c.row_plan.ensures.table may in
     let read = c.in_ok-plan.ensures.way t _ on law.place_is law.before in
-    row_undone c.make_laws.ensures.row c.row_laws.ensures t x w c.args.table c.args.key c.args.place (option_copied c.args.back) holds c.row_plan.ensures.table may c.row_plan.new.work.locks.counter c.in_ok-plan.plan.patch c.in_ok-plan.ensures.patch
-    _ c.compensate.new.work (g.D.Disk.contents c.compensate.new.disk) c.compensate.result (c.compensate.ensures.way t read.0)
+    row_undone c.make_laws.ensures.row c.row_laws.ensures t x w c.args.table c.args.key c.args.place (option_copied c.args.back) holds c.row_plan.ensures.table may c.row_plan.new.work.locks.counter (tran_of c.row_plan.new.work) c.in_ok-plan.plan.patch c.in_ok-plan.ensures.patch
+    _ refl refl refl read.1 c.copied.ensures _ (newest c.args.work.now.changes.items) (ap newest c.row_plan.ensures.changes) c.compensate.new.work (g.D.Disk.contents c.compensate.new.disk) c.compensate.result (c.compensate.ensures.way t read.0)

@@ -17,5 +17,5 @@ returns-in_err-undo-in-Undo-clause-follows g c = λ l x ops why f.
 pub returns-in_ok-met-in-Undo-clause-follows : goal.returns-in_ok-met-in-Undo-clause-follows
 returns-in_ok-met-in-Undo-clause-follows g c = λ l x ops why f.
     let laws = c.course_laws.ensures in
-    undo_goes l x ops why c.args.agent.now c.met.new.self c.args.work.now c.undo.new.work _ _ c.in-Undo.table c.in-Undo.key c.in-Undo.place (option_copied c.in-Undo.back)
+    undo_goes l x ops why c.args.agent.now c.met.new.self c.args.work.now c.undo.new.work _ _ c.in-Undo.table c.in-Undo.key c.in-Undo.place (option_copied c.in-Undo.back) _
     laws.undo_needs laws.undo c.fate_laws.ensures.undo f (sym c.in-Undo.ensures) c.undo.ensures.same c.in_ok-undo-in-Undo.ensures.undone c.in_ok-met-in-Undo.ensures.ok

@@ -4,7 +4,7 @@ use Rattle.tran_core.specs.Wants.{did}
 use Rattle.tran_fates.specs.declared.cause.Cause.{Cause}
 use Rattle.tran_run.specs.Ways.{IsAnswered, slot_refusal}
 use Rattle.tran_run.proofs.Onward.{halted, change_goes, change_needs}
-use Rattle.tran_run.proofs.Ending.{err_follows, answer_follows}
+use Rattle.tran_run.proofs.Ending.{err_follows, answer_follows, told_by}
 use Rattle.tran_run.proofs.changing.change_step.Goals as goal
 
 pub returns-in_err-made-in-Change-clause-follows : goal.returns-in_err-made-in-Change-clause-follows
@@ -24,3 +24,6 @@ returns-clause-follows g c = λ l x ops f.
     (λ how a. change_goes l x ops c.args.agent.now c.answer.new.agent c.args.work.now c.make.new.work _ _ it made how
     laws.needs laws.change laws.refusal fates.change fates.slot_refused f (sym c.in-Change.ensures) c.in_ok-made-in-Change.ensures.same c.in_ok-made-in-Change.ensures.made
     (subst (λ (z : Option Cause). IsAnswered z c.args.agent.now how c.answer.new.agent) refusal a))
+
+pub returns-clause-told : goal.returns-clause-told
+returns-clause-told g c = told_by c.slot_refusal.result c.args.agent.now c.answer.new.agent c.answer.result c.answer.ensures.met

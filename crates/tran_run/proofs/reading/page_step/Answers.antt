@@ -1,4 +1,4 @@
-use Rattle.std.proofs.Common.{◌≡◌, ℕ, length, ◌∙◌, ap, arith, List}
+use Rattle.std.proofs.Common.{◌≡◌, ℕ, length, refl, ◌∙◌, ap, arith, List}
 use Rattle.tran_core.specs.declared.stage.Undone.{Undone}
 use Rattle.tran_core.specs.States.{State}
 use Rattle.tran_run.proofs.Onward.{page_goes, page_halts}
@@ -30,3 +30,6 @@ pub returns-clause-follows : goal.returns-clause-follows
 returns-clause-follows g c = λ l x ops f.
     page_goes l x ops c.args.agent.now c.give.new.agent c.args.work.now c.fetch.new.work _ _ c.args.id _ c.page.result.now c.course_laws.ensures.page c.fate_laws.ensures.page f c.requires.want c.in_ok-frame.ensures.same
     c.in_ok-frame.ensures.way c.page.ensures c.in_ok-give.ensures.ok
+
+pub returns-clause-met : goal.returns-clause-met
+returns-clause-met g c = (c.page.result.now, refl, c.in_ok-give.ensures.ok)
