@@ -12,6 +12,3 @@ mod state;
 mod write;
 
 pub use manager::BufferManager;
-
-#[cfg(test)]
-mod tests;

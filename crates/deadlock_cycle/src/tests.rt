@@ -4,7 +4,7 @@ use list_structure::Wait;
 use std::test::Fail;
 
 fn tran(number: u32) -> TranId {
-    let member = MemberId::new(1 + number as u64 % 2).unwrap();
+    let member = MemberId::new(1).unwrap();
     TranId { member, number }
 }
 
@@ -17,24 +17,9 @@ fn wait(waiter: u32, holder: u32) -> Wait {
 }
 
 #[test]
-fn cycles_are_found_by_their_highest_transaction(rt: HostRuntime) -> Result<(), Fail> {
-    let waits = [
-        wait(2, 1),
-        wait(1, 2),
-        wait(5, 3),
-        wait(3, 6),
-        wait(3, 4),
-        wait(4, 5),
-        wait(7, 7),
-    ];
-    for (number, wanted) in [(1, ""), (2, "21"), (5, "534"), (6, ""), (7, "7")] {
-        let mut told = String::new(rt.alloc());
-        if let Some(cycle) = find_cycle(rt.alloc(), &waits, tran(number))? {
-            for t in cycle.as_slice() {
-                told.push_str(format!(in rt.alloc(); "{}", t.number)?.as_str())?;
-            }
-        }
-        assert_eq!(rt; told.as_str(), wanted);
-    }
+fn two_that_wait_for_each_other_are_a_cycle(rt: HostRuntime) -> Result<(), Fail> {
+    let waits = [wait(2, 1), wait(1, 2)];
+    let cycle = find_cycle(rt.alloc(), &waits, tran(2))?.ok_or("a cycle")?;
+    assert!(rt; cycle.as_slice() == [tran(2), tran(1)].as_slice());
     Ok(())
 }

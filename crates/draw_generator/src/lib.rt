@@ -4,6 +4,3 @@
 mod generator;
 
 pub use generator::Generator;
-
-#[cfg(test)]
-mod tests;

@@ -9,8 +9,6 @@ mod names;
 mod row;
 mod sequence;
 mod streams;
-#[cfg(test)]
-mod tests;
 mod value;
 
 pub use bytes::Bytes;

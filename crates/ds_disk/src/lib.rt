@@ -10,6 +10,3 @@ mod plan;
 
 pub use disk::{Disk, DiskError, DiskFailure, DiskOp};
 pub use memory::MemoryDisk;
-
-#[cfg(test)]
-mod tests;

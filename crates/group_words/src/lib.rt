@@ -7,8 +7,6 @@ mod order;
 mod parsed;
 mod read;
 mod setting;
-#[cfg(test)]
-mod tests;
 
 pub use laws::size_laws;
 pub use order::{Order, WordsFault};

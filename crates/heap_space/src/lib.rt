@@ -12,8 +12,6 @@ mod laws;
 mod layout;
 mod next;
 mod slot;
-#[cfg(test)]
-mod tests;
 
 pub use change::{format_heap, give};
 pub use image::slot_image;

@@ -10,8 +10,6 @@ mod laws;
 mod layout;
 mod search;
 mod step;
-#[cfg(test)]
-mod tests;
 
 pub use changes::{format_index, next_page, take_next};
 pub use fields::{count, entry, high_key, low_key, right};

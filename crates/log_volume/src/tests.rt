@@ -94,15 +94,3 @@ fn a_commit_and_ten_bytes_are_a_record_and_a_tail(rt: HostRuntime) -> Result<(),
     assert_eq!(rt; again.tail(), 0);
     Ok(())
 }
-
-#[test]
-fn a_kind_that_is_none_is_damage(rt: HostRuntime) -> Result<(), Fail> {
-    let mut bytes = LOG;
-    bytes[4] = 0;
-    let mut disk = disk_with(&rt, rt.alloc(), &bytes)?;
-    match open_log(rt.alloc(), &mut disk, member(&rt)) {
-        Err(fault) => assert_eq!(rt; fault, LogFault::Damaged { at: 4 }),
-        Ok(_) => assert!(rt; false),
-    }
-    Ok(())
-}

@@ -5,8 +5,6 @@ mod header;
 mod layout;
 mod page;
 mod patch;
-#[cfg(test)]
-mod tests;
 
 pub use header::{Header, NotAPage, PageKind};
 pub use page::{ENTRIES_PER_PAGE, PAGE_SIZE, Page, SLOTS_PER_PAGE};

@@ -8,8 +8,6 @@ mod laws;
 mod line;
 mod operation;
 mod read;
-#[cfg(test)]
-mod tests;
 mod values;
 mod words;
 

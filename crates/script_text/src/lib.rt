@@ -9,8 +9,6 @@ mod marks;
 mod names;
 mod read;
 mod reader;
-#[cfg(test)]
-mod tests;
 mod write;
 
 pub use ds_model::{

@@ -10,6 +10,3 @@ mod locking;
 
 pub use locked::Locked;
 pub use locking::Locking;
-
-#[cfg(test)]
-mod tests;

@@ -4,6 +4,3 @@
 mod map;
 
 pub use map::SpotMap;
-
-#[cfg(test)]
-mod tests;

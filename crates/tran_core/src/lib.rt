@@ -22,6 +22,3 @@ pub use ds_model::{Answer, Fate, Reads, Refusal};
 pub use laws::{lock_laws, read_laws, undo_laws};
 pub use rows::row_read;
 pub use want::{Action, Met, Want};
-
-#[cfg(test)]
-mod tests;

@@ -49,12 +49,6 @@ fn interleaved<R: Threads + Wait + Sync>(rt: &R, alloc: Global, seats: usize) ->
 }
 
 #[test]
-fn two_threads_interleave_and_have_all_their_events_in_order(rt: HostRuntime) -> Result<(), Fail> {
-    assert!(rt; interleaved(&rt, rt.alloc(), 2) == Some(20000));
-    Ok(())
-}
-
-#[test]
 fn eight_threads_interleave_and_have_all_their_events_in_order(
     rt: HostRuntime,
 ) -> Result<(), Fail> {

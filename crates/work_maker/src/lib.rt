@@ -9,6 +9,3 @@ mod transaction;
 pub use draw_generator::Generator;
 pub use laws::making_laws;
 pub use script::make_script;
-
-#[cfg(test)]
-mod tests;
