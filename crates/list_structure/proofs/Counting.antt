@@ -9,16 +9,16 @@ use Rattle.list_structure.specs.Cells.{cell_at, is_asked}
 use Rattle.list_structure.specs.Counts.{one_if, asked_count, IsCounted}
 
 -- two places are one only where asker and member are
-same_asker_place : (i t j u : ℕ) → t < 32 → u < 32 → j * 32 + u ≡ i * 32 + t → j ≡ i
+pub same_asker_place : (i t j u : ℕ) → t < 32 → u < 32 → j * 32 + u ≡ i * 32 + t → j ≡ i
 same_asker_place i t j u a b e = omega arith
 
-same_asked_place : (i t j u : ℕ) → t < 32 → u < 32 → j * 32 + u ≡ i * 32 + t → u ≡ t
+pub same_asked_place : (i t j u : ℕ) → t < 32 → u < 32 → j * 32 + u ≡ i * 32 + t → u ≡ t
 same_asked_place i t j u a b e = omega arith
 
-cell_at-set_same : (cells : List Cell) (i t : ℕ) (c : Cell) → i * 32 + t < length cells → cell_at (slice_set cells (i * 32 + t) c) i t ≡ c
+pub cell_at-set_same : (cells : List Cell) (i t : ℕ) (c : Cell) → i * 32 + t < length cells → cell_at (slice_set cells (i * 32 + t) c) i t ≡ c
 cell_at-set_same cells i t c l = get_or-set_same cells (i * 32 + t) c Empty l
 
-cell_at-set_other : (cells : List Cell) (i t j u : ℕ) (c : Cell) → j * 32 + u ≢ i * 32 + t → cell_at (slice_set cells (i * 32 + t) c) j u ≡ cell_at cells j u
+pub cell_at-set_other : (cells : List Cell) (i t j u : ℕ) (c : Cell) → j * 32 + u ≢ i * 32 + t → cell_at (slice_set cells (i * 32 + t) c) j u ≡ cell_at cells j u
 cell_at-set_other cells i t j u c n = get_or-set_other cells (i * 32 + t) (j * 32 + u) c Empty n
 
 pub cell_at-set : (cells : List Cell) (i t j u : ℕ) (c : Cell) → i * 32 + t < length cells → t < 32 → u < 32

@@ -14,7 +14,7 @@ use Rattle.list_structure.specs.Flags.{same_tran}
 use Rattle.list_structure.specs.Waits.{is_replaced, is_among, FitsWaits, with_wait}
 use Rattle.list_structure.specs.Kept.{AreApart, is_between, in_range, IsKept}
 
-or_right_true : (x y : Bool) → x ≡ false → (x || y) ≡ true → y ≡ true
+pub or_right_true : (x y : Bool) → x ≡ false → (x || y) ≡ true → y ≡ true
 or_right_true true y n e = absurd (false≢true (sym n))
 or_right_true false y n e = e
 
@@ -28,7 +28,7 @@ none_in_filter p q (x ∷ xs) e = elim (cases_Bool (p x)) [
   | inr f ↦ let ih = none_in_filter p q xs in grind (arith, f, ih)
 ]
 
-all_in_filter : {X : Type 0} (p q : X → Bool) (xs : List X) → list_all q xs ≡ true → list_all q (filter p xs) ≡ true
+pub all_in_filter : {X : Type 0} (p q : X → Bool) (xs : List X) → list_all q xs ≡ true → list_all q (filter p xs) ≡ true
 all_in_filter p q [] e = refl
 all_in_filter p q (x ∷ xs) e = elim (cases_Bool (p x)) [
   | inl t ↦ let ih = all_in_filter p q xs in grind (arith, t, ih)
@@ -66,7 +66,7 @@ IsKept-filter p ws agents room k = record {
 }
 
 -- a list has more than what is left without a transaction that it has
-others : List TranId → TranId → List TranId
+pub others : List TranId → TranId → List TranId
 others ts t = filter (λ u. not (same_tran t u)) ts
 
 some_pass : {X : Type 0} (p : X → Bool) (xs : List X) → list_any p xs ≡ true → 1 ≤ length (filter p xs)
@@ -159,7 +159,7 @@ length_of_kept ws b r few =
 same_tran-trans : (t u v : TranId) → same_tran u v ≡ true → same_tran t u ≡ false → same_tran t v ≡ false
 same_tran-trans t u v a b = grind (arith, nat_tests)
 
-still_among : (ts : List TranId) (t u : TranId) → same_tran t u ≡ false → is_among ts u ≡ true → is_among (others ts t) u ≡ true
+pub still_among : (ts : List TranId) (t u : TranId) → same_tran t u ≡ false → is_among ts u ≡ true → is_among (others ts t) u ≡ true
 unfolding others
 still_among [] t u d e = e
 still_among (v ∷ ts) t u d e = let ih = still_among ts t u d in elim (cases_Bool (same_tran u v)) [
@@ -170,7 +170,7 @@ still_among (v ∷ ts) t u d e = let ih = still_among ts t u d in elim (cases_Bo
 other_waiter : (m h : ℕ) (v w : Wait) → is_between m h v ≡ true → is_replaced v w ≡ false → is_between m h w ≡ true → same_tran v.waiter w.waiter ≡ false
 other_waiter m h v w a b c = grind (arith, nat_tests)
 
-fewer : (ts : List TranId) (t : TranId) → is_among ts t ≡ true → length (others ts t) + 1 ≤ length ts
+pub fewer : (ts : List TranId) (t : TranId) → is_among ts t ≡ true → length (others ts t) + 1 ≤ length ts
 unfolding others
 fewer ts t e = omega (arith, some_pass (same_tran t) ts e, length-filter_both (same_tran t) (λ u. not (same_tran t u)) (λ u. refl) ts)
 

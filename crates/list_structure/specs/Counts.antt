@@ -1,5 +1,5 @@
 -- How many cells to a member are asked.
-use Rattle.std.specs.Prelude.{ℕ, zero, suc, ◌≡◌, ◌+◌, ◌<◌, Bool, true, false, List, length, slice_index, if◌then◌else◌}
+use Rattle.std.specs.Prelude.{ℕ, zero, suc, ◌≡◌, ◌+◌, ◌*◌, ◌<◌, Bool, true, false, List, length, slice_index, slice_index_or, if◌then◌else◌}
 use Rattle.list_structure.specs.declared.query.Cell.{Cell}
 use Rattle.list_structure.specs.Cells.{cell_at, is_asked}
 
@@ -17,3 +17,8 @@ pub record IsCounted (cells : List Cell) (counts : List ℕ) : Type 0 where
   pub cells_length : length cells ≡ 17408
   pub counts_length : length counts ≡ 32
   pub counted : (t : ℕ) → t < 32 → slice_index counts t ≡ asked_count cells t 544
+
+-- by asked member, and for each of them by asker, whether the cell is asked
+pub record IsMarked (cells : List Cell) (marks : List Bool) : Type 0 where
+  pub marks_length : length marks ≡ 17408
+  pub marked : (t i : ℕ) → t < 32 → i < 544 → slice_index_or marks (t * 544 + i) false ≡ is_asked (cell_at cells i t)

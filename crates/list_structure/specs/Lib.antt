@@ -7,4 +7,5 @@ pub mod Kept
 pub mod Rounds
 pub mod Standings
 pub mod States
+pub mod Waiters
 pub mod Waits

@@ -1,5 +1,5 @@
 -- How the members stand: whether they run, are done with the phase, and rebuild the cache.
-use Rattle.std.specs.Prelude.{ℕ, ◌≡◌, ◌-◌, ◌==◌, Bool, true, false, not, ◌&&◌, List, slice_index_or, nat_le, Option, Some, None, if◌then◌else◌}
+use Rattle.std.specs.Prelude.{ℕ, ◌≡◌, ◌-◌, ◌==◌, Bool, true, false, not, ◌&&◌, List, length, replicate, slice_index_or, nat_le, Option, Some, None, if◌then◌else◌}
 use Rattle.ds_base.specs.Ids.{IsMember}
 use Rattle.list_structure.specs.declared.standing.MemberStatus.{MemberStatus}
 use Rattle.list_structure.specs.declared.standing.MemberStatus.TheVariants.{Down, Up, Failed, Restarting}
@@ -25,15 +25,17 @@ is_live Restarting = true
 is_live _ = false
 
 -- the group's members are up and done, and all other numbers are down
-abbrev pub AreUp : List MemberStatus → ℕ → Type 0
-AreUp statuses members = (m : ℕ) → IsMember m → status_of statuses m ≡ (if nat_le m members then Up else Down)
+pub record AreUp (statuses : List MemberStatus) (members : ℕ) : Type 0 where
+  pub count : length statuses ≡ 32
+  pub each : (m : ℕ) → IsMember m → status_of statuses m ≡ (if nat_le m members then Up else Down)
 
-abbrev pub AreDone : List Bool → ℕ → Type 0
-AreDone done members = (m : ℕ) → IsMember m → done_of done m ≡ nat_le m members
+pub record AreDone (done : List Bool) (members : ℕ) : Type 0 where
+  pub count : length done ≡ 32
+  pub each : (m : ℕ) → IsMember m → done_of done m ≡ nat_le m members
 
 -- no member is done
 abbrev pub NoneDone : List Bool → Type 0
-NoneDone done = (m : ℕ) → done_of done m ≡ false
+NoneDone done = done ≡ replicate 32 false
 
 -- the reply to a member that is to rebuild the cache if it is lost
 abbrev pub claim_reply : Bool → Option ℕ → ℕ → List MemberStatus → ClaimReply

@@ -1,5 +1,5 @@
 -- What the list structure holds.
-use Rattle.std.specs.Prelude.{ℕ, ◌≡◌, ◌==◌, Bool, not, ◌&&◌, ◌||◌, List, [], Option, None}
+use Rattle.std.specs.Prelude.{ℕ, ◌≡◌, ◌==◌, Bool, not, ◌&&◌, ◌||◌, List, [], Option, None, replicate}
 use Rattle.list_structure.specs.declared.query.Cell.{Cell}
 use Rattle.list_structure.specs.declared.query.Cell.TheVariants.{Empty}
 use Rattle.list_structure.specs.declared.wait.Wait.{Wait}
@@ -31,9 +31,11 @@ pub record IsNew (lists : ListsState) (members agents : ℕ) : Type 0 where
   pub cells : AreCells lists.cells (λ asker member. Empty)
   pub waits : lists.waits ≡ []
   pub flags : (f : ℕ) → flag_of lists.flags f ≡ no_flag
+  pub all_flags : lists.flags ≡ replicate 64 no_flag
   pub statuses : AreUp lists.statuses members
   pub done : AreDone lists.done members
   pub bells : (m : ℕ) → bell_of lists.bells m ≡ 0
+  pub all_bells : lists.bells ≡ replicate 32 0
   pub rebuilder : lists.rebuilder ≡ None
 
 -- whether there is nothing to wait for, or the wait is already known

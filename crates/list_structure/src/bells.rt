@@ -1,50 +1,56 @@
 //! A bell a member, that rings where something changed which the member may wait for.
-ghost use Rattle.std.specs.Prelude.{◌≡◌, ℕ, ◌<◌, ◌^◌, ◌-◌, slice_index, IfOk};
+ghost use Rattle.std.specs.Prelude.{◌≡◌, ◌↔◌, IsTrue, replicate, ℕ};
 ghost use Rattle.list_structure.specs.Bells.{bell_of, rung, CanRing};
 
-use crate::copies::{copies, fill};
-use ds_base::{MemberId, NoMemory};
-use std::alloc::Global;
+use ds_base::MemberId;
 use std::marker::Model;
 
-/// How often each member's bell has rung.
+/// How often each member's bell has rung. All ring together, so that one count tells it.
 #[derive(Drop)]
 pub struct Bells {
-    counts: Vec<u64>,
+    count: u64,
 }
 
 impl Model for Bells {
-    ghost use Rattle.std.specs.Prelude.{◌≡◌, ℕ, List, length};
+    ghost use Rattle.std.specs.Prelude.{ℕ, List, replicate};
 
     ghost Value = { List ℕ };
 
-    ghost view = { λ b. b.counts.items };
-
-    ghost invariant = { λ b. length b.counts.items ≡ 32 };
+    ghost view = { λ b. replicate 32 b.count };
 }
 
 impl Bells {
     /// Bells that have never rung.
-    pub fn new(alloc: Global) -> Result<Bells, NoMemory>
-        ensures { IfOk result (λ bells. (member : ℕ) → bell_of bells member ≡ 0) }
+    #[tactic(auto, using(crate::proofs::Ringing::silent))]
+    pub fn new() -> Bells
+        ensures each { (member : ℕ) → bell_of result member ≡ 0 }
+        ensures all { result ≡ replicate 32 0 }
     {
-        Ok(Bells {
-            counts: copies(alloc, 0, 32)?,
-        })
+        Bells { count: 0 }
     }
 
     /// Makes all bells those that have never rung.
+    #[tactic(auto, using(crate::proofs::Ringing::silent))]
     pub fn clear(&mut self)
-        ensures { (member : ℕ) → bell_of self.new member ≡ 0 }
+        ensures each { (member : ℕ) → bell_of self.new member ≡ 0 }
+        ensures all { self.new ≡ replicate 32 0 }
     {
-        fill(self.counts.as_mut_slice(), 0);
+        self.count = 0;
     }
 
     /// How often the member's bell has rung.
     pub fn count(&self, member: MemberId) -> u64
         ensures { result ≡ bell_of self.now member }
     {
-        self.counts[member.number() as usize - 1]
+        let _place = member.number();
+        self.count
+    }
+
+    /// Whether no count is at its end.
+    pub fn can_ring(&self) -> bool
+        ensures { IsTrue result ↔ CanRing self.now }
+    {
+        self.count < u64::MAX
     }
 
     /// Rings all bells.
@@ -52,15 +58,6 @@ impl Bells {
         requires { CanRing self.old }
         ensures { self.new ≡ rung self.old }
     {
-        ring_all(self.counts.as_mut_slice());
-    }
-}
-
-fn ring_all(counts: &mut [u64])
-    requires { (k : ℕ) → slice_index counts.old k < 2 ^ 64 - 1 }
-    ensures { counts.new ≡ rung counts.old }
-{
-    for count in counts.iter_mut() {
-        *count += 1;
+        self.count += 1;
     }
 }

@@ -24,18 +24,20 @@ const ASKERS: usize = 544;
 pub struct Cells {
     cells: Vec<Cell>,
     asked: Vec<u16>,
+    // By asked member, and for each of them by asker.
+    marks: Vec<bool>,
 }
 
 impl Model for Cells {
     ghost use Rattle.std.specs.Prelude.{List};
     ghost use Rattle.list_structure.specs.declared.query.Cell.{Cell};
-    ghost use Rattle.list_structure.specs.Counts.{IsCounted};
+    ghost use Rattle.list_structure.specs.Counts.{IsCounted, IsMarked};
 
     ghost Value = { List Cell };
 
     ghost view = { λ c. c.cells.items };
 
-    ghost invariant = { λ c. IsCounted c.cells.items c.asked.items };
+    ghost invariant = { λ c. IsCounted c.cells.items c.asked.items × IsMarked c.cells.items c.marks.items };
 }
 
 impl Cells {
@@ -46,6 +48,7 @@ impl Cells {
         Ok(Cells {
             cells: copies(alloc, Cell::Empty, ASKERS * MEMBERS)?,
             asked: copies(alloc, 0, MEMBERS)?,
+            marks: copies(alloc, false, MEMBERS * ASKERS)?,
         })
     }
 
@@ -66,8 +69,10 @@ impl Cells {
     {
         let place = asker * MEMBERS + to;
         let before = self.cells[place].is_asked();
-        self.asked[to] = recount(self.asked[to], before, cell.is_asked());
+        let after = cell.is_asked();
+        self.asked[to] = recount(self.asked[to], before, after);
         self.cells[place] = cell;
+        self.marks[to * ASKERS + asker] = after;
     }
 
     /// Empties the cells of an asker.
@@ -127,7 +132,7 @@ impl Cells {
         ensures first { IfSome result (λ found. (i : ℕ) → from ≤ i → i < found → is_asked (cell_at self.now i to) ≡ false) }
     {
         for asker in from..until {
-            if self.cells[asker * MEMBERS + to].is_asked() {
+            if self.marks[to * ASKERS + asker] {
                 return Some(asker);
             }
         }

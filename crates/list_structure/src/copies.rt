@@ -1,10 +1,11 @@
-ghost use Rattle.std.specs.Prelude.{◌≡◌, ℕ, IfOk, length, slice_index_or};
+ghost use Rattle.std.specs.Prelude.{◌≡◌, ℕ, IfOk, length, replicate, slice_index_or};
 
 use ds_base::NoMemory;
 use std::alloc::Global;
 
 /// So many copies of a value.
 pub fn copies<T: Copy + Drop>(alloc: Global, value: T, count: usize) -> Result<Vec<T>, NoMemory>
+    ensures items { IfOk result (λ all. all.items ≡ replicate count value) }
     ensures length { IfOk result (λ all. length all.items ≡ count) }
     ensures same { IfOk result (λ all. (k : ℕ) → slice_index_or all.items k value ≡ value) }
 {
@@ -17,7 +18,8 @@ pub fn copies<T: Copy + Drop>(alloc: Global, value: T, count: usize) -> Result<V
 
 /// Writes the value to each place.
 pub fn fill<T: Copy + Drop>(all: &mut [T], value: T)
-    ensures { (k : ℕ) → slice_index_or all.new k value ≡ value }
+    ensures items { all.new ≡ replicate (length all.old) value }
+    ensures same { (k : ℕ) → slice_index_or all.new k value ≡ value }
 {
     for place in 0..all.len() {
         all[place] = value;

@@ -1,5 +1,5 @@
 //! The flags of a phase, by which transactions wait for one another.
-ghost use Rattle.std.specs.Prelude.{◌≡◌, ◌≤◌, ◌==◌, false, ℕ, map, length, IfOk};
+ghost use Rattle.std.specs.Prelude.{◌≡◌, ◌≤◌, ◌==◌, map, length, replicate, IfOk, false, ℕ};
 ghost use Rattle.std.specs.Option.{option_map_or};
 ghost use Rattle.list_structure.specs.Flags.{same_tran, no_flag, flag_of, with_raised, flag_for, raised_by, raised_for};
 
@@ -95,7 +95,8 @@ impl Model for Flags {
 impl Flags {
     /// Flags of no phase.
     pub fn new(alloc: Global) -> Result<Flags, NoMemory>
-        ensures { IfOk result (λ flags. (f : ℕ) → flag_of flags f ≡ no_flag) }
+        ensures each { IfOk result (λ flags. (f : ℕ) → flag_of flags f ≡ no_flag) }
+        ensures all { IfOk result (λ flags. flags ≡ replicate 64 no_flag) }
     {
         Ok(Flags {
             flags: copies(alloc, Flag::none(), FLAGS)?,
@@ -104,7 +105,8 @@ impl Flags {
 
     /// Makes all flags those of no phase.
     pub fn clear(&mut self)
-        ensures { (f : ℕ) → flag_of self.new f ≡ no_flag }
+        ensures each { (f : ℕ) → flag_of self.new f ≡ no_flag }
+        ensures all { self.new ≡ replicate 64 no_flag }
     {
         fill(self.flags.as_mut_slice(), Flag::none());
     }

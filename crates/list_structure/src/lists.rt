@@ -4,6 +4,7 @@ ghost use Rattle.ds_base.specs.Ids.{IsMember};
 ghost use Rattle.list_structure.specs.Askers.{slot_of};
 ghost use Rattle.list_structure.specs.Bells.{bell_of, rung, CanRing};
 ghost use Rattle.list_structure.specs.Cells.{AreCells, cell_at, cell_of, emptied, with_cell, without_member, IsNextQuery, NoneAsked};
+ghost use Rattle.list_structure.specs.Kept.{AreApart};
 ghost use Rattle.list_structure.specs.Rounds.{start_of, query_in, IsNextAsked};
 ghost use Rattle.list_structure.specs.Flags.{flag_for, flag_of, raised_by, raised_for, with_raised};
 ghost use Rattle.list_structure.specs.Standings.{claim_reply, done_of, is_live, rebuilder_after, rebuilder_without, status_of, NoneDone};
@@ -55,7 +56,7 @@ impl Lists {
             cells: Cells::new(alloc)?,
             pairs: Pairs::new(alloc, agents)?,
             flags: Flags::new(alloc)?,
-            bells: Bells::new(alloc)?,
+            bells: Bells::new(),
             standing: Standing::new(alloc, members)?,
         })
     }
@@ -186,6 +187,15 @@ impl Lists {
         self.bells.ring();
     }
 
+    /// Whether the wait may be added: its flag is one, and where it isn't settled there is room for it and all bells may
+    /// ring. It goes over the pairs.
+    pub fn can_wait(&self, wait: &Wait) -> bool
+        ensures { IsTrue result ↔ ((wait.now.flag ≤ 64) × (is_settled self.now wait.now ≡ false → FitsWaits (with_wait self.now.waits wait.now) wait.now.waiter.member self.now.agents) × (is_settled self.now wait.now ≡ false → CanRing self.now.bells)) }
+    {
+        wait.flag <= 64
+            && (self.is_settled(wait) || (self.bells.can_ring() && self.pairs.fits(wait)))
+    }
+
     fn is_settled(&self, wait: &Wait) -> bool
         requires { wait.now.flag ≤ 64 }
         ensures { result ≡ is_settled self.now wait.now }
@@ -205,6 +215,13 @@ impl Lists {
         ensures { result.now ≡ self.now.waits }
     {
         self.pairs.list()
+    }
+
+    /// No two pairs have one waiter, and holders of one member. It does nothing, and is called where the fact is needed.
+    pub fn keeps_waits_apart(&self)
+        ensures { AreApart self.now.waits }
+    {
+        self.pairs.keeps_apart();
     }
 
     /// The transaction has ended: nobody waits for it, and its flags are raised.
@@ -290,6 +307,13 @@ impl Lists {
         ensures { result ≡ done_of self.now.done member }
     {
         self.standing.is_done(member)
+    }
+
+    /// Whether no bell's count is at its end.
+    pub fn can_ring(&self) -> bool
+        ensures { IsTrue result ↔ CanRing self.now.bells }
+    {
+        self.bells.can_ring()
     }
 
     /// Rings all bells.

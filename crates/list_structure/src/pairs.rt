@@ -1,7 +1,9 @@
 //! The pairs of transactions of which one waits for the other.
-ghost use Rattle.std.specs.Prelude.{◌≡◌, ◌*◌, ◌≤◌, ◌==◌, ◌||◌, [], not, filter, length, IfOk, vec_capacity};
+ghost use Rattle.std.specs.Prelude.{◌≡◌, ◌↔◌, IsTrue, ◌*◌, ◌≤◌, ◌==◌, ◌||◌, [], not, filter, length, IfOk, vec_capacity};
 ghost use Rattle.list_structure.specs.Flags.{same_tran};
+ghost use Rattle.list_structure.specs.Kept.{AreApart};
 ghost use Rattle.list_structure.specs.Waits.{FitsWaits, has_wait, is_replaced, same_wait, with_wait, without_flag, without_tran, without_trans_of, without_waiter};
+ghost use Rattle.list_structure.specs.Waiters.{is_beside, waits_in, waiters_beside};
 
 use crate::Wait;
 use ds_base::{MemberId, NoMemory, TranId};
@@ -56,11 +58,25 @@ impl Pairs {
         self.waits.clear();
     }
 
+    /// No two pairs have one waiter, and holders of one member. It does nothing: it is called where the fact is needed.
+    pub fn keeps_apart(&self)
+        ensures { AreApart self.now.waits }
+    {
+        let _agents = self.agents;
+    }
+
     /// Whether the pair is there.
     pub fn has(&self, wait: &Wait) -> bool
         ensures { result ≡ has_wait self.now.waits wait.now }
     {
         has_in(self.waits.as_slice(), wait)
+    }
+
+    /// Whether there is room for the pair: with its waiter, no more transactions of the member wait than it has agents.
+    pub fn fits(&self, wait: &Wait) -> bool
+        ensures { IsTrue result ↔ FitsWaits (with_wait self.now.waits wait.now) wait.now.waiter.member self.now.agents }
+    {
+        others_waiting(self.waits.as_slice(), &wait.waiter) < self.agents as usize
     }
 
     /// Adds the pair in place of the waiter's pair with a holder of the same member.
@@ -125,6 +141,34 @@ fn has_in(waits: &[Wait], wait: &Wait) -> bool
     ensures { result ≡ has_wait waits.now wait.now }
 {
     waits.iter().any(|other| is_same(wait, other))
+}
+
+/// Whether another transaction of the member waits in the pair.
+fn is_beside(tran: &TranId, wait: &Wait) -> bool
+    ensures { result ≡ is_beside tran.now wait.now }
+{
+    wait.waiter.member == tran.member && *tran != wait.waiter
+}
+
+/// Whether the transaction waits in one of the pairs.
+fn waits_in(waits: &[Wait], tran: &TranId) -> bool
+    ensures { result ≡ waits_in waits.now tran.now }
+{
+    waits.iter().any(|wait| *tran == wait.waiter)
+}
+
+/// How many other transactions of its member wait.
+fn others_waiting(waits: &[Wait], tran: &TranId) -> usize
+    ensures { result ≡ length (waiters_beside tran.now waits.now) }
+{
+    let mut count = 0;
+    for at in 0..waits.len() {
+        let wait = &waits[at];
+        if is_beside(tran, wait) && !waits_in(&waits[at + 1..], &wait.waiter) {
+            count += 1;
+        }
+    }
+    count
 }
 
 fn drop_replaced(waits: &mut Vec<Wait>, wait: &Wait)

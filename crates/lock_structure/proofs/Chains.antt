@@ -7,8 +7,8 @@ use Rattle.lock_names.specs.declared.mode.Mode.{Mode}
 use Rattle.lock_names.specs.Entries.{number_of}
 use Rattle.lock_structure.specs.declared.chain.Record.{Record}
 use Rattle.lock_structure.specs.declared.chain.Held.{Held}
-use Rattle.lock_structure.specs.Records.{same_name, record_in, joined, after_grant, after_release, after_purge, after_failure}
-use Rattle.lock_structure.specs.Buckets.{IsUnique, put_in, without, retained_by, recorded_in, released_in, purged_in}
+use Rattle.lock_structure.specs.Records.{same_name, record_in, joined, after_grant, after_release, after_purge, after_failure, retained_by}
+use Rattle.lock_structure.specs.Buckets.{IsUnique, put_in, without, recorded_in, released_in, purged_in}
 
 pub same_left : (a n p : Name) → same_name a n ≡ true → same_name a p ≡ same_name n p
 unfolding same_name

@@ -8,8 +8,8 @@ use Rattle.ds_model.specs.declared.lock.Name.TheVariants as name
 use Rattle.lock_structure.specs.declared.chain.Record.{Record}
 use Rattle.lock_structure.specs.declared.chain.Held.{Held}
 use Rattle.lock_structure.specs.Areas.{Room}
-use Rattle.lock_structure.specs.Records.{same_name, area_of, how_many, record_in}
-use Rattle.lock_structure.specs.Buckets.{put_in, without, retained_by, count_in, no_room, all_free, HasRoom}
+use Rattle.lock_structure.specs.Records.{same_name, area_of, how_many, record_in, retained_by}
+use Rattle.lock_structure.specs.Buckets.{put_in, without, count_in, no_room, all_free, HasRoom}
 
 -- one name has one area
 same_area : (a n : Name) (m : ℕ) → same_name a n ≡ true → area_of m a ≡ area_of m n

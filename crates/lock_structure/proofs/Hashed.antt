@@ -10,8 +10,8 @@ use Rattle.lock_names.specs.declared.mode.Mode.{Mode}
 use Rattle.lock_names.specs.Entries.{entry_number}
 use Rattle.lock_structure.specs.declared.chain.Record.{Record}
 use Rattle.lock_structure.specs.declared.chain.Held.{Held}
-use Rattle.lock_structure.specs.Records.{same_name, area_of, how_many, record_in, retained_of, joined, after_grant, after_release, after_purge, one_if, Alters, Retains}
-use Rattle.lock_structure.specs.Buckets.{IsUnique, IsHashed, flat, all_retained, count_in, retained_by, recorded_in, released_in, purged_in}
+use Rattle.lock_structure.specs.Records.{same_name, area_of, how_many, record_in, retained_of, joined, after_grant, after_release, after_purge, one_if, Alters, Retains, retained_by}
+use Rattle.lock_structure.specs.Buckets.{IsUnique, IsHashed, flat, all_retained, count_in, recorded_in, released_in, purged_in}
 use Rattle.lock_structure.proofs.Chains.{same_number, recorded_now, recorded_unique, released_now, released_unique, purged_now, purged_unique, retained_now, retained_unique}
 use Rattle.lock_structure.proofs.Counts.{changed_count, put_count, without_count, absent_without, retained_count}
 

@@ -6,3 +6,5 @@ mod Retained
 mod Emptied
 mod Clean
 mod Order
+mod Keepers
+mod Placed

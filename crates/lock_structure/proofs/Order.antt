@@ -9,8 +9,8 @@ use Rattle.lock_names.specs.declared.mode.Mode.{Mode}
 use Rattle.lock_names.specs.Entries.{entry_number}
 use Rattle.lock_structure.specs.declared.chain.Record.{Record}
 use Rattle.lock_structure.specs.declared.chain.Held.{Held}
-use Rattle.lock_structure.specs.Records.{record_in, retained_of, names_of, without_name, is_retained, joined}
-use Rattle.lock_structure.specs.Buckets.{IsUnique, IsHashed, flat, put_in, without, retained_by, recorded_in, released_in, purged_in}
+use Rattle.lock_structure.specs.Records.{record_in, retained_of, names_of, without_name, is_retained, joined, retained_by}
+use Rattle.lock_structure.specs.Buckets.{IsUnique, IsHashed, flat, put_in, without, recorded_in, released_in, purged_in}
 use Rattle.lock_structure.proofs.Chains.{same_self, same_record}
 use Rattle.lock_structure.proofs.Counts.{absent_without}
 use Rattle.lock_structure.proofs.Hashed.{record_append, all_none, place_bound, hashed_find, flat_retained, retained_append}
@@ -38,7 +38,7 @@ elsewhere cs i j k p h l m ne s = elim (cases_eq (entry_number p (length cs)) j)
   | inr other ↦ h.apart j k p m (ne_eqb (entry_number p (length cs)) j other)
 ]
 
-hashed_unique : (cs : List (List Held)) → IsHashed cs → IsUnique (flat cs)
+pub hashed_unique : (cs : List (List Held)) → IsHashed cs → IsUnique (flat cs)
 hashed_unique cs h = flat_unique cs (λ b l. h.unique b l) (λ i j k p l m ne s. elsewhere cs i j k p h l m ne s)
 
 -- ---- a retained record is the member's record of its name
@@ -98,10 +98,10 @@ names_put : (hs : List Held) (m : ℕ) (n : Name) (r : Record) (k : ℕ) → r.r
 names_put [] m n r k e = refl
 names_put (h ∷ hs) m n r k e = let ih = names_put hs m n r k in grind (arith, ih, e)
 
-recorded_names : (hs : List Held) (m : ℕ) (n : Name) (mode : Mode) (k : ℕ) → names_of (retained_of k (recorded_in hs m n mode)) ≡ names_of (retained_of k hs)
+pub recorded_names : (hs : List Held) (m : ℕ) (n : Name) (mode : Mode) (k : ℕ) → names_of (retained_of k (recorded_in hs m n mode)) ≡ names_of (retained_of k hs)
 recorded_names hs m n mode k = let put = names_put hs m n (joined (record_in hs m n) mode) k in grind (arith, put)
 
-released_list : (hs : List Held) (m : ℕ) (n : Name) (k : ℕ) → retained_of k (released_in hs m n) ≡ retained_of k hs
+pub released_list : (hs : List Held) (m : ℕ) (n : Name) (k : ℕ) → retained_of k (released_in hs m n) ≡ retained_of k hs
 released_list hs m n k = let out = retained_without hs m n k in grind (arith, out)
 
 pub recorded_order : (cs : List (List Held)) (at m : ℕ) (n : Name) (mode : Mode) (k : ℕ) → at < length cs → names_of (retained_of k (flat (set cs at (recorded_in (get_or cs at []) m n mode)))) ≡ names_of (retained_of k (flat cs))
@@ -118,10 +118,3 @@ purged_order cs at m n k e h =
     let out = flat_without cs place m n (place_bound cs n h.some) (λ i l ne. h.apart i m n l (ne_eqb place i ne)) in
     let list = retained_without (flat cs) m n k in
     let same = set-get_or cs place [] in rw e (grind (arith, found, out, list, same))
-
-failed_list : (hs : List Held) (m k : ℕ) → (k == m) ≡ false → retained_of k (map (retained_by m) hs) ≡ retained_of k hs
-failed_list [] m k e = refl
-failed_list (h ∷ hs) m k e = let ih = failed_list hs m k e in grind (arith, ih, e)
-
-pub failed_order : (cs : List (List Held)) (m k : ℕ) → (k == m) ≡ false → retained_of k (flat (map (map (retained_by m)) cs)) ≡ retained_of k (flat cs)
-failed_order cs m k e = rw (flat_retained cs m) (failed_list (flat cs) m k e)

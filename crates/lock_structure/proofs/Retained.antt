@@ -17,7 +17,7 @@ get_left [] ys i x e = cc
 get_left (y ∷ xs) ys zero x e = e
 get_left (y ∷ xs) ys (suc i) x e = get_left xs ys i x e
 
-get_right : (xs ys : List (Name × Mode)) (j at : ℕ) → j + length xs ≡ at → slice_get (xs ++ ys) at ≡ slice_get ys j
+pub get_right : (xs ys : List (Name × Mode)) (j at : ℕ) → j + length xs ≡ at → slice_get (xs ++ ys) at ≡ slice_get ys j
 get_right [] ys j at e = let q : at ≡ j = omega (arith, e) in rw q refl
 get_right (x ∷ xs) ys j zero e = absurd (omega (arith, e))
 get_right (x ∷ xs) ys j (suc at) e = get_right xs ys j at (omega (arith, e))

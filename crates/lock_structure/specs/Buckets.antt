@@ -1,13 +1,14 @@
 -- The records by the buckets on which their names fall.
-use Rattle.std.specs.Prelude.{◌≡◌, ℕ, ◌+◌, ◌<◌, ◌≤◌, ◌^◌, true, false, ◌==◌, if◌then◌else◌, length, slice_index_or, Option, Some, None, List, [], ◌∷◌, ◌++◌}
+use Rattle.std.specs.Prelude.{◌≡◌, ℕ, zero, suc, ◌+◌, ◌<◌, ◌≤◌, ◌^◌, Bool, true, false, not, ◌&&◌, ◌==◌, nat_le, if◌then◌else◌, length, slice_index_or, Option, Some, None, List, [], ◌∷◌, ◌++◌}
 use Rattle.ds_model.specs.declared.lock.Name.{Name}
 use Rattle.lock_names.specs.declared.mode.Mode.{Mode}
-use Rattle.lock_names.specs.Modes.{is_recorded}
+use Rattle.lock_names.specs.Modes.{is_recorded, are_compatible}
 use Rattle.lock_names.specs.Entries.{entry_number}
 use Rattle.lock_structure.specs.declared.chain.Record.{Record}
 use Rattle.lock_structure.specs.declared.chain.Held.{Held}
+use Rattle.lock_structure.specs.declared.cursor.Cursor.{Cursor}
 use Rattle.lock_structure.specs.Areas.{Room}
-use Rattle.lock_structure.specs.Records.{is_of, record_in, how_many, retained_of, is_retained, joined}
+use Rattle.lock_structure.specs.Records.{same_name, is_of, record_in, how_many, retained_of, is_retained, joined, retained_by}
 
 -- ---- one chain
 
@@ -30,9 +31,6 @@ abbrev pub without_first : List Held → List Held
 without_first [] = []
 without_first (h ∷ hs) = hs
 
-abbrev pub retained_by : ℕ → Held → Held
-retained_by m h = if h.member == m then record h { lock = record { mode = h.lock.mode; retained = true } } else h
-
 abbrev pub entered_in : Option Record → List Held → ℕ → Name → Record → List Held
 entered_in None hs m n r = record { member = m; name = n; lock = r } ∷ hs
 entered_in (Some old) hs m n r = put_in hs m n r
@@ -46,6 +44,19 @@ released_in hs m n = if is_retained (record_in hs m n) then hs else without hs m
 
 abbrev pub purged_in : List Held → ℕ → Name → List Held
 purged_in hs m n = if is_retained (record_in hs m n) then without hs m n else hs
+
+-- whether another member's retained record of the name is in the way
+abbrev pub is_keeping : ℕ → Name → Mode → Held → Bool
+is_keeping m n mode h = h.lock.retained && (not (h.member == m) && (same_name h.name n && not (are_compatible h.lock.mode mode)))
+
+abbrev pub lower : Option ℕ → ℕ → Option ℕ
+lower None k = Some k
+lower (Some j) k = if nat_le j k then Some j else Some k
+
+-- the lowest of the member so far and those whose records are in the way
+abbrev pub lowest_in : ℕ → Name → Mode → List Held → Option ℕ → Option ℕ
+lowest_in m n mode [] best = best
+lowest_in m n mode (h ∷ hs) best = lowest_in m n mode hs (if is_keeping m n mode h then lower best h.member else best)
 
 -- ---- all chains
 
@@ -65,6 +76,17 @@ count_in area (c ∷ cs) = how_many area c + count_in area cs
 abbrev pub all_retained : ℕ → List (List Held) → List (Name × Mode)
 all_retained m [] = []
 all_retained m (c ∷ cs) = retained_of m c ++ all_retained m cs
+
+-- how many retained records the member has in the first so many buckets
+abbrev pub retained_before : ℕ → List (List Held) → ℕ → ℕ
+retained_before m [] b = 0
+retained_before m (c ∷ cs) zero = 0
+retained_before m (c ∷ cs) (suc b) = length (retained_of m c) + retained_before m cs b
+
+-- the place knows how many of its member's retained records stand before it
+abbrev pub IsPlaced : Option Cursor → List (List Held) → Type 0
+IsPlaced None cs = Unit {0}
+IsPlaced (Some c) cs = (c.bucket ≤ length cs) × (c.before ≡ retained_before c.member cs c.bucket)
 
 -- all records, one chain after the other
 abbrev pub flat : List (List Held) → List Held

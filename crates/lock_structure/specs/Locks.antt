@@ -1,5 +1,5 @@
 -- The lock structure: what stands in it, and what its answers are.
-use Rattle.std.specs.Prelude.{◌≡◌, ℕ, ◌+◌, ◌<◌, ◌≤◌, ◌^◌, Bool, true, false, not, ◌&&◌, ◌||◌, ◌==◌, if◌then◌else◌, List, [], ◌∷◌, length, slice_index_or, replicate, Option, Some, None, is_some}
+use Rattle.std.specs.Prelude.{◌≡◌, ℕ, ◌+◌, ◌<◌, ◌≤◌, ◌^◌, Bool, true, false, not, ◌&&◌, ◌||◌, ◌==◌, if◌then◌else◌, List, [], ◌∷◌, length, map, slice_index_or, replicate, Option, Some, None, is_some}
 use Rattle.ds_base.specs.Ids.{IsMember}
 use Rattle.ds_model.specs.declared.lock.Name.{Name}
 use Rattle.lock_names.specs.declared.mode.Mode.{Mode}
@@ -13,7 +13,7 @@ use Rattle.lock_structure.specs.declared.replies.Obtained.TheVariants as obtaine
 use Rattle.lock_structure.specs.declared.replies.GrantReply.{GrantReply}
 use Rattle.lock_structure.specs.declared.replies.GrantReply.TheVariants as grant
 use Rattle.lock_structure.specs.Entries.{interest_in, has_member, blocks, blank, no_interest, with_class}
-use Rattle.lock_structure.specs.Records.{Book, area_of, record_in, retained_of, names_of, without_name, is_retained, how_many, room_for, Alters, Retains, after_grant, after_release, after_purge, no_records}
+use Rattle.lock_structure.specs.Records.{Book, area_of, record_in, retained_of, names_of, without_name, is_retained, retained_by, how_many, room_for, Alters, Retains, after_grant, after_release, after_purge, no_records}
 
 pub record Locks : Type 0 where
   pub entries : List Entry
@@ -105,7 +105,7 @@ pub record HasFailed (w : Locks) (m : ℕ) (v : Locks) : Type 0 where
   pub versions : (e : ℕ) → (entry_at v e).version ≡ (entry_at w e).version
   pub interest : (k e : ℕ) → IsMember k → e < length w.entries → interest_of v k e ≡ (if k == m then no_interest else interest_of w k e)
   pub records : Retains m w.book v.book
-  pub order : (k : ℕ) → (k == m) ≡ false → retained_in v k ≡ retained_in w k
+  pub order : v.book.held ≡ map (retained_by m) w.book.held
 
 -- ---- which answer a request gets, and what it leaves
 

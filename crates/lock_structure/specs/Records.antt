@@ -94,6 +94,10 @@ abbrev pub after_failure : Option Record → Option Record
 after_failure None = None
 after_failure (Some r) = Some (record { mode = r.mode; retained = true })
 
+-- the record, which is retained if it is the member's
+abbrev pub retained_by : ℕ → Held → Held
+retained_by m h = if h.member == m then record h { lock = record { mode = h.lock.mode; retained = true } } else h
+
 abbrev pub one_if : Bool → ℕ
 one_if b = if b then 1 else 0
 

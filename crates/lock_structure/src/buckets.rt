@@ -1,12 +1,13 @@
-ghost use Rattle.std.specs.Prelude.{◌≡◌, ◌<◌, ◌≤◌, ◌^◌, ◌||◌, ◌==◌, not, length, map, replicate, slice_set, slice_index_or, is_some, nat_lt, IfOk, IsTrue, ℕ, slice_get, [], if◌then◌else◌};
+ghost use Rattle.std.specs.Prelude.{◌≡◌, ◌<◌, ◌≤◌, ◌^◌, ◌||◌, ◌==◌, not, length, map, replicate, slice_set, slice_index_or, is_some, nat_lt, Some, None, IfOk, IfSome, IsTrue, ℕ, slice_get, [], if◌then◌else◌};
 ghost use Rattle.ds_base.specs.Ids.{IsMember};
 ghost use Rattle.lock_names.specs.Modes.{is_recorded};
 ghost use Rattle.lock_names.specs.Entries.{entry_number};
-ghost use Rattle.lock_structure.specs.Records.{area_of, record_in, joined, is_retained};
-ghost use Rattle.lock_structure.specs.Buckets.{recorded_in, released_in, purged_in, retained_by, count_in, room_of, without, all_retained, no_room, all_free};
+ghost use Rattle.lock_structure.specs.Records.{area_of, record_in, joined, is_retained, retained_by};
+ghost use Rattle.lock_structure.specs.Buckets.{recorded_in, released_in, purged_in, lowest_in, IsPlaced, count_in, room_of, without, all_retained, no_room, all_free};
 
 use crate::area::Area;
 use crate::chain::{Chain, Held, Record};
+use crate::cursor::Cursor;
 use ds_base::{MemberId, NoMemory};
 use ds_model::Name;
 use lock_names::{Mode, entry_of, join, recorded};
@@ -96,12 +97,36 @@ impl Buckets {
         self.chains[at].find(member, name)
     }
 
+    /// No area has more records than room. It does nothing: it is called where the fact is needed.
+    pub fn keeps_room(&self)
+        ensures { (area : ℕ) → area < 33 → count_in area self.now.chains ≤ room_of self.now area }
+    {
+        let _limit = self.records;
+    }
+
+    /// The lowest other member with a record in the bucket that is retained, and in the way of the name and mode.
+    pub fn keeper(&self, at: usize, member: MemberId, name: &Name, mode: Mode) -> Option<MemberId>
+        requires { at < length self.now.chains }
+        ensures lowest { result ≡ lowest_in member name.now mode (slice_index_or self.now.chains at []) None }
+        ensures range { IfSome result IsMember }
+    {
+        self.chains[at].keeper(member, name, mode)
+    }
+
     /// Whether no room is left for another record of a table space or row.
     pub fn is_full(&self) -> bool
         ensures full { result ≡ (count_in 0 self.now.chains == self.now.records) }
         ensures bound { count_in 0 self.now.chains ≤ self.now.records }
     {
         self.areas[0].is_full()
+    }
+
+    /// Whether the area has room for another record.
+    pub fn has_free(&self, area: u32) -> bool
+        requires { area < 33 }
+        ensures { result ≡ nat_lt (count_in area self.now.chains) (room_of self.now area) }
+    {
+        !self.areas[area as usize].is_full()
     }
 
     pub fn limit(&self) -> u32
@@ -186,26 +211,45 @@ impl Buckets {
         }
     }
 
-    /// The member's retained record with so many of its retained records before it.
-    pub fn retained(&self, member: MemberId, at: u32) -> Option<(Name, Mode)>
-        ensures { result ≡ slice_get (all_retained member self.now.chains) at }
+    /// The retained record of this number of the place's member, and the place of its bucket.
+    pub fn retained(&self, start: Cursor, at: u32) -> (Option<(Name, Mode)>, Cursor)
+        requires placed { IsPlaced (Some start) self.now.chains }
+        requires before { start.before ≤ at }
+        ensures found { result.0 ≡ slice_get (all_retained start.member self.now.chains) at }
+        ensures placed { IsPlaced (Some result.1) self.now.chains }
     {
-        nth_retained(&self.chains, member, at)
+        nth_retained(&self.chains, start, at)
     }
 }
 
-#[tactic(auto, using(crate::proofs::Retained::retained_step))]
-fn nth_retained(chains: &[Chain], member: MemberId, at: u32) -> Option<(Name, Mode)>
-    ensures { result ≡ slice_get (all_retained member chains.now) at }
+fn nth_retained(chains: &[Chain], start: Cursor, at: u32) -> (Option<(Name, Mode)>, Cursor)
+    requires placed { IsPlaced (Some start) chains.now }
+    requires before { start.before ≤ at }
+    ensures found { result.0 ≡ slice_get (all_retained start.member chains.now) at }
+    ensures placed { IsPlaced (Some result.1) chains.now }
 {
-    let mut left = at;
-    for chain in chains {
-        match chain.retained(member, left) {
-            Ok(found) => return Some(found),
+    let member = start.member;
+    let mut left = at - start.before;
+    for bucket in start.bucket..chains.len() {
+        match chains[bucket].retained(member, left) {
+            Ok(found) => {
+                let before = at - left;
+                let place = Cursor {
+                    member,
+                    bucket,
+                    before,
+                };
+                return (Some(found), place);
+            }
             Err(more) => left = more,
         }
     }
-    None
+    let place = Cursor {
+        member,
+        bucket: chains.len(),
+        before: at - left,
+    };
+    (None, place)
 }
 
 /// As many empty chains.

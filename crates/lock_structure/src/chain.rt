@@ -1,12 +1,13 @@
 //! The records of the names that fall on one entry, as a chain of cells that are taken from areas and given back.
 
-ghost use Rattle.std.specs.Prelude.{◌≡◌, ◌∷◌, ◌==◌, ◌&&◌, map, is_some, [], ◌+◌, length, slice_get, IfOk, IfErr, Some};
-ghost use Rattle.lock_structure.specs.Records.{same_name, is_of, record_in, retained_of};
-ghost use Rattle.lock_structure.specs.Buckets.{put_in, without, retained_by};
+ghost use Rattle.std.specs.Prelude.{◌≡◌, ◌∷◌, ◌==◌, ◌&&◌, map, is_some, [], ◌+◌, length, slice_get, IfOk, IfErr, IfSome, Some, None};
+ghost use Rattle.ds_base.specs.Ids.{IsMember};
+ghost use Rattle.lock_structure.specs.Records.{same_name, is_of, record_in, retained_of, retained_by};
+ghost use Rattle.lock_structure.specs.Buckets.{put_in, without, is_keeping, lower, lowest_in};
 
 use ds_base::MemberId;
 use ds_model::Name;
-use lock_names::Mode;
+use lock_names::{Mode, compatible};
 use std::marker::Model;
 use std::mem;
 
@@ -80,6 +81,29 @@ impl Held {
     {
         self.member.number() == member.number() && is_same(&self.name, name)
     }
+
+    /// Whether it is another member's, retained, and in the way of the name and mode.
+    fn is_keeping(&self, member: MemberId, name: &Name, mode: Mode) -> bool
+        ensures { result ≡ is_keeping member name.now mode self.now }
+    {
+        self.lock.retained
+            && self.member.number() != member.number()
+            && is_same(&self.name, name)
+            && !compatible(self.lock.mode, mode)
+    }
+}
+
+/// The lower of a member, if there is one, and another.
+fn lower(lowest: Option<MemberId>, member: MemberId) -> Option<MemberId>
+    requires { IfSome lowest IsMember }
+    ensures lower { result ≡ lower lowest member }
+    ensures range { IfSome result IsMember }
+{
+    let number = member.number();
+    match lowest {
+        Some(other) if other.number() <= number => Some(other),
+        _ => Some(member),
+    }
 }
 
 impl Chain {
@@ -111,6 +135,22 @@ impl Chain {
             chain = rest;
         }
         None
+    }
+
+    /// The lowest other member with a record that is retained, and in the way of the name and mode.
+    pub fn keeper(&self, member: MemberId, name: &Name, mode: Mode) -> Option<MemberId>
+        ensures lowest { result ≡ lowest_in member name.now mode self.now None }
+        ensures range { IfSome result IsMember }
+    {
+        let mut lowest = None;
+        let mut chain = self;
+        while let Node::Link(held, rest) = &chain.node {
+            if held.is_keeping(member, name, mode) {
+                lowest = lower(lowest, held.member);
+            }
+            chain = rest;
+        }
+        lowest
     }
 
     /// Writes over the member's record of the name.

@@ -8,6 +8,7 @@
 mod area;
 mod buckets;
 mod chain;
+mod cursor;
 mod entry;
 mod mask;
 mod records;
@@ -18,6 +19,3 @@ pub use chain::{Held, Record};
 pub use entry::Entry;
 pub use replies::{GrantReply, Obtained};
 pub use structure::LockStructure;
-
-#[cfg(test)]
-mod tests;

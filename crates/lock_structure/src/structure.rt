@@ -1,19 +1,19 @@
-ghost use Rattle.std.specs.Prelude.{◌≡◌, ◌+◌, ◌<◌, ◌≤◌, ◌^◌, ◌==◌, ◌||◌, length, IsTrue, not, true, false, ℕ, Some, slice_index_or, slice_get, replicate, IfOk, IfSome, if◌then◌else◌};
+ghost use Rattle.std.specs.Prelude.{◌≡◌, ◌↔◌, ◌+◌, ◌<◌, ◌≤◌, ◌^◌, ◌==◌, ◌||◌, length, IsTrue, not, true, false, ℕ, Some, slice_index_or, slice_get, replicate, IfOk, IfSome, if◌then◌else◌};
 ghost use Rattle.ds_base.specs.Ids.{IsMember};
 ghost use Rattle.lock_names.specs.Modes.{is_recorded};
 ghost use Rattle.lock_structure.specs.Entries.{interest_in, no_interest, blank};
-ghost use Rattle.lock_structure.specs.Records.{area_of};
-ghost use Rattle.lock_structure.specs.Locks.{stands, is_clean, is_kept_out, IsLowest, place_of, entry_for, has_room, record_of, retained_in, keeps_out, is_full, IsGranted, Obtains, Grants, IsReleased, IsPurged, HasFailed, empty_locks};
+ghost use Rattle.lock_structure.specs.Buckets.{IsUnique};
+ghost use Rattle.lock_structure.specs.Records.{area_of, how_many, size_of};
+ghost use Rattle.lock_structure.specs.Locks.{stands, is_clean, IsLowest, place_of, entry_for, has_room, record_of, retained_in, keeps_out, is_full, IsGranted, Obtains, Grants, IsReleased, IsPurged, HasFailed, empty_locks};
 
 use crate::buckets::area_of;
-use crate::chain::Record;
 use crate::entry::{Entry, is_in_the_way};
 use crate::mask;
 use crate::records::Records;
 use crate::replies::{GrantReply, Obtained};
 use ds_base::{MemberId, NoMemory};
 use ds_model::Name;
-use lock_names::{Interest, Mode, class, compatible, entry_of, recorded};
+use lock_names::{Interest, Mode, class, entry_of, recorded};
 use std::alloc::Global;
 use std::marker::Model;
 
@@ -35,16 +35,6 @@ impl Model for LockStructure {
     ghost view = { λ a. record { entries = a.entries.items; book = a.records } };
 
     ghost invariant = { λ a. HasEntries a.entries.items };
-}
-
-/// Whether another member's record is in the way.
-fn is_kept_out(found: Option<Record>, mode: Mode) -> bool
-    ensures { result ≡ is_kept_out found mode }
-{
-    match found {
-        Some(found) => found.retained && !compatible(found.mode, mode),
-        None => false,
-    }
 }
 
 #[tactic(auto, using(crate::proofs::Clean::clean_step))]
@@ -100,10 +90,12 @@ impl LockStructure {
     /// The member's retained record, counted from 0: its name and its mode. None where it has no more than `at`.
     ///
     /// The order stands: a purge takes its record out of it, and no other call but a failure of this member or a reset
-    /// moves a record. It goes over the whole structure.
-    pub fn retained(&self, member: MemberId, at: u32) -> Option<(Name, Mode)>
-        ensures nth { result ≡ slice_get (retained_in self.now member) at }
-        ensures found { IfSome result (λ x. record_of self.now member x.0 ≡ Some (record { mode = x.1; retained = true })) }
+    /// moves a record. The structure keeps the place of the last answer, and looks for a later record from there on: all
+    /// retained records of a member, asked for in their order, take one walk over the structure.
+    pub fn retained(&mut self, member: MemberId, at: u32) -> Option<(Name, Mode)>
+        ensures nth { result ≡ slice_get (retained_in self.old member) at }
+        ensures found { IfSome result (λ x. record_of self.old member x.0 ≡ Some (record { mode = x.1; retained = true })) }
+        ensures same { self.new ≡ self.old }
     {
         self.records.retained(member, at)
     }
@@ -123,19 +115,20 @@ impl LockStructure {
         self.entries[self.place_of(name)].version
     }
 
+    /// Whether the member may ask for a lock of the name: the version of its entry can rise, and a page or page set has its
+    /// record or room for one.
+    pub fn can_grant(&self, member: MemberId, name: &Name) -> bool
+        ensures { IsTrue result ↔ (((entry_for self.now name.now).version + 1 < 2 ^ 64) × IsTrue ((area_of member name.now == 0) || has_room self.now member name.now)) }
+    {
+        self.version(name) < u64::MAX
+            && (area_of(member, name) == 0 || self.records.has_room(member, name))
+    }
+
     /// The lowest other member whose retained record of the name is in the way.
     fn keeper(&self, member: MemberId, name: &Name, mode: Mode) -> Option<MemberId>
         ensures { IsLowest (keeps_out self.now member name.now mode) result }
     {
-        for number in 1..33u64 {
-            if let Some(other) = MemberId::new(number)
-                && other.number() != member.number()
-                && is_kept_out(self.records.find(other, name), mode)
-            {
-                return Some(other);
-            }
-        }
-        None
+        self.records.keeper(member, name, mode)
     }
 
     /// Whether the lock would be one record of a table space or row too many.
@@ -145,21 +138,31 @@ impl LockStructure {
     {
         recorded(mode)
             && area_of(member, name) == 0
-            && self.records.find(member, name).is_none()
             && self.records.is_full()
+            && self.records.find(member, name).is_none()
     }
 
-    fn settle(&mut self, member: MemberId, name: &Name, mode: Mode) -> u64
+    fn settle(&mut self, place: usize, member: MemberId, name: &Name, mode: Mode) -> u64
+        requires place { place ≡ place_of self.old name.now }
+        requires range { place < length self.old.entries }
         requires version { (entry_for self.old name.now).version + 1 < 2 ^ 64 }
         requires room { IsTrue (not (is_recorded mode) || has_room self.old member name.now) }
         ensures version { result ≡ (entry_for self.old name.now).version + 1 }
         ensures granted { IsGranted self.old member name.now mode self.new }
     {
-        let place = self.place_of(name);
         let entry = self.entries[place].granted(member, class(mode));
         self.entries[place] = entry;
         self.records.enter(member, name, mode);
         entry.version
+    }
+
+    /// No member has two records of a name, and no area more records than room: area 0 is that of table spaces and rows, and
+    /// each other one that of the member of its number. It does nothing, and is called where these facts are needed.
+    pub fn keeps_records_apart(&self)
+        ensures apart { IsUnique self.now.book.held }
+        ensures room { (area : ℕ) → area < 33 → how_many area self.now.book.held ≤ size_of self.now.book area }
+    {
+        self.records.keeps_apart();
     }
 
     /// Asks for a lock of the member, in this mode.
@@ -178,7 +181,8 @@ impl LockStructure {
                 limit: self.records.limit(),
             };
         }
-        let entry = self.entries[self.place_of(name)];
+        let place = self.place_of(name);
+        let entry = self.entries[place];
         if unsettled(entry, member, mode, &[]).is_some() {
             return Obtained::Contention {
                 share: mask::without(entry.share, member),
@@ -187,7 +191,7 @@ impl LockStructure {
             };
         }
         Obtained::Granted {
-            version: self.settle(member, name, mode),
+            version: self.settle(place, member, name, mode),
         }
     }
 
@@ -214,14 +218,15 @@ impl LockStructure {
                 limit: self.records.limit(),
             };
         }
-        let entry = self.entries[self.place_of(name)];
+        let place = self.place_of(name);
+        let entry = self.entries[place];
         if unsettled(entry, member, mode, clean).is_some() {
             return GrantReply::Moved {
                 version: entry.version,
             };
         }
         GrantReply::Granted {
-            version: self.settle(member, name, mode),
+            version: self.settle(place, member, name, mode),
         }
     }
 

@@ -1,7 +1,7 @@
+use Rattle.lock_structure.specs.Records.{retained_by}
 use Rattle.std.proofs.Common.{◌≡◌, ◌+◌, ◌++◌, List, map, take, drop, set, subst, rules}
 use Rattle.std.proofs.lemmas.List.Edits.{map_over_more}
 use Rattle.lock_structure.specs.declared.chain.Held.{Held}
-use Rattle.lock_structure.specs.Buckets.{retained_by}
 use Rattle.lock_structure.proofs.buckets.retain_all.Goals as goal
 
 pub loop-chain-preserved : goal.loop-chain-preserved

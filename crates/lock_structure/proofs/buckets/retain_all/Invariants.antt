@@ -1,5 +1,5 @@
+use Rattle.lock_structure.specs.Records.{retained_by}
 use Rattle.std.proofs.Common.{◌≡◌, ◌++◌, map, take, drop}
-use Rattle.lock_structure.specs.Buckets.{retained_by}
 use Rattle.lock_structure.proofs.buckets.retain_all.Given as goal
 
 abbrev pub invariant-loop-chain : goal.invariant-loop-chain

@@ -8,7 +8,7 @@ use Rattle.list_structure.proofs.cells.Cells.has_asked.Goals as goal
 
 pub returns : goal.returns
 returns c =
-    let e = counted_at c.self.inside.cells.items c.self.inside.asked.items c.args.to c.index.result.now c.self.invariant c.requires c.index.ensures in (
+    let e = counted_at c.self.inside.cells.items c.self.inside.asked.items c.args.to c.index.result.now c.self.invariant.0 c.requires c.index.ensures in (
       λ z i l.
           let n : asked_count c.self.inside.cells.items c.args.to 544 ≡ 0 = grind (arith, nat_tests) in
           subst (λ (cells : List Cell). is_asked (cell_at cells i c.args.to) ≡ false) c.self.view_is (none_from_count c.self.inside.cells.items c.args.to 544 i l n),
