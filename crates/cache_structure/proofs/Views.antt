@@ -25,14 +25,14 @@ find_more test (Some e) es = by (test e)
     by : (b : Bool) → cond b (Some e) (find test es) ≡ cond b (Some e) (find test es)
     by b = refl
 
-length_more : (o : Option Entry) (es : List Entry) → length (cons_option o es) ≡ cond (is_some o) 1 0 + length es
+length_more : {X : Type 0} (o : Option X) (es : List X) → length (cons_option o es) ≡ cond (is_some o) 1 0 + length es
 length_more None es = grind arith
 length_more (Some e) es = grind arith
 
-module _ (E : ℕ → Option Entry) where
+module _ {X : Type 0} (E : ℕ → Option X) where
   -- ---- another slot's entry changes
 
-  pub others_same : (F : ℕ → Option Entry) (s : ℕ) (order : List ℕ) → ((x : ℕ) → nat_eq s x ≡ false → F x ≡ E x) → filter_map F (all_but s order) ≡ filter_map E (all_but s order)
+  pub others_same : (F : ℕ → Option X) (s : ℕ) (order : List ℕ) → ((x : ℕ) → nat_eq s x ≡ false → F x ≡ E x) → filter_map F (all_but s order) ≡ filter_map E (all_but s order)
   others_same F s [] same = refl
   others_same F s (x ∷ xs) same = by (nat_eq s x) refl (others_same F s xs same)
     where
@@ -46,6 +46,45 @@ module _ (E : ℕ → Option Entry) where
           ∙ (λ i. cons_option (same x h i) (rest i))
           ∙ sym (ap (λ b. filter_map E (cond (not b) (x ∷ all_but s xs) (all_but s xs))) h)
 
+  pub as_many : (F : ℕ → Option X) (order : List ℕ) → ((x : ℕ) → is_some (F x) ≡ is_some (E x)) → length (filter_map F order) ≡ length (filter_map E order)
+  as_many F [] same = refl
+  as_many F (x ∷ xs) same =
+      length_more (F x) (filter_map F xs)
+      ∙ (λ i. cond (same x i) 1 0 + as_many F xs same i)
+      ∙ sym (length_more (E x) (filter_map E xs))
+
+  pub none_left : (order : List ℕ) → ((x : ℕ) → E x ≡ None) → filter_map E order ≡ []
+  none_left [] none = refl
+  none_left (x ∷ xs) none = (λ i. cons_option (none x i) (none_left xs none i))
+
+  -- ---- how many there are
+
+  apart_stays : (f : ℕ) (xs : List ℕ) → AllByRecursion (λ y. nat_eq f y ≡ false) xs → all_but f xs ≡ xs
+  apart_stays f [] a = refl
+  apart_stays f (x ∷ xs) a =
+      ap (λ b. cond (not b) (x ∷ all_but f xs) (all_but f xs)) a.0 ∙ ap (λ l. x ∷ l) (apart_stays f xs a.1)
+
+  pub one_less : (s : ℕ) (order : List ℕ) → IsDistinct nat_eq order → is_in s order ≡ true
+      → cond (is_some (E s)) 1 0 + length (filter_map E (all_but s order)) ≡ length (filter_map E order)
+  unfolding IsDistinct
+  one_less s [] d there = absurd (true≢false (sym there))
+  one_less s (x ∷ xs) d there = by (nat_eq s x) refl (one_less s xs d.1)
+    where
+      by : (b : Bool) → nat_eq s x ≡ b → (is_in s xs ≡ true → cond (is_some (E s)) 1 0 + length (filter_map E (all_but s xs)) ≡ length (filter_map E xs))
+          → cond (is_some (E s)) 1 0 + length (filter_map E (all_but s (x ∷ xs))) ≡ length (filter_map E (x ∷ xs))
+      by true h rest =
+          ap (λ b. cond (is_some (E s)) 1 0 + length (filter_map E (cond (not b) (x ∷ all_but s xs) (all_but s xs)))) h
+          ∙ ap (λ ys. cond (is_some (E s)) 1 0 + length (filter_map E ys)) (apart_stays s xs (subst (λ k. AllByRecursion (λ y. nat_eq k y ≡ false) xs) (sym (eqb-true s x h)) d.0))
+          ∙ ap (λ k. cond (is_some (E k)) 1 0 + length (filter_map E xs)) (eqb-true s x h)
+          ∙ sym (length_more (E x) (filter_map E xs))
+      by false h rest =
+          let ih = rest (sym (ap (λ b. b || is_in s xs) h) ∙ there) in
+          let a = length_more (E x) (filter_map E (all_but s xs)) in
+          let b = length_more (E x) (filter_map E xs) in
+          ap (λ b. cond (is_some (E s)) 1 0 + length (filter_map E (cond (not b) (x ∷ all_but s xs) (all_but s xs)))) h
+          ∙ (omega (arith, ih, a, b))
+
+module _ (E : ℕ → Option Entry) where
   -- ---- the entry of a page leaves
 
   pub page_leaves : (s : ℕ) (p : PageId) (order : List ℕ) → ((x : ℕ) (e : Entry) → E x ≡ Some e → is_of p e ≡ nat_eq s x) → filter_map E (all_but s order) ≡ without p (filter_map E order)
@@ -127,17 +166,6 @@ module _ (E : ℕ → Option Entry) where
   mapped F g [] same = refl
   mapped F g (x ∷ xs) same = (λ i. cons_option (same x i) (mapped F g xs same i)) ∙ mapped_more g (E x) (filter_map E xs)
 
-  pub as_many : (F : ℕ → Option Entry) (order : List ℕ) → ((x : ℕ) → is_some (F x) ≡ is_some (E x)) → length (filter_map F order) ≡ length (filter_map E order)
-  as_many F [] same = refl
-  as_many F (x ∷ xs) same =
-      length_more (F x) (filter_map F xs)
-      ∙ (λ i. cond (same x i) 1 0 + as_many F xs same i)
-      ∙ sym (length_more (E x) (filter_map E xs))
-
-  pub none_left : (order : List ℕ) → ((x : ℕ) → E x ≡ None) → filter_map E order ≡ []
-  none_left [] none = refl
-  none_left (x ∷ xs) none = (λ i. cons_option (none x i) (none_left xs none i))
-
   -- ---- the first that may be reclaimed, and how many are changed
 
   pub first_passing : (test : Entry → Bool) (q : ℕ → Bool) (order : List ℕ) → ((x : ℕ) → q x ≡ option_map_or test (E x) false)
@@ -166,30 +194,3 @@ module _ (E : ℕ → Option Entry) where
       let ih = counted_by test q xs same in
       let more = count_more test (E x) (filter_map E xs) in
       more ∙ (λ i. cond (sym (same x) i) 1 0 + ih i) ∙ sym (sum_by-cons (λ y. cond (q y) 1 0) x xs)
-
-  -- ---- how many there are
-
-  apart_stays : (f : ℕ) (xs : List ℕ) → AllByRecursion (λ y. nat_eq f y ≡ false) xs → all_but f xs ≡ xs
-  apart_stays f [] a = refl
-  apart_stays f (x ∷ xs) a =
-      ap (λ b. cond (not b) (x ∷ all_but f xs) (all_but f xs)) a.0 ∙ ap (λ l. x ∷ l) (apart_stays f xs a.1)
-
-  pub one_less : (s : ℕ) (order : List ℕ) → IsDistinct nat_eq order → is_in s order ≡ true
-      → cond (is_some (E s)) 1 0 + length (filter_map E (all_but s order)) ≡ length (filter_map E order)
-  unfolding IsDistinct
-  one_less s [] d there = absurd (true≢false (sym there))
-  one_less s (x ∷ xs) d there = by (nat_eq s x) refl (one_less s xs d.1)
-    where
-      by : (b : Bool) → nat_eq s x ≡ b → (is_in s xs ≡ true → cond (is_some (E s)) 1 0 + length (filter_map E (all_but s xs)) ≡ length (filter_map E xs))
-          → cond (is_some (E s)) 1 0 + length (filter_map E (all_but s (x ∷ xs))) ≡ length (filter_map E (x ∷ xs))
-      by true h rest =
-          ap (λ b. cond (is_some (E s)) 1 0 + length (filter_map E (cond (not b) (x ∷ all_but s xs) (all_but s xs)))) h
-          ∙ ap (λ ys. cond (is_some (E s)) 1 0 + length (filter_map E ys)) (apart_stays s xs (subst (λ k. AllByRecursion (λ y. nat_eq k y ≡ false) xs) (sym (eqb-true s x h)) d.0))
-          ∙ ap (λ k. cond (is_some (E k)) 1 0 + length (filter_map E xs)) (eqb-true s x h)
-          ∙ sym (length_more (E x) (filter_map E xs))
-      by false h rest =
-          let ih = rest (sym (ap (λ b. b || is_in s xs) h) ∙ there) in
-          let a = length_more (E x) (filter_map E (all_but s xs)) in
-          let b = length_more (E x) (filter_map E xs) in
-          ap (λ b. cond (is_some (E s)) 1 0 + length (filter_map E (cond (not b) (x ∷ all_but s xs) (all_but s xs)))) h
-          ∙ (omega (arith, ih, a, b))

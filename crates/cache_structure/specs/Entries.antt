@@ -2,6 +2,7 @@
 use Rattle.std.specs.Prelude.{ℕ, ◌==◌, Bool, true, false, not, ◌&&◌, ◌||◌, List, ◌∷◌, [], ◌++◌, map, filter, find, Option, Some, None, is_some, cond}
 use Rattle.std.specs.Option.{option_map_or}
 use Rattle.ds_base.specs.declared.names.PageId.{PageId}
+pub use Rattle.page_tree.specs.Order.{same_page}
 
 -- a page, its bytes if any, whether they were changed since the page was last cast out, the member that holds
 -- the castout lock, and whether the page was written since that lock was taken
@@ -15,9 +16,6 @@ pub record Entry : Type 0 where
 -- an entry that was just made
 abbrev pub fresh : PageId → Entry
 fresh id = record { page = id; bytes = None; changed = false; castout = None; written = false }
-
-abbrev pub same_page : PageId → PageId → Bool
-same_page a b = (a.set == b.set) && (a.number == b.number)
 
 -- whether it is the entry of the page
 abbrev pub is_of : PageId → Entry → Bool

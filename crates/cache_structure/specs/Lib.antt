@@ -4,11 +4,11 @@ pub mod Entries
 pub mod Frames
 pub mod Hashes
 pub mod Kept
+pub mod Listed
 pub mod Order
 pub mod Places
 pub mod Replies
 pub mod Slots
-pub mod Sought
 pub mod Sound
 pub mod State
 pub mod Uses

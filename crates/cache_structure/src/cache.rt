@@ -26,10 +26,10 @@ use std::marker::Model;
 
 /// A cache structure in memory.
 ///
-/// A look-up, the order of use and dropping a page's registrations cost the same for any number of entries and
-/// frames. Where no place is free, a new entry walks over the changed entries at the old end. `next_changed`,
-/// `changed_count`, `fail_member` and `lose` walk over all entries, `fail_member` over the member's frames, and
-/// `lose` over all frames.
+/// A look-up, the order of use, dropping a page's registrations and `changed_count` cost the same for any number of
+/// entries and frames. `next_changed`, and a write or a castout that changes which pages are changed, take at most 49
+/// steps down a tree. Where no place is free, a new entry walks over the changed entries at the old end. `fail_member`
+/// and `lose` walk over all entries, `fail_member` over the member's frames, and `lose` over all frames.
 #[derive(Drop)]
 pub struct Cache {
     table: EntryTable,
@@ -272,5 +272,9 @@ impl CacheFace for Cache {
 
     fn is_lost(&self) -> bool {
         self.lost
+    }
+
+    fn frames(&self) -> u16 {
+        self.registrations.frames()
     }
 }

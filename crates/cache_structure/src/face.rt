@@ -158,4 +158,8 @@ pub trait CacheFace {
     /// Whether it is lost and not rebuilt.
     fn is_lost(&self) -> bool
         ensures { result ≡ (directory self.now).lost };
+
+    /// How many frames each member has.
+    fn frames(&self) -> u16
+        ensures { result ≡ (directory self.now).frames };
 }

@@ -1,7 +1,7 @@
-ghost use Rattle.std.specs.Prelude.{◌≡◌, ◌≤◌, nat_eq, true, find, count_by, is_some, IfOk};
+ghost use Rattle.std.specs.Prelude.{◌≡◌, ◌≤◌, nat_eq, true, find, IfOk};
 ghost use Rattle.std.specs.Map.{keys_of};
 ghost use Rattle.std.specs.List.{IsDistinct};
-ghost use Rattle.cache_structure.specs.Slots.{slot_at, is_idle_slot, changed_page};
+ghost use Rattle.cache_structure.specs.Slots.{slot_at, is_idle_slot};
 ghost use Rattle.cache_structure.specs.Uses.{used_last, countdown, is_in};
 
 use crate::slot::Slot;
@@ -64,29 +64,12 @@ impl Order {
         first_idle_in(&self.uses, slots)
     }
 
-    /// How many slots have a changed entry.
-    pub fn count_changed(&self, slots: &[Slot]) -> usize
-        ensures { result ≡ count_by (λ f. is_some (changed_page (slot_at slots.now f))) self.now }
+    /// No number stands twice.
+    pub fn numbers_are_apart(&self)
+        ensures { IsDistinct nat_eq self.now }
     {
-        count_changed_in(&self.uses, slots)
-    }
-}
-
-fn count_changed_in(uses: &Uses, slots: &[Slot]) -> usize
-    ensures { result ≡ count_by (λ f. is_some (changed_page (slot_at slots.now f))) (keys_of uses.now.entries) }
-{
-    uses.iter()
-        .map(|(&slot, _)| slot)
-        .filter(|&slot| is_changed_at(slots, slot))
-        .count()
-}
-
-fn is_changed_at(slots: &[Slot], slot: u32) -> bool
-    ensures { result ≡ is_some (changed_page (slot_at slots.now slot)) }
-{
-    match slots.get(slot as usize) {
-        Some(held) => held.changed_page().is_some(),
-        None => false,
+        // The count tells the proof what the list keeps.
+        let _count = self.uses.len();
     }
 }
 

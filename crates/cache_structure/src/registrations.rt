@@ -46,6 +46,13 @@ impl Registrations {
         })
     }
 
+    /// How many frames each member has.
+    pub fn frames(&self) -> u16
+        ensures { result ≡ self.now.frames }
+    {
+        self.frames
+    }
+
     /// The slot with whose page a frame is registered.
     pub fn slot_of(&self, member: MemberId, index: u16) -> Option<u32>
         requires { index < self.now.frames }

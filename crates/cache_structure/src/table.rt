@@ -1,4 +1,4 @@
-ghost use Rattle.std.specs.Prelude.{◌≡◌, ◌==◌, ℕ, ◌<◌, ◌++◌, ◌∷◌, [], true, List, length, map, replicate, slice_get, slice_set, None, IfOk, IfSome, IsNone, Some, find, count_by, is_some, unwrap_or, nat_lt, cond};
+ghost use Rattle.std.specs.Prelude.{◌≡◌, ◌==◌, ℕ, ◌<◌, ◌≤◌, ◌+◌, ◌||◌, ◌&&◌, not, false, ◌++◌, ◌∷◌, [], true, List, length, map, replicate, slice_get, slice_set, None, IfOk, IfSome, IsNone, Some, find, count_by, is_some, unwrap_or, nat_lt, cond};
 ghost use Rattle.std.specs.Option.{option_map_or, option_map};
 ghost use Rattle.page_format.specs.Fields.{page_size};
 ghost use Rattle.cache_structure.specs.Entries.{
@@ -17,13 +17,16 @@ ghost use Rattle.cache_structure.specs.Entries.{
 ghost use Rattle.cache_structure.specs.Slots.{free_slot, slot_at, page_in, find_slot, entry_at, entry_in, entries_in, bytes_at};
 ghost use Rattle.cache_structure.specs.Frames.{is_page};
 ghost use Rattle.cache_structure.specs.Places.{holds_at};
-ghost use Rattle.cache_structure.specs.Order.{IsNextAmong, changed_in, past_only, sooner_of, comes_before as is_before};
+ghost use Rattle.cache_structure.specs.Order.{IsNextAmong, changed_in};
+ghost use Rattle.cache_structure.specs.Listed.{is_page_of};
+ghost use Rattle.page_tree.specs.Pages.{has};
 
 use crate::index::{PageIndex, enter, find_in, new_index};
 use crate::order::Order;
 use crate::slot::{Slot, free_all, free_slots};
 use ds_base::{MemberId, NoMemory, PageId};
 use page_format::Page;
+use page_tree::PageSet;
 use std::alloc::Global;
 use std::marker::Model;
 
@@ -37,17 +40,19 @@ pub struct EntryTable {
     order: Order,
     index: PageIndex,
     used: u32,
+    changed: PageSet,
 }
 
 impl Model for EntryTable {
     ghost use Rattle.cache_structure.specs.Slots.{Table};
     ghost use Rattle.cache_structure.specs.Kept.{IsKept};
+    ghost use Rattle.cache_structure.specs.Listed.{IsListed};
 
     ghost Value = { Table };
 
     ghost view = { λ t. record { slots = t.slots.items; pages = t.pages.items; order = t.order } };
 
-    ghost invariant = { λ t. IsKept (record { slots = t.slots.items; pages = t.pages.items; order = t.order }) t.index t.used };
+    ghost invariant = { λ t. IsKept (record { slots = t.slots.items; pages = t.pages.items; order = t.order }) t.index t.used × IsListed t.slots.items t.order t.changed };
 }
 
 impl EntryTable {
@@ -62,6 +67,7 @@ impl EntryTable {
             order: Order::new(alloc, entries)?,
             index: new_index(alloc, entries)?,
             used: 0,
+            changed: PageSet::new(alloc, entries)?,
         })
     }
 
@@ -157,18 +163,14 @@ impl EntryTable {
     pub fn changed_count(&self) -> u32
         ensures { result ≡ count_by (λ e. e.changed) (entries_in self.now) }
     {
-        self.order.count_changed(self.slots.as_slice()) as u32
+        self.changed.len()
     }
 
     /// The first changed page past `after`, in the order of page set and number.
     pub fn next_changed(&self, after: Option<PageId>) -> Option<PageId>
         ensures { IsNextAmong (changed_in self.now) after result }
     {
-        let mut best = None;
-        for at in 0..self.slots.len() {
-            best = sooner(best, past(after, self.slots[at].changed_page()));
-        }
-        best
+        self.changed.next(after)
     }
 
     /// Makes an entry of a page in a slot. What stood there is gone.
@@ -183,6 +185,8 @@ impl EntryTable {
         ensures entries { entries_in self.new ≡ newest (fresh id) (option_map_or (λ e. without e.page (entries_in self.old)) (entry_at self.old at) (entries_in self.old)) }
     {
         let was_free = self.slots[at as usize].is_free();
+        let before = self.slots[at as usize].changed_page();
+        relist(&mut self.changed, before, None);
         self.slots[at as usize] = Slot::holding(id);
         enter(&mut self.index, self.slots.as_slice(), at, id);
         self.order.make_newest(at);
@@ -200,7 +204,7 @@ impl EntryTable {
     {
         copy_page(from, &mut self.pages[at as usize]);
         let slot = self.slots[at as usize];
-        self.slots[at as usize] = slot.rewritten();
+        self.put(at, slot.rewritten());
     }
 
     /// Takes the castout lock of an entry.
@@ -245,6 +249,7 @@ impl EntryTable {
         free_all(&mut self.slots);
         self.index.clear();
         self.used = 0;
+        self.changed.clear();
     }
 
     /// Copies the bytes of an entry, if it has any.
@@ -269,7 +274,28 @@ impl EntryTable {
         ensures pages { page_in self.new.slots ≡ page_in self.old.slots }
         ensures entries { (id : PageId) (change : Entry → Entry) → holds_at self.old.slots at id ≡ true → entry_in slot (slice_get self.old.pages at) ≡ option_map change (entry_at self.old at) → entries_in self.new ≡ at_entry id change (entries_in self.old) }
     {
+        self.order.numbers_are_apart();
+        let before = self.slots[at as usize].changed_page();
+        relist(&mut self.changed, before, slot.changed_page());
         self.slots[at as usize] = slot;
+    }
+}
+
+// Keeps the set of changed pages, where a slot changes that had one of these before and has one after.
+fn relist(changed: &mut PageSet, before: Option<PageId>, after: Option<PageId>)
+    requires same { (p q : PageId) → before ≡ Some p → after ≡ Some q → p ≡ q }
+    requires there { (p : PageId) → before ≡ Some p → has changed.old p ≡ true }
+    requires absent { (q : PageId) → before ≡ None → after ≡ Some q → has changed.old q ≡ false }
+    requires room { (q : PageId) → before ≡ None → after ≡ Some q → 1 ≤ changed.old.room }
+    ensures pages { (q : PageId) → has changed.new q ≡ (is_page_of q after || (not (is_page_of q before) && has changed.old q)) }
+    ensures len { length changed.new.listed + cond (is_some before) 1 0 ≡ length changed.old.listed + cond (is_some after) 1 0 }
+    ensures room { length changed.new.listed + changed.new.room ≡ length changed.old.listed + changed.old.room }
+{
+    match (before, after) {
+        (None, Some(id)) => changed.insert(id),
+        (Some(id), None) => changed.remove(id),
+        (Some(_), Some(_)) => {}
+        (None, None) => {}
     }
 }
 
@@ -287,33 +313,4 @@ fn zero_pages(alloc: Global, entries: u32) -> Result<Vec<Page>, NoMemory>
         pages.push(Page::zero(alloc)?)?;
     }
     Ok(pages)
-}
-
-// The page, if it is past the given one.
-fn past(after: Option<PageId>, page: Option<PageId>) -> Option<PageId>
-    ensures { result ≡ past_only after page }
-{
-    let id = page?;
-    match after {
-        Some(limit) if !comes_before(limit, id) => None,
-        _ => page,
-    }
-}
-
-// The earlier of two pages, if there are two.
-fn sooner(a: Option<PageId>, b: Option<PageId>) -> Option<PageId>
-    ensures { result ≡ sooner_of a b }
-{
-    match (a, b) {
-        (Some(first), Some(second)) => { if comes_before(second, first) { b } else { a } }
-        (None, _) => b,
-        (_, None) => a,
-    }
-}
-
-// Whether a page comes before another, by page set and number.
-fn comes_before(a: PageId, b: PageId) -> bool
-    ensures { result ≡ is_before a b }
-{
-    a.set < b.set || (a.set == b.set && a.number < b.number)
 }

@@ -1,2 +1,3 @@
-mod Answers
-mod Frames
+pub mod Answers
+pub mod Decided
+pub mod Frames

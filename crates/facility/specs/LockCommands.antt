@@ -2,8 +2,8 @@
 use Rattle.std.specs.Prelude.{ℕ, zero, suc, ◌≡◌, Bool, true, false, cond, ◌&&◌, List, [], ◌∷◌, ◌++◌, Option, Some, None, slice_get}
 use Rattle.ds_model.specs.declared.lock.Name.{Name}
 use Rattle.lock_names.specs.declared.mode.Mode.{Mode}
-use Rattle.lock_names.specs.declared.mode.Mode.TheVariants as mode
 use Rattle.lock_names.specs.declared.mode.Interest.{Interest}
+use Rattle.lock_names.specs.Modes.{is_same}
 use Rattle.lock_structure.specs.declared.replies.Obtained.TheVariants as obtained
 use Rattle.lock_structure.specs.declared.replies.GrantReply.TheVariants as grant
 use Rattle.lock_structure.specs.Locks.{Locks, Obtains, Grants, IsReleased, IsPurged, retained_in}
@@ -31,17 +31,9 @@ ObtainsLock w m n mode answer v = ObtainAnswers w.locks m n mode answer v.locks 
 
 -- ---- grant
 
-unfoldable pub same_mode : Mode → Mode → Bool
-same_mode mode.IS mode.IS = true
-same_mode mode.IX mode.IX = true
-same_mode mode.S mode.S = true
-same_mode mode.SIX mode.SIX = true
-same_mode mode.X mode.X = true
-same_mode _ _ = false
-
 -- whether the answer is to a query about this name and mode
 abbrev pub is_about : Name → Mode → Name → Mode → Bool
-is_about n mode asked_name asked_mode = same_name asked_name n && same_mode asked_mode mode
+is_about n mode asked_name asked_mode = same_name asked_name n && is_same asked_mode mode
 
 -- the version at which the cell's member had nothing in the way of this name and mode, if it answered so
 abbrev pub clean_version : Name → Mode → Cell → Option ℕ

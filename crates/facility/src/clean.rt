@@ -1,8 +1,9 @@
 //! The answers of other members that they have nothing in the way of a lock.
 ghost use Rattle.std.specs.Prelude.{◌≡◌, ◌-◌, ◌≤◌, ◌<◌, ◌+◌, ℕ, [], ◌++◌, length, slice_index_or};
 ghost use Rattle.list_structure.specs.declared.query.Cell.TheVariants.{Empty};
+ghost use Rattle.lock_names.specs.Modes.{is_same};
 ghost use Rattle.lock_structure.specs.Records.{same_name};
-ghost use Rattle.facility.specs.LockCommands.{clean_version, clean_among, is_about, same_mode, stamped};
+ghost use Rattle.facility.specs.LockCommands.{clean_version, clean_among, is_about, stamped};
 
 use ds_base::MemberId;
 use list_structure::{Cell, CellAnswer};
@@ -41,18 +42,11 @@ fn is_same_name(a: &Name, b: &Name) -> bool
 }
 
 /// Whether both are the same mode.
-#[tactic(auto, unfolding(crate::specs::LockCommands::same_mode))]
+#[tactic(auto, unfolding(lock_names::specs::Modes::is_same))]
 fn is_same_mode(a: Mode, b: Mode) -> bool
-    ensures { result ≡ same_mode a b }
+    ensures { result ≡ is_same a b }
 {
-    matches!(
-        (a, b),
-        (Mode::IS, Mode::IS)
-            | (Mode::IX, Mode::IX)
-            | (Mode::S, Mode::S)
-            | (Mode::SIX, Mode::SIX)
-            | (Mode::X, Mode::X)
-    )
+    a == b
 }
 
 /// The version at which the cell's member had nothing in the way of this name and mode, if it answered so.

@@ -8,6 +8,7 @@
 mod cache_commands;
 mod clean;
 mod command;
+mod conditions;
 mod counting;
 mod facility;
 mod list_commands;
@@ -15,6 +16,3 @@ mod lock_commands;
 
 pub use command::{Command, Indexes, Reply};
 pub use facility::Facility;
-
-#[cfg(test)]
-mod tests;

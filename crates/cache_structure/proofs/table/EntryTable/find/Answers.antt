@@ -11,10 +11,10 @@ pub returns-clause-there : goal.returns-clause-there
 returns-clause-there c =
     subst (λ (t : Table). IfSome c.find_in.result (λ s. holds_at t.slots s c.args.id ≡ true)) c.self.view_is
     (subst (λ r. IfSome r (λ s. holds_at c.self.inside.slots.items s c.args.id ≡ true)) (sym (c.find_in.ensures ∙ ap (λ fs. find_slot fs c.args.id) c.as_slice.ensures.value))
-    (found_there _ _ _ c.self.invariant c.args.id))
+    (found_there _ _ _ c.self.invariant.0 c.args.id))
 
 pub returns-clause-entry : goal.returns-clause-entry
 returns-clause-entry c =
     subst (λ (t : Table). entry_of (entries_in t) c.args.id ≡ option_map_or (entry_at t) c.find_in.result None) c.self.view_is
-    (found _ _ _ c.self.invariant c.args.id
+    (found _ _ _ c.self.invariant.0 c.args.id
     ∙ ap (λ r. option_map_or (entry_at (record { slots = c.self.inside.slots.items; pages = c.self.inside.pages.items; order = c.self.inside.order })) r None) (sym (c.find_in.ensures ∙ ap (λ fs. find_slot fs c.args.id) c.as_slice.ensures.value)))

@@ -1,0 +1,4 @@
+pub mod Order
+pub mod Pages
+pub mod Nodes
+pub mod Depth
