@@ -1,10 +1,9 @@
 -- What the directory leads to, while frames and entries change.
-use Rattle.std.proofs.Common.{◌≡◌, ◌≢◌, ℕ, zero, suc, replicate, ◌<◌, ◌≤◌, Bool, true, false, cond, ◌⊎◌, inl, inr, List, [], ◌∷◌, length, get_or, Option, Some, None, refl, sym, ap, subst, ◌∙◌, true≢false, arith, slice_get, slice_set}
-use Rattle.std.specs.Prelude.{position, if◌then◌else◌}
+use Rattle.std.proofs.Common.{◌≡◌, ◌≢◌, ℕ, zero, suc, replicate, ◌<◌, ◌≤◌, Bool, true, false, cond, ◌⊎◌, inl, inr, List, length, get_or, Option, Some, None, refl, sym, ap, subst, ◌∙◌, true≢false, arith, slice_get, slice_set}
+use Rattle.std.specs.Prelude.{if◌then◌else◌}
 use Rattle.std.specs.List.{position_or_len}
 use Rattle.std.specs.Option.{option_map_or}
 use Rattle.std.proofs.lemmas.Grind.{common_steps}
-use Rattle.std.proofs.lemmas.Bool.{eqb-true}
 use Rattle.std.proofs.lemmas.Bool.Decides.{eqb_tells}
 use Rattle.std.proofs.lemmas.List.{get_or-set_same, get_or-set_other, length-set}
 use Rattle.std.proofs.lemmas.List.Quantifiers.{position-Some}
@@ -158,3 +157,38 @@ entered old new frames frame id u apart there f page others h = by (same_key (ke
         u.0 (key_of page)
         ∙ ap (λ b. cond b (Some frame) (get_by (same_key (key_of page)) old)) e
         ∙ others no h
+
+-- ---- without a directory
+
+found_apart : (frames : List Frame) → AreApart frames → (f : ℕ) (id : PageId) → holds_at frames f id ≡ true → find_page frames id ≡ Some f
+found_apart frames apart f id h = by (find_page frames id) refl
+  where
+    by : (o : Option ℕ) → find_page frames id ≡ o → find_page frames id ≡ Some f
+    by None e = absurd (misses frames id f e h)
+    by (Some g) e = e ∙ ap (λ k. Some k) (apart g f id (finds frames id g e) h)
+
+pub apart_placed : (frames : List Frame) (f : ℕ) (id : PageId) → f < length frames → AreApart frames → ((g : ℕ) → find_page frames id ≡ Some g → g ≡ f) → AreApart (slice_set frames f (holding id))
+apart_placed frames f id l apart alone g k page s t =
+    let is : (n : ℕ) → n ≢ f → holds id (holding id) ≡ true → holds page (holding id) ≡ true → holds_at frames n page ≡ true → ⊥ =
+    λ n apart_from own h at. apart_from (alone n (found_apart frames apart n id (subst (λ p. holds_at frames n p ≡ true) (sym (same_name id page (one_page id page (holding id) own h))) at))) in
+    let own : holds id (holding id) ≡ true = grind arith in
+    elim (at_set frames f g (holding id) page l s) [
+      | inl a ↦ elim (at_set frames f k (holding id) page l t) [
+        | inl b ↦ a.0 ∙ sym b.0
+        | inr b ↦ absurd (is k b.0 own a.1 b.1)
+      ]
+      | inr a ↦ elim (at_set frames f k (holding id) page l t) [
+        | inl b ↦ absurd (is g a.0 own b.1 a.1)
+        | inr b ↦ apart g k page a.1 b.1
+      ]
+    ]
+
+-- the frame holds no more than it held
+pub apart_less : (frames : List Frame) (f : ℕ) (new : Frame) → f < length frames → AreApart frames → ((id : PageId) → holds id new ≡ true → holds id (get_or frames f free_frame) ≡ true) → AreApart (slice_set frames f new)
+apart_less frames f new l apart less g k page s t = apart g k page (was g s) (was k t)
+  where
+    was : (n : ℕ) → holds_at (slice_set frames f new) n page ≡ true → holds_at frames n page ≡ true
+    was n h = elim (at_set frames f n new page l h) [
+      | inl a ↦ subst (λ m. holds_at frames m page ≡ true) (sym a.0) (back frames f page l (less page a.1))
+      | inr a ↦ a.1
+    ]

@@ -1,3 +1,8 @@
-pub mod Orders
-pub mod Leading
-pub mod Keeping
+mod Firsts
+mod Fronts
+mod Keeping
+mod Leading
+mod Listing
+mod Masks
+mod Orders
+mod Tallies

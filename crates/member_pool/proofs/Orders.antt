@@ -1,15 +1,14 @@
 -- The moves of the list of uses, seen as numbers.
-use Rattle.std.proofs.Common.{◌≡◌, ℕ, zero, suc, ◌+◌, ◌-◌, ◌<◌, ◌≤◌, add-one, Bool, true, false, cond, not, ◌||◌, List, [], ◌∷◌, ◌++◌, map, filter, length, take, Option, Some, None, refl, sym, ap, subst, ◌∙◌, true≢false, arith, nat_eq}
-use Rattle.std.specs.List.{IsDistinct, AllByRecursion, list_any, list_all}
+use Rattle.std.proofs.Common.{◌≡◌, ℕ, zero, suc, ◌+◌, ◌-◌, ◌<◌, ◌≤◌, add-one, Bool, true, false, cond, not, ◌||◌, List, [], ◌∷◌, ◌++◌, filter, length, take, Some, None, refl, sym, ap, subst, ◌∙◌, true≢false, arith, nat_eq}
+use Rattle.std.specs.List.{IsDistinct, AllByRecursion, list_all, range_with_len}
 use Rattle.std.specs.Prelude.{nat_lt, find, IfSome}
 use Rattle.std.specs.Option.{option_map_or}
-use Rattle.std.proofs.lemmas.List.{take_all, length-map}
-use Rattle.std.proofs.lemmas.Grind.{common_steps}
+use Rattle.std.proofs.lemmas.List.{take_all}
 use Rattle.std.specs.Map.{keys_of, lookup_entry, remove_entry}
 use Rattle.std.proofs.lemmas.Bool.{eqb-true}
 use Rattle.std.proofs.lemmas.Option.{none-some}
 use Rattle.lru.specs.LruCache.{LruCache, promoted, demoted, put_entries}
-use Rattle.member_pool.specs.Uses.{without, newest, oldest, countdown, is_in}
+use Rattle.member_pool.specs.Uses.{without, newest, oldest, is_in}
 
 apart_stays : (f : ℕ) (xs : List ℕ) → AllByRecursion (λ y. nat_eq f y ≡ false) xs → without f xs ≡ xs
 apart_stays f [] a = refl
@@ -63,14 +62,19 @@ module _ {X : Type 0} where
       ap (λ o. keys_of (option_map_or (λ e. e ∷ remove_entry (nat_eq f) es) o es)) r.1
       ∙ (λ i. r.2 i ∷ removed f es d i)
 
--- the greater number isn't in the countdown
-above : (n k : ℕ) → k ≤ n → is_in n (countdown k) ≡ false
-above n zero le = refl
-above n (suc k) le = let ih = above n k (omega (arith, le)) in grind (arith, ih)
+-- ---- the numbers from one on
 
-pub length-countdown : (n : ℕ) → length (countdown n) ≡ n
-length-countdown zero = refl
-length-countdown (suc n) = let ih = length-countdown n in grind (arith, ih)
+pub below_range : (f a k : ℕ) → f < a → is_in f (range_with_len a k) ≡ false
+below_range f a zero l = refl
+below_range f a (suc k) l = let ih = below_range f (a + 1) k (omega (arith, l)) in let ne : nat_eq f a ≡ false = grind (arith, l) in grind (arith, ih, ne)
+
+pub length-range : (a k : ℕ) → length (range_with_len a k) ≡ k
+length-range a zero = refl
+length-range a (suc k) = let ih = length-range (a + 1) k in grind (arith, ih)
+
+without_range : (f a k : ℕ) → f < a → without f (range_with_len a k) ≡ range_with_len a k
+without_range f a zero l = refl
+without_range f a (suc k) l = let ih = without_range f (a + 1) k (omega (arith, l)) in let ne : nat_eq f a ≡ false = grind (arith, l) in grind (arith, ih, ne)
 
 absent : {X : Type 0} (f : ℕ) (es : List (ℕ × X)) → is_in f (keys_of es) ≡ false → lookup_entry (nat_eq f) es ≡ None
 absent f [] h = refl
@@ -81,24 +85,101 @@ length-keys [] = refl
 length-keys (e ∷ es) = let ih = length-keys es in grind (arith, ih)
 
 -- one more number than before
-pub counted : {X : Type 0} (n k : ℕ) (v : X) (c : LruCache ℕ X) → k < n → c.cap ≡ n → keys_of c.entries ≡ countdown k → keys_of (put_entries nat_eq c k v) ≡ countdown (k + 1)
-counted n k v c lt holds keys =
-    let no = absent k c.entries (ap (is_in k) keys ∙ above k k (omega arith)) in
-    let long : length c.entries ≡ k = sym (length-keys c.entries) ∙ ap length keys ∙ length-countdown k in
-    ap (λ o. keys_of (option_map_or (λ e. (e.0, v) ∷ remove_entry (nat_eq k) c.entries) o ((k, v) ∷ take (c.cap - 1) c.entries))) no
-    ∙ ap (λ es. k ∷ keys_of es) (take_all (c.cap - 1) c.entries (omega (arith, long, holds, lt)))
-    ∙ ap (λ l. k ∷ l) keys
-    ∙ ap countdown (sym (add-one k))
+pub counted : {X : Type 0} (n d f : ℕ) (v : X) (c : LruCache ℕ X) → d < n → f ≡ n - 1 - d → c.cap ≡ n → keys_of c.entries ≡ range_with_len (n - d) d → keys_of (put_entries nat_eq c f v) ≡ range_with_len (n - (d + 1)) (d + 1)
+counted n d f v c lt is holds keys =
+    let no = absent f c.entries (ap (is_in f) keys ∙ below_range f (n - d) d (omega (arith, lt, is))) in
+    let long : length c.entries ≡ d = sym (length-keys c.entries) ∙ ap length keys ∙ length-range (n - d) d in
+    let next : n - d ≡ f + 1 = omega (arith, lt, is) in
+    let first : n - (d + 1) ≡ f = omega (arith, lt, is) in
+    ap (λ o. keys_of (option_map_or (λ e. (e.0, v) ∷ remove_entry (nat_eq f) c.entries) o ((f, v) ∷ take (c.cap - 1) c.entries))) no
+    ∙ ap (λ es. f ∷ keys_of es) (take_all (c.cap - 1) c.entries (omega (arith, long, holds, lt)))
+    ∙ ap (λ l. f ∷ l) (keys ∙ ap (λ a. range_with_len a d) next)
+    ∙ ap (range_with_len f) (sym (add-one d))
+    ∙ ap (λ a. range_with_len a (d + 1)) (sym first)
+
+-- ---- the order of a new list, made by moves
+
+without_append : (f : ℕ) (xs ys : List ℕ) → without f (xs ++ ys) ≡ without f xs ++ without f ys
+without_append f [] ys = refl
+without_append f (x ∷ xs) ys = let ih = without_append f xs ys in grind (arith, ih)
+
+abbrev pub below : ℕ → List ℕ → List ℕ
+below n xs = filter (λ g. nat_lt g n) xs
+
+without_top : (f : ℕ) (xs : List ℕ) → without f (below (f + 1) xs) ≡ below f xs
+without_top f [] = refl
+without_top f (x ∷ xs) = by (nat_lt x (f + 1)) (nat_eq f x) (nat_lt x f) refl refl refl (without_top f xs)
+  where
+    by : (a b c : Bool) → nat_lt x (f + 1) ≡ a → nat_eq f x ≡ b → nat_lt x f ≡ c → without f (below (f + 1) xs) ≡ below f xs → without f (below (f + 1) (x ∷ xs)) ≡ below f (x ∷ xs)
+    by true true true h k l ih = absurd (grind arith)
+    by true true false h k l ih = grind (arith, ih)
+    by true false true h k l ih = grind (arith, ih)
+    by true false false h k l ih = absurd (grind arith)
+    by false true c h k l ih = absurd (grind arith)
+    by false false true h k l ih = absurd (grind arith)
+    by false false false h k l ih = grind (arith, ih)
+
+moved : (f d : ℕ) (xs : List ℕ) → oldest f (range_with_len (f + 1) d ++ below (f + 1) xs) ≡ range_with_len f (d + 1) ++ below f xs
+moved f d xs =
+    ap (λ l. f ∷ l) (without_append f (range_with_len (f + 1) d) (below (f + 1) xs) ∙ (λ i. without_range f (f + 1) d (omega arith) i ++ without_top f xs i))
+    ∙ ap (λ k. range_with_len f k ++ below f xs) (sym (add-one d))
+
+pub moved_more : (n d f : ℕ) (xs : List ℕ) → d < n → f ≡ n - 1 - d → oldest f (range_with_len (n - d) d ++ below (n - d) xs) ≡ range_with_len (n - (d + 1)) (d + 1) ++ below (n - (d + 1)) xs
+moved_more n d f xs lt is =
+    let next : n - d ≡ f + 1 = omega (arith, lt, is) in
+    let first : n - (d + 1) ≡ f = omega (arith, lt, is) in
+    ap (λ m. oldest f (range_with_len m d ++ below m xs)) next ∙ moved f d xs ∙ ap (λ m. range_with_len m (d + 1) ++ below m xs) (sym first)
+
+pub all_below : (n : ℕ) (xs : List ℕ) → list_all (λ g. nat_lt g n) xs ≡ true → below n xs ≡ xs
+all_below n [] h = refl
+all_below n (x ∷ xs) h =
+    let here : nat_lt x n ≡ true = grind arith in
+    let rest : list_all (λ g. nat_lt g n) xs ≡ true = grind arith in
+    ap (λ b. cond b (x ∷ below n xs) (below n xs)) here ∙ ap (λ l. x ∷ l) (all_below n xs rest)
+
+pub none_below : (xs : List ℕ) → below 0 xs ≡ []
+none_below [] = refl
+none_below (x ∷ xs) = let no : nat_lt x 0 ≡ false = grind arith in ap (λ b. cond b (x ∷ below 0 xs) (below 0 xs)) no ∙ none_below xs
+
+in_below : (f n : ℕ) (xs : List ℕ) → f < n → is_in f xs ≡ true → is_in f (below n xs) ≡ true
+in_below f n [] l h = absurd (true≢false (sym h))
+in_below f n (x ∷ xs) l h = by (nat_eq f x) refl (in_below f n xs l)
+  where
+    by : (b : Bool) → nat_eq f x ≡ b → (is_in f xs ≡ true → is_in f (below n xs) ≡ true) → is_in f (below n (x ∷ xs)) ≡ true
+    by true e rest =
+        let same : f ≡ x = eqb-true f x e in
+        let lt : nat_lt x n ≡ true = grind (arith, same, l) in
+        ap (λ b. is_in f (cond b (x ∷ below n xs) (below n xs))) lt ∙ ap (λ b. b || is_in f (below n xs)) e
+    by false e rest =
+        let r = rest (sym (ap (λ b. b || is_in f xs) e) ∙ h) in
+        kept (nat_lt x n) r
+      where
+        kept : (c : Bool) → is_in f (below n xs) ≡ true → is_in f (cond c (x ∷ below n xs) (below n xs)) ≡ true
+        kept true r = ap (λ b. b || is_in f (below n xs)) e ∙ r
+        kept false r = r
+
+in_right : (f : ℕ) (xs ys : List ℕ) → is_in f ys ≡ true → is_in f (xs ++ ys) ≡ true
+in_right f [] ys h = h
+in_right f (x ∷ xs) ys h = let ih = in_right f xs ys h in grind (arith, ih)
+
+pub still_in : (n d f : ℕ) (xs : List ℕ) → d < n → f ≡ n - 1 - d → is_in f xs ≡ true → is_in f (range_with_len (n - d) d ++ below (n - d) xs) ≡ true
+still_in n d f xs lt is h = in_right f (range_with_len (n - d) d) (below (n - d) xs) (in_below f (n - d) xs (omega (arith, lt, is)) h)
 
 -- ---- which numbers are in an order
 
-pub in_countdown : (n f : ℕ) → f < n → is_in f (countdown n) ≡ true
-in_countdown zero f lt = absurd (omega (arith, lt))
-in_countdown (suc n) f lt = let ih = in_countdown n f in grind (arith, ih)
+pub in_range : (f a k : ℕ) → a ≤ f → f < a + k → is_in f (range_with_len a k) ≡ true
+in_range f a zero le lt = absurd (omega (arith, le, lt))
+in_range f a (suc k) le lt = by (nat_eq f a) refl (in_range f (a + 1) k)
+  where
+    by : (b : Bool) → nat_eq f a ≡ b → (a + 1 ≤ f → f < a + 1 + k → is_in f (range_with_len (a + 1) k) ≡ true) → is_in f (range_with_len a (suc k)) ≡ true
+    by true e rest = ap (λ b. b || is_in f (range_with_len (a + 1) k)) e
+    by false e rest =
+        let more : a + 1 ≤ f = grind (arith, le, e) in
+        ap (λ b. b || is_in f (range_with_len (a + 1) k)) e ∙ rest more (omega (arith, lt))
 
-pub within_countdown : (m n : ℕ) → n ≤ m → list_all (λ g. nat_lt g m) (countdown n) ≡ true
-within_countdown m zero le = refl
-within_countdown m (suc n) le = let ih = within_countdown m n (omega (arith, le)) in grind (arith, ih)
+pub within_range : (m a k : ℕ) → a + k ≤ m → list_all (λ g. nat_lt g m) (range_with_len a k) ≡ true
+within_range m a zero le = refl
+within_range m a (suc k) le = let ih = within_range m (a + 1) k (omega (arith, le)) in let here : nat_lt a m ≡ true = grind (arith, le) in grind (arith, ih, here)
 
 -- what is found is in the list
 pub found_within : (n : ℕ) (p : ℕ → Bool) (xs : List ℕ) → list_all (λ g. nat_lt g n) xs ≡ true → IfSome (find p xs) (λ f. f < n)
@@ -157,3 +238,7 @@ within_newest n f xs l h = within_push n f (without f xs) l (within_without n f 
 
 pub within_oldest : (n f : ℕ) (xs : List ℕ) → f < n → list_all (λ g. nat_lt g n) xs ≡ true → list_all (λ g. nat_lt g n) (oldest f xs) ≡ true
 within_oldest n f xs l h = let r = within_without n f xs h in grind (arith, r)
+
+pub with_nothing : (xs : List ℕ) → xs ++ [] ≡ xs
+with_nothing [] = refl
+with_nothing (x ∷ xs) = ap (λ l. x ∷ l) (with_nothing xs)

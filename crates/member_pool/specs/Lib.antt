@@ -1,6 +1,12 @@
+pub mod Counts
 pub mod Frames
+pub mod Heads
 pub mod Kept
 pub mod Lending
+pub mod Listed
+pub mod Marks
 pub mod Places
 pub mod Pools
+pub mod Sets
+pub mod Sound
 pub mod Uses

@@ -1,8 +1,9 @@
 -- A pool, and what its calls make of it.
-use Rattle.std.specs.Prelude.{ℕ, ◌≡◌, ◌<◌, Bool, true, List, length, slice_set, find, Option, Some, None, unwrap_or}
+use Rattle.std.specs.Prelude.{ℕ, true, if◌then◌else◌, List, slice_set, find, Option}
 use Rattle.ds_base.specs.declared.names.PageId.{PageId}
+use Rattle.write_order.specs.declared.rank.Rank.{Rank}
 use Rattle.member_pool.specs.declared.frame.Frame.{Frame}
-use Rattle.member_pool.specs.Frames.{free_frame, holding, frame_at, is_free, is_unpinned, find_page}
+use Rattle.member_pool.specs.Frames.{free_frame, holding, frame_at, is_unpinned}
 use Rattle.member_pool.specs.Uses.{newest, oldest}
 
 -- the bytes and the use of each frame, and the frames in the order of their use, the one used longest ago first
@@ -17,13 +18,17 @@ frame_of pool f = frame_at pool.frames f
 abbrev pub with_frame : PoolState → ℕ → Frame → PoolState
 with_frame pool f frame = record pool { frames = slice_set pool.frames f frame }
 
--- the page is placed: both marks are clear, and the frame is the newest
+-- the page is placed: all marks are clear, and the frame is the newest
 abbrev pub placed : PoolState → ℕ → PageId → PoolState
 placed pool f id = record pool { frames = slice_set pool.frames f (holding id); order = newest f pool.order }
 
 -- the frame is free, and counts as used longest ago
 abbrev pub dropped : PoolState → ℕ → PoolState
 dropped pool f = record pool { frames = slice_set pool.frames f free_frame; order = oldest f pool.order }
+
+-- the frame is changed, with this rank; one that is changed already keeps its rank
+abbrev pub marked_in : PoolState → ℕ → Rank → PoolState
+marked_in pool f rank = if (frame_of pool f).changed then pool else with_frame pool f (record (frame_of pool f) { changed = true; rank = rank })
 
 -- one more pin, and the frame is the newest
 abbrev pub pinned : PoolState → ℕ → ℕ → PoolState

@@ -1,5 +1,5 @@
 -- The order in which the frames were used.
-use Rattle.std.specs.Prelude.{ℕ, zero, suc, nat_eq, Bool, not, List, [], ◌∷◌, ◌++◌, filter}
+use Rattle.std.specs.Prelude.{ℕ, nat_eq, Bool, not, List, [], ◌∷◌, ◌++◌, filter}
 use Rattle.std.specs.List.{list_any}
 
 abbrev pub without : ℕ → List ℕ → List ℕ
@@ -12,11 +12,6 @@ newest f order = without f order ++ f ∷ []
 -- the frame is now the one that was used longest ago
 abbrev pub oldest : ℕ → List ℕ → List ℕ
 oldest f order = f ∷ without f order
-
--- the numbers below n, the greatest first
-abbrev pub countdown : ℕ → List ℕ
-countdown zero = []
-countdown (suc n) = n ∷ countdown n
 
 abbrev pub is_in : ℕ → List ℕ → Bool
 is_in f order = list_any (nat_eq f) order

@@ -1,7 +1,9 @@
 ghost use Rattle.std.specs.Prelude.{◌≡◌};
 ghost use Rattle.member_pool.specs.Frames.{holding, free_frame, holds};
+ghost use Rattle.member_pool.specs.Marks.{entry_of};
 
 use ds_base::PageId;
+use write_order::{Rank, WriteKey};
 
 /// What a frame of the pool holds, and how it is used.
 #[derive(Clone, Copy, Debug, PartialEq, Eq)]
@@ -10,8 +12,12 @@ pub struct Frame {
     pub page: Option<PageId>,
     /// The page was changed since it was last written to the group's cache.
     pub changed: bool,
+    /// Where a changed page stands in the write order.
+    pub rank: Rank,
     /// The page's bytes were read into the frame.
     pub filled: bool,
+    /// As far as the member knows, it is registered for the page and its copy is valid.
+    pub registered: bool,
     /// How many users need the page to stay here.
     pub pins: u32,
 }
@@ -24,7 +30,9 @@ impl Frame {
         Frame {
             page: None,
             changed: false,
+            rank: Rank::HeapPage,
             filled: false,
+            registered: false,
             pins: 0,
         }
     }
@@ -46,6 +54,21 @@ impl Frame {
         match self.page {
             Some(page) => id == page,
             None => false,
+        }
+    }
+
+    /// The place of a changed page in the write order.
+    pub fn entry(&self) -> Option<WriteKey>
+        ensures { result ≡ entry_of self.now }
+    {
+        let page = self.page?;
+        if self.changed {
+            Some(WriteKey {
+                rank: self.rank,
+                page,
+            })
+        } else {
+            None
         }
     }
 }

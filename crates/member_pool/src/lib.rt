@@ -1,12 +1,20 @@
 //! A member's pool of page frames: which page each holds, its marks and pins, and the order of use.
 #![tactic(auto)]
 
+mod counts;
 mod directory;
 mod frame;
+mod heads;
+mod law;
+mod listed;
 mod order;
 mod pool;
+mod sets;
 #[cfg(test)]
 mod tests;
 
 pub use frame::Frame;
+pub use heads::Heads;
+pub use law::keeps_pages_apart;
 pub use pool::Pool;
+pub use sets::SetMask;

@@ -1,7 +1,8 @@
-ghost use Rattle.std.specs.Prelude.{◌≡◌, ◌≤◌, true, find, IfOk};
+ghost use Rattle.std.specs.Prelude.{◌≡◌, ℕ, ◌<◌, ◌≤◌, true, find, nat_lt, slice_get, IfOk};
+ghost use Rattle.std.specs.List.{list_all, range_with_len};
 ghost use Rattle.std.specs.Map.{keys_of};
 ghost use Rattle.member_pool.specs.Frames.{frame_at, is_unpinned};
-ghost use Rattle.member_pool.specs.Uses.{newest, oldest, countdown, is_in};
+ghost use Rattle.member_pool.specs.Uses.{newest, oldest, is_in};
 
 use crate::Frame;
 use ds_base::NoMemory;
@@ -29,17 +30,35 @@ impl Model for Order {
 }
 
 impl Order {
-    /// All the numbers below `frames`, the greatest as the oldest.
+    /// All the numbers below `frames`, the least as the oldest.
     pub fn new(alloc: Global, frames: u16) -> Result<Order, NoMemory>
         requires { 1 ≤ frames }
-        ensures { IfOk result (λ order. order ≡ countdown frames) }
+        ensures { IfOk result (λ order. order ≡ range_with_len 0 frames) }
     {
         let capacity = NonZeroUsize::new(frames as usize).unwrap();
         let mut uses = LruCache::new(alloc, capacity)?;
-        for frame in 0..frames {
-            uses.put(frame, ())?;
+        for done in 0..frames {
+            uses.put(frames - 1 - done, ())?;
         }
         Ok(Order { uses })
+    }
+
+    /// Brings the numbers below `frames`, which are those in the list, back in the order of `new`.
+    pub fn reset(&mut self, frames: u16)
+        requires within { list_all (λ f. nat_lt f frames) self.old ≡ true }
+        requires covers { (f : ℕ) → f < frames → is_in f self.old ≡ true }
+        ensures { self.new ≡ range_with_len 0 frames }
+    {
+        for done in 0..frames {
+            self.make_oldest(frames - 1 - done);
+        }
+    }
+
+    /// The frame that was used longest ago.
+    pub fn oldest(&self) -> Option<u16>
+        ensures { result ≡ slice_get self.now 0 }
+    {
+        self.uses.peek_mru().map(|(&frame, _)| frame)
     }
 
     /// The frame was used just now.

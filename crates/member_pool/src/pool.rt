@@ -1,39 +1,36 @@
 ghost use Rattle.std.specs.Prelude.{◌≡◌, ℕ, ◌+◌, ◌-◌, ◌<◌, ◌≤◌, ◌^◌, true, false, Some, IfOk, IfSome, IsSome, IsNone, length, replicate, slice_get};
 ghost use Rattle.std.specs.Borrow.{sem};
+ghost use Rattle.std.specs.List.{range_with_len};
 ghost use Rattle.page_format.specs.Fields.{page_size};
 ghost use Rattle.member_pool.specs.Frames.{free_frame, find_page, is_unpinned};
-ghost use Rattle.member_pool.specs.Uses.{countdown};
-ghost use Rattle.member_pool.specs.Pools.{frame_of, with_frame, placed, dropped, pinned, victim_of};
+ghost use Rattle.member_pool.specs.Pools.{frame_of, with_frame, placed, dropped, pinned, marked_in, victim_of};
 ghost use Rattle.member_pool.specs.Lending.{LendsPage};
 
-use crate::Frame;
-use crate::directory::{Directory, enter, find_in, new_directory};
-use crate::order::Order;
+use crate::{Frame, Heads};
 use ds_base::{NoMemory, PageId};
 use page_format::Page;
 use std::alloc::Global;
 use std::marker::Model;
+use write_order::Rank;
 
 /// The page frames of a member.
 ///
 /// A frame is named by its number, below the size of the pool. No call but `new` takes memory.
 #[derive(Drop)]
 pub struct Pool {
+    heads: Heads,
     pages: Vec<Page>,
-    frames: Vec<Frame>,
-    order: Order,
-    places: Directory,
 }
 
 impl Model for Pool {
+    ghost use Rattle.std.specs.Prelude.{◌≡◌, length};
     ghost use Rattle.member_pool.specs.Pools.{PoolState};
-    ghost use Rattle.member_pool.specs.Kept.{IsKept};
 
     ghost Value = { PoolState };
 
-    ghost view = { λ p. record { pages = p.pages.items; frames = p.frames.items; order = p.order } };
+    ghost view = { λ p. record { pages = p.pages.items; frames = p.heads.frames; order = p.heads.order } };
 
-    ghost invariant = { λ p. IsKept p.pages.items p.frames.items p.order p.places };
+    ghost invariant = { λ p. length p.pages.items ≡ length p.heads.frames };
 }
 
 impl Pool {
@@ -42,28 +39,35 @@ impl Pool {
         requires { 1 ≤ frames }
         ensures pages { IfOk result (λ pool. pool.pages ≡ replicate frames (replicate page_size 0)) }
         ensures frames { IfOk result (λ pool. pool.frames ≡ replicate frames free_frame) }
-        ensures order { IfOk result (λ pool. pool.order ≡ countdown frames) }
+        ensures order { IfOk result (λ pool. pool.order ≡ range_with_len 0 frames) }
     {
         Ok(Pool {
+            heads: Heads::new(alloc, frames)?,
             pages: zero_pages(alloc, frames)?,
-            frames: free_frames(alloc, frames)?,
-            order: Order::new(alloc, frames)?,
-            places: new_directory(alloc, frames)?,
         })
+    }
+
+    /// Makes all frames free, as `new` leaves them. The bytes stay.
+    pub fn reset(&mut self)
+        ensures pages { self.new.pages ≡ self.old.pages }
+        ensures frames { self.new.frames ≡ replicate (length self.old.frames) free_frame }
+        ensures order { self.new.order ≡ range_with_len 0 (length self.old.frames) }
+    {
+        self.heads.reset();
     }
 
     /// The frame that holds a page.
     pub fn find(&self, id: PageId) -> Option<u16>
         ensures { result ≡ find_page self.now.frames id }
     {
-        find_in(&self.places, self.frames.as_slice(), id)
+        self.heads.find(id)
     }
 
     /// How many frames there are.
     pub fn len(&self) -> u16
         ensures { result ≡ length self.now.frames }
     {
-        self.frames.len() as u16
+        self.heads.len()
     }
 
     /// What a frame holds, and how it is used.
@@ -71,7 +75,7 @@ impl Pool {
         requires { frame < length self.now.frames }
         ensures { result ≡ frame_of self.now frame }
     {
-        self.frames[frame as usize]
+        self.heads.frame(frame)
     }
 
     pub fn page(&self, frame: u16) -> &Page
@@ -79,6 +83,13 @@ impl Pool {
         ensures { slice_get self.now.pages frame ≡ Some result.now }
     {
         &self.pages[frame as usize]
+    }
+
+    /// All pages, by the numbers of their frames.
+    pub fn pages(&self) -> &[Page]
+        ensures { result.now ≡ self.now.pages }
+    {
+        self.pages.as_slice()
     }
 
     /// The page, to be filled or changed in place.
@@ -97,9 +108,7 @@ impl Pool {
         requires alone { (f : ℕ) → find_page self.old.frames id ≡ Some f → f ≡ frame }
         ensures { self.new ≡ placed self.old frame id }
     {
-        self.frames[frame as usize] = Frame::holding(id);
-        enter(&mut self.places, self.frames.as_slice(), frame, id);
-        self.order.make_newest(frame);
+        self.heads.place(frame, id);
     }
 
     /// Makes a frame free. It counts as used longest ago.
@@ -107,8 +116,7 @@ impl Pool {
         requires { frame < length self.old.frames }
         ensures { self.new ≡ dropped self.old frame }
     {
-        self.frames[frame as usize] = Frame::free();
-        self.order.make_oldest(frame);
+        self.heads.drop_page(frame);
     }
 
     /// Keeps the page of a frame from being taken, until as many calls of `unpin`. The frame is the newest.
@@ -118,12 +126,7 @@ impl Pool {
         requires room { (frame_of self.old frame).pins < 2 ^ 32 - 1 }
         ensures { self.new ≡ pinned self.old frame ((frame_of self.old frame).pins + 1) }
     {
-        let held = self.frames[frame as usize];
-        self.frames[frame as usize] = Frame {
-            pins: held.pins + 1,
-            ..held
-        };
-        self.order.make_newest(frame);
+        self.heads.pin(frame);
     }
 
     /// Takes one pin back. The order of use stays.
@@ -132,28 +135,38 @@ impl Pool {
         requires pinned { 0 < (frame_of self.old frame).pins }
         ensures { self.new ≡ with_frame self.old frame (record (frame_of self.old frame) { pins = (frame_of self.old frame).pins - 1 }) }
     {
-        let held = self.frames[frame as usize];
-        self.frames[frame as usize] = Frame {
-            pins: held.pins - 1,
-            ..held
-        };
+        self.heads.unpin(frame);
     }
 
-    /// Sets the mark of a page that was changed.
+    /// Marks a page that was changed, with its place in the write order. Where it is marked already, it keeps its place.
+    pub fn mark_changed(&mut self, frame: u16, rank: Rank)
+        requires there { frame < length self.old.frames }
+        requires placed { IsSome (frame_of self.old frame).page }
+        ensures { self.new ≡ marked_in self.old frame rank }
+    {
+        self.heads.mark_changed(frame, rank);
+    }
+
+    /// Sets the mark of a page that was changed. It has the place in the write order that it had last, at first that of
+    /// a heap page.
     pub fn set_changed(&mut self, frame: u16, changed: bool)
         requires there { frame < length self.old.frames }
         requires placed { IsSome (frame_of self.old frame).page }
         ensures { self.new ≡ with_frame self.old frame (record (frame_of self.old frame) { changed = changed }) }
     {
-        let held = self.frames[frame as usize];
-        self.frames[frame as usize] = Frame { changed, ..held };
+        if changed {
+            let rank = self.heads.frame(frame).rank;
+            self.heads.mark_changed(frame, rank);
+        } else {
+            self.heads.mark_written(frame);
+        }
     }
 
     pub fn changed(&self, frame: u16) -> bool
         requires { frame < length self.now.frames }
         ensures { result ≡ (frame_of self.now frame).changed }
     {
-        self.frames[frame as usize].changed
+        self.heads.frame(frame).changed
     }
 
     /// Sets the mark of a page whose bytes were read into the frame.
@@ -162,15 +175,14 @@ impl Pool {
         requires placed { IsSome (frame_of self.old frame).page }
         ensures { self.new ≡ with_frame self.old frame (record (frame_of self.old frame) { filled = filled }) }
     {
-        let held = self.frames[frame as usize];
-        self.frames[frame as usize] = Frame { filled, ..held };
+        self.heads.set_filled(frame, filled);
     }
 
     pub fn filled(&self, frame: u16) -> bool
         requires { frame < length self.now.frames }
         ensures { result ≡ (frame_of self.now frame).filled }
     {
-        self.frames[frame as usize].filled
+        self.heads.frame(frame).filled
     }
 
     /// The frame to be taken next: the unpinned one that was used longest ago. A free frame counts as used longest ago.
@@ -180,14 +192,8 @@ impl Pool {
         ensures unpinned { IfSome result (λ f. is_unpinned (frame_of self.now f) ≡ true) }
         ensures none { IsNone result → (f : ℕ) → f < length self.now.frames → is_unpinned (frame_of self.now f) ≡ false }
     {
-        self.order.first_unpinned(self.frames.as_slice())
+        self.heads.victim()
     }
-}
-
-fn free_frames(alloc: Global, frames: u16) -> Result<Vec<Frame>, NoMemory>
-    ensures { IfOk result (λ all. all.items ≡ replicate frames free_frame) }
-{
-    Ok(vec![in alloc; Frame::free(); frames as usize]?)
 }
 
 fn zero_pages(alloc: Global, frames: u16) -> Result<Vec<Page>, NoMemory>

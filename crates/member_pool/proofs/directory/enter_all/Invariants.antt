@@ -1,4 +1,4 @@
-use Rattle.std.proofs.Common.{◌≡◌, ◌<◌, ◌≤◌, ◌*◌, ℕ, length}
+use Rattle.std.proofs.Common.{◌<◌, ◌≤◌, ◌*◌, ℕ, length}
 use Rattle.indexmap.specs.IndexMap.{index_map_len}
 use Rattle.ds_base.specs.declared.names.PageId.{PageId}
 use Rattle.member_pool.specs.Places.{LeadsTo, HasRoomFor}

@@ -1,4 +1,4 @@
-use Rattle.std.proofs.Common.{◌≡◌, ◌≢◌, ◌<◌, true, subst, arith}
+use Rattle.std.proofs.Common.{◌≡◌, ◌≢◌, true, subst, arith}
 use Rattle.member_pool.specs.Places.{holds_at}
 use Rattle.member_pool.proofs.Leading.{entered, there_at, none_at}
 use Rattle.member_pool.proofs.directory.enter_next.Goals as goal

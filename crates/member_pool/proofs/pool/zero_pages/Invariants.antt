@@ -1,4 +1,4 @@
-use Rattle.std.proofs.Common.{◌≡◌, replicate, length}
+use Rattle.std.proofs.Common.{◌≡◌, replicate}
 use Rattle.page_format.specs.Fields.{page_size}
 use Rattle.member_pool.proofs.pool.zero_pages.Given as goal
 

@@ -1,5 +1,0 @@
-use Rattle.member_pool.proofs.Keeping.{kept_new}
-use Rattle.member_pool.proofs.pool.Pool.new.Goals as goal
-
-pub invariant_of-result : goal.invariant_of-result
-invariant_of-result c = kept_new c.args.frames _ _ _ _ _ c.ranges.frames.fits c.in_ok-zero_pages.ensures c.in_ok-free_frames.ensures c.in_ok-new.ensures c.in_ok-new_directory.ensures.room
