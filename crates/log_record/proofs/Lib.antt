@@ -5,3 +5,5 @@ pub mod Changes
 pub mod Patches
 pub mod Records
 pub mod Memory
+pub mod Walks
+pub mod Meanings

@@ -12,6 +12,7 @@
 #![tactic(auto)]
 
 mod allowed;
+mod change;
 mod fault;
 mod field;
 mod kind;
@@ -23,15 +24,18 @@ mod put;
 mod read;
 mod size;
 mod state;
+mod whole;
 mod write;
 
 pub use allowed::is_allowed;
+pub use change::{compensation_of, inverse, is_drawn};
 pub use ds_model::{Body, LogRecord, RecordList, RowChange};
 pub use fault::RecordFault;
-pub use laws::reading_laws;
+pub use laws::{log_laws, reading_laws};
 pub use log::Log;
 pub use read::read_record;
 pub use size::record_length;
+pub use whole::records_in;
 pub use write::{put_record, records_bytes, write_record};
 
 #[cfg(test)]

@@ -3,9 +3,7 @@ ghost use Rattle.std.specs.List.{AllByRecursion};
 ghost use Rattle.ds_base.specs.Ids.{IsLrsn};
 ghost use Rattle.ds_model.specs.RecordBytes.{ChangeFits, PatchesAreAllowed, Fits};
 
-use crate::{
-    Body, LogRecord, RecordFault, RowChange, is_allowed, read_record, record_length, records_bytes,
-};
+use crate::{Body, LogRecord, RowChange, is_allowed, record_length, records_bytes, records_in};
 use ds_base::{Bytes, Lrsn, PageId, Place, TableId, Value};
 use page_format::{Patch, Patches};
 use std::alloc::Global;
@@ -136,20 +134,8 @@ fn ends() -> [LogRecord; 4]
     ]
 }
 
-fn kind(body: &Body) -> u8 {
-    match body {
-        Body::RowChange { .. } => 1,
-        Body::Compensation { .. } => 2,
-        Body::System { .. } => 3,
-        Body::Commit => 4,
-        Body::Ended => 5,
-        Body::Checkpoint { .. } => 6,
-        Body::RestartEnd => 7,
-    }
-}
-
 #[test]
-fn each_kind_has_its_bytes(rt: HostRuntime) -> Result<(), Fail> {
+fn each_kind_has_its_bytes_and_is_read(rt: HostRuntime) -> Result<(), Fail> {
     let changes = changes(rt.alloc())?;
     assert_eq!(rt; record_length(&changes[2]), SYSTEM.len());
     let changes = records_bytes(rt.alloc(), &changes)?;
@@ -165,76 +151,12 @@ fn each_kind_has_its_bytes(rt: HostRuntime) -> Result<(), Fail> {
     expected.extend(&CHECKPOINT)?;
     expected.extend(&RESTART_END)?;
     assert_eq!(rt; ends.as_slice(), expected.as_slice());
-    Ok(())
-}
-
-#[test]
-fn each_kind_is_read(rt: HostRuntime) -> Result<(), Fail> {
-    let kinds: [(&[u8], u8); 7] = [
-        (&CHANGE, 1),
-        (&COMPENSATION, 2),
-        (&SYSTEM, 3),
-        (&COMMIT, 4),
-        (&ENDED, 5),
-        (&CHECKPOINT, 6),
-        (&RESTART_END, 7),
-    ];
-    for (bytes, number) in kinds {
-        let (found, length) = read_record(rt.alloc(), bytes)?;
-        assert_eq!(rt; length, bytes.len());
-        assert_eq!(rt; kind(&found.body), number);
-        assert!(rt; is_allowed(&found));
-    }
-    Ok(())
-}
-
-/// What is told where one byte of a record is another.
-fn fault_with(
-    alloc: Global,
-    bytes: &[u8],
-    at: usize,
-    byte: u8,
-) -> Result<Option<RecordFault>, Fail> {
-    let mut copy = Vec::new(alloc);
-    copy.extend_from_slice(bytes)?;
-    if let Some(place) = copy.get_mut(at) {
-        *place = byte;
-    }
-    match read_record(alloc, &copy) {
-        Ok(_) => Ok(None),
-        Err(fault) => Ok(Some(fault)),
-    }
-}
-
-#[test]
-fn the_first_fault_is_told(rt: HostRuntime) -> Result<(), Fail> {
-    let faults: [(&[u8], usize, u8, RecordFault); 16] = [
-        // The length, the kind, the version and the transaction.
-        (&CHANGE, 3, 21, RecordFault::Bad { at: 0 }),
-        (&CHANGE, 3, 47, RecordFault::NotWhole),
-        (&CHANGE, 4, 8, RecordFault::Bad { at: 4 }),
-        (&CHANGE, 4, 4, RecordFault::Bad { at: 18 }),
-        (&CHANGE, 5, 2, RecordFault::Bad { at: 5 }),
-        (&ENDED, 17, 0, RecordFault::Bad { at: 12 }),
-        (&CHECKPOINT, 17, 1, RecordFault::Bad { at: 12 }),
-        // The row, its place and its value, and the length again.
-        (&CHANGE, 18, 65, RecordFault::Bad { at: 18 }),
-        (&CHANGE, 32, 31, RecordFault::Bad { at: 31 }),
-        (&CHANGE, 41, 0x7f, RecordFault::Bad { at: 37 }),
-        (&COMPENSATION, 39, 0x20, RecordFault::Bad { at: 35 }),
-        (&CHANGE, 45, 47, RecordFault::Bad { at: 42 }),
-        // The patches.
-        (&SYSTEM, 18, 13, RecordFault::Bad { at: 18 }),
-        (&SYSTEM, 20, 129, RecordFault::Bad { at: 19 }),
-        (&SYSTEM, 26, 0xff, RecordFault::Bad { at: 27 }),
-        (&SYSTEM, 18, 2, RecordFault::Bad { at: 31 }),
-    ];
-    for (bytes, at, byte, fault) in faults {
-        assert_eq!(rt;
-            fault_with(rt.alloc(), bytes, at, byte)?,
-            Some(fault),
-            "byte {at} is {byte}"
-        );
+    expected.extend(&CHANGE[..45])?;
+    let (found, length) = records_in(rt.alloc(), expected.as_slice())?;
+    assert_eq!(rt; found.len(), 4);
+    assert_eq!(rt; length, ends.len());
+    for record in found.as_slice() {
+        assert!(rt; is_allowed(record));
     }
     Ok(())
 }

@@ -1,4 +1,2 @@
-pub mod Walks
 pub mod Logs
 pub mod Told
-pub mod Meanings

@@ -7,11 +7,14 @@ use Rattle.ds_model.specs.RecordBytes.{IsAllowed, record_bytes, log_bytes}
 use Rattle.log_record.specs.Reading.{record_in}
 use Rattle.log_record.specs.declared.fault.RecordFault.TheVariants.{NotWhole}
 use Rattle.log_record.specs.declared.log.Log.{Log}
-use Rattle.log_volume.specs.Reading.{Parts, parts_in, IsLogOf}
+use Rattle.log_record.specs.Logs.{parts_in, parts_of, Parts, ArePartsOf, IsLogOf}
 use Rattle.log_volume.specs.Disks.{after_append, after_cut}
-use Rattle.log_volume.proofs.Walks.{Again, parts_whole}
 
-pub nothing_read : record_in [] ≡ Err NotWhole
+-- bytes that are whole records and what follows them are read so
+abbrev pub Whole : Type 0
+Whole = (bytes : List ℕ) (p : Parts) → ArePartsOf bytes p → parts_in bytes ≡ Ok p
+
+nothing_read : record_in [] ≡ Err NotWhole
 unfolding record_in
 nothing_read = refl
 
@@ -24,18 +27,13 @@ allowed-append [] qs h k = k
 allowed-append (r ∷ rs) qs h k = (h.0, allowed-append rs qs h.1 k)
 
 -- whole records alone
-whole_log : Again → (log : Log) → log.length ≡ length (log_bytes log.records) → log.tail ≡ 0 → AllByRecursion IsAllowed log.records → IsLogOf (log_bytes log.records) log
-whole_log again log long short h =
-    let read = parts_whole again log.records [] h nothing_read in
-    record {
-      is_read =
-          ap parts_in (sym (append-nil (log_bytes log.records))) ∙ read
-          ∙ ap (λ (n : ℕ). let it : Parts = record { records = log.records; size = n; tail = 0 } in Ok it) (sym long)
-          ∙ ap (λ (n : ℕ). let it : Parts = record { records = log.records; size = log.length; tail = n } in Ok it) (sym short);
-      spelled = take_all log.length (log_bytes log.records) (omega (arith, long));
-      allowed = h;
-      whole = omega (arith, long, short);
-    }
+whole_log : Whole → (log : Log) → log.length ≡ length (log_bytes log.records) → log.tail ≡ 0 → AllByRecursion IsAllowed log.records → IsLogOf (log_bytes log.records) log
+whole_log whole log long short h = record {
+  is_read = whole (log_bytes log.records) (parts_of log) (record { rest = []; split = sym (append-nil (log_bytes log.records)); allowed = h; not_whole = nothing_read; size_is = long; tail_is = short });
+  spelled = take_all log.length (log_bytes log.records) (omega (arith, long));
+  allowed = h;
+  whole = omega (arith, long, short);
+}
 
 long_of : (bytes : List ℕ) (log : Log) → IsLogOf bytes log → log.length ≡ length (log_bytes log.records)
 long_of bytes log is = sym (length-take-le log.length bytes (omega (arith, is.whole))) ∙ ap length is.spelled
@@ -44,16 +42,16 @@ long_of bytes log is = sym (length-take-le log.length bytes (omega (arith, is.wh
 bytes_of : (bytes : List ℕ) (log : Log) → IsLogOf bytes log → log.tail ≡ 0 → bytes ≡ log_bytes log.records
 bytes_of bytes log is short = sym (take_all log.length bytes (omega (arith, is.whole, short))) ∙ is.spelled
 
-pub cut_log : Again → (bytes : List ℕ) (log : Log) → IsLogOf bytes log → IsLogOf (log_bytes log.records) (after_cut log)
-cut_log again bytes log is = whole_log again (after_cut log) (long_of bytes log is) refl is.allowed
+pub cut_log : Whole → (bytes : List ℕ) (log : Log) → IsLogOf bytes log → IsLogOf (log_bytes log.records) (after_cut log)
+cut_log whole bytes log is = whole_log whole (after_cut log) (long_of bytes log is) refl is.allowed
 
 pub cut_bytes : (bytes : List ℕ) (log : Log) → IsLogOf bytes log → (log.length ≤ length bytes) × (take log.length bytes ≡ log_bytes log.records)
 cut_bytes bytes log is = (omega (arith, is.whole), is.spelled)
 
-pub appended_log : Again → (bytes : List ℕ) (log : Log) (added : List LogRecord) → IsLogOf bytes log → log.tail ≡ 0 → AllByRecursion IsAllowed added → IsLogOf (bytes ++ log_bytes added) (after_append log added)
-appended_log again bytes log added is short h =
+pub appended_log : Whole → (bytes : List ℕ) (log : Log) (added : List LogRecord) → IsLogOf bytes log → log.tail ≡ 0 → AllByRecursion IsAllowed added → IsLogOf (bytes ++ log_bytes added) (after_append log added)
+appended_log whole bytes log added is short h =
     let joined : log_bytes log.records ++ log_bytes added ≡ log_bytes (log.records ++ added) = log_bytes-append log.records added in
     let long : log.length + length (log_bytes added) ≡ length (log_bytes (log.records ++ added)) = omega (arith, long_of bytes log is, length-append (log_bytes log.records) (log_bytes added), ap length joined) in
-    let whole = whole_log again (after_append log added) long short (allowed-append log.records added is.allowed h) in
+    let all = whole_log whole (after_append log added) long short (allowed-append log.records added is.allowed h) in
     let P : List ℕ → Type 0 = λ all. IsLogOf all (after_append log added) in
-    subst P (sym (ap (λ (t : List ℕ). t ++ log_bytes added) (bytes_of bytes log is short) ∙ joined)) whole
+    subst P (sym (ap (λ (t : List ℕ). t ++ log_bytes added) (bytes_of bytes log is short) ∙ joined)) all

@@ -4,7 +4,7 @@ use Rattle.std.proofs.lemmas.List.{get_or-set_same}
 use Rattle.ds_base.specs.Ids.{IsMember}
 use Rattle.ds_disk.specs.Contents.{Contents, log_of, with_log, WhenTold, Becomes}
 use Rattle.log_record.specs.declared.log.Log.{Log}
-use Rattle.log_volume.specs.Reading.{IsLogOf}
+use Rattle.log_record.specs.Logs.{IsLogOf}
 use Rattle.log_volume.specs.Disks.{Holds}
 
 log_set : (c : Contents) (member : ℕ) (bytes : List ℕ) → IsMember member → length c.logs ≡ 32 → log_of (with_log c member bytes).logs member ≡ bytes

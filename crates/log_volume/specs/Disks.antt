@@ -5,7 +5,7 @@ use Rattle.ds_disk.specs.Contents.{Contents, log_of, with_log, Becomes, Same}
 use Rattle.ds_model.specs.declared.log.LogRecord.{LogRecord}
 use Rattle.ds_model.specs.RecordBytes.{log_bytes}
 use Rattle.log_record.specs.declared.log.Log.{Log}
-use Rattle.log_volume.specs.Reading.{parts_in, IsLogOf}
+use Rattle.log_record.specs.Logs.{parts_in, IsLogOf}
 use Rattle.log_volume.specs.declared.fault.LogFault.{LogFault}
 use Rattle.log_volume.specs.declared.fault.LogFault.TheVariants.{Failed, Damaged, NoMemory}
 

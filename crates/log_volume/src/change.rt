@@ -1,19 +1,26 @@
-ghost use Rattle.std.specs.Prelude.{◌≡◌, ◌≢◌, ◌≤◌, ◌+◌, ◌⊎◌, true, [], ◌++◌, length, vec_len, vec_capacity, IsOk, OnOk, OnErr};
+ghost use Rattle.std.specs.Prelude.{◌≡◌, ◌≢◌, ℕ, List, Ok, ◌≤◌, ◌+◌, ◌⊎◌, true, [], ◌++◌, length, vec_len, vec_capacity, IsOk, OnOk, OnErr};
 ghost use Rattle.std.specs.List.{AllByRecursion};
 ghost use Rattle.ds_base.specs.Ids.{IsMember};
 ghost use Rattle.ds_disk.specs.Contents.{WhenTold, Becomes, log_of};
 ghost use Rattle.ds_disk.specs.Answers.{Appended};
 ghost use Rattle.ds_model.specs.RecordBytes.{log_bytes, Fits};
 ghost use Rattle.log_volume.specs.Disks.{HasCause, Changes, Holds, after_append, after_cut};
-ghost use Rattle.log_volume.specs.Reading.{IsLogOf};
+ghost use Rattle.log_record.specs.Logs.{Parts, parts_in, ArePartsOf, IsLogOf};
 
 use crate::fault::LogFault;
 use ds_base::MemberId;
 use ds_disk::Disk;
 use ds_model::RecordList;
-use log_record::{Log, LogRecord, reading_laws, records_bytes};
+use log_record::{Log, LogRecord, log_laws, records_bytes};
 use std::alloc::Global;
 use std::mem;
+
+// Bytes that are whole records and what follows them are read so.
+fn whole_law()
+    ensures { (bytes : List ℕ) (p : Parts) → ArePartsOf bytes p → parts_in bytes ≡ Ok p }
+{
+    log_laws();
+}
 
 // A member's number is that of a log.
 fn has_log(member: MemberId)
@@ -77,7 +84,7 @@ pub fn append<D: Disk>(
     if added.is_empty() {
         return Ok(());
     }
-    reading_laws();
+    whole_law();
     has_log(log.member);
     let bytes = records_bytes(alloc, added.as_slice())?;
     let Some(length) = log.length.checked_add(bytes.len() as u64) else {
@@ -107,7 +114,7 @@ pub fn cut_tail<D: Disk>(disk: &mut D, log: &mut Log) -> Result<(), LogFault>
     ensures err { OnErr result (log.new ≡ log.old) }
     ensures log_is { OnOk result (Becomes (D.contents disk.old) (D.contents disk.new) (λ _ d. IsLogOf (log_of d.logs log.new.member) log.new)) }
 {
-    reading_laws();
+    whole_law();
     has_log(log.member);
     disk.cut_log(log.member, log.length)?;
     log.tail = 0;

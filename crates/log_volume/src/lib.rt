@@ -3,14 +3,11 @@
 
 mod change;
 mod fault;
-mod laws;
 mod read;
-mod records;
 #[cfg(test)]
 mod tests;
 
 pub use change::{append, cut_tail};
 pub use fault::LogFault;
-pub use laws::log_laws;
-pub use log_record::Log;
+pub use log_record::{Log, log_laws};
 pub use read::open_log;

@@ -3,7 +3,7 @@ ghost use Rattle.ds_base.specs.Ids.{IsLrsn};
 ghost use Rattle.ds_disk.specs.Contents.{WhenTold, log_of};
 ghost use Rattle.ds_disk.specs.Memory.{told};
 ghost use Rattle.std.specs.List.{AllByRecursion};
-ghost use Rattle.log_volume.specs.Reading.{IsLogOf};
+ghost use Rattle.log_record.specs.Logs.{IsLogOf};
 ghost use Rattle.ds_model.specs.RecordBytes.{Fits};
 
 use crate::{LogFault, append, cut_tail, open_log};

@@ -1,5 +1,5 @@
 -- The log buffer of a member.
-use Rattle.std.specs.Prelude.{ℕ, ◌-◌, List, [], ◌++◌, length}
+use Rattle.std.specs.Prelude.{ℕ, ◌-◌, Bool, ◌&&◌, List, [], ◌++◌, length, nat_lt}
 use Rattle.ds_model.specs.declared.log.LogRecord.{LogRecord}
 use Rattle.ds_model.specs.RecordBytes.{record_bytes}
 
@@ -25,3 +25,11 @@ after_put b r = record { size = b.size; pending = b.pending ++ record_bytes r; l
 -- all pending records stand in the log
 abbrev pub after_force : LogBuffer → LogBuffer
 after_force b = record { size = b.size; pending = []; last = b.last; stable = b.last }
+
+-- the log on disk ends with this number, and nothing is pending
+abbrev pub started : LogBuffer → ℕ → LogBuffer
+started b last = record { size = b.size; pending = []; last = last; stable = last }
+
+-- a record is pending, and the last one has a number above the limit
+abbrev pub is_above : LogBuffer → ℕ → Bool
+is_above b limit = nat_lt 0 (length b.pending) && nat_lt limit b.last

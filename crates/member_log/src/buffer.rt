@@ -1,6 +1,6 @@
-ghost use Rattle.std.specs.Prelude.{◌≡◌, ◌+◌, ◌<◌, ◌≤◌, ◌++◌, length, take, OnOk, OnErr, IfOk, IfErr};
+ghost use Rattle.std.specs.Prelude.{◌≡◌, ◌+◌, ◌<◌, ◌≤◌, ◌++◌, ◌==◌, length, take, OnOk, OnErr, IfOk, IfErr};
 ghost use Rattle.ds_model.specs.RecordBytes.{record_bytes, IsAllowed, Fits};
-ghost use Rattle.member_log.specs.Buffers.{empty_buffer, room_of, after_put, after_force};
+ghost use Rattle.member_log.specs.Buffers.{empty_buffer, room_of, after_put, after_force, started, is_above};
 
 use ds_base::{Lrsn, NoMemory};
 use log_record::{LogRecord, record_length, write_record};
@@ -100,8 +100,8 @@ impl MemberLog {
     pub fn forced(&mut self)
         ensures { self.new ≡ after_force self.old }
     {
-        self.used = 0;
-        self.stable = self.last;
+        let last = self.last;
+        self.start_at(last);
     }
 
     /// The LRSN of the last record before the pending ones, 0 where there is none.
@@ -116,5 +116,39 @@ impl MemberLog {
         ensures { result ≡ self.now.last }
     {
         self.last
+    }
+
+    /// Whether no record is pending.
+    pub fn is_empty(&self) -> bool
+        ensures { result ≡ (length self.now.pending == 0) }
+    {
+        self.used == 0
+    }
+
+    /// Whether a record is pending and the last one has a number above the limit. Such a record must go to the log before
+    /// a number is drawn for another one.
+    pub fn is_above(&self, limit: Lrsn) -> bool
+        ensures { result ≡ is_above self.now limit }
+    {
+        !self.is_empty() && limit.number() < self.last.number()
+    }
+
+    /// Forgets all records, as before the first one.
+    pub fn reset(&mut self)
+        ensures { self.new ≡ empty_buffer self.old.size }
+    {
+        let Some(none) = Lrsn::new(0) else {
+            unreachable!()
+        };
+        self.start_at(none);
+    }
+
+    /// Goes on with a log that stands on disk up to this number. Records that are pending are forgotten.
+    pub fn start_at(&mut self, last: Lrsn)
+        ensures { self.new ≡ started self.old last }
+    {
+        self.used = 0;
+        self.last = last;
+        self.stable = last;
     }
 }

@@ -4,7 +4,7 @@ use Rattle.ds_disk.specs.Contents.{Becomes, log_of}
 use Rattle.ds_model.specs.declared.log.LogRecord.{LogRecord}
 use Rattle.ds_model.specs.RecordBytes.{log_bytes, IsAllowed}
 use Rattle.log_record.specs.declared.log.Log.{Log}
-use Rattle.log_volume.specs.Reading.{IsLogOf}
+use Rattle.log_record.specs.Logs.{IsLogOf}
 use Rattle.log_volume.specs.Disks.{Holds, after_append}
 use Rattle.log_volume.proofs.Logs.{appended_log}
 use Rattle.log_volume.proofs.Told.{told_after}
@@ -27,4 +27,4 @@ returns-clause-log_is g c =
     let same : after_append log added ≡ now = ap (λ (rs : List LogRecord). with_records rs (log.length + length (log_bytes added)) log) (sym records) ∙ ap (λ (n : ℕ). with_records c.from_vec.result n log) (sym long) in
     subst (λ (l : Log). Becomes (g.D.Disk.contents c.args.disk.now) (g.D.Disk.contents c.append_with_room-done.new.disk) (λ x d. IsLogOf (log_of d.logs log.member) l)) same
     (told_after log.member _ _ (λ (b : List ℕ). b ++ log_bytes added) log (after_append log added) c.has_log.ensures (g.D.Disk.has_logs c.args.disk.now) c.requires.log_is step
-    (λ bytes is. appended_log c.reading_laws.ensures.again bytes log added is c.requires.no_tail allowed))
+    (λ bytes is. appended_log c.whole_law.ensures bytes log added is c.requires.no_tail allowed))

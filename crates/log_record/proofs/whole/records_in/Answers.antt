@@ -1,11 +1,11 @@
 use Rattle.std.proofs.Common.{arith}
-use Rattle.log_volume.proofs.Walks.{whole_at, damaged_at, further}
-use Rattle.log_volume.proofs.records.records_in.Goals as goal
+use Rattle.log_record.proofs.Walks.{whole_at, damaged_at, further}
+use Rattle.log_record.proofs.whole.records_in.Goals as goal
 
-pub returns-in_err-found-clause-damaged : goal.returns-in_err-found-clause-damaged
-returns-in_err-found-clause-damaged c = λ n e.
+pub returns-in_err-found-clause-bad : goal.returns-in_err-found-clause-bad
+returns-in_err-found-clause-bad c = λ n e.
     let i = c.loop-records.invariant in
-    let h = c.in_err-found.ensures.damaged n (grind (arith, e, c.from_residual.ensures)) in
+    let h = c.in_err-found.ensures.bad n (grind (arith, e, c.from_residual.ensures)) in
     damaged_at c.reading_laws.ensures.again c.args.bytes.now c.loop-records.at c.loop-records.records i.0 i.1 i.2 n h.0 h.1
 
 pub loop-records-preserved : goal.loop-records-preserved

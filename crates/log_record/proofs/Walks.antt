@@ -8,7 +8,7 @@ use Rattle.ds_model.specs.RecordBytes.{IsAllowed, record_bytes, log_bytes}
 use Rattle.log_record.specs.Reading.{record_in, Found}
 use Rattle.log_record.specs.declared.fault.RecordFault.{RecordFault}
 use Rattle.log_record.specs.declared.fault.RecordFault.TheVariants.{NotWhole, Bad}
-use Rattle.log_volume.specs.Reading.{Parts, behind, parts_from, parts_up_to, parts_in}
+use Rattle.log_record.specs.Logs.{Parts, behind, parts_from, parts_up_to, parts_in}
 
 -- a spelling is read, whatever follows it
 abbrev pub Again : Type 0

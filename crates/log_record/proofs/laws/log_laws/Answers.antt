@@ -1,5 +1,5 @@
-use Rattle.log_volume.proofs.Meanings.{sound_log, parts_are, damaged_is, damage_is}
-use Rattle.log_volume.proofs.laws.log_laws.Goals as goal
+use Rattle.log_record.proofs.Meanings.{sound_log, parts_are, damaged_is, damage_is}
+use Rattle.log_record.proofs.laws.log_laws.Goals as goal
 
 pub returns-clause-sound : goal.returns-clause-sound
 returns-clause-sound c = λ bytes records h. sound_log c.reading_laws.ensures.again c.reading_laws.ensures.cut bytes records h

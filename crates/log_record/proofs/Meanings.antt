@@ -8,11 +8,14 @@ use Rattle.ds_model.specs.RecordBytes.{IsAllowed, record_bytes, log_bytes}
 use Rattle.log_record.specs.Reading.{record_in, Found}
 use Rattle.log_record.specs.declared.fault.RecordFault.{RecordFault}
 use Rattle.log_record.specs.declared.fault.RecordFault.TheVariants.{NotWhole, Bad, NoMemory}
-use Rattle.log_volume.specs.Reading.{Parts, behind, parts_from, parts_up_to, parts_in, ArePartsOf, IsDamagedAt}
-use Rattle.log_volume.proofs.Logs.{nothing_read}
-use Rattle.log_volume.proofs.Walks.{Again, parts_whole, parts_damaged}
+use Rattle.log_record.specs.Logs.{Parts, behind, parts_from, parts_up_to, parts_in, ArePartsOf, IsDamagedAt}
+use Rattle.log_record.proofs.Walks.{Again, parts_whole, parts_damaged}
 
 -- ---- from the records to what is read
+
+nothing_read : record_in [] ≡ Err NotWhole
+unfolding record_in
+nothing_read = refl
 
 pub parts_are : Again → (bytes : List ℕ) (p : Parts) → ArePartsOf bytes p → parts_in bytes ≡ Ok p
 parts_are again bytes p h =
