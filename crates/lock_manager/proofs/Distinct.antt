@@ -1,9 +1,10 @@
 -- No two claims of an owner are on one name.
 use Rattle.std.proofs.Common.{◌≡◌, ℕ, zero, suc, ◌+◌, Bool, true, false, List, [], ◌∷◌, length, drop, set, refl, sym, ◌∙◌, ap, subst, arith, if◌then◌else◌}
-use Rattle.std.specs.Prelude.{Some, None, is_some, ◌||◌}
+use Rattle.std.specs.Prelude.{Option, Some, None, is_some, ◌||◌}
 use Rattle.std.proofs.lemmas.Grind.{common_steps}
 use Rattle.ds_model.specs.declared.lock.Name.{Name}
 use Rattle.ds_model.specs.declared.lock.Name.TheVariants as name
+use Rattle.lock_names.specs.declared.mode.Mode.{Mode}
 use Rattle.lock_manager.specs.declared.claim.Claim.{Claim}
 use Rattle.lock_manager.specs.Claims.{same_name, mode_in, without}
 use Rattle.lock_manager.specs.Holders.{is_held}
@@ -98,3 +99,11 @@ nothing_beyond [] zero beyond e = refl
 nothing_beyond [] (suc k) beyond e = refl
 nothing_beyond (c ∷ cs) zero beyond e = absurd (omega (arith, e))
 nothing_beyond (c ∷ cs) (suc k) beyond e = nothing_beyond cs k beyond (omega (arith, e))
+
+none_there : (b : Option Mode) → is_some b ≡ false → b ≡ None
+none_there None e = refl
+none_there (Some m) e = cc
+
+-- a claim comes before the others
+pub distinct_more : (old new : List Claim) (c : Claim) → AreDistinct old → is_some (mode_in old c.name) ≡ false → new ≡ c ∷ old → AreDistinct new
+distinct_more old new c d a w = subst AreDistinct (sym w) (none_there (mode_in old c.name) a, d)

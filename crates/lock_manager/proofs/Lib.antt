@@ -4,3 +4,5 @@ mod Places
 mod Distinct
 mod Tallies
 mod Releases
+mod Resets
+mod Free

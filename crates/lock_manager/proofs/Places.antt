@@ -5,9 +5,10 @@ use Rattle.std.proofs.lemmas.List.{get_or_default, at_drop_more, append_assoc, t
 use Rattle.std.proofs.lemmas.Grind.{common_steps}
 use Rattle.ds_model.specs.declared.lock.Name.{Name}
 use Rattle.ds_model.specs.declared.lock.Name.TheVariants as name
+use Rattle.lock_names.specs.declared.mode.Mode.{Mode}
 use Rattle.lock_names.specs.Entries.{entry_number, number_of}
 use Rattle.lock_manager.specs.declared.claim.Claim.{Claim}
-use Rattle.lock_manager.specs.Claims.{same_name, mode_in, without}
+use Rattle.lock_manager.specs.Claims.{same_name, mode_in, without, with_mode}
 use Rattle.lock_manager.specs.Buckets.{all_in, FallOn, IsInPlace, HasBuckets}
 use Rattle.lock_manager.proofs.Rooms.{absent_without, same_itself, drop_next}
 
@@ -161,6 +162,33 @@ pub popped_buckets : (cs : List (List Claim)) (at : ℕ) (old new : List Claim) 
 popped_buckets cs at old new c has h o w =
     let P : List Claim → Type 0 = λ z. FallOn (length cs) at z in
     kept_buckets cs at new has (subst P w (fall_old cs at old has h o)).1
+
+-- ---- another mode in a claim
+
+absent_with : (cs : List Claim) (n : Name) (m : Mode) → is_some (mode_in cs n) ≡ false → with_mode cs n m ≡ cs
+absent_with [] n m e = refl
+absent_with (c ∷ cs) n m e = let ih = absent_with cs n m in grind (arith, ih)
+
+with_append : (xs ys : List Claim) (n : Name) (m : Mode) → with_mode (xs ++ ys) n m ≡ (if is_some (mode_in xs n) then with_mode xs n m ++ ys else xs ++ with_mode ys n m)
+with_append [] ys n m = refl
+with_append (x ∷ xs) ys n m = let ih = with_append xs ys n m in grind (arith, ih)
+
+with_set : (count k : ℕ) (cs : List (List Claim)) (at : ℕ) (n : Name) (m : Mode) → IsInPlace count k cs → entry_number n count ≡ k + at → at < length cs → with_mode (all_in cs) n m ≡ all_in (set cs at (with_mode (get_or cs at []) n m))
+with_set count k [] at n m p e h = absurd (omega arith)
+with_set count k (c ∷ cs) zero n m p e h =
+    let later = absent_later count (k + 1) cs n p.1 (omega (arith, e)) in
+    let same = absent_with (all_in cs) n m (ap (λ z. is_some z) later) in
+    let gone = absent_with c n m in
+    let split = with_append c (all_in cs) n m in grind (arith, same, gone, split)
+with_set count k (c ∷ cs) (suc at) n m p e h =
+    let here = absent count k c n p.0 (λ z. omega (arith, z, e)) in
+    let ih = with_set count (k + 1) cs at n m p.1 (omega (arith, e)) (omega (arith, h)) in
+    let split = with_append c (all_in cs) n m in grind (arith, here, ih, split)
+
+pub changed_place : (cs : List (List Claim)) (at : ℕ) (old new : List Claim) (n : Name) (m : Mode) → HasBuckets cs → at ≡ entry_number n (length cs) → at < length cs → old ≡ get_or cs at old → new ≡ with_mode old n m → all_in (set cs at new) ≡ with_mode (all_in cs) n m
+changed_place cs at old new n m has e h o w =
+    let here = w ∙ ap (λ z. with_mode z n m) (read_chain cs at old h o) in
+    ap (λ z. all_in (set cs at z)) here ∙ sym (with_set (length cs) 0 cs at n m has.1.1 (omega (arith, e)) h)
 
 -- ---- the first chain that isn't empty
 

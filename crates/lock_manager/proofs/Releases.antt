@@ -85,29 +85,22 @@ drop_some [] (suc k) c rest e = cc
 drop_some (x ∷ xs) zero c rest e = omega arith
 drop_some (x ∷ xs) (suc k) c rest e = let ih = drop_some xs k c rest e in omega (arith, ih)
 
--- the claim at this place is the only one of its owner on the name
-only_held : (b : Book) (o passed : ℕ) (c : Claim) (x none : List Claim) (answer : Bool) → x ≡ claims_of b o → mode_in (drop (passed + 1) x) c.name ≡ None → answer ≡ is_held (set b.holders o none) c.name → none ≡ []
-    → is_held (set b.holders o (drop (passed + 1) (claims_of b o))) c.name ≡ answer
-only_held b o passed c x none answer xs only a n =
-    ap (λ z. is_held (set b.holders o (drop (passed + 1) z)) c.name) (sym xs) ∙ held_by_others b.holders o (drop (passed + 1) x) c.name only ∙ ap (λ z. is_held (set b.holders o z) c.name) (sym n) ∙ sym a
-
 at_place : (b : Book) (o passed : ℕ) (c : Claim) (x : List Claim) → x ≡ claims_of b o → drop passed x ≡ c ∷ drop (passed + 1) x → drop passed (claims_of b o) ≡ c ∷ drop (passed + 1) (claims_of b o)
 at_place b o passed c x xs s = subst (λ z. drop passed z ≡ c ∷ drop (passed + 1) z) xs s
 
-pub found_at : (b : Book) (o passed : ℕ) (c : Claim) (x none : List Claim) (answer : Bool) (interest : Interest) → x ≡ claims_of b o → drop passed x ≡ c ∷ drop (passed + 1) x → mode_in (drop (passed + 1) x) c.name ≡ None
-    → answer ≡ is_held (set b.holders o none) c.name → none ≡ [] → answer ≡ false → interest ≡ kept b.entries (set b.holders o (drop (passed + 1) (claims_of b o))) (entry_number c.name b.entries)
+pub found_at : (b : Book) (o passed : ℕ) (c : Claim) (x : List Claim) (interest : Interest) → x ≡ claims_of b o → drop passed x ≡ c ∷ drop (passed + 1) x
+    → is_held (set b.holders o (drop (passed + 1) (claims_of b o))) c.name ≡ false → interest ≡ kept b.entries (set b.holders o (drop (passed + 1) (claims_of b o))) (entry_number c.name b.entries)
     → first_freed b.holders o (drop passed (claims_of b o)) ≡ first_freed b.holders o (claims_of b o) → left_after b.holders o (drop passed (claims_of b o)) ≡ left_after b.holders o (claims_of b o) → Some (c.name, interest) ≡ release_told b o
-found_at b o passed c x none answer interest xs s only a n free i f l =
-    found_here b o passed c (drop passed (claims_of b o)) (drop (passed + 1) (claims_of b o)) interest i (at_place b o passed c x xs s) refl (only_held b o passed c x none answer xs only a n ∙ free) f l
+found_at b o passed c x interest xs s free i f l =
+    found_here b o passed c (drop passed (claims_of b o)) (drop (passed + 1) (claims_of b o)) interest i (at_place b o passed c x xs s) refl free f l
 
-pub passed_at : (b : Book) (o passed : ℕ) (c : Claim) (x none : List Claim) (answer : Bool) → x ≡ claims_of b o → drop passed x ≡ c ∷ drop (passed + 1) x → mode_in (drop (passed + 1) x) c.name ≡ None
-    → answer ≡ is_held (set b.holders o none) c.name → none ≡ [] → answer ≡ true
+pub passed_at : (b : Book) (o passed : ℕ) (c : Claim) (x : List Claim) → x ≡ claims_of b o → drop passed x ≡ c ∷ drop (passed + 1) x
+    → is_held (set b.holders o (drop (passed + 1) (claims_of b o))) c.name ≡ true
     → first_freed b.holders o (drop passed (claims_of b o)) ≡ first_freed b.holders o (claims_of b o) → left_after b.holders o (drop passed (claims_of b o)) ≡ left_after b.holders o (claims_of b o)
     → (first_freed b.holders o (drop (passed + 1) (claims_of b o)) ≡ first_freed b.holders o (claims_of b o)) × (left_after b.holders o (drop (passed + 1) (claims_of b o)) ≡ left_after b.holders o (claims_of b o)) × (passed + 1 ≤ length (claims_of b o))
-passed_at b o passed c x none answer xs s only a n held f l =
+passed_at b o passed c x xs s still f l =
     let rest = drop (passed + 1) (claims_of b o) in
-    let here = at_place b o passed c x xs s in
-    let still : is_held (set b.holders o rest) c.name ≡ true = only_held b o passed c x none answer xs only a n ∙ held in (
+    let here = at_place b o passed c x xs s in (
       sym (ap (λ z. if z then first_freed b.holders o rest else Some c.name) still) ∙ ap (λ z. first_freed b.holders o z) (sym here) ∙ f,
       sym (ap (λ z. if z then left_after b.holders o rest else rest) still) ∙ ap (λ z. left_after b.holders o z) (sym here) ∙ l,
       drop_some (claims_of b o) passed c rest here,

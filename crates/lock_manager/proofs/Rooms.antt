@@ -1,6 +1,6 @@
 -- The room that claims leave.
 use Rattle.std.proofs.Common.{◌≡◌, ◌≢◌, ◌++◌, ap, subst, ℕ, zero, suc, ◌+◌, ◌<◌, ◌≤◌, true, false, List, [], ◌∷◌, length, set, get_or, drop, replicate, refl, sym, ◌∙◌, arith, if◌then◌else◌, ◌==◌, add-one}
-use Rattle.std.specs.Prelude.{Option, Some, is_some}
+use Rattle.std.specs.Prelude.{Option, Some, is_some, ◌||◌}
 use Rattle.std.proofs.lemmas.List.{get_or_default, get_or-set_same, length-set, set-get_or, length-append}
 use Rattle.std.proofs.lemmas.List.Edits.{length-remove, get_or-remove_below}
 use Rattle.std.specs.List.{remove}
@@ -11,11 +11,11 @@ use Rattle.lock_names.specs.declared.mode.Mode.{Mode}
 use Rattle.lock_manager.specs.declared.claim.Claim.{Claim}
 use Rattle.lock_manager.specs.declared.claim.Rollback.{Rollback}
 use Rattle.lock_manager.specs.Areas.{Room}
-use Rattle.lock_manager.specs.Claims.{same_name, mode_in, without, joined}
+use Rattle.lock_manager.specs.Claims.{same_name, mode_in, without, with_mode, entered, joined}
 use Rattle.lock_manager.specs.Holders.{total}
-use Rattle.lock_manager.specs.Managers.{Book, HasRoom, IsGiven, claims_of, held_by}
+use Rattle.lock_manager.specs.Managers.{Book, HasRoom, IsGiven, claims_of, held_by, given, spare_after}
 
-total_set : (hs : List (List Claim)) (at : ℕ) (ys : List Claim) → at < length hs → total (set hs at ys) + length (get_or hs at []) ≡ total hs + length ys
+pub total_set : (hs : List (List Claim)) (at : ℕ) (ys : List Claim) → at < length hs → total (set hs at ys) + length (get_or hs at []) ≡ total hs + length ys
 total_set [] at ys h = absurd (omega arith)
 total_set (c ∷ cs) zero ys h = omega arith
 total_set (c ∷ cs) (suc at) ys h = let ih = total_set cs at ys (omega (arith, h)) in omega (arith, ih)
@@ -41,7 +41,7 @@ moved_room (c ∷ cs) rs agents (suc at) old new own others own_after others_aft
       spare = let p = has.spare in grind (arith, p, t, g, there, sum);
     }
 
-no_total : (n : ℕ) → total (replicate n []) ≡ 0
+pub no_total : (n : ℕ) → total (replicate n []) ≡ 0
 no_total zero = refl
 no_total (suc n) = omega (arith, no_total n)
 
@@ -108,7 +108,7 @@ first_append : (xs ys : List (List Claim)) → 0 < length xs → get_or (xs ++ y
 first_append [] ys h = absurd (omega arith)
 first_append (x ∷ xs) ys h = refl
 
-first_set : (xs : List (List Claim)) (at : ℕ) (ys : List Claim) → 1 ≤ at → get_or (set xs at ys) 0 [] ≡ get_or xs 0 []
+pub first_set : (xs : List (List Claim)) (at : ℕ) (ys : List Claim) → 1 ≤ at → get_or (set xs at ys) 0 [] ≡ get_or xs 0 []
 first_set [] at ys h = refl
 first_set (x ∷ xs) zero ys h = absurd (omega arith)
 first_set (x ∷ xs) (suc at) ys h = refl
@@ -129,7 +129,7 @@ postponed_room hs rs agents at old r own others one h e has =
       spare = let p = has.spare in let l = ap (λ z. length z) there in rw first (omega (arith, p, sum, all, l));
     }
 
-total_remove : (hs : List (List Claim)) (k : ℕ) → k < length hs → total (remove hs k) + length (get_or hs k []) ≡ total hs
+pub total_remove : (hs : List (List Claim)) (k : ℕ) → k < length hs → total (remove hs k) + length (get_or hs k []) ≡ total hs
 total_remove [] k h = absurd (omega arith)
 total_remove (c ∷ cs) zero h = omega arith
 total_remove (c ∷ cs) (suc k) h = let ih = total_remove cs k (omega (arith, h)) in omega (arith, ih)
@@ -184,3 +184,40 @@ drop_next [] zero c rest e = cc
 drop_next [] (suc k) c rest e = cc
 drop_next (x ∷ xs) zero c rest e = cc
 drop_next (x ∷ xs) (suc k) c rest e = let next : suc (k + 1) ≡ suc k + 1 = omega arith in subst (λ z. drop z (x ∷ xs) ≡ rest) next (drop_next xs k c rest e)
+
+-- ---- a claim that an owner but slot 0 gets
+
+absent_book : (b : Book) (owner : ℕ) (n : Name) (m mode : Mode) (new : List Claim) (spare : ℕ) → is_some (held_by b owner n) ≡ false → mode ≡ joined (held_by b owner n) m → new ≡ record { name = n; mode = mode } ∷ claims_of b owner → spare + 1 ≡ b.spare → owner ≢ 0
+    → record b { holders = set b.holders owner new; spare = spare } ≡ given b owner n m
+absent_book b owner n m mode new spare a e w s ne =
+    let list : new ≡ entered (claims_of b owner) n (joined (held_by b owner n) m) = w ∙ ap (λ z. record { name = n; mode = z } ∷ claims_of b owner) e ∙ ap (λ z. if z then with_mode (claims_of b owner) n (joined (held_by b owner n) m) else record { name = n; mode = joined (held_by b owner n) m } ∷ claims_of b owner) (sym a) in
+    let left : spare ≡ spare_after b owner n = grind (arith, a, s, ne) in
+    ap (λ z. record b { holders = set b.holders owner z; spare = spare }) list ∙ ap (λ z. record (given b owner n m) { spare = z }) left
+
+present_book : (b : Book) (owner : ℕ) (n : Name) (m mode : Mode) (new : List Claim) → is_some (held_by b owner n) ≡ true → mode ≡ joined (held_by b owner n) m → new ≡ with_mode (claims_of b owner) n mode
+    → record b { holders = set b.holders owner new } ≡ given b owner n m
+present_book b owner n m mode new a e w =
+    let list : new ≡ entered (claims_of b owner) n (joined (held_by b owner n) m) = w ∙ ap (λ z. with_mode (claims_of b owner) n z) e ∙ ap (λ z. if z then with_mode (claims_of b owner) n (joined (held_by b owner n) m) else record { name = n; mode = joined (held_by b owner n) m } ∷ claims_of b owner) (sym a) in
+    let left : b.spare ≡ spare_after b owner n = grind (arith, a) in
+    ap (λ z. record b { holders = set b.holders owner z }) list ∙ ap (λ z. record (given b owner n m) { spare = z }) left
+
+pub given_at : (hs : List (List Claim)) (rs : List Rollback) (agents entries pages spare room : ℕ) (b : Book) (owner : ℕ) (n : Name) (m : Mode) (held : Option Mode) (mode : Mode) (x y new : List Claim) (pages_after spare_after : ℕ)
+    → record { holders = hs; rollbacks = rs; agents = agents; entries = entries; pages = pages; spare = spare; room = room } ≡ b → owner < length hs
+    → x ≡ get_or hs owner x → y ≡ get_or hs owner y → held ≡ mode_in x n → is_some held ≡ false → mode ≡ joined held m → new ≡ record { name = n; mode = mode } ∷ y
+    → pages_after ≡ pages → spare_after + 1 ≡ spare → owner ≢ 0
+    → record { holders = set hs owner new; rollbacks = rs; agents = agents; entries = entries; pages = pages_after; spare = spare_after; room = room } ≡ given b owner n m
+given_at hs rs agents entries pages spare room b owner n m held mode x y new pages_after spare_after view h xe ye he nh me ne pe se z =
+    let b0 : Book = record { holders = hs; rollbacks = rs; agents = agents; entries = entries; pages = pages; spare = spare; room = room } in
+    let own : held ≡ held_by b0 owner n = he ∙ ap (λ z. mode_in z n) (xe ∙ get_or_default hs owner x [] h) in
+    let it = absent_book b0 owner n m mode new spare_after (sym (ap (λ z. is_some z) own) ∙ nh) (me ∙ ap (λ z. joined z m) own) (ne ∙ ap (λ z. record { name = n; mode = mode } ∷ z) (ye ∙ get_or_default hs owner y [] h)) se z in
+    ap (λ z. record b0 { holders = set hs owner new; pages = z; spare = spare_after }) pe ∙ it ∙ ap (λ z. given z owner n m) view
+
+pub changed_at : (hs : List (List Claim)) (rs : List Rollback) (agents entries pages spare room : ℕ) (b : Book) (owner : ℕ) (n : Name) (m : Mode) (held : Option Mode) (was mode : Mode) (x y new : List Claim)
+    → record { holders = hs; rollbacks = rs; agents = agents; entries = entries; pages = pages; spare = spare; room = room } ≡ b → owner < length hs
+    → x ≡ get_or hs owner x → y ≡ get_or hs owner y → held ≡ mode_in x n → held ≡ Some was → mode ≡ joined held m → new ≡ with_mode y n mode
+    → record { holders = set hs owner new; rollbacks = rs; agents = agents; entries = entries; pages = pages; spare = spare; room = room } ≡ given b owner n m
+changed_at hs rs agents entries pages spare room b owner n m held was mode x y new view h xe ye he nh me ne =
+    let b0 : Book = record { holders = hs; rollbacks = rs; agents = agents; entries = entries; pages = pages; spare = spare; room = room } in
+    let own : held ≡ held_by b0 owner n = he ∙ ap (λ z. mode_in z n) (xe ∙ get_or_default hs owner x [] h) in
+    let it = present_book b0 owner n m mode new (ap (λ z. is_some z) (sym own ∙ nh)) (me ∙ ap (λ z. joined z m) own) (ne ∙ ap (λ z. with_mode z n mode) (ye ∙ get_or_default hs owner y [] h)) in
+    it ∙ ap (λ z. given z owner n m) view

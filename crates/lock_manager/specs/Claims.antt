@@ -1,5 +1,5 @@
 -- The claims of one owner: which names it holds in which modes.
-use Rattle.std.specs.Prelude.{ℕ, Bool, true, false, not, ◌&&◌, ◌||◌, ◌==◌, if◌then◌else◌, Option, Some, None, List, [], ◌∷◌}
+use Rattle.std.specs.Prelude.{ℕ, Bool, true, false, not, ◌&&◌, ◌||◌, ◌==◌, if◌then◌else◌, Option, Some, None, is_some, List, [], ◌∷◌}
 use Rattle.ds_model.specs.declared.lock.Name.{Name}
 use Rattle.ds_model.specs.declared.lock.Name.TheVariants as name
 use Rattle.lock_names.specs.declared.mode.Mode.{Mode}
@@ -26,6 +26,15 @@ mode_in (c ∷ cs) n = if same_name c.name n then Some c.mode else mode_in cs n
 abbrev pub without : List Claim → Name → List Claim
 without [] n = []
 without (c ∷ cs) n = if same_name c.name n then cs else c ∷ without cs n
+
+-- the claims with this mode in the one on the name
+abbrev pub with_mode : List Claim → Name → Mode → List Claim
+with_mode [] n m = []
+with_mode (c ∷ cs) n m = if same_name c.name n then record { name = c.name; mode = m } ∷ cs else c ∷ with_mode cs n m
+
+-- the claims with one in this mode: that on the name, where it is, or else a new one before the others
+abbrev pub entered : List Claim → Name → Mode → List Claim
+entered cs n m = if is_some (mode_in cs n) then with_mode cs n m else record { name = n; mode = m } ∷ cs
 
 -- the mode of an owner that holds the one and needs the other
 abbrev pub joined : Option Mode → Mode → Mode

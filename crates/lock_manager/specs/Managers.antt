@@ -1,5 +1,5 @@
 -- The lock manager: what stands in it, and what its answers are.
-use Rattle.std.specs.Prelude.{◌≡◌, ℕ, ◌+◌, ◌-◌, Bool, ◌||◌, ◌==◌, if◌then◌else◌, Option, Some, None, is_some, List, [], ◌∷◌, ◌++◌, length, slice_set, slice_index_or, remove, nat_lt}
+use Rattle.std.specs.Prelude.{◌≡◌, ℕ, ◌+◌, ◌-◌, Bool, ◌||◌, ◌==◌, if◌then◌else◌, Option, Some, None, is_some, List, [], ◌∷◌, ◌++◌, length, slice_set, slice_index_or, remove, replicate, nat_lt}
 use Rattle.ds_model.specs.declared.lock.Name.{Name}
 use Rattle.lock_names.specs.declared.mode.Mode.{Mode}
 use Rattle.lock_names.specs.declared.mode.Interest.{Interest}
@@ -11,7 +11,7 @@ use Rattle.lock_manager.specs.declared.claim.Ask.TheVariants as ask
 use Rattle.lock_manager.specs.declared.claim.LockAnswer.{LockAnswer}
 use Rattle.lock_manager.specs.declared.claim.LockAnswer.TheVariants as answer
 use Rattle.lock_manager.specs.Areas.{Room}
-use Rattle.lock_manager.specs.Claims.{mode_in, without, joined, is_covered}
+use Rattle.lock_manager.specs.Claims.{mode_in, without, joined, is_covered, entered}
 use Rattle.lock_manager.specs.Holders.{first_in_way, mode_of_all, kept, first_freed, left_after, told, total}
 
 pub record Book : Type 0 where
@@ -74,6 +74,14 @@ pub record IsGiven (b : Book) (owner : ℕ) (n : Name) (m : Mode) (after : Book)
   pub rest : after ≡ record b { holders = slice_set b.holders owner (claims_of after owner); spare = after.spare }
   pub spare : after.spare + (if (owner == 0) || is_some (held_by b owner n) then 0 else 1) ≡ b.spare
 
+-- what is left of the room for claims where the owner gets one: none is needed for a name that it holds, and slot 0 has its own
+abbrev pub spare_after : Book → ℕ → Name → ℕ
+spare_after b owner n = if (owner == 0) || is_some (held_by b owner n) then b.spare else b.spare - 1
+
+-- an owner but slot 0 has the claim, before its others where the name is new to it
+abbrev pub given : Book → ℕ → Name → Mode → Book
+given b owner n m = record b { holders = slice_set b.holders owner (entered (claims_of b owner) n (joined (held_by b owner n) m)); spare = spare_after b owner n }
+
 -- ---- giving up claims
 
 -- the room that slot 0 leaves is for its own claims alone
@@ -133,6 +141,32 @@ after_postponed_release b (Some k) = after_release_at b k
 abbrev pub postponed_told : Book → Option ℕ → Option (Name × Interest)
 postponed_told b None = None
 postponed_told b (Some k) = release_told b (slots b + k)
+
+-- what a rollback that is over leaves goes with it
+abbrev pub dropped : Book → Option ℕ → Book
+dropped b None = b
+dropped b (Some k) = ended (with_claims b (slots b + k) []) k
+
+-- the mode in which the rollback at this place holds the name
+abbrev pub held_postponed : Book → Option ℕ → Name → Option Mode
+held_postponed b None n = None
+held_postponed b (Some k) n = held_by b (slots b + k) n
+
+-- the member that the rollback at this place waits for
+abbrev pub postponed_for : Book → Option ℕ → Option ℕ
+postponed_for b None = None
+postponed_for b (Some k) = Some (slice_index_or b.rollbacks k no_rollback).by
+
+-- ---- all of it is gone
+
+-- nobody has a claim, and the room is all there
+abbrev pub emptied : Book → Book
+emptied b = record b {
+  holders = replicate (slots b) [];
+  rollbacks = [];
+  spare = b.spare + total b.holders - length (claims_of b 0);
+  room = b.room + length b.rollbacks;
+}
 
 -- ---- the room behind all this
 

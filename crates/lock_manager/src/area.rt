@@ -44,6 +44,20 @@ impl Area {
         })
     }
 
+    /// For how many more claims there is room.
+    pub fn free(&self) -> usize
+        ensures { result ≡ self.now.free }
+    {
+        self.cells.len()
+    }
+
+    /// For how many claims there is room in all.
+    pub fn size(&self) -> usize
+        ensures { result ≡ self.now.size }
+    {
+        self.size
+    }
+
     pub fn is_full(&self) -> bool
         ensures { result ≡ (self.now.free == 0) }
     {

@@ -2,7 +2,7 @@
 
 ghost use Rattle.std.specs.Prelude.{◌≡◌, ◌∷◌, ◌+◌, ◌<◌, ◌≤◌, ◌^◌, [], length, true, false, is_some, Some, IfOk, IfSome, IsNone, MatchOption, take, drop, slice_index_or, ◌≢◌};
 ghost use Rattle.lock_manager.specs.Buckets.{all_in};
-ghost use Rattle.lock_manager.specs.Claims.{mode_in, without};
+ghost use Rattle.lock_manager.specs.Claims.{mode_in, without, with_mode};
 
 use crate::chain::Chain;
 use crate::claim::Claim;
@@ -55,12 +55,13 @@ impl Buckets {
     }
 
     /// Writes another mode into the claim on the name.
-    #[tactic(auto, using(crate::proofs::Places::changed_mode, crate::proofs::Places::changed_rest, crate::proofs::Places::changed_length, crate::proofs::Places::changed_buckets, crate::proofs::Places::found_in))]
+    #[tactic(auto, using(crate::proofs::Places::changed_mode, crate::proofs::Places::changed_rest, crate::proofs::Places::changed_length, crate::proofs::Places::changed_buckets, crate::proofs::Places::found_in, crate::proofs::Places::changed_place))]
     pub fn put(&mut self, name: &Name, mode: Mode)
         requires { is_some (mode_in self.old name.now) ≡ true }
         ensures mode { mode_in self.new name.now ≡ Some mode }
         ensures rest { without self.new name.now ≡ without self.old name.now }
         ensures length { length self.new ≡ length self.old }
+        ensures place { self.new ≡ with_mode self.old name.now mode }
     {
         let at = entry_of(name, self.chains.len() as u32) as usize;
         self.chains[at].put(name, mode);
@@ -102,6 +103,17 @@ impl Buckets {
     {
         let at = first_in_use(self.chains.as_slice())?;
         self.chains[at].pop()
+    }
+
+    /// Takes out all claims, into one chain in their order.
+    pub fn gather(&mut self) -> Chain
+        ensures { result ≡ self.old }
+    {
+        let mut gathered = Chain::new();
+        while let Some((claim, cell)) = self.pop() {
+            gathered.insert(cell, claim);
+        }
+        gathered.reversed()
     }
 }
 

@@ -1,7 +1,7 @@
 //! The claims of one owner, as a chain of cells that are taken from an area and given back.
 
-ghost use Rattle.std.specs.Prelude.{◌≡◌, ◌≢◌, ◌∷◌, [], is_some, None, Some, length, ◌+◌, ◌<◌, ◌≤◌, true, false, drop, MatchOption, IfOk, IfErr};
-ghost use Rattle.lock_manager.specs.Claims.{mode_in, without};
+ghost use Rattle.std.specs.Prelude.{◌≡◌, ◌≢◌, ◌∷◌, [], is_some, None, Some, length, ◌+◌, ◌<◌, ◌≤◌, true, false, drop, MatchOption, IfOk, IfErr, reverse};
+ghost use Rattle.lock_manager.specs.Claims.{mode_in, without, with_mode};
 
 use crate::claim::{Claim, is_same};
 use ds_model::Name;
@@ -69,6 +69,7 @@ impl Chain {
         ensures mode { mode_in self.new name.now ≡ Some mode }
         ensures rest { without self.new name.now ≡ without self.old name.now }
         ensures length { length self.new ≡ length self.old }
+        ensures place { self.new ≡ with_mode self.old name.now mode }
     {
         match &mut self.node {
             Node::End => {}
@@ -123,6 +124,18 @@ impl Chain {
                 Some((claim, rest))
             }
         }
+    }
+
+    /// The claims the other way round.
+    pub fn reversed(self) -> Chain
+        ensures { result ≡ reverse self }
+    {
+        let mut left = self;
+        let mut made = Chain::new();
+        while let Some((claim, cell)) = left.pop() {
+            made.insert(cell, claim);
+        }
+        made
     }
 
     /// The claim at this place, or by how much the place lies beyond the last one.

@@ -1,7 +1,8 @@
 //! The claims of one owner: in one chain where they are few, else in chains by their names.
 
 ghost use Rattle.std.specs.Prelude.{◌≡◌, ◌∷◌, ◌+◌, ◌<◌, ◌≤◌, [], length, true, false, is_some, Some, None, IfOk, IfSome, MatchOption, drop, take};
-ghost use Rattle.lock_manager.specs.Claims.{mode_in, without, needs};
+ghost use Rattle.lock_manager.specs.Buckets.{AreDistinct};
+ghost use Rattle.lock_manager.specs.Claims.{mode_in, without, with_mode, needs};
 ghost use Rattle.lock_manager.specs.Tallies.{count_in};
 
 use crate::buckets::Buckets;
@@ -12,6 +13,7 @@ use ds_model::Name;
 use lock_names::{Class, Mode, class, entry_of};
 use std::alloc::Global;
 use std::marker::Model;
+use std::mem;
 
 /// Claims of one owner, no two of them on one name.
 #[derive(Drop)]
@@ -76,6 +78,7 @@ impl Holds {
         ensures mode { mode_in self.new name.now ≡ Some mode }
         ensures rest { without self.new name.now ≡ without self.old name.now }
         ensures length { length self.new ≡ length self.old }
+        ensures place { self.new ≡ with_mode self.old name.now mode }
     {
         match &mut self.kind {
             Kind::Few(chain) => chain.put(name, mode),
@@ -83,9 +86,37 @@ impl Holds {
         }
     }
 
-    /// Puts a claim into a cell, where its name has none.
+    /// Puts a claim into a cell, where its name has none; where it is to be the first, before the others.
+    #[tactic(auto, using(crate::proofs::Places::inserted_mode, crate::proofs::Places::inserted_rest))]
+    pub fn insert(&mut self, cell: Box<Chain>, claim: Claim, is_first: bool)
+        requires { is_some (mode_in self.old claim.name) ≡ false }
+        ensures mode { mode_in self.new claim.name ≡ Some claim.mode }
+        ensures rest { without self.new claim.name ≡ without self.old claim.name }
+        ensures length { length self.new ≡ length self.old + 1 }
+        ensures place { is_first ≡ true → self.new ≡ claim ∷ self.old }
+    {
+        if is_first {
+            self.insert_first(cell, claim);
+        } else {
+            self.insert_by_name(cell, claim);
+        }
+    }
+
+    #[tactic(auto, using(crate::proofs::Distinct::distinct_more))]
+    fn insert_first(&mut self, cell: Box<Chain>, claim: Claim)
+        requires { is_some (mode_in self.old claim.name) ≡ false }
+        ensures { self.new ≡ claim ∷ self.old }
+    {
+        let mut chain = match &mut self.kind {
+            Kind::Few(chain) => mem::replace(chain, Chain::new()),
+            Kind::Many(buckets) => buckets.gather(),
+        };
+        chain.insert(cell, claim);
+        self.kind = Kind::Few(chain);
+    }
+
     #[tactic(auto, using(crate::proofs::Distinct::distinct_changed, crate::proofs::Places::inserted_mode, crate::proofs::Places::inserted_rest))]
-    pub fn insert(&mut self, cell: Box<Chain>, claim: Claim)
+    fn insert_by_name(&mut self, cell: Box<Chain>, claim: Claim)
         requires { is_some (mode_in self.old claim.name) ≡ false }
         ensures mode { mode_in self.new claim.name ≡ Some claim.mode }
         ensures rest { without self.new claim.name ≡ without self.old claim.name }
@@ -151,6 +182,13 @@ impl Holds {
             }
         }
         count
+    }
+
+    /// No two of the claims are on one name.
+    pub fn are_apart(&self)
+        ensures { AreDistinct self.now }
+    {
+        let _kind = &self.kind;
     }
 
     /// Lets go of the place of an owner that is over.

@@ -18,6 +18,3 @@ mod tally;
 
 pub use claim::{Ask, Claim, LockAnswer, Rollback};
 pub use manager::LockManager;
-
-#[cfg(test)]
-mod tests;

@@ -1,8 +1,9 @@
-ghost use Rattle.std.specs.Prelude.{◌≡◌, ◌≢◌, ◌+◌, ◌<◌, ◌≤◌, ◌^◌, ◌==◌, ◌||◌, [], length, true, false, is_some, nat_lt, if◌then◌else◌, replicate, slice_index_or, slice_set, IfOk, IfSome, MatchOption, ◌∷◌, OnOk, None, Some, IsTrue, vec_capacity, drop, ℕ};
+ghost use Rattle.std.specs.Prelude.{◌≡◌, ◌≢◌, ◌+◌, ◌<◌, ◌≤◌, ◌^◌, ◌==◌, ◌||◌, ◌&&◌, not, [], length, true, false, is_some, nat_lt, if◌then◌else◌, replicate, slice_index_or, slice_set, IfOk, IfSome, MatchOption, ◌∷◌, OnOk, OnErr, None, Some, IsTrue, vec_capacity, drop, ℕ};
 ghost use Rattle.lock_names.specs.Entries.{entry_number};
 ghost use Rattle.lock_manager.specs.Holders.{kept, first_in_way, any_needs, is_held};
-ghost use Rattle.lock_manager.specs.Managers.{ask_of, answer_of, claims_of, held_by, IsGiven, after_release, release_told, after_page_release, after_postpone, waiting_at, place_in, is_postponed, after_postponed_release, postponed_told, slots, waited_for, with_claims, page_told, ended};
-ghost use Rattle.lock_manager.specs.Claims.{without};
+ghost use Rattle.lock_manager.specs.Managers.{ask_of, answer_of, claims_of, held_by, IsGiven, after_release, release_told, after_page_release, after_postpone, waiting_at, place_in, is_postponed, after_postponed_release, postponed_told, slots, waited_for, with_claims, page_told, ended, given, dropped, held_postponed, postponed_for, held_by_member, emptied};
+ghost use Rattle.lock_manager.specs.Buckets.{AreDistinct};
+ghost use Rattle.lock_manager.specs.Claims.{without, mode_in};
 
 use crate::area::Area;
 use crate::chain::Chain;
@@ -72,6 +73,12 @@ fn place_of(rollbacks: &[Rollback], id: Lrsn) -> Option<usize>
     None
 }
 
+fn is_none(interest: &Interest) -> bool
+    ensures { result ≡ (not interest.now.share && not interest.now.exclusive) }
+{
+    !interest.share && !interest.exclusive
+}
+
 /// Makes room for a claim.
 fn take_cell(owner: usize, own_cells: &mut Area, cells: &mut Area) -> Box<Chain>
     requires { 0 < (if owner == 0 then own_cells.old.free else cells.old.free) }
@@ -137,10 +144,14 @@ impl LockManager {
     }
 
     /// What the agent of the slot is told that needs the name in this mode.
+    #[tactic(auto, using(crate::proofs::Free::free_asked))]
     pub fn ask(&self, owner: u8, name: &Name, mode: Mode) -> Ask
         requires { owner ≤ self.now.agents }
         ensures { result ≡ ask_of self.now owner name.now mode }
     {
+        if self.is_free(name) {
+            return Ask::Facility { mode };
+        }
         let slots = self.slots();
         let held = self.holders[owner as usize].find(name);
         if is_covered(held, mode) {
@@ -157,10 +168,91 @@ impl LockManager {
         }
     }
 
+    /// The mode in which the agent of the slot holds the name.
+    pub fn holds(&self, owner: u8, name: &Name) -> Option<Mode>
+        requires { owner ≤ self.now.agents }
+        ensures { result ≡ held_by self.now owner name.now }
+    {
+        let _slots = self.slots();
+        self.held_at(owner as usize, name)
+    }
+
+    // The mode in which the owner holds the name.
+    #[tactic(auto, using(crate::proofs::Free::free_held))]
+    fn held_at(&self, owner: usize, name: &Name) -> Option<Mode>
+        requires { owner < length self.now.holders }
+        ensures { result ≡ held_by self.now owner name.now }
+    {
+        if self.is_free(name) {
+            return None;
+        }
+        self.holders[owner].find(name)
+    }
+
+    /// The mode in which the postponed rollback of the transaction holds the name.
+    pub fn holds_rollback(&self, id: Lrsn, name: &Name) -> Option<Mode>
+        ensures { result ≡ held_postponed self.now (place_in self.now.rollbacks 0 id) name.now }
+    {
+        let at = place_of(self.rollbacks.as_slice(), id)?;
+        let place = self.slots() + at;
+        self.holders[place].find(name)
+    }
+
+    /// The mode in which the member holds the name: the join of those of all owners.
+    #[tactic(auto, using(crate::proofs::Free::free_of_all))]
+    pub fn mode_of_all(&self, name: &Name) -> Option<Mode>
+        ensures { result ≡ held_by_member self.now name.now }
+    {
+        if self.is_free(name) {
+            return None;
+        }
+        mode_of_all(self.holders.as_slice(), name)
+    }
+
+    /// Whether an owner holds the name.
+    pub fn is_held(&self, name: &Name) -> bool
+        ensures { result ≡ is_held self.now.holders name.now }
+    {
+        !self.is_free(name) && self.is_among(name)
+    }
+
+    // Looks through the owners.
+    #[tactic(auto, using(crate::proofs::Rooms::same_set))]
+    fn is_among(&self, name: &Name) -> bool
+        ensures { result ≡ is_held self.now.holders name.now }
+    {
+        let _slots = self.slots();
+        is_held(self.holders.as_slice(), 0, &self.holders[0], name)
+    }
+
+    // Whether no claim falls on the name's entry.
+    #[tactic(auto, using(crate::proofs::Free::nothing_kept))]
+    fn is_free(&self, name: &Name) -> bool
+        ensures { result ≡ true → is_held self.now.holders name.now ≡ false }
+    {
+        is_none(&self.interest(name))
+    }
+
+    // The interest that the name's entry keeps, where nobody holds the name.
+    #[tactic(auto, using(crate::proofs::Free::nothing_kept))]
+    fn interest_if_freed(&self, name: &Name) -> Option<Interest>
+        ensures { MatchOption result (is_held self.now.holders name.now ≡ true) (λ interest. (is_held self.now.holders name.now ≡ false) × (interest ≡ kept self.now.entries self.now.holders (entry_number name.now self.now.entries))) }
+    {
+        let interest = self.interest(name);
+        if is_none(&interest) || !self.is_among(name) {
+            return Some(interest);
+        }
+        None
+    }
+
     /// What another member is told that needs the name in this mode.
+    #[tactic(auto, using(crate::proofs::Free::free_answered))]
     pub fn answer(&self, name: &Name, mode: Mode) -> LockAnswer
         ensures { result ≡ answer_of self.now name.now mode }
     {
+        if self.is_free(name) {
+            return LockAnswer::Clean;
+        }
         let slots = self.slots();
         match first_in_the_way(self.holders.as_slice(), None, name, mode) {
             Some(at) if at < slots => LockAnswer::Conflict { by: at as u8 },
@@ -171,20 +263,74 @@ impl LockManager {
         }
     }
 
-    /// Makes room for one more claim of an agent, and for the rollbacks of all agents.
+    /// How many claims slot 0 has.
+    pub fn page_count(&self) -> u32
+        ensures { result ≡ length (claims_of self.now 0) }
+    {
+        (self.own_cells.size() - self.own_cells.free()) as u32
+    }
+
+    /// Whether there is room for one more claim of slot 0.
+    pub fn has_page_room(&self) -> bool
+        ensures { result ≡ nat_lt (length (claims_of self.now 0)) self.now.pages }
+    {
+        !self.own_cells.is_full()
+    }
+
+    /// For how many more claims of agents there is room.
+    pub fn spare(&self) -> usize
+        ensures { result ≡ self.now.spare }
+    {
+        self.cells.free()
+    }
+
+    /// For how many more postponed rollbacks there is room.
+    pub fn room(&self) -> usize
+        ensures { result ≡ self.now.room }
+    {
+        self.room
+    }
+
+    /// Makes room for two more claims of agents, as many as one event enters, and for the rollbacks of all agents.
     pub fn reserve(&mut self) -> Result<(), NoMemory>
-        ensures enough { OnOk result ((1 ≤ self.new.spare) × (self.new.agents ≤ self.new.room)) }
+        ensures enough { OnOk result ((2 ≤ self.new.spare) × (self.new.agents ≤ self.new.room)) }
         ensures rest { self.new ≡ record self.old { spare = self.new.spare; room = self.new.room } }
         ensures more { (self.old.spare ≤ self.new.spare) × (self.old.room ≤ self.new.room) }
     {
-        let most = self.agents as usize;
+        self.reserve_rollbacks(self.agents as u32)?;
+        self.reserve_claims(2)
+    }
+
+    /// Makes room for so many more claims of agents.
+    pub fn reserve_claims(&mut self, count: u32) -> Result<(), NoMemory>
+        ensures enough { OnOk result (count ≤ self.new.spare) }
+        ensures rest { self.new ≡ record self.old { spare = self.new.spare } }
+        ensures more { self.old.spare ≤ self.new.spare }
+    {
+        while self.cells.free() < count as usize {
+            self.add_cell()?;
+        }
+        Ok(())
+    }
+
+    fn add_cell(&mut self) -> Result<(), NoMemory>
+        ensures more { OnOk result (self.new ≡ record self.old { spare = self.old.spare + 1 }) }
+        ensures same { OnErr result (self.new ≡ self.old) }
+    {
+        self.cells.grow()
+    }
+
+    /// Makes room for so many more postponed rollbacks.
+    pub fn reserve_rollbacks(&mut self, count: u32) -> Result<(), NoMemory>
+        ensures enough { OnOk result (count ≤ self.new.room) }
+        ensures rest { self.new ≡ record self.old { room = self.new.room } }
+        ensures more { self.old.room ≤ self.new.room }
+    {
+        let most = count as usize;
         if self.room < most {
             self.holders.reserve(most)?;
             self.rollbacks.reserve(most)?;
             self.room = most;
-        }
-        if self.cells.is_full() {
-            self.cells.grow()?;
         }
         Ok(())
     }
@@ -194,11 +340,12 @@ impl LockManager {
         requires owner { owner ≤ self.old.agents }
         requires own { owner ≡ 0 → is_some (held_by self.old 0 name.now) ≡ false → length (claims_of self.old 0) < self.old.pages }
         requires spare { owner ≢ 0 → 1 ≤ self.old.spare }
-        ensures { IsGiven self.old owner name.now mode self.new }
+        ensures given { IsGiven self.old owner name.now mode self.new }
+        ensures exact { owner ≢ 0 → self.new ≡ given self.old owner name.now mode }
     {
         let _slots = self.slots();
         let at = owner as usize;
-        let held = self.holders[at].find(name);
+        let held = self.held_at(at, name);
         let joint = joined(held, mode);
         let name = *name;
         let claim = Claim { name, mode: joint };
@@ -208,7 +355,7 @@ impl LockManager {
             self.tally.enter(&claim);
         } else {
             let cell = take_cell(at, &mut self.own_cells, &mut self.cells);
-            self.holders[at].insert(cell, claim);
+            self.holders[at].insert(cell, claim, at != 0);
             self.tally.enter(&claim);
         }
     }
@@ -230,24 +377,11 @@ impl LockManager {
         }
     }
 
-    /// Whether an owner holds the name.
-    #[tactic(auto, using(crate::proofs::Rooms::same_set))]
-    fn is_held(&self, name: &Name) -> bool
-        ensures { result ≡ is_held self.now.holders name.now }
-    {
-        let _slots = self.slots();
-        is_held(self.holders.as_slice(), 0, &self.holders[0], name)
-    }
-
     /// The interest that the name's entry keeps.
-    #[tactic(auto, using(crate::proofs::Tallies::needed))]
     fn interest(&self, name: &Name) -> Interest
         ensures { result ≡ kept self.now.entries self.now.holders (entry_number name.now self.now.entries) }
     {
-        Interest {
-            share: self.tally.is_above(name, Class::Share, 0),
-            exclusive: self.tally.is_above(name, Class::Exclusive, 0),
-        }
+        self.tally.interest(name)
     }
 
     /// Gives up the first claim that the owner has.
@@ -268,11 +402,34 @@ impl LockManager {
         ensures left { self.new ≡ after_release self.old owner }
     {
         while let Some(claim) = self.give_up_first(owner) {
-            if !self.is_held(&claim.name) {
-                return Some((claim.name, self.interest(&claim.name)));
+            if let Some(interest) = self.interest_if_freed(&claim.name) {
+                return Some((claim.name, interest));
             }
         }
         None
+    }
+
+    // The interest that the name's entry keeps where the owner has given up so many of its first claims and nobody holds
+    // the name then.
+    #[tactic(auto, using(crate::proofs::Free::nothing_kept, crate::proofs::Distinct::held_by_others))]
+    fn interest_if_passed(&self, owner: usize, passed: usize, name: &Name) -> Option<Interest>
+        requires there { owner < length self.now.holders }
+        requires only { mode_in (drop passed (claims_of self.now owner)) name.now ≡ None }
+        ensures { let left = slice_set self.now.holders owner (drop passed (claims_of self.now owner)) in MatchOption result (is_held left name.now ≡ true) (λ interest. (is_held left name.now ≡ false) × (interest ≡ kept self.now.entries left (entry_number name.now self.now.entries))) }
+    {
+        let interest = self.interest_after(owner, passed, name);
+        if is_none(&interest) || !self.is_with_others(owner, name) {
+            return Some(interest);
+        }
+        None
+    }
+
+    // Whether another owner holds the name.
+    fn is_with_others(&self, owner: usize, name: &Name) -> bool
+        requires { owner < length self.now.holders }
+        ensures { result ≡ is_held (slice_set self.now.holders owner []) name.now }
+    {
+        is_held(self.holders.as_slice(), owner, &Holds::new(), name)
     }
 
     fn releasing_at(&self, owner: usize) -> Option<(Name, Interest)>
@@ -280,12 +437,10 @@ impl LockManager {
         ensures { result ≡ release_told self.now owner }
     {
         let _slots = self.slots();
-        let none_left = Holds::new();
         let mut passed = 0;
         while let Some(claim) = self.holders[owner].nth(passed) {
             passed += 1;
-            if !is_held(self.holders.as_slice(), owner, &none_left, &claim.name) {
-                let interest = self.interest_after(owner, passed, &claim.name);
+            if let Some(interest) = self.interest_if_passed(owner, passed, &claim.name) {
                 return Some((claim.name, interest));
             }
         }
@@ -301,6 +456,24 @@ impl LockManager {
     {
         let _slots = self.slots();
         self.release_at(owner as usize)
+    }
+
+    #[tactic(auto, using(crate::proofs::Resets::emptied_with))]
+    fn drop_at(&mut self, owner: usize)
+        requires { owner < length self.old.holders }
+        ensures left { self.new ≡ with_claims self.old owner [] }
+        ensures same { emptied self.new ≡ emptied self.old }
+    {
+        while let Some(_claim) = self.give_up_first(owner) {}
+    }
+
+    /// Gives up all claims of the agent of the slot.
+    pub fn drop_all(&mut self, owner: u8)
+        requires { owner ≤ self.old.agents }
+        ensures { self.new ≡ with_claims self.old owner [] }
+    {
+        let _slots = self.slots();
+        self.drop_at(owner as usize);
     }
 
     /// What `release` would answer now.
@@ -422,11 +595,81 @@ impl LockManager {
         told
     }
 
+    /// Forgets a postponed rollback, and gives up the claims that it has left.
+    pub fn end_postponed(&mut self, id: Lrsn)
+        ensures { self.new ≡ dropped self.old (place_in self.old.rollbacks 0 id) }
+    {
+        if let Some(at) = place_of(self.rollbacks.as_slice(), id) {
+            self.end_at(at);
+        }
+    }
+
+    #[tactic(auto, using(crate::proofs::Resets::nothing_at, crate::proofs::Resets::emptied_dropped, crate::proofs::Resets::fewer_dropped))]
+    fn end_at(&mut self, at: usize)
+        requires { at < length self.old.rollbacks }
+        ensures left { self.new ≡ dropped self.old (Some at) }
+        ensures same { emptied self.new ≡ emptied self.old }
+        ensures fewer { length self.new.rollbacks + 1 ≡ length self.old.rollbacks }
+    {
+        let _rollbacks = self.rollbacks.len();
+        let place = self.slots() + at;
+        self.drop_at(place);
+        self.end(at);
+    }
+
+    /// The member that the postponed rollback of the transaction waits for.
+    pub fn waited_for(&self, id: Lrsn) -> Option<MemberId>
+        ensures { result ≡ postponed_for self.now (place_in self.now.rollbacks 0 id) }
+    {
+        let at = place_of(self.rollbacks.as_slice(), id)?;
+        Some(self.rollbacks[at].by)
+    }
+
     /// What `release_postponed` would answer now.
     pub fn releasing_postponed(&self, id: Lrsn) -> Option<(Name, Interest)>
         ensures { result ≡ postponed_told self.now (place_in self.now.rollbacks 0 id) }
     {
         let at = place_of(self.rollbacks.as_slice(), id)?;
         self.releasing_at(self.slots() + at)
+    }
+}
+
+impl LockManager {
+    /// Forgets all claims and rollbacks. Their room stays.
+    pub fn reset(&mut self)
+        ensures { self.new ≡ emptied self.old }
+    {
+        self.end_rollbacks();
+        self.drop_agents();
+    }
+
+    fn end_rollbacks(&mut self)
+        ensures same { emptied self.new ≡ emptied self.old }
+        ensures none { self.new.rollbacks ≡ [] }
+    {
+        let mut left = self.rollbacks.len();
+        while left > 0 {
+            left -= 1;
+            self.end_at(left);
+        }
+    }
+
+    #[tactic(auto, using(crate::proofs::Resets::none_more, crate::proofs::Resets::emptied_all))]
+    fn drop_agents(&mut self)
+        requires { self.old.rollbacks ≡ [] }
+        ensures { self.new ≡ emptied self.old }
+    {
+        for owner in 0..self.slots() {
+            self.drop_at(owner);
+        }
+    }
+
+    /// The claims of an agent are on names of which no two are the same.
+    pub fn keeps_claims_apart(&self, owner: u8)
+        requires { owner ≤ self.now.agents }
+        ensures { AreDistinct (claims_of self.now owner) }
+    {
+        let _slots = self.slots();
+        self.holders[owner as usize].are_apart();
     }
 }

@@ -10,7 +10,7 @@ ghost use Rattle.lock_manager.specs.Tallies.{tallied, counted};
 use crate::claim::Claim;
 use ds_base::NoMemory;
 use ds_model::Name;
-use lock_names::{Class, class, entry_of};
+use lock_names::{Class, Interest, class, entry_of};
 use std::alloc::Global;
 use std::marker::Model;
 
@@ -91,6 +91,18 @@ impl Tally {
         match class {
             Class::Share => least < self.share[at],
             Class::Exclusive => least < self.exclusive[at],
+        }
+    }
+
+    /// The classes of the claims that fall on the name's entry.
+    pub fn interest(&self, name: &Name) -> Interest
+        ensures share { result.share ≡ nat_lt 0 (tallied self.now Class.Share (entry_number name.now self.now.entries)) }
+        ensures exclusive { result.exclusive ≡ nat_lt 0 (tallied self.now Class.Exclusive (entry_number name.now self.now.entries)) }
+    {
+        let at = entry_of(name, self.entries) as usize;
+        Interest {
+            share: self.share[at] > 0,
+            exclusive: self.exclusive[at] > 0,
         }
     }
 }

@@ -11,7 +11,7 @@ pub returns : goal.returns
 returns c =
     let e = entry_number c.args.name.now c.self.inside.entries in
     let at = c.self.invariant.2.tally.0 in
-    let P : Book → Type 0 = λ b. ◌≡◌ {A = Interest} (record { share = c.is_above.result; exclusive = c.is_above-2.result }) (kept b.entries b.holders (entry_number c.args.name.now b.entries)) in
-    subst P c.self.view_is (both c.self.inside.entries c.self.inside.holders.items e c.is_above.result c.is_above-2.result
-    (needed c.self.inside.entries c.self.inside.holders.items c.self.inside.tally Share e c.is_above.result c.self.invariant.2.tally (grind (arith, c.is_above.ensures, at)))
-    (needed c.self.inside.entries c.self.inside.holders.items c.self.inside.tally Exclusive e c.is_above-2.result c.self.invariant.2.tally (grind (arith, c.is_above-2.ensures, at))))
+    let P : Book → Type 0 = λ b. ◌≡◌ {A = Interest} c.interest.result (kept b.entries b.holders (entry_number c.args.name.now b.entries)) in
+    subst P c.self.view_is (both c.self.inside.entries c.self.inside.holders.items e c.interest.result.share c.interest.result.exclusive
+    (needed c.self.inside.entries c.self.inside.holders.items c.self.inside.tally Share e c.interest.result.share c.self.invariant.2.tally (grind (arith, c.interest.ensures.share, at)))
+    (needed c.self.inside.entries c.self.inside.holders.items c.self.inside.tally Exclusive e c.interest.result.exclusive c.self.invariant.2.tally (grind (arith, c.interest.ensures.exclusive, at))))

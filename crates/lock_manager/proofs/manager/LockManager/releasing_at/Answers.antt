@@ -1,26 +1,30 @@
-use Rattle.std.proofs.Common.{◌≡◌, ◌<◌, false, true, arith, ◌∙◌, length, subst, slice_set, []}
+use Rattle.std.proofs.Common.{◌≡◌, ◌<◌, ◌+◌, arith, ◌∙◌, length, subst, []}
+use Rattle.std.specs.Prelude.{None, drop}
 use Rattle.std.proofs.lemmas.List.{get_or_default}
-use Rattle.lock_manager.specs.Holders.{is_held}
+use Rattle.lock_manager.specs.Claims.{mode_in}
 use Rattle.lock_manager.specs.Managers.{Book, claims_of}
 use Rattle.lock_manager.proofs.Releases.{found_at, passed_at}
 use Rattle.lock_manager.proofs.manager.LockManager.releasing_at.Goals as goal
 
-pub returns-then-not-is_held : goal.returns-then-not-is_held
-returns-then-not-is_held c =
+pub interest_if_passed-requires-clause-only : goal.interest_if_passed-requires-clause-only
+interest_if_passed-requires-clause-only c =
     let there : c.args.owner < length c.self.inside.holders.items = grind (arith, c.requires, c.self.view_is) in
     let P : Book → Type 0 = λ b. c.index.result.now ≡ claims_of b c.args.owner in
     let claims : c.index.result.now ≡ claims_of c.args.self.now c.args.owner = subst P c.self.view_is (c.index.ensures ∙ get_or_default c.self.inside.holders.items c.args.owner c.index.result.now [] there) in
-    let told : c.is_held.result ≡ is_held (slice_set c.args.self.now.holders c.args.owner c.new-none_left.result) c.in-Some.claim.name = grind (arith, c.is_held.ensures, c.as_slice.ensures, c.self.view_is) in
-    let free : c.is_held.result ≡ false = grind (arith, c.if-not-is_held.true) in
+    subst (λ z. mode_in (drop (c.loop-claim.passed + 1) z) c.in-Some.claim.name ≡ None) claims c.in-Some.ensures.only
+
+pub returns-in-Some-interest_if_passed : goal.returns-in-Some-interest_if_passed
+returns-in-Some-interest_if_passed c =
+    let there : c.args.owner < length c.self.inside.holders.items = grind (arith, c.requires, c.self.view_is) in
+    let P : Book → Type 0 = λ b. c.index.result.now ≡ claims_of b c.args.owner in
+    let claims : c.index.result.now ≡ claims_of c.args.self.now c.args.owner = subst P c.self.view_is (c.index.ensures ∙ get_or_default c.self.inside.holders.items c.args.owner c.index.result.now [] there) in
     let inv = c.loop-claim.invariant in
-    found_at c.args.self.now c.args.owner c.loop-claim.passed c.in-Some.claim c.index.result.now c.new-none_left.result c.is_held.result c.interest_after-interest.result claims c.in-Some.ensures.claim c.in-Some.ensures.only told c.new-none_left.ensures free c.interest_after-interest.ensures inv.0 inv.1
+    found_at c.args.self.now c.args.owner c.loop-claim.passed c.in-Some.claim c.index.result.now c.in-Some-interest_if_passed.interest claims c.in-Some.ensures.claim c.in-Some-interest_if_passed.ensures.0 c.in-Some-interest_if_passed.ensures.1 inv.0 inv.1
 
 pub loop-claim-preserved : goal.loop-claim-preserved
 loop-claim-preserved c =
     let there : c.args.owner < length c.self.inside.holders.items = grind (arith, c.requires, c.self.view_is) in
     let P : Book → Type 0 = λ b. c.index.result.now ≡ claims_of b c.args.owner in
     let claims : c.index.result.now ≡ claims_of c.args.self.now c.args.owner = subst P c.self.view_is (c.index.ensures ∙ get_or_default c.self.inside.holders.items c.args.owner c.index.result.now [] there) in
-    let told : c.is_held.result ≡ is_held (slice_set c.args.self.now.holders c.args.owner c.new-none_left.result) c.in-Some.claim.name = grind (arith, c.is_held.ensures, c.as_slice.ensures, c.self.view_is) in
-    let held : c.is_held.result ≡ true = grind (arith, c.if-not-is_held.false) in
     let inv = c.loop-claim.invariant in
-    passed_at c.args.self.now c.args.owner c.loop-claim.passed c.in-Some.claim c.index.result.now c.new-none_left.result c.is_held.result claims c.in-Some.ensures.claim c.in-Some.ensures.only told c.new-none_left.ensures held inv.0 inv.1
+    passed_at c.args.self.now c.args.owner c.loop-claim.passed c.in-Some.claim c.index.result.now claims c.in-Some.ensures.claim c.in_default-interest_if_passed.ensures inv.0 inv.1

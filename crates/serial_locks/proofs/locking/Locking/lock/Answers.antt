@@ -17,7 +17,7 @@ unreachable-requires c = nothing_else c.self.inside.manager c.args.name.now c.ar
 pub invariant_of-self-in-Granted : goal.invariant_of-self-in-Granted
 invariant_of-self-in-Granted c =
     (got c.args.self.now c.self.inside.facility.locks c.obtain.new.facility.locks c.self.inside.facility.lists.bells c.obtain.new.facility.lists.bells c.self.inside.manager c.reserve.new.self c.give.new.self c.self.inside.member c.args.member c.self.inside.facility.counter c.self.inside.steps c.reserve.new.self.spare c.reserve.new.self.room c.self.inside.facility.locks.book.records c.args.name.now c.args.mode c.in-Facility.joint
-    c.self.view_is c.requires.hand (search rules) c.self.invariant c.reserve.ensures.rest c.requires.plain c.requires.room (sym c.in-Facility.is ∙ c.ask.ensures) (sym c.in-Granted.is ∙ c.obtain.ensures.answer) c.obtain.ensures.granted c.obtain.ensures.bells c.give.ensures).0
+    c.self.view_is c.requires.hand (search rules) c.self.invariant c.reserve.ensures.rest c.requires.plain c.requires.room (sym c.in-Facility.is ∙ c.ask.ensures) (sym c.in-Granted.is ∙ c.obtain.ensures.answer) c.obtain.ensures.granted c.obtain.ensures.bells c.give.ensures.given).0
 
 pub invariant_of-self-in-RecordsFull : goal.invariant_of-self-in-RecordsFull
 invariant_of-self-in-RecordsFull c =
@@ -35,22 +35,22 @@ returns-in-Have-clause-granted c =
 pub returns-in-Granted-clause-answer : goal.returns-in-Granted-clause-answer
 returns-in-Granted-clause-answer c =
     (got c.args.self.now c.self.inside.facility.locks c.obtain.new.facility.locks c.self.inside.facility.lists.bells c.obtain.new.facility.lists.bells c.self.inside.manager c.reserve.new.self c.give.new.self c.self.inside.member c.args.member c.self.inside.facility.counter c.self.inside.steps c.reserve.new.self.spare c.reserve.new.self.room c.self.inside.facility.locks.book.records c.args.name.now c.args.mode c.in-Facility.joint
-    c.self.view_is c.requires.hand (search rules) c.self.invariant c.reserve.ensures.rest c.requires.plain c.requires.room (sym c.in-Facility.is ∙ c.ask.ensures) (sym c.in-Granted.is ∙ c.obtain.ensures.answer) c.obtain.ensures.granted c.obtain.ensures.bells c.give.ensures).1
+    c.self.view_is c.requires.hand (search rules) c.self.invariant c.reserve.ensures.rest c.requires.plain c.requires.room (sym c.in-Facility.is ∙ c.ask.ensures) (sym c.in-Granted.is ∙ c.obtain.ensures.answer) c.obtain.ensures.granted c.obtain.ensures.bells c.give.ensures.given).1
 
 pub returns-in-Granted-clause-granted : goal.returns-in-Granted-clause-granted
 returns-in-Granted-clause-granted c =
     λ _. (got c.args.self.now c.self.inside.facility.locks c.obtain.new.facility.locks c.self.inside.facility.lists.bells c.obtain.new.facility.lists.bells c.self.inside.manager c.reserve.new.self c.give.new.self c.self.inside.member c.args.member c.self.inside.facility.counter c.self.inside.steps c.reserve.new.self.spare c.reserve.new.self.room c.self.inside.facility.locks.book.records c.args.name.now c.args.mode c.in-Facility.joint
-    c.self.view_is c.requires.hand (search rules) c.self.invariant c.reserve.ensures.rest c.requires.plain c.requires.room (sym c.in-Facility.is ∙ c.ask.ensures) (sym c.in-Granted.is ∙ c.obtain.ensures.answer) c.obtain.ensures.granted c.obtain.ensures.bells c.give.ensures).2
+    c.self.view_is c.requires.hand (search rules) c.self.invariant c.reserve.ensures.rest c.requires.plain c.requires.room (sym c.in-Facility.is ∙ c.ask.ensures) (sym c.in-Granted.is ∙ c.obtain.ensures.answer) c.obtain.ensures.granted c.obtain.ensures.bells c.give.ensures.given).2
 
 pub returns-in-Granted-clause-refused : goal.returns-in-Granted-clause-refused
 returns-in-Granted-clause-refused c =
     (got c.args.self.now c.self.inside.facility.locks c.obtain.new.facility.locks c.self.inside.facility.lists.bells c.obtain.new.facility.lists.bells c.self.inside.manager c.reserve.new.self c.give.new.self c.self.inside.member c.args.member c.self.inside.facility.counter c.self.inside.steps c.reserve.new.self.spare c.reserve.new.self.room c.self.inside.facility.locks.book.records c.args.name.now c.args.mode c.in-Facility.joint
-    c.self.view_is c.requires.hand (search rules) c.self.invariant c.reserve.ensures.rest c.requires.plain c.requires.room (sym c.in-Facility.is ∙ c.ask.ensures) (sym c.in-Granted.is ∙ c.obtain.ensures.answer) c.obtain.ensures.granted c.obtain.ensures.bells c.give.ensures).3
+    c.self.view_is c.requires.hand (search rules) c.self.invariant c.reserve.ensures.rest c.requires.plain c.requires.room (sym c.in-Facility.is ∙ c.ask.ensures) (sym c.in-Granted.is ∙ c.obtain.ensures.answer) c.obtain.ensures.granted c.obtain.ensures.bells c.give.ensures.given).3
 
 pub returns-in-Granted-clause-used : goal.returns-in-Granted-clause-used
 returns-in-Granted-clause-used c =
     (got c.args.self.now c.self.inside.facility.locks c.obtain.new.facility.locks c.self.inside.facility.lists.bells c.obtain.new.facility.lists.bells c.self.inside.manager c.reserve.new.self c.give.new.self c.self.inside.member c.args.member c.self.inside.facility.counter c.self.inside.steps c.reserve.new.self.spare c.reserve.new.self.room c.self.inside.facility.locks.book.records c.args.name.now c.args.mode c.in-Facility.joint
-    c.self.view_is c.requires.hand (search rules) c.self.invariant c.reserve.ensures.rest c.requires.plain c.requires.room (sym c.in-Facility.is ∙ c.ask.ensures) (sym c.in-Granted.is ∙ c.obtain.ensures.answer) c.obtain.ensures.granted c.obtain.ensures.bells c.give.ensures).4
+    c.self.view_is c.requires.hand (search rules) c.self.invariant c.reserve.ensures.rest c.requires.plain c.requires.room (sym c.in-Facility.is ∙ c.ask.ensures) (sym c.in-Granted.is ∙ c.obtain.ensures.answer) c.obtain.ensures.granted c.obtain.ensures.bells c.give.ensures.given).4
 
 pub returns-in-RecordsFull-clause-answer : goal.returns-in-RecordsFull-clause-answer
 returns-in-RecordsFull-clause-answer c =
