@@ -12,5 +12,6 @@ mod tests;
 
 pub use ds_model::{Answer, Cycle, Entry, Fate, Reads, Refusal, Report, ReportEntry};
 pub use history::History;
-pub use one_thread::replay;
-pub use ops::replay_tran;
+pub use one_thread::{replay, replay_entries};
+pub use ops::{has_abort, replay_tran};
+pub use same::{same_reads, same_rows, same_value};

@@ -30,11 +30,7 @@ fn replay_entry(alloc: Global, rows: &mut SpotMap<Value>, entry: &Entry) -> Resu
 }
 
 // The same for entries in order, as long as what they print is right.
-fn replay_entries(
-    alloc: Global,
-    rows: &mut SpotMap<Value>,
-    entries: &[Entry],
-) -> Result<bool, NoMemory>
+fn replay_on(alloc: Global, rows: &mut SpotMap<Value>, entries: &[Entry]) -> Result<bool, NoMemory>
     ensures rows { IfOk result (λ legal. legal ≡ true → rows.new ≡ model.replay rows.old entries.now) }
     ensures legal { IfOk result (λ legal. Decides legal (ArePrintsLegal rows.old entries.now)) }
 {
@@ -46,8 +42,24 @@ fn replay_entries(
     Ok(true)
 }
 
-/// The rows after one thread has run the committed transactions of a history in its order, on opening rows
+/// The rows after one thread has run the committed transactions of these entries in their order, on opening rows
 /// in order, or `None` where it reads otherwise than an answered transaction has read.
+pub fn replay_entries(
+    alloc: Global,
+    opening: &RowList,
+    entries: &[Entry],
+) -> Result<Option<RowList>, NoMemory>
+    requires { AreSorted opening.now }
+    ensures { IfOk result (λ rows. SomeIff rows (ArePrintsLegal (map_of opening.now) entries.now) (listed (model.replay (map_of opening.now) entries.now))) }
+{
+    let mut rows = SpotMap::from_rows(alloc, opening)?;
+    if !replay_on(alloc, &mut rows, entries)? {
+        return Ok(None);
+    }
+    Ok(Some(rows.into_rows(alloc)?))
+}
+
+/// The same for the entries of a history.
 pub fn replay(
     alloc: Global,
     opening: &RowList,
@@ -56,9 +68,5 @@ pub fn replay(
     requires { AreSorted opening.now }
     ensures { IfOk result (λ rows. SomeIff rows (ArePrintsLegal (map_of opening.now) history.now.entries) (listed (model.replay (map_of opening.now) history.now.entries))) }
 {
-    let mut rows = SpotMap::from_rows(alloc, opening)?;
-    if !replay_entries(alloc, &mut rows, history.entries())? {
-        return Ok(None);
-    }
-    Ok(Some(rows.into_rows(alloc)?))
+    replay_entries(alloc, opening, history.entries())
 }

@@ -63,7 +63,8 @@ fn take_ops(
     Ok(())
 }
 
-fn has_abort(ops: &[Op]) -> bool
+/// Whether one of the operations asks for the transaction's rollback.
+pub fn has_abort(ops: &[Op]) -> bool
     ensures { result ≡ aborts ops.now }
 {
     ops.iter().any(|op| matches!(op, Op::Abort))

@@ -11,7 +11,8 @@ fn same_row(a: &Row, b: &Row) -> bool
     a.table == b.table && a.key == b.key && a.value.bytes() == b.value.bytes()
 }
 
-fn same_rows(a: &[Row], b: &[Row]) -> bool
+/// Whether the rows are the same, in one order.
+pub fn same_rows(a: &[Row], b: &[Row]) -> bool
     ensures { Decides result (a.now ≡ b.now) }
 {
     if a.len() != b.len() {
@@ -25,7 +26,8 @@ fn same_rows(a: &[Row], b: &[Row]) -> bool
     true
 }
 
-fn same_value(a: &Option<Value>, b: &Option<Value>) -> bool
+/// Whether both are the same value, or none.
+pub fn same_value(a: &Option<Value>, b: &Option<Value>) -> bool
     ensures { Decides result (a.now ≡ b.now) }
 {
     match (a, b) {
@@ -45,6 +47,7 @@ fn same_answer(a: &Answer, b: &Answer) -> bool
     }
 }
 
+/// Whether the same was read, in one order.
 pub fn same_reads(a: &[Answer], b: &[Answer]) -> bool
     ensures { Decides result (a.now ≡ b.now) }
 {

@@ -1,0 +1,10 @@
+mod Numbering
+mod Keeping
+mod Ordered
+mod Onces
+mod Leaving
+mod Touching
+mod Noting
+mod Walking
+mod Ending
+mod Settling
