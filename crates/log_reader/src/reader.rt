@@ -1,0 +1,138 @@
+ghost use Rattle.std.specs.Prelude.{◌≡◌, ◌⊎◌, true, IfOk, OnOk, OnErr};
+ghost use Rattle.std.specs.Borrow.{sem};
+
+use crate::calls::{LogCall, LogRead, LogReply};
+use ds_base::{MemberId, NoMemory};
+use log_record::{Log, RecordFault, records_in};
+use std::alloc::Global;
+use std::marker::Model;
+
+/// How many bytes of a log are read at most by one call of the disk.
+pub const BLOCK: usize = 65_536;
+
+/// What was read so far of the log of a member.
+#[derive(Drop)]
+pub struct LogReader {
+    member: MemberId,
+    length: Option<u64>,
+    bytes: Vec<u8>,
+    block: Box<[u8; BLOCK]>,
+}
+
+impl Model for LogReader {
+    ghost use Rattle.std.specs.Prelude.{box_value};
+    ghost use Rattle.log_reader.specs.Readers.{ReaderState};
+
+    ghost Value = { ReaderState };
+
+    ghost view = { λ r. record { member = r.member; length_told = r.length; bytes = r.bytes.items; block = box_value r.block } };
+}
+
+impl LogReader {
+    ghost use Rattle.log_reader.specs.Readers.{IsNew, next_call, after_count, after_reply, is_whole, IsRead};
+    ghost use Rattle.log_reader.specs.Lending.{LendsBlock};
+
+    /// A reader of the member's log, of which nothing is read yet.
+    pub fn new(alloc: Global, member: MemberId) -> Result<LogReader, NoMemory>
+        ensures { IfOk result (IsNew member) }
+    {
+        Ok(LogReader {
+            member,
+            length: None,
+            bytes: Vec::new(alloc),
+            block: Box::new(alloc, [0; BLOCK])?,
+        })
+    }
+
+    /// The member whose log is read.
+    pub fn member(&self) -> MemberId
+        ensures { result ≡ self.now.member }
+    {
+        self.member
+    }
+
+    /// The call of the disk that is needed next.
+    pub fn next(&self) -> LogCall
+        ensures { result ≡ next_call self.now }
+    {
+        let Some(length) = self.length else {
+            return LogCall::Length;
+        };
+        let at = self.bytes.len() as u64;
+        let count = length.saturating_sub(at).min(BLOCK as u64) as u32;
+        LogCall::Read { at, count }
+    }
+
+    /// The block, into which the disk reads.
+    pub fn block(&mut self) -> &mut [u8; BLOCK]
+        ensures* writes_back { sem 𝓛 (LendsBlock self.entry result) }
+        ensures value { result.now ≡ self.old.block }
+    {
+        &mut self.block
+    }
+
+    fn is_whole(&self) -> bool
+        ensures { result ≡ is_whole self.now }
+    {
+        match self.length {
+            None => false,
+            Some(length) => length <= self.bytes.len() as u64,
+        }
+    }
+
+    fn count(&mut self, count: usize) -> Result<(), NoMemory>
+        ensures ok { OnOk result (self.new ≡ after_count self.old count) }
+        ensures err { OnErr result (self.new ≡ self.old) }
+    {
+        if count == 0 {
+            self.length = Some(self.bytes.len() as u64);
+        } else {
+            let read = &self.block[..count.min(BLOCK)];
+            self.bytes.extend_from_slice(read)?;
+        }
+        Ok(())
+    }
+
+    fn enter(&mut self, reply: LogReply) -> Result<(), NoMemory>
+        ensures ok { OnOk result (self.new ≡ after_reply self.old reply) }
+        ensures err { OnErr result (self.new ≡ self.old) }
+    {
+        match reply {
+            LogReply::Length(length) => self.length = Some(length),
+            LogReply::Count(count) => self.count(count)?,
+        }
+        Ok(())
+    }
+
+    // The records of the bytes, all of which are read.
+    fn read(&self, alloc: Global) -> Result<LogRead, NoMemory>
+        requires { is_whole self.now ≡ true }
+        ensures { IfOk result (λ read. IsRead self.now read) }
+    {
+        match records_in(alloc, &self.bytes) {
+            Ok((records, length)) => Ok(LogRead::Whole(Log {
+                member: self.member,
+                records,
+                length: length as u64,
+                tail: (self.bytes.len() - length) as u64,
+            })),
+            Err(RecordFault::Bad { at }) => Ok(LogRead::Bad { at: at as u64 }),
+            Err(RecordFault::NotWhole | RecordFault::NoMemory) => Err(NoMemory),
+        }
+    }
+
+    /// Takes the disk's reply: the log, where this was the last of its bytes.
+    ///
+    /// After `NoMemory` the reply may have been taken or not, and the reader is given up.
+    pub fn take(&mut self, alloc: Global, reply: LogReply) -> Result<LogRead, NoMemory>
+        ensures answers { IfOk result (λ read. IsRead self.new read) }
+        ensures ok { OnOk result (self.new ≡ after_reply self.old reply) }
+        ensures err { OnErr result ((self.new ≡ self.old) ⊎ (self.new ≡ after_reply self.old reply)) }
+    {
+        self.enter(reply)?;
+        if !self.is_whole() {
+            return Ok(LogRead::More);
+        }
+        self.read(alloc)
+    }
+}

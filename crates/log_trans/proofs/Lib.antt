@@ -1,0 +1,3 @@
+pub mod Fitting
+pub mod Lasts
+pub mod Maps

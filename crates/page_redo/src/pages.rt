@@ -1,0 +1,78 @@
+//! The pages that records change.
+
+ghost use Rattle.std.specs.Prelude.{◌≡◌, [], ◌∷◌, IfOk, OnOk};
+ghost use Rattle.heap_space.specs.Written.{same_page};
+ghost use Rattle.index_leaf.specs.Nodes.{is_same};
+ghost use Rattle.page_chain.specs.Chains.{row_patch};
+ghost use Rattle.page_redo.specs.Pages.{has_page, with_page, pages_from, pages_of};
+
+use ds_base::{NoMemory, PageId, Sequence};
+use ds_model::{Body, LogRecord, RowChange};
+use page_format::Patch;
+use std::alloc::Global;
+
+/// Whether both are the same page.
+pub fn is_same(page: PageId, other: PageId) -> bool
+    ensures exact { result ≡ is_same page other }
+    ensures in_order { result ≡ same_page page other }
+{
+    page.number == other.number && page.set == other.set
+}
+
+/// The page whose row the change is of.
+pub fn page_changed(change: &RowChange) -> PageId
+    ensures { result ≡ (row_patch change.now).page }
+{
+    PageId {
+        set: 2 * change.table.number() as u16 - 1,
+        number: change.place.page,
+    }
+}
+
+fn has_page(pages: &[PageId], id: PageId) -> bool
+    ensures { result ≡ has_page pages.now id }
+{
+    pages.iter().any(|page| is_same(*page, id))
+}
+
+fn add_page(pages: &mut Sequence<PageId>, id: PageId) -> Result<(), NoMemory>
+    ensures { OnOk result (pages.new ≡ with_page pages.old id) }
+{
+    if !has_page(pages.as_slice(), id) {
+        pages.push(id)?;
+    }
+    Ok(())
+}
+
+fn pages_of_patches(alloc: Global, patches: &[Patch]) -> Result<Sequence<PageId>, NoMemory>
+    ensures { IfOk result (λ pages. pages ≡ pages_from [] patches.now) }
+{
+    let mut pages = Sequence::new(alloc);
+    for patch in patches {
+        add_page(&mut pages, patch.page)?;
+    }
+    Ok(pages)
+}
+
+fn one_page(alloc: Global, page: PageId) -> Result<Sequence<PageId>, NoMemory>
+    ensures { IfOk result (λ pages. pages ≡ page ∷ []) }
+{
+    let mut pages = Sequence::new(alloc);
+    pages.push(page)?;
+    Ok(pages)
+}
+
+/// The pages that a record changes, each once, in the order of its patches. A row change changes the page of its place.
+pub fn pages_of(alloc: Global, it: &LogRecord) -> Result<Sequence<PageId>, NoMemory>
+    ensures { IfOk result (λ pages. pages ≡ pages_of it.now) }
+{
+    match &it.body {
+        Body::RowChange { change } | Body::Compensation { change, .. } => {
+            one_page(alloc, page_changed(change))
+        }
+        Body::System { patches } => pages_of_patches(alloc, patches.as_slice()),
+        Body::Commit | Body::Ended | Body::Checkpoint { .. } | Body::RestartEnd => {
+            Ok(Sequence::new(alloc))
+        }
+    }
+}
