@@ -1,0 +1,5 @@
+pub mod Nodes
+pub mod Slots
+pub mod Patch_sizes
+pub mod Allowing
+pub mod Pages

@@ -1,0 +1,105 @@
+//! The pages of a table, and those of an action.
+ghost use Rattle.std.specs.Prelude.{◌≡◌};
+ghost use Rattle.heap_space.specs.Changes.{heap_page};
+ghost use Rattle.page_plans.specs.Names.{index_page, table_of, first_page, three_pages, slot_pages, split_pages, one_page, action_page};
+
+use crate::action::Action;
+use ds_base::{PageId, Place, TableId};
+
+/// A page of the heap of a table.
+pub fn heap_page(table: TableId, number: u32) -> PageId
+    ensures { result ≡ heap_page table number }
+{
+    PageId {
+        set: 2 * table.number() as u16 - 1,
+        number,
+    }
+}
+
+/// A page of the index of a table.
+pub fn index_page(table: TableId, number: u32) -> PageId
+    ensures { result ≡ index_page table number }
+{
+    PageId {
+        set: 2 * table.number() as u16,
+        number,
+    }
+}
+
+/// The table that has this page set.
+pub fn table_of(set: u16) -> Option<TableId>
+    ensures { result ≡ table_of set }
+{
+    TableId::new((set as u64 + 1) / 2)
+}
+
+/// The page that is met first.
+pub fn first_page(action: &Action) -> PageId
+    ensures { result ≡ first_page action.now }
+{
+    match action {
+        Action::FormatIndex { table } | Action::Split { table, .. } => index_page(*table, 0),
+        Action::FormatHeap { table } | Action::GiveSlot { table, .. } => heap_page(*table, 0),
+        Action::BranchEntry { table, branch, .. } => index_page(*table, *branch),
+        Action::RowChange { table, place, .. } => heap_page(*table, place.page),
+    }
+}
+
+// The first three pages of an index.
+fn three_pages(table: TableId, nth: usize) -> Option<PageId>
+    ensures { result ≡ three_pages table nth }
+{
+    if nth < 3 {
+        Some(index_page(table, nth as u32))
+    } else {
+        None
+    }
+}
+
+fn slot_pages(table: TableId, leaf: u32, nth: usize, place: Option<Place>) -> Option<PageId>
+    ensures { result ≡ slot_pages table leaf nth place }
+{
+    let Some(place) = place else {
+        return None;
+    };
+    match nth {
+        0 => Some(heap_page(table, 0)),
+        1 => Some(heap_page(table, place.page)),
+        2 => Some(index_page(table, leaf)),
+        _ => None,
+    }
+}
+
+fn split_pages(table: TableId, left: u32, nth: usize, place: Option<Place>) -> Option<PageId>
+    ensures { result ≡ split_pages table left nth place }
+{
+    let Some(place) = place else {
+        return None;
+    };
+    match nth {
+        0 => Some(index_page(table, 0)),
+        1 => Some(index_page(table, left)),
+        2 => Some(index_page(table, place.page)),
+        _ => None,
+    }
+}
+
+fn one_page(page: PageId, nth: usize) -> Option<PageId>
+    ensures { result ≡ one_page page nth }
+{
+    if nth == 0 { Some(page) } else { None }
+}
+
+/// The `nth` page of an action from 0, where `place` is what its first page leads to, and none past the last.
+pub fn action_page(action: &Action, nth: usize, place: Option<Place>) -> Option<PageId>
+    ensures { result ≡ action_page action.now nth place }
+{
+    match action {
+        Action::FormatIndex { table } => three_pages(*table, nth),
+        Action::GiveSlot { table, leaf, .. } => slot_pages(*table, *leaf, nth, place),
+        Action::Split { table, left } => split_pages(*table, *left, nth, place),
+        Action::FormatHeap { .. } | Action::BranchEntry { .. } | Action::RowChange { .. } => {
+            one_page(first_page(action), nth)
+        }
+    }
+}
