@@ -1,0 +1,5 @@
+pub mod State
+pub mod Claims
+pub mod Frames
+pub mod Records
+pub mod Local

@@ -1,0 +1,22 @@
+//! What a member holds, without the bytes of its pages: the claims on locks, the heads of the frames, the log buffer and
+//! the transactions.
+//!
+//! A local move tests its own condition and changes nothing where it isn't allowed, so whoever decides what is wanted may
+//! try any. All else that changes the marks is for the events that were tested before.
+#![tactic(auto)]
+
+mod claims;
+mod frames;
+mod laws;
+mod marks;
+mod moves;
+mod records;
+#[cfg(test)]
+mod tests;
+mod trial;
+
+pub use laws::reaches_on;
+pub use marks::Marks;
+pub use member_pool::Frame;
+pub use member_trans::{Change, Refused, Stage};
+pub use trial::Trial;

@@ -1,0 +1,246 @@
+ghost use Rattle.std.specs.Prelude.{◌≡◌, ◌==◌, ◌+◌, ◌≤◌, length, true, OnOk, OnErr};
+ghost use Rattle.ds_model.specs.RecordBytes.{Fits, record_bytes};
+ghost use Rattle.member_log.specs.Buffers.{room_of, is_above};
+ghost use Rattle.member_trans.specs.Trans.{with_tran, with_room, first_with, newest_of};
+ghost use Rattle.member_marks.specs.State.{MarksState, tran_of, with_trans, with_log};
+ghost use Rattle.member_marks.specs.Records.{
+  fits_in,
+  logged,
+  is_at_row,
+  row_set,
+  undo_page,
+  may_change,
+  after_change,
+  after_system,
+  sets_noted,
+  both_fit,
+  both_logged,
+  after_back,
+  may_undo_as,
+  after_undo,
+  may_commit,
+  after_commit,
+  after_append,
+};
+
+use crate::Marks;
+use ds_base::{LRSN_LIMIT, Lrsn, NoMemory, PageId};
+use ds_model::{Body, LogRecord, RowChange};
+use log_record::{compensation_of, record_length};
+use member_trans::Trans;
+use page_format::Patch;
+
+/// The slots of a heap page are below this.
+const SLOTS: u16 = 31;
+
+// Whether the place of the change can be that of a row.
+fn is_at_row(change: &RowChange) -> bool
+    ensures { result ≡ is_at_row change.now }
+{
+    change.place.page != 0 && change.place.slot < SLOTS
+}
+
+fn number_or(first: Lrsn, lrsn: Lrsn) -> Lrsn
+    ensures { result ≡ first_with first lrsn }
+{
+    if first.number() == 0 { lrsn } else { first }
+}
+
+fn row_set(change: &RowChange) -> u16
+    ensures { result ≡ row_set change.now }
+{
+    2 * change.table.number() as u16 - 1
+}
+
+// Notes the page sets of the patches for the slot's transaction.
+#[tactic(auto, using(crate::proofs::Noting::noted_step))]
+fn note_sets(trans: &mut Trans, slot: u8, patches: &[Patch])
+    ensures { trans.new ≡ sets_noted trans.old slot patches.now }
+{
+    for patch in patches {
+        trans.note_set(slot, patch.page.set);
+    }
+}
+
+impl Marks {
+    /// The bytes that are left in the log buffer.
+    pub fn log_room(&self) -> u32
+        ensures { result ≡ room_of self.now.log }
+    {
+        self.log.room()
+    }
+
+    pub fn is_log_empty(&self) -> bool
+        ensures { result ≡ (length self.now.log.pending == 0) }
+    {
+        self.log.is_empty()
+    }
+
+    /// Whether a record is pending whose number is above the limit: it must go to the log before a number is drawn.
+    pub fn must_append(&self) -> bool
+        ensures { result ≡ is_above self.now.log LRSN_LIMIT }
+    {
+        match Lrsn::new(LRSN_LIMIT) {
+            Some(limit) => self.log.is_above(limit),
+            None => false,
+        }
+    }
+
+    /// The number of the last record that stands in the log, 0 where there is none.
+    pub fn stable(&self) -> Lrsn
+        ensures { result ≡ self.now.log.stable }
+    {
+        self.log.stable()
+    }
+
+    /// The bytes of the records that wait for the log.
+    pub fn pending(&self) -> &[u8]
+        ensures { result.now ≡ self.now.log.pending }
+    {
+        self.log.pending()
+    }
+
+    /// The heap page of the newest row change of the transaction that stands.
+    pub fn undo_page(&self, slot: u8) -> Option<PageId>
+        ensures { result ≡ undo_page self.now slot }
+    {
+        let newest = self.trans.newest(slot)?;
+        Some(PageId {
+            set: row_set(&newest.change),
+            number: newest.change.place.page,
+        })
+    }
+}
+
+impl Marks {
+    /// Takes the memory for one more row change of the slot's transaction.
+    pub fn reserve_change(&mut self, slot: u8) -> Result<(), NoMemory>
+        ensures ok { OnOk result (self.new ≡ with_trans self.old (with_tran self.old.trans slot (with_room (tran_of self.old slot)))) }
+        ensures err { OnErr result (self.new ≡ self.old) }
+    {
+        self.trans.reserve_change(slot)
+    }
+
+    fn put(&mut self, it: &LogRecord) -> bool
+        requires { Fits it.now }
+        ensures told { result ≡ fits_in self.old.log it.now }
+        ensures after { self.new ≡ with_log self.old (logged self.old.log it.now) }
+    {
+        self.log.put(it).is_ok()
+    }
+
+    /// Puts the record of a row change of the slot's transaction, and notes the change, where both have room.
+    pub fn note_change(&mut self, slot: u8, lrsn: Lrsn, change: &RowChange) -> bool
+        ensures told { result ≡ may_change self.old slot lrsn change.now }
+        ensures after { self.new ≡ after_change self.old slot lrsn change.now }
+    {
+        if lrsn.number() == 0 || !is_at_row(change) || !self.trans.has_room(slot) {
+            return false;
+        }
+        let it = LogRecord {
+            lrsn,
+            tran: number_or(self.trans.first(slot), lrsn),
+            body: Body::RowChange { change: *change },
+        };
+        if !self.put(&it) {
+            return false;
+        }
+        self.trans.note_change(slot, lrsn, change);
+        self.trans.note_set(slot, row_set(change));
+        true
+    }
+
+    /// Puts the record of changed pages, and notes their page sets for the slot's transaction, where there is room.
+    pub fn put_system(&mut self, slot: u8, it: &LogRecord) -> bool
+        requires { Fits it.now }
+        ensures told { result ≡ fits_in self.old.log it.now }
+        ensures after { self.new ≡ after_system self.old slot it.now }
+    {
+        if !self.put(it) {
+            return false;
+        }
+        if let Body::System { patches } = &it.body {
+            note_sets(&mut self.trans, slot, patches.as_slice());
+        }
+        true
+    }
+
+    /// Puts the compensation of the newest row change of the slot's transaction, and the Ended record behind that of the
+    /// last one, where there is room for both.
+    pub fn note_undone(&mut self, slot: u8, lrsn: Lrsn) -> bool
+        ensures told { result ≡ may_undo_as self.old slot lrsn (newest_of (tran_of self.old slot)) }
+        ensures after { self.new ≡ after_undo self.old slot lrsn }
+    {
+        let Some(newest) = self.trans.newest(slot) else {
+            return false;
+        };
+        let tran = self.trans.first(slot);
+        if tran.number() == 0 || !is_at_row(&newest.change) {
+            return false;
+        }
+        let back = LogRecord {
+            lrsn,
+            tran,
+            body: compensation_of(&newest.change, newest.lrsn),
+        };
+        let ended = LogRecord {
+            lrsn,
+            tran,
+            body: Body::Ended,
+        };
+        self.put_back(slot, lrsn, &back, &ended)
+    }
+
+    fn put_back(&mut self, slot: u8, lrsn: Lrsn, back: &LogRecord, ended: &LogRecord) -> bool
+        requires fits { Fits back.now × Fits ended.now }
+        ensures told { result ≡ both_fit self.old.log back.now ended.now }
+        ensures after { self.new ≡ after_back self.old slot lrsn back.now ended.now }
+    {
+        if record_length(back) + record_length(ended) > self.log.room() as usize {
+            return false;
+        }
+        let is_last = self.trans.count(slot) == 1;
+        self.put_both(back, ended, is_last);
+        self.trans.note_undone(slot, lrsn);
+        true
+    }
+
+    fn put_both(&mut self, back: &LogRecord, ended: &LogRecord, is_last: bool)
+        requires fits { Fits back.now × Fits ended.now }
+        requires room { both_fit self.old.log back.now ended.now ≡ true }
+        ensures { self.new ≡ with_log self.old (both_logged self.old.log back.now ended.now is_last) }
+    {
+        let _ = self.log.put(back);
+        if is_last {
+            let _ = self.log.put(ended);
+        }
+    }
+
+    /// Puts the Commit record of the slot's transaction, where it goes forward and there is room.
+    pub fn draw_commit(&mut self, slot: u8, lrsn: Lrsn) -> bool
+        ensures told { result ≡ may_commit self.old slot lrsn }
+        ensures after { self.new ≡ after_commit self.old slot lrsn }
+    {
+        if lrsn.number() == 0 || !self.trans.is_forward(slot) {
+            return false;
+        }
+        let it = LogRecord {
+            lrsn,
+            tran: number_or(self.trans.first(slot), lrsn),
+            body: Body::Commit,
+        };
+        if !self.put(&it) {
+            return false;
+        }
+        self.trans.draw_commit(slot);
+        true
+    }
+
+    /// The pending records stand in the log: the commits among them are decided.
+    pub fn decide_all(&mut self)
+        ensures { self.new ≡ after_append self.old }
+    {
+        self.log.forced();
+        self.trans.decide_all();
+    }
+}
