@@ -1,0 +1,9 @@
+pub mod Kept
+pub mod Claims
+pub mod Answers
+pub mod Closing
+pub mod Cycles
+pub mod Frames
+pub mod Lists
+pub mod Changes
+pub mod Outcomes

@@ -1,0 +1,82 @@
+//! The replies to `obtain` and `grant`.
+
+ghost use Rattle.std.specs.Prelude.{◌≡◌, ◌==◌};
+ghost use Rattle.member_marks.specs.Claims.{offered};
+ghost use Rattle.member_effects.specs.declared.told.Told.TheVariants as told;
+ghost use Rattle.member_effects.specs.Claims.{EntersPage, Enters, told_of, granted_told, Claims, claimed_told};
+
+use crate::told::Told;
+use ds_model::Refusal;
+use facility::Reply;
+use lock_names::{Mode, Name};
+use member_marks::{Marks, Trial};
+
+// The lock of a page is the member's.
+fn enter_page(marks: &mut Marks, name: &Name)
+    ensures { EntersPage marks.old name.now marks.new }
+{
+    if let Name::Page(page) = name {
+        marks.enter_page(*page);
+    }
+}
+
+// What came of entering the claim of a slot's transaction.
+fn told_of(trial: Trial) -> Told
+    ensures { result ≡ told_of trial }
+{
+    match trial {
+        Trial::Have => Told::Granted,
+        Trial::Conflict(by) => Told::Conflict { by },
+        Trial::Postponed(_) | Trial::NoMemory => Told::Refused,
+        Trial::ToObtain(_) | Trial::NotForward => Told::Stepped,
+    }
+}
+
+fn granted(marks: &mut Marks, slot: u8, name: &Name, mode: Mode, place: u64) -> Told
+    ensures told { result ≡ granted_told marks.old slot name.now mode }
+    ensures after { Enters (slot == 0) marks.old slot name.now mode place marks.new }
+{
+    if slot == 0 {
+        enter_page(marks, name);
+        return Told::Granted;
+    }
+    told_of(marks.enter_claim(slot, name, mode, place))
+}
+
+fn refused(marks: &mut Marks, slot: u8, refusal: Refusal, place: u64) -> Told
+    ensures told { result ≡ told.Refused }
+    ensures after { marks.new ≡ offered marks.old slot refusal place }
+{
+    marks.offer(slot, refusal, place);
+    Told::Refused
+}
+
+/// The reply to `obtain` or `grant`.
+pub fn claimed(
+    marks: &mut Marks,
+    slot: u8,
+    name: &Name,
+    mode: Mode,
+    reply: &Reply,
+    place: u64,
+) -> Told
+    ensures told { result ≡ claimed_told marks.old slot name.now mode reply.now }
+    ensures after { Claims marks.old slot name.now mode reply.now place marks.new }
+{
+    match *reply {
+        Reply::Granted { .. } => granted(marks, slot, name, mode, place),
+        Reply::Retained { by } => {
+            refused(marks, slot, Refusal::Retained { name: *name, by }, place)
+        }
+        Reply::RecordsFull { limit } => {
+            refused(marks, slot, Refusal::RecordsFull { limit }, place)
+        }
+        Reply::Contention {
+            share,
+            exclusive,
+            ..
+        } => Told::Contention { share, exclusive },
+        Reply::Moved { .. } => Told::Moved,
+        _ => Told::Stepped,
+    }
+}

@@ -1,0 +1,13 @@
+//! What a member may want of an event, and what the event came to, as plain data.
+//!
+//! The policy of a member says by an `Intent` what it wants next. The mechanism tests it, does it, and tells the policy the
+//! `Outcome`.
+#![tactic(auto)]
+
+mod intent;
+mod outcome;
+mod test;
+
+pub use intent::{Frames, Intent};
+pub use outcome::{Answered, Event, Look, Outcome, Sent};
+pub use test::{StepFault, Test};

@@ -1,0 +1,53 @@
+-- Locks that are given up, and ends of transactions.
+use Rattle.std.specs.Prelude.{ℕ, Bool, false, not, ◌||◌, Option, Some, None, is_none, Result, Ok, Err}
+use Rattle.ds_base.specs.declared.names.PageId.{PageId}
+use Rattle.ds_model.specs.declared.lock.Name.{Name}
+use Rattle.lock_names.specs.declared.mode.Interest.{Interest}
+use Rattle.facility.specs.declared.command.Command.TheVariants as command
+use Rattle.member_intents.specs.declared.outcome.Sent.{Sent}
+use Rattle.member_intents.specs.declared.outcome.Sent.TheVariants as sent
+use Rattle.member_intents.specs.declared.test.Test.{Test}
+use Rattle.member_intents.specs.declared.test.Test.TheVariants.{NotOver, StillChanged, NoneLeft, SomeLeft, NotClaimed}
+use Rattle.member_pool.specs.Frames.{find_page}
+use Rattle.member_trans.specs.Trans.{is_over_at}
+use Rattle.member_marks.specs.State.{MarksState, tran_of, id_of}
+use Rattle.member_marks.specs.Claims.{releasing, releasing_page}
+use Rattle.member_marks.specs.Frames.{frame_in, to_write}
+use Rattle.member_needs.specs.Tested.{Tested, passed, when, after}
+
+-- the transaction is over, and none of the pages of its sets is changed, unless it has given up a lock already
+abbrev pub over_test : MarksState → ℕ → Tested
+over_test s slot =
+    when (is_over_at (tran_of s slot) s.log.stable) NotOver
+    (when ((tran_of s slot).released || is_none (to_write s slot)) StillChanged passed)
+
+abbrev pub gives_up : Option (Name × Interest) → Result Sent Test
+gives_up None = Err NoneLeft
+gives_up (Some x) = Ok (sent.Command (command.Release x.0 x.1))
+
+abbrev pub release_need : MarksState → ℕ → Result Sent Test
+release_need s slot = after (over_test s slot) (gives_up (releasing s slot))
+
+abbrev pub ends : MarksState → ℕ → Option (Name × Interest) → Result Sent Test
+ends s slot None = Ok (sent.Command (command.End (id_of s slot)))
+ends s slot (Some x) = Err SomeLeft
+
+abbrev pub end_need : MarksState → ℕ → Result Sent Test
+end_need s slot = after (over_test s slot) (ends s slot (releasing s slot))
+
+-- ---- pages
+
+abbrev pub is_changed_at : MarksState → Option ℕ → Bool
+is_changed_at s None = false
+is_changed_at s (Some at) = (frame_in s.heads at).changed
+
+-- whether the frame that holds the page, if there is one, is changed
+abbrev pub is_page_changed : MarksState → PageId → Bool
+is_page_changed s p = is_changed_at s (find_page s.heads.frames p)
+
+abbrev pub gives_up_page : Bool → Option (Name × Interest) → Result Sent Test
+gives_up_page is_changed None = Err NotClaimed
+gives_up_page is_changed (Some x) = after (when (not is_changed) StillChanged passed) (Ok (sent.Command (command.Release x.0 x.1)))
+
+abbrev pub release_page_need : MarksState → PageId → Result Sent Test
+release_page_need s p = gives_up_page (is_page_changed s p) (releasing_page s p)

@@ -1,0 +1,9 @@
+pub mod Tested
+pub mod Locks
+pub mod Closing
+pub mod Waits
+pub mod Frames
+pub mod Records
+pub mod Castout
+pub mod Needs
+pub mod Plans

@@ -1,0 +1,5 @@
+pub mod Held
+pub mod Prepared
+pub mod Lending
+pub mod Settled
+pub mod Events

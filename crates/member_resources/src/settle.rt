@@ -1,0 +1,200 @@
+ghost use Rattle.std.specs.Prelude.{◌≡◌, None, IfOk, OnErr};
+ghost use Rattle.member_effects.specs.declared.told.Told.TheVariants as told;
+ghost use Rattle.member_effects.specs.Lists.{cast_told};
+ghost use Rattle.member_effects.specs.Claims.{claimed_told};
+ghost use Rattle.member_effects.specs.Changes.{drawn_told};
+ghost use Rattle.member_marks.specs.Records.{after_append};
+ghost use Rattle.member_needs.specs.Plans.{PlanIsAllowed};
+ghost use Rattle.member_resources.specs.Held.{with_marks, with_cast};
+ghost use Rattle.member_resources.specs.Settled.{cast_read, written_cast, one_frame, drawn as drawn_by, SettlesClaim, Settles, told_by, SettlesWaits, stored, stored_told};
+
+use crate::Resources;
+use ds_base::{NoMemory, PageId};
+use facility::Reply;
+use list_structure::Wait;
+use lock_names::{Mode, Name};
+use member_effects::{
+    Told, answered, cast_told, changed_told, claimed, commit_drawn, cycle_refused, drawn, ended,
+    flag_told, page_read, page_released, query_told, read, released, status_told, tested,
+    unregistered, written,
+};
+use member_intents::{Frames, Intent};
+use member_needs::{Cast, Plan};
+use std::alloc::Global;
+
+fn one_frame(at: u16) -> Frames
+    ensures { result ≡ one_frame at }
+{
+    Frames {
+        count: 1,
+        at: [at, 0, 0],
+    }
+}
+
+impl Resources {
+    // The page is to be written next.
+    fn settle_castout_read(&mut self, page: PageId, reply: &Reply) -> Told
+        ensures told { result ≡ cast_told reply.now }
+        ensures after { self.new ≡ cast_read self.old page reply.now }
+    {
+        if let Reply::Taken = reply {
+            self.cast = Some(Cast {
+                page,
+                is_written: false,
+            });
+        }
+        cast_told(reply)
+    }
+
+    // The castout is over, whatever the reply is.
+    fn settle_castout_done(&mut self) -> Told
+        ensures told { result ≡ told.CastoutOver }
+        ensures after { self.new ≡ with_cast self.old None }
+    {
+        self.cast = None;
+        Told::CastoutOver
+    }
+
+    fn settle_castout_written(&mut self) -> Told
+        ensures told { result ≡ told.CastoutWritten }
+        ensures after { self.new ≡ with_cast self.old (written_cast self.old.cast) }
+    {
+        if let Some(cast) = self.cast {
+            self.cast = Some(Cast {
+                is_written: true,
+                ..cast
+            });
+        }
+        Told::CastoutWritten
+    }
+
+    // The log buffer stands in the log.
+    fn settle_append(&mut self) -> Told
+        ensures told { result ≡ told.Forced }
+        ensures after { self.new ≡ with_marks self.old (after_append self.old.marks) }
+    {
+        self.marks.decide_all();
+        Told::Forced
+    }
+
+    fn settle_claim(&mut self, slot: u8, name: &Name, mode: Mode, reply: &Reply, place: u64) -> Told
+        ensures told { result ≡ claimed_told self.old.marks slot name.now mode reply.now }
+        ensures after { SettlesClaim self.old slot name.now mode reply.now place self.new }
+    {
+        claimed(&mut self.marks, slot, name, mode, reply, place)
+    }
+
+    fn settle_drawn(
+        &mut self,
+        slot: u8,
+        frames: &Frames,
+        plan: Plan,
+        reply: &Reply,
+        place: u64,
+    ) -> Told
+        requires { PlanIsAllowed plan }
+        ensures told { result ≡ drawn_told plan reply.now }
+        ensures after { self.new ≡ drawn_by self.old slot frames.now plan reply.now place }
+    {
+        drawn(
+            &mut self.marks,
+            self.pages.as_mut_slice(),
+            slot,
+            frames,
+            plan,
+            reply,
+            place,
+        )
+    }
+
+    /// The effect of a reply of the facility.
+    pub(crate) fn settle_reply(
+        &mut self,
+        intent: &Intent,
+        plan: Plan,
+        reply: &Reply,
+        place: u64,
+    ) -> Told
+        requires { PlanIsAllowed plan }
+        ensures told { result ≡ told_by self.old intent.now plan reply.now }
+        ensures after { Settles self.old intent.now plan reply.now place self.new }
+    {
+        match *intent {
+            Intent::Obtain { slot, name, mode } | Intent::Grant { slot, name, mode } => {
+                self.settle_claim(slot, &name, mode, reply, place)
+            }
+            Intent::Answers {
+                slot,
+                name,
+                mode,
+                asked,
+            } => answered(&mut self.marks, slot, &name, mode, asked, reply),
+            Intent::Status { .. } => status_told(reply),
+            Intent::Take { .. } => query_told(reply),
+            Intent::ReleaseLock { slot } => released(&mut self.marks, slot, reply),
+            Intent::ReleasePage { page } => page_released(&mut self.marks, page, reply),
+            Intent::End { slot } => ended(&mut self.marks, slot, reply),
+            Intent::Flag { .. } => flag_told(reply),
+            Intent::Read { frame } => read(&mut self.marks, frame, reply),
+            Intent::Test { frame, slot, gives } => tested(
+                &mut self.marks,
+                self.pages.as_slice(),
+                frame,
+                slot,
+                gives,
+                self.limit,
+                reply,
+                place,
+            ),
+            Intent::WritePage { frame } => written(&mut self.marks, frame, reply),
+            Intent::Unregister { frame } => unregistered(&mut self.marks, frame, reply),
+            Intent::Change { slot, frames, .. } => {
+                self.settle_drawn(slot, &frames, plan, reply, place)
+            }
+            Intent::Undo { slot, frame } => {
+                self.settle_drawn(slot, &one_frame(frame), plan, reply, place)
+            }
+            Intent::Commit { slot } => commit_drawn(&mut self.marks, slot, reply, place),
+            Intent::NextChanged { .. } => changed_told(reply),
+            Intent::CastoutRead { page } => self.settle_castout_read(page, reply),
+            Intent::CastoutWrite | Intent::CastoutDone => self.settle_castout_done(),
+            Intent::Step
+            | Intent::Ask { .. }
+            | Intent::Answer { .. }
+            | Intent::Wait { .. }
+            | Intent::Unwait { .. }
+            | Intent::Waits { .. }
+            | Intent::Raise { .. }
+            | Intent::ReadPage { .. }
+            | Intent::Append
+            | Intent::PhaseDone => Told::Stepped,
+        }
+    }
+
+    /// The effect of a disk call that was done.
+    pub(crate) fn settle_disk(&mut self, intent: &Intent) -> Told
+        ensures told { result ≡ stored_told intent.now }
+        ensures after { self.new ≡ stored self.old intent.now }
+    {
+        match *intent {
+            Intent::ReadPage { frame } => page_read(&mut self.marks, frame),
+            Intent::Append => self.settle_append(),
+            Intent::CastoutWrite => self.settle_castout_written(),
+            _ => Told::Stepped,
+        }
+    }
+
+    /// The effect of a look at all waits.
+    pub(crate) fn settle_waits(
+        &mut self,
+        alloc: Global,
+        waits: &[Wait],
+        slots: u32,
+        place: u64,
+    ) -> Result<Told, NoMemory>
+        ensures ok { IfOk result (λ said. SettlesWaits self.old waits.now slots place said self.new) }
+        ensures err { OnErr result (self.new ≡ self.old) }
+    {
+        cycle_refused(alloc, &mut self.marks, waits, slots, place)
+    }
+}
