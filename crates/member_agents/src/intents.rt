@@ -1,0 +1,60 @@
+//! What a seat wants of its next event.
+
+use member_intents::Intent;
+use member_marks::Marks;
+use member_resources::Resources;
+use member_state::{MemberState, SeatState, Standing, closing_intent, test_intent};
+
+/// The bytes of a Commit record.
+const COMMIT_BYTES: u32 = 22;
+
+fn commit_intent(marks: &Marks, slot: u8) -> Intent {
+    if marks.log_room() < COMMIT_BYTES || marks.must_append() {
+        Intent::Append
+    } else {
+        Intent::Commit { slot }
+    }
+}
+
+fn release_intent(marks: &Marks, slot: u8) -> Intent {
+    match marks.releasing(slot) {
+        Some(_) => Intent::ReleaseLock { slot },
+        None => Intent::End { slot },
+    }
+}
+
+fn writes_intent(resources: &Resources, slot: u8) -> Intent {
+    match closing_intent(resources, slot) {
+        Some(intent) => intent,
+        None => release_intent(resources.marks(), slot),
+    }
+}
+
+fn intent_at(state: &SeatState, slot: u8, resources: &Resources) -> Intent {
+    match state {
+        SeatState::Lock { negotiation } => negotiation.intent(),
+        SeatState::Post { holder, flag, .. } => Intent::Wait {
+            slot,
+            holder: *holder,
+            flag: *flag,
+        },
+        SeatState::Unwait => Intent::Unwait { slot },
+        SeatState::Read { frame } => test_intent(resources.marks(), *frame, 0, None),
+        SeatState::Raise { flag } => Intent::Raise { flag: *flag },
+        SeatState::Flag { flag } => Intent::Flag { flag: *flag },
+        SeatState::CommitDraw => commit_intent(resources.marks(), slot),
+        SeatState::Force => Intent::Append,
+        SeatState::Writes => writes_intent(resources, slot),
+        SeatState::Release => release_intent(resources.marks(), slot),
+        _ => Intent::Step,
+    }
+}
+
+/// What the seat wants: nothing of the outside where its wait has ended, or where it takes a transaction.
+pub fn seat_intent(state: &MemberState, slot: u8, resources: &Resources) -> Intent {
+    if state.standing(slot as u64) == Standing::Ready {
+        intent_at(&state.seat_state(slot), slot, resources)
+    } else {
+        Intent::Step
+    }
+}
