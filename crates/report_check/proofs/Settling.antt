@@ -15,7 +15,7 @@ use Rattle.ds_model.specs.History.{played, is_committed, after_fate, FateIsLegal
 use Rattle.ds_model.specs.Told.{told_of, entry_of}
 use Rattle.report_check.specs.Numbered.{put_by, sorted_by}
 use Rattle.report_check.specs.Order.{front_of, AreOthers}
-use Rattle.report_check.specs.Laws.{EachStandsOnce, settled_fate, settled, TellsSoundHistory}
+use Rattle.report_check.specs.Laws.{EachStandsOnce, settled_fate, settled, TellsSoundHistory, TellsSoundAlone}
 use Rattle.report_check.proofs.Ordered.{in_order_yes, in_order_needs}
 
 -- ---- the order by numbers moves items alone
@@ -110,4 +110,15 @@ tells_history script opening entries logs had s = record {
   };
   told = all_told script opening entries;
   rows = same_replay opening entries ∙ s.ends.rows;
+}
+
+pub tells_alone : TellsSoundAlone
+tells_alone script opening entries s = record {
+  sound = record {
+    each_once = subst (λ (l : List Placed). IsPermutation l (placed script)) (sym (same_played opening entries)) (subst (IsPermutation (map played entries)) s.each_once (order_moves (λ (p : Placed). p.1.number) (map played entries)));
+    order = same_order opening entries s.order;
+    legal = all_legal opening entries s.legal;
+  };
+  told = all_told script opening entries;
+  rows = same_replay opening entries;
 }

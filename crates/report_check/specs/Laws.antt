@@ -14,7 +14,7 @@ use Rattle.ds_model.specs.History.{played, after_fate, replay}
 use Rattle.ds_model.specs.Logs.{rows_of_logs}
 use Rattle.ds_model.specs.Told.{entry_of}
 use Rattle.ds_model.specs.Sound.{IsSoundHistory}
-use Rattle.report_check.specs.Reports.{IsSoundReport}
+use Rattle.report_check.specs.Reports.{IsSoundReport, IsSoundAlone}
 
 -- each transaction of the script stands once, and no other
 abbrev pub EachStandsOnce : Type 0
@@ -39,3 +39,12 @@ pub record TellsHistory (script : Script) (opening : Rows) (entries : List Entry
 
 abbrev pub TellsSoundHistory : Type 0
 TellsSoundHistory = (script : Script) (opening : Rows) (entries : List Entry) (logs : List (List LogRecord)) (had : List ℕ) → IsSoundReport script opening entries logs had → TellsHistory script opening entries logs
+
+-- what is printed tells a sound history, of which one thread makes the rows that it makes of what is printed
+pub record TellsAlone (script : Script) (opening : Rows) (entries : List Entry) : Type 0 where
+  pub sound : IsSoundHistory script opening (settled opening entries)
+  pub told : map (entry_of script) (settled opening entries) ≡ map (entry_of script) entries
+  pub rows : replay opening (settled opening entries) ≡ replay opening entries
+
+abbrev pub TellsSoundAlone : Type 0
+TellsSoundAlone = (script : Script) (opening : Rows) (entries : List Entry) → IsSoundAlone script opening entries → TellsAlone script opening entries

@@ -57,3 +57,10 @@ pub record IsSoundReport (script : Script) (opening : Rows) (entries : List Entr
   pub logged : AreLogged logs (new_commits had logs) opening entries
   pub aborts_fit : AllByRecursion AbortFits entries
   pub ends : EndsInRows opening entries logs
+
+-- what of a sound report needs no logs
+pub record IsSoundAlone (script : Script) (opening : Rows) (entries : List Entry) : Type 0 where
+  pub each_once : by_number (map played entries) ≡ placed script
+  pub order : IsInOrder entries
+  pub aborts_fit : AllByRecursion AbortFits entries
+  pub legal : ArePrintsLegal opening entries

@@ -19,4 +19,4 @@ mod tests;
 
 pub use laws::soundness_laws;
 pub use rows::rows_of;
-pub use sound::is_sound;
+pub use sound::{is_sound, sound_rows};

@@ -1,11 +1,12 @@
 //! Whether a report is sound.
 
 ghost use Rattle.std.specs.Prelude.{◌≡◌, IfOk, Decides};
-ghost use Rattle.ds_model.specs.Rows.{AreSorted, map_of};
+ghost use Rattle.std.specs.Option.{SomeIff};
+ghost use Rattle.ds_model.specs.Rows.{AreSorted, map_of, listed};
 ghost use Rattle.ds_model.specs.History as model;
 ghost use Rattle.ds_model.specs.Logs.{rows_of_logs};
 ghost use Rattle.report_check.specs.Records.{records_of};
-ghost use Rattle.report_check.specs.Reports.{IsSoundReport, EndsInRows};
+ghost use Rattle.report_check.specs.Reports.{IsSoundReport, IsSoundAlone, EndsInRows};
 
 use crate::abort::aborts_fit;
 use crate::logged::are_logged;
@@ -57,4 +58,23 @@ pub fn is_sound(
             && are_logged(alloc, opening, entries, logs, had)?
             && ends_in_rows(alloc, opening, entries, logs)?,
     )
+}
+
+/// The rows that one thread comes to, if the entries are sound as far as that can be told without the logs.
+pub fn sound_rows(
+    alloc: Global,
+    script: &Script,
+    opening: &RowList,
+    entries: &[Entry],
+) -> Result<Option<RowList>, NoMemory>
+    requires { AreSorted opening.now }
+    ensures { IfOk result (λ rows. SomeIff rows (IsSoundAlone script.now (map_of opening.now) entries.now) (listed (model.replay (map_of opening.now) entries.now))) }
+{
+    if !is_in_order(entries) || !aborts_fit(entries) {
+        return Ok(None);
+    }
+    if !each_once(alloc, script, entries)? {
+        return Ok(None);
+    }
+    replay_entries(alloc, opening, entries)
 }

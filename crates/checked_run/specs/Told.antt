@@ -1,0 +1,71 @@
+-- What a report promises that was held against script and logs.
+use Rattle.std.specs.Prelude.{◌≡◌, ◌≢◌, ◌⊎◌, ℕ, ◌+◌, ◌-◌, ◌^◌, ◌≤◌, min, Bool, false, List, [], Option, Some, None}
+use Rattle.std.specs.FinMap as finite
+use Rattle.ds_base.specs.Causes.{Rose}
+use Rattle.ds_disk.specs.Contents.{Contents}
+use Rattle.ds_model.specs.declared.script.Script.{Script}
+use Rattle.ds_model.specs.declared.report.Report.{Report}
+use Rattle.ds_model.specs.declared.report.Trace.{Trace}
+use Rattle.ds_model.specs.declared.history.Entry.{Entry}
+use Rattle.ds_model.specs.History.{replay}
+use Rattle.ds_model.specs.declared.log.LogRecord.{LogRecord}
+use Rattle.ds_model.specs.Logs.{StandFor, rows_of_logs}
+use Rattle.ds_model.specs.Sound.{IsSound}
+use Rattle.checked_run.specs.declared.ended.Ended.{Ended}
+use Rattle.checked_run.specs.declared.ended.Ended.TheVariants as ended
+
+-- ---- the disk
+
+-- disks of this type tell at every moment what they hold
+abbrev pub TellsAlways : {D : Type 0} → (D → Option Contents) → Type 0
+TellsAlways {D} contents = (disk : D) → contents disk ≢ None
+
+-- the count rose by two, or stands at the end of its type
+abbrev pub RoseTwice : ℕ → ℕ → Type 0
+RoseTwice before now = min (before + 2) (2 ^ 64 - 1) ≤ now
+
+-- the disk tells what it holds, and its logs stand for the rows of the history
+abbrev pub LogsStandFor : Option Contents → List Entry → Type 0
+LogsStandFor None history = ⊥
+LogsStandFor (Some d) history = StandFor d.logs (replay finite.empty history)
+
+-- What a disk that tells holds behind a report of this status. Where two calls have failed, the logs may not have been read
+-- back: one of the run, after which the disk may be dead, and one of the reading; or two of the reading, which is done again
+-- where the run had none.
+pub record DiskStandsFor (tells : Type 0) (status before now : ℕ) (after : Option Contents) (history : List Entry) : Type 0 where
+  pub whole : tells → status ≡ 0 → LogsStandFor after history
+  pub failed : tells → (RoseTwice before now → ⊥) → LogsStandFor after history
+
+-- ---- the report
+
+abbrev pub no_trace : Trace
+no_trace = record { causes = []; events = [] }
+
+-- over how often the disk had failed before the run and has failed now, and what it tells now that it holds
+pub record IsTold (tells : Type 0) (script : Script) (traced : Bool) (before now : ℕ) (after : Option Contents) (report : Report) : Type 0 where
+  pub status : (report.status ≡ 0) ⊎ (report.status ≡ 5)
+  pub cause : report.status ≡ 5 → Rose before now
+  pub untraced : traced ≡ false → report.trace ≡ no_trace
+  pub sound : IsSound script finite.empty report (DiskStandsFor tells report.status before now after)
+
+abbrev pub IfTold : Ended → (Report → Type 0) → Type 0
+IfTold (ended.Told report) P = P report
+IfTold (ended.Damaged volume at) P = Unit {0}
+IfTold (ended.Unsound event) P = Unit {0}
+IfTold ended.NoMemory P = Unit {0}
+
+-- ---- on the way there
+
+-- a sound report with this trace and status, and this holds of its history
+pub record Reports (script : Script) (trace : Trace) (status : ℕ) (report : Report) (Stands : List Entry → Type 0) : Type 0 where
+  pub trace_is : report.trace ≡ trace
+  pub status_is : report.status ≡ status
+  pub sound : IsSound script finite.empty report Stands
+
+-- held against logs with these records
+abbrev pub IsHeld : Script → List (List LogRecord) → Trace → ℕ → Report → Type 0
+IsHeld script logs trace status report = Reports script trace status report (λ history. rows_of_logs logs ≡ replay finite.empty history)
+
+-- held against the script alone
+abbrev pub IsAlone : Script → Trace → ℕ → Report → Type 0
+IsAlone script trace status report = Reports script trace status report (λ history. Unit {0})

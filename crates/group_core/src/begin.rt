@@ -1,0 +1,44 @@
+//! The begin of a phase.
+
+ghost use Rattle.std.specs.Prelude.{◌≡◌, length};
+
+use crate::crew::Crew;
+use crate::part::MemberPart;
+use crate::phase::{raisers_of, trans_of};
+use cache_structure::CacheFace;
+use ds_base::{NoMemory, TranId};
+use ds_model::Phase;
+use member_resources::Policy;
+use std::alloc::Global;
+
+// Gives each member its part of a phase.
+fn begin_in_all<P: Policy>(
+    alloc: Global,
+    parts: &mut [MemberPart<P>],
+    phase: &Phase,
+    raisers: &[Option<TranId>],
+) -> Result<(), NoMemory> {
+    for part in parts {
+        let trans = trans_of(alloc, phase, part.id)?;
+        part.begin_phase(alloc, trans, raisers)?;
+    }
+    Ok(())
+}
+
+impl<C: CacheFace, P: Policy> Crew<C, P> {
+    /// The next phase begins. Answers whether the bells could ring.
+    pub fn begin_phase(&mut self, alloc: Global) -> Result<bool, NoMemory> {
+        let Some(phase) = self.script.phases.as_slice().get(self.begun) else {
+            return Ok(true);
+        };
+        if !self.facility.lists.can_ring() {
+            return Ok(false);
+        }
+        let raisers = raisers_of(phase);
+        self.facility.begin_phase(&raisers);
+        begin_in_all(alloc, &mut self.parts, phase, &raisers)?;
+        self.begun += 1;
+        self.make_all_stale();
+        Ok(true)
+    }
+}

@@ -1,0 +1,37 @@
+ghost use Rattle.std.specs.Prelude.{◌≡◌};
+
+use crate::crew::Crew;
+use crate::fault::RunFault;
+use trace_words::Line;
+
+/// A group that plays a script.
+#[derive(Drop)]
+pub struct Group<D, C, P> {
+    pub disk: D,
+    pub(crate) crew: Crew<C, P>,
+    pub(crate) journal: Vec<u64>,
+    /// Kept where a trace is wanted.
+    pub(crate) lines: Option<Vec<Line>>,
+    pub(crate) fault: Option<RunFault>,
+}
+
+impl<D, C, P> Group<D, C, P> {
+    /// The numbers of the events so far.
+    pub fn journal(&self) -> &[u64]
+        ensures { result.now ≡ self.now.journal.items }
+    {
+        &self.journal
+    }
+
+    /// Why the run has ended before its script.
+    pub fn fault(&self) -> Option<RunFault>
+        ensures { result ≡ self.now.fault }
+    {
+        self.fault
+    }
+
+    /// Whether the run has ended: the script is played, or there is a fault.
+    pub fn is_over(&self) -> bool {
+        self.fault.is_some() || self.crew.is_played()
+    }
+}

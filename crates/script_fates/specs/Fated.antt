@@ -1,0 +1,50 @@
+-- Fates as callers see them.
+use Rattle.std.specs.Prelude.{◌≡◌, ℕ, ◌≤◌, ◌⊎◌, Bool, true, false, List, [], ◌∷◌, ◌++◌, Option, Some, None, slice_index_or}
+use Rattle.std.specs.List.{AllByRecursion}
+use Rattle.ds_model.specs.declared.fate.Fate.{Fate}
+use Rattle.ds_model.specs.declared.fate.Fate.TheVariants as fate
+use Rattle.ds_model.specs.declared.fate.Refusal.{Refusal}
+use Rattle.ds_model.specs.declared.history.Entry.{Entry}
+use Rattle.tran_history.specs.Histories.{has_number}
+use Rattle.script_fates.specs.declared.fates.Cause.{Cause}
+
+-- the transactions with a fate, in the order of their fates, and the causes of the refused ones
+pub record FatesState : Type 0 where
+  pub entries : List Entry
+  pub causes : List Cause
+
+abbrev pub no_fates : FatesState
+no_fates = record { entries = []; causes = [] }
+
+abbrev pub is_there : {X : Type 0} → Option X → Bool
+is_there {X} None = false
+is_there {X} (Some x) = true
+
+-- whether something stands at this place
+abbrev pub waits_at : {X : Type 0} → List (Option X) → ℕ → Bool
+waits_at {X} waiting i = is_there (slice_index_or waiting i None)
+
+abbrev pub is_marked : List Bool → ℕ → Bool
+is_marked marks i = slice_index_or marks i false
+
+-- a transaction of this number, which had none, has this fate now
+abbrev pub Adds : List Entry → ℕ → Fate → List Entry → Type 0
+Adds old number its new = (1 ≤ number) × (has_number old number ≡ false) × ((e : Entry) × (e.tran.number ≡ number) × (e.fate ≡ its) × (new ≡ old ++ e ∷ []))
+
+-- it was so; or nothing changed
+abbrev pub Ends : FatesState → ℕ → Fate → Bool → FatesState → Type 0
+Ends old number its true new = Adds old.entries number its new.entries × (new.causes ≡ old.causes)
+Ends old number its false new = new ≡ old
+
+abbrev pub Fixes : FatesState → ℕ → Fate → FatesState → Type 0
+Fixes old number its new = (new ≡ old) ⊎ (Adds old.entries number its new.entries × (new.causes ≡ old.causes))
+
+-- and its cause stands last, if there was room
+abbrev pub Refuses : FatesState → ℕ → Refusal → ℕ → FatesState → Type 0
+Refuses old number why place new =
+    (new ≡ old) ⊎ (Adds old.entries number (fate.Refused why) new.entries
+    × ((new.causes ≡ old.causes) ⊎ (new.causes ≡ old.causes ++ record { number = number; place = place } ∷ [])))
+
+-- stopped transactions stand behind the others
+abbrev pub Stops : FatesState → FatesState → Type 0
+Stops old new = ((more : List Entry) × AllByRecursion (λ (e : Entry). e.fate ≡ fate.Stopped) more × (new.entries ≡ old.entries ++ more)) × (new.causes ≡ old.causes)

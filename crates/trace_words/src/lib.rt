@@ -1,0 +1,8 @@
+//! The lines of a trace: each event with the words of what was sent and of the reply.
+#![tactic(auto)]
+
+mod line;
+mod words;
+
+pub use line::{Line, line_of};
+pub use words::{answered_word, sent_word};
