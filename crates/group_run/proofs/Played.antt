@@ -1,37 +1,34 @@
 -- A script that was ready and has run was played.
-use Rattle.std.proofs.Common.{◌≡◌, ℕ, ◌≤◌, Bool, true, false, cond, nat_eq, List, Option, Some, None, refl, sym, ap, subst, ◌∙◌, arith}
+use Rattle.std.proofs.Common.{◌≡◌, ◌⊎◌, inl, inr, Result, Ok, Err, IfOk, ℕ, ◌≤◌, Bool, true, false, cond, nat_eq, List, Option, Some, None, refl, sym, ap, subst, ◌∙◌, arith}
 use Rattle.std.specs.Io.KnownBytes.{Consumes, IsAtEnd}
 use Rattle.ds_base.specs.Causes.{Rose}
+use Rattle.ds_base.specs.declared.names.Sizes.{Sizes}
+use Rattle.ds_base.specs.declared.fault.NoMemory.{NoMemory}
 use Rattle.ds_disk.specs.Contents.{Contents, WhenTold, Becomes}
 use Rattle.ds_model.specs.declared.script.Script.{Script}
 use Rattle.ds_model.specs.declared.report.Report.{Report}
-use Rattle.serial_run.specs.Ran.{HasOps, IsNew, BeginsNew}
-use Rattle.group_words.specs.Orders.{AreSizes}
-use Rattle.group_run.specs.declared.status.Status.{Status}
-use Rattle.group_run.specs.declared.status.Status.TheVariants as status
-use Rattle.group_run.specs.Opening.{HasEmptyLogs, IsOpening}
-use Rattle.group_run.specs.Outside.{Outside}
-use Rattle.group_run.specs.Reports.{HasRun, empty_report}
-use Rattle.group_run.specs.Played.{IsRead, IsPlayed, IsHalted, IsShown}
-use Rattle.ds_base.specs.declared.names.Sizes.{Sizes}
-use Rattle.group_run.specs.Prepares.{IsOpened, IsReady, IsPrepared}
-use Rattle.group_run.specs.declared.prepare.Prepared.TheVariants as prepared
-use Rattle.group_words.specs.declared.order.Order.{Order}
-use Rattle.group_words.specs.declared.order.Order.TheVariants as order
-use Rattle.ds_model.specs.Serial.{IsSerial, IsCounted}
-use Rattle.group_run.proofs.Counted.{counted, has_ops}
-use Rattle.group_run.specs.Ends.{MetBy, text_for, RanByPlay, RanBy, Tells, TellsReport, RunsTo, run_text, met_by}
-use Rattle.group_run.specs.Statuses.{short_text}
+use Rattle.ds_model.specs.declared.history.Entry.{Entry}
 use Rattle.ds_model.specs.ScriptText.{script_text}
 use Rattle.ds_model.specs.ReportText.{report_text}
 use Rattle.work_maker.specs.Made.{made}
+use Rattle.checked_run.specs.Told.{IsTold, IfTold, RoseTwice, DiskStandsFor}
+use Rattle.checked_run.specs.declared.ended.Ended.{Ended}
+use Rattle.checked_run.specs.declared.ended.Ended.TheVariants as ending
+use Rattle.group_words.specs.Orders.{AreSizes}
+use Rattle.group_words.specs.declared.order.Order.{Order}
+use Rattle.group_words.specs.declared.order.Order.TheVariants as order
+use Rattle.group_run.specs.declared.status.Status.{Status}
+use Rattle.group_run.specs.declared.status.Status.TheVariants as status
+use Rattle.group_run.specs.declared.prepare.Setting.{Setting}
+use Rattle.group_run.specs.declared.prepare.Prepared.TheVariants as prepared
+use Rattle.group_run.specs.Opening.{HasEmptyLogs, IsOpening}
+use Rattle.group_run.specs.Outside.{Outside}
+use Rattle.group_run.specs.Reports.{empty_report}
+use Rattle.group_run.specs.Statuses.{short_text}
+use Rattle.group_run.specs.Played.{IsRead, IsBegun, IsPlayed, IsHalted, IsShown}
+use Rattle.group_run.specs.Prepares.{IsOpened, IsReady, IsPrepared, setting_of}
+use Rattle.group_run.specs.Ends.{MetBy, text_for, RanByPlay, RanBy, Tells, TellsReport, EndedIsTold, RunsTo, RunIsTold, run_text, met_by}
 use Rattle.group_run.proofs.Opened.{opening_same}
-
--- a disk that was never written has been opened as it was
-begins_later : (a b : Option Contents) → Becomes a b IsOpening → BeginsNew a → BeginsNew b
-begins_later None b p new = absurd new
-begins_later (Some x) None p new = absurd p
-begins_later (Some x) (Some y) p new = subst IsNew (sym p.0) new
 
 began_empty : (a b : Option Contents) → Becomes a b IsOpening → WhenTold a HasEmptyLogs
 began_empty None b p = tt
@@ -41,6 +38,9 @@ began_empty (Some x) (Some y) p = p.1
 earlier : (a b c : ℕ) → a ≤ b → Rose b c → Rose a c
 earlier a b c le rose = omega arith
 
+earlier_twice : (a b c : ℕ) → a ≤ b → RoseTwice b c → RoseTwice a c
+earlier_twice a b c le rose = omega arith
+
 same_script : (members : ℕ) (before mid after : Outside) (script : Script) → mid.left ≡ after.left → IsRead members before mid script → IsRead members before after script
 same_script members before mid after script same read = record {
   bytes = read.bytes;
@@ -49,107 +49,100 @@ same_script members before mid after script same read = record {
   spelled = read.spelled;
 }
 
-pub is_played : (sizes : Sizes) (before mid after : Outside) (script : Script) (report : Report)
-    → IsReady sizes.members before mid script → mid.left ≡ after.left → before.disk_faults ≤ mid.disk_faults
-    → HasRun sizes script report after.alive mid.contents after.contents mid.disk_faults after.disk_faults
-    → IsPlayed sizes before after report
-is_played sizes before mid after script report ready same le has =
-    record {
-      script = script;
-      read = same_script sizes.members before mid after script same ready.read;
-      serial = ready.serial;
-      empty = began_empty before.contents mid.contents ready.opened.opening;
-      ran = has.ran;
-      run = λ new. has.run (begins_later before.contents mid.contents ready.opened.opening new);
-      reports = has.reports;
-      sound = λ new. has.sound (begins_later before.contents mid.contents ready.opened.opening new);
-      cause = λ e. earlier before.disk_faults mid.disk_faults after.disk_faults le (has.cause e);
-    }
-
-pub is_halted : (members : ℕ) (before mid after : Outside) (script : Script)
-    → IsReady members before mid script → mid.left ≡ after.left → (BeginsNew mid.contents → ⊥) → IsHalted members before after
-is_halted members before mid after script ready same used = record {
-  script = script;
+is_begun : (members : ℕ) (before mid after : Outside) (script : Script) → IsReady members before mid script → mid.left ≡ after.left → IsBegun members before after script
+is_begun members before mid after script ready same = record {
   read = same_script members before mid after script same ready.read;
-  serial = ready.serial;
+  steady = ready.steady;
   empty = began_empty before.contents mid.contents ready.opened.opening;
-  used = λ new. used (begins_later before.contents mid.contents ready.opened.opening new);
 }
 
-pub is_shown : (before after : Outside) (report : Report) → IsOpened before after → report ≡ empty_report 0 → IsShown before after report
+stands_earlier : (tells : Type 0) (n a b c : ℕ) (after : Option Contents) (history : List Entry) → a ≤ b → DiskStandsFor tells n b c after history → DiskStandsFor tells n a c after history
+stands_earlier tells n a b c after history le it = record {
+  whole = it.whole;
+  failed = λ t not. it.failed t (λ twice. not (earlier_twice a b c le twice));
+}
+
+-- what is told from a later moment on is told from an earlier one on
+told_earlier : (tells : Type 0) (script : Script) (traced : Bool) (a b c : ℕ) (after : Option Contents) (report : Report) → a ≤ b → IsTold tells script traced b c after report → IsTold tells script traced a c after report
+told_earlier tells script traced a b c after report le it = record {
+  status = it.status;
+  cause = λ e. earlier a b c le (it.cause e);
+  untraced = it.untraced;
+  sound = record {
+    history = it.sound.history;
+    sound = it.sound.sound;
+    tells = it.sound.tells;
+    stands = stands_earlier tells report.status a b c after it.sound.history le it.sound.stands;
+  };
+}
+
+is_played : (tells : Type 0) (members : ℕ) (traced : Bool) (before mid after : Outside) (script : Script) (report : Report)
+    → IsReady members before mid script → mid.left ≡ after.left → before.disk_faults ≤ mid.disk_faults
+    → IsTold tells script traced mid.disk_faults after.disk_faults after.contents report
+    → IsPlayed tells members traced before after report
+is_played tells members traced before mid after script report ready same le told = record {
+  script = script;
+  begun = is_begun members before mid after script ready same;
+  told = told_earlier tells script traced before.disk_faults mid.disk_faults after.disk_faults after.contents report le told;
+}
+
+is_halted : (members : ℕ) (before mid after : Outside) (script : Script) → IsReady members before mid script → mid.left ≡ after.left → IsHalted members before after
+is_halted members before mid after script ready same = record { script = script; begun = is_begun members before mid after script ready same }
+
+is_shown : (before after : Outside) (report : Report) → IsOpened before after → report ≡ empty_report 0 → IsShown before after report
 is_shown before after report opened is = record {
   empty = began_empty before.contents after.contents opened.opening;
   same = opening_same before.contents after.contents opened.opening;
   report_is = is;
 }
 
-met_failed : (n : ℕ) → n ≡ 5 → cond (nat_eq n 5) status.DiskFailed status.Done ≡ status.DiskFailed
-met_failed n e = ap (λ m. cond (nat_eq m 5) status.DiskFailed status.Done) e
+-- ---- by the status
 
-met_done : (n : ℕ) → n ≡ 0 → cond (nat_eq n 5) status.DiskFailed status.Done ≡ status.Done
-met_done n e = ap (λ m. cond (nat_eq m 5) status.DiskFailed status.Done) e
+five : (n : ℕ) → (n ≡ 0) ⊎ (n ≡ 5) → cond (nat_eq n 5) status.DiskFailed status.Done ≡ status.DiskFailed → n ≡ 5
+five n (inl z) e = let f : status.Done ≡ status.DiskFailed = sym (ap (λ m. cond (nat_eq m 5) status.DiskFailed status.Done) z) ∙ e in cc
+five n (inr z) e = z
 
-by_failure : (sizes : Sizes) (before after : Outside) (report : Report) (failed : Bool) → IsPlayed sizes before after report
-    → report.status ≡ cond failed 5 0 → (failed ≡ true → Rose before.disk_faults after.disk_faults) → RanByPlay sizes (met_by report) before after report
-by_failure sizes before after report true played e rose = subst (λ m. RanByPlay sizes m before after report) (sym (met_failed report.status e)) (played, e, rose refl)
-by_failure sizes before after report false played e rose = subst (λ m. RanByPlay sizes m before after report) (sym (met_done report.status e)) (played, e)
+zero_of : (n : ℕ) → (n ≡ 0) ⊎ (n ≡ 5) → cond (nat_eq n 5) status.DiskFailed status.Done ≡ status.Done → n ≡ 0
+zero_of n (inl z) e = z
+zero_of n (inr z) e = let f : status.DiskFailed ≡ status.Done = sym (ap (λ m. cond (nat_eq m 5) status.DiskFailed status.Done) z) ∙ e in cc
 
-pub has_ran : (sizes : Sizes) (before after : Outside) (report : Report) → IsPlayed sizes before after report → RanByPlay sizes (met_by report) before after report
-has_ran sizes before after report played = by_failure sizes before after report played.ran.failed played played.reports.status played.cause
+ran_to : (tells : Type 0) (members : ℕ) (traced : Bool) (met : Status) (before mid after : Outside) (script : Script) (report : Report)
+    → IsReady members before mid script → mid.left ≡ after.left → before.disk_faults ≤ mid.disk_faults
+    → RunsTo tells script traced met report mid.disk_faults after.disk_faults after.contents
+    → RanByPlay tells members traced met before after report
+ran_to tells members traced status.Done before mid after script report ready same le run =
+    (is_played tells members traced before mid after script report ready same le run.0, zero_of report.status run.0.status run.1)
+ran_to tells members traced status.WordsRefused before mid after script report ready same le run = run
+ran_to tells members traced (status.ScriptRefused fault) before mid after script report ready same le run = run
+ran_to tells members traced status.SourceFailed before mid after script report ready same le run = run
+ran_to tells members traced status.SinkFailed before mid after script report ready same le run = run
+ran_to tells members traced status.DiskFailed before mid after script report ready same le run =
+    let is : report.status ≡ 5 = five report.status run.0.status run.1 in
+    (is_played tells members traced before mid after script report ready same le run.0, is, earlier before.disk_faults mid.disk_faults after.disk_faults le (run.0.cause is))
+ran_to tells members traced status.NoMemory before mid after script report ready same le run = run
+ran_to tells members traced (status.Damaged volume at) before mid after script report ready same le run = (is_halted members before mid after script ready same, run)
+ran_to tells members traced status.NotYet before mid after script report ready same le run = run
+ran_to tells members traced (status.SelfCheckFailed event) before mid after script report ready same le run = (is_halted members before mid after script ready same, run)
 
 -- ---- by what the words order
 
-pub counted_by : (o : Option Order) (script : Script) (given : Sizes) (before after : Outside) → IsPrepared o (prepared.Play script given) before after → IsCounted script
-counted_by None script given before after h = let f : prepared.Play script given ≡ prepared.Ended status.WordsRefused = h in cc
-counted_by (Some (order.Play sizes seed trace)) script given before after h = counted sizes.members script h.0.read.spelled.has_rules
-counted_by (Some order.Show) script given before after h = absurd h
-counted_by (Some (order.Make n)) script given before after h = let f : prepared.Play script given ≡ prepared.Make n = h in cc
-counted_by (Some (order.Work n sizes)) script given before after h = let f : prepared.Play script given ≡ prepared.Ended status.NotYet = h in cc
-
-pub serial_by : (o : Option Order) (script : Script) (given : Sizes) (before after : Outside) → IsPrepared o (prepared.Play script given) before after → IsSerial script
-serial_by None script given before after h = let f : prepared.Play script given ≡ prepared.Ended status.WordsRefused = h in cc
-serial_by (Some (order.Play sizes seed trace)) script given before after h = h.0.serial
-serial_by (Some order.Show) script given before after h = absurd h
-serial_by (Some (order.Make n)) script given before after h = let f : prepared.Play script given ≡ prepared.Make n = h in cc
-serial_by (Some (order.Work n sizes)) script given before after h = let f : prepared.Play script given ≡ prepared.Ended status.NotYet = h in cc
-
-pub ops_by : (o : Option Order) (script : Script) (given : Sizes) (before after : Outside) → IsPrepared o (prepared.Play script given) before after → HasOps script
-ops_by None script given before after h = let f : prepared.Play script given ≡ prepared.Ended status.WordsRefused = h in cc
-ops_by (Some (order.Play sizes seed trace)) script given before after h = has_ops sizes.members script h.0.read.spelled.has_rules
-ops_by (Some order.Show) script given before after h = absurd h
-ops_by (Some (order.Make n)) script given before after h = let f : prepared.Play script given ≡ prepared.Make n = h in cc
-ops_by (Some (order.Work n sizes)) script given before after h = let f : prepared.Play script given ≡ prepared.Ended status.NotYet = h in cc
-
-pub sizes_by : (o : Option Order) (script : Script) (given : Sizes) (before after : Outside) → IsPrepared o (prepared.Play script given) before after → AreSizes given
+pub sizes_by : (o : Option Order) (script : Script) (given : Setting) (before after : Outside) → IsPrepared o (prepared.Play script given) before after → AreSizes given.sizes
 sizes_by None script given before after h = let f : prepared.Play script given ≡ prepared.Ended status.WordsRefused = h in cc
-sizes_by (Some (order.Play sizes seed trace)) script given before after h = subst AreSizes (sym h.1) h.2
+sizes_by (Some (order.Play sizes seed trace)) script given before after h = subst (λ (s : Setting). AreSizes s.sizes) (sym h.1) h.2
 sizes_by (Some order.Show) script given before after h = absurd h
 sizes_by (Some (order.Make n)) script given before after h = let f : prepared.Play script given ≡ prepared.Make n = h in cc
 sizes_by (Some (order.Work n sizes)) script given before after h = let f : prepared.Play script given ≡ prepared.Ended status.NotYet = h in cc
 
-ran_to : (sizes : Sizes) (met : Status) (before mid after : Outside) (script : Script) (report : Report)
-    → IsReady sizes.members before mid script → mid.left ≡ after.left → before.disk_faults ≤ mid.disk_faults
-    → RunsTo sizes script met report after.alive mid.contents after.contents mid.disk_faults after.disk_faults
-    → RanByPlay sizes met before after report
-ran_to sizes status.Done before mid after script report ready same le run = subst (λ m. RanByPlay sizes m before after report) run.1 (has_ran sizes before after report (is_played sizes before mid after script report ready same le run.0))
-ran_to sizes status.WordsRefused before mid after script report ready same le run = run
-ran_to sizes (status.ScriptRefused fault) before mid after script report ready same le run = run
-ran_to sizes status.SourceFailed before mid after script report ready same le run = run
-ran_to sizes status.SinkFailed before mid after script report ready same le run = run
-ran_to sizes status.DiskFailed before mid after script report ready same le run = subst (λ m. RanByPlay sizes m before after report) run.1 (has_ran sizes before after report (is_played sizes before mid after script report ready same le run.0))
-ran_to sizes status.NoMemory before mid after script report ready same le run = run
-ran_to sizes (status.Damaged volume at) before mid after script report ready same le run = (is_halted sizes.members before mid after script ready same run.0, run.1)
-ran_to sizes status.NotYet before mid after script report ready same le run = run
-
-pub ran_by : (o : Option Order) (met : Status) (before mid after : Outside) (script : Script) (given : Sizes) (report : Report)
+pub ran_by : (tells : Type 0) (o : Option Order) (met : Status) (before mid after : Outside) (script : Script) (given : Setting) (report : Report)
     → IsPrepared o (prepared.Play script given) before mid → mid.left ≡ after.left → before.disk_faults ≤ mid.disk_faults
-    → RunsTo given script met report after.alive mid.contents after.contents mid.disk_faults after.disk_faults
-    → RanBy o met before after report
-ran_by None met before mid after script given report h same le run = let f : prepared.Play script given ≡ prepared.Ended status.WordsRefused = h in cc
-ran_by (Some (order.Play sizes seed trace)) met before mid after script given report h same le run = ran_to sizes met before mid after script report h.0 same le (subst (λ (l : Sizes). RunsTo l script met report after.alive mid.contents after.contents mid.disk_faults after.disk_faults) h.1 run)
-ran_by (Some order.Show) met before mid after script given report h same le run = absurd h
-ran_by (Some (order.Make n)) met before mid after script given report h same le run = let f : prepared.Play script given ≡ prepared.Make n = h in cc
-ran_by (Some (order.Work n sizes)) met before mid after script given report h same le run = let f : prepared.Play script given ≡ prepared.Ended status.NotYet = h in cc
+    → RunsTo tells script given.trace met report mid.disk_faults after.disk_faults after.contents
+    → RanBy tells o met before after report
+ran_by tells None met before mid after script given report h same le run = let f : prepared.Play script given ≡ prepared.Ended status.WordsRefused = h in cc
+ran_by tells (Some (order.Play sizes seed trace)) met before mid after script given report h same le run =
+    ran_to tells sizes.members trace met before mid after script report h.0 same le (subst (λ (s : Setting). RunsTo tells script s.trace met report mid.disk_faults after.disk_faults after.contents) h.1 run)
+ran_by tells (Some order.Show) met before mid after script given report h same le run = absurd h
+ran_by tells (Some (order.Make n)) met before mid after script given report h same le run = let f : prepared.Play script given ≡ prepared.Make n = h in cc
+ran_by tells (Some (order.Work n sizes)) met before mid after script given report h same le run = let f : prepared.Play script given ≡ prepared.Ended status.NotYet = h in cc
 
 text_when : (b : Bool) (report : Report) → run_text (cond b status.DiskFailed status.Done) report ≡ report_text report
 text_when true report = refl
@@ -162,12 +155,12 @@ tells_run report ended taken taken_now f g told = subst (λ (text : List ℕ). T
 met_shown : (report : Report) → report ≡ empty_report 0 → met_by report ≡ status.Done
 met_shown report e = ap met_by e
 
-pub shown_by : (o : Option Order) (before after : Outside) (report : Report) → IsPrepared o prepared.Show before after → report ≡ empty_report 0 → RanBy o (met_by report) before after report
-shown_by None before after report h e = let f : prepared.Show ≡ prepared.Ended status.WordsRefused = h in cc
-shown_by (Some (order.Play sizes seed trace)) before after report h e = absurd h
-shown_by (Some order.Show) before after report h e = (is_shown before after report h e, met_shown report e)
-shown_by (Some (order.Make n)) before after report h e = let f : prepared.Show ≡ prepared.Make n = h in cc
-shown_by (Some (order.Work n sizes)) before after report h e = let f : prepared.Show ≡ prepared.Ended status.NotYet = h in cc
+pub shown_by : (tells : Type 0) (o : Option Order) (before after : Outside) (report : Report) → IsPrepared o prepared.Show before after → report ≡ empty_report 0 → RanBy tells o (met_by report) before after report
+shown_by tells None before after report h e = let f : prepared.Show ≡ prepared.Ended status.WordsRefused = h in cc
+shown_by tells (Some (order.Play sizes seed trace)) before after report h e = absurd h
+shown_by tells (Some order.Show) before after report h e = (is_shown before after report h e, met_shown report e)
+shown_by tells (Some (order.Make n)) before after report h e = let f : prepared.Show ≡ prepared.Make n = h in cc
+shown_by tells (Some (order.Work n sizes)) before after report h e = let f : prepared.Show ≡ prepared.Ended status.NotYet = h in cc
 
 -- what was prepared is told by the text of its status, or as the script of a number
 pub told_as : (o : Option Order) (met : Status) (before after : Outside) → IsPrepared o (prepared.Ended met) before after → text_for o met ≡ short_text met
@@ -218,15 +211,13 @@ short_not_wanting o met ended before after text taken taken_now f g h told e =
     let other : ended ≡ status.SinkFailed → ⊥ = λ s. let same : status.NoMemory ≡ status.SinkFailed = sym e ∙ s in cc in
     meets_no_want o before after (subst (λ m. MetBy o m before after) (sym (told.whole other).0 ∙ e) h)
 
-runs_with_memory : (sizes : Sizes) (script : Script) (report : Report) (alive : Bool) (before after : Option Contents) (f g : ℕ) → RunsTo sizes script status.NoMemory report alive before after f g → ⊥
-runs_with_memory sizes script report alive before after f g h = h
-
 -- a run that is told leaves no want of memory
-pub run_not_wanting : (sizes : Sizes) (script : Script) (met ended : Status) (report : Report) (alive : Bool) (before after : Option Contents) (f g : ℕ) (text : List ℕ) (taken taken_now : Option (List ℕ)) (k l : ℕ)
-    → RunsTo sizes script met report alive before after f g → Tells met ended text taken taken_now k l → ended ≡ status.NoMemory → ⊥
-run_not_wanting sizes script met ended report alive before after f g text taken taken_now k l run told e =
+pub run_not_wanting : (tells : Type 0) (script : Script) (traced : Bool) (met ended : Status) (report : Report) (before now : ℕ) (after : Option Contents) (text : List ℕ) (taken taken_now : Option (List ℕ)) (k l : ℕ)
+    → RunsTo tells script traced met report before now after → Tells met ended text taken taken_now k l → ended ≡ status.NoMemory → ⊥
+run_not_wanting tells script traced met ended report before now after text taken taken_now k l run told e =
     let other : ended ≡ status.SinkFailed → ⊥ = λ s. let same : status.NoMemory ≡ status.SinkFailed = sym e ∙ s in cc in
-    runs_with_memory sizes script report alive before after f g (subst (λ m. RunsTo sizes script m report alive before after f g) (sym (told.whole other).0 ∙ e) run)
+    let none : RunsTo tells script traced status.NoMemory report before now after = subst (λ m. RunsTo tells script traced m report before now after) (sym (told.whole other).0 ∙ e) run in
+    none
 
 met_is : (b : Bool) → cond b status.DiskFailed status.Done ≡ status.NoMemory → ⊥
 met_is true e = cc
@@ -237,3 +228,30 @@ pub not_wanting : (report : Report) (ended : Status) (taken taken_now : Option (
 not_wanting report ended taken taken_now f g told e =
     let other : ended ≡ status.SinkFailed → ⊥ = λ s. let same : status.NoMemory ≡ status.SinkFailed = sym e ∙ s in cc in
     met_is (nat_eq report.status 5) (sym (told.whole other).0 ∙ e)
+
+runs_when : (b : Bool) (tells : Type 0) (script : Script) (traced : Bool) (report : Report) (before now : ℕ) (after : Option Contents)
+    → met_by report ≡ cond b status.DiskFailed status.Done → IsTold tells script traced before now after report → RunsTo tells script traced (cond b status.DiskFailed status.Done) report before now after
+runs_when true tells script traced report before now after e it = (it, e)
+runs_when false tells script traced report before now after e it = (it, e)
+
+-- what a run came to, and what was told of it
+pub run_told : (tells : Type 0) (script : Script) (traced : Bool) (e : Ended) (answered : Status) (report : Report) (before now : ℕ) (after : Option Contents) (taken taken_now : Option (List ℕ)) (k l : ℕ)
+    → IfTold e (IsTold tells script traced before now after) → EndedIsTold e answered report taken taken_now k l
+    → RunIsTold tells script traced answered report before now after taken taken_now k l
+run_told tells script traced (ending.Told r) answered report before now after taken taken_now k l it told =
+    let given : RunIsTold tells script traced answered r before now after taken taken_now k l = record {
+      met = met_by r;
+      runs = runs_when (nat_eq r.status 5) tells script traced r before now after refl it;
+      told = tells_run r answered taken taken_now k l told.1;
+    } in
+    subst (λ (x : Report). RunIsTold tells script traced answered x before now after taken taken_now k l) (sym told.0) given
+run_told tells script traced (ending.Damaged volume at) answered report before now after taken taken_now k l it told = record { met = status.Damaged volume at; runs = told.0; told = told.1 }
+run_told tells script traced (ending.Unsound event) answered report before now after taken taken_now k l it told = record { met = status.SelfCheckFailed event; runs = told.0; told = told.1 }
+run_told tells script traced ending.NoMemory answered report before now after taken taken_now k l it told = absurd told
+
+-- the same of an answer that may be want of memory
+pub all_told : (tells : Type 0) (script : Script) (traced : Bool) (e : Ended) (result : Result (Status × Report) NoMemory) (before now : ℕ) (after : Option Contents) (taken taken_now : Option (List ℕ)) (k l : ℕ)
+    → IfTold e (IsTold tells script traced before now after) → IfOk result (λ r. EndedIsTold e r.0 r.1 taken taken_now k l)
+    → IfOk result (λ r. RunIsTold tells script traced r.0 r.1 before now after taken taken_now k l)
+all_told tells script traced e (Ok r) before now after taken taken_now k l it told = run_told tells script traced e r.0 r.1 before now after taken taken_now k l it told
+all_told tells script traced e (Err f) before now after taken taken_now k l it told = told

@@ -2,6 +2,7 @@ pub mod Statuses
 pub mod Input
 pub mod Opening
 pub mod Outside
+pub mod Steady
 pub mod Reports
 pub mod Played
 pub mod Ends

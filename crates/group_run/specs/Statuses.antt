@@ -19,6 +19,7 @@ number_of status.DiskFailed = 5
 number_of status.NoMemory = 6
 number_of (status.Damaged v at) = 7
 number_of status.NotYet = 8
+number_of (status.SelfCheckFailed event) = 11
 
 abbrev pub kind_word : FaultKind → List ℕ
 kind_word fault.TooLong = codes "too-long"
@@ -45,6 +46,10 @@ volume_text (volume.Page id) = codes "damaged page " ++ decimal id.set ++ codes 
 abbrev pub damage_text : Volume → ℕ → List ℕ
 damage_text v at = line (volume_text v ++ codes " at " ++ decimal at)
 
+-- the event that was refused, or 0 for the report
+unfoldable pub check_text : ℕ → List ℕ
+check_text event = line (codes "self check failed at " ++ decimal event)
+
 -- the text where there is no report
 abbrev pub short_text : Status → List ℕ
 short_text status.Done = []
@@ -56,3 +61,4 @@ short_text status.DiskFailed = line (codes "disk failed")
 short_text status.NoMemory = []
 short_text (status.Damaged v at) = damage_text v at
 short_text status.NotYet = line (codes "not yet")
+short_text (status.SelfCheckFailed event) = check_text event

@@ -5,6 +5,7 @@ mod gate;
 mod input;
 mod opening;
 mod output;
+mod plays;
 mod prepare;
 mod run;
 mod status;

@@ -4,27 +4,47 @@ ghost use Rattle.ds_base.specs.Ids.{IsMember};
 ghost use Rattle.group_words.specs.Orders.{AreSizes};
 ghost use Rattle.group_run.specs.Outside.{outside};
 ghost use Rattle.group_run.specs.Ends.{ordered, ReadsNothing};
-ghost use Rattle.group_run.specs.Prepares.{OpensToPlay, IsPrepared, IsPreparedToPlay, IsPreparedToShow};
+ghost use Rattle.group_run.specs.Prepares.{setting_of, OpensToPlay, IsPrepared, IsPreparedToPlay, IsPreparedToShow};
 
 use crate::input::{ReadError, read_all};
 use crate::opening::logs_are_empty;
+use crate::plays::plays;
 use crate::status::Status;
 use ds_base::{NoMemory, Sizes, Source};
 use ds_disk::{Disk, DiskError};
 use ds_model::Script;
 use group_words::{Order, WordsFault, read_words, size_laws};
 use script_text::{ScriptError, read_script};
-use serial_run::plays;
 use std::alloc::Global;
+
+/// How a script is to be played.
+#[derive(Clone, Copy, Debug, PartialEq, Eq)]
+pub struct Setting {
+    pub sizes: Sizes,
+    /// Settles the order of the events.
+    pub seed: u64,
+    pub trace: bool,
+}
 
 /// What is ready to run, or the status that was met before.
 #[derive(Drop)]
 pub enum Prepared {
-    Play(Script, Sizes),
+    Play(Script, Setting),
     Show,
     /// The script of this number is to be written.
     Make(u64),
     Ended(Status),
+}
+
+// Without a seed it is 0.
+fn setting_of(sizes: Sizes, seed: Option<u64>, trace: bool) -> Setting
+    ensures { result ≡ setting_of sizes seed trace }
+{
+    Setting {
+        sizes,
+        seed: seed.unwrap_or(0),
+        trace,
+    }
 }
 
 // What is ready to run of these bytes, and of the logs.
@@ -32,14 +52,14 @@ fn open_to_play<D: Disk>(
     alloc: Global,
     disk: &mut D,
     bytes: &[u8],
-    sizes: Sizes,
+    setting: Setting,
 ) -> Result<Prepared, NoMemory>
-    requires { IsMember sizes.members }
-    ensures opens { IfOk result (λ p. OpensToPlay sizes p bytes.now (D.alive disk.new) (D.contents disk.old) (D.contents disk.new) (D.faults disk.old) (D.faults disk.new)) }
+    requires { IsMember setting.sizes.members }
+    ensures opens { IfOk result (λ p. OpensToPlay setting p bytes.now (D.alive disk.new) (D.contents disk.old) (D.contents disk.new) (D.faults disk.old) (D.faults disk.new)) }
     ensures same { Becomes (D.contents disk.old) (D.contents disk.new) Same }
     ensures later { D.faults disk.old ≤ D.faults disk.new }
 {
-    let script = match read_script(alloc, bytes, sizes.members) {
+    let script = match read_script(alloc, bytes, setting.sizes.members) {
         Err(ScriptError::NoMemory) => return Err(NoMemory),
         Err(ScriptError::Fault(fault)) => {
             return Ok(Prepared::Ended(Status::ScriptRefused(fault)));
@@ -53,7 +73,7 @@ fn open_to_play<D: Disk>(
         Err(DiskError::NoMemory) => Err(NoMemory),
         Err(DiskError::Failed) => Ok(Prepared::Ended(Status::DiskFailed)),
         Ok(false) => Ok(Prepared::Ended(Status::NotYet)),
-        Ok(true) => Ok(Prepared::Play(script, sizes)),
+        Ok(true) => Ok(Prepared::Play(script, setting)),
     }
 }
 
@@ -62,17 +82,17 @@ fn prepare_to_play<S: Source, D: Disk>(
     alloc: Global,
     source: &mut S,
     disk: &mut D,
-    sizes: Sizes,
+    setting: Setting,
 ) -> Result<Prepared, NoMemory>
-    requires { AreSizes sizes }
-    ensures prepared { IfOk result (λ p. IsPreparedToPlay sizes p (outside (S.left source.old) (S.faults source.old) (D.contents disk.old) (D.alive disk.old) (D.faults disk.old)) (outside (S.left source.new) (S.faults source.new) (D.contents disk.new) (D.alive disk.new) (D.faults disk.new))) }
+    requires { AreSizes setting.sizes }
+    ensures prepared { IfOk result (λ p. IsPreparedToPlay setting p (outside (S.left source.old) (S.faults source.old) (D.contents disk.old) (D.alive disk.old) (D.faults disk.old)) (outside (S.left source.new) (S.faults source.new) (D.contents disk.new) (D.alive disk.new) (D.faults disk.new))) }
     ensures same { Becomes (D.contents disk.old) (D.contents disk.new) Same }
     ensures later { D.faults disk.old ≤ D.faults disk.new }
 {
     match read_all(alloc, source) {
         Err(ReadError::NoMemory) => Err(NoMemory),
         Err(ReadError::Failed) => Ok(Prepared::Ended(Status::SourceFailed)),
-        Ok(bytes) => open_to_play(alloc, disk, &bytes, sizes),
+        Ok(bytes) => open_to_play(alloc, disk, &bytes, setting),
     }
 }
 
@@ -106,7 +126,9 @@ pub fn prepare<S: Source, D: Disk>(
     match read_words(alloc, words) {
         Err(WordsFault::NoMemory) => Err(NoMemory),
         Err(WordsFault::Refused) => Ok(Prepared::Ended(Status::WordsRefused)),
-        Ok(Order::Play { sizes, .. }) => prepare_to_play(alloc, source, disk, sizes),
+        Ok(Order::Play { sizes, seed, trace }) => {
+            prepare_to_play(alloc, source, disk, setting_of(sizes, seed, trace))
+        }
         Ok(Order::Show) => prepare_to_show(disk),
         Ok(Order::Make { n }) => Ok(Prepared::Make(n)),
         Ok(Order::Work { .. }) => Ok(Prepared::Ended(Status::NotYet)),

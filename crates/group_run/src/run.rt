@@ -1,16 +1,16 @@
-ghost use Rattle.std.specs.Prelude.{◌≡◌, ◌≤◌, true, IfOk, IfErr};
-ghost use Rattle.ds_model.specs.Serial.{IsSerial, IsCounted};
-ghost use Rattle.ds_model.specs.ReportText.{report_text};
-ghost use Rattle.group_words.specs.Orders.{AreSizes};
-ghost use Rattle.serial_run.specs.declared.fault.RunFault.TheVariants as fault;
-ghost use Rattle.serial_run.specs.Ran.{IsRunOf, HasOps, BeginsNew, limits_of};
-ghost use Rattle.group_run.specs.Reports.{Reports, HasRun, no_trace, empty_report};
+//! A run of a script by a group.
 
-use ds_base::{Bytes, NoMemory, Sequence, Sizes};
+ghost use Rattle.std.specs.Prelude.{◌≡◌, ◌≤◌};
+ghost use Rattle.checked_run.specs.Told.{no_trace, IfTold, IsTold, TellsAlways};
+ghost use Rattle.group_words.specs.Orders.{AreSizes};
+ghost use Rattle.group_run.specs.Reports.{empty_report};
+
+use crate::prepare::Setting;
+use checked_run::{Ended, Ran, run_script};
+use ds_base::{NoMemory, Sequence, Sizes};
 use ds_disk::Disk;
 use ds_model::{Report, Script, Trace};
-use report_text::write_report;
-use serial_run::{Ran, RunFault, run_script};
+use member_core::Member;
 use std::alloc::Global;
 
 fn no_trace(alloc: Global) -> Trace
@@ -34,48 +34,34 @@ pub fn empty_report(alloc: Global, status: u8) -> Report
     }
 }
 
-fn report_of(alloc: Global, ran: Ran) -> Result<Report, NoMemory>
-    ensures { IfOk result (λ report. Reports ran report) }
-{
-    let status = if ran.failed { 5 } else { 0 };
-    Ok(Report {
-        entries: ran.entries,
-        trace: no_trace(alloc),
-        rows: ran.rows.into_rows(alloc)?,
-        status,
-    })
-}
-
-// The report of a run, with its text.
-fn told(alloc: Global, ran: Ran) -> Result<(Report, Bytes), NoMemory>
-    ensures report { IfOk result (λ r. Reports ran r.0) }
-    ensures text { IfOk result (λ r. r.1 ≡ report_text r.0) }
-{
-    let report = report_of(alloc, ran)?;
-    let text = write_report(alloc, &report)?;
-    Ok((report, text))
-}
-
-/// Runs a script in a group of these sizes, and makes its report with the report's text.
-pub fn run<D: Disk>(
-    alloc: Global,
-    disk: &mut D,
-    script: Script,
-    sizes: Sizes,
-) -> Result<(Report, Bytes), RunFault>
-    requires sizes { AreSizes sizes }
-    requires serial { IsSerial script }
-    requires counted { IsCounted script }
-    requires ops { HasOps script }
-    requires alive { D.alive disk.old ≡ true }
-    ensures run { IfOk result (λ r. HasRun sizes script r.0 (D.alive disk.new) (D.contents disk.old) (D.contents disk.new) (D.faults disk.old) (D.faults disk.new)) }
-    ensures text { IfOk result (λ r. r.1 ≡ report_text r.0) }
-    ensures undamaged { IfErr result (λ why. BeginsNew (D.contents disk.old) → why ≡ fault.NoMemory) }
-    ensures later { D.faults disk.old ≤ D.faults disk.new }
-{
-    let ran = run_script(alloc, disk, script, sizes)?;
-    match told(alloc, ran) {
-        Ok(it) => Ok(it),
-        Err(NoMemory) => Err(RunFault::NoMemory),
+// The members of a group.
+fn make_members(alloc: Global, sizes: &Sizes) -> Result<Vec<Member>, NoMemory> {
+    let mut members = Vec::new(alloc);
+    for _ in 0..sizes.members {
+        members.push(Member::new(alloc, sizes)?)?;
     }
+    Ok(members)
+}
+
+/// Plays a script in a group of its own.
+pub fn run<D: Disk>(alloc: Global, disk: D, script: &Script, setting: &Setting) -> Ran<D>
+    requires { AreSizes setting.now.sizes }
+    ensures told { IfTold result.ended (IsTold (TellsAlways D.contents) script.now setting.now.trace (D.faults disk) (D.faults result.disk) (D.contents result.disk)) }
+    ensures later { D.faults disk ≤ D.faults result.disk }
+{
+    let Ok(members) = make_members(alloc, &setting.sizes) else {
+        return Ran {
+            disk,
+            ended: Ended::NoMemory,
+        };
+    };
+    run_script(
+        alloc,
+        disk,
+        script,
+        &setting.sizes,
+        members,
+        setting.seed,
+        setting.trace,
+    )
 }

@@ -1,5 +1,5 @@
 ghost use Rattle.std.specs.Prelude.{◌≡◌, ℕ, ◌++◌, OnOk, IfOk, decimal};
-ghost use Rattle.group_run.specs.Statuses.{kind_word, place_text, fault_text, volume_text, damage_text, short_text};
+ghost use Rattle.group_run.specs.Statuses.{kind_word, place_text, fault_text, volume_text, damage_text, check_text, short_text};
 
 use ds_base::{Bytes, NoMemory, Volume};
 use ds_model::{FaultKind, ScriptFault};
@@ -26,6 +26,9 @@ pub enum Status {
     Damaged { volume: Volume, at: u64 },
     /// The order, the script, or a disk with a log that isn't empty, is for a later stage.
     NotYet,
+    /// What was wanted in this event may not be done; or, where it is 0, the report isn't sound. It is a defect of the program,
+    /// or of a disk that doesn't give back what was written.
+    SelfCheckFailed { event: u64 },
 }
 
 impl Status {
@@ -45,6 +48,7 @@ impl Status {
             Status::NoMemory => 6,
             Status::Damaged { .. } => 7,
             Status::NotYet => 8,
+            Status::SelfCheckFailed { .. } => 11,
         }
     }
 }
@@ -110,10 +114,19 @@ fn put_damage(alloc: Global, out: &mut Bytes, volume: &Volume, at: u64) -> Resul
     out.extend(b"\n")
 }
 
+#[tactic(auto, unfolding(crate::specs::Statuses::check_text))]
+fn put_check(alloc: Global, out: &mut Bytes, event: u64) -> Result<(), NoMemory>
+    ensures { OnOk result (out.new ≡ out.old ++ check_text event) }
+{
+    put_number(alloc, out, b"self check failed at ", event)?;
+    out.extend(b"\n")
+}
+
 // The text of a status that is always the same.
 fn fixed_text(status: &Status) -> &'static [u8]
     requires unrefused { (f : ScriptFault) → status.now ≡ Status.ScriptRefused f → ⊥ }
     requires undamaged { (v : Volume) (at : ℕ) → status.now ≡ Status.Damaged v at → ⊥ }
+    requires checked { (event : ℕ) → status.now ≡ Status.SelfCheckFailed event → ⊥ }
     ensures { result.now ≡ short_text status.now }
 {
     match status {
@@ -125,7 +138,8 @@ fn fixed_text(status: &Status) -> &'static [u8]
         | Status::SinkFailed
         | Status::NoMemory
         | Status::ScriptRefused(_)
-        | Status::Damaged { .. } => b"",
+        | Status::Damaged { .. }
+        | Status::SelfCheckFailed { .. } => b"",
     }
 }
 
@@ -137,6 +151,7 @@ pub fn text_of(alloc: Global, status: &Status) -> Result<Bytes, NoMemory>
     match status {
         Status::ScriptRefused(fault) => put_fault(alloc, &mut out, *fault)?,
         Status::Damaged { volume, at } => put_damage(alloc, &mut out, volume, *at)?,
+        Status::SelfCheckFailed { event } => put_check(alloc, &mut out, *event)?,
         other => out.extend(fixed_text(other))?,
     }
     Ok(out)

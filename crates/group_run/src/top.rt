@@ -1,25 +1,24 @@
-ghost use Rattle.std.specs.Prelude.{◌≡◌, ◌≤◌, true, [], IfOk, OnErr};
-ghost use Rattle.group_run.specs.Outside.{outside};
-ghost use Rattle.group_run.specs.Statuses.{short_text};
-ghost use Rattle.group_run.specs.Ends.{ordered, met_by, Tells, TellsReport, RunIsTold, Ends};
-ghost use Rattle.group_words.specs.Orders.{AreSizes};
-ghost use Rattle.serial_run.specs.Ran.{HasOps};
+ghost use Rattle.std.specs.Prelude.{◌≡◌, ◌≤◌, true, false, [], IfOk, OnErr};
+ghost use Rattle.checked_run.specs.Told.{IfTold, IsTold, TellsAlways};
 ghost use Rattle.ds_model.specs.ScriptText.{script_text};
+ghost use Rattle.group_words.specs.Orders.{AreSizes};
 ghost use Rattle.work_maker.specs.Made.{made};
+ghost use Rattle.group_run.specs.Outside.{outside};
+ghost use Rattle.group_run.specs.Statuses.{short_text, number_of};
 ghost use Rattle.group_run.specs.Reports.{empty_report};
-ghost use Rattle.ds_model.specs.Serial.{IsSerial, IsCounted};
+ghost use Rattle.group_run.specs.Ends.{ordered, met_by, Tells, TellsReport, EndedIsTold, RunIsTold, Ends};
 
 use crate::gate::Gate;
 use crate::output::write_all;
-use crate::prepare::{Prepared, prepare};
+use crate::prepare::{Prepared, Setting, prepare};
 use crate::run::{empty_report, run};
 use crate::status::{Status, text_of};
-use ds_base::{NoMemory, RowList, Sequence, Sink, Sizes, Source, Volume};
+use checked_run::{Ended, Ran};
+use ds_base::{NoMemory, RowList, Sequence, Sink, Source};
 use ds_disk::Disk;
 use ds_model::{Report, Script};
 use report_text::write_report;
 use script_text::script_bytes;
-use serial_run::RunFault;
 use std::alloc::Global;
 use std::sync::Wait;
 use std::thread::Threads;
@@ -60,34 +59,29 @@ fn met_by(report: &Report) -> Status
     }
 }
 
-// Runs a script that is ready, and tells its report.
-fn run_ready<K: Sink, D: Disk>(
+// Tells what a run came to.
+fn tell_ended<K: Sink>(
     alloc: Global,
     sink: &mut K,
-    disk: &mut D,
-    script: Script,
-    sizes: Sizes,
+    ended: Ended,
 ) -> Result<(Status, Report), NoMemory>
-    requires sizes { AreSizes sizes }
-    requires serial { IsSerial script }
-    requires counted { IsCounted script }
-    requires ops { HasOps script }
-    requires alive { D.alive disk.old ≡ true }
-    ensures told { IfOk result (λ r. RunIsTold sizes script r.0 r.1 (D.alive disk.new) (D.contents disk.old) (D.contents disk.new) (D.faults disk.old) (D.faults disk.new) (K.taken sink.old) (K.taken sink.new) (K.faults sink.old) (K.faults sink.new)) }
+    ensures told { IfOk result (λ r. EndedIsTold ended r.0 r.1 (K.taken sink.old) (K.taken sink.new) (K.faults sink.old) (K.faults sink.new)) }
     ensures err { OnErr result (K.taken sink.new ≡ K.taken sink.old) }
-    ensures later { D.faults disk.old ≤ D.faults disk.new }
 {
-    match run(alloc, disk, script, sizes) {
-        Ok((report, text)) => Ok((tell(sink, met_by(&report), text.as_slice()), report)),
-        Err(RunFault::NoMemory) => Err(NoMemory),
-        Err(RunFault::Damaged { page, at }) => {
-            let met = Status::Damaged {
-                volume: Volume::Page(page),
-                at: at as u64,
-            };
-            let status = tell_short(alloc, sink, met)?;
+    match ended {
+        Ended::Told(report) => {
+            let text = write_report(alloc, &report)?;
+            Ok((tell(sink, met_by(&report), text.as_slice()), report))
+        }
+        Ended::Damaged { volume, at } => {
+            let status = tell_short(alloc, sink, Status::Damaged { volume, at })?;
             Ok((status, empty_report(alloc, 7)))
         }
+        Ended::Unsound { event } => {
+            let status = tell_short(alloc, sink, Status::SelfCheckFailed { event })?;
+            Ok((status, empty_report(alloc, 11)))
+        }
+        Ended::NoMemory => Err(NoMemory),
     }
 }
 
@@ -122,49 +116,104 @@ fn make<K: Sink>(alloc: Global, sink: &mut K, n: u64) -> Result<Status, NoMemory
     Ok(tell(sink, Status::Done, text.as_slice()))
 }
 
-// What is left where memory was wanting.
-fn wanting(alloc: Global, opened: bool) -> (Status, bool, Report)
-    ensures { result ≡ (Status.NoMemory, opened, empty_report 6) }
-{
-    (
-        Status::NoMemory,
-        opened,
-        empty_report(alloc, Status::NoMemory.number()),
-    )
+// What a call has done.
+#[derive(Drop)]
+struct Done<D> {
+    status: Status,
+    opened: bool,
+    disk: D,
+    report: Report,
 }
 
-// All that a call does, with the status, whether a run opened, and the report.
+// What is left where memory was wanting.
+fn wanting<D>(alloc: Global, opened: bool, disk: D) -> Done<D>
+    ensures { result ≡ record { status = Status.NoMemory; opened = opened; disk = disk; report = empty_report 6 } }
+{
+    Done {
+        status: Status::NoMemory,
+        opened,
+        disk,
+        report: empty_report(alloc, Status::NoMemory.number()),
+    }
+}
+
+// What a call has done that opened no run.
+fn unopened<D>(alloc: Global, disk: D, status: Status) -> Done<D>
+    ensures { result ≡ record { status = status; opened = false; disk = disk; report = empty_report (number_of status) } }
+{
+    Done {
+        status,
+        opened: false,
+        disk,
+        report: empty_report(alloc, status.number()),
+    }
+}
+
+// What a call has done that opened a run.
+fn opened<D>(disk: D, status: Status, report: Report) -> Done<D>
+    ensures { result ≡ record { status = status; opened = true; disk = disk; report = report } }
+{
+    Done {
+        status,
+        opened: true,
+        disk,
+        report,
+    }
+}
+
+// Runs a script that is ready, and tells its report.
+fn run_ready<K: Sink, D: Disk>(
+    alloc: Global,
+    sink: &mut K,
+    disk: D,
+    script: &Script,
+    setting: &Setting,
+) -> (D, Result<(Status, Report), NoMemory>)
+    requires { AreSizes setting.now.sizes }
+    ensures told { IfOk result.1 (λ r. RunIsTold (TellsAlways D.contents) script.now setting.now.trace r.0 r.1 (D.faults disk) (D.faults result.0) (D.contents result.0) (K.taken sink.old) (K.taken sink.new) (K.faults sink.old) (K.faults sink.new)) }
+    ensures err { OnErr result.1 (K.taken sink.new ≡ K.taken sink.old) }
+    ensures later { D.faults disk ≤ D.faults result.0 }
+{
+    let Ran { disk, ended } = run(alloc, disk, script, setting);
+    let told = tell_ended(alloc, sink, ended);
+    (disk, told)
+}
+
+// All that a call does.
 fn perform<S: Source, K: Sink, D: Disk>(
     alloc: Global,
     words: &[String],
     source: &mut S,
     sink: &mut K,
-    disk: &mut D,
-) -> (Status, bool, Report)
-    ensures { Ends (ordered words.now)
-        (outside (S.left source.old) (S.faults source.old) (D.contents disk.old) (D.alive disk.old) (D.faults disk.old))
-        (outside (S.left source.new) (S.faults source.new) (D.contents disk.new) (D.alive disk.new) (D.faults disk.new))
-        result.0 result.1 result.2
+    mut disk: D,
+) -> Done<D>
+    ensures { Ends (TellsAlways D.contents) (ordered words.now)
+        (outside (S.left source.old) (S.faults source.old) (D.contents disk) (D.alive disk) (D.faults disk))
+        (outside (S.left source.new) (S.faults source.new) (D.contents result.disk) (D.alive result.disk) (D.faults result.disk))
+        result.status result.opened result.report
         (K.taken sink.old) (K.taken sink.new) (K.faults sink.old) (K.faults sink.new) }
 {
-    match prepare(alloc, words, source, disk) {
-        Err(NoMemory) => wanting(alloc, false),
+    match prepare(alloc, words, source, &mut disk) {
+        Err(NoMemory) => wanting(alloc, false, disk),
         Ok(Prepared::Ended(met)) => match tell_short(alloc, sink, met) {
-            Err(NoMemory) => wanting(alloc, false),
-            Ok(status) => (status, false, empty_report(alloc, status.number())),
+            Err(NoMemory) => wanting(alloc, false, disk),
+            Ok(status) => unopened(alloc, disk, status),
         },
         Ok(Prepared::Make(n)) => match make(alloc, sink, n) {
-            Err(NoMemory) => wanting(alloc, false),
-            Ok(status) => (status, false, empty_report(alloc, status.number())),
+            Err(NoMemory) => wanting(alloc, false, disk),
+            Ok(status) => unopened(alloc, disk, status),
         },
         Ok(Prepared::Show) => match show(alloc, sink) {
-            Err(NoMemory) => wanting(alloc, true),
-            Ok((status, report)) => (status, true, report),
+            Err(NoMemory) => wanting(alloc, true, disk),
+            Ok((status, report)) => opened(disk, status, report),
         },
-        Ok(Prepared::Play(script, sizes)) => match run_ready(alloc, sink, disk, script, sizes) {
-            Err(NoMemory) => wanting(alloc, true),
-            Ok((status, report)) => (status, true, report),
-        },
+        Ok(Prepared::Play(script, setting)) => {
+            let (disk, told) = run_ready(alloc, sink, disk, &script, &setting);
+            match told {
+                Err(NoMemory) => wanting(alloc, true, disk),
+                Ok((status, report)) => opened(disk, status, report),
+            }
+        }
     }
 }
 
@@ -172,19 +221,19 @@ fn perform<S: Source, K: Sink, D: Disk>(
 /// report to the sink; or writes the script of a number.
 ///
 /// The words are the command line without the program's name. For a script the source is read to its end, or to
-/// the first byte past the longest script; then the logs are looked at; then the script is run. The sink gets the
-/// report, or the one line of a status that was met before the run opened. Today one thread plays all, and no
-/// gate is passed.
+/// the first byte past the longest script; then the logs are looked at; then the script is run, its report is held
+/// against the script and the logs, and where it isn't sound the status says so. The sink gets the report, or the one
+/// line of a status. Today one thread plays all, and no gate is passed.
 pub fn play<R: Threads + Wait + Sync, S: Source, K: Sink, D: Disk + Send, G: Gate + Sync>(
     _rt: &R,
     alloc: Global,
     words: &[String],
     source: &mut S,
     sink: &mut K,
-    mut disk: D,
+    disk: D,
     _gate: &G,
 ) -> Finished<D>
-    ensures ends { Ends (ordered words.now)
+    ensures ends { Ends (TellsAlways D.contents) (ordered words.now)
         (outside (S.left source.old) (S.faults source.old) (D.contents disk) (D.alive disk) (D.faults disk))
         (outside (S.left source.new) (S.faults source.new) (D.contents result.disk) (D.alive result.disk) (D.faults result.disk))
         result.status result.opened result.report
@@ -192,7 +241,12 @@ pub fn play<R: Threads + Wait + Sync, S: Source, K: Sink, D: Disk + Send, G: Gat
     ensures opening { result.opening ≡ [] }
 {
     let opening = Sequence::new(alloc);
-    let (status, opened, report) = perform(alloc, words, source, sink, &mut disk);
+    let Done {
+        status,
+        opened,
+        disk,
+        report,
+    } = perform(alloc, words, source, sink, disk);
     Finished {
         status,
         opened,

@@ -81,6 +81,13 @@ impl History {
         &self.entries
     }
 
+    pub fn into_entries(self) -> Vec<Entry>
+        ensures { result.items ≡ self.entries }
+    {
+        let History { entries, .. } = self;
+        entries
+    }
+
     pub fn len(&self) -> usize
         ensures count { result ≡ length self.now.entries }
         ensures few { length self.now.entries ≤ self.now.room }

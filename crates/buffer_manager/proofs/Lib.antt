@@ -1,9 +1,0 @@
-pub mod Finds
-pub mod Goings
-pub mod Keeping
-pub mod Listed
-pub mod Logs
-pub mod Marks
-pub mod Pages
-pub mod Touches
-pub mod Steps

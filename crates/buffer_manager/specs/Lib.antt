@@ -1,4 +1,0 @@
-pub mod Goings
-pub mod Lists
-pub mod Ranks
-pub mod States

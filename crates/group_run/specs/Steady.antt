@@ -1,0 +1,35 @@
+-- The scripts that can be played: nothing fails, restarts or is lost.
+use Rattle.std.specs.Prelude.{◌≡◌, false, None}
+use Rattle.std.specs.List.{AllByRecursion}
+use Rattle.ds_model.specs.declared.script.Op.{Op}
+use Rattle.ds_model.specs.declared.script.Op.TheVariants as op
+use Rattle.ds_model.specs.declared.script.Tran.{Tran}
+use Rattle.ds_model.specs.declared.script.Part.{Part}
+use Rattle.ds_model.specs.declared.script.Phase.{Phase}
+use Rattle.ds_model.specs.declared.script.Script.{Script}
+
+abbrev pub IsSteadyOp : Op → Type 0
+IsSteadyOp (op.Get table key) = Unit {0}
+IsSteadyOp (op.Put table key value) = Unit {0}
+IsSteadyOp (op.Del table key) = Unit {0}
+IsSteadyOp (op.Scan table low high) = Unit {0}
+IsSteadyOp (op.Raise flag) = Unit {0}
+IsSteadyOp (op.Await flag) = Unit {0}
+IsSteadyOp op.LoseCache = ⊥
+IsSteadyOp op.Abort = Unit {0}
+
+abbrev pub IsSteadyTran : Tran → Type 0
+IsSteadyTran t = AllByRecursion IsSteadyOp t.ops
+
+pub record IsSteadyPart (p : Part) : Type 0 where
+  pub no_restart : p.restart ≡ false
+  pub no_fail : p.fail ≡ None
+  pub trans_are : AllByRecursion IsSteadyTran p.trans
+
+pub record IsSteadyPhase (p : Phase) : Type 0 where
+  pub no_groupfail : p.groupfails ≡ 0
+  pub parts_are : AllByRecursion IsSteadyPart p.parts
+
+pub record IsSteady (s : Script) : Type 0 where
+  pub no_groupfail : s.groupfails ≡ 0
+  pub phases_are : AllByRecursion IsSteadyPhase s.phases

@@ -1,4 +1,0 @@
-pub mod Chains
-pub mod Searches
-pub mod Changes
-pub mod Records

@@ -1,6 +1,0 @@
-mod Named
-mod Versions
-mod Going
-mod Ways
-mod Endings
-mod Fetched

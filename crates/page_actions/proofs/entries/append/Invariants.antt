@@ -1,5 +1,0 @@
-use Rattle.std.proofs.Common.{◌≡◌, ◌++◌}
-use Rattle.page_actions.proofs.entries.append.Given as goal
-
-abbrev pub invariant-loop-patch : goal.invariant-loop-patch
-invariant-loop-patch l = l.patches ≡ l.fn.patches ++ l.yielded

@@ -1,9 +1,0 @@
-mod Names
-mod Joins
-mod Lists
-mod Grants
-mod Releases
-mod Answers
-mod Starts
-mod Asks
-mod Gives

@@ -1,9 +1,0 @@
-pub mod Lists
-pub mod Answering
-pub mod Reaching
-pub mod Entering
-pub mod Going
-pub mod Telling
-pub mod Soundness
-pub mod Whole
-pub mod Starts

@@ -1,4 +1,0 @@
-pub mod Tables
-pub mod Course
-pub mod Steps
-pub mod Makes
