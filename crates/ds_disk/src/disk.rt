@@ -54,7 +54,7 @@ pub struct DiskFailure {
 /// A page that was never written reads as zeros. An append that answered `Ok` is stable.
 pub trait Disk {
     ghost use Rattle.ds_disk.specs.Pages.{page_at};
-    ghost use Rattle.ds_disk.specs.Contents.{Contents, WhenTold, Same, log_of, with_log};
+    ghost use Rattle.ds_disk.specs.Contents.{Contents, Same, log_of, with_log};
     ghost use Rattle.ds_disk.specs.Answers.{Answers, HasCause, Appended};
 
     /// What it holds, where it tells.
@@ -100,9 +100,8 @@ pub trait Disk {
         ensures bound { IfOk result (λ n. n ≤ length into.new) }
         ensures cause { HasCause (faults self.old) (faults self.new) result };
 
-    /// Keeps the first `length` bytes of a log.
+    /// Keeps the first `length` bytes of a log, or all of one that isn't longer.
     fn cut_log(&mut self, member: MemberId, length: u64) -> Result<(), DiskError>
-        requires { WhenTold (contents self.old) (λ c. length ≤ Rattle.std.specs.Prelude.length (log_of c.logs member)) }
         ensures answers { Answers (alive self.old) (alive self.new) (contents self.old) (contents self.new) result
             (λ _ c d. d ≡ with_log c member (take length (log_of c.logs member)))
             (λ c d. (d ≡ c) ⊎ (d ≡ with_log c member (take length (log_of c.logs member)))) }

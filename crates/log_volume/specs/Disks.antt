@@ -1,9 +1,7 @@
--- How a disk goes on when a log is read or changed, and what a change leaves of the log in memory.
-use Rattle.std.specs.Prelude.{◌≡◌, ◌⊎◌, ℕ, ◌+◌, ◌≤◌, Bool, true, false, List, ◌++◌, length, Option, Result, Err, OnOk, IfOk, IsErrOf}
+-- How a disk goes on when a log is read.
+use Rattle.std.specs.Prelude.{◌≡◌, ◌⊎◌, ℕ, ◌≤◌, Bool, true, false, Option, Result, Err, IfOk, IsErrOf}
 use Rattle.ds_base.specs.Causes.{Rose}
-use Rattle.ds_disk.specs.Contents.{Contents, log_of, with_log, Becomes, Same}
-use Rattle.ds_model.specs.declared.log.LogRecord.{LogRecord}
-use Rattle.ds_model.specs.RecordBytes.{log_bytes}
+use Rattle.ds_disk.specs.Contents.{Contents, log_of, Becomes, Same}
 use Rattle.log_record.specs.declared.log.Log.{Log}
 use Rattle.log_record.specs.Logs.{parts_in, IsLogOf}
 use Rattle.log_volume.specs.declared.fault.LogFault.{LogFault}
@@ -27,22 +25,3 @@ pub record Opens (member : ℕ) (was now : Bool) (before after : Option Contents
   pub damaged : (at : ℕ) → IsErrOf result (Damaged at) → (was ≡ true) × (now ≡ true) × Becomes before after (λ c d. (d ≡ c) × (parts_in (log_of c.logs member) ≡ Err at))
   pub failed : IsErrOf result Failed → ((now ≡ was) ⊎ (now ≡ false)) × Becomes before after Same
   pub no_memory : IsErrOf result NoMemory → (was ≡ true) × (now ≡ true) × Becomes before after Same
-
--- how a log was changed: Done is what Ok did, and Torn what a disk that died in the call may have done
-pub record Changes (was now : Bool) (before after : Option Contents) (result : Result (Unit {0}) LogFault) (Done Torn : Contents → Contents → Type 0) : Type 0 where
-  pub ok : OnOk result ((now ≡ was) × Becomes before after Done)
-  pub failed : IsErrOf result Failed → ((now ≡ was) × Becomes before after Same) ⊎ ((now ≡ false) × Becomes before after Torn)
-  pub no_memory : IsErrOf result NoMemory → (now ≡ was) × Becomes before after Same
-  pub undamaged : (at : ℕ) → IsErrOf result (Damaged at) → ⊥
-
--- the member's log has these bytes now
-abbrev pub Holds : ℕ → (List ℕ → List ℕ) → Contents → Contents → Type 0
-Holds member change c d = d ≡ with_log c member (change (log_of c.logs member))
-
--- the log with these records behind its own
-abbrev pub after_append : Log → List LogRecord → Log
-after_append log added = record { member = log.member; records = log.records ++ added; length = log.length + length (log_bytes added); tail = log.tail }
-
--- the log without its tail
-abbrev pub after_cut : Log → Log
-after_cut log = record { member = log.member; records = log.records; length = log.length; tail = 0 }
