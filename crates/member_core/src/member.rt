@@ -107,6 +107,14 @@ impl Policy for Member {
         self.state.begin_phase(trans, raisers)
     }
 
+    fn fail(&mut self) {
+        self.state.clear();
+    }
+
+    fn open(&mut self) {
+        self.state.open();
+    }
+
     fn take_reads(&mut self, slot: u8) -> Reads {
         self.state.take_reads(slot)
     }

@@ -34,6 +34,12 @@ pub trait Policy {
         raisers: &[Option<TranId>],
     ) -> Result<(), NoMemory>;
 
+    /// All that the member had is gone: it has failed, or the whole group has. Nothing may be begun until it is opened.
+    fn fail(&mut self);
+
+    /// Transactions may be begun from now on.
+    fn open(&mut self);
+
     /// What the transaction of the slot has read, which this event decided.
     fn take_reads(&mut self, slot: u8) -> Reads;
 

@@ -109,6 +109,44 @@ impl MemberState {
         })
     }
 
+    /// All that the member had is gone, its part too. Its agents may not run until it is opened.
+    pub fn clear(&mut self) {
+        for seat in self.seats.as_mut_slice().iter_mut() {
+            *seat = Seat::free();
+        }
+        self.standings = standings();
+        self.opened = false;
+        self.full = ChoiceMask::new();
+        self.waiting = ChoiceMask::new();
+        self.damage = None;
+        self.clear_part();
+        self.clear_queues();
+    }
+
+    fn clear_part(&mut self) {
+        self.part.clear();
+        self.raisers.clear();
+    }
+
+    fn clear_queues(&mut self) {
+        self.query = None;
+        self.asked_after = None;
+        self.yields.clear();
+        self.service = None;
+        self.run = None;
+        self.runs.clear();
+        self.frame_requests.clear();
+        self.reader_pins = 0;
+        self.castout = None;
+        self.cast_after = None;
+    }
+
+    /// The member's agents may run from now on.
+    pub fn open(&mut self) {
+        self.opened = true;
+        self.stand_free_seats();
+    }
+
     // ---- parts
 
     /// A phase begins: the member's part of it is in hand. The raisers are those of the phase's flags, from flag 1 on.
