@@ -1,10 +1,13 @@
 -- Fates as callers see them.
-use Rattle.std.specs.Prelude.{◌≡◌, ℕ, ◌≤◌, ◌⊎◌, Bool, true, false, List, [], ◌∷◌, ◌++◌, Option, Some, None, slice_index_or}
-use Rattle.std.specs.List.{AllByRecursion}
+use Rattle.std.specs.Prelude.{◌≡◌, ℕ, ◌≤◌, ◌==◌, ◌⊎◌, Bool, true, false, List, [], ◌∷◌, ◌++◌, Option, Some, None, slice_index_or}
+use Rattle.std.specs.List.{AllByRecursion, list_any}
 use Rattle.ds_model.specs.declared.fate.Fate.{Fate}
 use Rattle.ds_model.specs.declared.fate.Fate.TheVariants as fate
 use Rattle.ds_model.specs.declared.fate.Refusal.{Refusal}
 use Rattle.ds_model.specs.declared.history.Entry.{Entry}
+use Rattle.ds_model.specs.declared.script.Tran.{Tran}
+use Rattle.ds_model.specs.declared.script.Part.{Part}
+use Rattle.ds_model.specs.declared.script.Phase.{Phase}
 use Rattle.tran_history.specs.Histories.{has_number}
 use Rattle.script_fates.specs.declared.fates.Cause.{Cause}
 
@@ -44,6 +47,20 @@ abbrev pub Refuses : FatesState → ℕ → Refusal → ℕ → FatesState → T
 Refuses old number why place new =
     (new ≡ old) ⊎ (Adds old.entries number (fate.Refused why) new.entries
     × ((new.causes ≡ old.causes) ⊎ (new.causes ≡ old.causes ++ record { number = number; place = place } ∷ [])))
+
+-- one of these transactions has this number
+abbrev pub has_tran : List Tran → ℕ → Bool
+has_tran trans n = list_any (λ (t : Tran). t.number == n) trans
+
+-- the phase has a transaction of this number
+abbrev pub is_in_phase : Phase → ℕ → Bool
+is_in_phase phase n = list_any (λ (p : Part). has_tran p.trans n) phase.parts
+
+-- stopped transactions, each with such a number, stand behind the others
+abbrev pub StopsOnly : (ℕ → Bool) → FatesState → FatesState → Type 0
+StopsOnly may old new =
+    ((more : List Entry) × AllByRecursion (λ (e : Entry). (e.fate ≡ fate.Stopped) × (may e.tran.number ≡ true)) more × (new.entries ≡ old.entries ++ more))
+    × (new.causes ≡ old.causes)
 
 -- stopped transactions stand behind the others
 abbrev pub Stops : FatesState → FatesState → Type 0

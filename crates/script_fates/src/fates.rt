@@ -1,11 +1,11 @@
-ghost use Rattle.std.specs.Prelude.{◌≡◌, ◌≢◌, ℕ, ◌⊎◌, true, false, IfOk, IsSome};
+ghost use Rattle.std.specs.Prelude.{◌≡◌, ◌≢◌, ◌<◌, ℕ, ◌⊎◌, true, false, length, IfOk, IsSome};
 ghost use Rattle.ds_model.specs.declared.fate.Fate.TheVariants as fate;
 ghost use Rattle.tran_history.specs.Histories.{after_answer};
-ghost use Rattle.script_fates.specs.Fated.{waits_at, is_marked, Ends, Fixes, Refuses, Stops, no_fates};
+ghost use Rattle.script_fates.specs.Fated.{waits_at, is_marked, is_in_phase, Ends, Fixes, Refuses, Stops, StopsOnly, no_fates};
 
 use crate::copies::copy_tran;
 use ds_base::{MemberId, NoMemory};
-use ds_model::{Entry, Fate, Part, Reads, Refusal, Script, Tran};
+use ds_model::{Entry, Fate, Part, Phase, Reads, Refusal, Script, Tran};
 use std::alloc::Global;
 use std::marker::Model;
 use tran_history::History;
@@ -149,6 +149,25 @@ impl Fates {
     {
         if self.end(number, Fate::Refused(refusal)) && self.causes.len() < self.causes.capacity() {
             self.causes.push_reserved(Cause { number, place });
+        }
+    }
+
+    // Stops the transactions of a part of the phase that have no fate.
+    fn stop_part(&mut self, phase: &Phase, at: usize)
+        requires { at < length phase.now.parts }
+        ensures { StopsOnly (is_in_phase phase.now) self.old self.new }
+    {
+        for tran in phase.parts.as_slice()[at].trans.as_slice() {
+            self.end(tran.number, Fate::Stopped);
+        }
+    }
+
+    /// Those of the phase that have no fate are stopped.
+    pub fn stop_phase(&mut self, phase: &Phase)
+        ensures { StopsOnly (is_in_phase phase.now) self.old self.new }
+    {
+        for at in 0..phase.parts.len() {
+            self.stop_part(phase, at);
         }
     }
 
