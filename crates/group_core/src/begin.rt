@@ -28,7 +28,7 @@ fn begin_in_all<P: Policy>(
 impl<C: CacheFace, P: Policy> Crew<C, P> {
     /// The next phase begins. Answers whether the bells could ring.
     pub fn begin_phase(&mut self, alloc: Global) -> Result<bool, NoMemory> {
-        let Some(phase) = self.script.phases.as_slice().get(self.begun) else {
+        let Some(phase) = self.script.phases.as_slice().get(self.progress.begun) else {
             return Ok(true);
         };
         if !self.facility.lists.can_ring() {
@@ -37,7 +37,7 @@ impl<C: CacheFace, P: Policy> Crew<C, P> {
         let raisers = raisers_of(phase);
         self.facility.begin_phase(&raisers);
         begin_in_all(alloc, &mut self.parts, phase, &raisers)?;
-        self.begun += 1;
+        self.progress.begin_phase();
         self.make_all_stale();
         Ok(true)
     }

@@ -1,10 +1,17 @@
-ghost use Rattle.std.specs.Prelude.{◌≡◌};
+ghost use Rattle.std.specs.Prelude.{◌≡◌, ◌≤◌, true, false};
+ghost use Rattle.ds_base.specs.Causes.{Rose};
+ghost use Rattle.group_core.specs.declared.closed.Closed.TheVariants as closed;
+ghost use Rattle.group_core.specs.Closing.{is_closed, is_run};
 
+use crate::closed::Closed;
 use crate::crew::Crew;
 use crate::fault::RunFault;
 use crate::group::Group;
+use ds_disk::Disk;
 use ds_model::{Entry, Script};
+use group_restart::{State, restart_disk};
 use script_fates::Cause;
+use std::alloc::Global;
 use trace_words::Line;
 
 /// What a run leaves beside the disk.
@@ -20,14 +27,54 @@ pub struct Played {
     pub fault: Option<RunFault>,
 }
 
-impl<D, C: Drop, P: Drop> Group<D, C, P> {
-    /// Gives up the facility and the members.
-    pub fn close(self) -> (D, Played)
-        ensures disk { result.0 ≡ self.disk }
+// Whether the disk is closed after such an end of a run.
+fn is_closed(fault: Option<RunFault>) -> bool
+    ensures { result ≡ is_closed fault }
+{
+    match fault {
+        None | Some(RunFault::Failed) => true,
+        Some(RunFault::Damaged { .. } | RunFault::Unlawful { .. } | RunFault::NoMemory) => false,
+    }
+}
+
+// Runs the group restart that closes the disk.
+fn close_disk<D: Disk>(alloc: Global, disk: &mut D) -> Closed
+    ensures later { D.faults disk.old ≤ D.faults disk.new }
+    ensures failed { result ≡ closed.Failed → Rose (D.faults disk.old) (D.faults disk.new) }
+    ensures run { is_run result ≡ true }
+{
+    match restart_disk(alloc, disk) {
+        Ok(State::Done { .. }) => Closed::Done,
+        Ok(State::Failed) => Closed::Failed,
+        Ok(State::Damaged { volume, at }) => Closed::Damaged { volume, at },
+        Ok(State::Going) | Err(_) => Closed::NoMemory,
+    }
+}
+
+fn close_after<D: Disk>(alloc: Global, disk: &mut D, fault: Option<RunFault>) -> Closed
+    ensures later { D.faults disk.old ≤ D.faults disk.new }
+    ensures failed { result ≡ closed.Failed → Rose (D.faults disk.old) (D.faults disk.new) }
+    ensures run { is_run result ≡ is_closed fault }
+    ensures unrun { is_closed fault ≡ false → disk.new ≡ disk.old }
+{
+    if is_closed(fault) {
+        close_disk(alloc, disk)
+    } else {
+        Closed::Unrun
+    }
+}
+
+impl<D: Disk, C: Drop, P: Drop> Group<D, C, P> {
+    /// Gives up the facility and the members, and closes the disk by a group restart.
+    pub fn close(self, alloc: Global) -> (D, Played, Closed)
+        ensures later { D.faults self.disk ≤ D.faults result.0 }
+        ensures failed { result.2 ≡ closed.Failed → Rose (D.faults self.disk) (D.faults result.0) }
+        ensures run { is_run result.2 ≡ is_closed self.fault }
+        ensures unrun { is_closed self.fault ≡ false → result.0 ≡ self.disk }
         ensures fault { result.1.fault ≡ self.fault }
     {
         let Group {
-            disk,
+            mut disk,
             crew,
             journal,
             lines,
@@ -43,6 +90,7 @@ impl<D, C: Drop, P: Drop> Group<D, C, P> {
             lines,
             fault,
         };
-        (disk, played)
+        let closed = close_after(alloc, &mut disk, fault);
+        (disk, played, closed)
     }
 }

@@ -1,18 +1,20 @@
-ghost use Rattle.std.specs.Prelude.{◌≡◌, ◌≤◌, ◌<◌, true, length, map, IsTrue};
-ghost use Rattle.group_core.specs.Ready.{is_phase_next, is_ready};
+ghost use Rattle.std.specs.Prelude.{◌≡◌, true, is_some};
+ghost use Rattle.group_core.specs.Progresses.{is_at_end, own_choice};
+ghost use Rattle.group_core.specs.Ready.{is_own};
+ghost use Rattle.group_core.specs.Crews.{is_ready_in};
 
 use crate::part::MemberPart;
+use crate::progress::{GROUP_RESTART, Progress};
 use crate::ready::has_choice;
+use crate::sizes::GroupSizes;
 use cache_structure::CacheFace;
 use ds_base::{MemberId, Volume};
 use ds_model::Script;
 use facility::Facility;
+use group_restart::GroupRestart;
 use member_intents::Look;
 use member_resources::Policy;
 use script_fates::Fates;
-
-/// The choice of the group itself that begins the next phase.
-pub const NEXT_PHASE: u64 = 0;
 
 /// The members of a group with their facility, the script that they play, and its fates.
 #[derive(Drop)]
@@ -20,15 +22,15 @@ pub struct Crew<C, P> {
     pub facility: Facility<C>,
     pub parts: Vec<MemberPart<P>>,
     pub script: Script,
-    /// How many phases have begun.
-    pub begun: usize,
+    pub progress: Progress,
+    /// The group has failed, and its restart is in hand.
+    pub restart: Option<GroupRestart>,
     pub fates: Fates,
-    /// Whether all members are done with the phase.
-    pub is_idle: bool,
+    /// Whether all members are done has to be found again.
+    pub is_own_stale: bool,
     /// Whether more than half of the cache's entries were changed when the members were last looked at.
     pub was_half: bool,
-    /// The entries of the cache.
-    pub entries: u32,
+    pub sizes: GroupSizes,
 }
 
 fn make_stale<P>(parts: &mut [MemberPart<P>]) {
@@ -46,30 +48,48 @@ fn are_all_done<C: CacheFace, P>(facility: &Facility<C>, parts: &[MemberPart<P>]
     true
 }
 
+fn is_own(own: Option<u64>, choice: u64) -> bool
+    ensures { result ≡ is_own own choice }
+{
+    match own {
+        Some(own) => own == choice,
+        None => false,
+    }
+}
+
 impl<C, P> Crew<C, P> {
-    /// Whether all phases are played.
-    pub fn is_played(&self) -> bool {
-        self.begun >= self.script.phases.len() && self.is_idle
+    /// Whether the script is played.
+    pub fn is_played(&self) -> bool
+        ensures { result ≡ is_at_end (is_some self.now.restart) self.now.progress self.now.script }
+    {
+        self.restart.is_none() && self.progress.is_played(&self.script)
     }
 
-    /// Whether the next phase may begin.
-    pub fn is_phase_next(&self) -> bool
-        ensures { result ≡ is_phase_next self.now.is_idle self.now.begun self.now.script }
+    /// The choice of the group itself that is ready.
+    pub fn own_choice(&self) -> Option<u64>
+        ensures { result ≡ own_choice (is_some self.now.restart) self.now.progress self.now.script }
     {
-        self.is_idle && self.begun < self.script.phases.len()
+        if self.restart.is_some() {
+            Some(GROUP_RESTART)
+        } else {
+            self.progress.choice(&self.script)
+        }
     }
 
     /// Whether the event's choice is ready.
     pub fn is_ready(&self, event: u64) -> bool
-        ensures { result ≡ is_ready (is_phase_next self.now.is_idle self.now.begun self.now.script) (map (λ p. p.ready) self.now.parts.items) event }
+        ensures { result ≡ is_ready_in self.now event }
     {
         let choice = event / 64;
         match ((event % 64) as usize).checked_sub(1) {
-            None => choice == NEXT_PHASE && self.is_phase_next(),
-            Some(at) => match self.parts.get(at) {
-                Some(part) => has_choice(part.ready, choice),
-                None => false,
-            },
+            None => is_own(self.own_choice(), choice),
+            Some(at) => {
+                self.restart.is_none()
+                    && match self.parts.get(at) {
+                        Some(part) => has_choice(part.ready, choice),
+                        None => false,
+                    }
+            }
         }
     }
 }
@@ -77,7 +97,7 @@ impl<C, P> Crew<C, P> {
 impl<C: CacheFace, P> Crew<C, P> {
     /// Whether more than half of the cache's entries are changed.
     pub fn is_half(&self) -> bool {
-        2 * self.facility.changed_count() as u64 > self.entries as u64
+        2 * self.facility.changed_count() as u64 > self.sizes.sizes.cache as u64
     }
 
     // What is seen for a member before an event.
@@ -94,18 +114,30 @@ impl<C: CacheFace, P> Crew<C, P> {
     /// A bell has rung, or what is seen for all members has changed.
     pub fn make_all_stale(&mut self) {
         self.was_half = self.is_half();
+        self.is_own_stale = true;
         make_stale(&mut self.parts);
+    }
+
+    // Finds again whether all members are done, where that may have changed.
+    fn find_idle(&mut self) {
+        if self.is_own_stale {
+            self.progress.is_idle = are_all_done(&self.facility, &self.parts);
+            self.is_own_stale = false;
+        }
     }
 }
 
 impl<C: CacheFace, P: Policy> Crew<C, P> {
-    /// Finds again which choices are ready, where that may have changed.
+    /// Finds again which choices are ready, where that may have changed. While a group restart is in hand no member has any.
     pub fn find_ready(&mut self) {
+        if self.restart.is_some() {
+            return;
+        }
         for at in 0..self.parts.len() {
             let look = self.look(self.parts[at].id);
             self.parts[at].find_ready(&look);
         }
-        self.is_idle = are_all_done(&self.facility, &self.parts);
+        self.find_idle();
     }
 
     /// A byte that a member has read and that can't stand there.

@@ -12,8 +12,9 @@ pub enum RunFault {
     NoMemory,
 }
 
-/// Memory was wanting at the start of a group.
+/// Why a group wasn't started: the group restart that opens the disk didn't come to its end, or memory was wanting.
 #[derive(Drop)]
 pub struct StartFault<D> {
     pub disk: D,
+    pub why: RunFault,
 }

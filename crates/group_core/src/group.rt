@@ -1,4 +1,5 @@
-ghost use Rattle.std.specs.Prelude.{◌≡◌};
+ghost use Rattle.std.specs.Prelude.{◌≡◌, ◌||◌, is_some};
+ghost use Rattle.group_core.specs.Progresses.{is_at_end};
 
 use crate::crew::Crew;
 use crate::fault::RunFault;
@@ -31,7 +32,9 @@ impl<D, C, P> Group<D, C, P> {
     }
 
     /// Whether the run has ended: the script is played, or there is a fault.
-    pub fn is_over(&self) -> bool {
+    pub fn is_over(&self) -> bool
+        ensures { result ≡ (is_some self.now.fault || is_at_end (is_some self.now.crew.restart) self.now.crew.progress self.now.crew.script) }
+    {
         self.fault.is_some() || self.crew.is_played()
     }
 }

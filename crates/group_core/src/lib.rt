@@ -6,18 +6,27 @@
 
 mod begin;
 mod close;
+mod closed;
 mod crew;
+mod failure;
 mod fault;
 mod group;
+mod lines;
 mod member_step;
+mod own;
 mod part;
 mod phase;
+mod progress;
 mod ready;
 mod schedule;
+mod sizes;
 mod start;
 mod step;
+#[cfg(test)]
+mod tests;
 
 pub use close::Played;
+pub use closed::Closed;
 pub use fault::{RunFault, StartFault};
 pub use group::Group;
 pub use schedule::{RunEnd, run_one_thread};

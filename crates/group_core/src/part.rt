@@ -1,4 +1,8 @@
+ghost use Rattle.std.specs.Prelude.{◌≡◌, true, OnOk};
+ghost use Rattle.member_resources.specs.Held.{IsNew};
+
 use crate::ready::ready_choices;
+use crate::sizes::GroupSizes;
 use ds_base::{MemberId, NoMemory, TranId};
 use ds_model::TranList;
 use member_intents::Look;
@@ -34,5 +38,18 @@ impl<P: Policy> MemberPart<P> {
             self.ready = ready_choices(&self.policy, look);
             self.is_stale = false;
         }
+    }
+
+    /// All that the member had is gone, and it may begin anew.
+    pub fn reset(&mut self, alloc: Global, sizes: &GroupSizes) -> Result<(), NoMemory>
+        ensures resources { OnOk result (IsNew self.new.id sizes.now.sizes self.new.resources) }
+        ensures stale { OnOk result (self.new.is_stale ≡ true) }
+        ensures id { self.new.id ≡ self.old.id }
+    {
+        self.resources = Resources::new(alloc, self.id, &sizes.sizes)?;
+        self.policy.fail();
+        self.policy.open();
+        self.is_stale = true;
+        Ok(())
     }
 }

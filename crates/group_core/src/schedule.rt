@@ -63,15 +63,24 @@ fn least_of<P>(parts: &[MemberPart<P>], choice: u64, least: u64) -> Option<u64>
 }
 
 impl<D, C, P> Group<D, C, P> {
+    // The event of the group itself that is ready.
+    fn own_event(&self) -> Option<u64> {
+        match self.crew.own_choice() {
+            Some(choice) => choice.checked_mul(64),
+            None => None,
+        }
+    }
+
     /// The least number of a ready event from this one on.
     pub fn ready(&self, least: u64) -> Option<u64> {
         if self.fault.is_some() {
             return None;
         }
-        if least == 0 && self.crew.is_phase_next() {
-            return Some(0);
-        }
+        let own = self.own_event().filter(|event| *event >= least);
         for choice in 0..CHOICES {
+            if own == Some(choice * 64) {
+                return own;
+            }
             let found = least_of(&self.crew.parts, choice, least);
             if found.is_some() {
                 return found;
@@ -80,18 +89,20 @@ impl<D, C, P> Group<D, C, P> {
         None
     }
 
-    // The event that the seeded schedule takes. Where none is ready, nothing is drawn.
+    // The event that the seeded schedule takes: the one of the group itself stands first. Where none is ready, nothing is
+    // drawn.
     fn pick(&self, generator: &mut Generator) -> Option<u64> {
-        let own = if self.crew.is_phase_next() { 1 } else { 0 };
-        let count = count_ready(&self.crew.parts).saturating_add(own);
+        let own = self.own_event();
+        let own_count = if own.is_some() { 1 } else { 0 };
+        let count = count_ready(&self.crew.parts).saturating_add(own_count);
         if count == 0 {
             return None;
         }
         let at = generator.draw_below(count);
-        if at < own {
-            return Some(0);
+        if at < own_count {
+            return own;
         }
-        nth_event(&self.crew.parts, at - own)
+        nth_event(&self.crew.parts, at - own_count)
     }
 }
 

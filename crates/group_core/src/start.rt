@@ -1,24 +1,34 @@
-ghost use Rattle.std.specs.Prelude.{◌≡◌, ◌≤◌, IfOk, IfErr};
+ghost use Rattle.std.specs.Prelude.{◌≡◌, ◌≤◌, None, IfOk, IfErr};
+ghost use Rattle.ds_base.specs.Causes.{Rose};
 ghost use Rattle.cache_structure.specs.Directory.{empty_directory};
+ghost use Rattle.group_core.specs.declared.fault.RunFault.TheVariants as fault;
 
 use crate::crew::Crew;
-use crate::fault::StartFault;
+use crate::fault::{RunFault, StartFault};
 use crate::group::Group;
 use crate::part::MemberPart;
+use crate::progress::Progress;
+use crate::sizes::GroupSizes;
 use cache_structure::CacheFace;
 use ds_base::{Lrsn, MemberId, NoMemory, Sizes};
+use ds_disk::Disk;
 use ds_model::Script;
 use facility::Facility;
+use group_restart::{State, restart_disk};
 use member_resources::{Policy, Resources};
 use script_fates::Fates;
 use std::alloc::Global;
 
-fn first_lrsn() -> Lrsn
-    ensures { result ≡ 0 }
+// Runs the group restart that opens the disk. Answers the greatest number that was drawn for a log record.
+fn open_disk<D: Disk>(alloc: Global, disk: &mut D) -> Result<Lrsn, RunFault>
+    ensures later { D.faults disk.old ≤ D.faults disk.new }
+    ensures failed { IfErr result (λ why. why ≡ fault.Failed → Rose (D.faults disk.old) (D.faults disk.new)) }
 {
-    match Lrsn::new(0) {
-        Some(lrsn) => lrsn,
-        None => unreachable!(),
+    match restart_disk(alloc, disk) {
+        Ok(State::Done { counter }) => Ok(counter),
+        Ok(State::Failed) => Err(RunFault::Failed),
+        Ok(State::Damaged { volume, at }) => Err(RunFault::Damaged { volume, at }),
+        Ok(State::Going) | Err(_) => Err(RunFault::NoMemory),
     }
 }
 
@@ -51,28 +61,31 @@ fn make_crew<C: CacheFace + Drop, P: Policy + Drop>(
     alloc: Global,
     cache: C,
     sizes: &Sizes,
+    counter: Lrsn,
     script: Script,
     policies: Vec<P>,
 ) -> Result<Crew<C, P>, NoMemory>
     requires sizes { (1 ≤ sizes.now.locks) × (1 ≤ sizes.now.pool) }
     requires cache { C.directory cache ≡ empty_directory sizes.now.cache sizes.now.pool }
+    ensures counter { IfOk result (λ crew. crew.facility.counter ≡ counter) }
 {
     let mut crew = Crew {
-        facility: Facility::new(alloc, sizes, cache, first_lrsn())?,
+        facility: Facility::new(alloc, sizes, cache, counter)?,
         parts: make_parts(alloc, sizes, policies)?,
         fates: Fates::new(alloc, &script)?,
         script,
-        begun: 0,
-        is_idle: false,
+        progress: Progress::new(),
+        restart: None,
+        is_own_stale: true,
         was_half: false,
-        entries: sizes.cache,
+        sizes: GroupSizes { sizes: *sizes },
     };
     crew.find_ready();
     Ok(crew)
 }
 
-impl<D, C: CacheFace + Drop, P: Policy + Drop> Group<D, C, P> {
-    /// A group whose members have these policies, over an empty cache and a disk with empty logs.
+impl<D: Disk, C: CacheFace + Drop, P: Policy + Drop> Group<D, C, P> {
+    /// A group whose members have these policies, over an empty cache, and a disk that a group restart has opened.
     pub fn start(
         alloc: Global,
         disk: D,
@@ -83,22 +96,33 @@ impl<D, C: CacheFace + Drop, P: Policy + Drop> Group<D, C, P> {
     ) -> Result<Group<D, C, P>, StartFault<D>>
         requires sizes { (1 ≤ sizes.now.locks) × (1 ≤ sizes.now.pool) }
         requires cache { C.directory cache ≡ empty_directory sizes.now.cache sizes.now.pool }
-        ensures disk { IfOk result (λ group. group.disk ≡ disk) }
+        ensures disk { IfOk result (λ group. D.faults disk ≤ D.faults group.disk) }
         ensures fault { IfOk result (λ group. group.fault ≡ None) }
-        ensures err { IfErr result (λ why. why.disk ≡ disk) }
+        ensures err { IfErr result (λ why. D.faults disk ≤ D.faults why.disk) }
+        ensures failed { IfErr result (λ why. why.why ≡ fault.Failed → Rose (D.faults disk) (D.faults why.disk)) }
     {
-        let Ok(crew) = make_crew(alloc, cache, sizes, script, policies) else {
-            return Err(StartFault { disk });
+        let mut disk = disk;
+        let counter = match open_disk(alloc, &mut disk) {
+            Ok(counter) => counter,
+            Err(why) => return Err(StartFault { disk, why }),
         };
-        Ok(Group {
-            disk,
-            crew,
-            journal: Vec::new(alloc),
-            lines: None,
-            fault: None,
-        })
+        match make_crew(alloc, cache, sizes, counter, script, policies) {
+            Ok(crew) => Ok(Group {
+                disk,
+                crew,
+                journal: Vec::new(alloc),
+                lines: None,
+                fault: None,
+            }),
+            Err(_) => Err(StartFault {
+                disk,
+                why: RunFault::NoMemory,
+            }),
+        }
     }
+}
 
+impl<D, C, P> Group<D, C, P> {
     /// The lines of a trace are kept from now on.
     pub fn trace(&mut self, alloc: Global)
         ensures { self.new ≡ record self.old { lines = self.new.lines } }

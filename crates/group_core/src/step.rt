@@ -1,17 +1,19 @@
-ghost use Rattle.std.specs.Prelude.{◌≡◌, ◌∷◌, [], ◌++◌, ◌<◌, vec_len, vec_capacity, IsErr, OnOk, OnErr, Some};
+ghost use Rattle.std.specs.Prelude.{◌≡◌, ◌∷◌, [], ◌++◌, false, IsErr, IsOk, OnOk, OnErr, Some};
 ghost use Rattle.member_intents.specs.declared.outcome.Answered.TheVariants as answers;
 ghost use Rattle.group_core.specs.declared.fault.RunFault.TheVariants as fault;
+ghost use Rattle.group_core.specs.Crews.{is_taken};
 ghost use Rattle.group_core.specs.Goes.{Goes, IsFailed};
 
 use crate::fault::RunFault;
 use crate::group::Group;
+use crate::lines::{note, note_silent, reserve};
 use cache_structure::CacheFace;
 use ds_base::{NoMemory, Volume};
 use ds_disk::Disk;
 use member_intents::{Answered, Sent, StepFault};
 use member_resources::Policy;
 use std::alloc::Global;
-use trace_words::{Line, line_of};
+use trace_words::line_of;
 
 // Why a run ends with this answer of the disk, or with this byte that can't stand there.
 fn fault_of(answered: &Answered, damage: Option<(Volume, u64)>) -> Option<RunFault>
@@ -24,44 +26,8 @@ fn fault_of(answered: &Answered, damage: Option<(Volume, u64)>) -> Option<RunFau
     }
 }
 
-// Takes memory for the event's number and line.
-fn reserve(journal: &mut Vec<u64>, lines: &mut Option<Vec<Line>>) -> Result<(), NoMemory>
-    ensures journal { journal.new.items ≡ journal.old.items }
-    ensures room { OnOk result (vec_len journal.new < vec_capacity journal.new) }
-{
-    journal.reserve(1)?;
-    if let Some(lines) = lines {
-        lines.reserve(1)?;
-    }
-    Ok(())
-}
-
-// Keeps a line, where lines are kept.
-fn note(lines: &mut Option<Vec<Line>>, line: Line) {
-    if let Some(lines) = lines {
-        if lines.len() < lines.capacity() {
-            lines.push_reserved(line);
-        }
-    }
-}
-
 #[tactic(auto, using(crate::specs::Goes::on, crate::specs::Goes::stays, crate::specs::Goes::ends))]
 impl<D: Disk, C: CacheFace, P: Policy> Group<D, C, P> {
-    // The event that begins the next phase.
-    fn take_phase(&mut self, alloc: Global, event: u64, place: u64) -> Result<(), NoMemory>
-        ensures goes { Goes (D.faults self.old.disk) self.old.fault (D.faults self.new.disk) self.new.fault }
-        ensures journal { self.new.journal.items ≡ self.old.journal.items }
-    {
-        note(
-            &mut self.lines,
-            line_of(place, event, &Sent::None, &Answered::None),
-        );
-        if !self.crew.begin_phase(alloc)? {
-            self.fault = Some(RunFault::Unlawful { place });
-        }
-        Ok(())
-    }
-
     // Enters what was sent for the member at a place, and what was answered.
     fn enter(&mut self, at: usize, event: u64, place: u64, sent: &Sent, answered: &Answered)
         ensures disk { self.new.disk ≡ self.old.disk }
@@ -99,29 +65,44 @@ impl<D: Disk, C: CacheFace, P: Policy> Group<D, C, P> {
         Ok(())
     }
 
-    fn take_event(&mut self, alloc: Global, event: u64, place: u64) -> Result<(), NoMemory>
+    // Whether the event is taken.
+    fn is_taken(&self, event: u64) -> bool
+        ensures { result ≡ is_taken self.now.fault self.now.crew event }
+    {
+        self.fault.is_none() && self.crew.is_ready(event)
+    }
+
+    // Takes a ready event.
+    fn take_ready(&mut self, alloc: Global, event: u64, place: u64) -> Result<(), NoMemory>
         ensures goes { Goes (D.faults self.old.disk) self.old.fault (D.faults self.new.disk) self.new.fault }
         ensures journal { self.new.journal.items ≡ self.old.journal.items }
     {
-        if self.fault.is_some() || !self.crew.is_ready(event) {
-            note(
-                &mut self.lines,
-                line_of(place, event, &Sent::None, &Answered::None),
-            );
-            return Ok(());
-        }
         match ((event % 64) as usize).checked_sub(1) {
-            None => self.take_phase(alloc, event, place)?,
+            None => self.take_own(alloc, event, place)?,
             Some(at) => self.take_member(alloc, at, event, place)?,
         }
         self.crew.find_ready();
         Ok(())
     }
 
+    fn take_event(&mut self, alloc: Global, event: u64, place: u64) -> Result<(), NoMemory>
+        ensures goes { Goes (D.faults self.old.disk) self.old.fault (D.faults self.new.disk) self.new.fault }
+        ensures journal { self.new.journal.items ≡ self.old.journal.items }
+        ensures left { is_taken self.old.fault self.old.crew event ≡ false → self.new ≡ record self.old { lines = self.new.lines } }
+        ensures ok { is_taken self.old.fault self.old.crew event ≡ false → IsOk result }
+    {
+        if !self.is_taken(event) {
+            note_silent(&mut self.lines, place, event);
+            return Ok(());
+        }
+        self.take_ready(alloc, event, place)
+    }
+
     // Takes the event's number into the journal, and then the event.
     fn enter_event(&mut self, alloc: Global, event: u64) -> Result<(), NoMemory>
         ensures goes { Goes (D.faults self.old.disk) self.old.fault (D.faults self.new.disk) self.new.fault }
         ensures journal { OnOk result (self.new.journal.items ≡ self.old.journal.items ++ event ∷ []) }
+        ensures left { is_taken self.old.fault self.old.crew event ≡ false → self.new ≡ record self.old { journal = self.new.journal; lines = self.new.lines } }
     {
         reserve(&mut self.journal, &mut self.lines)?;
         self.journal.push_reserved(event);
@@ -129,11 +110,13 @@ impl<D: Disk, C: CacheFace, P: Policy> Group<D, C, P> {
         self.take_event(alloc, event, place)
     }
 
-    /// Takes one event. One whose choice isn't ready changes nothing but the journal. Where memory was wanting, it is wanting
-    /// from then on.
+    /// Takes one event. One whose choice isn't ready changes nothing but the journal, and the lines of the trace. Where memory
+    /// was wanting, it is wanting from then on.
     pub fn step(&mut self, alloc: Global, event: u64) -> Result<(), NoMemory>
         ensures goes { Goes (D.faults self.old.disk) self.old.fault (D.faults self.new.disk) self.new.fault }
         ensures journal { OnOk result (self.new.journal.items ≡ self.old.journal.items ++ event ∷ []) }
+        ensures left { is_taken self.old.fault self.old.crew event ≡ false → self.new ≡ record self.old { journal = self.new.journal; lines = self.new.lines; fault = self.new.fault } }
+        ensures taken { is_taken self.old.fault self.old.crew event ≡ false → OnOk result (self.new.fault ≡ self.old.fault) }
         ensures wanting { OnErr result (self.new.fault ≡ Some fault.NoMemory) }
         ensures still { self.old.fault ≡ Some fault.NoMemory → IsErr result }
     {

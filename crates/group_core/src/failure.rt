@@ -1,0 +1,88 @@
+//! The failure of the whole group, and the group restart that follows it.
+
+ghost use Rattle.std.specs.Prelude.{◌≡◌, ◌≤◌, ℕ, All, None, IfOk, OnOk, is_some, true};
+ghost use Rattle.ds_base.specs.Causes.{Rose};
+ghost use Rattle.facility.specs.States.{held, IsReset};
+ghost use Rattle.group_restart.specs.declared.calls.State.TheVariants as state;
+ghost use Rattle.member_resources.specs.Held.{IsNew};
+
+use crate::crew::Crew;
+use crate::part::MemberPart;
+use crate::sizes::GroupSizes;
+use cache_structure::CacheFace;
+use ds_base::{Lrsn, NoMemory};
+use ds_disk::Disk;
+use group_restart::{Call, GroupRestart, State};
+use member_resources::Policy;
+use std::alloc::Global;
+
+// No member has anything ready.
+fn rest<P>(parts: &mut [MemberPart<P>]) {
+    for part in parts {
+        part.ready = 0;
+    }
+}
+
+fn reset_all<P: Policy>(
+    alloc: Global,
+    parts: &mut [MemberPart<P>],
+    sizes: &GroupSizes,
+) -> Result<(), NoMemory>
+    ensures { OnOk result (All (λ part. IsNew part.id sizes.now.sizes part.resources) parts.new) }
+{
+    for part in parts {
+        part.reset(alloc, sizes)?;
+    }
+    Ok(())
+}
+
+/// Makes the next call of the disk. Answers which it was, and where the restart stands.
+pub fn step_restart<D: Disk>(
+    alloc: Global,
+    restart: &mut GroupRestart,
+    disk: &mut D,
+) -> Result<(Call, State), NoMemory>
+    ensures later { D.faults disk.old ≤ D.faults disk.new }
+    ensures failed { IfOk result (λ r. r.1 ≡ state.Failed → Rose (D.faults disk.old) (D.faults disk.new)) }
+{
+    let call = restart.call();
+    let state = restart.step(alloc, disk)?;
+    Ok((call, state))
+}
+
+impl<C: CacheFace, P: Policy> Crew<C, P> {
+    // Stops the transactions of the last phase that has begun, where they have no fate.
+    fn stop_phase(&mut self) {
+        let Some(at) = self.progress.begun.checked_sub(1) else {
+            return;
+        };
+        if let Some(phase) = self.script.phases.as_slice().get(at) {
+            self.fates.stop_phase(phase);
+        }
+    }
+
+    /// The group fails. No member goes on before the group restart, which is in hand from now on, is done.
+    pub fn fail(&mut self, alloc: Global) -> Result<(), NoMemory>
+        ensures { OnOk result (is_some self.new.restart ≡ true) }
+    {
+        let restart = GroupRestart::new(alloc)?;
+        self.stop_phase();
+        rest(&mut self.parts);
+        self.restart = Some(restart);
+        Ok(())
+    }
+
+    /// The group restart is done, with this counter. All begin anew.
+    pub fn reset(&mut self, alloc: Global, counter: Lrsn) -> Result<(), NoMemory>
+        ensures facility { IsReset (held C.directory self.old.facility) counter (held C.directory self.new.facility) }
+        ensures members { OnOk result (All (λ part. IsNew part.id self.old.sizes.sizes part.resources) self.new.parts.items) }
+        ensures restart { self.new.restart ≡ None }
+        ensures others { self.new ≡ record self.old { facility = self.new.facility; parts = self.new.parts; restart = self.new.restart; is_own_stale = true; was_half = self.new.was_half } }
+    {
+        self.restart = None;
+        self.facility.reset(counter);
+        self.was_half = self.is_half();
+        self.is_own_stale = true;
+        reset_all(alloc, &mut self.parts, &self.sizes)
+    }
+}
