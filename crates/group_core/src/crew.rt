@@ -1,6 +1,6 @@
-ghost use Rattle.std.specs.Prelude.{◌≡◌, true, is_some};
+ghost use Rattle.std.specs.Prelude.{◌≡◌, true, is_some, map, slice_get};
 ghost use Rattle.group_core.specs.Progresses.{is_at_end, own_choice};
-ghost use Rattle.group_core.specs.Ready.{is_own};
+ghost use Rattle.group_core.specs.Ready.{is_own, ready_at};
 ghost use Rattle.group_core.specs.Crews.{is_ready_in};
 
 use crate::part::MemberPart;
@@ -57,6 +57,16 @@ fn is_own(own: Option<u64>, choice: u64) -> bool
     }
 }
 
+// Whether the choice of the member at a place is ready.
+fn has_ready<P>(parts: &[MemberPart<P>], at: usize, choice: u64) -> bool
+    ensures { result ≡ ready_at (slice_get (map (λ part. part.ready) parts.now) at) choice }
+{
+    match parts.get(at) {
+        Some(part) => has_choice(part.ready, choice),
+        None => false,
+    }
+}
+
 impl<C, P> Crew<C, P> {
     /// Whether the script is played.
     pub fn is_played(&self) -> bool
@@ -83,13 +93,7 @@ impl<C, P> Crew<C, P> {
         let choice = event / 64;
         match ((event % 64) as usize).checked_sub(1) {
             None => is_own(self.own_choice(), choice),
-            Some(at) => {
-                self.restart.is_none()
-                    && match self.parts.get(at) {
-                        Some(part) => has_choice(part.ready, choice),
-                        None => false,
-                    }
-            }
+            Some(at) => self.restart.is_none() && has_ready(&self.parts, at, choice),
         }
     }
 }

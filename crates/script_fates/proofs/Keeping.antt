@@ -1,13 +1,10 @@
 -- Numbers and commits of entries, where one is added or answered.
-use Rattle.std.proofs.Common.{◌≡◌, ◌≢◌, ℕ, ◌+◌, ◌==◌, ◌&&◌, ◌||◌, ◌⊎◌, Bool, true, false, List, [], ◌∷◌, ◌++◌, refl, sym, ap, ◌∙◌, subst, inl, inr, arith, ◌-◌, ◌≤◌, if◌then◌else◌}
-use Rattle.std.specs.List.{list_any, AllByRecursion}
-use Rattle.std.proofs.lemmas.List.Folds.{list_any-append}
+use Rattle.std.proofs.Common.{◌≡◌, ℕ, ◌==◌, ◌&&◌, Bool, true, false, List, [], ◌∷◌, refl, ap, if◌then◌else◌}
 use Rattle.ds_model.specs.declared.fate.Fate.{Fate}
 use Rattle.ds_model.specs.declared.fate.Fate.TheVariants as fate
 use Rattle.ds_model.specs.declared.history.Entry.{Entry}
 use Rattle.ds_model.specs.History.{is_committed}
 use Rattle.tran_history.specs.Histories.{has_number, has_committed, answered_fate, answered_entry, after_answer}
-use Rattle.script_fates.specs.Fated.{is_marked, Adds}
 
 abbrev number_is : ℕ → Entry → Bool
 number_is n e = e.tran.number == n

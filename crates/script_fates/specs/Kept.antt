@@ -1,5 +1,5 @@
 -- What is kept of transactions beside their entries.
-use Rattle.std.specs.Prelude.{◌≡◌, ℕ, ◌+◌, Bool, true, false, List, Option, IsTrue}
+use Rattle.std.specs.Prelude.{◌≡◌, ℕ, ◌+◌, Bool, true, false, List, Option}
 use Rattle.ds_model.specs.declared.history.Entry.{Entry}
 use Rattle.tran_history.specs.Histories.{has_number, has_committed}
 use Rattle.script_fates.specs.Fated.{waits_at, is_marked}
