@@ -64,17 +64,14 @@ fn close_after<D: Disk>(alloc: Global, disk: &mut D, fault: Option<RunFault>) ->
     }
 }
 
-impl<D: Disk, C: Drop, P: Drop> Group<D, C, P> {
-    /// Gives up the facility and the members, and closes the disk by a group restart.
-    pub fn close(self, alloc: Global) -> (D, Played, Closed)
-        ensures later { D.faults self.disk ≤ D.faults result.0 }
-        ensures failed { result.2 ≡ closed.Failed → Rose (D.faults self.disk) (D.faults result.0) }
-        ensures run { is_run result.2 ≡ is_closed self.fault }
-        ensures unrun { is_closed self.fault ≡ false → result.0 ≡ self.disk }
+impl<D, C: Drop, P: Drop> Group<D, C, P> {
+    // Gives up the facility and the members.
+    fn into_parts(self) -> (D, Played)
+        ensures disk { result.0 ≡ self.disk }
         ensures fault { result.1.fault ≡ self.fault }
     {
         let Group {
-            mut disk,
+            disk,
             crew,
             journal,
             lines,
@@ -90,7 +87,21 @@ impl<D: Disk, C: Drop, P: Drop> Group<D, C, P> {
             lines,
             fault,
         };
-        let closed = close_after(alloc, &mut disk, fault);
+        (disk, played)
+    }
+}
+
+impl<D: Disk, C: Drop, P: Drop> Group<D, C, P> {
+    /// Gives up the facility and the members, and closes the disk by a group restart.
+    pub fn close(self, alloc: Global) -> (D, Played, Closed)
+        ensures later { D.faults self.disk ≤ D.faults result.0 }
+        ensures failed { result.2 ≡ closed.Failed → Rose (D.faults self.disk) (D.faults result.0) }
+        ensures run { is_run result.2 ≡ is_closed self.fault }
+        ensures unrun { is_closed self.fault ≡ false → result.0 ≡ self.disk }
+        ensures fault { result.1.fault ≡ self.fault }
+    {
+        let (mut disk, played) = self.into_parts();
+        let closed = close_after(alloc, &mut disk, played.fault);
         (disk, played, closed)
     }
 }

@@ -1,4 +1,4 @@
-ghost use Rattle.std.specs.Prelude.{◌≡◌, true, is_some, map, slice_get};
+ghost use Rattle.std.specs.Prelude.{◌≡◌, true, false, is_some, map, slice_get};
 ghost use Rattle.group_core.specs.Progresses.{is_at_end, own_choice};
 ghost use Rattle.group_core.specs.Ready.{is_own, ready_at};
 ghost use Rattle.group_core.specs.Crews.{is_ready_in};
@@ -36,6 +36,29 @@ pub struct Crew<C, P> {
 fn make_stale<P>(parts: &mut [MemberPart<P>]) {
     for part in parts {
         part.is_stale = true;
+    }
+}
+
+// What is seen for a member before an event.
+fn look_for<C: CacheFace>(facility: &Facility<C>, is_half: bool, member: MemberId) -> Look {
+    Look {
+        bell: facility.bell(member),
+        asked: facility.asked(member),
+        is_half,
+        is_lost: facility.lost(),
+        is_done: facility.done(member),
+    }
+}
+
+// Finds again which choices of members are ready.
+fn find_in_all<C: CacheFace, P: Policy>(
+    facility: &Facility<C>,
+    is_half: bool,
+    parts: &mut [MemberPart<P>],
+) {
+    for part in parts {
+        let look = look_for(facility, is_half, part.id);
+        part.find_ready(&look);
     }
 }
 
@@ -104,17 +127,6 @@ impl<C: CacheFace, P> Crew<C, P> {
         2 * self.facility.changed_count() as u64 > self.sizes.sizes.cache as u64
     }
 
-    // What is seen for a member before an event.
-    fn look(&self, member: MemberId) -> Look {
-        Look {
-            bell: self.facility.bell(member),
-            asked: self.facility.asked(member),
-            is_half: self.was_half,
-            is_lost: self.facility.lost(),
-            is_done: self.facility.done(member),
-        }
-    }
-
     /// A bell has rung, or what is seen for all members has changed.
     pub fn make_all_stale(&mut self) {
         self.was_half = self.is_half();
@@ -123,7 +135,9 @@ impl<C: CacheFace, P> Crew<C, P> {
     }
 
     // Finds again whether all members are done, where that may have changed.
-    fn find_idle(&mut self) {
+    fn find_idle(&mut self)
+        ensures { self.new ≡ record self.old { progress = self.new.progress; is_own_stale = false } }
+    {
         if self.is_own_stale {
             self.progress.is_idle = are_all_done(&self.facility, &self.parts);
             self.is_own_stale = false;
@@ -133,14 +147,13 @@ impl<C: CacheFace, P> Crew<C, P> {
 
 impl<C: CacheFace, P: Policy> Crew<C, P> {
     /// Finds again which choices are ready, where that may have changed. While a group restart is in hand no member has any.
-    pub fn find_ready(&mut self) {
+    pub fn find_ready(&mut self)
+        ensures { self.new ≡ record self.old { parts = self.new.parts; progress = self.new.progress; is_own_stale = self.new.is_own_stale } }
+    {
         if self.restart.is_some() {
             return;
         }
-        for at in 0..self.parts.len() {
-            let look = self.look(self.parts[at].id);
-            self.parts[at].find_ready(&look);
-        }
+        find_in_all(&self.facility, self.was_half, &mut self.parts);
         self.find_idle();
     }
 

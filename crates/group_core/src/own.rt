@@ -40,12 +40,12 @@ impl<D: Disk, C: CacheFace, P: Policy> Group<D, C, P> {
     }
 
     // Goes on from where the group restart stands.
-    fn enter_restart(&mut self, alloc: Global, state: &State) -> Result<(), NoMemory>
+    fn enter_restart(&mut self, alloc: Global, reached: &State) -> Result<(), NoMemory>
         ensures disk { self.new.disk ≡ self.old.disk }
-        ensures fault { IsFailed self.new.fault → IsFailed self.old.fault ⊎ (state.now ≡ state.Failed) }
+        ensures fault { IsFailed self.new.fault → IsFailed self.old.fault ⊎ (reached.now ≡ state.Failed) }
         ensures journal { self.new.journal.items ≡ self.old.journal.items }
     {
-        match *state {
+        match *reached {
             State::Going => {}
             State::Done { counter } => self.crew.reset(alloc, counter)?,
             State::Damaged { volume, at } => self.fault = Some(RunFault::Damaged { volume, at }),

@@ -2,6 +2,7 @@ ghost use Rattle.std.specs.Prelude.{◌≡◌, ◌≤◌, None, IfOk, IfErr};
 ghost use Rattle.ds_base.specs.Causes.{Rose};
 ghost use Rattle.cache_structure.specs.Directory.{empty_directory};
 ghost use Rattle.group_core.specs.declared.fault.RunFault.TheVariants as fault;
+ghost use Rattle.group_restart.specs.declared.calls.State.TheVariants as state;
 
 use crate::crew::Crew;
 use crate::fault::{RunFault, StartFault};
@@ -19,16 +20,26 @@ use member_resources::{Policy, Resources};
 use script_fates::Fates;
 use std::alloc::Global;
 
-// Runs the group restart that opens the disk. Answers the greatest number that was drawn for a log record.
+// The greatest number that was drawn for a log record, where a group restart has ended well.
+fn counter_of(ended: &State) -> Result<Lrsn, RunFault>
+    ensures { IfErr result (λ why. why ≡ fault.Failed → ended.now ≡ state.Failed) }
+{
+    match *ended {
+        State::Done { counter } => Ok(counter),
+        State::Failed => Err(RunFault::Failed),
+        State::Damaged { volume, at } => Err(RunFault::Damaged { volume, at }),
+        State::Going => Err(RunFault::NoMemory),
+    }
+}
+
+// Runs the group restart that opens the disk.
 fn open_disk<D: Disk>(alloc: Global, disk: &mut D) -> Result<Lrsn, RunFault>
     ensures later { D.faults disk.old ≤ D.faults disk.new }
     ensures failed { IfErr result (λ why. why ≡ fault.Failed → Rose (D.faults disk.old) (D.faults disk.new)) }
 {
     match restart_disk(alloc, disk) {
-        Ok(State::Done { counter }) => Ok(counter),
-        Ok(State::Failed) => Err(RunFault::Failed),
-        Ok(State::Damaged { volume, at }) => Err(RunFault::Damaged { volume, at }),
-        Ok(State::Going) | Err(_) => Err(RunFault::NoMemory),
+        Ok(ended) => counter_of(&ended),
+        Err(_) => Err(RunFault::NoMemory),
     }
 }
 
