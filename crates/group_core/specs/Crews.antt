@@ -1,5 +1,5 @@
 -- What a group may do next, by all that it has.
-use Rattle.std.specs.Prelude.{ℕ, ◌&&◌, Bool, not, map, Option, is_some}
+use Rattle.std.specs.Prelude.{◌≡◌, ◌≢◌, ◌⊎◌, ℕ, ◌+◌, ◌&&◌, Bool, true, not, map, Option, is_some}
 use Rattle.group_core.specs.declared.crew.Crew.{Crew}
 use Rattle.group_core.specs.declared.fault.RunFault.{RunFault}
 use Rattle.group_core.specs.Progresses.{own_choice}
@@ -13,3 +13,18 @@ is_ready_in {C} {P} crew event =
 -- whether the event is taken: the run hasn't ended, and its choice is ready
 abbrev pub is_taken : {C P : Type 0} → Option RunFault → Crew C P → ℕ → Bool
 is_taken {C} {P} why crew event = not (is_some why) && is_ready_in crew event
+
+-- How a taken event moves the script on: event 0 begins the next phase, or shows why that may not be, and no other begins one;
+-- event 64 lets the group fail; a group restart that is in hand is done by event 128 alone.
+pub record Moves {C P : Type 0} (event : ℕ) (old new : Crew C P) (why : Option RunFault) : Type 0 where
+  pub script : new.script ≡ old.script
+  pub begins : event ≡ 0 → (new.progress.begun ≡ old.progress.begun + 1) ⊎ (is_some why ≡ true)
+  pub stays : event ≢ 0 → new.progress.begun ≡ old.progress.begun
+  pub fails : event ≡ 64 → is_some new.restart ≡ true
+  pub holds : event ≢ 128 → is_some old.restart ≡ true → is_some new.restart ≡ true
+
+-- what no event of a member changes
+pub record Keeps {C P : Type 0} (old new : Crew C P) : Type 0 where
+  pub script : new.script ≡ old.script
+  pub begun : new.progress.begun ≡ old.progress.begun
+  pub restart : new.restart ≡ old.restart

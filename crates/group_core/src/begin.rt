@@ -1,6 +1,6 @@
 //! The begin of a phase.
 
-ghost use Rattle.std.specs.Prelude.{◌≡◌, length};
+ghost use Rattle.std.specs.Prelude.{◌≡◌, ◌+◌, true, false, length, IfOk};
 
 use crate::crew::Crew;
 use crate::part::MemberPart;
@@ -26,10 +26,13 @@ fn begin_in_all<P: Policy>(
 }
 
 impl<C: CacheFace, P: Policy> Crew<C, P> {
-    /// The next phase begins. Answers whether the bells could ring.
-    pub fn begin_phase(&mut self, alloc: Global) -> Result<bool, NoMemory> {
+    /// The next phase begins. Answers whether there is one, and the bells could ring.
+    pub fn begin_phase(&mut self, alloc: Global) -> Result<bool, NoMemory>
+        ensures begun { IfOk result (λ begun. begun ≡ true → self.new.progress ≡ record { begun = self.old.progress.begun + 1; groupfails = 0; is_idle = false }) }
+        ensures others { self.new ≡ record self.old { facility = self.new.facility; parts = self.new.parts; progress = self.new.progress; is_own_stale = self.new.is_own_stale; was_half = self.new.was_half } }
+    {
         let Some(phase) = self.script.phases.as_slice().get(self.progress.begun) else {
-            return Ok(true);
+            return Ok(false);
         };
         if !self.facility.lists.can_ring() {
             return Ok(false);

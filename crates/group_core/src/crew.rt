@@ -128,7 +128,9 @@ impl<C: CacheFace, P> Crew<C, P> {
     }
 
     /// A bell has rung, or what is seen for all members has changed.
-    pub fn make_all_stale(&mut self) {
+    pub fn make_all_stale(&mut self)
+        ensures { self.new ≡ record self.old { parts = self.new.parts; is_own_stale = true; was_half = self.new.was_half } }
+    {
         self.was_half = self.is_half();
         self.is_own_stale = true;
         make_stale(&mut self.parts);
@@ -136,7 +138,7 @@ impl<C: CacheFace, P> Crew<C, P> {
 
     // Finds again whether all members are done, where that may have changed.
     fn find_idle(&mut self)
-        ensures { self.new ≡ record self.old { progress = self.new.progress; is_own_stale = false } }
+        ensures { self.new ≡ record self.old { progress = record self.old.progress { is_idle = self.new.progress.is_idle }; is_own_stale = self.new.is_own_stale } }
     {
         if self.is_own_stale {
             self.progress.is_idle = are_all_done(&self.facility, &self.parts);
@@ -148,7 +150,7 @@ impl<C: CacheFace, P> Crew<C, P> {
 impl<C: CacheFace, P: Policy> Crew<C, P> {
     /// Finds again which choices are ready, where that may have changed. While a group restart is in hand no member has any.
     pub fn find_ready(&mut self)
-        ensures { self.new ≡ record self.old { parts = self.new.parts; progress = self.new.progress; is_own_stale = self.new.is_own_stale } }
+        ensures { self.new ≡ record self.old { parts = self.new.parts; progress = record self.old.progress { is_idle = self.new.progress.is_idle }; is_own_stale = self.new.is_own_stale } }
     {
         if self.restart.is_some() {
             return;

@@ -52,7 +52,9 @@ pub fn step_restart<D: Disk>(
 
 impl<C: CacheFace, P: Policy> Crew<C, P> {
     // Stops the transactions of the last phase that has begun, where they have no fate.
-    fn stop_phase(&mut self) {
+    fn stop_phase(&mut self)
+        ensures { self.new ≡ record self.old { fates = self.new.fates } }
+    {
         let Some(at) = self.progress.begun.checked_sub(1) else {
             return;
         };
@@ -63,7 +65,9 @@ impl<C: CacheFace, P: Policy> Crew<C, P> {
 
     /// The group fails. No member goes on before the group restart, which is in hand from now on, is done.
     pub fn fail(&mut self, alloc: Global) -> Result<(), NoMemory>
-        ensures { OnOk result (is_some self.new.restart ≡ true) }
+        ensures restart { OnOk result (is_some self.new.restart ≡ true) }
+        ensures others { self.new ≡ record self.old { restart = self.new.restart; parts = self.new.parts; fates = self.new.fates } }
+        ensures held { is_some self.old.restart ≡ true → is_some self.new.restart ≡ true }
     {
         let restart = GroupRestart::new(alloc)?;
         self.stop_phase();

@@ -2,6 +2,7 @@
 
 ghost use Rattle.std.specs.Prelude.{◌≡◌, ◌≤◌, IfOk};
 ghost use Rattle.ds_base.specs.Causes.{Rose};
+ghost use Rattle.group_core.specs.Crews.{Keeps};
 ghost use Rattle.member_intents.specs.declared.outcome.Answered.TheVariants as answers;
 
 use crate::crew::Crew;
@@ -111,7 +112,9 @@ fn is_seen_by_all(sent: &Sent) -> bool {
 
 impl<C: CacheFace, P: Policy> Crew<C, P> {
     // What a command has changed for others, where these were the bells and the loss before it.
-    fn make_others_stale(&mut self, sent: &Sent, bell: u64, was_lost: bool, member: MemberId) {
+    fn make_others_stale(&mut self, sent: &Sent, bell: u64, was_lost: bool, member: MemberId)
+        ensures { self.new ≡ record self.old { parts = self.new.parts; is_own_stale = self.new.is_own_stale; was_half = self.new.was_half } }
+    {
         if is_seen_by_all(sent)
             || self.facility.bell(member) != bell
             || self.facility.lost() != was_lost
@@ -133,6 +136,7 @@ impl<C: CacheFace, P: Policy> Crew<C, P> {
         place: u64,
     ) -> Result<(Sent, Answered), StepFault>
         ensures later { D.faults disk.old ≤ D.faults disk.new }
+        ensures keeps { Keeps self.old self.new }
         ensures failed { IfOk result (λ r. r.1 ≡ answers.Failed → Rose (D.faults disk.old) (D.faults disk.new)) }
     {
         let Some(member) = MemberId::new((at as u64).saturating_add(1)) else {

@@ -1,7 +1,8 @@
 //! The events of the group itself.
 
-ghost use Rattle.std.specs.Prelude.{◌≡◌, ◌⊎◌};
+ghost use Rattle.std.specs.Prelude.{◌≡◌, ◌⊎◌, OnOk};
 ghost use Rattle.group_restart.specs.declared.calls.State.TheVariants as state;
+ghost use Rattle.group_core.specs.Crews.{Moves};
 ghost use Rattle.group_core.specs.Goes.{Goes, IsFailed};
 
 use crate::failure::step_restart;
@@ -21,6 +22,7 @@ use trace_words::call_line;
 impl<D: Disk, C: CacheFace, P: Policy> Group<D, C, P> {
     // The next phase begins.
     fn take_phase(&mut self, alloc: Global, place: u64) -> Result<(), NoMemory>
+        ensures moves { OnOk result (Moves 0 self.old.crew self.new.crew self.new.fault) }
         ensures goes { Goes (D.faults self.old.disk) self.old.fault (D.faults self.new.disk) self.new.fault }
         ensures journal { self.new.journal.items ≡ self.old.journal.items }
     {
@@ -32,6 +34,7 @@ impl<D: Disk, C: CacheFace, P: Policy> Group<D, C, P> {
 
     // The script lets the group fail.
     fn take_failure(&mut self, alloc: Global) -> Result<(), NoMemory>
+        ensures moves { OnOk result (Moves 64 self.old.crew self.new.crew self.new.fault) }
         ensures goes { Goes (D.faults self.old.disk) self.old.fault (D.faults self.new.disk) self.new.fault }
         ensures journal { self.new.journal.items ≡ self.old.journal.items }
     {
@@ -43,6 +46,7 @@ impl<D: Disk, C: CacheFace, P: Policy> Group<D, C, P> {
     fn enter_restart(&mut self, alloc: Global, reached: &State) -> Result<(), NoMemory>
         ensures disk { self.new.disk ≡ self.old.disk }
         ensures fault { IsFailed self.new.fault → IsFailed self.old.fault ⊎ (reached.now ≡ state.Failed) }
+        ensures moves { OnOk result (Moves 128 self.old.crew self.new.crew self.new.fault) }
         ensures journal { self.new.journal.items ≡ self.old.journal.items }
     {
         match *reached {
@@ -59,6 +63,7 @@ impl<D: Disk, C: CacheFace, P: Policy> Group<D, C, P> {
 
     // The next call of the disk in the group restart.
     fn take_restart(&mut self, alloc: Global, event: u64, place: u64) -> Result<(), NoMemory>
+        ensures moves { OnOk result (Moves 128 self.old.crew self.new.crew self.new.fault) }
         ensures goes { Goes (D.faults self.old.disk) self.old.fault (D.faults self.new.disk) self.new.fault }
         ensures journal { self.new.journal.items ≡ self.old.journal.items }
     {
@@ -75,13 +80,13 @@ impl<D: Disk, C: CacheFace, P: Policy> Group<D, C, P> {
     pub(crate) fn take_own(&mut self, alloc: Global, event: u64, place: u64) -> Result<(), NoMemory>
         ensures goes { Goes (D.faults self.old.disk) self.old.fault (D.faults self.new.disk) self.new.fault }
         ensures journal { self.new.journal.items ≡ self.old.journal.items }
+        ensures moves { OnOk result (Moves event self.old.crew self.new.crew self.new.fault) }
     {
-        let choice = event / 64;
-        if choice == GROUP_RESTART {
+        if event == GROUP_RESTART * 64 {
             return self.take_restart(alloc, event, place);
         }
         note_silent(&mut self.lines, place, event);
-        if choice == NEXT_PHASE {
+        if event == NEXT_PHASE * 64 {
             self.take_phase(alloc, place)
         } else {
             self.take_failure(alloc)

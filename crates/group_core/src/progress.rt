@@ -1,6 +1,6 @@
 //! How far a script is played, and what the group itself may do next.
 
-ghost use Rattle.std.specs.Prelude.{◌≡◌, false};
+ghost use Rattle.std.specs.Prelude.{◌≡◌, ◌+◌, ◌-◌, ◌^◌, ◌<◌, min, false};
 ghost use Rattle.group_core.specs.Progresses.{choice_next, groupfails_wanted, has_groupfail, has_phase, is_played};
 
 use ds_model::Script;
@@ -85,16 +85,17 @@ impl Progress {
 
     /// A phase has begun.
     pub fn begin_phase(&mut self)
-        ensures { self.new ≡ record self.old { begun = self.new.begun; groupfails = 0; is_idle = false } }
+        requires { self.old.begun < 2 ^ 64 - 1 }
+        ensures { self.new ≡ record { begun = self.old.begun + 1; groupfails = 0; is_idle = false } }
     {
-        self.begun = self.begun.saturating_add(1);
+        self.begun += 1;
         self.groupfails = 0;
         self.is_idle = false;
     }
 
     /// The script has let the group fail.
     pub fn count_groupfail(&mut self)
-        ensures { self.new ≡ record self.old { groupfails = self.new.groupfails } }
+        ensures { self.new ≡ record self.old { groupfails = min (self.old.groupfails + 1) (2 ^ 32 - 1) } }
     {
         self.groupfails = self.groupfails.saturating_add(1);
     }

@@ -1,7 +1,7 @@
-ghost use Rattle.std.specs.Prelude.{◌≡◌, ◌∷◌, [], ◌++◌, false, IsErr, IsOk, OnOk, OnErr, Some};
+ghost use Rattle.std.specs.Prelude.{◌≡◌, ◌∷◌, [], ◌++◌, true, false, IsErr, IsOk, OnOk, OnErr, Some};
 ghost use Rattle.member_intents.specs.declared.outcome.Answered.TheVariants as answers;
 ghost use Rattle.group_core.specs.declared.fault.RunFault.TheVariants as fault;
-ghost use Rattle.group_core.specs.Crews.{is_taken};
+ghost use Rattle.group_core.specs.Crews.{is_taken, Keeps, Moves};
 ghost use Rattle.group_core.specs.Goes.{Goes, IsFailed};
 
 use crate::fault::RunFault;
@@ -32,6 +32,7 @@ impl<D: Disk, C: CacheFace, P: Policy> Group<D, C, P> {
     fn enter(&mut self, at: usize, event: u64, place: u64, sent: &Sent, answered: &Answered)
         ensures disk { self.new.disk ≡ self.old.disk }
         ensures fault { IsFailed self.new.fault → answered.now ≡ answers.Failed }
+        ensures keeps { Keeps self.old.crew self.new.crew }
         ensures journal { self.new.journal.items ≡ self.old.journal.items }
     {
         note(&mut self.lines, line_of(place, event, sent, answered));
@@ -51,6 +52,7 @@ impl<D: Disk, C: CacheFace, P: Policy> Group<D, C, P> {
     ) -> Result<(), NoMemory>
         ensures goes { Goes (D.faults self.old.disk) self.old.fault (D.faults self.new.disk) self.new.fault }
         ensures journal { self.new.journal.items ≡ self.old.journal.items }
+        ensures keeps { Keeps self.old.crew self.new.crew }
     {
         match self
             .crew
@@ -76,6 +78,7 @@ impl<D: Disk, C: CacheFace, P: Policy> Group<D, C, P> {
     fn take_ready(&mut self, alloc: Global, event: u64, place: u64) -> Result<(), NoMemory>
         ensures goes { Goes (D.faults self.old.disk) self.old.fault (D.faults self.new.disk) self.new.fault }
         ensures journal { self.new.journal.items ≡ self.old.journal.items }
+        ensures moves { OnOk result (Moves event self.old.crew self.new.crew self.new.fault) }
     {
         match ((event % 64) as usize).checked_sub(1) {
             None => self.take_own(alloc, event, place)?,
@@ -89,6 +92,7 @@ impl<D: Disk, C: CacheFace, P: Policy> Group<D, C, P> {
         ensures goes { Goes (D.faults self.old.disk) self.old.fault (D.faults self.new.disk) self.new.fault }
         ensures journal { self.new.journal.items ≡ self.old.journal.items }
         ensures left { is_taken self.old.fault self.old.crew event ≡ false → self.new ≡ record self.old { lines = self.new.lines } }
+        ensures moves { is_taken self.old.fault self.old.crew event ≡ true → OnOk result (Moves event self.old.crew self.new.crew self.new.fault) }
         ensures ok { is_taken self.old.fault self.old.crew event ≡ false → IsOk result }
     {
         if !self.is_taken(event) {
@@ -102,6 +106,7 @@ impl<D: Disk, C: CacheFace, P: Policy> Group<D, C, P> {
     fn enter_event(&mut self, alloc: Global, event: u64) -> Result<(), NoMemory>
         ensures goes { Goes (D.faults self.old.disk) self.old.fault (D.faults self.new.disk) self.new.fault }
         ensures journal { OnOk result (self.new.journal.items ≡ self.old.journal.items ++ event ∷ []) }
+        ensures moves { is_taken self.old.fault self.old.crew event ≡ true → OnOk result (Moves event self.old.crew self.new.crew self.new.fault) }
         ensures left { is_taken self.old.fault self.old.crew event ≡ false → self.new ≡ record self.old { journal = self.new.journal; lines = self.new.lines } }
     {
         reserve(&mut self.journal, &mut self.lines)?;
@@ -116,7 +121,8 @@ impl<D: Disk, C: CacheFace, P: Policy> Group<D, C, P> {
         ensures goes { Goes (D.faults self.old.disk) self.old.fault (D.faults self.new.disk) self.new.fault }
         ensures journal { OnOk result (self.new.journal.items ≡ self.old.journal.items ++ event ∷ []) }
         ensures left { is_taken self.old.fault self.old.crew event ≡ false → self.new ≡ record self.old { journal = self.new.journal; lines = self.new.lines; fault = self.new.fault } }
-        ensures taken { is_taken self.old.fault self.old.crew event ≡ false → OnOk result (self.new.fault ≡ self.old.fault) }
+        ensures moves { is_taken self.old.fault self.old.crew event ≡ true → OnOk result (Moves event self.old.crew self.new.crew self.new.fault) }
+        ensures ended { is_taken self.old.fault self.old.crew event ≡ false → OnOk result (self.new.fault ≡ self.old.fault) }
         ensures wanting { OnErr result (self.new.fault ≡ Some fault.NoMemory) }
         ensures still { self.old.fault ≡ Some fault.NoMemory → IsErr result }
     {
