@@ -22,7 +22,7 @@ use trace_words::call_line;
 impl<D: Disk, C: CacheFace, P: Policy> Group<D, C, P> {
     // The next phase begins.
     fn take_phase(&mut self, alloc: Global, place: u64) -> Result<(), NoMemory>
-        ensures moves { OnOk result (Moves 0 self.old.crew self.new.crew self.new.fault) }
+        ensures moves { OnOk result (Moves C.directory 0 self.old.crew self.new.crew self.new.fault) }
         ensures goes { Goes (D.faults self.old.disk) self.old.fault (D.faults self.new.disk) self.new.fault }
         ensures journal { self.new.journal.items ≡ self.old.journal.items }
     {
@@ -34,7 +34,7 @@ impl<D: Disk, C: CacheFace, P: Policy> Group<D, C, P> {
 
     // The script lets the group fail.
     fn take_failure(&mut self, alloc: Global) -> Result<(), NoMemory>
-        ensures moves { OnOk result (Moves 64 self.old.crew self.new.crew self.new.fault) }
+        ensures moves { OnOk result (Moves C.directory 64 self.old.crew self.new.crew self.new.fault) }
         ensures goes { Goes (D.faults self.old.disk) self.old.fault (D.faults self.new.disk) self.new.fault }
         ensures journal { self.new.journal.items ≡ self.old.journal.items }
     {
@@ -46,7 +46,7 @@ impl<D: Disk, C: CacheFace, P: Policy> Group<D, C, P> {
     fn enter_restart(&mut self, alloc: Global, reached: &State) -> Result<(), NoMemory>
         ensures disk { self.new.disk ≡ self.old.disk }
         ensures fault { IsFailed self.new.fault → IsFailed self.old.fault ⊎ (reached.now ≡ state.Failed) }
-        ensures moves { OnOk result (Moves 128 self.old.crew self.new.crew self.new.fault) }
+        ensures moves { OnOk result (Moves C.directory 128 self.old.crew self.new.crew self.new.fault) }
         ensures journal { self.new.journal.items ≡ self.old.journal.items }
     {
         match *reached {
@@ -63,7 +63,7 @@ impl<D: Disk, C: CacheFace, P: Policy> Group<D, C, P> {
 
     // The next call of the disk in the group restart.
     fn take_restart(&mut self, alloc: Global, event: u64, place: u64) -> Result<(), NoMemory>
-        ensures moves { OnOk result (Moves 128 self.old.crew self.new.crew self.new.fault) }
+        ensures moves { OnOk result (Moves C.directory 128 self.old.crew self.new.crew self.new.fault) }
         ensures goes { Goes (D.faults self.old.disk) self.old.fault (D.faults self.new.disk) self.new.fault }
         ensures journal { self.new.journal.items ≡ self.old.journal.items }
     {
@@ -80,7 +80,7 @@ impl<D: Disk, C: CacheFace, P: Policy> Group<D, C, P> {
     pub(crate) fn take_own(&mut self, alloc: Global, event: u64, place: u64) -> Result<(), NoMemory>
         ensures goes { Goes (D.faults self.old.disk) self.old.fault (D.faults self.new.disk) self.new.fault }
         ensures journal { self.new.journal.items ≡ self.old.journal.items }
-        ensures moves { OnOk result (Moves event self.old.crew self.new.crew self.new.fault) }
+        ensures moves { OnOk result (Moves C.directory event self.old.crew self.new.crew self.new.fault) }
     {
         if event == GROUP_RESTART * 64 {
             return self.take_restart(alloc, event, place);

@@ -78,7 +78,7 @@ impl<D: Disk, C: CacheFace, P: Policy> Group<D, C, P> {
     fn take_ready(&mut self, alloc: Global, event: u64, place: u64) -> Result<(), NoMemory>
         ensures goes { Goes (D.faults self.old.disk) self.old.fault (D.faults self.new.disk) self.new.fault }
         ensures journal { self.new.journal.items ≡ self.old.journal.items }
-        ensures moves { OnOk result (Moves event self.old.crew self.new.crew self.new.fault) }
+        ensures moves { OnOk result (Moves C.directory event self.old.crew self.new.crew self.new.fault) }
     {
         match ((event % 64) as usize).checked_sub(1) {
             None => self.take_own(alloc, event, place)?,
@@ -92,7 +92,7 @@ impl<D: Disk, C: CacheFace, P: Policy> Group<D, C, P> {
         ensures goes { Goes (D.faults self.old.disk) self.old.fault (D.faults self.new.disk) self.new.fault }
         ensures journal { self.new.journal.items ≡ self.old.journal.items }
         ensures left { is_taken self.old.fault self.old.crew event ≡ false → self.new ≡ record self.old { lines = self.new.lines } }
-        ensures moves { is_taken self.old.fault self.old.crew event ≡ true → OnOk result (Moves event self.old.crew self.new.crew self.new.fault) }
+        ensures moves { is_taken self.old.fault self.old.crew event ≡ true → OnOk result (Moves C.directory event self.old.crew self.new.crew self.new.fault) }
         ensures ok { is_taken self.old.fault self.old.crew event ≡ false → IsOk result }
     {
         if !self.is_taken(event) {
@@ -106,7 +106,7 @@ impl<D: Disk, C: CacheFace, P: Policy> Group<D, C, P> {
     fn enter_event(&mut self, alloc: Global, event: u64) -> Result<(), NoMemory>
         ensures goes { Goes (D.faults self.old.disk) self.old.fault (D.faults self.new.disk) self.new.fault }
         ensures journal { OnOk result (self.new.journal.items ≡ self.old.journal.items ++ event ∷ []) }
-        ensures moves { is_taken self.old.fault self.old.crew event ≡ true → OnOk result (Moves event self.old.crew self.new.crew self.new.fault) }
+        ensures moves { is_taken self.old.fault self.old.crew event ≡ true → OnOk result (Moves C.directory event self.old.crew self.new.crew self.new.fault) }
         ensures left { is_taken self.old.fault self.old.crew event ≡ false → self.new ≡ record self.old { journal = self.new.journal; lines = self.new.lines } }
     {
         reserve(&mut self.journal, &mut self.lines)?;
@@ -121,7 +121,7 @@ impl<D: Disk, C: CacheFace, P: Policy> Group<D, C, P> {
         ensures goes { Goes (D.faults self.old.disk) self.old.fault (D.faults self.new.disk) self.new.fault }
         ensures journal { OnOk result (self.new.journal.items ≡ self.old.journal.items ++ event ∷ []) }
         ensures left { is_taken self.old.fault self.old.crew event ≡ false → self.new ≡ record self.old { journal = self.new.journal; lines = self.new.lines; fault = self.new.fault } }
-        ensures moves { is_taken self.old.fault self.old.crew event ≡ true → OnOk result (Moves event self.old.crew self.new.crew self.new.fault) }
+        ensures moves { is_taken self.old.fault self.old.crew event ≡ true → OnOk result (Moves C.directory event self.old.crew self.new.crew self.new.fault) }
         ensures ended { is_taken self.old.fault self.old.crew event ≡ false → OnOk result (self.new.fault ≡ self.old.fault) }
         ensures wanting { OnErr result (self.new.fault ≡ Some fault.NoMemory) }
         ensures still { self.old.fault ≡ Some fault.NoMemory → IsErr result }
