@@ -1,0 +1,5 @@
+pub mod Values
+pub mod Greatest
+pub mod Tails
+pub mod Opened
+pub mod Plans

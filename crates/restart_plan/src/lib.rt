@@ -1,0 +1,23 @@
+//! What the logs of a group ask of a restart after a stop of the whole group, as plain data.
+//!
+//! Tails of logs are cut, pages are brought forward, open transactions are undone in falling order of their changes, and
+//! each log gets a last record (Josten, Mohan, Narang and Teng, "DB2's use of the coupling facility for data sharing", IBM
+//! Systems Journal 36(2), 1997).
+#![tactic(auto)]
+
+mod greatest;
+mod logs;
+mod map;
+mod opened;
+mod plan;
+mod queue;
+mod tails;
+mod tran;
+
+pub use greatest::Greatest;
+pub use logs::Logs;
+pub use opened::{Closing, Undo};
+pub use plan::{Plan, plan_of};
+pub use queue::Queue;
+pub use tails::Tail;
+pub use tran::TranNumber;
