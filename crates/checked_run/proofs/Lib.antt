@@ -1,3 +1,3 @@
-pub mod Reading
 pub mod Sound
 pub mod Going
+pub mod Opened

@@ -1,9 +1,8 @@
 -- Reports that were found sound.
-use Rattle.std.proofs.Common.{◌≡◌, ◌≢◌, ◌⊎◌, inl, inr, ℕ, ◌+◌, ◌≤◌, Bool, true, false, cond, List, [], ◌∷◌, length, map, Option, Some, None, refl, sym, ap, subst, ◌∙◌, arith}
+use Rattle.std.proofs.Common.{◌≡◌, ◌≢◌, ◌⊎◌, inl, inr, ℕ, ◌+◌, ◌≤◌, Bool, true, false, cond, List, [], ◌∷◌, map, Option, Some, None, refl, sym, ap, subst, ◌∙◌, arith}
+use Rattle.std.proofs.lemmas.List.{append-nil, take_all}
 use Rattle.std.specs.Bool.{Decides}
 use Rattle.std.specs.Option.{SomeIff}
-use Rattle.std.specs.FinMap as finite
-use Rattle.std.specs.FinMap.{FinMap, empty_of_len, len-entries, entries-from_sorted}
 use Rattle.ds_base.specs.Causes.{Rose}
 use Rattle.ds_base.specs.declared.row.Row.{Row}
 use Rattle.ds_disk.specs.Contents.{Contents, Becomes}
@@ -14,73 +13,86 @@ use Rattle.ds_model.specs.declared.history.Entry.{Entry}
 use Rattle.ds_model.specs.declared.log.LogRecord.{LogRecord}
 use Rattle.ds_model.specs.Rows.{Rows, map_of, listed}
 use Rattle.ds_model.specs.History.{replay}
-use Rattle.ds_model.specs.Logs.{AreLogs, StandFor, rows_of_logs}
+use Rattle.ds_model.specs.Logs.{IsLog, AreLogs, StandFor, rows_of_logs}
 use Rattle.ds_model.specs.Told.{entry_of}
 use Rattle.log_record.specs.declared.log.Log.{Log}
+use Rattle.log_record.specs.Logs.{IsLogOf}
 use Rattle.report_check.specs.Records.{records_of}
 use Rattle.report_check.specs.Reports.{IsSoundReport, IsSoundAlone}
 use Rattle.report_check.specs.Laws.{settled, TellsSoundHistory, TellsSoundAlone}
-use Rattle.checked_run.specs.Read.{HoldsLogs}
-use Rattle.checked_run.specs.Told.{TellsAlways, RoseTwice, LogsStandFor, DiskStandsFor, IsTold, IsHeld, IsAlone, no_trace}
-
--- no rows are the empty map
-no_rows : map_of [] ≡ finite.empty
-no_rows = empty_of_len (map_of []) (len-entries (map_of []) ∙ ap length (entries-from_sorted _ [] tt))
+use Rattle.opening_rows.specs.Reading.{AreLogsOf}
+use Rattle.checked_run.specs.Back.{AreWhole, HoldsLogs}
+use Rattle.checked_run.specs.Told.{RoseTwice, LogsStandFor, IsTold, IsHeld, IsAlone, no_trace}
 
 abbrev pub report_of : Script → List Entry → List Row → Trace → ℕ → Report
 report_of script entries rows trace status = record { entries = map (entry_of script) entries; trace = trace; rows = rows; status = status }
 
-pub held : TellsSoundHistory → (script : Script) (entries : List Entry) (logs : List (List LogRecord)) (had : List ℕ) (rows : List Row) (trace : Trace) (status : ℕ) (report : Report)
-    → IsSoundReport script (map_of []) entries logs had → rows ≡ listed (rows_of_logs logs) → report ≡ report_of script entries rows trace status → IsHeld script logs trace status report
-held law script entries logs had rows trace status report is its e =
-    let told = law script finite.empty entries logs had (subst (λ (r : Rows). IsSoundReport script r entries logs had) no_rows is) in
-    let given : IsHeld script logs trace status (report_of script entries rows trace status) = record {
+pub held : TellsSoundHistory → (script : Script) (opening : List Row) (entries : List Entry) (logs : List (List LogRecord)) (had : List ℕ) (rows : List Row) (trace : Trace) (status : ℕ) (report : Report)
+    → IsSoundReport script (map_of opening) entries logs had → rows ≡ listed (rows_of_logs logs) → report ≡ report_of script entries rows trace status → IsHeld script opening logs trace status report
+held law script opening entries logs had rows trace status report is its e =
+    let told = law script (map_of opening) entries logs had is in
+    let given : IsHeld script opening logs trace status (report_of script entries rows trace status) = record {
       trace_is = refl;
       status_is = refl;
       sound = record {
-        history = settled finite.empty entries;
+        history = settled (map_of opening) entries;
         sound = told.sound;
         tells = record { entries = sym told.told; rows = its ∙ ap listed (sym told.rows) };
         stands = sym told.rows;
       };
     } in
-    subst (IsHeld script logs trace status) (sym e) given
+    subst (IsHeld script opening logs trace status) (sym e) given
 
-pub alone : TellsSoundAlone → (script : Script) (entries : List Entry) (rows : List Row) (trace : Trace) (status : ℕ) (report : Report)
-    → IsSoundAlone script (map_of []) entries → rows ≡ listed (replay (map_of []) entries) → report ≡ report_of script entries rows trace status → IsAlone script trace status report
-alone law script entries rows trace status report is its e =
-    let told = law script finite.empty entries (subst (λ (r : Rows). IsSoundAlone script r entries) no_rows is) in
-    let given : IsAlone script trace status (report_of script entries rows trace status) = record {
+pub alone : TellsSoundAlone → (script : Script) (opening : List Row) (entries : List Entry) (rows : List Row) (trace : Trace) (status : ℕ) (report : Report)
+    → IsSoundAlone script (map_of opening) entries → rows ≡ listed (replay (map_of opening) entries) → report ≡ report_of script entries rows trace status → IsAlone script opening trace status report
+alone law script opening entries rows trace status report is its e =
+    let told = law script (map_of opening) entries is in
+    let given : IsAlone script opening trace status (report_of script entries rows trace status) = record {
       trace_is = refl;
       status_is = refl;
       sound = record {
-        history = settled finite.empty entries;
+        history = settled (map_of opening) entries;
         sound = told.sound;
-        tells = record { entries = sym told.told; rows = its ∙ ap (λ (r : Rows). listed (replay r entries)) no_rows ∙ ap listed (sym told.rows) };
+        tells = record { entries = sym told.told; rows = its ∙ ap listed (sym told.rows) };
         stands = tt;
       };
     } in
-    subst (IsAlone script trace status) (sym e) given
+    subst (IsAlone script opening trace status) (sym e) given
 
 -- the same by what was asked
-pub held_by : TellsSoundHistory → (script : Script) (given entries : List Entry) (opening : List Row) (logs : List (List LogRecord)) (had : List ℕ) (sound : Bool) (rows : List Row) (trace : Trace) (status : ℕ) (report : Report)
-    → opening ≡ [] → given ≡ entries → Decides sound (IsSoundReport script (map_of opening) given logs had) → sound ≡ true → rows ≡ listed (rows_of_logs logs) → report ≡ report_of script entries rows trace status → IsHeld script logs trace status report
-held_by law script given entries opening logs had sound rows trace status report none same decides found its e =
-    held law script entries logs had rows trace status report (subst (λ (es : List Entry). IsSoundReport script (map_of []) es logs had) same (subst (λ (rs : List Row). IsSoundReport script (map_of rs) given logs had) none (decides.0 found))) its e
+pub held_by : TellsSoundHistory → (script : Script) (opening : List Row) (given entries : List Entry) (logs : List (List LogRecord)) (had : List ℕ) (sound : Bool) (rows : List Row) (trace : Trace) (status : ℕ) (report : Report)
+    → given ≡ entries → Decides sound (IsSoundReport script (map_of opening) given logs had) → sound ≡ true → rows ≡ listed (rows_of_logs logs) → report ≡ report_of script entries rows trace status → IsHeld script opening logs trace status report
+held_by law script opening given entries logs had sound rows trace status report same decides found its e =
+    held law script opening entries logs had rows trace status report (subst (λ (es : List Entry). IsSoundReport script (map_of opening) es logs had) same (decides.0 found)) its e
 
-pub alone_by : TellsSoundAlone → (script : Script) (given entries : List Entry) (opening : List Row) (found : Option (List Row)) (rows : List Row) (trace : Trace) (status : ℕ) (report : Report)
-    → opening ≡ [] → given ≡ entries → SomeIff found (IsSoundAlone script (map_of opening) given) (listed (replay (map_of opening) given)) → found ≡ Some rows → report ≡ report_of script entries rows trace status → IsAlone script trace status report
-alone_by law script given entries opening found rows trace status report none same iff is e =
+pub alone_by : TellsSoundAlone → (script : Script) (opening : List Row) (given entries : List Entry) (found : Option (List Row)) (rows : List Row) (trace : Trace) (status : ℕ) (report : Report)
+    → given ≡ entries → SomeIff found (IsSoundAlone script (map_of opening) given) (listed (replay (map_of opening) given)) → found ≡ Some rows → report ≡ report_of script entries rows trace status → IsAlone script opening trace status report
+alone_by law script opening given entries found rows trace status report same iff is e =
     let some : SomeIff (Some rows) (IsSoundAlone script (map_of opening) given) (listed (replay (map_of opening) given)) = subst (λ (o : Option (List Row)). SomeIff o (IsSoundAlone script (map_of opening) given) (listed (replay (map_of opening) given))) is iff in
-    let at_none : SomeIff (Some rows) (IsSoundAlone script (map_of []) entries) (listed (replay (map_of []) entries)) = subst (λ (es : List Entry). SomeIff (Some rows) (IsSoundAlone script (map_of []) es) (listed (replay (map_of []) es))) same (subst (λ (rs : List Row). SomeIff (Some rows) (IsSoundAlone script (map_of rs) given) (listed (replay (map_of rs) given))) none some) in
-    alone law script entries rows trace status report at_none.0 at_none.1 e
+    let its : SomeIff (Some rows) (IsSoundAlone script (map_of opening) entries) (listed (replay (map_of opening) entries)) = subst (λ (es : List Entry). SomeIff (Some rows) (IsSoundAlone script (map_of opening) es) (listed (replay (map_of opening) es))) same some in
+    alone law script opening entries rows trace status report its.0 its.1 e
 
 -- ---- the disk behind them
 
-logs_stand : (before after : Option Contents) (logs : List Log) (history : List Entry) → before ≢ None → Becomes before after (HoldsLogs logs) → rows_of_logs (records_of logs) ≡ replay finite.empty history → LogsStandFor after history
-logs_stand None after logs history told p is = absurd (told refl)
-logs_stand (Some c) None logs history told p is = absurd p
-logs_stand (Some c) (Some d) logs history told p is = record { records = records_of logs; are = p.1; rows_are = is }
+-- logs without tails are their records
+whole_log : (bytes : List ℕ) (log : Log) → IsLogOf bytes log → log.tail ≡ 0 → IsLog bytes log.records
+whole_log bytes log is short = record {
+  tail = [];
+  whole = sym (take_all log.length bytes (omega (arith, is.whole, short))) ∙ is.spelled ∙ sym (append-nil _);
+  allowed = is.allowed;
+  torn = inl refl;
+}
+
+whole_logs : (bss : List (List ℕ)) (logs : List Log) → AreLogsOf bss logs → AreWhole logs → AreLogs bss (records_of logs)
+whole_logs [] [] are whole = tt
+whole_logs [] (l ∷ logs) are whole = absurd are
+whole_logs (bs ∷ bss) [] are whole = absurd are
+whole_logs (bs ∷ bss) (l ∷ logs) are whole = (whole_log bs l are.0 whole.0, whole_logs bss logs are.1 whole.1)
+
+logs_stand : (before after : Option Contents) (logs : List Log) (rows : Rows) → before ≢ None → Becomes before after (HoldsLogs logs) → AreWhole logs → rows_of_logs (records_of logs) ≡ rows → LogsStandFor after rows
+logs_stand None after logs rows told p whole is = absurd (told refl)
+logs_stand (Some c) None logs rows told p whole is = absurd p
+logs_stand (Some c) (Some d) logs rows told p whole is = record { records = records_of logs; are = whole_logs d.logs logs p.1 whole; rows_are = is }
 
 abbrev code : Bool → ℕ
 code failed = cond failed 5 0
@@ -93,11 +105,12 @@ caused : (failed : Bool) → code failed ≡ 5 → failed ≡ true
 caused true e = refl
 caused false e = absurd (omega (arith, e))
 
-pub told_with : (tells : Type 0) (script : Script) (traced failed : Bool) (trace : Trace) (before now : ℕ) (was after : Option Contents) (logs : List Log) (report : Report)
+pub told_with : (tells : Type 0) (script : Script) (opening : List Row) (traced failed : Bool) (trace : Trace) (before now : ℕ) (was after : Option Contents) (logs : List Log) (report : Report)
     → (tells → was ≢ None) → Becomes was after (HoldsLogs logs) → (failed ≡ true → Rose before now) → (traced ≡ false → trace ≡ no_trace)
-    → IsHeld script (records_of logs) trace (cond failed 5 0) report → IsTold tells script traced before now after report
-told_with tells script traced failed trace before now was after logs report told read rose untraced is =
-    let stands : tells → LogsStandFor after is.sound.history = λ t. logs_stand was after logs is.sound.history (told t) read is.sound.stands in
+    → AreWhole logs × IsHeld script opening (records_of logs) trace (cond failed 5 0) report → IsTold tells script traced opening before now after report
+told_with tells script opening traced failed trace before now was after logs report told read rose untraced held =
+    let is = held.1 in
+    let stands : tells → LogsStandFor after (replay (map_of opening) is.sound.history) = λ t. logs_stand was after logs (replay (map_of opening) is.sound.history) (told t) read held.0 is.sound.stands in
     record {
       status = subst (λ n. (n ≡ 0) ⊎ (n ≡ 5)) (sym is.status_is) (zero_or_five failed);
       cause = λ e. rose (caused failed (sym is.status_is ∙ e));
@@ -110,10 +123,10 @@ told_with tells script traced failed trace before now was after logs report told
       };
     }
 
-pub told_alone : (tells : Type 0) (script : Script) (traced : Bool) (trace : Trace) (before now : ℕ) (after : Option Contents) (report : Report)
+pub told_alone : (tells : Type 0) (script : Script) (opening : List Row) (traced : Bool) (trace : Trace) (before now : ℕ) (after : Option Contents) (report : Report)
     → Rose before now → RoseTwice before now → (traced ≡ false → trace ≡ no_trace)
-    → IsAlone script trace 5 report → IsTold tells script traced before now after report
-told_alone tells script traced trace before now after report rose twice untraced is = record {
+    → IsAlone script opening trace 5 report → IsTold tells script traced opening before now after report
+told_alone tells script opening traced trace before now after report rose twice untraced is = record {
   status = inr is.status_is;
   cause = λ e. rose;
   untraced = λ e. is.trace_is ∙ untraced e;

@@ -1,2 +1,3 @@
+pub mod Back
 pub mod Told
-pub mod Read
+pub mod Outcomes

@@ -1,8 +1,8 @@
-//! A copy of a script. A report is held against a copy that no part of the run has had.
+//! Copies of scripts and rows. A report is held against a copy of its script that no part of the run has had.
 
 ghost use Rattle.std.specs.Prelude.{◌≡◌, IfOk};
 
-use ds_base::NoMemory;
+use ds_base::{NoMemory, RowList};
 use ds_model::{Part, PartList, Phase, PhaseList, Script};
 use script_fates::copy_trans;
 use std::alloc::Global;
@@ -54,4 +54,11 @@ pub fn copy_script(alloc: Global, script: &Script) -> Result<Script, NoMemory>
         phases: copy_phases(alloc, script.phases.as_slice())?,
         groupfails: script.groupfails,
     })
+}
+
+pub fn copy_rows(alloc: Global, rows: &RowList) -> Result<RowList, NoMemory>
+    ensures { IfOk result (λ copy. copy ≡ rows.now) }
+{
+    let copies = Vec::from_slice(alloc, rows.as_slice())?;
+    Ok(RowList::from_vec(copies))
 }

@@ -1,7 +1,8 @@
-use ds_base::Volume;
+use ds_base::{RowList, Volume};
 use ds_model::Report;
+use group_core::RunFault;
 
-/// What a run came to.
+/// What a disk came to that was opened.
 #[derive(Drop)]
 pub enum Ended {
     /// The report is sound. Its status is 5 where a call of the disk has failed, and else 0.
@@ -13,9 +14,18 @@ pub enum Ended {
     NoMemory,
 }
 
-/// What a run leaves.
+/// What became of a disk.
+#[derive(Drop)]
+pub enum Outcome {
+    /// It wasn't opened: its logs were not read, or the opening group restart ended so.
+    Unopened(RunFault),
+    /// It was opened. These are the rows for which its logs stood before.
+    Opened { opening: RowList, ended: Ended },
+}
+
+/// What a call leaves.
 #[derive(Drop)]
 pub struct Ran<D> {
     pub disk: D,
-    pub ended: Ended,
+    pub outcome: Outcome,
 }

@@ -1,14 +1,20 @@
-//! A run of a script by a group, whose report is held against the script and the logs before it is told.
+//! A run of a script by a group, whose report is held against the script, the rows before it and the logs before it is told.
 #![tactic(auto)]
 
 mod copies;
 mod ended;
+mod fault;
 mod logs;
 mod order;
+mod plain;
 mod report;
 mod run;
 mod settle;
+mod show;
 mod trace;
 
-pub use ended::{Ended, Ran};
+pub use ended::{Ended, Outcome, Ran};
+pub use group_core::RunFault;
+pub use plain::plain_report;
 pub use run::run_script;
+pub use show::show_disk;

@@ -1,29 +1,20 @@
-//! A report that is held against script and logs before it is told.
+//! A report that is held against script, opening rows and logs before it is told.
 
-ghost use Rattle.std.specs.Prelude.{◌≡◌, ℕ, [], List, map, false, IfOk};
-ghost use Rattle.std.specs.FinMap as finite;
-ghost use Rattle.ds_model.specs.declared.history.Entry.{Entry as AnyEntry};
-ghost use Rattle.ds_model.specs.History as model;
-ghost use Rattle.ds_model.specs.Rows.{listed};
+ghost use Rattle.std.specs.Prelude.{◌≡◌, map, IfOk};
+ghost use Rattle.ds_model.specs.Rows.{AreSorted};
 ghost use Rattle.ds_model.specs.Told.{entry_of};
 ghost use Rattle.report_check.specs.Records.{records_of};
-ghost use Rattle.checked_run.specs.Told.{IfTold, IsHeld, IsAlone, Reports};
+ghost use Rattle.checked_run.specs.Back.{AreWhole};
+ghost use Rattle.checked_run.specs.Told.{IfTold, IsHeld, IsAlone};
 
 use crate::ended::Ended;
-use crate::logs::MEMBERS;
+use crate::logs::are_whole;
 use ds_base::{NoMemory, RowList};
 use ds_model::{Entry, Report, Script, Trace};
-use log_volume::Log;
+use opening_rows::{Log, Opening};
 use report_check::{is_sound, rows_of, sound_rows, soundness_laws};
 use report_told::tell_entries;
 use std::alloc::Global;
-
-// Before a run there are none.
-fn no_rows(alloc: Global) -> RowList
-    ensures { result ≡ [] }
-{
-    RowList::new(alloc)
-}
 
 // The report of entries that were found sound, with these rows.
 fn report_of(
@@ -44,20 +35,25 @@ fn report_of(
     })
 }
 
-/// The report of entries that are sound for these logs.
+/// The report of entries that are sound for these logs. Bytes behind the last whole record of a log make none sound: records are
+/// appended whole, and a group restart cuts what a stop has cut short.
 pub fn told_with(
     alloc: Global,
     script: &Script,
+    opening: &Opening,
     entries: Vec<Entry>,
     logs: &[Log],
     trace: Trace,
     status: u8,
 ) -> Result<Ended, NoMemory>
-    ensures { IfOk result (λ ended. IfTold ended (λ report. IsHeld script.now (records_of logs.now) trace status report)) }
+    requires { AreSorted opening.now.rows }
+    ensures { IfOk result (λ ended. IfTold ended (λ report. AreWhole logs.now × IsHeld script.now opening.now.rows (records_of logs.now) trace status report)) }
 {
     soundness_laws();
-    let had = vec![in alloc; 0usize; MEMBERS]?;
-    if !is_sound(alloc, script, &no_rows(alloc), &entries, logs, &had)? {
+    if !are_whole(logs) {
+        return Ok(Ended::Unsound { event: 0 });
+    }
+    if !is_sound(alloc, script, &opening.rows, &entries, logs, &opening.had)? {
         return Ok(Ended::Unsound { event: 0 });
     }
     let rows = rows_of(alloc, logs)?;
@@ -69,14 +65,16 @@ pub fn told_with(
 pub fn told_alone(
     alloc: Global,
     script: &Script,
+    opening: &RowList,
     entries: Vec<Entry>,
     trace: Trace,
     status: u8,
 ) -> Result<Ended, NoMemory>
-    ensures { IfOk result (λ ended. IfTold ended (λ report. IsAlone script.now trace status report)) }
+    requires { AreSorted opening.now }
+    ensures { IfOk result (λ ended. IfTold ended (λ report. IsAlone script.now opening.now trace status report)) }
 {
     soundness_laws();
-    match sound_rows(alloc, script, &no_rows(alloc), &entries)? {
+    match sound_rows(alloc, script, opening, &entries)? {
         None => Ok(Ended::Unsound { event: 0 }),
         Some(rows) => {
             let report = report_of(alloc, script, entries, rows, trace, status)?;

@@ -1,19 +1,34 @@
 ghost use Rattle.std.specs.Prelude.{◌≡◌, ◌≤◌, None, IfOk, IfErr};
+ghost use Rattle.ds_base.specs.Causes.{Rose};
+ghost use Rattle.ds_model.specs.Rows.{AreSorted};
+ghost use Rattle.group_core.specs.declared.fault.RunFault.TheVariants as fault;
 ghost use Rattle.checked_run.specs.Told.{IfTold, IsTold, TellsAlways};
+ghost use Rattle.checked_run.specs.Outcomes.{Comes, ComesFrom};
 
 use crate::copies::copy_script;
-use crate::ended::{Ended, Ran};
+use crate::ended::{Ended, Outcome, Ran};
+use crate::fault::fault_of;
 use crate::settle::settle;
 use cache_structure::Cache;
 use draw_generator::Generator;
 use ds_base::Sizes;
 use ds_disk::Disk;
 use ds_model::Script;
-use group_core::{Group, StartFault, run_one_thread};
+use group_core::{Group, RunFault, StartFault, run_one_thread};
 use member_resources::Policy;
+use opening_rows::{Opening, read_opening};
 use std::alloc::Global;
 
-// A group that is to play a script.
+fn no_memory<D>(disk: D) -> StartFault<D>
+    ensures { result ≡ record { disk = disk; why = fault.NoMemory } }
+{
+    StartFault {
+        disk,
+        why: RunFault::NoMemory,
+    }
+}
+
+// A group that is to play a script. Its start runs the opening group restart.
 fn begin<D: Disk, P: Policy + Drop>(
     alloc: Global,
     disk: D,
@@ -23,15 +38,16 @@ fn begin<D: Disk, P: Policy + Drop>(
     is_traced: bool,
 ) -> Result<Group<D, Cache, P>, StartFault<D>>
     requires { (1 ≤ sizes.now.locks) × (1 ≤ sizes.now.pool) }
-    ensures disk { IfOk result (λ group. group.disk ≡ disk) }
+    ensures later { IfOk result (λ group. D.faults disk ≤ D.faults group.disk) }
     ensures fault { IfOk result (λ group. group.fault ≡ None) }
-    ensures err { IfErr result (λ why. why.disk ≡ disk) }
+    ensures left { IfErr result (λ f. D.faults disk ≤ D.faults f.disk) }
+    ensures failed { IfErr result (λ f. f.why ≡ fault.Failed → Rose (D.faults disk) (D.faults f.disk)) }
 {
     let Ok(cache) = Cache::new(alloc, sizes.cache, sizes.pool) else {
-        return Err(StartFault { disk });
+        return Err(no_memory(disk));
     };
     let Ok(script) = copy_script(alloc, script) else {
-        return Err(StartFault { disk });
+        return Err(no_memory(disk));
     };
     let mut group = Group::start(alloc, disk, cache, sizes, script, members)?;
     if is_traced {
@@ -40,33 +56,72 @@ fn begin<D: Disk, P: Policy + Drop>(
     Ok(group)
 }
 
-// Plays to the end, and settles what the run came to.
+// Plays to the end, closes the disk, and settles what the run came to.
 fn finish<D: Disk, P: Policy + Drop>(
     alloc: Global,
     mut group: Group<D, Cache, P>,
     script: &Script,
+    opening: &Opening,
     seed: u64,
     is_traced: bool,
-) -> Ran<D>
-    requires { group.fault ≡ None }
-    ensures told { IfTold result.ended (IsTold (TellsAlways D.contents) script.now is_traced (D.faults group.disk) (D.faults result.disk) (D.contents result.disk)) }
-    ensures later { D.faults group.disk ≤ D.faults result.disk }
+) -> (D, Ended)
+    requires fault { group.fault ≡ None }
+    requires in_order { AreSorted opening.now.rows }
+    ensures told { IfTold result.1 (IsTold (TellsAlways D.contents) script.now is_traced opening.now.rows (D.faults group.disk) (D.faults result.0) (D.contents result.0)) }
+    ensures later { D.faults group.disk ≤ D.faults result.0 }
 {
     let mut generator = Generator::new(seed);
     let end = run_one_thread(alloc, &mut group, &mut generator, u64::MAX);
-    let (mut disk, played) = group.close();
-    let ended = settle(alloc, &mut disk, script, played, end, is_traced);
-    Ran { disk, ended }
+    let (mut disk, played, closed) = group.close(alloc);
+    let ended = settle(
+        alloc, &mut disk, script, opening, played, end, closed, is_traced,
+    );
+    (disk, ended)
 }
 
-/// Plays a script from empty logs with these members, by the schedule of this seed, and holds its report against the script
-/// and against the logs that are read back.
+// Plays a script on a disk whose logs were read.
+fn play_from<D: Disk, P: Policy + Drop>(
+    alloc: Global,
+    disk: D,
+    opening: Opening,
+    script: &Script,
+    sizes: &Sizes,
+    members: Vec<P>,
+    seed: u64,
+    is_traced: bool,
+) -> Ran<D>
+    requires sizes { (1 ≤ sizes.now.locks) × (1 ≤ sizes.now.pool) }
+    requires in_order { AreSorted opening.rows }
+    ensures comes { ComesFrom opening.rows (D.faults disk) (D.faults result.disk) (λ rows. IsTold (TellsAlways D.contents) script.now is_traced rows (D.faults disk) (D.faults result.disk) (D.contents result.disk)) result.outcome }
+    ensures later { D.faults disk ≤ D.faults result.disk }
+{
+    match begin(alloc, disk, script, sizes, members, is_traced) {
+        Ok(group) => {
+            let (disk, ended) = finish(alloc, group, script, &opening, seed, is_traced);
+            Ran {
+                disk,
+                outcome: Outcome::Opened {
+                    opening: opening.rows,
+                    ended,
+                },
+            }
+        }
+        Err(StartFault { disk, why }) => Ran {
+            disk,
+            outcome: Outcome::Unopened(why),
+        },
+    }
+}
+
+/// Plays a script with these members, by the schedule of this seed: reads the logs as they stand, opens the disk by a group
+/// restart, plays, closes the disk by another, and holds the report against the script, the rows for which the logs stood at
+/// first, and the logs that are read back.
 ///
-/// Where a call of the disk has failed the logs may not be read back: then the report is held against the script alone. It is
+/// Where a call of the disk has failed the logs may not be read back: then the report is held against script and rows alone. It is
 /// told so only where two calls have failed: where the first is one of the reading, the logs are read once more.
 pub fn run_script<D: Disk, P: Policy + Drop>(
     alloc: Global,
-    disk: D,
+    mut disk: D,
     script: &Script,
     sizes: &Sizes,
     members: Vec<P>,
@@ -74,14 +129,16 @@ pub fn run_script<D: Disk, P: Policy + Drop>(
     is_traced: bool,
 ) -> Ran<D>
     requires { (1 ≤ sizes.now.locks) × (1 ≤ sizes.now.pool) }
-    ensures told { IfTold result.ended (IsTold (TellsAlways D.contents) script.now is_traced (D.faults disk) (D.faults result.disk) (D.contents result.disk)) }
+    ensures comes { Comes (D.contents disk) (D.faults disk) (D.faults result.disk) (λ rows. IsTold (TellsAlways D.contents) script.now is_traced rows (D.faults disk) (D.faults result.disk) (D.contents result.disk)) result.outcome }
     ensures later { D.faults disk ≤ D.faults result.disk }
 {
-    match begin(alloc, disk, script, sizes, members, is_traced) {
-        Ok(group) => finish(alloc, group, script, seed, is_traced),
-        Err(StartFault { disk }) => Ran {
+    match read_opening(alloc, &mut disk) {
+        Err(why) => Ran {
             disk,
-            ended: Ended::NoMemory,
+            outcome: Outcome::Unopened(fault_of(why)),
         },
+        Ok(opening) => play_from(
+            alloc, disk, opening, script, sizes, members, seed, is_traced,
+        ),
     }
 }

@@ -1,8 +1,11 @@
 //! What a run that has ended comes to.
 
-ghost use Rattle.std.specs.Prelude.{◌≡◌, ◌≤◌, ℕ, Bool, true, false, cond, IfOk};
+ghost use Rattle.std.specs.Prelude.{◌≡◌, ◌≤◌, ◌⊎◌, ℕ, Bool, true, false, cond, None, IfOk, IfErr};
 ghost use Rattle.ds_base.specs.Causes.{Rose};
+ghost use Rattle.ds_model.specs.Rows.{AreSorted};
 ghost use Rattle.group_core.specs.Goes.{IsFailed};
+ghost use Rattle.group_core.specs.declared.close.Closed.TheVariants as closing;
+ghost use Rattle.group_core.specs.declared.schedule.RunEnd.TheVariants as ends;
 ghost use Rattle.checked_run.specs.Told.{IfTold, IsTold, TellsAlways, no_trace};
 
 use crate::ended::Ended;
@@ -13,8 +16,8 @@ use crate::trace::trace_of;
 use ds_base::NoMemory;
 use ds_disk::Disk;
 use ds_model::{Entry, Script, Trace};
-use group_core::{Played, RunEnd, RunFault};
-use log_volume::LogFault;
+use group_core::{Closed, Played, RunEnd, RunFault};
+use opening_rows::{LogsFault, Opening};
 use std::alloc::Global;
 
 fn status_of(failed: bool) -> u8
@@ -23,84 +26,115 @@ fn status_of(failed: bool) -> u8
     if failed { 5 } else { 0 }
 }
 
-// Holds entries against script and logs.
+// Whether a call of the disk has failed in a run that was closed so; or what the run came to without a report.
+fn failure_with(failed: bool, closed: Closed, events: u64) -> Result<bool, Ended>
+    ensures whole { IfOk result (λ now. now ≡ false → (failed ≡ false) × (closed ≡ closing.Done)) }
+    ensures cause { IfOk result (λ now. now ≡ true → (failed ≡ true) ⊎ (closed ≡ closing.Failed)) }
+    ensures untold { IfErr result (λ ended. IfTold ended (λ _. ⊥)) }
+{
+    match closed {
+        Closed::Done => Ok(failed),
+        Closed::Failed => Ok(true),
+        Closed::Damaged { volume, at } => Err(Ended::Damaged { volume, at }),
+        Closed::NoMemory => Err(Ended::NoMemory),
+        Closed::Unrun => Err(Ended::Unsound { event: events }),
+    }
+}
+
+// The same of a run that ended so.
+fn failure_of(
+    fault: Option<RunFault>,
+    end: RunEnd,
+    closed: Closed,
+    events: u64,
+) -> Result<bool, Ended>
+    ensures whole { IfOk result (λ failed. failed ≡ false → (fault ≡ None) × (end ≡ ends.Over) × (closed ≡ closing.Done)) }
+    ensures cause { IfOk result (λ failed. failed ≡ true → IsFailed fault ⊎ (closed ≡ closing.Failed)) }
+    ensures untold { IfErr result (λ ended. IfTold ended (λ _. ⊥)) }
+{
+    match (fault, end) {
+        (Some(RunFault::NoMemory), _) => Err(Ended::NoMemory),
+        (Some(RunFault::Damaged { volume, at }), _) => Err(Ended::Damaged { volume, at }),
+        (Some(RunFault::Unlawful { place }), _) => Err(Ended::Unsound { event: place }),
+        (None, RunEnd::Stalled | RunEnd::Spent) => Err(Ended::Unsound { event: events }),
+        (Some(RunFault::Failed), _) => failure_with(true, closed, events),
+        (None, RunEnd::Over) => failure_with(false, closed, events),
+    }
+}
+
+// Holds entries against script, opening rows and logs.
 fn check_entries<D: Disk>(
     alloc: Global,
     disk: &mut D,
     script: &Script,
+    opening: &Opening,
     entries: Vec<Entry>,
     trace: Trace,
     failed: bool,
 ) -> Result<Ended, NoMemory>
-    ensures told { (before : ℕ) (traced : Bool) → before ≤ D.faults disk.old → (failed ≡ true → Rose before (D.faults disk.old)) → (traced ≡ false → trace ≡ no_trace) → IfOk result (λ ended. IfTold ended (IsTold (TellsAlways D.contents) script.now traced before (D.faults disk.new) (D.contents disk.new))) }
+    requires { AreSorted opening.now.rows }
+    ensures told { (before : ℕ) (traced : Bool) → before ≤ D.faults disk.old → (failed ≡ true → Rose before (D.faults disk.old)) → (traced ≡ false → trace ≡ no_trace) → IfOk result (λ ended. IfTold ended (IsTold (TellsAlways D.contents) script.now traced opening.now.rows before (D.faults disk.new) (D.contents disk.new))) }
     ensures later { D.faults disk.old ≤ D.faults disk.new }
 {
     let (read, failed) = read_back(alloc, disk, failed);
     match read {
-        Ok(logs) => told_with(alloc, script, entries, &logs, trace, status_of(failed)),
-        Err(LogFault::Failed) => told_alone(alloc, script, entries, trace, 5),
-        Err(LogFault::Damaged { .. }) => Ok(Ended::Unsound { event: 0 }),
-        Err(LogFault::NoMemory) => Err(NoMemory),
+        Ok(logs) => told_with(
+            alloc,
+            script,
+            opening,
+            entries,
+            &logs,
+            trace,
+            status_of(failed),
+        ),
+        Err(LogsFault::Failed) => told_alone(alloc, script, &opening.rows, entries, trace, 5),
+        Err(LogsFault::Damaged { .. }) => Ok(Ended::Unsound { event: 0 }),
+        Err(LogsFault::NoMemory) => Err(NoMemory),
     }
 }
 
-// Holds the report of a run against script and logs.
+// Holds the report of a run against script, opening rows and logs.
 fn check<D: Disk>(
     alloc: Global,
     disk: &mut D,
     script: &Script,
+    opening: &Opening,
     played: Played,
     is_traced: bool,
     failed: bool,
 ) -> Result<Ended, NoMemory>
-    ensures told { (before : ℕ) → before ≤ D.faults disk.old → (failed ≡ true → Rose before (D.faults disk.old)) → IfOk result (λ ended. IfTold ended (IsTold (TellsAlways D.contents) script.now is_traced before (D.faults disk.new) (D.contents disk.new))) }
+    requires { AreSorted opening.now.rows }
+    ensures told { (before : ℕ) → before ≤ D.faults disk.old → (failed ≡ true → Rose before (D.faults disk.old)) → IfOk result (λ ended. IfTold ended (IsTold (TellsAlways D.contents) script.now is_traced opening.now.rows before (D.faults disk.new) (D.contents disk.new))) }
     ensures later { D.faults disk.old ≤ D.faults disk.new }
 {
     let trace = trace_of(alloc, script, &played.causes, &played.lines, is_traced)?;
     let entries = in_print_order(alloc, played.entries)?;
-    check_entries(alloc, disk, script, entries, trace, failed)
+    check_entries(alloc, disk, script, opening, entries, trace, failed)
 }
 
-// What a run of this script came to that has ended so.
-fn settle_played<D: Disk>(
-    alloc: Global,
-    disk: &mut D,
-    script: &Script,
-    played: Played,
-    end: RunEnd,
-    is_traced: bool,
-) -> Result<Ended, NoMemory>
-    ensures told { (before : ℕ) → before ≤ D.faults disk.old → (IsFailed played.fault → Rose before (D.faults disk.old)) → IfOk result (λ ended. IfTold ended (IsTold (TellsAlways D.contents) script.now is_traced before (D.faults disk.new) (D.contents disk.new))) }
-    ensures later { D.faults disk.old ≤ D.faults disk.new }
-{
-    match (played.fault, end) {
-        (Some(RunFault::NoMemory), _) => Err(NoMemory),
-        (Some(RunFault::Damaged { volume, at }), _) => Ok(Ended::Damaged { volume, at }),
-        (Some(RunFault::Unlawful { place }), _) => Ok(Ended::Unsound { event: place }),
-        (Some(RunFault::Failed), _) => check(alloc, disk, script, played, is_traced, true),
-        (None, RunEnd::Over) => check(alloc, disk, script, played, is_traced, false),
-        (None, RunEnd::Stalled | RunEnd::Spent) => Ok(Ended::Unsound {
-            event: played.journal.len() as u64,
-        }),
-    }
-}
-
-/// What a run of this script came to, which has ended so or wanted memory.
+/// What a run of this script came to, which has ended and was closed so, or wanted memory.
 pub fn settle<D: Disk>(
     alloc: Global,
     disk: &mut D,
     script: &Script,
+    opening: &Opening,
     played: Played,
     end: Result<RunEnd, NoMemory>,
+    closed: Closed,
     is_traced: bool,
 ) -> Ended
-    ensures told { (before : ℕ) → before ≤ D.faults disk.old → (IsFailed played.fault → Rose before (D.faults disk.old)) → IfTold result (IsTold (TellsAlways D.contents) script.now is_traced before (D.faults disk.new) (D.contents disk.new)) }
+    requires { AreSorted opening.now.rows }
+    ensures told { (before : ℕ) → before ≤ D.faults disk.old → (IsFailed played.fault ⊎ (closed ≡ closing.Failed) → Rose before (D.faults disk.old)) → IfTold result (IsTold (TellsAlways D.contents) script.now is_traced opening.now.rows before (D.faults disk.new) (D.contents disk.new)) }
     ensures later { D.faults disk.old ≤ D.faults disk.new }
 {
     let Ok(end) = end else {
         return Ended::NoMemory;
     };
-    match settle_played(alloc, disk, script, played, end, is_traced) {
+    let failed = match failure_of(played.fault, end, closed, played.journal.len() as u64) {
+        Err(ended) => return ended,
+        Ok(failed) => failed,
+    };
+    match check(alloc, disk, script, opening, played, is_traced, failed) {
         Ok(ended) => ended,
         Err(NoMemory) => Ended::NoMemory,
     }

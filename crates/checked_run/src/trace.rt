@@ -3,6 +3,7 @@
 ghost use Rattle.std.specs.Prelude.{◌≡◌, false, IfOk};
 ghost use Rattle.checked_run.specs.Told.{no_trace};
 
+use crate::plain::no_trace;
 use ds_base::{Bytes, NoMemory, Sequence};
 use ds_model::{CauseLine, CauseLineList, EventLine, EventLineList, Script, Trace};
 use group_core::{Cause, Line};
@@ -41,15 +42,6 @@ fn causes_of(alloc: Global, script: &Script, causes: &[Cause]) -> Result<CauseLi
         })?;
     }
     Ok(told)
-}
-
-fn no_trace(alloc: Global) -> Trace
-    ensures { result ≡ no_trace }
-{
-    Trace {
-        causes: Sequence::new(alloc),
-        events: Sequence::new(alloc),
-    }
 }
 
 /// The trace of a run, where one is wanted.

@@ -1,9 +1,9 @@
 pub mod Statuses
 pub mod Input
-pub mod Opening
-pub mod Outside
 pub mod Steady
-pub mod Reports
-pub mod Played
-pub mod Ends
+pub mod Read
 pub mod Prepares
+pub mod Reports
+pub mod Tellings
+pub mod Outside
+pub mod Ends

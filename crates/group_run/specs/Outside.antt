@@ -1,6 +1,6 @@
 -- What the source and the disk tell at a moment, and how often each has failed.
-use Rattle.std.specs.Prelude.{ℕ, Bool, List, Option}
-use Rattle.ds_disk.specs.Contents.{Contents, Becomes, Same}
+use Rattle.std.specs.Prelude.{◌≡◌, ℕ, Bool, List, Option}
+use Rattle.ds_disk.specs.Contents.{Contents}
 
 pub record Outside : Type 0 where
   pub left : Option (List ℕ)
@@ -12,5 +12,6 @@ pub record Outside : Type 0 where
 abbrev pub outside : Option (List ℕ) → ℕ → Option Contents → Bool → ℕ → Outside
 outside left source_faults contents alive disk_faults = record { left = left; source_faults = source_faults; contents = contents; alive = alive; disk_faults = disk_faults }
 
-abbrev pub DiskIsSame : Outside → Outside → Type 0
-DiskIsSame before after = Becomes before.contents after.contents Same
+-- no call of the disk was made
+abbrev pub DiskIsUntouched : Outside → Outside → Type 0
+DiskIsUntouched before after = (after.contents ≡ before.contents) × (after.alive ≡ before.alive) × (after.disk_faults ≡ before.disk_faults)

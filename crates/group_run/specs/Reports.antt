@@ -1,8 +1,8 @@
--- The report of a call that ran no script to its end.
+-- The report of a call that has none to tell.
 use Rattle.std.specs.Prelude.{ℕ, []}
 use Rattle.ds_model.specs.declared.report.Report.{Report}
-use Rattle.checked_run.specs.Told.{no_trace}
+use Rattle.checked_run.specs.Told.{plain_report}
 
 -- a report of nothing that was done over no rows
 abbrev pub empty_report : ℕ → Report
-empty_report status = record { entries = []; trace = no_trace; rows = []; status = status }
+empty_report status = plain_report [] status

@@ -1,4 +1,4 @@
--- The scripts that can be played: nothing fails, restarts or is lost.
+-- The scripts that can be played: no member fails or restarts, and the cache isn't lost.
 use Rattle.std.specs.Prelude.{◌≡◌, false, None}
 use Rattle.std.specs.List.{AllByRecursion}
 use Rattle.ds_model.specs.declared.script.Op.{Op}
@@ -26,10 +26,8 @@ pub record IsSteadyPart (p : Part) : Type 0 where
   pub no_fail : p.fail ≡ None
   pub trans_are : AllByRecursion IsSteadyTran p.trans
 
-pub record IsSteadyPhase (p : Phase) : Type 0 where
-  pub no_groupfail : p.groupfails ≡ 0
-  pub parts_are : AllByRecursion IsSteadyPart p.parts
+abbrev pub IsSteadyPhase : Phase → Type 0
+IsSteadyPhase p = AllByRecursion IsSteadyPart p.parts
 
-pub record IsSteady (s : Script) : Type 0 where
-  pub no_groupfail : s.groupfails ≡ 0
-  pub phases_are : AllByRecursion IsSteadyPhase s.phases
+abbrev pub IsSteady : Script → Type 0
+IsSteady s = AllByRecursion IsSteadyPhase s.phases

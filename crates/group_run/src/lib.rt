@@ -3,12 +3,12 @@
 
 mod gate;
 mod input;
-mod opening;
 mod output;
 mod plays;
 mod prepare;
 mod run;
 mod status;
+mod telling;
 mod top;
 
 pub use gate::{Gate, OpenGate};

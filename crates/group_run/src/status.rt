@@ -24,7 +24,7 @@ pub enum Status {
     NoMemory,
     /// The byte of a page or a log at this offset can't stand there.
     Damaged { volume: Volume, at: u64 },
-    /// The order, the script, or a disk with a log that isn't empty, is for a later stage.
+    /// The order or the script is for a later stage.
     NotYet,
     /// What was wanted in this event may not be done; or, where it is 0, the report isn't sound. It is a defect of the program,
     /// or of a disk that doesn't give back what was written.

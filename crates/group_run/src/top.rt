@@ -1,33 +1,31 @@
-ghost use Rattle.std.specs.Prelude.{◌≡◌, ◌≤◌, true, false, [], IfOk, OnErr};
-ghost use Rattle.checked_run.specs.Told.{IfTold, IsTold, TellsAlways};
-ghost use Rattle.ds_model.specs.ScriptText.{script_text};
-ghost use Rattle.group_words.specs.Orders.{AreSizes};
-ghost use Rattle.work_maker.specs.Made.{made};
+ghost use Rattle.std.specs.Prelude.{◌≡◌, true, false, []};
+ghost use Rattle.checked_run.specs.Told.{TellsAlways};
 ghost use Rattle.group_run.specs.Outside.{outside};
-ghost use Rattle.group_run.specs.Statuses.{short_text, number_of};
-ghost use Rattle.group_run.specs.Reports.{empty_report};
-ghost use Rattle.group_run.specs.Ends.{ordered, met_by, Tells, TellsReport, EndedIsTold, RunIsTold, Ends};
+ghost use Rattle.group_run.specs.Prepares.{ordered};
+ghost use Rattle.group_run.specs.Tellings.{TellsOutcome};
+ghost use Rattle.group_run.specs.Ends.{Tells, Meets, Ends};
 
 use crate::gate::Gate;
 use crate::output::write_all;
-use crate::prepare::{Prepared, Setting, prepare};
-use crate::run::{empty_report, run};
-use crate::status::{Status, text_of};
-use checked_run::{Ended, Ran};
-use ds_base::{NoMemory, RowList, Sequence, Sink, Source};
+use crate::prepare::{Prepared, prepare};
+use crate::run::run;
+use crate::status::Status;
+use crate::telling::{
+    Telling, fault_status, or_wanting, script_telling, short_telling, telling_of,
+};
+use checked_run::{Outcome, Ran, show_disk};
+use ds_base::{NoMemory, RowList, Sink, Source};
 use ds_disk::Disk;
-use ds_model::{Report, Script};
-use report_text::write_report;
-use script_text::script_bytes;
+use ds_model::Report;
 use std::alloc::Global;
 use std::sync::Wait;
 use std::thread::Threads;
-use work_maker::make_script;
 
 /// What a call leaves.
 ///
-/// `opened` says whether the words and the script were in order and all logs were empty, so that a run began.
-/// Where none did, the report has no entries. `opening` has the rows before the run: none today.
+/// `opened` says whether the words and the script were in order, the logs of the disk were read, and the opening group restart was
+/// done, so that a run began. `opening` has the rows for which the logs stood before. Where no run began there are none, and the
+/// report has no entries.
 #[derive(Drop)]
 pub struct Finished<D> {
     pub status: Status,
@@ -48,182 +46,79 @@ fn tell<K: Sink>(sink: &mut K, met: Status, text: &[u8]) -> Status
     }
 }
 
-// The status that a report ends with.
-fn met_by(report: &Report) -> Status
-    ensures { result ≡ met_by report.now }
-{
-    if report.status == 5 {
-        Status::DiskFailed
-    } else {
-        Status::Done
-    }
-}
-
-// Tells what a run came to.
-fn tell_ended<K: Sink>(
-    alloc: Global,
-    sink: &mut K,
-    ended: Ended,
-) -> Result<(Status, Report), NoMemory>
-    ensures told { IfOk result (λ r. EndedIsTold ended r.0 r.1 (K.taken sink.old) (K.taken sink.new) (K.faults sink.old) (K.faults sink.new)) }
-    ensures err { OnErr result (K.taken sink.new ≡ K.taken sink.old) }
-{
-    match ended {
-        Ended::Told(report) => {
-            let text = write_report(alloc, &report)?;
-            Ok((tell(sink, met_by(&report), text.as_slice()), report))
-        }
-        Ended::Damaged { volume, at } => {
-            let status = tell_short(alloc, sink, Status::Damaged { volume, at })?;
-            Ok((status, empty_report(alloc, 7)))
-        }
-        Ended::Unsound { event } => {
-            let status = tell_short(alloc, sink, Status::SelfCheckFailed { event })?;
-            Ok((status, empty_report(alloc, 11)))
-        }
-        Ended::NoMemory => Err(NoMemory),
-    }
-}
-
-// Tells a status that was met before a run opened.
-fn tell_short<K: Sink>(alloc: Global, sink: &mut K, met: Status) -> Result<Status, NoMemory>
-    requires { met ≡ Status.SinkFailed → ⊥ }
-    ensures told { IfOk result (λ status. Tells met status (short_text met) (K.taken sink.old) (K.taken sink.new) (K.faults sink.old) (K.faults sink.new)) }
-    ensures err { OnErr result (K.taken sink.new ≡ K.taken sink.old) }
-{
-    let text = text_of(alloc, &met)?;
-    Ok(tell(sink, met, text.as_slice()))
-}
-
-// Tells the report of a disk with empty logs.
-fn show<K: Sink>(alloc: Global, sink: &mut K) -> Result<(Status, Report), NoMemory>
-    ensures report { IfOk result (λ r. r.1 ≡ empty_report 0) }
-    ensures told { IfOk result (λ r. TellsReport r.0 r.1 (K.taken sink.old) (K.taken sink.new) (K.faults sink.old) (K.faults sink.new)) }
-    ensures err { OnErr result (K.taken sink.new ≡ K.taken sink.old) }
-{
-    let report = empty_report(alloc, 0);
-    let text = write_report(alloc, &report)?;
-    Ok((tell(sink, Status::Done, text.as_slice()), report))
-}
-
-// Writes the script of a number.
-fn make<K: Sink>(alloc: Global, sink: &mut K, n: u64) -> Result<Status, NoMemory>
-    ensures told { IfOk result (λ status. Tells Status.Done status (script_text (made n)) (K.taken sink.old) (K.taken sink.new) (K.faults sink.old) (K.faults sink.new)) }
-    ensures err { OnErr result (K.taken sink.new ≡ K.taken sink.old) }
-{
-    let script = make_script(alloc, n)?;
-    let text = script_bytes(alloc, &script)?;
-    Ok(tell(sink, Status::Done, text.as_slice()))
-}
-
-// What a call has done.
+// What a call has come to, before it is told.
 #[derive(Drop)]
-struct Done<D> {
-    status: Status,
+struct Came<D> {
+    disk: D,
     opened: bool,
-    disk: D,
-    report: Report,
+    opening: RowList,
+    telling: Telling,
 }
 
-// What is left where memory was wanting.
-fn wanting<D>(alloc: Global, opened: bool, disk: D) -> Done<D>
-    ensures { result ≡ record { status = Status.NoMemory; opened = opened; disk = disk; report = empty_report 6 } }
+// What a call has come to that opened no disk.
+fn unopened<D>(alloc: Global, disk: D, telling: Telling) -> Came<D>
+    ensures { result ≡ record { disk = disk; opened = false; opening = []; telling = telling } }
 {
-    Done {
-        status: Status::NoMemory,
-        opened,
+    Came {
         disk,
-        report: empty_report(alloc, Status::NoMemory.number()),
-    }
-}
-
-// What a call has done that opened no run.
-fn unopened<D>(alloc: Global, disk: D, status: Status) -> Done<D>
-    ensures { result ≡ record { status = status; opened = false; disk = disk; report = empty_report (number_of status) } }
-{
-    Done {
-        status,
         opened: false,
-        disk,
-        report: empty_report(alloc, status.number()),
+        opening: RowList::new(alloc),
+        telling,
     }
 }
 
-// What a call has done that opened a run.
-fn opened<D>(disk: D, status: Status, report: Report) -> Done<D>
-    ensures { result ≡ record { status = status; opened = true; disk = disk; report = report } }
+// What a call has come to by what became of the disk.
+fn came_of<D>(alloc: Global, ran: Ran<D>) -> Came<D>
+    ensures disk { result.disk ≡ ran.disk }
+    ensures tells { TellsOutcome ran.outcome result.opened result.opening result.telling }
 {
-    Done {
-        status,
-        opened: true,
-        disk,
-        report,
-    }
-}
-
-// Runs a script that is ready, and tells its report.
-fn run_ready<K: Sink, D: Disk>(
-    alloc: Global,
-    sink: &mut K,
-    disk: D,
-    script: &Script,
-    setting: &Setting,
-) -> (D, Result<(Status, Report), NoMemory>)
-    requires { AreSizes setting.now.sizes }
-    ensures told { IfOk result.1 (λ r. RunIsTold (TellsAlways D.contents) script.now setting.now.trace r.0 r.1 (D.faults disk) (D.faults result.0) (D.contents result.0) (K.taken sink.old) (K.taken sink.new) (K.faults sink.old) (K.faults sink.new)) }
-    ensures err { OnErr result.1 (K.taken sink.new ≡ K.taken sink.old) }
-    ensures later { D.faults disk ≤ D.faults result.0 }
-{
-    let Ran { disk, ended } = run(alloc, disk, script, setting);
-    let told = tell_ended(alloc, sink, ended);
-    (disk, told)
-}
-
-// All that a call does.
-fn perform<S: Source, K: Sink, D: Disk>(
-    alloc: Global,
-    words: &[String],
-    source: &mut S,
-    sink: &mut K,
-    mut disk: D,
-) -> Done<D>
-    ensures { Ends (TellsAlways D.contents) (ordered words.now)
-        (outside (S.left source.old) (S.faults source.old) (D.contents disk) (D.alive disk) (D.faults disk))
-        (outside (S.left source.new) (S.faults source.new) (D.contents result.disk) (D.alive result.disk) (D.faults result.disk))
-        result.status result.opened result.report
-        (K.taken sink.old) (K.taken sink.new) (K.faults sink.old) (K.faults sink.new) }
-{
-    match prepare(alloc, words, source, &mut disk) {
-        Err(NoMemory) => wanting(alloc, false, disk),
-        Ok(Prepared::Ended(met)) => match tell_short(alloc, sink, met) {
-            Err(NoMemory) => wanting(alloc, false, disk),
-            Ok(status) => unopened(alloc, disk, status),
-        },
-        Ok(Prepared::Make(n)) => match make(alloc, sink, n) {
-            Err(NoMemory) => wanting(alloc, false, disk),
-            Ok(status) => unopened(alloc, disk, status),
-        },
-        Ok(Prepared::Show) => match show(alloc, sink) {
-            Err(NoMemory) => wanting(alloc, true, disk),
-            Ok((status, report)) => opened(disk, status, report),
-        },
-        Ok(Prepared::Play(script, setting)) => {
-            let (disk, told) = run_ready(alloc, sink, disk, &script, &setting);
-            match told {
-                Err(NoMemory) => wanting(alloc, true, disk),
-                Ok((status, report)) => opened(disk, status, report),
+    let Ran { disk, outcome } = ran;
+    match outcome {
+        Outcome::Unopened(why) => {
+            let telling = short_telling(alloc, fault_status(why));
+            unopened(alloc, disk, or_wanting(alloc, telling))
+        }
+        Outcome::Opened { opening, ended } => {
+            let telling = telling_of(alloc, ended);
+            Came {
+                disk,
+                opened: true,
+                opening,
+                telling: or_wanting(alloc, telling),
             }
         }
     }
 }
 
-/// Does what the words order: plays the script of the source on the disk, or shows the disk, and writes the
-/// report to the sink; or writes the script of a number.
+// All that a call does but tell it.
+fn perform<S: Source, D: Disk>(alloc: Global, words: &[String], source: &mut S, disk: D) -> Came<D>
+    ensures { Meets (TellsAlways D.contents) (ordered words.now)
+        (outside (S.left source.old) (S.faults source.old) (D.contents disk) (D.alive disk) (D.faults disk))
+        (outside (S.left source.new) (S.faults source.new) (D.contents result.disk) (D.alive result.disk) (D.faults result.disk))
+        result.telling.status result.telling.text result.opened result.opening result.telling.report }
+{
+    match prepare(alloc, words, source) {
+        Err(NoMemory) => unopened(alloc, disk, or_wanting(alloc, Err(NoMemory))),
+        Ok(Prepared::Ended(met)) => {
+            let telling = short_telling(alloc, met);
+            unopened(alloc, disk, or_wanting(alloc, telling))
+        }
+        Ok(Prepared::Make(n)) => {
+            let telling = script_telling(alloc, n);
+            unopened(alloc, disk, or_wanting(alloc, telling))
+        }
+        Ok(Prepared::Show) => came_of(alloc, show_disk(alloc, disk)),
+        Ok(Prepared::Play(script, setting)) => came_of(alloc, run(alloc, disk, &script, &setting)),
+    }
+}
+
+/// Does what the words order: plays the script of the source on the disk, or shows the disk, and writes the report to the sink; or
+/// writes the script of a number.
 ///
-/// The words are the command line without the program's name. For a script the source is read to its end, or to
-/// the first byte past the longest script; then the logs are looked at; then the script is run, its report is held
-/// against the script and the logs, and where it isn't sound the status says so. The sink gets the report, or the one
-/// line of a status. Today one thread plays all, and no gate is passed.
+/// The words are the command line without the program's name. For a script the source is read to its end, or to the first byte past
+/// the longest script. Then the logs of the disk are read, and a group restart opens it; the script is run; another group restart
+/// closes the disk. The report is held against the script, the rows before and the logs, and where it isn't sound the status says so.
+/// The sink gets the report, or the one line of a status. Today one thread plays all, and no gate is passed.
 pub fn play<R: Threads + Wait + Sync, S: Source, K: Sink, D: Disk + Send, G: Gate + Sync>(
     _rt: &R,
     alloc: Global,
@@ -233,22 +128,25 @@ pub fn play<R: Threads + Wait + Sync, S: Source, K: Sink, D: Disk + Send, G: Gat
     disk: D,
     _gate: &G,
 ) -> Finished<D>
-    ensures ends { Ends (TellsAlways D.contents) (ordered words.now)
+    ensures { Ends (TellsAlways D.contents) (ordered words.now)
         (outside (S.left source.old) (S.faults source.old) (D.contents disk) (D.alive disk) (D.faults disk))
         (outside (S.left source.new) (S.faults source.new) (D.contents result.disk) (D.alive result.disk) (D.faults result.disk))
-        result.status result.opened result.report
+        result.status result.opened result.opening result.report
         (K.taken sink.old) (K.taken sink.new) (K.faults sink.old) (K.faults sink.new) }
-    ensures opening { result.opening ≡ [] }
 {
-    let opening = Sequence::new(alloc);
-    let Done {
-        status,
-        opened,
+    let Came {
         disk,
-        report,
-    } = perform(alloc, words, source, sink, disk);
-    Finished {
+        opened,
+        opening,
+        telling,
+    } = perform(alloc, words, source, disk);
+    let Telling {
         status,
+        text,
+        report,
+    } = telling;
+    Finished {
+        status: tell(sink, status, text.as_slice()),
         opened,
         disk,
         report,

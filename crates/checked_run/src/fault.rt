@@ -1,0 +1,21 @@
+ghost use Rattle.std.specs.Prelude.{◌≡◌, Some};
+ghost use Rattle.group_core.specs.Goes.{IsFailed};
+ghost use Rattle.opening_rows.specs.declared.fault.LogsFault.TheVariants as reading;
+
+use ds_base::Volume;
+use group_core::RunFault;
+use opening_rows::LogsFault;
+
+/// Why a disk wasn't opened whose logs were not read.
+pub fn fault_of(why: LogsFault) -> RunFault
+    ensures { IsFailed (Some result) → why ≡ reading.Failed }
+{
+    match why {
+        LogsFault::Failed => RunFault::Failed,
+        LogsFault::Damaged { member, at } => RunFault::Damaged {
+            volume: Volume::Log(member),
+            at,
+        },
+        LogsFault::NoMemory => RunFault::NoMemory,
+    }
+}

@@ -1,0 +1,53 @@
+-- What is told: a status, its text and its report.
+use Rattle.std.specs.Prelude.{◌≡◌, ◌⊎◌, ℕ, true, false, Bool, cond, nat_eq, List, []}
+use Rattle.ds_base.specs.declared.row.Row.{Row}
+use Rattle.ds_model.specs.declared.report.Report.{Report}
+use Rattle.ds_model.specs.ReportText.{report_text}
+use Rattle.ds_model.specs.ScriptText.{script_text}
+use Rattle.work_maker.specs.Made.{made}
+use Rattle.group_core.specs.declared.fault.RunFault.{RunFault}
+use Rattle.group_core.specs.declared.fault.RunFault.TheVariants as fault
+use Rattle.checked_run.specs.declared.ended.Ended.{Ended}
+use Rattle.checked_run.specs.declared.ended.Ended.TheVariants as ending
+use Rattle.checked_run.specs.declared.ended.Outcome.{Outcome}
+use Rattle.checked_run.specs.declared.ended.Outcome.TheVariants as outcome
+use Rattle.group_run.specs.declared.status.Status.{Status}
+use Rattle.group_run.specs.declared.status.Status.TheVariants as status
+use Rattle.group_run.specs.declared.telling.Telling.{Telling}
+use Rattle.group_run.specs.Reports.{empty_report}
+use Rattle.group_run.specs.Statuses.{short_text, number_of}
+
+-- a status without a report
+abbrev pub short_telling : Status → Telling
+short_telling met = record { status = met; text = short_text met; report = empty_report (number_of met) }
+
+-- the script of a number
+abbrev pub script_telling : ℕ → Telling
+script_telling n = record { status = status.Done; text = script_text (made n); report = empty_report 0 }
+
+-- the status that a report ends with
+abbrev pub met_by : Report → Status
+met_by report = cond (nat_eq report.status 5) status.DiskFailed status.Done
+
+-- what a disk came to that was opened
+abbrev pub telling_of : Ended → Telling
+telling_of (ending.Told report) = record { status = met_by report; text = report_text report; report = report }
+telling_of (ending.Damaged volume at) = short_telling (status.Damaged volume at)
+telling_of (ending.Unsound event) = short_telling (status.SelfCheckFailed event)
+telling_of ending.NoMemory = short_telling status.NoMemory
+
+-- why a disk was not opened
+abbrev pub fault_status : RunFault → Status
+fault_status fault.Failed = status.DiskFailed
+fault_status (fault.Damaged volume at) = status.Damaged volume at
+fault_status (fault.Unlawful place) = status.SelfCheckFailed place
+fault_status fault.NoMemory = status.NoMemory
+
+-- it is this that is told; or memory is wanting
+abbrev pub IsOrWanting : Telling → Telling → Type 0
+IsOrWanting wanted told = (told ≡ wanted) ⊎ (told ≡ short_telling status.NoMemory)
+
+-- what is told of what became of a disk: whether it was opened, and with which rows
+abbrev pub TellsOutcome : Outcome → Bool → List Row → Telling → Type 0
+TellsOutcome (outcome.Unopened why) opened opening told = (opened ≡ false) × (opening ≡ []) × IsOrWanting (short_telling (fault_status why)) told
+TellsOutcome (outcome.Opened rows ended) opened opening told = (opened ≡ true) × (opening ≡ rows) × IsOrWanting (telling_of ended) told
