@@ -1,6 +1,6 @@
 //! The logs of a disk as they are read back.
 
-ghost use Rattle.std.specs.Prelude.{◌≡◌, ◌≤◌, ◌→◌, ℕ, true, IsTrue};
+ghost use Rattle.std.specs.Prelude.{◌≡◌, ◌≤◌, ℕ, true, IsTrue};
 ghost use Rattle.ds_base.specs.Causes.{Rose};
 ghost use Rattle.checked_run.specs.Back.{AreWhole, ReadsBack};
 
