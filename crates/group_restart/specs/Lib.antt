@@ -1,0 +1,9 @@
+pub mod Records
+pub mod Machine
+pub mod Calls
+pub mod Redo
+pub mod Undo
+pub mod Disk
+pub mod Going
+pub mod Course
+pub mod Steps

@@ -1,8 +1,26 @@
 //! Group restart: the disk after a stop of the whole group, made whole again from the logs of all members.
+//!
+//! All logs are read, and their tails are cut. Each page that the logs name is brought forward. The changes of open
+//! transactions are undone in falling order of their numbers, with compensations in the logs of their members, and an Ended
+//! record closes each of these transactions. A RestartEnd is appended to each log that isn't empty and doesn't end with one
+//! (Josten, Mohan, Narang and Teng, "DB2's use of the coupling facility for data sharing", IBM Systems Journal 36(2), 1997).
+//! Only the disk is used.
 #![tactic(auto)]
 
+mod append;
 mod calls;
+mod course;
+mod disk_calls;
 mod machine;
+mod page_number;
+mod records;
+mod redo;
+mod reply;
+mod stage;
+mod undo;
 
 pub use calls::{Call, State};
 pub use machine::{GroupRestart, restart_disk};
+
+#[cfg(test)]
+mod tests;

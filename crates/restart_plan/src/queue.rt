@@ -1,4 +1,4 @@
-ghost use Rattle.std.specs.Prelude.{◌≡◌, [], ◌∷◌, ◌++◌, drop, length, slice_get, OnOk, OnErr, IfOk};
+ghost use Rattle.std.specs.Prelude.{◌≡◌, [], ◌∷◌, ◌++◌, drop, length, slice_get, option_copied, OnOk, OnErr, IfOk};
 
 use ds_base::{NoMemory, Sequence};
 use std::alloc::Global;
@@ -35,6 +35,13 @@ impl<T> Queue<T> {
         ensures { result ≡ length self.now }
     {
         self.items.len()
+    }
+
+    /// The item that is taken next.
+    pub fn first(&self) -> Option<&T>
+        ensures { option_copied result ≡ slice_get self.now 0 }
+    {
+        self.items.front()
     }
 }
 

@@ -1,0 +1,37 @@
+-- The records that a group restart appends.
+use Rattle.std.specs.Prelude.{◌≡◌, ℕ, Bool, true, false, List}
+use Rattle.std.specs.List.{AllByRecursion}
+use Rattle.ds_model.specs.declared.log.LogRecord.{LogRecord}
+use Rattle.ds_model.specs.declared.log.Body.{Body}
+use Rattle.ds_model.specs.declared.log.Body.TheVariants as body
+use Rattle.ds_model.specs.RecordBytes.{Fits, log_bytes}
+use Rattle.log_record.specs.Changes.{inverse}
+use Rattle.restart_plan.specs.declared.opened.Undo.{Undo}
+
+-- compensations, and the ends of transactions and of the restart
+abbrev pub is_of_restart : Body → Bool
+is_of_restart (body.RowChange change) = false
+is_of_restart (body.Compensation change undone) = true
+is_of_restart (body.System patches) = false
+is_of_restart body.Commit = false
+is_of_restart body.Ended = true
+is_of_restart (body.Checkpoint offset) = false
+is_of_restart body.RestartEnd = true
+
+pub record IsOfRestart (r : LogRecord) : Type 0 where
+  pub kind : is_of_restart r.body ≡ true
+  pub fits : Fits r
+
+-- the bytes are those of the records, each of which a restart may append
+pub record AreSpelled (records : List LogRecord) (bytes : List ℕ) : Type 0 where
+  pub spelled : bytes ≡ log_bytes records
+  pub each : AllByRecursion IsOfRestart records
+
+abbrev pub ended : ℕ → ℕ → LogRecord
+ended lrsn tran = record { lrsn = lrsn; tran = tran; body = body.Ended }
+
+abbrev pub restart_end : ℕ → LogRecord
+restart_end lrsn = record { lrsn = lrsn; tran = 0; body = body.RestartEnd }
+
+abbrev pub compensation : Undo → ℕ → LogRecord
+compensation u lrsn = record { lrsn = lrsn; tran = u.tran; body = body.Compensation (inverse u.change) u.lrsn }

@@ -1,0 +1,330 @@
+//! What is done next.
+
+ghost use Rattle.std.specs.Prelude.{◌≡◌, None, slice_get, OnOk, IfOk, IfSome, IfNone};
+ghost use Rattle.std.specs.List.{AllByRecursion};
+ghost use Rattle.ds_model.specs.RecordBytes.{IsAllowed, ChangeFits};
+ghost use Rattle.ds_base.specs.declared.names.Volume.TheVariants as volume;
+ghost use Rattle.group_restart.specs.declared.calls.State.TheVariants as state;
+ghost use Rattle.group_restart.specs.declared.stage.Stage.TheVariants as stage;
+ghost use Rattle.group_restart.specs.Going.{GoesOn, IsGoingOn};
+ghost use Rattle.group_restart.specs.Undo.{undo_fault};
+ghost use Rattle.group_restart.specs.Course.{counted, has_numbers, next_tail, next_redo, begin_undo, next_closing, undo_or, next_undo, begin_end, next_ending, done, too_few_numbers, go};
+
+use crate::append::Append;
+use crate::calls::State;
+use crate::machine::{GroupRestart, no_records};
+use crate::records::{ended, restart_end};
+use crate::redo::{bring_page, with_page_number};
+use crate::reply::Reply;
+use crate::stage::Stage;
+use crate::undo::{page_undone, undo_fault, undoing};
+use ds_base::{Lrsn, MemberId, NoMemory, PageId, Volume};
+use log_reader::{LogRead, LogReader, LogReply};
+use log_record::Log;
+use log_trans::{Damaged, find_log_damage, has_numbers};
+use page_records::PageRecords;
+use page_redo::undo_row;
+use restart_plan::{Logs, Undo, plan_of};
+use std::alloc::Global;
+
+fn damaged_log(damaged: Damaged) -> State
+    ensures exact { result ≡ state.Damaged (volume.Log damaged.member) damaged.at }
+    ensures goes_on { GoesOn result }
+{
+    State::Damaged {
+        volume: Volume::Log(damaged.member),
+        at: damaged.at,
+    }
+}
+
+fn damaged_page(id: PageId, at: u16) -> State
+    ensures exact { result ≡ state.Damaged (volume.Page id) at }
+    ensures goes_on { GoesOn result }
+{
+    State::Damaged {
+        volume: Volume::Page(id),
+        at: at as u64,
+    }
+}
+
+impl GroupRestart {
+    fn go(&mut self, stage: Stage) -> State
+        ensures exact { go self.old stage ≡ (self.new, result) }
+        ensures goes_on { GoesOn result }
+    {
+        self.stage = stage;
+        State::Going
+    }
+
+    // ---- the stages in their order: each goes on to the next one where it has nothing to do
+
+    #[tactic(auto, unfolding(crate::specs::Course::next_tail))]
+    fn next_tail(&mut self, alloc: Global) -> Result<State, NoMemory>
+        ensures exact { IfOk result (λ s. next_tail self.old ≡ (self.new, s)) }
+        ensures goes_on { IsGoingOn result }
+    {
+        match self.plan.tails.next() {
+            Some(tail) => Ok(self.go(Stage::CutTail(tail))),
+            None => self.next_redo(alloc),
+        }
+    }
+
+    #[tactic(auto, unfolding(crate::specs::Course::next_redo))]
+    fn next_redo(&mut self, alloc: Global) -> Result<State, NoMemory>
+        ensures exact { IfOk result (λ s. next_redo self.old ≡ (self.new, s)) }
+        ensures goes_on { IsGoingOn result }
+    {
+        match self.plan.pages.next() {
+            Some(PageRecords { page, places }) => {
+                self.places = places;
+                Ok(self.go(Stage::RedoRead(page)))
+            }
+            None => self.begin_undo(alloc),
+        }
+    }
+
+    // The merged records aren't needed any more.
+    fn count(&mut self, alloc: Global) -> Result<(), NoMemory>
+        ensures { OnOk result (self.new ≡ counted self.old) }
+    {
+        self.plan.merged = no_records(alloc)?;
+        self.counter = self.plan.greatest.lrsn;
+        Ok(())
+    }
+
+    fn has_numbers(&self) -> bool
+        ensures { result ≡ has_numbers self.now }
+    {
+        has_numbers(self.counter, self.plan.undo.len() as u64)
+    }
+
+    // Nothing is undone where more changes are to be compensated than numbers are left.
+    #[tactic(auto, unfolding(crate::specs::Course::begin_undo))]
+    fn begin_undo(&mut self, alloc: Global) -> Result<State, NoMemory>
+        ensures exact { IfOk result (λ s. begin_undo self.old ≡ (self.new, s)) }
+        ensures goes_on { IsGoingOn result }
+    {
+        self.count(alloc)?;
+        if !self.has_numbers() {
+            return Ok(self.too_few_numbers());
+        }
+        self.next_closing(alloc)
+    }
+
+    // More changes are to be compensated than numbers are left above the greatest one, which is named.
+    fn too_few_numbers(&self) -> State
+        ensures exact { too_few_numbers self.now ≡ (self.now, result) }
+        ensures goes_on { GoesOn result }
+    {
+        State::Damaged {
+            volume: self.plan.greatest.volume,
+            at: self.plan.greatest.at,
+        }
+    }
+
+    #[tactic(auto, unfolding(crate::specs::Course::next_closing))]
+    fn next_closing(&mut self, alloc: Global) -> Result<State, NoMemory>
+        ensures exact { IfOk result (λ s. next_closing self.old ≡ (self.new, s)) }
+        ensures goes_on { IsGoingOn result }
+    {
+        match self.plan.closings.next() {
+            Some(closing) => {
+                self.added = Append::new(alloc).with(ended(closing.lrsn, closing.tran))?;
+                Ok(self.go(Stage::CloseAppend(closing.member)))
+            }
+            None => self.next_undo(alloc),
+        }
+    }
+
+    fn next_page_undone(&self) -> Option<PageId>
+        ensures none { IfNone result (slice_get self.now.plan.undo 0 ≡ None) }
+        ensures some { IfSome result (λ page. undo_or self.now (slice_get self.now.plan.undo 0) ≡ go self.now (stage.UndoRead page)) }
+    {
+        let undo = self.plan.undo.first()?;
+        Some(page_undone(&undo.change))
+    }
+
+    #[tactic(auto, unfolding(crate::specs::Course::next_undo))]
+    fn next_undo(&mut self, alloc: Global) -> Result<State, NoMemory>
+        ensures exact { IfOk result (λ s. next_undo self.old ≡ (self.new, s)) }
+        ensures goes_on { IsGoingOn result }
+    {
+        match self.next_page_undone() {
+            Some(page) => Ok(self.go(Stage::UndoRead(page))),
+            None => self.begin_end(alloc),
+        }
+    }
+
+    #[tactic(auto, unfolding(crate::specs::Course::begin_end))]
+    fn begin_end(&mut self, alloc: Global) -> Result<State, NoMemory>
+        ensures exact { IfOk result (λ s. begin_end self.old ≡ (self.new, s)) }
+        ensures goes_on { IsGoingOn result }
+    {
+        self.added = Append::new(alloc).with(restart_end(self.counter))?;
+        Ok(self.next_ending())
+    }
+
+    #[tactic(auto, unfolding(crate::specs::Course::next_ending))]
+    fn next_ending(&mut self) -> State
+        ensures exact { next_ending self.old ≡ (self.new, result) }
+        ensures goes_on { GoesOn result }
+    {
+        match self.plan.endings.next() {
+            Some(member) => self.go(Stage::EndAppend(member)),
+            None => {
+                self.stage = Stage::End;
+                self.done()
+            }
+        }
+    }
+
+    fn done(&self) -> State
+        ensures exact { done self.now ≡ (self.now, result) }
+        ensures goes_on { GoesOn result }
+    {
+        State::Done {
+            counter: self.counter,
+        }
+    }
+
+    // ---- logs
+
+    fn take_log(&mut self, alloc: Global, told: LogReply) -> Result<State, NoMemory>
+        ensures goes_on { IsGoingOn result }
+    {
+        match self.reader.take(alloc, told)? {
+            LogRead::More => Ok(State::Going),
+            LogRead::Bad { at } => Ok(damaged_log(Damaged {
+                member: self.reader.member(),
+                at,
+            })),
+            LogRead::Whole(log) => self.take_whole(alloc, log),
+        }
+    }
+
+    fn take_whole(&mut self, alloc: Global, log: Log) -> Result<State, NoMemory>
+        requires { AllByRecursion IsAllowed log.records }
+        ensures goes_on { IsGoingOn result }
+    {
+        self.logs.add(log)?;
+        match MemberId::new(self.reader.member().number() + 1) {
+            Some(member) => {
+                self.reader = LogReader::new(alloc, member)?;
+                Ok(State::Going)
+            }
+            None => self.take_logs(alloc),
+        }
+    }
+
+    // All logs are read: what is to be cut, redone, closed and undone follows from them.
+    fn take_logs(&mut self, alloc: Global) -> Result<State, NoMemory>
+        ensures goes_on { IsGoingOn result }
+    {
+        if let Some(damaged) = find_log_damage(alloc, self.logs.as_slice())? {
+            return Ok(damaged_log(damaged));
+        }
+        self.plan = plan_of(alloc, &self.logs)?;
+        self.logs = Logs::new(alloc);
+        self.next_tail(alloc)
+    }
+
+    // ---- pages
+
+    // The page as it stands on the disk is brought forward, and written where that changed it.
+    fn take_page(&mut self, alloc: Global, id: PageId) -> Result<State, NoMemory>
+        ensures goes_on { IsGoingOn result }
+    {
+        let merged = self.plan.merged.records();
+        match bring_page(&mut self.page, id, merged, self.places.as_slice()) {
+            Err(fault) => Ok(damaged_page(id, fault.at)),
+            Ok(is_raised) => self.take_raised(alloc, id, is_raised),
+        }
+    }
+
+    fn take_raised(&mut self, alloc: Global, id: PageId, is_raised: bool) -> Result<State, NoMemory>
+        ensures goes_on { IsGoingOn result }
+    {
+        self.plan.greatest = with_page_number(self.plan.greatest, id, &self.page);
+        if is_raised {
+            Ok(self.go(Stage::RedoWrite(id)))
+        } else {
+            self.next_redo(alloc)
+        }
+    }
+
+    // The page of the change is at hand: its compensation is made.
+    fn take_undone(&mut self, alloc: Global) -> Result<State, NoMemory>
+        ensures goes_on { IsGoingOn result }
+    {
+        match self.plan.undo.next() {
+            Some(undo) => self.undo_one(alloc, &undo),
+            None => self.begin_end(alloc),
+        }
+    }
+
+    fn undo_one(&mut self, alloc: Global, undo: &Undo) -> Result<State, NoMemory>
+        ensures goes_on { IsGoingOn result }
+    {
+        let id = page_undone(&undo.change);
+        if let Some(at) = undo_fault(&self.page, &undo.change) {
+            return Ok(damaged_page(id, at));
+        }
+        let Some(lrsn) = Lrsn::new(self.counter.number() + 1) else {
+            return Ok(self.too_few_numbers());
+        };
+        self.undo_change(alloc, undo, lrsn)
+    }
+
+    fn undo_change(&mut self, alloc: Global, undo: &Undo, lrsn: Lrsn) -> Result<State, NoMemory>
+        requires fits { ChangeFits undo.now.change }
+        requires sound { undo_fault undo.now.change self.old.page ≡ None }
+        ensures goes_on { IsGoingOn result }
+    {
+        let id = page_undone(&undo.change);
+        self.added = undoing(alloc, undo, lrsn)?;
+        self.counter = lrsn;
+        if let Err(fault) = undo_row(&mut self.page, id, &undo.change, lrsn) {
+            return Ok(damaged_page(id, fault.at));
+        }
+        let member = undo.member;
+        Ok(self.go(Stage::UndoAppend { member, page: id }))
+    }
+
+    // ---- replies
+
+    fn take_done(&mut self, alloc: Global) -> Result<State, NoMemory>
+        ensures goes_on { IsGoingOn result }
+    {
+        match self.stage {
+            Stage::ReadLog => Ok(State::Going),
+            Stage::CutTail(_) => self.next_tail(alloc),
+            Stage::RedoRead(page) => self.take_page(alloc, page),
+            Stage::RedoWrite(_) => self.next_redo(alloc),
+            Stage::CloseAppend(_) => self.next_closing(alloc),
+            Stage::UndoRead(_) => self.take_undone(alloc),
+            Stage::UndoAppend { page, .. } => Ok(self.go(Stage::UndoWrite(page))),
+            Stage::UndoWrite(_) => self.next_undo(alloc),
+            Stage::EndAppend(_) => Ok(self.next_ending()),
+            Stage::End => Ok(self.done()),
+        }
+    }
+
+    fn take_told(&mut self, alloc: Global, told: LogReply) -> Result<State, NoMemory>
+        ensures goes_on { IsGoingOn result }
+    {
+        match self.stage {
+            Stage::ReadLog => self.take_log(alloc, told),
+            _ => Ok(self.done()),
+        }
+    }
+
+    /// Takes the answer of the disk.
+    pub(crate) fn take(&mut self, alloc: Global, reply: Reply) -> Result<State, NoMemory>
+        ensures goes_on { IsGoingOn result }
+    {
+        match reply {
+            Reply::Log(told) => self.take_told(alloc, told),
+            Reply::Done => self.take_done(alloc),
+        }
+    }
+}

@@ -1,0 +1,53 @@
+ghost use Rattle.std.specs.Prelude.{◌≡◌, None, IfOk};
+ghost use Rattle.ds_model.specs.RecordBytes.{ChangeFits};
+ghost use Rattle.page_chain.specs.Chains.{row_patch};
+ghost use Rattle.group_restart.specs.Undo.{undo_fault, undoing};
+
+use crate::append::Append;
+use crate::records::{compensation, ended};
+use ds_base::{Lrsn, NoMemory, PageId};
+use ds_model::RowChange;
+use page_format::Page;
+use page_redo::row_fault;
+use restart_plan::Undo;
+use std::alloc::Global;
+
+// Where the kind of a page stands.
+const KIND_AT: u16 = 4;
+
+/// The page whose row the change is of.
+pub fn page_undone(change: &RowChange) -> PageId
+    ensures { result ≡ (row_patch change.now).page }
+{
+    PageId {
+        set: 2 * change.table.number() as u16 - 1,
+        number: change.place.page,
+    }
+}
+
+/// Where a page shows that the row of the change isn't there. A header page has no rows.
+pub fn undo_fault(page: &Page, change: &RowChange) -> Option<u16>
+    ensures exact { result ≡ undo_fault change.now page.now }
+    ensures fits { result ≡ None → ChangeFits change.now }
+{
+    if let Some(at) = row_fault(page, page_undone(change), change.place.slot, change.key) {
+        return Some(at);
+    }
+    if change.place.page == 0 {
+        return Some(KIND_AT);
+    }
+    None
+}
+
+/// The compensation with this number, and behind the last one of the transaction its Ended record.
+pub fn undoing(alloc: Global, undo: &Undo, lrsn: Lrsn) -> Result<Append, NoMemory>
+    requires { ChangeFits undo.now.change }
+    ensures { IfOk result (λ a. a ≡ undoing undo.now lrsn) }
+{
+    let append = Append::new(alloc).with(compensation(undo, lrsn))?;
+    if undo.is_last {
+        append.with(ended(lrsn, undo.tran))
+    } else {
+        Ok(append)
+    }
+}
