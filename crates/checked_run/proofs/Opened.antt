@@ -1,5 +1,5 @@
 -- A disk that was opened, and what became of it.
-use Rattle.std.proofs.Common.{◌≡◌, ◌≢◌, ℕ, ◌+◌, ◌≤◌, Bool, List, Option, Some, None, sym, subst, arith}
+use Rattle.std.proofs.Common.{◌≡◌, ℕ, ◌≤◌, Bool, List, Option, Some, None, sym, subst, arith}
 use Rattle.ds_base.specs.Causes.{Rose}
 use Rattle.ds_base.specs.declared.row.Row.{Row}
 use Rattle.ds_disk.specs.Contents.{Contents, WhenTold, Becomes, Same}
@@ -12,11 +12,10 @@ use Rattle.opening_rows.specs.Reading.{AreLogsOf}
 use Rattle.opening_rows.specs.Opening.{OpensAs, OpensWith}
 use Rattle.log_record.specs.declared.log.Log.{Log}
 use Rattle.checked_run.specs.Back.{HoldsLogs}
-use Rattle.checked_run.specs.declared.ended.Ended.{Ended}
-use Rattle.checked_run.specs.declared.ended.Ended.TheVariants as ended
 use Rattle.checked_run.specs.declared.ended.Outcome.{Outcome}
 use Rattle.checked_run.specs.declared.ended.Outcome.TheVariants as outcome
 use Rattle.checked_run.specs.Told.{IfTold, IsTold, DiskStandsFor, RoseTwice}
+use Rattle.checked_run.proofs.Sound.{if_told}
 use Rattle.checked_run.specs.Outcomes.{IsOpening, Comes, ComesFrom, ShowsRows}
 
 -- ---- logs that were read
@@ -67,12 +66,6 @@ told_earlier tells script traced opening a b c after le report it = record {
 
 pub shows_earlier : (a b c : ℕ) (rows : List Row) → a ≤ b → (report : Report) → ShowsRows b c rows report → ShowsRows a c rows report
 shows_earlier a b c rows le report it = record { report_is = it.report_is; status = it.status; cause = λ e. earlier a b c le (it.cause e) }
-
-pub if_told : (e : Ended) (P Q : Report → Type 0) → ((report : Report) → P report → Q report) → IfTold e P → IfTold e Q
-if_told (ended.Told report) P Q f p = f report p
-if_told (ended.Damaged volume at) P Q f p = tt
-if_told (ended.Unsound event) P Q f p = tt
-if_told ended.NoMemory P Q f p = tt
 
 -- ---- from the reading of the logs on
 

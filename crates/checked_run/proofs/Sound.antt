@@ -1,5 +1,5 @@
 -- Reports that were found sound.
-use Rattle.std.proofs.Common.{◌≡◌, ◌≢◌, ◌⊎◌, inl, inr, ℕ, ◌+◌, ◌≤◌, Bool, true, false, cond, List, [], ◌∷◌, map, Option, Some, None, refl, sym, ap, subst, ◌∙◌, arith}
+use Rattle.std.proofs.Common.{◌≡◌, ◌≢◌, ◌⊎◌, inl, inr, ℕ, ◌≤◌, Bool, true, false, cond, List, [], ◌∷◌, map, Option, Some, None, Result, Ok, Err, IfOk, refl, sym, ap, subst, ◌∙◌, arith}
 use Rattle.std.proofs.lemmas.List.{append-nil, take_all}
 use Rattle.std.specs.Bool.{Decides}
 use Rattle.std.specs.Option.{SomeIff}
@@ -13,7 +13,7 @@ use Rattle.ds_model.specs.declared.history.Entry.{Entry}
 use Rattle.ds_model.specs.declared.log.LogRecord.{LogRecord}
 use Rattle.ds_model.specs.Rows.{Rows, map_of, listed}
 use Rattle.ds_model.specs.History.{replay}
-use Rattle.ds_model.specs.Logs.{IsLog, AreLogs, StandFor, rows_of_logs}
+use Rattle.ds_model.specs.Logs.{IsLog, AreLogs, rows_of_logs}
 use Rattle.ds_model.specs.Told.{entry_of}
 use Rattle.log_record.specs.declared.log.Log.{Log}
 use Rattle.log_record.specs.Logs.{IsLogOf}
@@ -22,7 +22,10 @@ use Rattle.report_check.specs.Reports.{IsSoundReport, IsSoundAlone}
 use Rattle.report_check.specs.Laws.{settled, TellsSoundHistory, TellsSoundAlone}
 use Rattle.opening_rows.specs.Reading.{AreLogsOf}
 use Rattle.checked_run.specs.Back.{AreWhole, HoldsLogs}
-use Rattle.checked_run.specs.Told.{RoseTwice, LogsStandFor, IsTold, IsHeld, IsAlone, no_trace}
+use Rattle.ds_base.specs.declared.fault.NoMemory.{NoMemory}
+use Rattle.checked_run.specs.declared.ended.Ended.{Ended}
+use Rattle.checked_run.specs.declared.ended.Ended.TheVariants as ended
+use Rattle.checked_run.specs.Told.{IfTold, RoseTwice, LogsStandFor, IsTold, IsHeld, IsAlone, no_trace}
 
 abbrev pub report_of : Script → List Entry → List Row → Trace → ℕ → Report
 report_of script entries rows trace status = record { entries = map (entry_of script) entries; trace = trace; rows = rows; status = status }
@@ -140,6 +143,23 @@ told_alone tells script opening traced trace before now after report rose twice 
     };
   };
 }
+
+pub if_told : (e : Ended) (P Q : Report → Type 0) → ((report : Report) → P report → Q report) → IfTold e P → IfTold e Q
+if_told (ended.Told report) P Q f p = f report p
+if_told (ended.Damaged volume at) P Q f p = tt
+if_told (ended.Unsound event) P Q f p = tt
+if_told ended.NoMemory P Q f p = tt
+
+-- the same of an answer that may be want of memory
+pub held_told : (tells : Type 0) (script : Script) (opening : List Row) (traced failed : Bool) (trace : Trace) (status before now : ℕ) (was after : Option Contents) (read given : List Log) (answer : Result Ended NoMemory)
+    → (tells → was ≢ None) → Becomes was after (HoldsLogs read) → (failed ≡ true → Rose before now) → (traced ≡ false → trace ≡ no_trace) → given ≡ read → status ≡ cond failed 5 0
+    → IfOk answer (λ e. IfTold e (λ report. AreWhole given × IsHeld script opening (records_of given) trace status report))
+    → IfOk answer (λ e. IfTold e (IsTold tells script traced opening before now after))
+held_told tells script opening traced failed trace status before now was after read given (Err none) told holds rose untraced same is it = it
+held_told tells script opening traced failed trace status before now was after read given (Ok e) told holds rose untraced same is it =
+    let its = subst (λ n. IfTold e (λ report. AreWhole read × IsHeld script opening (records_of read) trace n report)) is (subst (λ (logs : List Log). IfTold e (λ report. AreWhole logs × IsHeld script opening (records_of logs) trace status report)) same it) in
+    if_told e (λ report. AreWhole read × IsHeld script opening (records_of read) trace (cond failed 5 0) report) (IsTold tells script traced opening before now after)
+    (λ report held. told_with tells script opening traced failed trace before now was after read report told holds rose untraced held) its
 
 pub twice : (a b c : ℕ) → Rose a b → Rose b c → RoseTwice a c
 twice a b c one two = omega arith

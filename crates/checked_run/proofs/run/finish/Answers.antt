@@ -1,16 +1,17 @@
-use Rattle.std.proofs.Common.{◌≤◌, sym, subst, ◌∙◌, arith}
-use Rattle.group_core.specs.Goes.{Goes}
+use Rattle.std.proofs.Common.{inl, inr, sym, ◌∙◌, arith}
 use Rattle.checked_run.proofs.Going.{grown, risen}
+use Rattle.checked_run.proofs.Sound.{once, still}
 use Rattle.checked_run.proofs.run.finish.Goals as goal
 
 pub returns-clause-told : goal.returns-clause-told
 returns-clause-told g c =
     let begun = g.D.Disk.faults c.args.group.disk in
-    let goes = subst (λ d. Goes begun c.args.group.fault (g.D.Disk.faults d) c.run_one_thread-end.new.group.fault) (sym c.close-disk.ensures.disk) c.run_one_thread-end.ensures.goes in
-    c.settle-ended.ensures.told begun (grown _ _ _ _ goes) (λ e. risen _ _ _ _ c.requires goes (sym c.close-disk.ensures.fault ∙ e))
+    let goes = c.run_one_thread-end.ensures.goes in
+    let closed = c.close-disk.ensures in
+    c.settle-ended.ensures.told begun (omega (arith, grown _ _ _ _ goes, closed.later)) (λ why. elim why [
+      | inl failed ↦ still _ _ _ (risen _ _ _ _ c.requires.fault goes (sym closed.fault ∙ failed)) closed.later
+      | inr failed ↦ once _ _ _ (grown _ _ _ _ goes) (closed.failed failed)
+    ])
 
 pub returns-clause-later : goal.returns-clause-later
-returns-clause-later g c =
-    let begun = g.D.Disk.faults c.args.group.disk in
-    let goes = subst (λ d. Goes begun c.args.group.fault (g.D.Disk.faults d) c.run_one_thread-end.new.group.fault) (sym c.close-disk.ensures.disk) c.run_one_thread-end.ensures.goes in
-    omega (arith, grown _ _ _ _ goes, c.settle-ended.ensures.later)
+returns-clause-later g c = omega (arith, grown _ _ _ _ c.run_one_thread-end.ensures.goes, c.close-disk.ensures.later, c.settle-ended.ensures.later)
