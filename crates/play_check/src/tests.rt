@@ -58,14 +58,14 @@ fn a_disk_that_dies_in_an_append_keeps_a_front_of_it(rt: HostRuntime) -> Result<
         dies: None,
     };
     let whole = plays(&rt, alloc, &hello, 0, HELLO_REPORT)?;
-    // The second append is that of a commit alone, which has 22 bytes.
+    // The second append is that of a commit alone, and behind it the closing has put a RestartEnd: each has 22 bytes.
     for kept in [0u64, 21, 22] {
         let dies = Setting {
             dies: Some((DiskOp::AppendLog, 2, kept)),
             ..hello
         };
         let disk = plays(&rt, alloc, &dies, 5, STOPPED_REPORT)?;
-        let left = whole.log(member).len().wrapping_sub(22);
+        let left = whole.log(member).len().wrapping_sub(44);
         assert!(rt; disk.log(member).len() == left.wrapping_add(kept as usize));
     }
     Ok(())
