@@ -1,19 +1,35 @@
 -- What a group restart makes of an answer.
-use Rattle.std.specs.Prelude.{ℕ, ◌+◌, ◌^◌, nat_lt, Bool, if◌then◌else◌, List, [], ◌∷◌, length, drop, slice_get, Option, Some, None}
+use Rattle.std.specs.Prelude.{◌≡◌, ℕ, ◌+◌, ◌^◌, nat_lt, Bool, true, false, if◌then◌else◌, List, [], ◌∷◌, ◌++◌, length, drop, slice_get, Option, Some, None, Result, Ok, Err}
+use Rattle.ds_base.specs.declared.names.PageId.{PageId}
+use Rattle.ds_base.specs.declared.names.Volume.TheVariants as volume
 use Rattle.ds_model.specs.declared.log.LogRecord.{LogRecord}
 use Rattle.page_chain.specs.Chains.{row_patch}
+use Rattle.log_record.specs.declared.log.Log.{Log}
+use Rattle.log_reader.specs.declared.calls.LogReply.{LogReply}
+use Rattle.log_reader.specs.declared.calls.LogRead.{LogRead}
+use Rattle.log_reader.specs.declared.calls.LogRead.TheVariants as read
+use Rattle.log_reader.specs.Readers.{ReaderState, IsNew, IsRead, after_reply}
+use Rattle.log_trans.specs.declared.damage.Damaged.{Damaged}
+use Rattle.log_trans.specs.Damage.{log_damage}
 use Rattle.page_records.specs.declared.places.PageRecords.{PageRecords}
+use Rattle.page_redo.specs.declared.fault.FieldFault.{FieldFault}
+use Rattle.page_redo.specs.Forward.{Forward}
 use Rattle.restart_plan.specs.declared.greatest.Greatest.{Greatest}
 use Rattle.restart_plan.specs.declared.opened.Closing.{Closing}
 use Rattle.restart_plan.specs.declared.opened.Undo.{Undo}
 use Rattle.restart_plan.specs.declared.tails.Tail.{Tail}
 use Rattle.restart_plan.specs.declared.plan.Plan.{Plan}
+use Rattle.restart_plan.specs.Plans.{plan_of}
 use Rattle.group_restart.specs.declared.calls.State.{State}
 use Rattle.group_restart.specs.declared.calls.State.TheVariants as state
+use Rattle.group_restart.specs.declared.reply.Reply.{Reply}
+use Rattle.group_restart.specs.declared.reply.Reply.TheVariants as reply
 use Rattle.group_restart.specs.declared.stage.Stage.{Stage}
 use Rattle.group_restart.specs.declared.stage.Stage.TheVariants as stage
 use Rattle.group_restart.specs.Machine.{Restart}
 use Rattle.group_restart.specs.Records.{ended, restart_end}
+use Rattle.group_restart.specs.Redo.{brought, with_page_number}
+use Rattle.group_restart.specs.Undo.{undo_fault, undone_page, undoing}
 
 -- where the restart stands afterwards, and what it tells
 abbrev pub Next : Type 0
@@ -116,3 +132,129 @@ tail_or h (Some tail) = go h (stage.CutTail tail)
 
 unfoldable pub next_tail : Restart → Next
 next_tail h = tail_or (with_plan h (rest_tails h.plan)) (slice_get h.plan.tails 0)
+
+-- ---- redo
+
+abbrev pub damaged_page : Restart → PageId → ℕ → Next
+damaged_page h id at = (h, state.Damaged (volume.Page id) at)
+
+-- the page is written where a record was applied
+abbrev pub raised : Restart → PageId → Bool → Next
+raised h id true = go h (stage.RedoWrite id)
+raised h id false = next_redo h
+
+unfoldable pub take_raised : Restart → PageId → Bool → Next
+take_raised h id is_raised = raised (with_plan h (with_greatest h.plan (with_page_number h.plan.greatest id h.page))) id is_raised
+
+abbrev pub forwarded : Restart → PageId → Result Bool FieldFault → Next
+forwarded h id (Err fault) = damaged_page h id fault.at
+forwarded h id (Ok is_raised) = take_raised h id is_raised
+
+-- the page at hand, brought forward by its records
+abbrev pub page_brought : Restart → PageId → Forward
+page_brought h id = brought id h.page h.plan.merged h.places
+
+unfoldable pub take_page : Restart → PageId → Next
+take_page h id = forwarded (record h { page = (page_brought h id).page }) id (page_brought h id).outcome
+
+-- ---- undo
+
+-- the row before the change is in its slot again, and the compensation has this number
+unfoldable pub undone : Restart → Undo → ℕ → Next
+undone h u lrsn =
+    go (record h { page = undone_page u.change lrsn h.page; counter = lrsn; added = undoing u lrsn })
+    (stage.UndoAppend u.member (row_patch u.change).page)
+
+abbrev pub undo_at : Restart → Undo → ℕ → Next
+undo_at h u lrsn = if nat_lt lrsn (2 ^ 48) then undone h u lrsn else too_few_numbers h
+
+abbrev pub undo_unless : Restart → Undo → Option ℕ → Next
+undo_unless h u (Some at) = damaged_page h (row_patch u.change).page at
+undo_unless h u None = undo_at h u (h.counter + 1)
+
+unfoldable pub undo_one : Restart → Undo → Next
+undo_one h u = undo_unless h u (undo_fault u.change h.page)
+
+abbrev pub undo_first : Restart → Option Undo → Next
+undo_first h None = begin_end h
+undo_first h (Some u) = undo_one h u
+
+unfoldable pub take_undone : Restart → Next
+take_undone h = undo_first (with_plan h (rest_undo h.plan)) (slice_get h.plan.undo 0)
+
+-- ---- what was done
+
+abbrev pub take_done : Restart → Stage → Next
+take_done h stage.ReadLog = stays h
+take_done h (stage.CutTail tail) = next_tail h
+take_done h (stage.RedoRead page) = take_page h page
+take_done h (stage.RedoWrite page) = next_redo h
+take_done h (stage.CloseAppend member) = next_closing h
+take_done h (stage.UndoRead page) = take_undone h
+take_done h (stage.UndoAppend member page) = go h (stage.UndoWrite page)
+take_done h (stage.UndoWrite page) = next_undo h
+take_done h (stage.EndAppend member) = next_ending h
+take_done h stage.End = done h
+
+-- ---- logs
+
+abbrev pub damaged_log : Restart → ℕ → ℕ → Next
+damaged_log h member at = (h, state.Damaged (volume.Log member) at)
+
+abbrev pub with_reader : Restart → ReaderState → Restart
+with_reader h r = record h { reader = r }
+
+-- the first number of the logs that can't stand there
+unfoldable pub found_damage : List Log → Option Damaged
+found_damage logs = log_damage logs
+
+abbrev pub planned : Restart → Option Damaged → Next
+planned h (Some d) = damaged_log h d.member d.at
+planned h None = next_tail (record h { plan = plan_of h.logs; logs = [] })
+
+-- all logs are read: what is to be done follows from them
+unfoldable pub take_logs : Restart → Next
+take_logs h = planned h (found_damage h.logs)
+
+-- the log of the next member is read, if there is one
+abbrev pub GoesToNext : Bool → Restart → State → Restart → Type 0
+GoesToNext true h s k = (s ≡ state.Going) × IsNew (h.reader.member + 1) k.reader × (k ≡ with_reader h k.reader)
+GoesToNext false h s k = take_logs h ≡ (k, s)
+
+unfoldable pub TakesWhole : Restart → Log → State → Restart → Type 0
+TakesWhole h log s k = GoesToNext (nat_lt h.reader.member 32) (record h { logs = h.logs ++ log ∷ [] }) s k
+
+abbrev pub TakesRead : Restart → LogRead → State → Restart → Type 0
+TakesRead h read.More s k = stays h ≡ (k, s)
+TakesRead h (read.Bad at) s k = damaged_log h h.reader.member at ≡ (k, s)
+TakesRead h (read.Whole log) s k = TakesWhole h log s k
+
+pub record TakesLog (h : Restart) (told : LogReply) (s : State) (k : Restart) : Type 0 where
+  pub found : LogRead
+  pub is_read : IsRead (after_reply h.reader told) found
+  pub takes : TakesRead (with_reader h (after_reply h.reader told)) found s k
+
+-- behind the end nothing is told but the end
+unfoldable pub TakesTold : Stage → Restart → LogReply → State → Restart → Type 0
+TakesTold stage.ReadLog h told s k = TakesLog h told s k
+TakesTold (stage.CutTail tail) h told s k = done h ≡ (k, s)
+TakesTold (stage.RedoRead page) h told s k = done h ≡ (k, s)
+TakesTold (stage.RedoWrite page) h told s k = done h ≡ (k, s)
+TakesTold (stage.CloseAppend member) h told s k = done h ≡ (k, s)
+TakesTold (stage.UndoRead page) h told s k = done h ≡ (k, s)
+TakesTold (stage.UndoAppend member page) h told s k = done h ≡ (k, s)
+TakesTold (stage.UndoWrite page) h told s k = done h ≡ (k, s)
+TakesTold (stage.EndAppend member) h told s k = done h ≡ (k, s)
+TakesTold stage.End h told s k = done h ≡ (k, s)
+
+unfoldable pub TakesReply : Restart → Reply → State → Restart → Type 0
+TakesReply h (reply.Log told) s k = TakesTold h.stage h told s k
+TakesReply h reply.Done s k = take_done h h.stage ≡ (k, s)
+
+-- ---- the start
+
+-- the log of the first member is read first, and nothing of it is
+pub record IsBegun (h : Restart) : Type 0 where
+  pub stage_is : h.stage ≡ stage.ReadLog
+  pub reader_is : IsNew 1 h.reader
+  pub no_logs : h.logs ≡ []

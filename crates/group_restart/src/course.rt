@@ -8,7 +8,7 @@ ghost use Rattle.group_restart.specs.declared.calls.State.TheVariants as state;
 ghost use Rattle.group_restart.specs.declared.stage.Stage.TheVariants as stage;
 ghost use Rattle.group_restart.specs.Going.{GoesOn, IsGoingOn};
 ghost use Rattle.group_restart.specs.Undo.{undo_fault};
-ghost use Rattle.group_restart.specs.Course.{counted, has_numbers, next_tail, next_redo, begin_undo, next_closing, undo_or, next_undo, begin_end, next_ending, done, too_few_numbers, go};
+ghost use Rattle.group_restart.specs.Course.{found_damage, counted, has_numbers, next_tail, next_redo, begin_undo, next_closing, undo_or, next_undo, begin_end, next_ending, done, too_few_numbers, go, TakesLog, TakesWhole, take_logs, take_page, take_raised, take_undone, undo_one, undone, take_done, TakesTold, TakesReply};
 
 use crate::append::Append;
 use crate::calls::State;
@@ -17,13 +17,12 @@ use crate::records::{ended, restart_end};
 use crate::redo::{bring_page, with_page_number};
 use crate::reply::Reply;
 use crate::stage::Stage;
-use crate::undo::{page_undone, undo_fault, undoing};
+use crate::undo::{page_undone, undo_fault, undo_page, undoing};
 use ds_base::{Lrsn, MemberId, NoMemory, PageId, Volume};
 use log_reader::{LogRead, LogReader, LogReply};
 use log_record::Log;
 use log_trans::{Damaged, find_log_damage, has_numbers};
 use page_records::PageRecords;
-use page_redo::undo_row;
 use restart_plan::{Logs, Undo, plan_of};
 use std::alloc::Global;
 
@@ -35,6 +34,13 @@ fn damaged_log(damaged: Damaged) -> State
         volume: Volume::Log(damaged.member),
         at: damaged.at,
     }
+}
+
+#[tactic(auto, unfolding(crate::specs::Course::found_damage))]
+fn damage_of(alloc: Global, logs: &Logs) -> Result<Option<Damaged>, NoMemory>
+    ensures { IfOk result (λ damage. damage ≡ found_damage logs.now) }
+{
+    find_log_damage(alloc, logs.as_slice())
 }
 
 fn damaged_page(id: PageId, at: u16) -> State
@@ -190,6 +196,7 @@ impl GroupRestart {
     // ---- logs
 
     fn take_log(&mut self, alloc: Global, told: LogReply) -> Result<State, NoMemory>
+        ensures exact { IfOk result (λ s. TakesLog self.old told s self.new) }
         ensures goes_on { IsGoingOn result }
     {
         match self.reader.take(alloc, told)? {
@@ -202,8 +209,10 @@ impl GroupRestart {
         }
     }
 
+    #[tactic(auto, unfolding(crate::specs::Course::TakesWhole))]
     fn take_whole(&mut self, alloc: Global, log: Log) -> Result<State, NoMemory>
         requires { AllByRecursion IsAllowed log.records }
+        ensures exact { IfOk result (λ s. TakesWhole self.old log s self.new) }
         ensures goes_on { IsGoingOn result }
     {
         self.logs.add(log)?;
@@ -217,10 +226,12 @@ impl GroupRestart {
     }
 
     // All logs are read: what is to be cut, redone, closed and undone follows from them.
+    #[tactic(auto, unfolding(crate::specs::Course::take_logs))]
     fn take_logs(&mut self, alloc: Global) -> Result<State, NoMemory>
+        ensures exact { IfOk result (λ s. take_logs self.old ≡ (self.new, s)) }
         ensures goes_on { IsGoingOn result }
     {
-        if let Some(damaged) = find_log_damage(alloc, self.logs.as_slice())? {
+        if let Some(damaged) = damage_of(alloc, &self.logs)? {
             return Ok(damaged_log(damaged));
         }
         self.plan = plan_of(alloc, &self.logs)?;
@@ -231,7 +242,9 @@ impl GroupRestart {
     // ---- pages
 
     // The page as it stands on the disk is brought forward, and written where that changed it.
+    #[tactic(auto, unfolding(crate::specs::Course::take_page))]
     fn take_page(&mut self, alloc: Global, id: PageId) -> Result<State, NoMemory>
+        ensures exact { IfOk result (λ s. take_page self.old id ≡ (self.new, s)) }
         ensures goes_on { IsGoingOn result }
     {
         let merged = self.plan.merged.records();
@@ -241,7 +254,9 @@ impl GroupRestart {
         }
     }
 
+    #[tactic(auto, unfolding(crate::specs::Course::take_raised))]
     fn take_raised(&mut self, alloc: Global, id: PageId, is_raised: bool) -> Result<State, NoMemory>
+        ensures exact { IfOk result (λ s. take_raised self.old id is_raised ≡ (self.new, s)) }
         ensures goes_on { IsGoingOn result }
     {
         self.plan.greatest = with_page_number(self.plan.greatest, id, &self.page);
@@ -253,7 +268,9 @@ impl GroupRestart {
     }
 
     // The page of the change is at hand: its compensation is made.
+    #[tactic(auto, unfolding(crate::specs::Course::take_undone))]
     fn take_undone(&mut self, alloc: Global) -> Result<State, NoMemory>
+        ensures exact { IfOk result (λ s. take_undone self.old ≡ (self.new, s)) }
         ensures goes_on { IsGoingOn result }
     {
         match self.plan.undo.next() {
@@ -262,7 +279,9 @@ impl GroupRestart {
         }
     }
 
+    #[tactic(auto, unfolding(crate::specs::Course::undo_one))]
     fn undo_one(&mut self, alloc: Global, undo: &Undo) -> Result<State, NoMemory>
+        ensures exact { IfOk result (λ s. undo_one self.old undo.now ≡ (self.new, s)) }
         ensures goes_on { IsGoingOn result }
     {
         let id = page_undone(&undo.change);
@@ -275,17 +294,17 @@ impl GroupRestart {
         self.undo_change(alloc, undo, lrsn)
     }
 
+    #[tactic(auto, unfolding(crate::specs::Course::undone))]
     fn undo_change(&mut self, alloc: Global, undo: &Undo, lrsn: Lrsn) -> Result<State, NoMemory>
         requires fits { ChangeFits undo.now.change }
         requires sound { undo_fault undo.now.change self.old.page ≡ None }
+        ensures exact { IfOk result (λ s. undone self.old undo.now lrsn ≡ (self.new, s)) }
         ensures goes_on { IsGoingOn result }
     {
         let id = page_undone(&undo.change);
         self.added = undoing(alloc, undo, lrsn)?;
         self.counter = lrsn;
-        if let Err(fault) = undo_row(&mut self.page, id, &undo.change, lrsn) {
-            return Ok(damaged_page(id, fault.at));
-        }
+        undo_page(&mut self.page, &undo.change, lrsn);
         let member = undo.member;
         Ok(self.go(Stage::UndoAppend { member, page: id }))
     }
@@ -293,6 +312,7 @@ impl GroupRestart {
     // ---- replies
 
     fn take_done(&mut self, alloc: Global) -> Result<State, NoMemory>
+        ensures exact { IfOk result (λ s. take_done self.old self.old.stage ≡ (self.new, s)) }
         ensures goes_on { IsGoingOn result }
     {
         match self.stage {
@@ -309,7 +329,9 @@ impl GroupRestart {
         }
     }
 
+    #[tactic(auto, unfolding(crate::specs::Course::TakesTold))]
     fn take_told(&mut self, alloc: Global, told: LogReply) -> Result<State, NoMemory>
+        ensures exact { IfOk result (λ s. TakesTold self.old.stage self.old told s self.new) }
         ensures goes_on { IsGoingOn result }
     {
         match self.stage {
@@ -319,7 +341,9 @@ impl GroupRestart {
     }
 
     /// Takes the answer of the disk.
+    #[tactic(auto, unfolding(crate::specs::Course::TakesReply))]
     pub(crate) fn take(&mut self, alloc: Global, reply: Reply) -> Result<State, NoMemory>
+        ensures exact { IfOk result (λ s. TakesReply self.old reply s self.new) }
         ensures goes_on { IsGoingOn result }
     {
         match reply {

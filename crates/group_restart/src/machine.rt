@@ -3,6 +3,7 @@ ghost use Rattle.ds_base.specs.Causes.{Rose};
 ghost use Rattle.ds_disk.specs.declared.disk.DiskError.TheVariants.{Failed};
 ghost use Rattle.restart_plan.specs.Plans as model;
 ghost use Rattle.group_restart.specs.Calls.{log_call, call_of};
+ghost use Rattle.group_restart.specs.Course.{IsBegun};
 ghost use Rattle.group_restart.specs.Steps.{Takes, Steps};
 ghost use Rattle.group_restart.specs.declared.calls.State.TheVariants as state;
 
@@ -53,6 +54,7 @@ fn no_plan(alloc: Global) -> Result<Plan, NoMemory>
 }
 
 /// The merged records of no log.
+#[tactic(auto, unfolding(restart_plan::specs::Plans::plan_of))]
 pub fn no_records(alloc: Global) -> Result<Merged, NoMemory>
     ensures { IfOk result (λ merged. merged ≡ []) }
 {
@@ -71,7 +73,9 @@ fn log_call(member: MemberId, call: LogCall) -> Call
 
 impl GroupRestart {
     /// Nothing is read yet.
-    pub fn new(alloc: Global) -> Result<GroupRestart, NoMemory> {
+    pub fn new(alloc: Global) -> Result<GroupRestart, NoMemory>
+        ensures { IfOk result IsBegun }
+    {
         let (Some(member), Some(counter)) = (MemberId::new(1), Lrsn::new(0)) else {
             unreachable!()
         };

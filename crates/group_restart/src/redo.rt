@@ -1,5 +1,5 @@
-ghost use Rattle.std.specs.Prelude.{◌≡◌};
-ghost use Rattle.group_restart.specs.Redo.{with_page_number};
+ghost use Rattle.std.specs.Prelude.{◌≡◌, false, option_copied, slice_get};
+ghost use Rattle.group_restart.specs.Redo.{after_place, places_from, brought, with_page_number};
 
 use crate::page_number::{LRSN_AT, lrsn_of};
 use ds_base::{PageId, Volume};
@@ -8,29 +8,58 @@ use page_format::Page;
 use page_redo::{FieldFault, bring_record};
 use restart_plan::Greatest;
 
+#[tactic(auto, unfolding(crate::specs::Redo::after_place))]
+fn bring_place(page: &mut Page, id: PageId, it: Option<&LogRecord>) -> Result<bool, FieldFault>
+    ensures outcome { result ≡ (after_place id page.old (option_copied it.entry)).outcome }
+    ensures page { page.new ≡ (after_place id page.old (option_copied it.entry)).page }
+{
+    match it {
+        Some(it) => bring_record(page, id, it),
+        None => Ok(false),
+    }
+}
+
+fn bring_at(
+    page: &mut Page,
+    id: PageId,
+    records: &[LogRecord],
+    place: usize,
+) -> Result<bool, FieldFault>
+    ensures outcome { result ≡ (after_place id page.old (slice_get records.now place)).outcome }
+    ensures page { page.new ≡ (after_place id page.old (slice_get records.now place)).page }
+{
+    let it = records.get(place);
+    bring_place(page, id, it)
+}
+
 // Whatever the page's header says.
 fn bring_places(
     page: &mut Page,
     id: PageId,
     records: &[LogRecord],
     places: &[usize],
-) -> Result<bool, FieldFault> {
+) -> Result<bool, FieldFault>
+    ensures outcome { result ≡ (places_from id records.now page.old false places.now).outcome }
+    ensures page { page.new ≡ (places_from id records.now page.old false places.now).page }
+{
     let mut is_raised = false;
     for place in places {
-        if let Some(record) = records.get(*place) {
-            is_raised |= bring_record(page, id, record)?;
-        }
+        is_raised |= bring_at(page, id, records, *place)?;
     }
     Ok(is_raised)
 }
 
 /// Brings the page of this name forward by the records at these places, or tells the first field in the way.
+#[tactic(auto, using(crate::proofs::Places::same), unfolding(crate::specs::Redo::brought))]
 pub fn bring_page(
     page: &mut Page,
     id: PageId,
     records: &[LogRecord],
     places: &[usize],
-) -> Result<bool, FieldFault> {
+) -> Result<bool, FieldFault>
+    ensures outcome { result ≡ (brought id page.old records.now places.now).outcome }
+    ensures page { page.new ≡ (brought id page.old records.now places.now).page }
+{
     if let Err(fault) = page.read_header(id) {
         return Err(FieldFault { at: fault.at });
     }
@@ -38,6 +67,7 @@ pub fn bring_page(
 }
 
 /// The page's number may be the greatest.
+#[tactic(auto, unfolding(crate::specs::Redo::with_page_number))]
 pub fn with_page_number(greatest: Greatest, id: PageId, page: &Page) -> Greatest
     ensures { result ≡ with_page_number greatest id page.now }
 {

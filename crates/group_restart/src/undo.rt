@@ -1,14 +1,14 @@
 ghost use Rattle.std.specs.Prelude.{◌≡◌, None, IfOk};
 ghost use Rattle.ds_model.specs.RecordBytes.{ChangeFits};
 ghost use Rattle.page_chain.specs.Chains.{row_patch};
-ghost use Rattle.group_restart.specs.Undo.{undo_fault, undoing};
+ghost use Rattle.group_restart.specs.Undo.{undo_fault, undone_page, undoing};
 
 use crate::append::Append;
 use crate::records::{compensation, ended};
 use ds_base::{Lrsn, NoMemory, PageId};
 use ds_model::RowChange;
 use page_format::Page;
-use page_redo::row_fault;
+use page_redo::{row_fault, undo_row};
 use restart_plan::Undo;
 use std::alloc::Global;
 
@@ -26,6 +26,7 @@ pub fn page_undone(change: &RowChange) -> PageId
 }
 
 /// Where a page shows that the row of the change isn't there. A header page has no rows.
+#[tactic(auto, unfolding(crate::specs::Undo::undo_fault))]
 pub fn undo_fault(page: &Page, change: &RowChange) -> Option<u16>
     ensures exact { result ≡ undo_fault change.now page.now }
     ensures fits { result ≡ None → ChangeFits change.now }
@@ -37,6 +38,17 @@ pub fn undo_fault(page: &Page, change: &RowChange) -> Option<u16>
         return Some(KIND_AT);
     }
     None
+}
+
+/// Takes the change back in its page.
+#[tactic(auto, unfolding(crate::specs::Undo::undo_fault, crate::specs::Undo::undone_page))]
+pub fn undo_page(page: &mut Page, change: &RowChange, lrsn: Lrsn)
+    requires { undo_fault change.now page.old ≡ None }
+    ensures { page.new ≡ undone_page change.now lrsn page.old }
+{
+    let Ok(()) = undo_row(page, page_undone(change), change, lrsn) else {
+        unreachable!()
+    };
 }
 
 /// The compensation with this number, and behind the last one of the transaction its Ended record.

@@ -15,7 +15,7 @@ abbrev pub opened_of : List Log → Opened
 opened_of logs = with_logs nothing_open logs
 
 -- the changes of all open transactions are undone in falling order of their numbers
-abbrev pub plan_of : List Log → Plan
+unfoldable pub plan_of : List Log → Plan
 plan_of logs = record {
   tails = tails_of logs;
   merged = in_order (all_records logs);

@@ -31,6 +31,7 @@ pub struct Plan {
 /// What these logs ask for.
 ///
 /// It takes time in the number of records times its logarithm.
+#[tactic(auto, unfolding(crate::specs::Plans::plan_of))]
 pub fn plan_of(alloc: Global, logs: &Logs) -> Result<Plan, NoMemory>
     ensures { IfOk result (λ plan. plan ≡ plan_of logs.now) }
 {
