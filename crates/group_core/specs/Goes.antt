@@ -1,5 +1,5 @@
 -- How the disk goes on in a run, and why the run has ended.
-use Rattle.std.specs.Prelude.{◌≡◌, ◌⊎◌, ℕ, ◌≤◌, Option, Some, refl}
+use Rattle.std.specs.Prelude.{◌≡◌, ◌⊎◌, ℕ, ◌≤◌, Option, Some}
 use Rattle.std.proofs.Common.{inl, inr, arith}
 use Rattle.ds_base.specs.Causes.{Rose}
 use Rattle.group_core.specs.declared.fault.RunFault.{RunFault}

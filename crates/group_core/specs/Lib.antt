@@ -1,5 +1,3 @@
 pub mod Goes
-pub mod Progresses
-pub mod Ready
-pub mod Crews
+pub mod Moves
 pub mod Closing

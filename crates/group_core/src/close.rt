@@ -4,11 +4,11 @@ ghost use Rattle.group_core.specs.declared.closed.Closed.TheVariants as closed;
 ghost use Rattle.group_core.specs.Closing.{is_closed, is_run};
 
 use crate::closed::Closed;
-use crate::crew::Crew;
 use crate::fault::RunFault;
 use crate::group::Group;
 use ds_disk::Disk;
 use ds_model::{Entry, Script};
+use group_crew::Crew;
 use group_restart::{State, restart_disk};
 use script_fates::Cause;
 use std::alloc::Global;

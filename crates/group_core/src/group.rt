@@ -1,8 +1,8 @@
 ghost use Rattle.std.specs.Prelude.{◌≡◌, ◌||◌, is_some};
-ghost use Rattle.group_core.specs.Progresses.{is_at_end};
+ghost use Rattle.group_crew.specs.Progresses.{is_at_end};
 
-use crate::crew::Crew;
 use crate::fault::RunFault;
+use group_crew::Crew;
 use trace_words::Line;
 
 /// A group that plays a script.

@@ -4,26 +4,15 @@
 //! group). What a choice wants is for the policy of its member to say; what an event may do is tested by what the member holds.
 #![tactic(auto)]
 
-mod begin;
 mod close;
 mod closed;
-mod crew;
-mod failure;
 mod fault;
 mod group;
 mod lines;
-mod member_step;
 mod own;
-mod part;
-mod phase;
-mod progress;
-mod ready;
 mod schedule;
-mod sizes;
 mod start;
 mod step;
-#[cfg(test)]
-mod tests;
 
 pub use close::Played;
 pub use closed::Closed;

@@ -2,17 +2,16 @@
 
 ghost use Rattle.std.specs.Prelude.{◌≡◌, ◌⊎◌, OnOk};
 ghost use Rattle.group_restart.specs.declared.calls.State.TheVariants as state;
-ghost use Rattle.group_core.specs.Crews.{Moves};
+ghost use Rattle.group_core.specs.Moves.{Moves};
 ghost use Rattle.group_core.specs.Goes.{Goes, IsFailed};
 
-use crate::failure::step_restart;
 use crate::fault::RunFault;
 use crate::group::Group;
 use crate::lines::{note, note_silent};
-use crate::progress::{GROUP_RESTART, NEXT_PHASE};
 use cache_structure::CacheFace;
 use ds_base::NoMemory;
 use ds_disk::Disk;
+use group_crew::{GROUP_RESTART, NEXT_PHASE, step_restart};
 use group_restart::State;
 use member_resources::Policy;
 use std::alloc::Global;

@@ -5,12 +5,11 @@ ghost use Rattle.group_core.specs.declared.fault.RunFault.TheVariants as fault;
 ghost use Rattle.group_core.specs.Goes.{Goes};
 
 use crate::group::Group;
-use crate::part::MemberPart;
-use crate::ready::{CHOICES, has_choice, nth_choice};
 use cache_structure::CacheFace;
 use draw_generator::Generator;
 use ds_base::NoMemory;
 use ds_disk::Disk;
+use group_crew::{CHOICES, MemberPart, has_choice, nth_choice};
 use member_resources::Policy;
 use std::alloc::Global;
 

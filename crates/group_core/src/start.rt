@@ -4,20 +4,15 @@ ghost use Rattle.cache_structure.specs.Directory.{empty_directory};
 ghost use Rattle.group_core.specs.declared.fault.RunFault.TheVariants as fault;
 ghost use Rattle.group_restart.specs.declared.calls.State.TheVariants as state;
 
-use crate::crew::Crew;
 use crate::fault::{RunFault, StartFault};
 use crate::group::Group;
-use crate::part::MemberPart;
-use crate::progress::Progress;
-use crate::sizes::GroupSizes;
 use cache_structure::CacheFace;
-use ds_base::{Lrsn, MemberId, NoMemory, Sizes};
+use ds_base::{Lrsn, Sizes};
 use ds_disk::Disk;
 use ds_model::Script;
-use facility::Facility;
+use group_crew::Crew;
 use group_restart::{State, restart_disk};
-use member_resources::{Policy, Resources};
-use script_fates::Fates;
+use member_resources::Policy;
 use std::alloc::Global;
 
 // The greatest number that was drawn for a log record, where a group restart has ended well.
@@ -43,58 +38,6 @@ fn open_disk<D: Disk>(alloc: Global, disk: &mut D) -> Result<Lrsn, RunFault>
     }
 }
 
-fn make_parts<P: Policy + Drop>(
-    alloc: Global,
-    sizes: &Sizes,
-    policies: Vec<P>,
-) -> Result<Vec<MemberPart<P>>, NoMemory>
-    requires { (1 ≤ sizes.now.locks) × (1 ≤ sizes.now.pool) }
-{
-    let mut parts = Vec::new(alloc);
-    let mut number = 0u64;
-    for policy in policies {
-        number = number.saturating_add(1);
-        let Some(id) = MemberId::new(number) else {
-            break;
-        };
-        parts.push(MemberPart {
-            id,
-            resources: Resources::new(alloc, id, sizes)?,
-            policy,
-            ready: 0,
-            is_stale: true,
-        })?;
-    }
-    Ok(parts)
-}
-
-fn make_crew<C: CacheFace + Drop, P: Policy + Drop>(
-    alloc: Global,
-    cache: C,
-    sizes: &Sizes,
-    counter: Lrsn,
-    script: Script,
-    policies: Vec<P>,
-) -> Result<Crew<C, P>, NoMemory>
-    requires sizes { (1 ≤ sizes.now.locks) × (1 ≤ sizes.now.pool) }
-    requires cache { C.directory cache ≡ empty_directory sizes.now.cache sizes.now.pool }
-    ensures counter { IfOk result (λ crew. crew.facility.counter ≡ counter) }
-{
-    let mut crew = Crew {
-        facility: Facility::new(alloc, sizes, cache, counter)?,
-        parts: make_parts(alloc, sizes, policies)?,
-        fates: Fates::new(alloc, &script)?,
-        script,
-        progress: Progress::new(),
-        restart: None,
-        is_own_stale: true,
-        was_half: false,
-        sizes: GroupSizes { sizes: *sizes },
-    };
-    crew.find_ready();
-    Ok(crew)
-}
-
 impl<D: Disk, C: CacheFace + Drop, P: Policy + Drop> Group<D, C, P> {
     /// A group whose members have these policies, over an empty cache, and a disk that a group restart has opened.
     pub fn start(
@@ -117,7 +60,7 @@ impl<D: Disk, C: CacheFace + Drop, P: Policy + Drop> Group<D, C, P> {
             Ok(counter) => counter,
             Err(why) => return Err(StartFault { disk, why }),
         };
-        match make_crew(alloc, cache, sizes, counter, script, policies) {
+        match Crew::new(alloc, cache, sizes, counter, script, policies) {
             Ok(crew) => Ok(Group {
                 disk,
                 crew,

@@ -1,7 +1,8 @@
 ghost use Rattle.std.specs.Prelude.{◌≡◌, ◌∷◌, [], ◌++◌, true, false, IsErr, IsOk, OnOk, OnErr, Some};
 ghost use Rattle.member_intents.specs.declared.outcome.Answered.TheVariants as answers;
 ghost use Rattle.group_core.specs.declared.fault.RunFault.TheVariants as fault;
-ghost use Rattle.group_core.specs.Crews.{is_taken, Keeps, Moves};
+ghost use Rattle.group_core.specs.Moves.{is_taken, Moves};
+ghost use Rattle.group_crew.specs.Crews.{Keeps};
 ghost use Rattle.group_core.specs.Goes.{Goes, IsFailed};
 
 use crate::fault::RunFault;

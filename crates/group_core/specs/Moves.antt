@@ -1,16 +1,10 @@
--- What a group may do next, by all that it has.
-use Rattle.std.specs.Prelude.{◌≡◌, ◌≢◌, ◌⊎◌, ℕ, ◌+◌, ◌&&◌, Bool, true, false, not, map, Option, is_some}
+-- Which events are taken, and how they move the script on.
+use Rattle.std.specs.Prelude.{◌≡◌, ◌≢◌, ◌⊎◌, ℕ, ◌+◌, ◌&&◌, Bool, true, false, not, Option, is_some}
 use Rattle.cache_structure.specs.Directory.{Directory}
 use Rattle.facility.specs.States.{held, IsReset}
-use Rattle.group_core.specs.declared.crew.Crew.{Crew}
+use Rattle.group_crew.specs.declared.crew.Crew.{Crew}
+use Rattle.group_crew.specs.Crews.{is_ready_in}
 use Rattle.group_core.specs.declared.fault.RunFault.{RunFault}
-use Rattle.group_core.specs.Progresses.{own_choice}
-use Rattle.group_core.specs.Ready.{is_ready}
-
--- whether the choice of the event is ready
-abbrev pub is_ready_in : {C P : Type 0} → Crew C P → ℕ → Bool
-is_ready_in {C} {P} crew event =
-    is_ready (is_some crew.restart) (own_choice (is_some crew.restart) crew.progress crew.script) (map (λ p. p.ready) crew.parts.items) event
 
 -- whether the event is taken: the run hasn't ended, and its choice is ready
 abbrev pub is_taken : {C P : Type 0} → Option RunFault → Crew C P → ℕ → Bool
@@ -25,9 +19,3 @@ pub record Moves {C P : Type 0} (directory : C → Directory) (event : ℕ) (old
   pub fails : event ≡ 64 → is_some new.restart ≡ true
   pub holds : event ≢ 128 → is_some old.restart ≡ true → is_some new.restart ≡ true
   pub ends : is_some old.restart ≡ true → is_some new.restart ≡ false → IsReset (held directory old.facility) new.facility.counter (held directory new.facility)
-
--- what no event of a member changes
-pub record Keeps {C P : Type 0} (old new : Crew C P) : Type 0 where
-  pub script : new.script ≡ old.script
-  pub begun : new.progress.begun ≡ old.progress.begun
-  pub restart : new.restart ≡ old.restart

@@ -1,7 +1,7 @@
 //! Which choices are ready.
 
 ghost use Rattle.std.specs.Prelude.{◌≡◌, true, IfSome};
-ghost use Rattle.group_core.specs.Ready.{has_choice};
+ghost use Rattle.group_crew.specs.Ready.{has_choice};
 
 use member_intents::Look;
 use member_resources::Policy;

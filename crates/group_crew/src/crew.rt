@@ -1,7 +1,7 @@
 ghost use Rattle.std.specs.Prelude.{◌≡◌, true, false, is_some, map, slice_get};
-ghost use Rattle.group_core.specs.Progresses.{is_at_end, own_choice};
-ghost use Rattle.group_core.specs.Ready.{is_own, ready_at};
-ghost use Rattle.group_core.specs.Crews.{is_ready_in};
+ghost use Rattle.group_crew.specs.Progresses.{is_at_end, own_choice};
+ghost use Rattle.group_crew.specs.Ready.{is_own, ready_at};
+ghost use Rattle.group_crew.specs.Crews.{is_ready_in};
 
 use crate::part::MemberPart;
 use crate::progress::{GROUP_RESTART, Progress};

@@ -2,7 +2,7 @@
 
 ghost use Rattle.std.specs.Prelude.{◌≡◌, ◌≤◌, IfOk};
 ghost use Rattle.ds_base.specs.Causes.{Rose};
-ghost use Rattle.group_core.specs.Crews.{Keeps};
+ghost use Rattle.group_crew.specs.Crews.{Keeps};
 ghost use Rattle.member_intents.specs.declared.outcome.Answered.TheVariants as answers;
 
 use crate::crew::Crew;

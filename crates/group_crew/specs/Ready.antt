@@ -1,5 +1,5 @@
 -- Which events are ready.
-use Rattle.std.specs.Prelude.{ℕ, zero, suc, ◌+◌, ◌-◌, ◌/◌, ◌%◌, ◌^◌, ◌==◌, ◌&&◌, Bool, true, false, not, nat_lt, List, Option, Some, None, slice_get}
+use Rattle.std.specs.Prelude.{ℕ, zero, suc, ◌/◌, ◌%◌, ◌^◌, ◌==◌, ◌&&◌, Bool, false, not, nat_lt, List, Option, Some, None, slice_get}
 
 -- the bit of a choice of a member, 0 to 22
 abbrev pub has_choice : ℕ → ℕ → Bool

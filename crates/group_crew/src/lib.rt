@@ -1,0 +1,20 @@
+//! The members of a group with their facility: what is ready, and what the events of members and of the group itself do to them.
+#![tactic(auto)]
+
+mod begin;
+mod crew;
+mod failure;
+mod make;
+mod member_step;
+mod part;
+mod phase;
+mod progress;
+mod ready;
+mod sizes;
+
+pub use crew::Crew;
+pub use failure::step_restart;
+pub use part::MemberPart;
+pub use progress::{GROUP_FAILURE, GROUP_RESTART, NEXT_PHASE, Progress};
+pub use ready::{CHOICES, has_choice, nth_choice};
+pub use sizes::GroupSizes;
