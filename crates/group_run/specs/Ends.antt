@@ -124,9 +124,10 @@ pub record Meets (tells : Type 0) (o : Option Order) (before after : Outside) (m
   pub untouched : TouchesNoDisk o → DiskIsUntouched before after
   pub unread : ReadsNothing o → after.left ≡ before.left
 
--- the same, and it is told
+-- the same, and it is told; where memory is wanting nothing is written
 pub record Ends (tells : Type 0) (o : Option Order) (before after : Outside) (ended : Status) (opened : Bool) (opening : List Row) (report : Report) (taken taken_now : Option (List ℕ)) (faults faults_now : ℕ) : Type 0 where
   pub met : Status
   pub text : List ℕ
   pub meets : Meets tells o before after met text opened opening report
   pub told : Tells met ended text taken taken_now faults faults_now
+  pub wanting : ended ≡ status.NoMemory → Appends taken taken_now []

@@ -1,5 +1,6 @@
 -- What was prepared, or what became of a disk, is what a call meets.
 use Rattle.std.proofs.Common.{◌≡◌, ◌⊎◌, inl, inr, ℕ, Bool, true, false, cond, nat_eq, List, [], Option, Some, None, refl, sym, ap, subst, ◌∙◌}
+use Rattle.std.specs.Io.KnownBytes.{Appends}
 use Rattle.ds_base.specs.declared.row.Row.{Row}
 use Rattle.ds_base.specs.declared.names.Sizes.{Sizes}
 use Rattle.ds_disk.specs.Contents.{Contents}
@@ -30,7 +31,7 @@ use Rattle.group_run.specs.Reports.{empty_report}
 use Rattle.group_run.specs.Statuses.{short_text}
 use Rattle.group_run.specs.Read.{IsReady}
 use Rattle.group_run.specs.Tellings.{short_telling, script_telling, met_by, telling_of, fault_status, IsOrWanting, TellsOutcome}
-use Rattle.group_run.specs.Ends.{MetByDisk, MetBy, RunsTo, RanBy, run_text, text_for, TouchesNoDisk, Meets}
+use Rattle.group_run.specs.Ends.{MetByDisk, MetBy, RunsTo, RanBy, run_text, text_for, text_by, TouchesNoDisk, Tells, Meets}
 
 -- ---- a call that opened no disk
 
@@ -96,7 +97,7 @@ pub ended : (tells : Type 0) (o : Option Order) (before after : Outside) (met : 
     → IsOrWanting (short_telling met) told → MeetsUnopened tells o before after told
 ended tells o before after met told h untouched unread is =
     let meets : MeetsUnopened tells o before after (short_telling met) =
-      meets_short tells o before after met (short_text met) _ (λ not. met_by_order o met before after h untouched) (text_by_order o met before.left after.left before.source_faults after.source_faults h) (λ t. untouched) unread in
+    meets_short tells o before after met (short_text met) _ (λ not. met_by_order o met before after h untouched) (text_by_order o met before.left after.left before.source_faults after.source_faults h) (λ t. untouched) unread in
     meets_or_wanting tells o before after (short_telling met) told (λ t. untouched) unread meets is
 
 same_number : (n k : ℕ) → prepared.Make n ≡ prepared.Make k → n ≡ k
@@ -181,7 +182,7 @@ of_outcome : (tells : Type 0) (o : Option Order) (before after : Outside) (Keeps
 of_outcome tells o before after Keeps (outcome.Unopened why) opened opening t opens comes told =
     let untouched : TouchesNoDisk o → DiskIsUntouched before after = λ none. absurd (opens.touches none) in
     let short : MeetsUnopened tells o before after (short_telling (fault_status why)) =
-      meets_short tells o before after (fault_status why) (short_text (fault_status why)) _ (λ not. opens.met (fault_status why) (disk_met why before after comes)) (opens.texts (fault_status why)) untouched opens.unread in
+    meets_short tells o before after (fault_status why) (short_text (fault_status why)) _ (λ not. opens.met (fault_status why) (disk_met why before after comes)) (opens.texts (fault_status why)) untouched opens.unread in
     let meets : MeetsUnopened tells o before after t = meets_or_wanting tells o before after (short_telling (fault_status why)) t untouched opens.unread short told.2 in
     subst (λ (rows : List Row). Meets tells o before after t.status t.text opened rows t.report) (sym told.1) (subst (λ (b : Bool). Meets tells o before after t.status t.text b [] t.report) (sym told.0) meets)
 of_outcome tells o before after Keeps (outcome.Opened rows end) opened opening t opens comes told =
@@ -268,3 +269,17 @@ no_sink tells o before after met text true opening report meets e = ran_no_sink 
 no_sink tells o before after met text false opening report meets e =
     let sunk : status.SinkFailed ≡ status.NoMemory → ⊥ = λ n. cc in
     short_no_sink o before after (subst (λ m. MetBy o m before after) e (meets.short refl (λ n. sunk (sym e ∙ n))))
+
+-- ---- what is written where memory is wanting
+
+no_text_by : (o : Option Order) (opened : Bool) (report : Report) → text_by o opened status.NoMemory report ≡ []
+no_text_by o true report = refl
+no_text_by o false report = sym (no_text o)
+
+pub nothing_written : (tells : Type 0) (o : Option Order) (before after : Outside) (met ended : Status) (text : List ℕ) (opened : Bool) (opening : List Row) (report : Report) (taken taken_now : Option (List ℕ)) (f g : ℕ)
+    → Meets tells o before after met text opened opening report → Tells met ended text taken taken_now f g → ended ≡ status.NoMemory → Appends taken taken_now []
+nothing_written tells o before after met ended text opened opening report taken taken_now f g meets told e =
+    let other : ended ≡ status.SinkFailed → ⊥ = λ s. let same : status.NoMemory ≡ status.SinkFailed = sym e ∙ s in cc in
+    let whole = told.whole other in
+    let none : text ≡ [] = meets.text_is ∙ ap (λ m. text_by o opened m report) (sym whole.0 ∙ e) ∙ no_text_by o opened report in
+    subst (λ (t : List ℕ). Appends taken taken_now t) none whole.1
