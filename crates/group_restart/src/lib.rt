@@ -21,6 +21,3 @@ mod undo;
 
 pub use calls::{Call, State};
 pub use machine::{GroupRestart, restart_disk};
-
-#[cfg(test)]
-mod tests;
