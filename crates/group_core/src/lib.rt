@@ -13,8 +13,6 @@ mod own;
 mod schedule;
 mod start;
 mod step;
-#[cfg(test)]
-mod tests;
 
 pub use close::Played;
 pub use closed::Closed;
