@@ -3,7 +3,6 @@ use Rattle.std.proofs.Common.{◌≡◌, ◌⊎◌, inl, inr, ℕ, Bool, true, f
 use Rattle.std.specs.Io.KnownBytes.{Appends}
 use Rattle.ds_base.specs.declared.row.Row.{Row}
 use Rattle.ds_base.specs.declared.names.Sizes.{Sizes}
-use Rattle.ds_disk.specs.Contents.{Contents}
 use Rattle.ds_model.specs.declared.script.Script.{Script}
 use Rattle.ds_model.specs.declared.report.Report.{Report}
 use Rattle.ds_model.specs.ReportText.{report_text}
@@ -26,7 +25,7 @@ use Rattle.group_run.specs.declared.prepare.Setting.{Setting}
 use Rattle.group_run.specs.declared.prepare.Prepared.TheVariants as prepared
 use Rattle.group_run.specs.declared.telling.Telling.{Telling}
 use Rattle.group_run.specs.Outside.{Outside, DiskIsUntouched}
-use Rattle.group_run.specs.Prepares.{IsPrepared, ReadsNothing, setting_of}
+use Rattle.group_run.specs.Prepares.{IsPrepared, ReadsNothing}
 use Rattle.group_run.specs.Reports.{empty_report}
 use Rattle.group_run.specs.Statuses.{short_text}
 use Rattle.group_run.specs.Read.{IsReady}

@@ -1,0 +1,63 @@
+use Rattle.std.proofs.Common.{refl, sym, subst}
+use Rattle.checked_run.specs.Told.{TellsAlways}
+use Rattle.group_run.specs.Outside.{outside}
+use Rattle.group_run.specs.Prepares.{ordered}
+use Rattle.group_run.specs.Tellings.{short_telling, script_telling}
+use Rattle.group_run.specs.declared.status.Status.TheVariants as status
+use Rattle.group_run.specs.Ends.{Meets}
+use Rattle.group_run.proofs.Called.{wanted, ended, is_made, shows, plays, sizes_by}
+use Rattle.group_run.proofs.top.perform.Goals as goal
+
+pub run-requires : goal.run-requires
+run-requires g c = sizes_by (ordered c.args.words.now) c.in-Ok-Play.script c.in-Ok-Play.setting _ _ _ _ (rw c.in-Ok-Play.field-0-is at c.in-Ok-Play.ensures.prepared)
+
+pub returns-in-Err : goal.returns-in-Err
+returns-in-Err g c =
+    let before = outside (g.S.Source.left c.args.source.now) (g.S.Source.faults c.args.source.now) (g.D.Disk.contents c.args.disk) (g.D.Disk.alive c.args.disk) (g.D.Disk.faults c.args.disk) in
+    let left = g.S.Source.left c.prepare.new.source in
+    let faults = g.S.Source.faults c.prepare.new.source in
+    let told = c.or_wanting.ensures (short_telling status.NoMemory) tt in
+    subst (λ x. Meets (TellsAlways g.D.Disk.contents) (ordered c.args.words.now) before (outside left faults (g.D.Disk.contents x.disk) (g.D.Disk.alive x.disk) (g.D.Disk.faults x.disk)) x.telling.status x.telling.text x.opened x.opening x.telling.report) (sym c.unopened.ensures)
+    (wanted (TellsAlways g.D.Disk.contents) (ordered c.args.words.now) before (outside left faults (g.D.Disk.contents c.args.disk) (g.D.Disk.alive c.args.disk) (g.D.Disk.faults c.args.disk)) c.or_wanting.result (refl, refl, refl) c.prepare.ensures.unread told)
+
+pub returns-in-Ok-Ended : goal.returns-in-Ok-Ended
+returns-in-Ok-Ended g c =
+    let before = outside (g.S.Source.left c.args.source.now) (g.S.Source.faults c.args.source.now) (g.D.Disk.contents c.args.disk) (g.D.Disk.alive c.args.disk) (g.D.Disk.faults c.args.disk) in
+    let left = g.S.Source.left c.prepare.new.source in
+    let faults = g.S.Source.faults c.prepare.new.source in
+    let prepared = rw c.in-Ok-Ended.field-0-is at c.in-Ok-Ended.ensures.prepared in
+    let told = c.or_wanting-in-Ok-Ended.ensures (short_telling c.in-Ok-Ended.met) c.short_telling-telling.ensures in
+    subst (λ x. Meets (TellsAlways g.D.Disk.contents) (ordered c.args.words.now) before (outside left faults (g.D.Disk.contents x.disk) (g.D.Disk.alive x.disk) (g.D.Disk.faults x.disk)) x.telling.status x.telling.text x.opened x.opening x.telling.report) (sym c.unopened-in-Ok-Ended.ensures)
+    (ended (TellsAlways g.D.Disk.contents) (ordered c.args.words.now) before (outside left faults (g.D.Disk.contents c.args.disk) (g.D.Disk.alive c.args.disk) (g.D.Disk.faults c.args.disk)) c.in-Ok-Ended.met c.or_wanting-in-Ok-Ended.result prepared (refl, refl, refl) c.prepare.ensures.unread told)
+
+pub returns-in-Ok-Make : goal.returns-in-Ok-Make
+returns-in-Ok-Make g c =
+    let before = outside (g.S.Source.left c.args.source.now) (g.S.Source.faults c.args.source.now) (g.D.Disk.contents c.args.disk) (g.D.Disk.alive c.args.disk) (g.D.Disk.faults c.args.disk) in
+    let left = g.S.Source.left c.prepare.new.source in
+    let faults = g.S.Source.faults c.prepare.new.source in
+    let prepared = rw c.in-Ok-Make.field-0-is at c.in-Ok-Make.ensures.prepared in
+    let told = c.or_wanting-in-Ok-Make.ensures (script_telling c.in-Ok-Make.n) c.script_telling-telling.ensures in
+    subst (λ x. Meets (TellsAlways g.D.Disk.contents) (ordered c.args.words.now) before (outside left faults (g.D.Disk.contents x.disk) (g.D.Disk.alive x.disk) (g.D.Disk.faults x.disk)) x.telling.status x.telling.text x.opened x.opening x.telling.report) (sym c.unopened-in-Ok-Make.ensures)
+    (is_made (TellsAlways g.D.Disk.contents) (ordered c.args.words.now) before (outside left faults (g.D.Disk.contents c.args.disk) (g.D.Disk.alive c.args.disk) (g.D.Disk.faults c.args.disk)) c.in-Ok-Make.n c.or_wanting-in-Ok-Make.result prepared (refl, refl, refl) c.prepare.ensures.unread told)
+
+pub returns-in-Ok-Show : goal.returns-in-Ok-Show
+returns-in-Ok-Show g c =
+    let before = outside (g.S.Source.left c.args.source.now) (g.S.Source.faults c.args.source.now) (g.D.Disk.contents c.args.disk) (g.D.Disk.alive c.args.disk) (g.D.Disk.faults c.args.disk) in
+    let left = g.S.Source.left c.prepare.new.source in
+    let faults = g.S.Source.faults c.prepare.new.source in
+    let prepared = rw c.in-Ok-Show.field-0-is at c.in-Ok-Show.ensures.prepared in
+    let came = c.came_of.result in
+    let left_disk = c.show_disk.result.disk in
+    subst (λ d. Meets (TellsAlways g.D.Disk.contents) (ordered c.args.words.now) before (outside left faults (g.D.Disk.contents d) (g.D.Disk.alive d) (g.D.Disk.faults d)) came.telling.status came.telling.text came.opened came.opening came.telling.report) (sym c.came_of.ensures.disk)
+    (shows (TellsAlways g.D.Disk.contents) (ordered c.args.words.now) before (outside left faults (g.D.Disk.contents left_disk) (g.D.Disk.alive left_disk) (g.D.Disk.faults left_disk)) c.show_disk.result.outcome came.opened came.opening came.telling prepared c.prepare.ensures.unread c.show_disk.ensures.comes c.came_of.ensures.tells)
+
+pub returns-in-Ok-Play : goal.returns-in-Ok-Play
+returns-in-Ok-Play g c =
+    let before = outside (g.S.Source.left c.args.source.now) (g.S.Source.faults c.args.source.now) (g.D.Disk.contents c.args.disk) (g.D.Disk.alive c.args.disk) (g.D.Disk.faults c.args.disk) in
+    let left = g.S.Source.left c.prepare.new.source in
+    let faults = g.S.Source.faults c.prepare.new.source in
+    let prepared = rw c.in-Ok-Play.field-0-is at c.in-Ok-Play.ensures.prepared in
+    let came = c.came_of-in-Ok-Play.result in
+    let left_disk = c.run.result.disk in
+    subst (λ d. Meets (TellsAlways g.D.Disk.contents) (ordered c.args.words.now) before (outside left faults (g.D.Disk.contents d) (g.D.Disk.alive d) (g.D.Disk.faults d)) came.telling.status came.telling.text came.opened came.opening came.telling.report) (sym c.came_of-in-Ok-Play.ensures.disk)
+    (plays (TellsAlways g.D.Disk.contents) (ordered c.args.words.now) before (outside left faults (g.D.Disk.contents left_disk) (g.D.Disk.alive left_disk) (g.D.Disk.faults left_disk)) c.in-Ok-Play.script c.in-Ok-Play.setting c.run.result.outcome came.opened came.opening came.telling prepared c.run.ensures c.came_of-in-Ok-Play.ensures.tells)
