@@ -4,7 +4,7 @@ ghost use Rattle.std.specs.Prelude.{◌≡◌, ◌≤◌, ◌⊎◌, ℕ, Bool, 
 ghost use Rattle.ds_base.specs.Causes.{Rose};
 ghost use Rattle.ds_model.specs.Rows.{AreSorted};
 ghost use Rattle.group_core.specs.Goes.{IsFailed};
-ghost use Rattle.group_core.specs.declared.close.Closed.TheVariants as closing;
+ghost use Rattle.group_core.specs.declared.closed.Closed.TheVariants as closing;
 ghost use Rattle.group_core.specs.declared.schedule.RunEnd.TheVariants as ends;
 ghost use Rattle.checked_run.specs.Told.{IfTold, IsTold, TellsAlways, no_trace};
 
