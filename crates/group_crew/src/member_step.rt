@@ -12,6 +12,7 @@ use ds_base::MemberId;
 use ds_disk::Disk;
 use facility::{Command, Facility};
 use member_intents::{Answered, Sent, StepFault};
+use member_marks::Owner;
 use member_resources::Policy;
 use script_fates::Fates;
 use std::alloc::Global;
@@ -50,7 +51,7 @@ fn enter_decided<P: Policy>(part: &mut MemberPart<P>, fates: &mut Fates) {
         let Some(slot) = part.resources.marks().decided().get(i).copied() else {
             return;
         };
-        let number = part.resources.marks().tran(slot).number;
+        let number = part.resources.marks().tran(&Owner::Slot(slot)).number;
         fates.commit(number, part.policy.take_reads(slot));
     }
 }

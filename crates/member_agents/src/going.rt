@@ -5,7 +5,7 @@ use crate::locks::try_lock;
 use crate::wants::{Wanted, next_want, tell_met};
 use ds_base::{NoMemory, PageId};
 use member_intents::Event;
-use member_marks::{Marks, Stage};
+use member_marks::{Marks, Owner, Stage};
 use member_state::{FrameRequest, MemberState, SeatState, Standing, Work, find_for_reader, submit};
 use std::alloc::Global;
 use tran_core::Met;
@@ -67,7 +67,7 @@ fn go_back(
     if is_undo {
         return submit_for(state, slot, &Work::Compensate);
     }
-    let is_pending = marks.has_undone(slot) && !marks.is_log_empty();
+    let is_pending = marks.has_undone(&Owner::Slot(slot)) && !marks.is_log_empty();
     state.set_state(
         slot,
         if is_pending {
@@ -90,7 +90,7 @@ fn roll_back(
 ) -> Result<bool, NoMemory>
     ensures reaches { Reaches marks.old marks.new }
 {
-    if marks.stage(slot) == Stage::Forward {
+    if marks.stage(&Owner::Slot(slot)) == Stage::Forward {
         return Ok(marks.abort(slot, event.place));
     }
     go_back(state, slot, is_undo, marks)?;

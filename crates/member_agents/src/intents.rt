@@ -1,7 +1,7 @@
 //! What a seat wants of its next event.
 
 use member_intents::Intent;
-use member_marks::Marks;
+use member_marks::{Marks, Owner};
 use member_resources::Resources;
 use member_state::{MemberState, SeatState, Standing, closing_intent, test_intent};
 
@@ -17,7 +17,7 @@ fn commit_intent(marks: &Marks, slot: u8) -> Intent {
 }
 
 fn release_intent(marks: &Marks, slot: u8) -> Intent {
-    match marks.releasing(slot) {
+    match marks.releasing(&Owner::Slot(slot)) {
         Some(_) => Intent::ReleaseLock { slot },
         None => Intent::End { slot },
     }

@@ -51,7 +51,7 @@ fn take_tran(
     let Some(number) = next_number(state) else {
         return Ok(());
     };
-    if !marks.begin(slot, number) {
+    if !marks.begin(slot, number)? {
         return Ok(());
     }
     seat_next(state, alloc, slot)?;

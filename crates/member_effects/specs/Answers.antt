@@ -11,6 +11,7 @@ use Rattle.list_structure.specs.declared.query.CellAnswer.TheVariants as answer
 use Rattle.facility.specs.declared.command.Reply.{Reply}
 use Rattle.facility.specs.declared.command.Reply.TheVariants as reply
 use Rattle.facility.specs.LockCommands.{is_about}
+use Rattle.member_trans.specs.declared.fate.Owner.TheVariants as owner
 use Rattle.member_marks.specs.State.{MarksState}
 use Rattle.member_marks.specs.Claims.{offered}
 use Rattle.member_effects.specs.declared.answers.Said.{Said}
@@ -62,8 +63,8 @@ nothing = record { is_open = false; is_emptied = false; found = said.Clean }
 
 abbrev pub in_the_way_after : MarksState → ℕ → Name → CellAnswer → ℕ → MarksState
 in_the_way_after s slot n answer.Clean event = s
-in_the_way_after s slot n (answer.Conflict by) event = offered s slot (refusal.Held n by) event
-in_the_way_after s slot n (answer.Postponed m) event = offered s slot (refusal.Retained n m) event
+in_the_way_after s slot n (answer.Conflict by) event = offered s (owner.Slot slot) (refusal.Held n by) event
+in_the_way_after s slot n (answer.Postponed m) event = offered s (owner.Slot slot) (refusal.Retained n m) event
 
 abbrev pub in_the_way_told : CellAnswer → Told
 in_the_way_told answer.Clean = told.Stepped

@@ -12,6 +12,8 @@ use Rattle.page_plans.specs.Rows.{after_row}
 use Rattle.facility.specs.declared.command.Reply.{Reply}
 use Rattle.facility.specs.declared.command.Reply.TheVariants as reply
 use Rattle.member_intents.specs.declared.intent.Frames.{Frames}
+use Rattle.member_trans.specs.declared.fate.Owner.{Owner}
+use Rattle.member_trans.specs.declared.fate.Owner.TheVariants as owner
 use Rattle.member_marks.specs.State.{MarksState}
 use Rattle.member_marks.specs.Claims.{offered}
 use Rattle.member_marks.specs.Frames.{frame_in, after_registered, after_marked}
@@ -79,15 +81,15 @@ system_logged k slot patches lrsn = with_marks k (after_system k.marks slot (sys
 abbrev pub row_logged : Kept → ℕ → RowChange → ℕ → Kept
 row_logged k slot c lrsn = with_marks k (after_change k.marks slot lrsn c)
 
-abbrev pub back_logged : Kept → ℕ → ℕ → Kept
-back_logged k slot lrsn = with_marks k (after_undo k.marks slot lrsn)
+abbrev pub back_logged : Kept → Owner → ℕ → Kept
+back_logged k o lrsn = with_marks k (after_undo k.marks o lrsn)
 
 -- the change that was planned, with the number that was drawn for it
 abbrev pub changed_by : Kept → ℕ → Frames → Plan → ℕ → Kept
 changed_by k slot frames plan.None lrsn = k
 changed_by k slot frames (plan.System patches) lrsn = system_logged (patched_frames k frames patches lrsn) slot patches lrsn
 changed_by k slot frames (plan.Row c) lrsn = row_logged (row_nth k (frame_of frames 0) c lrsn) slot c lrsn
-changed_by k slot frames (plan.Back c) lrsn = back_logged (row_nth k (frame_of frames 0) c lrsn) slot lrsn
+changed_by k slot frames (plan.Back c) lrsn = back_logged (row_nth k (frame_of frames 0) c lrsn) (owner.Slot slot) lrsn
 changed_by k slot frames (plan.Fault page at) lrsn = k
 
 abbrev pub plan_told : Plan → Told
@@ -101,7 +103,7 @@ plan_told (plan.Fault page at) = told.Damaged page at
 
 abbrev pub undrawn_after : MarksState → ℕ → Reply → ℕ → MarksState
 undrawn_after s slot (reply.Stale index) place = after_registered s index false
-undrawn_after s slot (reply.LrsnEnd at) place = offered s slot (refusal.LrsnEnd at) place
+undrawn_after s slot (reply.LrsnEnd at) place = offered s (owner.Slot slot) (refusal.LrsnEnd at) place
 undrawn_after s slot _ place = s
 
 abbrev pub undrawn_told : Reply → Told

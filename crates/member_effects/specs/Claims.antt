@@ -6,6 +6,7 @@ use Rattle.ds_model.specs.declared.fate.Refusal.TheVariants as refusal
 use Rattle.lock_names.specs.declared.mode.Mode.{Mode}
 use Rattle.facility.specs.declared.command.Reply.{Reply}
 use Rattle.facility.specs.declared.command.Reply.TheVariants as reply
+use Rattle.member_trans.specs.declared.fate.Owner.TheVariants as owner
 use Rattle.member_marks.specs.declared.trial.Trial.{Trial}
 use Rattle.member_marks.specs.declared.trial.Trial.TheVariants as trial
 use Rattle.member_marks.specs.State.{MarksState}
@@ -37,8 +38,8 @@ abbrev pub granted_told : MarksState → ℕ → Name → Mode → Told
 granted_told s slot n m = if slot == 0 then told.Granted else told_of (enter_told s slot n m)
 
 abbrev pub refused_after : MarksState → ℕ → Name → Reply → ℕ → MarksState
-refused_after s slot n (reply.Retained by) place = offered s slot (refusal.Retained n by) place
-refused_after s slot n (reply.RecordsFull limit) place = offered s slot (refusal.RecordsFull limit) place
+refused_after s slot n (reply.Retained by) place = offered s (owner.Slot slot) (refusal.Retained n by) place
+refused_after s slot n (reply.RecordsFull limit) place = offered s (owner.Slot slot) (refusal.RecordsFull limit) place
 refused_after s slot n _ place = s
 
 -- the marks after the reply

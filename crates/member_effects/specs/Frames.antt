@@ -7,6 +7,7 @@ use Rattle.page_plans.specs.declared.action.Look.TheVariants as look
 use Rattle.page_plans.specs.Looks.{look_of}
 use Rattle.facility.specs.declared.command.Reply.{Reply}
 use Rattle.facility.specs.declared.command.Reply.TheVariants as reply
+use Rattle.member_trans.specs.declared.fate.Owner.TheVariants as owner
 use Rattle.member_marks.specs.State.{MarksState}
 use Rattle.member_marks.specs.Claims.{offered}
 use Rattle.member_marks.specs.Frames.{frame_in, after_registered, after_filled, after_written, after_unregister}
@@ -58,7 +59,7 @@ full_at pages at (Some table) limit = full_with table (full_heap pages at table 
 
 abbrev pub valid_after : MarksState → ℕ → ℕ → Option (ℕ × ℕ) → MarksState
 valid_after s slot place None = s
-valid_after s slot place (Some full) = offered s slot (refusal.SpaceFull full.0 full.1) place
+valid_after s slot place (Some full) = offered s (owner.Slot slot) (refusal.SpaceFull full.0 full.1) place
 
 abbrev pub valid_told : ℕ → Option (ℕ × ℕ) → Told
 valid_told at None = told.Valid at

@@ -5,6 +5,7 @@ ghost use Rattle.ds_model.specs.declared.fate.Refusal.TheVariants.{Held, Retaine
 ghost use Rattle.lock_names.specs.Modes.{is_same};
 ghost use Rattle.lock_structure.specs.Records.{same_name};
 ghost use Rattle.facility.specs.LockCommands.{is_about};
+ghost use Rattle.member_trans.specs.declared.fate.Owner.TheVariants as owners;
 ghost use Rattle.member_marks.specs.Claims.{offered};
 ghost use Rattle.member_effects.specs.Answers.{said_in_answer, said_by, is_asked, added, is_found, summed, nothing, in_the_way_after, in_the_way_told, found_after, sum_told, answered_after, answered_told};
 
@@ -14,7 +15,7 @@ use ds_model::Refusal;
 use facility::Reply;
 use list_structure::{Cell, CellAnswer};
 use lock_names::{Mode, Name};
-use member_marks::Marks;
+use member_marks::{Marks, Owner};
 
 /// What one cell says about a need.
 #[derive(Clone, Copy, Debug, PartialEq, Eq)]
@@ -162,23 +163,23 @@ fn summed(cells: &[Cell], asked: u32, name: &Name, mode: Mode) -> Sum
 }
 
 fn offer_held(marks: &mut Marks, slot: u8, name: &Name, by: &TranId, event: u64)
-    ensures { marks.new ≡ offered marks.old slot (Held name.now by.now) event }
+    ensures { marks.new ≡ offered marks.old (owners.Slot slot) (Held name.now by.now) event }
 {
     let refusal = Refusal::Held {
         name: *name,
         by: *by,
     };
-    marks.offer(slot, refusal, event);
+    marks.offer(&Owner::Slot(slot), refusal, event);
 }
 
 fn offer_retained(marks: &mut Marks, slot: u8, name: &Name, by: &MemberId, event: u64)
-    ensures { marks.new ≡ offered marks.old slot (Retained name.now by.now) event }
+    ensures { marks.new ≡ offered marks.old (owners.Slot slot) (Retained name.now by.now) event }
 {
     let refusal = Refusal::Retained {
         name: *name,
         by: *by,
     };
-    marks.offer(slot, refusal, event);
+    marks.offer(&Owner::Slot(slot), refusal, event);
 }
 
 fn in_the_way(marks: &mut Marks, slot: u8, name: &Name, answer: &CellAnswer, event: u64) -> Told

@@ -17,7 +17,7 @@ use ds_base::{Lrsn, PageId};
 use ds_model::{Body, LogRecord, Refusal, RowChange};
 use facility::Reply;
 use member_intents::Frames;
-use member_marks::Marks;
+use member_marks::{Marks, Owner};
 use member_needs::{Plan, frame_of};
 use page_format::{Page, Patch, Patches};
 use page_plans::put_row;
@@ -173,7 +173,7 @@ fn change_by(
         }
         Plan::Back(change) => {
             put_nth(marks, pages, frame_of(frames, 0), &change, lrsn);
-            marks.note_undone(slot, lrsn);
+            marks.note_undone(&Owner::Slot(slot), lrsn);
             Told::Drawn
         }
         Plan::Fault { page, at } => Told::Damaged { page, at },
@@ -191,7 +191,7 @@ fn not_drawn(marks: &mut Marks, slot: u8, reply: &Reply, place: u64) -> Told
             Told::Stale { frame: index }
         }
         Reply::LrsnEnd { at } => {
-            marks.offer(slot, Refusal::LrsnEnd { at }, place);
+            marks.offer(&Owner::Slot(slot), Refusal::LrsnEnd { at }, place);
             Told::Refused
         }
         _ => Told::Stepped,

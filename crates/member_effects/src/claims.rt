@@ -9,7 +9,7 @@ use crate::told::Told;
 use ds_model::Refusal;
 use facility::Reply;
 use lock_names::{Mode, Name};
-use member_marks::{Marks, Trial};
+use member_marks::{Marks, Owner, Trial};
 
 // The lock of a page is the member's.
 fn enter_page(marks: &mut Marks, name: &Name)
@@ -43,11 +43,11 @@ fn granted(marks: &mut Marks, slot: u8, name: &Name, mode: Mode, place: u64) -> 
     told_of(marks.enter_claim(slot, name, mode, place))
 }
 
-fn refused(marks: &mut Marks, slot: u8, refusal: Refusal, place: u64) -> Told
+fn refused(marks: &mut Marks, owner: &Owner, refusal: Refusal, place: u64) -> Told
     ensures told { result ≡ told.Refused }
-    ensures after { marks.new ≡ offered marks.old slot refusal place }
+    ensures after { marks.new ≡ offered marks.old owner.now refusal place }
 {
-    marks.offer(slot, refusal, place);
+    marks.offer(owner, refusal, place);
     Told::Refused
 }
 
@@ -66,10 +66,12 @@ pub fn claimed(
     match *reply {
         Reply::Granted { .. } => granted(marks, slot, name, mode, place),
         Reply::Retained { by } => {
-            refused(marks, slot, Refusal::Retained { name: *name, by }, place)
+            let refusal = Refusal::Retained { name: *name, by };
+            refused(marks, &Owner::Slot(slot), refusal, place)
         }
         Reply::RecordsFull { limit } => {
-            refused(marks, slot, Refusal::RecordsFull { limit }, place)
+            let refusal = Refusal::RecordsFull { limit };
+            refused(marks, &Owner::Slot(slot), refusal, place)
         }
         Reply::Contention {
             share,

@@ -6,16 +6,16 @@ ghost use Rattle.member_effects.specs.Closing.{released_after, released_told, pa
 use crate::told::Told;
 use ds_base::PageId;
 use facility::Reply;
-use member_marks::Marks;
+use member_marks::{Marks, Owner};
 
-/// The reply to `release` for a lock of the slot's transaction.
-pub fn released(marks: &mut Marks, slot: u8, reply: &Reply) -> Told
+/// The reply to `release` for a lock of the owner's transaction.
+pub fn released(marks: &mut Marks, owner: &Owner, reply: &Reply) -> Told
     ensures told { result ≡ released_told reply.now }
-    ensures after { marks.new ≡ released_after marks.old slot reply.now }
+    ensures after { marks.new ≡ released_after marks.old owner.now reply.now }
 {
     match reply {
         Reply::Done => {
-            marks.release(slot);
+            marks.release(owner);
             Told::Released
         }
         _ => Told::Stepped,
@@ -37,13 +37,13 @@ pub fn page_released(marks: &mut Marks, page: PageId, reply: &Reply) -> Told
 }
 
 /// The reply to `end`.
-pub fn ended(marks: &mut Marks, slot: u8, reply: &Reply) -> Told
+pub fn ended(marks: &mut Marks, owner: &Owner, reply: &Reply) -> Told
     ensures told { result ≡ ended_told reply.now }
-    ensures after { marks.new ≡ ended_after marks.old slot reply.now }
+    ensures after { marks.new ≡ ended_after marks.old owner.now reply.now }
 {
     match reply {
         Reply::Done => {
-            marks.end(slot);
+            marks.end(owner);
             Told::Ended
         }
         _ => Told::Stepped,

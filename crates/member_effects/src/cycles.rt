@@ -2,7 +2,7 @@
 
 ghost use Rattle.std.specs.Prelude.{◌≡◌, IfOk, OnErr};
 ghost use Rattle.std.specs.Int.{bit_at};
-ghost use Rattle.member_marks.specs.State.{id_of};
+ghost use Rattle.member_marks.specs.State.{slot_id};
 ghost use Rattle.member_effects.specs.Cycles.{is_looked, Finds, cycle_after, cycle_told, RefusesCycle};
 
 use crate::told::Told;
@@ -10,7 +10,7 @@ use deadlock_cycle::find_cycle;
 use ds_base::NoMemory;
 use ds_model::Refusal;
 use list_structure::{Cycle, Wait};
-use member_marks::Marks;
+use member_marks::{Marks, Owner};
 use std::alloc::Global;
 
 /// The highest slot of an agent.
@@ -34,7 +34,7 @@ fn first_cycle(
 {
     for slot in 1..LAST_SLOT + 1 {
         if is_looked(marks, slots, slot) {
-            if let Some(cycle) = find_cycle(alloc, waits, marks.tran(slot))? {
+            if let Some(cycle) = find_cycle(alloc, waits, marks.tran(&Owner::Slot(slot)))? {
                 return Ok(Some((slot, cycle)));
             }
         }
@@ -48,7 +48,7 @@ fn refuse_first(marks: &mut Marks, found: Option<(u8, Cycle)>, place: u64) -> To
 {
     match found {
         Some((slot, cycle)) => {
-            marks.offer(slot, Refusal::Deadlock { cycle }, place);
+            marks.offer(&Owner::Slot(slot), Refusal::Deadlock { cycle }, place);
             Told::Deadlock { slot }
         }
         None => Told::NoCycle,

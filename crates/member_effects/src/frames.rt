@@ -9,7 +9,7 @@ use crate::told::Told;
 use ds_base::TableId;
 use ds_model::Refusal;
 use facility::Reply;
-use member_marks::Marks;
+use member_marks::{Marks, Owner};
 use page_format::Page;
 use page_plans::{Action, Look, look};
 
@@ -104,7 +104,8 @@ fn valid(marks: &mut Marks, at: u16, slot: u8, full: Option<(TableId, u32)>, pla
 {
     match full {
         Some((table, pages)) => {
-            marks.offer(slot, Refusal::SpaceFull { table, pages }, place);
+            let refusal = Refusal::SpaceFull { table, pages };
+            marks.offer(&Owner::Slot(slot), refusal, place);
             Told::Refused
         }
         None => Told::Valid { frame: at },

@@ -1,2 +1,4 @@
 pub mod Writing
 pub mod Noting
+pub mod Spots
+pub mod Rooms

@@ -14,11 +14,14 @@ use Rattle.lock_manager.specs.declared.claim.Ask.{Ask}
 use Rattle.lock_manager.specs.declared.claim.Ask.TheVariants as ask
 use Rattle.lock_manager.specs.declared.claim.LockAnswer.{LockAnswer}
 use Rattle.lock_manager.specs.declared.claim.LockAnswer.TheVariants as answer
-use Rattle.lock_manager.specs.Managers.{claims_of, held_by, ask_of, answer_of, given, IsGiven, release_told, after_release, page_told, after_page_release, with_claims}
-use Rattle.member_trans.specs.Trans.{is_forward, with_tran, with_released, after_offer, after_end}
+use Rattle.lock_manager.specs.Holders.{is_held}
+use Rattle.lock_manager.specs.Managers.{claims_of, held_by, ask_of, answer_of, given, IsGiven, release_told, after_release, page_told, after_page_release, with_claims, place_in, held_postponed, postponed_told, after_postponed_release, dropped}
+use Rattle.member_trans.specs.declared.fate.Owner.{Owner}
+use Rattle.member_trans.specs.declared.fate.Owner.TheVariants as owner
+use Rattle.member_trans.specs.Trans.{is_forward, with_tran_of, with_released, after_offer, after_end}
 use Rattle.member_marks.specs.declared.trial.Trial.{Trial}
 use Rattle.member_marks.specs.declared.trial.Trial.TheVariants as trial
-use Rattle.member_marks.specs.State.{MarksState, agents_of, tran_of, id_of, with_locks, with_trans}
+use Rattle.member_marks.specs.State.{MarksState, agents_of, tran_of, slot_tran, slot_id, with_locks, with_trans}
 
 -- a slot from 1 on that the member has
 abbrev pub is_agent : MarksState → ℕ → Bool
@@ -31,10 +34,19 @@ is_for_agents (name.Page p) = false
 is_for_agents (name.Set n) = false
 
 abbrev pub may_claim : MarksState → ℕ → Name → Bool
-may_claim s slot n = is_agent s slot && (is_forward (tran_of s slot).stage && is_for_agents n)
+may_claim s slot n = is_agent s slot && (is_forward (slot_tran s slot).stage && is_for_agents n)
 
-abbrev pub mode_held : MarksState → ℕ → Name → Option Mode
-mode_held s slot n = if nat_le slot (agents_of s) then held_by s.locks slot n else None
+-- the place of a rollback's claims among those of the rollbacks
+abbrev pub lock_place : MarksState → ℕ → Option ℕ
+lock_place s id = place_in s.locks.rollbacks 0 id
+
+abbrev pub mode_held : MarksState → Owner → Name → Option Mode
+mode_held s (owner.Slot slot) n = if nat_le slot (agents_of s) then held_by s.locks slot n else None
+mode_held s (owner.Rollback id) n = held_postponed s.locks (lock_place s id) n
+
+-- whether an owner has a claim on the name
+abbrev pub is_claimed : MarksState → Name → Bool
+is_claimed s n = is_held s.locks.holders n
 
 abbrev pub has_page : MarksState → PageId → Bool
 has_page s p = is_some (held_by s.locks 0 (name.Page p))
@@ -46,31 +58,36 @@ has_page_room s = nat_lt (length (claims_of s.locks 0)) s.locks.pages
 
 abbrev pub cell_for : MarksState → LockAnswer → CellAnswer
 cell_for s answer.Clean = cell.Clean
-cell_for s (answer.Conflict by) = cell.Conflict (id_of s by)
+cell_for s (answer.Conflict by) = cell.Conflict (slot_id s by)
 cell_for s (answer.Postponed m) = cell.Postponed m
 
 abbrev pub answer_to : MarksState → Name → Mode → CellAnswer
 answer_to s n m = cell_for s (answer_of s.locks n m)
 
-abbrev pub releasing : MarksState → ℕ → Option (Name × Interest)
-releasing s slot = if nat_le slot (agents_of s) then release_told s.locks slot else None
+-- the name that the rollback gives up next
+abbrev pub rollback_releasing : MarksState → ℕ → Option (Name × Interest)
+rollback_releasing s id = postponed_told s.locks (lock_place s id)
+
+abbrev pub releasing : MarksState → Owner → Option (Name × Interest)
+releasing s (owner.Slot slot) = if nat_le slot (agents_of s) then release_told s.locks slot else None
+releasing s (owner.Rollback id) = rollback_releasing s id
 
 abbrev pub releasing_page : MarksState → PageId → Option (Name × Interest)
 releasing_page s p = if has_page s p then Some (name.Page p, page_told s.locks (name.Page p)) else None
 
 -- ---- refusals that an event allows
 
-abbrev pub offered : MarksState → ℕ → Refusal → ℕ → MarksState
-offered s slot r place = with_trans s (after_offer s.trans slot r place)
+abbrev pub offered : MarksState → Owner → Refusal → ℕ → MarksState
+offered s o r place = with_trans s (after_offer s.trans o r place)
 
 abbrev pub offered_held : MarksState → ℕ → Name → ℕ → ℕ → MarksState
-offered_held s slot n by event = offered s slot (refusal.Held n (id_of s by)) event
+offered_held s slot n by event = offered s (owner.Slot slot) (refusal.Held n (slot_id s by)) event
 
 abbrev pub offered_retained : MarksState → ℕ → Name → ℕ → ℕ → MarksState
-offered_retained s slot n by event = offered s slot (refusal.Retained n by) event
+offered_retained s slot n by event = offered s (owner.Slot slot) (refusal.Retained n by) event
 
 abbrev pub offered_memory : MarksState → ℕ → ℕ → MarksState
-offered_memory s slot event = offered s slot refusal.Memory event
+offered_memory s slot event = offered s (owner.Slot slot) refusal.Memory event
 
 -- ---- a granted lock
 
@@ -95,7 +112,7 @@ entry s = if has_spare s then trial.Have else trial.NoMemory
 
 abbrev pub entry_as : MarksState → Ask → Trial
 entry_as s ask.Have = entry s
-entry_as s (ask.Conflict by) = trial.Conflict (id_of s by)
+entry_as s (ask.Conflict by) = trial.Conflict (slot_id s by)
 entry_as s (ask.Postponed by) = trial.Postponed by
 entry_as s ask.Local = entry s
 entry_as s (ask.Facility more) = entry s
@@ -115,14 +132,26 @@ PageEntered false s p t = t ≡ s
 
 -- ---- claims are given up
 
-abbrev pub after_release_of : MarksState → ℕ → MarksState
-after_release_of s slot =
-    if is_agent s slot
-    then record s { locks = after_release s.locks slot; trans = with_tran s.trans slot (with_released (tran_of s slot)) }
+abbrev pub noted_released : MarksState → Owner → MarksState
+noted_released s o = with_trans s (with_tran_of s.trans o (with_released (tran_of s o)))
+
+abbrev pub slot_released : MarksState → ℕ → MarksState
+slot_released s slot = if is_agent s slot then with_locks (noted_released s (owner.Slot slot)) (after_release s.locks slot) else s
+
+-- a rollback that has no name left to give up keeps its other claims until it is ended
+abbrev pub rollback_released : MarksState → ℕ → MarksState
+rollback_released s id =
+    if is_some (rollback_releasing s id)
+    then with_locks (noted_released s (owner.Rollback id)) (after_postponed_release s.locks (lock_place s id))
     else s
 
-abbrev pub released_told : MarksState → ℕ → Option (Name × Interest)
-released_told s slot = if is_agent s slot then release_told s.locks slot else None
+abbrev pub after_release_of : MarksState → Owner → MarksState
+after_release_of s (owner.Slot slot) = slot_released s slot
+after_release_of s (owner.Rollback id) = rollback_released s id
+
+abbrev pub released_told : MarksState → Owner → Option (Name × Interest)
+released_told s (owner.Slot slot) = if is_agent s slot then release_told s.locks slot else None
+released_told s (owner.Rollback id) = rollback_releasing s id
 
 abbrev pub after_release_page : MarksState → PageId → MarksState
 after_release_page s p = if has_page s p then with_locks s (after_page_release s.locks (name.Page p)) else s
@@ -130,9 +159,16 @@ after_release_page s p = if has_page s p then with_locks s (after_page_release s
 abbrev pub page_released_told : MarksState → PageId → Option Interest
 page_released_told s p = if has_page s p then Some (page_told s.locks (name.Page p)) else None
 
--- the slot is free, and no claim of it is left
-abbrev pub after_end_of : MarksState → ℕ → MarksState
-after_end_of s slot =
+abbrev pub slot_over : MarksState → ℕ → MarksState
+slot_over s slot =
     if is_agent s slot
-    then record s { locks = with_claims s.locks slot []; trans = after_end s.trans slot }
+    then record s { locks = with_claims s.locks slot []; trans = after_end s.trans (owner.Slot slot) }
     else s
+
+abbrev pub rollback_over : MarksState → ℕ → MarksState
+rollback_over s id = record s { locks = dropped s.locks (lock_place s id); trans = after_end s.trans (owner.Rollback id) }
+
+-- the slot is free, or the rollback is gone, and no claim of it is left
+abbrev pub after_end_of : MarksState → Owner → MarksState
+after_end_of s (owner.Slot slot) = slot_over s slot
+after_end_of s (owner.Rollback id) = rollback_over s id

@@ -5,6 +5,7 @@ use Rattle.write_order.specs.declared.rank.Rank.{Rank}
 use Rattle.member_pool.specs.declared.frame.Frame.{Frame}
 use Rattle.member_pool.specs.Frames.{find_page, is_unpinned}
 use Rattle.member_pool.specs.Heads.{HeadState, head_of, with_head, placed_in, freed, pinned_to, marked, written, free_in, first_to_write, has_changed}
+use Rattle.member_trans.specs.declared.fate.Owner.{Owner}
 use Rattle.member_trans.specs.Trans.{TransState, has_set}
 use Rattle.member_marks.specs.State.{MarksState, with_heads}
 
@@ -16,17 +17,17 @@ is_placed h at = is_some (frame_in h at).page
 
 -- ---- writing
 
--- the first page set from k on, of n, that has changed frames among those that the slot's transaction has changed
-unfoldable pub first_changed : HeadState → TransState → ℕ → ℕ → ℕ → Option ℕ
-first_changed h t slot k zero = None
-first_changed h t slot k (suc n) = if has_set t slot k && has_changed h k then Some k else first_changed h t slot (k + 1) n
+-- the first page set from k on, of n, that has changed frames among those that the owner's transaction has changed
+unfoldable pub first_changed : HeadState → TransState → Owner → ℕ → ℕ → Option ℕ
+first_changed h t o k zero = None
+first_changed h t o k (suc n) = if has_set t o k && has_changed h k then Some k else first_changed h t o (k + 1) n
 
 abbrev pub to_write_of : HeadState → Option ℕ → Option ℕ
 to_write_of h None = None
 to_write_of h (Some set) = first_to_write h ((set + 1) / 2)
 
-abbrev pub to_write : MarksState → ℕ → Option ℕ
-to_write s slot = to_write_of s.heads (first_changed s.heads s.trans slot 1 128)
+abbrev pub to_write : MarksState → Owner → Option ℕ
+to_write s o = to_write_of s.heads (first_changed s.heads s.trans o 1 128)
 
 -- ---- marks: only those of a frame that holds a page change
 

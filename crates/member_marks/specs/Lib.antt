@@ -1,5 +1,7 @@
+pub mod Names
 pub mod State
 pub mod Claims
 pub mod Frames
 pub mod Records
+pub mod Rollbacks
 pub mod Local

@@ -8,23 +8,27 @@ use Rattle.lock_names.specs.declared.mode.Mode.{Mode}
 use Rattle.lock_manager.specs.declared.claim.Ask.{Ask}
 use Rattle.lock_manager.specs.declared.claim.Ask.TheVariants as ask
 use Rattle.lock_manager.specs.Managers.{Book, ask_of, given}
-use Rattle.member_trans.specs.Trans.{after_begin, after_refuse, refused_for}
+use Rattle.member_trans.specs.Trans.{TransState, may_begin, after_begin_with, after_refuse, refused_for}
 use Rattle.member_marks.specs.declared.trial.Trial.{Trial}
 use Rattle.member_marks.specs.declared.trial.Trial.TheVariants as trial
-use Rattle.member_marks.specs.State.{MarksState, id_of, with_locks, with_trans}
+use Rattle.member_marks.specs.State.{MarksState, slot_id, with_locks, with_trans}
 use Rattle.member_marks.specs.Claims.{may_claim, offered_held, offered_retained, offered_memory}
 use Rattle.member_marks.specs.Frames.{after_place, after_pin, after_unpin}
+use Rattle.member_marks.specs.Rollbacks.{after_postpone, after_wait}
 
 pub data Local : Type 0 where
   -- slot, name, mode and event; whether there was memory, and for how many more claims there is room then
   Claim : ℕ → Name → Mode → ℕ → Bool → ℕ → Local
-  Begin : ℕ → ℕ → Local
+  -- slot and number; whether there was memory, and for how many more rollbacks there is room then, for claims and for transactions
+  Begin : ℕ → ℕ → Bool → ℕ → ℕ → Local
   Refuse : ℕ → Local
   Abort : ℕ → ℕ → Local
   RefuseForMemory : ℕ → ℕ → Local
   Place : PageId → Local
   Pin : ℕ → Local
   Unpin : ℕ → Local
+  Postpone : ℕ → Local
+  WaitFor : ℕ → Local
 
 -- ---- a trial at home
 
@@ -52,7 +56,7 @@ home_told has_memory = if has_memory then trial.Have else trial.NoMemory
 
 abbrev pub trial_as : MarksState → Bool → Ask → Trial
 trial_as s has_memory ask.Have = trial.Have
-trial_as s has_memory (ask.Conflict by) = trial.Conflict (id_of s by)
+trial_as s has_memory (ask.Conflict by) = trial.Conflict (slot_id s by)
 trial_as s has_memory (ask.Postponed by) = trial.Postponed by
 trial_as s has_memory ask.Local = home_told has_memory
 trial_as s has_memory (ask.Facility more) = trial.ToObtain more
@@ -70,18 +74,32 @@ had_memory (trial.Postponed by) = true
 had_memory trial.NoMemory = false
 had_memory trial.NotForward = true
 
+-- ---- a transaction begins
+
+abbrev pub with_lock_room : MarksState → ℕ → MarksState
+with_lock_room s room = with_locks s (record s.locks { room = room })
+
+abbrev pub begun_with : TransState → ℕ → ℕ → Bool → ℕ → TransState
+begun_with t slot n has_memory room = if has_memory then after_begin_with t slot n room else t
+
+abbrev pub after_begin : MarksState → ℕ → ℕ → Bool → ℕ → ℕ → MarksState
+after_begin s slot n has_memory lock_room room =
+    if may_begin s.trans slot then with_trans (with_lock_room s lock_room) (begun_with s.trans slot n has_memory room) else s
+
 -- ---- all moves
 
 -- a move that isn't allowed changes nothing
 abbrev pub moved : Local → MarksState → MarksState
 moved (Claim slot n m event has_memory spare) s = after_claim s slot n m event has_memory spare
-moved (Begin slot n) s = with_trans s (after_begin s.trans slot n)
+moved (Begin slot n has_memory lock_room room) s = after_begin s slot n has_memory lock_room room
 moved (Refuse slot) s = with_trans s (after_refuse s.trans slot)
 moved (Abort slot event) s = with_trans s (refused_for s.trans slot refusal.Aborted event)
 moved (RefuseForMemory slot event) s = with_trans s (refused_for s.trans slot refusal.Memory event)
 moved (Place p) s = after_place s p
 moved (Pin at) s = after_pin s at
 moved (Unpin at) s = after_unpin s at
+moved (Postpone slot) s = after_postpone s slot
+moved (WaitFor id) s = after_wait s id
 
 abbrev pub all_moved : List Local → MarksState → MarksState
 all_moved [] s = s

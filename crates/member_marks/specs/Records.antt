@@ -10,8 +10,10 @@ use Rattle.page_format.specs.declared.patch.Patch.{Patch}
 use Rattle.log_record.specs.Changes.{inverse}
 use Rattle.member_log.specs.Buffers.{LogBuffer, room_of, after_put, after_force}
 use Rattle.member_trans.specs.declared.fate.Change.{Change}
-use Rattle.member_trans.specs.Trans.{TransState, TranState, tran_at, with_tran, with_set, changed, with_undone, newest_of, first_with, is_forward, after_draw, after_decide}
-use Rattle.member_marks.specs.State.{MarksState, tran_of}
+use Rattle.member_trans.specs.declared.fate.Owner.{Owner}
+use Rattle.member_trans.specs.declared.fate.Owner.TheVariants as owner
+use Rattle.member_trans.specs.Trans.{TransState, TranState, tran_at, with_tran, with_tran_of, with_set_of, changed, with_undone, newest_of, first_with, is_forward, after_draw, after_decide}
+use Rattle.member_marks.specs.State.{MarksState, tran_of, slot_tran}
 
 abbrev pub fits_in : LogBuffer → LogRecord → Bool
 fits_in b r = nat_le (length (record_bytes r)) (room_of b)
@@ -32,8 +34,8 @@ abbrev pub page_undone : Option Change → Option PageId
 page_undone None = None
 page_undone (Some it) = Some (record { set = row_set it.change; number = it.change.place.page })
 
-abbrev pub undo_page : MarksState → ℕ → Option PageId
-undo_page s slot = page_undone (newest_of (tran_of s slot))
+abbrev pub undo_page : MarksState → Owner → Option PageId
+undo_page s o = page_undone (newest_of (tran_of s o))
 
 -- ---- a row change
 
@@ -41,10 +43,10 @@ abbrev pub row_record : TranState → ℕ → RowChange → LogRecord
 row_record t lrsn c = record { lrsn = lrsn; tran = first_with t.first lrsn; body = body.RowChange c }
 
 abbrev pub may_change : MarksState → ℕ → ℕ → RowChange → Bool
-may_change s slot lrsn c = not (lrsn == 0) && (is_at_row c && ((tran_of s slot).has_room && fits_in s.log (row_record (tran_of s slot) lrsn c)))
+may_change s slot lrsn c = not (lrsn == 0) && (is_at_row c && ((slot_tran s slot).has_room && fits_in s.log (row_record (slot_tran s slot) lrsn c)))
 
 abbrev pub set_noted : TransState → ℕ → ℕ → TransState
-set_noted t slot set = with_tran t slot (with_set (tran_at t slot) set)
+set_noted t slot set = with_set_of t (owner.Slot slot) set
 
 abbrev pub row_noted : TransState → ℕ → ℕ → RowChange → TransState
 row_noted t slot lrsn c = set_noted (with_tran t slot (changed (tran_at t slot) lrsn c)) slot (row_set c)
@@ -52,7 +54,7 @@ row_noted t slot lrsn c = set_noted (with_tran t slot (changed (tran_at t slot) 
 abbrev pub after_change : MarksState → ℕ → ℕ → RowChange → MarksState
 after_change s slot lrsn c =
     if may_change s slot lrsn c
-    then record s { log = after_put s.log (row_record (tran_of s slot) lrsn c); trans = row_noted s.trans slot lrsn c }
+    then record s { log = after_put s.log (row_record (slot_tran s slot) lrsn c); trans = row_noted s.trans slot lrsn c }
     else s
 
 -- ---- changed pages
@@ -90,30 +92,35 @@ both_fit b r q = nat_le (length (record_bytes r) + length (record_bytes q)) (roo
 abbrev pub both_logged : LogBuffer → LogRecord → LogRecord → Bool → LogBuffer
 both_logged b r q is_last = if is_last then after_put (after_put b r) q else after_put b r
 
--- the newest change of the slot's transaction is taken back by the one record, and ended by the other behind the last one
-abbrev pub after_back : MarksState → ℕ → ℕ → LogRecord → LogRecord → MarksState
-after_back s slot lrsn r q =
+-- the newest change of the owner's transaction is taken back by the one record, on a page of this page set, and ended by the other behind the last one
+abbrev pub back_noted : TransState → Owner → TranState → ℕ → ℕ → TransState
+back_noted t o it lrsn set = with_set_of (with_tran_of t o (with_undone it lrsn)) o set
+
+abbrev pub after_back : MarksState → Owner → ℕ → ℕ → LogRecord → LogRecord → MarksState
+after_back s o lrsn set r q =
     if both_fit s.log r q
-    then record s { log = both_logged s.log r q (length (tran_of s slot).changes == 1); trans = with_tran s.trans slot (with_undone (tran_of s slot) lrsn) }
+    then record s { log = both_logged s.log r q (length (tran_of s o).changes == 1); trans = back_noted s.trans o (tran_of s o) lrsn set }
     else s
 
 abbrev pub may_back : TranState → Change → Bool
 may_back t it = not (t.first == 0) && is_at_row it.change
 
-abbrev pub undone_of : MarksState → ℕ → ℕ → Change → MarksState
-undone_of s slot lrsn it =
-    if may_back (tran_of s slot) it then after_back s slot lrsn (back_record (tran_of s slot) lrsn it) (ended_record (tran_of s slot) lrsn) else s
+abbrev pub undone_of : MarksState → Owner → ℕ → Change → MarksState
+undone_of s o lrsn it =
+    if may_back (tran_of s o) it
+    then after_back s o lrsn (row_set it.change) (back_record (tran_of s o) lrsn it) (ended_record (tran_of s o) lrsn)
+    else s
 
-abbrev pub undone_as : MarksState → ℕ → ℕ → Option Change → MarksState
-undone_as s slot lrsn None = s
-undone_as s slot lrsn (Some it) = undone_of s slot lrsn it
+abbrev pub undone_as : MarksState → Owner → ℕ → Option Change → MarksState
+undone_as s o lrsn None = s
+undone_as s o lrsn (Some it) = undone_of s o lrsn it
 
-abbrev pub after_undo : MarksState → ℕ → ℕ → MarksState
-after_undo s slot lrsn = undone_as s slot lrsn (newest_of (tran_of s slot))
+abbrev pub after_undo : MarksState → Owner → ℕ → MarksState
+after_undo s o lrsn = undone_as s o lrsn (newest_of (tran_of s o))
 
-abbrev pub may_undo_as : MarksState → ℕ → ℕ → Option Change → Bool
-may_undo_as s slot lrsn None = false
-may_undo_as s slot lrsn (Some it) = may_back (tran_of s slot) it && both_fit s.log (back_record (tran_of s slot) lrsn it) (ended_record (tran_of s slot) lrsn)
+abbrev pub may_undo_as : MarksState → Owner → ℕ → Option Change → Bool
+may_undo_as s o lrsn None = false
+may_undo_as s o lrsn (Some it) = may_back (tran_of s o) it && both_fit s.log (back_record (tran_of s o) lrsn it) (ended_record (tran_of s o) lrsn)
 
 -- ---- a commit
 
@@ -121,12 +128,12 @@ abbrev pub commit_record : TranState → ℕ → LogRecord
 commit_record t lrsn = record { lrsn = lrsn; tran = first_with t.first lrsn; body = body.Commit }
 
 abbrev pub may_commit : MarksState → ℕ → ℕ → Bool
-may_commit s slot lrsn = not (lrsn == 0) && (is_forward (tran_of s slot).stage && fits_in s.log (commit_record (tran_of s slot) lrsn))
+may_commit s slot lrsn = not (lrsn == 0) && (is_forward (slot_tran s slot).stage && fits_in s.log (commit_record (slot_tran s slot) lrsn))
 
 abbrev pub after_commit : MarksState → ℕ → ℕ → MarksState
 after_commit s slot lrsn =
     if may_commit s slot lrsn
-    then record s { log = after_put s.log (commit_record (tran_of s slot) lrsn); trans = after_draw s.trans slot }
+    then record s { log = after_put s.log (commit_record (slot_tran s slot) lrsn); trans = after_draw s.trans slot }
     else s
 
 -- ---- the buffer stands in the log

@@ -4,24 +4,35 @@ use Rattle.ds_base.specs.declared.names.TranId.{TranId}
 use Rattle.lock_manager.specs.Managers.{Book}
 use Rattle.member_pool.specs.Heads.{HeadState, all_free}
 use Rattle.member_log.specs.Buffers.{LogBuffer, empty_buffer}
-use Rattle.member_trans.specs.Trans.{TransState, TranState, tran_at, no_trans}
+use Rattle.member_trans.specs.declared.fate.Owner.{Owner}
+use Rattle.member_trans.specs.declared.fate.Owner.TheVariants as owner
+use Rattle.member_trans.specs.Trans.{TransState, TranState, tran_of as tran_in, no_trans}
+use Rattle.member_marks.specs.Names.{NameSet, no_names}
 
 pub record MarksState : Type 0 where
   pub locks : Book
   pub heads : HeadState
   pub log : LogBuffer
   pub trans : TransState
+  pub kept : NameSet  -- table spaces and rows whose retained records, of a failure of this member, stand in the group's table
   pub member : ℕ
 
 abbrev pub agents_of : MarksState → ℕ
 agents_of s = s.locks.agents
 
-abbrev pub tran_of : MarksState → ℕ → TranState
-tran_of s slot = tran_at s.trans slot
+-- the owner's transaction
+abbrev pub tran_of : MarksState → Owner → TranState
+tran_of s o = tran_in s.trans o
 
--- the transaction of the slot, by member and number
-abbrev pub id_of : MarksState → ℕ → TranId
-id_of s slot = record { member = s.member; number = (tran_of s slot).number }
+abbrev pub slot_tran : MarksState → ℕ → TranState
+slot_tran s slot = tran_of s (owner.Slot slot)
+
+-- the owner's transaction, by member and number
+abbrev pub id_of : MarksState → Owner → TranId
+id_of s o = record { member = s.member; number = (tran_of s o).number }
+
+abbrev pub slot_id : MarksState → ℕ → TranId
+slot_id s slot = id_of s (owner.Slot slot)
 
 abbrev pub with_locks : MarksState → Book → MarksState
 with_locks s b = record s { locks = b }
@@ -35,7 +46,10 @@ with_log s l = record s { log = l }
 abbrev pub with_trans : MarksState → TransState → MarksState
 with_trans s t = record s { trans = t }
 
--- ---- at the start: no claims, free frames, nothing pending, no transactions
+abbrev pub with_kept : MarksState → NameSet → MarksState
+with_kept s k = record s { kept = k }
+
+-- ---- at the start: no claims, free frames, nothing pending, no transactions, no retained records
 
 abbrev pub log_size : ℕ
 log_size = 65536
@@ -48,4 +62,5 @@ pub record IsFresh (member agents entries frames : ℕ) (s : MarksState) : Type 
   pub heads : s.heads ≡ all_free frames
   pub log : s.log ≡ empty_buffer log_size
   pub trans : s.trans ≡ no_trans agents
+  pub kept : s.kept ≡ no_names
   pub member_is : s.member ≡ member

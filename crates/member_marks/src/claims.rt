@@ -1,13 +1,17 @@
 ghost use Rattle.std.specs.Prelude.{◌≡◌, ◌≤◌, true, OnOk};
-ghost use Rattle.member_marks.specs.State.{MarksState, agents_of, tran_of, id_of, with_locks, with_trans};
+ghost use Rattle.member_trans.specs.declared.fate.Owner.TheVariants as owners;
+ghost use Rattle.member_marks.specs.State.{MarksState, agents_of, slot_id, with_locks, with_trans};
 ghost use Rattle.member_marks.specs.Claims.{
   is_for_agents,
   may_claim,
   mode_held,
+  is_claimed,
+  lock_place,
   has_page,
   has_page_room,
   answer_to,
   releasing,
+  rollback_releasing,
   releasing_page,
   offered,
   offered_held,
@@ -20,21 +24,26 @@ ghost use Rattle.member_marks.specs.Claims.{
   enter_told,
   may_enter_page,
   PageEntered,
+  slot_released,
+  rollback_released,
   after_release_of,
   released_told,
   after_release_page,
   page_released_told,
+  slot_over,
+  rollback_over,
   after_end_of,
 };
 ghost use Rattle.member_marks.specs.declared.trial.Trial.TheVariants as trial;
 
 use crate::Marks;
 use crate::trial::Trial;
-use ds_base::{MemberId, NoMemory, PageId};
+use ds_base::{Lrsn, MemberId, NoMemory, PageId};
 use ds_model::{Name, Refusal};
 use list_structure::CellAnswer;
 use lock_manager::{Ask, LockAnswer};
 use lock_names::{Interest, Mode};
+use member_trans::Owner;
 
 /// Whether agents may claim the name: that of a table space or row.
 pub(crate) fn is_for_agents(name: &Name) -> bool
@@ -44,9 +53,8 @@ pub(crate) fn is_for_agents(name: &Name) -> bool
 }
 
 impl Marks {
-    /// The mode in which the slot's transaction holds the name; for slot 0, the member itself.
-    pub fn holds(&self, slot: u8, name: &Name) -> Option<Mode>
-        ensures { result ≡ mode_held self.now slot name.now }
+    fn holds_slot(&self, slot: u8, name: &Name) -> Option<Mode>
+        ensures { result ≡ mode_held self.now (owners.Slot slot) name.now }
     {
         if slot <= self.agents {
             self.locks.holds(slot, name)
@@ -55,11 +63,28 @@ impl Marks {
         }
     }
 
+    /// The mode in which the owner's transaction holds the name; for slot 0, the member itself.
+    pub fn holds(&self, owner: &Owner, name: &Name) -> Option<Mode>
+        ensures { result ≡ mode_held self.now owner.now name.now }
+    {
+        match owner {
+            Owner::Slot(slot) => self.holds_slot(*slot, name),
+            Owner::Rollback(id) => self.locks.holds_rollback(*id, name),
+        }
+    }
+
+    /// Whether an owner has a claim on the name.
+    pub fn is_claimed(&self, name: &Name) -> bool
+        ensures { result ≡ is_claimed self.now name.now }
+    {
+        self.locks.is_held(name)
+    }
+
     /// Whether the member claims the lock of the page.
     pub fn has_page(&self, page: PageId) -> bool
         ensures { result ≡ has_page self.now page }
     {
-        self.holds(0, &Name::Page(page)).is_some()
+        self.holds_slot(0, &Name::Page(page)).is_some()
     }
 
     /// Whether there is room for one more claim of a page's lock.
@@ -75,19 +100,30 @@ impl Marks {
     {
         match self.locks.answer(name, mode) {
             LockAnswer::Clean => CellAnswer::Clean,
-            LockAnswer::Conflict { by } => CellAnswer::Conflict { by: self.tran(by) },
+            LockAnswer::Conflict { by } => CellAnswer::Conflict {
+                by: self.tran(&Owner::Slot(by)),
+            },
             LockAnswer::Postponed { member } => CellAnswer::Postponed { member },
         }
     }
 
-    /// The name that the slot's transaction gives up next, with the interest that the member keeps in its entry.
-    pub fn releasing(&self, slot: u8) -> Option<(Name, Interest)>
-        ensures { result ≡ releasing self.now slot }
+    fn releasing_slot(&self, slot: u8) -> Option<(Name, Interest)>
+        ensures { result ≡ releasing self.now (owners.Slot slot) }
     {
         if slot <= self.agents {
             self.locks.releasing(slot)
         } else {
             None
+        }
+    }
+
+    /// The name that the owner's transaction gives up next, with the interest that the member keeps in its entry.
+    pub fn releasing(&self, owner: &Owner) -> Option<(Name, Interest)>
+        ensures { result ≡ releasing self.now owner.now }
+    {
+        match owner {
+            Owner::Slot(slot) => self.releasing_slot(*slot),
+            Owner::Rollback(id) => self.locks.releasing_postponed(*id),
         }
     }
 
@@ -122,13 +158,12 @@ impl Marks {
     }
 
     pub(crate) fn offer_held(&mut self, slot: u8, name: &Name, by: u8, event: u64) -> Trial
-        ensures told { result ≡ trial.Conflict (id_of self.old by) }
+        ensures told { result ≡ trial.Conflict (slot_id self.old by) }
         ensures after { self.new ≡ offered_held self.old slot name.now by event }
     {
-        let told = Trial::Conflict(self.tran(by));
-        let by = self.tran(by);
-        self.trans
-            .offer(slot, Refusal::Held { name: *name, by }, event);
+        let told = Trial::Conflict(self.tran(&Owner::Slot(by)));
+        let by = self.tran(&Owner::Slot(by));
+        self.trans.offer(&Owner::Slot(slot), Refusal::Held { name: *name, by }, event);
         told
     }
 
@@ -142,8 +177,11 @@ impl Marks {
         ensures told { result ≡ trial.Postponed by }
         ensures after { self.new ≡ offered_retained self.old slot name.now by event }
     {
-        self.trans
-            .offer(slot, Refusal::Retained { name: *name, by }, event);
+        self.trans.offer(
+            &Owner::Slot(slot),
+            Refusal::Retained { name: *name, by },
+            event,
+        );
         Trial::Postponed(by)
     }
 
@@ -151,7 +189,7 @@ impl Marks {
         ensures told { result ≡ trial.NoMemory }
         ensures after { self.new ≡ offered_memory self.old slot event }
     {
-        self.trans.offer(slot, Refusal::Memory, event);
+        self.trans.offer(&Owner::Slot(slot), Refusal::Memory, event);
         Trial::NoMemory
     }
 
@@ -196,16 +234,38 @@ impl Marks {
         true
     }
 
-    /// Gives up claims of the slot's transaction, up to the first whose name the member then holds no longer.
-    pub fn release(&mut self, slot: u8) -> Option<(Name, Interest)>
-        ensures told { result ≡ released_told self.old slot }
-        ensures after { self.new ≡ after_release_of self.old slot }
+    fn release_slot(&mut self, slot: u8) -> Option<(Name, Interest)>
+        ensures told { result ≡ released_told self.old (owners.Slot slot) }
+        ensures after { self.new ≡ slot_released self.old slot }
     {
         if slot == 0 || self.agents < slot {
             return None;
         }
-        self.trans.note_released(slot);
+        self.trans.note_released(&Owner::Slot(slot));
         self.locks.release(slot)
+    }
+
+    fn release_rollback(&mut self, id: Lrsn) -> Option<(Name, Interest)>
+        ensures told { result ≡ rollback_releasing self.old id }
+        ensures after { self.new ≡ rollback_released self.old id }
+    {
+        if self.locks.releasing_postponed(id).is_none() {
+            return None;
+        }
+        self.trans.note_released(&Owner::Rollback(id));
+        self.locks.release_postponed(id)
+    }
+
+    /// Gives up claims of the owner's transaction, up to the first whose name the member then holds no longer. A rollback
+    /// for which there is none keeps its claims until its end.
+    pub fn release(&mut self, owner: &Owner) -> Option<(Name, Interest)>
+        ensures told { result ≡ released_told self.old owner.now }
+        ensures after { self.new ≡ after_release_of self.old owner.now }
+    {
+        match owner {
+            Owner::Slot(slot) => self.release_slot(*slot),
+            Owner::Rollback(id) => self.release_rollback(*id),
+        }
     }
 
     /// Gives up the lock of the page, where the member claims it.
@@ -220,21 +280,37 @@ impl Marks {
         }
     }
 
-    /// The slot is free, and the claims that were left are gone. A decided transaction is answered.
-    pub fn end(&mut self, slot: u8)
-        ensures { self.new ≡ after_end_of self.old slot }
+    fn end_slot(&mut self, slot: u8)
+        ensures { self.new ≡ slot_over self.old slot }
     {
         if slot == 0 || self.agents < slot {
             return;
         }
         self.locks.drop_all(slot);
-        self.trans.end(slot);
+        self.trans.end(&Owner::Slot(slot));
     }
 
-    /// This event allows this refusal of the slot's transaction, whose cause held in the event `place`.
-    pub fn offer(&mut self, slot: u8, refusal: Refusal, place: u64)
-        ensures { self.new ≡ offered self.old slot refusal place }
+    fn end_rollback(&mut self, id: Lrsn)
+        ensures { self.new ≡ rollback_over self.old id }
     {
-        self.trans.offer(slot, refusal, place);
+        self.locks.end_postponed(id);
+        self.trans.end(&Owner::Rollback(id));
+    }
+
+    /// The slot is free, or the rollback is gone, and so are the claims that were left. A decided transaction is answered.
+    pub fn end(&mut self, owner: &Owner)
+        ensures { self.new ≡ after_end_of self.old owner.now }
+    {
+        match owner {
+            Owner::Slot(slot) => self.end_slot(*slot),
+            Owner::Rollback(id) => self.end_rollback(*id),
+        }
+    }
+
+    /// This event allows this refusal of the owner's transaction, whose cause held in the event `place`.
+    pub fn offer(&mut self, owner: &Owner, refusal: Refusal, place: u64)
+        ensures { self.new ≡ offered self.old owner.now refusal place }
+    {
+        self.trans.offer(owner, refusal, place);
     }
 }

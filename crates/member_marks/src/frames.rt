@@ -23,20 +23,20 @@ ghost use Rattle.member_marks.specs.Frames.{
 use crate::Marks;
 use ds_base::{PageId, TableId};
 use member_pool::{Frame, Heads};
-use member_trans::Trans;
+use member_trans::{Owner, Trans};
 use write_order::Rank;
 
 /// The last page set of a table.
 const LAST_SET: u16 = 128;
 
-// The first page set that has changed frames among those that the slot's transaction has changed.
+// The first page set that has changed frames among those that the owner's transaction has changed.
 #[tactic(auto, using(crate::proofs::Writing::changed_step, crate::proofs::Writing::changed_none))]
-fn first_changed(trans: &Trans, slot: u8, heads: &Heads) -> Option<u16>
-    ensures first { result ≡ first_changed heads.now trans.now slot 1 128 }
+fn first_changed(trans: &Trans, owner: &Owner, heads: &Heads) -> Option<u16>
+    ensures first { result ≡ first_changed heads.now trans.now owner.now 1 128 }
     ensures range { IfSome result (λ set. (1 ≤ set) × (set ≤ 128)) }
 {
     for set in 1..LAST_SET + 1 {
-        if trans.has_set(slot, set) && heads.has_changed(set) {
+        if trans.has_set(owner, set) && heads.has_changed(set) {
             return Some(set);
         }
     }
@@ -98,10 +98,10 @@ impl Marks {
 
     /// The frame that is to be written next while pages of the transaction's page sets are changed: the first of the table
     /// of the first such page set.
-    pub fn to_write(&self, slot: u8) -> Option<u16>
-        ensures { result ≡ to_write self.now slot }
+    pub fn to_write(&self, owner: &Owner) -> Option<u16>
+        ensures { result ≡ to_write self.now owner.now }
     {
-        let set = first_changed(&self.trans, slot, &self.heads)?;
+        let set = first_changed(&self.trans, owner, &self.heads)?;
         self.heads
             .first_to_write(TableId::new((set as u64 + 1) / 2)?)
     }

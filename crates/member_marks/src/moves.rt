@@ -1,9 +1,11 @@
-ghost use Rattle.std.specs.Prelude.{◌≡◌, ◌&&◌, true};
+ghost use Rattle.std.specs.Prelude.{◌≡◌, ◌≤◌, ◌+◌, ◌&&◌, length, true, is_ok, IfOk, OnOk};
 ghost use Rattle.lock_manager.specs.Managers.{ask_of};
 ghost use Rattle.lock_manager.specs.declared.claim.Ask.TheVariants as ask;
+ghost use Rattle.member_trans.specs.declared.fate.Owner.TheVariants as owners;
 ghost use Rattle.member_trans.specs.Trans.{may_begin, may_refuse, offers};
-ghost use Rattle.member_marks.specs.State.{MarksState};
+ghost use Rattle.member_marks.specs.State.{MarksState, agents_of};
 ghost use Rattle.member_marks.specs.Claims.{may_claim};
+ghost use Rattle.member_marks.specs.Rollbacks.{may_wait, may_postpone, postponed_as, retainer, can_postpone};
 ghost use Rattle.member_marks.specs.Frames.{place_told, may_pin, may_unpin};
 ghost use Rattle.member_marks.specs.Local.{
   Claim,
@@ -14,6 +16,8 @@ ghost use Rattle.member_marks.specs.Local.{
   Place,
   Pin,
   Unpin,
+  Postpone,
+  WaitFor,
   moved,
   Reaches,
   trial_of,
@@ -24,10 +28,11 @@ ghost use Rattle.member_marks.specs.Local.{
 
 use crate::Marks;
 use crate::trial::Trial;
-use ds_base::PageId;
+use ds_base::{Lrsn, NoMemory, PageId};
 use ds_model::{Name, Refusal};
 use lock_manager::Ask;
 use lock_names::Mode;
+use member_trans::Owner;
 
 // Local moves.
 impl Marks {
@@ -68,25 +73,34 @@ impl Marks {
         Trial::Have
     }
 
-    /// A transaction with this number in the script takes the slot, if it is free.
-    pub fn begin(&mut self, slot: u8, number: u32) -> bool
-        ensures told { result ≡ may_begin self.old.trans slot }
-        ensures marks { self.new ≡ moved (Begin slot number) self.old }
+    /// A transaction with this number in the script takes the slot, if it is free. The memory for a rollback of each slot is
+    /// taken, so that a transaction that has begun can be postponed.
+    pub fn begin(&mut self, slot: u8, number: u32) -> Result<bool, NoMemory>
+        ensures told { IfOk result (λ begun. begun ≡ may_begin self.old.trans slot) }
+        ensures enough { IfOk result (λ begun. begun ≡ true → (agents_of self.old ≤ self.new.locks.room) × (length self.old.trans.slots ≤ self.new.trans.room + 1)) }
+        ensures more { (self.old.locks.room ≤ self.new.locks.room) × (self.old.trans.room ≤ self.new.trans.room) }
+        ensures marks { self.new ≡ moved (Begin slot number (is_ok result) self.new.locks.room self.new.trans.room) self.old }
         ensures reaches { Reaches self.old self.new }
     {
         self.set_begun(slot, number)
     }
 
-    fn set_begun(&mut self, slot: u8, number: u32) -> bool
-        ensures told { result ≡ may_begin self.old.trans slot }
-        ensures marks { self.new ≡ moved (Begin slot number) self.old }
+    fn set_begun(&mut self, slot: u8, number: u32) -> Result<bool, NoMemory>
+        ensures told { IfOk result (λ begun. begun ≡ may_begin self.old.trans slot) }
+        ensures enough { IfOk result (λ begun. begun ≡ true → (agents_of self.old ≤ self.new.locks.room) × (length self.old.trans.slots ≤ self.new.trans.room + 1)) }
+        ensures more { (self.old.locks.room ≤ self.new.locks.room) × (self.old.trans.room ≤ self.new.trans.room) }
+        ensures marks { self.new ≡ moved (Begin slot number (is_ok result) self.new.locks.room self.new.trans.room) self.old }
     {
+        if !self.trans.may_begin(slot) {
+            return Ok(false);
+        }
+        self.locks.reserve_rollbacks(self.agents as u32)?;
         self.trans.begin(slot, number)
     }
 
     /// The refusal that this event allows is that of the slot's transaction, if it goes forward.
     pub fn refuse(&mut self, slot: u8) -> bool
-        ensures told { result ≡ (may_refuse self.old.trans slot && offers self.old.trans.offer slot) }
+        ensures told { result ≡ (may_refuse self.old.trans slot && offers self.old.trans.offer (owners.Slot slot)) }
         ensures marks { self.new ≡ moved (Refuse slot) self.old }
         ensures reaches { Reaches self.old self.new }
     {
@@ -94,7 +108,7 @@ impl Marks {
     }
 
     fn set_refused(&mut self, slot: u8) -> bool
-        ensures told { result ≡ (may_refuse self.old.trans slot && offers self.old.trans.offer slot) }
+        ensures told { result ≡ (may_refuse self.old.trans slot && offers self.old.trans.offer (owners.Slot slot)) }
         ensures marks { self.new ≡ moved (Refuse slot) self.old }
     {
         self.trans.refuse(slot)
@@ -194,6 +208,56 @@ impl Marks {
             return false;
         }
         self.heads.unpin(at);
+        true
+    }
+
+    /// The slot's rollback is postponed, where this event says that a failed member retains the page of its newest change:
+    /// the name of the rollback, which waits for that member.
+    pub fn postpone(&mut self, slot: u8) -> Option<Lrsn>
+        ensures told { result ≡ postponed_as self.old slot }
+        ensures marks { self.new ≡ moved (Postpone slot) self.old }
+        ensures reaches { Reaches self.old self.new }
+    {
+        self.set_postponed(slot)
+    }
+
+    fn set_postponed(&mut self, slot: u8) -> Option<Lrsn>
+        ensures told { result ≡ postponed_as self.old slot }
+        ensures marks { self.new ≡ moved (Postpone slot) self.old }
+    {
+        if !self.can_postpone(slot) {
+            return None;
+        }
+        let by = self.retainer(&Owner::Slot(slot))?;
+        let id = self.first(&Owner::Slot(slot));
+        self.locks.postpone(slot, id, by);
+        self.trans.postpone(slot);
+        self.trans.drop_offer();
+        Some(id)
+    }
+
+    /// The rollback waits on, where this event says that a failed member retains the page of its newest change: for that
+    /// member now.
+    pub fn wait_for(&mut self, id: Lrsn) -> bool
+        ensures told { result ≡ may_wait self.old id }
+        ensures marks { self.new ≡ moved (WaitFor id) self.old }
+        ensures reaches { Reaches self.old self.new }
+    {
+        self.set_waiting(id)
+    }
+
+    fn set_waiting(&mut self, id: Lrsn) -> bool
+        ensures told { result ≡ may_wait self.old id }
+        ensures marks { self.new ≡ moved (WaitFor id) self.old }
+    {
+        if !self.locks.is_postponed(id) {
+            return false;
+        }
+        let Some(by) = self.retainer(&Owner::Rollback(id)) else {
+            return false;
+        };
+        self.locks.wait_for(id, by);
+        self.trans.drop_offer();
         true
     }
 }

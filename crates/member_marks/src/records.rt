@@ -2,7 +2,8 @@ ghost use Rattle.std.specs.Prelude.{◌≡◌, ◌==◌, ◌+◌, ◌≤◌, len
 ghost use Rattle.ds_model.specs.RecordBytes.{Fits, record_bytes};
 ghost use Rattle.member_log.specs.Buffers.{room_of, is_above};
 ghost use Rattle.member_trans.specs.Trans.{with_tran, with_room, first_with, newest_of};
-ghost use Rattle.member_marks.specs.State.{MarksState, tran_of, with_trans, with_log};
+ghost use Rattle.member_trans.specs.declared.fate.Owner.TheVariants as owners;
+ghost use Rattle.member_marks.specs.State.{MarksState, tran_of, slot_tran, with_trans, with_log};
 ghost use Rattle.member_marks.specs.Records.{
   fits_in,
   logged,
@@ -27,7 +28,7 @@ use crate::Marks;
 use ds_base::{LRSN_LIMIT, Lrsn, NoMemory, PageId};
 use ds_model::{Body, LogRecord, RowChange};
 use log_record::{compensation_of, record_length};
-use member_trans::Trans;
+use member_trans::{Owner, Trans};
 use page_format::Patch;
 
 /// The slots of a heap page are below this.
@@ -58,7 +59,7 @@ fn note_sets(trans: &mut Trans, slot: u8, patches: &[Patch])
     ensures { trans.new ≡ sets_noted trans.old slot patches.now }
 {
     for patch in patches {
-        trans.note_set(slot, patch.page.set);
+        trans.note_set(&Owner::Slot(slot), patch.page.set);
     }
 }
 
@@ -101,10 +102,10 @@ impl Marks {
     }
 
     /// The heap page of the newest row change of the transaction that stands.
-    pub fn undo_page(&self, slot: u8) -> Option<PageId>
-        ensures { result ≡ undo_page self.now slot }
+    pub fn undo_page(&self, owner: &Owner) -> Option<PageId>
+        ensures { result ≡ undo_page self.now owner.now }
     {
-        let newest = self.trans.newest(slot)?;
+        let newest = self.trans.newest(owner)?;
         Some(PageId {
             set: row_set(&newest.change),
             number: newest.change.place.page,
@@ -115,7 +116,7 @@ impl Marks {
 impl Marks {
     /// Takes the memory for one more row change of the slot's transaction.
     pub fn reserve_change(&mut self, slot: u8) -> Result<(), NoMemory>
-        ensures ok { OnOk result (self.new ≡ with_trans self.old (with_tran self.old.trans slot (with_room (tran_of self.old slot)))) }
+        ensures ok { OnOk result (self.new ≡ with_trans self.old (with_tran self.old.trans slot (with_room (slot_tran self.old slot)))) }
         ensures err { OnErr result (self.new ≡ self.old) }
     {
         self.trans.reserve_change(slot)
@@ -139,14 +140,14 @@ impl Marks {
         }
         let it = LogRecord {
             lrsn,
-            tran: number_or(self.trans.first(slot), lrsn),
+            tran: number_or(self.trans.first(&Owner::Slot(slot)), lrsn),
             body: Body::RowChange { change: *change },
         };
         if !self.put(&it) {
             return false;
         }
         self.trans.note_change(slot, lrsn, change);
-        self.trans.note_set(slot, row_set(change));
+        self.trans.note_set(&Owner::Slot(slot), row_set(change));
         true
     }
 
@@ -165,16 +166,16 @@ impl Marks {
         true
     }
 
-    /// Puts the compensation of the newest row change of the slot's transaction, and the Ended record behind that of the
-    /// last one, where there is room for both.
-    pub fn note_undone(&mut self, slot: u8, lrsn: Lrsn) -> bool
-        ensures told { result ≡ may_undo_as self.old slot lrsn (newest_of (tran_of self.old slot)) }
-        ensures after { self.new ≡ after_undo self.old slot lrsn }
+    /// Puts the compensation of the newest row change of the owner's transaction, and the Ended record behind that of the
+    /// last one, where there is room for both, and notes the page set.
+    pub fn note_undone(&mut self, owner: &Owner, lrsn: Lrsn) -> bool
+        ensures told { result ≡ may_undo_as self.old owner.now lrsn (newest_of (tran_of self.old owner.now)) }
+        ensures after { self.new ≡ after_undo self.old owner.now lrsn }
     {
-        let Some(newest) = self.trans.newest(slot) else {
+        let Some(newest) = self.trans.newest(owner) else {
             return false;
         };
-        let tran = self.trans.first(slot);
+        let tran = self.trans.first(owner);
         if tran.number() == 0 || !is_at_row(&newest.change) {
             return false;
         }
@@ -188,20 +189,28 @@ impl Marks {
             tran,
             body: Body::Ended,
         };
-        self.put_back(slot, lrsn, &back, &ended)
+        self.put_back(owner, lrsn, row_set(&newest.change), &back, &ended)
     }
 
-    fn put_back(&mut self, slot: u8, lrsn: Lrsn, back: &LogRecord, ended: &LogRecord) -> bool
+    fn put_back(
+        &mut self,
+        owner: &Owner,
+        lrsn: Lrsn,
+        set: u16,
+        back: &LogRecord,
+        ended: &LogRecord,
+    ) -> bool
         requires fits { Fits back.now × Fits ended.now }
         ensures told { result ≡ both_fit self.old.log back.now ended.now }
-        ensures after { self.new ≡ after_back self.old slot lrsn back.now ended.now }
+        ensures after { self.new ≡ after_back self.old owner.now lrsn set back.now ended.now }
     {
         if record_length(back) + record_length(ended) > self.log.room() as usize {
             return false;
         }
-        let is_last = self.trans.count(slot) == 1;
+        let is_last = self.trans.count(owner) == 1;
         self.put_both(back, ended, is_last);
-        self.trans.note_undone(slot, lrsn);
+        self.trans.note_undone(owner, lrsn);
+        self.trans.note_set(owner, set);
         true
     }
 
@@ -226,7 +235,7 @@ impl Marks {
         }
         let it = LogRecord {
             lrsn,
-            tran: number_or(self.trans.first(slot), lrsn),
+            tran: number_or(self.trans.first(&Owner::Slot(slot)), lrsn),
             body: Body::Commit,
         };
         if !self.put(&it) {

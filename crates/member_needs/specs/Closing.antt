@@ -9,6 +9,7 @@ use Rattle.member_intents.specs.declared.outcome.Sent.TheVariants as sent
 use Rattle.member_intents.specs.declared.test.Test.{Test}
 use Rattle.member_intents.specs.declared.test.Test.TheVariants.{NotOver, StillChanged, NoneLeft, SomeLeft, NotClaimed}
 use Rattle.member_pool.specs.Frames.{find_page}
+use Rattle.member_trans.specs.declared.fate.Owner.{Owner}
 use Rattle.member_trans.specs.Trans.{is_over_at}
 use Rattle.member_marks.specs.State.{MarksState, tran_of, id_of}
 use Rattle.member_marks.specs.Claims.{releasing, releasing_page}
@@ -16,24 +17,24 @@ use Rattle.member_marks.specs.Frames.{frame_in, to_write}
 use Rattle.member_needs.specs.Tested.{Tested, passed, when, after}
 
 -- the transaction is over, and none of the pages of its sets is changed, unless it has given up a lock already
-abbrev pub over_test : MarksState → ℕ → Tested
-over_test s slot =
-    when (is_over_at (tran_of s slot) s.log.stable) NotOver
-    (when ((tran_of s slot).released || is_none (to_write s slot)) StillChanged passed)
+abbrev pub over_test : MarksState → Owner → Tested
+over_test s o =
+    when (is_over_at (tran_of s o) s.log.stable) NotOver
+    (when ((tran_of s o).released || is_none (to_write s o)) StillChanged passed)
 
 abbrev pub gives_up : Option (Name × Interest) → Result Sent Test
 gives_up None = Err NoneLeft
 gives_up (Some x) = Ok (sent.Command (command.Release x.0 x.1))
 
-abbrev pub release_need : MarksState → ℕ → Result Sent Test
-release_need s slot = after (over_test s slot) (gives_up (releasing s slot))
+abbrev pub release_need : MarksState → Owner → Result Sent Test
+release_need s o = after (over_test s o) (gives_up (releasing s o))
 
-abbrev pub ends : MarksState → ℕ → Option (Name × Interest) → Result Sent Test
-ends s slot None = Ok (sent.Command (command.End (id_of s slot)))
-ends s slot (Some x) = Err SomeLeft
+abbrev pub ends : MarksState → Owner → Option (Name × Interest) → Result Sent Test
+ends s o None = Ok (sent.Command (command.End (id_of s o)))
+ends s o (Some x) = Err SomeLeft
 
-abbrev pub end_need : MarksState → ℕ → Result Sent Test
-end_need s slot = after (over_test s slot) (ends s slot (releasing s slot))
+abbrev pub end_need : MarksState → Owner → Result Sent Test
+end_need s o = after (over_test s o) (ends s o (releasing s o))
 
 -- ---- pages
 

@@ -12,7 +12,7 @@ use Rattle.member_intents.specs.declared.test.Test.TheVariants.{NotForward, NotP
 use Rattle.member_pool.specs.declared.frame.Frame.{Frame}
 use Rattle.member_pool.specs.Heads.{is_first_to_write}
 use Rattle.member_trans.specs.Trans.{is_forward}
-use Rattle.member_marks.specs.State.{MarksState, tran_of}
+use Rattle.member_marks.specs.State.{MarksState, slot_tran}
 use Rattle.member_marks.specs.Claims.{has_page}
 use Rattle.member_marks.specs.Frames.{frame_in}
 use Rattle.member_needs.specs.Tested.{Tested, passed, when, sends}
@@ -53,7 +53,7 @@ read_page_need s at = reads_page (frame_in s.heads at) (frame_in s.heads at).pag
 -- the page is the header of the table's heap, which the member claims for a transaction that goes forward
 abbrev pub header_test : MarksState → PageId → ℕ → ℕ → Tested
 header_test s page slot table =
-    when (is_forward (tran_of s slot).stage) NotForward
+    when (is_forward (slot_tran s slot).stage) NotForward
     (when (same_page page (heap_page table 0)) OtherPage
     (when (has_page s page) NotClaimed passed))
 

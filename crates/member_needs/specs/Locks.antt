@@ -11,8 +11,9 @@ use Rattle.member_intents.specs.declared.outcome.Sent.{Sent}
 use Rattle.member_intents.specs.declared.outcome.Sent.TheVariants as sent
 use Rattle.member_intents.specs.declared.test.Test.{Test}
 use Rattle.member_intents.specs.declared.test.Test.TheVariants.{NotForward, NotOfSlot, NotOfMember, NotJoined, PagesFull, StillClaimed}
+use Rattle.member_trans.specs.declared.fate.Owner.TheVariants as owner
 use Rattle.member_trans.specs.Trans.{is_forward}
-use Rattle.member_marks.specs.State.{MarksState, tran_of}
+use Rattle.member_marks.specs.State.{MarksState, slot_tran}
 use Rattle.member_marks.specs.Claims.{is_for_agents, mode_held, has_page, has_page_room, answer_to}
 use Rattle.member_needs.specs.Tested.{Tested, passed, when, sends}
 
@@ -31,9 +32,9 @@ is_joined (Some held) m = is_covering m held
 -- a slot's transaction goes forward, and claims a table space or row in the join of the modes that it needs
 abbrev pub slot_test : MarksState → ℕ → Name → Mode → Tested
 slot_test s slot n m =
-    when (is_forward (tran_of s slot).stage) NotForward
+    when (is_forward (slot_tran s slot).stage) NotForward
     (when (is_for_agents n) NotOfSlot
-    (when (is_joined (mode_held s slot n) m) NotJoined passed))
+    (when (is_joined (mode_held s (owner.Slot slot) n) m) NotJoined passed))
 
 -- the member claims pages in X, as many as there is room for
 abbrev pub page_test : MarksState → Name → Mode → Tested

@@ -6,6 +6,7 @@ use Rattle.member_intents.specs.declared.intent.Intent.TheVariants as intent
 use Rattle.member_intents.specs.declared.outcome.Sent.{Sent}
 use Rattle.member_intents.specs.declared.outcome.Sent.TheVariants as sent
 use Rattle.member_intents.specs.declared.test.Test.{Test}
+use Rattle.member_trans.specs.declared.fate.Owner.TheVariants as owner
 use Rattle.member_marks.specs.State.{MarksState}
 use Rattle.member_needs.specs.declared.needs.Setting.{Setting}
 use Rattle.member_needs.specs.Locks.{obtain_need, grant_need, answer_need}
@@ -24,9 +25,9 @@ need_of s pages c (intent.Answers slot n m asked) = Ok (sent.Command (command.An
 need_of s pages c (intent.Status member) = Ok (sent.Command (command.Status member))
 need_of s pages c (intent.Take past) = Ok (sent.Command (command.Take past))
 need_of s pages c (intent.Answer asker n m) = answer_need s asker n m c.place
-need_of s pages c (intent.ReleaseLock slot) = release_need s slot
+need_of s pages c (intent.ReleaseLock slot) = release_need s (owner.Slot slot)
 need_of s pages c (intent.ReleasePage page) = release_page_need s page
-need_of s pages c (intent.End slot) = end_need s slot
+need_of s pages c (intent.End slot) = end_need s (owner.Slot slot)
 need_of s pages c (intent.Wait slot holder flag) = wait_need s slot holder flag
 need_of s pages c (intent.Unwait slot) = unwait_need s slot
 need_of s pages c (intent.Waits slots) = Ok (sent.Command command.Waits)
@@ -38,7 +39,7 @@ need_of s pages c (intent.Test frame slot gives) = test_need s frame slot gives
 need_of s pages c (intent.WritePage frame) = write_need s pages frame
 need_of s pages c (intent.Unregister frame) = unregister_need s frame
 need_of s pages c (intent.Change slot action frames) = change_need s pages c.limit slot action frames
-need_of s pages c (intent.Undo slot frame) = undo_need s slot frame
+need_of s pages c (intent.Undo slot frame) = undo_need s (owner.Slot slot) frame
 need_of s pages c (intent.Commit slot) = commit_need s slot
 need_of s pages c intent.Append = append_need s
 need_of s pages c (intent.NextChanged past) = Ok (sent.Command (command.NextChanged past))

@@ -22,6 +22,7 @@ use Rattle.member_intents.specs.declared.test.StepFault.{StepFault}
 use Rattle.member_intents.specs.declared.test.StepFault.TheVariants.{Unlawful, NotExecutable, NoMemory}
 use Rattle.member_log.specs.Buffers.{room_of}
 use Rattle.member_trans.specs.declared.fate.Change.{Change}
+use Rattle.member_trans.specs.declared.fate.Owner.TheVariants as owner
 use Rattle.member_trans.specs.Trans.{newest_of}
 use Rattle.member_marks.specs.State.{MarksState, tran_of}
 use Rattle.member_needs.specs.declared.plans.Plan.{Plan}
@@ -79,7 +80,7 @@ back_plan page (Some it) = back_over it.change page
 
 abbrev pub intent_plan : MarksState → List (List ℕ) → ℕ → Intent → Result Plan Test
 intent_plan s pages limit (intent.Change slot a frames) = change_plan s pages limit a frames
-intent_plan s pages limit (intent.Undo slot frame) = Ok (back_plan (slice_get pages frame) (newest_of (tran_of s slot)))
+intent_plan s pages limit (intent.Undo slot frame) = Ok (back_plan (slice_get pages frame) (newest_of (tran_of s (owner.Slot slot))))
 intent_plan s pages limit _ = Ok plan.None
 
 -- ---- what the log may have

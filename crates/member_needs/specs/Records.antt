@@ -23,8 +23,10 @@ use Rattle.member_intents.specs.declared.test.Test.TheVariants.{NotForward, NotU
 use Rattle.member_log.specs.Buffers.{room_of, is_above}
 use Rattle.member_pool.specs.declared.frame.Frame.{Frame}
 use Rattle.member_trans.specs.declared.fate.Change.{Change}
+use Rattle.member_trans.specs.declared.fate.Owner.{Owner}
+use Rattle.member_trans.specs.declared.fate.Owner.TheVariants as owner
 use Rattle.member_trans.specs.Trans.{is_forward, is_undoing, newest_of}
-use Rattle.member_marks.specs.State.{MarksState, tran_of}
+use Rattle.member_marks.specs.State.{MarksState, tran_of, slot_tran}
 use Rattle.member_marks.specs.Claims.{mode_held, has_page}
 use Rattle.member_marks.specs.Frames.{frame_in}
 use Rattle.member_needs.specs.Tested.{Tested, passed, when, after, sends}
@@ -47,15 +49,15 @@ allows_space (Some S) = false
 allows_space (Some SIX) = true
 allows_space (Some X) = true
 
-abbrev pub row_test : MarksState → ℕ → ℕ → ℕ → Tested
-row_test s slot table key =
-    when (allows_row (mode_held s slot (name.Row table key))) NoRow
-    (when (allows_space (mode_held s slot (name.Space table))) NoSpace passed)
+abbrev pub row_test : MarksState → Owner → ℕ → ℕ → Tested
+row_test s o table key =
+    when (allows_row (mode_held s o (name.Row table key))) NoRow
+    (when (allows_space (mode_held s o (name.Space table))) NoSpace passed)
 
 -- the row of the action, if it is of one
 abbrev pub action_test : MarksState → ℕ → Action → Tested
-action_test s slot (action.RowChange table key place value) = row_test s slot table key
-action_test s slot (action.GiveSlot table key leaf) = row_test s slot table key
+action_test s slot (action.RowChange table key place value) = row_test s (owner.Slot slot) table key
+action_test s slot (action.GiveSlot table key leaf) = row_test s (owner.Slot slot) table key
 action_test s slot (action.FormatIndex table) = passed
 action_test s slot (action.FormatHeap table) = passed
 action_test s slot (action.Split table left) = passed
@@ -113,7 +115,7 @@ must_append s = is_above s.log limit
 
 abbrev pub forward_test : MarksState → ℕ → Tested
 forward_test s slot =
-    when (is_forward (tran_of s slot).stage) NotForward (when (not (must_append s)) AboveLimit passed)
+    when (is_forward (slot_tran s slot).stage) NotForward (when (not (must_append s)) AboveLimit passed)
 
 abbrev pub indexes_of : Frames → Indexes
 indexes_of frames = record { count = frames.count; at = frames.at }
@@ -142,15 +144,15 @@ short_bytes = 22
 abbrev pub change_page : RowChange → PageId
 change_page c = heap_page c.table c.place.page
 
-abbrev pub undoes : MarksState → ℕ → ℕ → Option Change → Result Sent Test
-undoes s slot at None = Err NoneStands
-undoes s slot at (Some it) =
+abbrev pub undoes : MarksState → Owner → ℕ → Option Change → Result Sent Test
+undoes s o at None = Err NoneStands
+undoes s o at (Some it) =
     after (frame_test s at (change_page it.change))
-    (after (row_test s slot it.change.table it.change.key)
+    (after (row_test s o it.change.table it.change.key)
     (sends (when (not (must_append s)) AboveLimit (room_test s undo_bytes)) (sent.Command (command.DrawUndo (record { count = 1; at = at ∷ 0 ∷ 0 ∷ [] })))))
 
-abbrev pub undo_need : MarksState → ℕ → ℕ → Result Sent Test
-undo_need s slot at = after (when (is_undoing (tran_of s slot).stage) NotUndoing passed) (undoes s slot at (newest_of (tran_of s slot)))
+abbrev pub undo_need : MarksState → Owner → ℕ → Result Sent Test
+undo_need s o at = after (when (is_undoing (tran_of s o).stage) NotUndoing passed) (undoes s o at (newest_of (tran_of s o)))
 
 abbrev pub commit_need : MarksState → ℕ → Result Sent Test
 commit_need s slot = sends (after (forward_test s slot) (room_test s short_bytes)) (sent.Command (command.Draw (record { count = 0; at = 0 ∷ 0 ∷ 0 ∷ [] })))

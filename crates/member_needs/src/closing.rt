@@ -6,39 +6,39 @@ ghost use Rattle.member_needs.specs.Closing.{over_test, release_need, end_need, 
 use ds_base::PageId;
 use facility::Command;
 use member_intents::{Sent, Test};
-use member_marks::Marks;
+use member_marks::{Marks, Owner};
 
 // The transaction is over, and has given up a lock already or no page of its sets is changed.
-fn test_over(marks: &Marks, slot: u8) -> Result<(), Test>
-    ensures { result ≡ over_test marks.now slot }
+fn test_over(marks: &Marks, owner: &Owner) -> Result<(), Test>
+    ensures { result ≡ over_test marks.now owner.now }
 {
-    if !marks.is_over(slot) {
+    if !marks.is_over(owner) {
         return Err(Test::NotOver);
     }
-    if !marks.has_released(slot) && marks.to_write(slot).is_some() {
+    if !marks.has_released(owner) && marks.to_write(owner).is_some() {
         return Err(Test::StillChanged);
     }
     Ok(())
 }
 
-pub fn release_need(marks: &Marks, slot: u8) -> Result<Sent, Test>
-    ensures { result ≡ release_need marks.now slot }
+pub fn release_need(marks: &Marks, owner: &Owner) -> Result<Sent, Test>
+    ensures { result ≡ release_need marks.now owner.now }
 {
-    test_over(marks, slot)?;
-    match marks.releasing(slot) {
+    test_over(marks, owner)?;
+    match marks.releasing(owner) {
         Some((name, keeps)) => Ok(Sent::Command(Command::Release { name, keeps })),
         None => Err(Test::NoneLeft),
     }
 }
 
-pub fn end_need(marks: &Marks, slot: u8) -> Result<Sent, Test>
-    ensures { result ≡ end_need marks.now slot }
+pub fn end_need(marks: &Marks, owner: &Owner) -> Result<Sent, Test>
+    ensures { result ≡ end_need marks.now owner.now }
 {
-    test_over(marks, slot)?;
-    match marks.releasing(slot) {
+    test_over(marks, owner)?;
+    match marks.releasing(owner) {
         Some(_) => Err(Test::SomeLeft),
         None => Ok(Sent::Command(Command::End {
-            tran: marks.tran(slot),
+            tran: marks.tran(owner),
         })),
     }
 }

@@ -8,7 +8,7 @@ use facility::Command;
 use list_structure::Asker;
 use lock_names::{Mode, Name, covers};
 use member_intents::{Sent, Test};
-use member_marks::Marks;
+use member_marks::{Marks, Owner};
 
 /// Whether agents claim the name.
 fn is_of_slot(name: &Name) -> bool
@@ -42,7 +42,7 @@ fn test_slot(marks: &Marks, slot: u8, name: &Name, mode: Mode) -> Result<(), Tes
     if !is_of_slot(name) {
         return Err(Test::NotOfSlot);
     }
-    if !is_joined(marks.holds(slot, name), mode) {
+    if !is_joined(marks.holds(&Owner::Slot(slot), name), mode) {
         return Err(Test::NotJoined);
     }
     Ok(())

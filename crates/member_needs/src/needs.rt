@@ -11,7 +11,7 @@ use crate::records::{append_need, change_need, commit_need, undo_need};
 use crate::waits::{unwait_need, wait_need};
 use facility::Command;
 use member_intents::{Intent, Sent, Test};
-use member_marks::Marks;
+use member_marks::{Marks, Owner};
 use page_format::Page;
 
 /// What the tests look at beside the marks and the pages.
@@ -51,9 +51,9 @@ pub fn need(marks: &Marks, pages: &[Page], setting: &Setting, intent: &Intent) -
         Intent::Answer { asker, name, mode } => {
             answer_need(marks, asker, &name, mode, setting.place)
         }
-        Intent::ReleaseLock { slot } => release_need(marks, slot),
+        Intent::ReleaseLock { slot } => release_need(marks, &Owner::Slot(slot)),
         Intent::ReleasePage { page } => release_page_need(marks, page),
-        Intent::End { slot } => end_need(marks, slot),
+        Intent::End { slot } => end_need(marks, &Owner::Slot(slot)),
         Intent::Wait { slot, holder, flag } => wait_need(marks, slot, holder, flag),
         Intent::Unwait { slot } => unwait_need(marks, slot),
         Intent::Waits { .. } => Ok(Sent::Command(Command::Waits)),
@@ -69,7 +69,7 @@ pub fn need(marks: &Marks, pages: &[Page], setting: &Setting, intent: &Intent) -
             action,
             frames,
         } => change_need(marks, pages, setting.limit, slot, &action, &frames),
-        Intent::Undo { slot, frame } => undo_need(marks, slot, frame),
+        Intent::Undo { slot, frame } => undo_need(marks, &Owner::Slot(slot), frame),
         Intent::Commit { slot } => commit_need(marks, slot),
         Intent::Append => append_need(marks),
         Intent::NextChanged { after } => Ok(Sent::Command(Command::NextChanged { after })),

@@ -10,7 +10,7 @@ use crate::records::{ROW_CHANGE_BYTES, page_of};
 use ds_base::{Key, NoMemory, PageId, Place, TableId, Value};
 use ds_model::RowChange;
 use member_intents::{Frames, Intent, StepFault, Test};
-use member_marks::Marks;
+use member_marks::{Marks, Owner};
 use page_format::{Page, Patches};
 use page_plans::{Action, RowPlan, heap_page, patches_length, plan, row_change, undo_change};
 use std::alloc::Global;
@@ -129,11 +129,11 @@ fn back_or_fault(found: RowPlan, page: PageId) -> Plan
     }
 }
 
-fn plan_undo(marks: &Marks, pages: &[Page], slot: u8, at: u16) -> Plan
-    ensures exact { result ≡ back_plan (slice_get pages.now at) (newest_of (tran_of marks.now slot)) }
+fn plan_undo(marks: &Marks, pages: &[Page], owner: &Owner, at: u16) -> Plan
+    ensures exact { result ≡ back_plan (slice_get pages.now at) (newest_of (tran_of marks.now owner.now)) }
     ensures allowed { PlanIsAllowed result }
 {
-    let Some(newest) = marks.newest_change(slot) else {
+    let Some(newest) = marks.newest_change(owner) else {
         return Plan::None;
     };
     let Some(page) = pages.get(at as usize) else {
@@ -161,7 +161,7 @@ pub fn plan_for(
         Intent::Change { action, frames, .. } => {
             plan_change(alloc, marks, pages, limit, &action, &frames)
         }
-        Intent::Undo { slot, frame } => Ok(plan_undo(marks, pages, slot, frame)),
+        Intent::Undo { slot, frame } => Ok(plan_undo(marks, pages, &Owner::Slot(slot), frame)),
         _ => Ok(Plan::None),
     }
 }

@@ -11,7 +11,7 @@ use ds_base::{Key, PageId, Place, TableId};
 use facility::{Command, Indexes};
 use lock_names::{Mode, Name};
 use member_intents::{Frames, Sent, Test};
-use member_marks::{Marks, Stage};
+use member_marks::{Marks, Owner, Stage};
 use page_format::Page;
 use page_plans::{Action, action_page, heap_page, place_of};
 
@@ -24,29 +24,29 @@ const SHORT_BYTES: u32 = 22;
 /// The most bytes of a compensation and the Ended record behind it.
 const UNDO_BYTES: u32 = ROW_CHANGE_BYTES + 6 + SHORT_BYTES;
 
-fn has_row(marks: &Marks, slot: u8, table: TableId, key: Key) -> bool
-    ensures { result ≡ allows_row (mode_held marks.now slot (Row table key)) }
+fn has_row(marks: &Marks, owner: &Owner, table: TableId, key: Key) -> bool
+    ensures { result ≡ allows_row (mode_held marks.now owner.now (Row table key)) }
 {
-    matches!(marks.holds(slot, &Name::Row(table, key)), Some(Mode::X))
+    matches!(marks.holds(owner, &Name::Row(table, key)), Some(Mode::X))
 }
 
-fn has_space(marks: &Marks, slot: u8, table: TableId) -> bool
-    ensures { result ≡ allows_space (mode_held marks.now slot (Space table)) }
+fn has_space(marks: &Marks, owner: &Owner, table: TableId) -> bool
+    ensures { result ≡ allows_space (mode_held marks.now owner.now (Space table)) }
 {
     matches!(
-        marks.holds(slot, &Name::Space(table)),
+        marks.holds(owner, &Name::Space(table)),
         Some(Mode::IX | Mode::SIX | Mode::X)
     )
 }
 
 // The owner may change the row.
-fn test_row(marks: &Marks, slot: u8, table: TableId, key: Key) -> Result<(), Test>
-    ensures { result ≡ row_test marks.now slot table key }
+fn test_row(marks: &Marks, owner: &Owner, table: TableId, key: Key) -> Result<(), Test>
+    ensures { result ≡ row_test marks.now owner.now table key }
 {
-    if !has_row(marks, slot, table, key) {
+    if !has_row(marks, owner, table, key) {
         return Err(Test::NoRow);
     }
-    if !has_space(marks, slot, table) {
+    if !has_space(marks, owner, table) {
         return Err(Test::NoSpace);
     }
     Ok(())
@@ -58,7 +58,7 @@ fn test_row_of(marks: &Marks, slot: u8, action: &Action) -> Result<(), Test>
 {
     match action {
         Action::RowChange { table, key, .. } | Action::GiveSlot { table, key, .. } => {
-            test_row(marks, slot, *table, *key)
+            test_row(marks, &Owner::Slot(slot), *table, *key)
         }
         Action::FormatIndex { .. }
         | Action::FormatHeap { .. }
@@ -198,18 +198,18 @@ fn is_undoing(stage: Stage) -> bool
     matches!(stage, Stage::Undoing)
 }
 
-pub fn undo_need(marks: &Marks, slot: u8, at: u16) -> Result<Sent, Test>
-    ensures { result ≡ undo_need marks.now slot at }
+pub fn undo_need(marks: &Marks, owner: &Owner, at: u16) -> Result<Sent, Test>
+    ensures { result ≡ undo_need marks.now owner.now at }
 {
-    if !is_undoing(marks.stage(slot)) {
+    if !is_undoing(marks.stage(owner)) {
         return Err(Test::NotUndoing);
     }
-    let Some(newest) = marks.newest_change(slot) else {
+    let Some(newest) = marks.newest_change(owner) else {
         return Err(Test::NoneStands);
     };
     let change = &newest.change;
     test_frame(marks, at, heap_page(change.table, change.place.page))?;
-    test_row(marks, slot, change.table, change.key)?;
+    test_row(marks, owner, change.table, change.key)?;
     if marks.must_append() {
         return Err(Test::AboveLimit);
     }

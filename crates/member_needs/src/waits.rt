@@ -6,13 +6,13 @@ ghost use Rattle.member_needs.specs.Waits.{tran_test, wait_need, unwait_need};
 use ds_base::TranId;
 use facility::Command;
 use member_intents::{Sent, Test};
-use member_marks::Marks;
+use member_marks::{Marks, Owner};
 
 // The slot has a transaction.
 fn test_tran(marks: &Marks, slot: u8) -> Result<(), Test>
     ensures { result ≡ tran_test marks.now slot }
 {
-    if marks.tran(slot).number == 0 {
+    if marks.tran(&Owner::Slot(slot)).number == 0 {
         return Err(Test::NoTransaction);
     }
     Ok(())
@@ -23,7 +23,7 @@ pub fn wait_need(marks: &Marks, slot: u8, holder: TranId, flag: u8) -> Result<Se
 {
     test_tran(marks, slot)?;
     Ok(Sent::Command(Command::Wait {
-        tran: marks.tran(slot),
+        tran: marks.tran(&Owner::Slot(slot)),
         holder,
         flag,
     }))
@@ -34,6 +34,6 @@ pub fn unwait_need(marks: &Marks, slot: u8) -> Result<Sent, Test>
 {
     test_tran(marks, slot)?;
     Ok(Sent::Command(Command::Unwait {
-        tran: marks.tran(slot),
+        tran: marks.tran(&Owner::Slot(slot)),
     }))
 }

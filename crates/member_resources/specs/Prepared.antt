@@ -5,7 +5,7 @@ use Rattle.member_intents.specs.declared.intent.Intent.TheVariants as intent
 use Rattle.member_intents.specs.declared.outcome.Sent.{Sent}
 use Rattle.member_intents.specs.declared.test.Test.{Test}
 use Rattle.member_trans.specs.Trans.{with_tran, with_room}
-use Rattle.member_marks.specs.State.{tran_of, with_trans}
+use Rattle.member_marks.specs.State.{slot_tran, with_trans}
 use Rattle.member_needs.specs.declared.needs.Setting.{Setting}
 use Rattle.member_needs.specs.declared.plans.Plan.{Plan}
 use Rattle.member_needs.specs.Needs.{need_of}
@@ -39,7 +39,7 @@ abbrev pub HasSpare : Held → Held → Type 0
 HasSpare h k = (1 ≤ k.marks.locks.spare) × (h.marks.locks.spare ≤ k.marks.locks.spare) × (k ≡ with_spare h k.marks.locks.spare)
 
 abbrev pub with_change_room : Held → ℕ → Held
-with_change_room h slot = with_marks h (with_trans h.marks (with_tran h.marks.trans slot (with_room (tran_of h.marks slot))))
+with_change_room h slot = with_marks h (with_trans h.marks (with_tran h.marks.trans slot (with_room (slot_tran h.marks slot))))
 
 abbrev pub Reserves : Intent → Held → Held → Type 0
 Reserves (intent.Obtain slot n m) h k = HasSpare h k

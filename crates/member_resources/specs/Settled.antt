@@ -9,6 +9,7 @@ use Rattle.facility.specs.declared.command.Reply.TheVariants as reply
 use Rattle.member_intents.specs.declared.intent.Frames.{Frames}
 use Rattle.member_intents.specs.declared.intent.Intent.{Intent}
 use Rattle.member_intents.specs.declared.intent.Intent.TheVariants as intent
+use Rattle.member_trans.specs.declared.fate.Owner.TheVariants as owner
 use Rattle.member_marks.specs.Frames.{after_filled}
 use Rattle.member_marks.specs.Records.{after_append}
 use Rattle.member_needs.specs.declared.castout.Cast.{Cast}
@@ -54,9 +55,9 @@ drawn h slot frames p answer place = with_kept h (drawn_after (kept_of h) slot f
 -- after the reply to an intent that claims no lock, and doesn't look for a cycle
 abbrev pub settled : Held → Intent → Plan → Reply → ℕ → Held
 settled h (intent.Answers slot n m asked) p answer place = with_marks h (answered_after h.marks slot n m asked answer)
-settled h (intent.ReleaseLock slot) p answer place = with_marks h (released_after h.marks slot answer)
+settled h (intent.ReleaseLock slot) p answer place = with_marks h (released_after h.marks (owner.Slot slot) answer)
 settled h (intent.ReleasePage page) p answer place = with_marks h (page_released_after h.marks page answer)
-settled h (intent.End slot) p answer place = with_marks h (ended_after h.marks slot answer)
+settled h (intent.End slot) p answer place = with_marks h (ended_after h.marks (owner.Slot slot) answer)
 settled h (intent.Read frame) p answer place = with_marks h (read_after h.marks frame answer)
 settled h (intent.Test frame slot gives) p answer place = with_marks h (tested_after h.marks h.pages frame slot gives h.limit answer place)
 settled h (intent.WritePage frame) p answer place = with_marks h (written_after h.marks frame answer)

@@ -19,6 +19,7 @@ use member_effects::{
     unregistered, written,
 };
 use member_intents::{Frames, Intent};
+use member_marks::Owner;
 use member_needs::{Cast, Plan};
 use std::alloc::Global;
 
@@ -131,9 +132,9 @@ impl Resources {
             } => answered(&mut self.marks, slot, &name, mode, asked, reply),
             Intent::Status { .. } => status_told(reply),
             Intent::Take { .. } => query_told(reply),
-            Intent::ReleaseLock { slot } => released(&mut self.marks, slot, reply),
+            Intent::ReleaseLock { slot } => released(&mut self.marks, &Owner::Slot(slot), reply),
             Intent::ReleasePage { page } => page_released(&mut self.marks, page, reply),
-            Intent::End { slot } => ended(&mut self.marks, slot, reply),
+            Intent::End { slot } => ended(&mut self.marks, &Owner::Slot(slot), reply),
             Intent::Flag { .. } => flag_told(reply),
             Intent::Read { frame } => read(&mut self.marks, frame, reply),
             Intent::Test { frame, slot, gives } => tested(

@@ -3,13 +3,13 @@
 use crate::run::{Run, Work};
 use crate::state::MemberState;
 use ds_base::NoMemory;
-use member_marks::Marks;
+use member_marks::{Marks, Owner};
 use page_plans::first_page;
 
 fn run_of(owner: u8, work: &Work, marks: &Marks) -> Option<Run> {
     let page = match work {
         Work::Change(action) => first_page(action),
-        Work::Compensate => marks.undo_page(owner)?,
+        Work::Compensate => marks.undo_page(&Owner::Slot(owner))?,
     };
     Some(Run::new(owner, work, page))
 }

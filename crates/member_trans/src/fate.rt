@@ -14,6 +14,17 @@ pub enum Stage {
     Decided,
     /// It was refused, and its changes are taken back.
     Undoing,
+    /// Its rollback is postponed, and stands apart. The slot keeps its number.
+    Postponed,
+}
+
+/// Whose a transaction is.
+#[derive(Clone, Copy, Debug, PartialEq, Eq)]
+pub enum Owner {
+    /// The agent of this slot.
+    Slot(u8),
+    /// A postponed rollback, by the number of its first record in the log.
+    Rollback(Lrsn),
 }
 
 /// A row change that stands, by the number of its record.
@@ -23,10 +34,10 @@ pub struct Change {
     pub change: RowChange,
 }
 
-/// A refusal that this event allows for the transaction of a slot, and the event in which its cause held.
+/// A refusal that this event allows for the owner's transaction, and the event in which its cause held.
 #[derive(Debug, Drop)]
 pub struct Offer {
-    pub slot: u8,
+    pub owner: Owner,
     pub refusal: Refusal,
     pub place: u64,
 }

@@ -1,5 +1,6 @@
 ghost use Rattle.std.specs.Prelude.{◌≡◌, ◌<◌, ◌++◌, ◌∷◌, [], replicate, false, slice_index_or, vec_len, vec_capacity, OnOk, OnErr};
-ghost use Rattle.member_trans.specs.Trans.{free_tran, begun, drawn, decided_tran, undoing, changed, with_set, with_undone, with_released, with_room, newest_of, first_with};
+ghost use Rattle.member_trans.specs.declared.fate.Stage.TheVariants.{Postponed};
+ghost use Rattle.member_trans.specs.Trans.{free_tran, begun, drawn, decided_tran, undoing, changed, with_set, with_undone, with_released, with_room, newest_of, first_with, left_open};
 
 use crate::fate::{Change, Stage};
 use ds_base::{Lrsn, NoMemory};
@@ -10,7 +11,7 @@ use std::marker::Model;
 /// How many numbers there are for page sets: 0 stands for none.
 const SETS: usize = 129;
 
-/// The transaction of a slot.
+/// The transaction of a slot, or a postponed rollback.
 #[derive(Drop)]
 pub struct Slot {
     pub stage: Stage,
@@ -83,6 +84,30 @@ impl Slot {
             ended: no_number(),
             released: false,
             has_room: false,
+        }
+    }
+
+    /// What a slot keeps of a transaction of this number whose rollback is postponed.
+    pub fn left_behind(alloc: Global, number: u32) -> Slot
+        ensures { result ≡ record free_tran { stage = Postponed; number = number } }
+    {
+        Slot {
+            stage: Stage::Postponed,
+            number,
+            ..Slot::new(alloc)
+        }
+    }
+
+    /// A rollback that a restart left, by its first number, with the changes that stand.
+    pub fn left_open(alloc: Global, id: Lrsn, changes: Vec<Change>, undone: bool) -> Slot
+        ensures { result ≡ left_open id changes.items undone }
+    {
+        Slot {
+            stage: Stage::Undoing,
+            first: id,
+            changes,
+            undone,
+            ..Slot::new(alloc)
         }
     }
 

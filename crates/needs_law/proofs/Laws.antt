@@ -16,6 +16,8 @@ use Rattle.member_intents.specs.declared.outcome.Sent.{Sent}
 use Rattle.member_intents.specs.declared.outcome.Sent.TheVariants as sent
 use Rattle.member_intents.specs.declared.test.Test.TheVariants.{NotWritten}
 use Rattle.member_trans.specs.declared.fate.Change.{Change}
+use Rattle.member_trans.specs.declared.fate.Owner.{Owner}
+use Rattle.member_trans.specs.declared.fate.Owner.TheVariants as owner
 use Rattle.member_trans.specs.Trans.{is_undoing, newest_of}
 use Rattle.member_marks.specs.State.{MarksState, tran_of}
 use Rattle.member_marks.specs.Claims.{releasing, releasing_page}
@@ -61,19 +63,19 @@ may_claim false s slot n m e = slot_claims s slot n m e
 
 -- ---- ends
 
-may_close : (s : MarksState) (slot : ℕ) → over_test s slot ≡ passed → MayClose s slot
-may_close s slot e =
+may_close : (s : MarksState) (o : Owner) → over_test s o ≡ passed → MayClose s o
+may_close s o e =
     let a = when_ok _ _ _ e in
     let b = when_ok _ _ _ a.1 in
     record { over = a.0; clean = b.0 }
 
-releases : (s : MarksState) (slot : ℕ) (next : Option (Name × Interest)) (out : Sent) → releasing s slot ≡ next → over_test s slot ≡ passed → gives_up next ≡ Ok out → Releases s slot out
-releases s slot None out is over e = cc
-releases s slot (Some x) out is over e = record { told = x; may = may_close s slot over; next = is; is = ok_out _ _ e }
+releases : (s : MarksState) (o : Owner) (next : Option (Name × Interest)) (out : Sent) → releasing s o ≡ next → over_test s o ≡ passed → gives_up next ≡ Ok out → Releases s o out
+releases s o None out is over e = cc
+releases s o (Some x) out is over e = record { told = x; may = may_close s o over; next = is; is = ok_out _ _ e }
 
-ends_tran : (s : MarksState) (slot : ℕ) (next : Option (Name × Interest)) (out : Sent) → releasing s slot ≡ next → over_test s slot ≡ passed → ends s slot next ≡ Ok out → EndsTran s slot out
-ends_tran s slot None out is over e = record { may = may_close s slot over; none = is; is = ok_out _ _ e }
-ends_tran s slot (Some x) out is over e = cc
+ends_tran : (s : MarksState) (o : Owner) (next : Option (Name × Interest)) (out : Sent) → releasing s o ≡ next → over_test s o ≡ passed → ends s o next ≡ Ok out → EndsTran s o out
+ends_tran s o None out is over e = record { may = may_close s o over; none = is; is = ok_out _ _ e }
+ends_tran s o (Some x) out is over e = cc
 
 releases_page : (s : MarksState) (page : PageId) (next : Option (Name × Interest)) (out : Sent) → releasing_page s page ≡ next → gives_up_page (is_page_changed s page) next ≡ Ok out → ReleasesPage s page out
 releases_page s page None out is e = cc
@@ -134,15 +136,15 @@ frees_frame s at (Some page) out is e =
 
 -- ---- changes
 
-may_change_row : (s : MarksState) (slot table key : ℕ) → row_test s slot table key ≡ passed → MayChangeRow s slot table key
-may_change_row s slot table key e =
+may_change_row : (s : MarksState) (o : Owner) (table key : ℕ) → row_test s o table key ≡ passed → MayChangeRow s o table key
+may_change_row s o table key e =
     let a = when_ok _ _ _ e in
     let b = when_ok _ _ _ a.1 in
     record { row = a.0; space = b.0 }
 
 may_change : (s : MarksState) (slot : ℕ) (a : Action) → action_test s slot a ≡ passed → MayChange s slot a
-may_change s slot (action.RowChange table key place value) e = may_change_row s slot table key e
-may_change s slot (action.GiveSlot table key leaf) e = may_change_row s slot table key e
+may_change s slot (action.RowChange table key place value) e = may_change_row s (owner.Slot slot) table key e
+may_change s slot (action.GiveSlot table key leaf) e = may_change_row s (owner.Slot slot) table key e
 may_change s slot (action.FormatIndex table) e = tt
 may_change s slot (action.FormatHeap table) e = tt
 may_change s slot (action.Split table left) e = tt
@@ -192,9 +194,9 @@ changes s pages most slot a frames out e =
       is = ok_out _ _ held.1;
     }
 
-undoes_newest : (s : MarksState) (slot at : ℕ) (newest : Option Change) (out : Sent) → newest_of (tran_of s slot) ≡ newest → is_undoing (tran_of s slot).stage ≡ true → undoes s slot at newest ≡ Ok out → Undoes s slot at out
-undoes_newest s slot at None out is undoing e = cc
-undoes_newest s slot at (Some it) out is undoing e =
+undoes_newest : (s : MarksState) (o : Owner) (at : ℕ) (newest : Option Change) (out : Sent) → newest_of (tran_of s o) ≡ newest → is_undoing (tran_of s o).stage ≡ true → undoes s o at newest ≡ Ok out → Undoes s o at out
+undoes_newest s o at None out is undoing e = cc
+undoes_newest s o at (Some it) out is undoing e =
     let held = after_ok _ _ _ e in
     let row = after_ok _ _ _ held.1 in
     let last = after_ok _ _ _ row.1 in
@@ -205,16 +207,16 @@ undoes_newest s slot at (Some it) out is undoing e =
       undoing = undoing;
       stands = is;
       holds = holds_page s at _ (page_of s at) refl held.0;
-      row = may_change_row s slot _ _ row.0;
+      row = may_change_row s o _ _ row.0;
       below = not_true _ below.0;
       room = room.0;
       is = ok_out _ _ last.1;
     }
 
-undoes_change : (s : MarksState) (slot at : ℕ) (out : Sent) → undo_need s slot at ≡ Ok out → Undoes s slot at out
-undoes_change s slot at out e =
+undoes_change : (s : MarksState) (o : Owner) (at : ℕ) (out : Sent) → undo_need s o at ≡ Ok out → Undoes s o at out
+undoes_change s o at out e =
     let a = after_ok _ _ _ e in
-    undoes_newest s slot at (newest_of (tran_of s slot)) out refl (when_ok _ _ _ a.0).0 a.1
+    undoes_newest s o at (newest_of (tran_of s o)) out refl (when_ok _ _ _ a.0).0 a.1
 
 commits : (s : MarksState) (slot : ℕ) (out : Sent) → commit_need s slot ≡ Ok out → Commits s slot out
 commits s slot out e =
@@ -257,9 +259,9 @@ lawful s pages c (intent.Answers slot n m asked) out e = ok_out _ _ e
 lawful s pages c (intent.Status member) out e = ok_out _ _ e
 lawful s pages c (intent.Take past) out e = ok_out _ _ e
 lawful s pages c (intent.Answer asker n m) out e = asks _ _ _ out (λ h. not_true _ (when_ok _ _ _ h).0) e
-lawful s pages c (intent.ReleaseLock slot) out e = let a = after_ok _ _ _ e in releases s slot (releasing s slot) out refl a.0 a.1
+lawful s pages c (intent.ReleaseLock slot) out e = let a = after_ok _ _ _ e in releases s (owner.Slot slot) (releasing s (owner.Slot slot)) out refl a.0 a.1
 lawful s pages c (intent.ReleasePage page) out e = releases_page s page (releasing_page s page) out refl e
-lawful s pages c (intent.End slot) out e = let a = after_ok _ _ _ e in ends_tran s slot (releasing s slot) out refl a.0 a.1
+lawful s pages c (intent.End slot) out e = let a = after_ok _ _ _ e in ends_tran s (owner.Slot slot) (releasing s (owner.Slot slot)) out refl a.0 a.1
 lawful s pages c (intent.Wait slot holder flag) out e = asks _ (tran_test s slot) _ out (λ h. nonzero _ (when_ok _ _ _ h).0) e
 lawful s pages c (intent.Unwait slot) out e = asks _ (tran_test s slot) _ out (λ h. nonzero _ (when_ok _ _ _ h).0) e
 lawful s pages c (intent.Waits slots) out e = ok_out _ _ e
@@ -271,7 +273,7 @@ lawful s pages c (intent.Test frame slot gives) out e = tests_frame s frame slot
 lawful s pages c (intent.WritePage frame) out e = writes_frame s pages frame (page_of s frame) out refl e
 lawful s pages c (intent.Unregister frame) out e = frees_frame s frame (page_of s frame) out refl e
 lawful s pages c (intent.Change slot action frames) out e = changes s pages c.limit slot action frames out e
-lawful s pages c (intent.Undo slot frame) out e = undoes_change s slot frame out e
+lawful s pages c (intent.Undo slot frame) out e = undoes_change s (owner.Slot slot) frame out e
 lawful s pages c (intent.Commit slot) out e = commits s slot out e
 lawful s pages c intent.Append out e = appends s out e
 lawful s pages c (intent.NextChanged past) out e = ok_out _ _ e

@@ -20,8 +20,10 @@ use Rattle.member_intents.specs.declared.outcome.Sent.{Sent}
 use Rattle.member_intents.specs.declared.outcome.Sent.TheVariants as sent
 use Rattle.member_log.specs.Buffers.{room_of}
 use Rattle.member_trans.specs.declared.fate.Change.{Change}
+use Rattle.member_trans.specs.declared.fate.Owner.{Owner}
+use Rattle.member_trans.specs.declared.fate.Owner.TheVariants as owner
 use Rattle.member_trans.specs.Trans.{is_forward, is_undoing, is_over_at, newest_of}
-use Rattle.member_marks.specs.State.{MarksState, tran_of, id_of}
+use Rattle.member_marks.specs.State.{MarksState, tran_of, slot_tran, id_of, slot_id}
 use Rattle.member_marks.specs.Claims.{is_for_agents, mode_held, has_page, has_page_room, answer_to, releasing, releasing_page}
 use Rattle.member_marks.specs.Frames.{frame_in, to_write}
 use Rattle.member_needs.specs.declared.castout.Cast.{Cast}
@@ -36,9 +38,9 @@ use Rattle.member_needs.specs.Needs.{need_of}
 -- ---- claims
 
 pub record SlotClaims (s : MarksState) (slot : ℕ) (n : Name) (m : Mode) : Type 0 where
-  pub forward : is_forward (tran_of s slot).stage ≡ true
+  pub forward : is_forward (slot_tran s slot).stage ≡ true
   pub of_slot : is_for_agents n ≡ true
-  pub joined : is_joined (mode_held s slot n) m ≡ true
+  pub joined : is_joined (mode_held s (owner.Slot slot) n) m ≡ true
 
 pub record PageClaims (s : MarksState) (page : PageId) (m : Mode) : Type 0 where
   pub in_x : is_x m ≡ true
@@ -57,20 +59,20 @@ MayClaim false s slot n m = SlotClaims s slot n m
 
 -- ---- ends
 
-pub record MayClose (s : MarksState) (slot : ℕ) : Type 0 where
-  pub over : is_over_at (tran_of s slot) s.log.stable ≡ true
-  pub clean : ((tran_of s slot).released || is_none (to_write s slot)) ≡ true
+pub record MayClose (s : MarksState) (o : Owner) : Type 0 where
+  pub over : is_over_at (tran_of s o) s.log.stable ≡ true
+  pub clean : ((tran_of s o).released || is_none (to_write s o)) ≡ true
 
-pub record Releases (s : MarksState) (slot : ℕ) (out : Sent) : Type 0 where
+pub record Releases (s : MarksState) (o : Owner) (out : Sent) : Type 0 where
   pub told : Name × Interest
-  pub may : MayClose s slot
-  pub next : releasing s slot ≡ Some told
+  pub may : MayClose s o
+  pub next : releasing s o ≡ Some told
   pub is : out ≡ sent.Command (command.Release told.0 told.1)
 
-pub record EndsTran (s : MarksState) (slot : ℕ) (out : Sent) : Type 0 where
-  pub may : MayClose s slot
-  pub none : releasing s slot ≡ None
-  pub is : out ≡ sent.Command (command.End (id_of s slot))
+pub record EndsTran (s : MarksState) (o : Owner) (out : Sent) : Type 0 where
+  pub may : MayClose s o
+  pub none : releasing s o ≡ None
+  pub is : out ≡ sent.Command (command.End (id_of s o))
 
 pub record ReleasesPage (s : MarksState) (page : PageId) (out : Sent) : Type 0 where
   pub told : Name × Interest
@@ -96,7 +98,7 @@ pub record FillsFrame (s : MarksState) (at : ℕ) (out : Sent) : Type 0 where
   pub is : out ≡ sent.ReadPage page
 
 pub record IsHeader (s : MarksState) (page : PageId) (slot table : ℕ) : Type 0 where
-  pub forward : is_forward (tran_of s slot).stage ≡ true
+  pub forward : is_forward (slot_tran s slot).stage ≡ true
   pub header : same_page page (heap_page table 0) ≡ true
   pub claimed : has_page s page ≡ true
 
@@ -129,13 +131,13 @@ pub record FreesFrame (s : MarksState) (at : ℕ) (out : Sent) : Type 0 where
 
 -- ---- changes
 
-pub record MayChangeRow (s : MarksState) (slot table key : ℕ) : Type 0 where
-  pub row : allows_row (mode_held s slot (name.Row table key)) ≡ true
-  pub space : allows_space (mode_held s slot (name.Space table)) ≡ true
+pub record MayChangeRow (s : MarksState) (o : Owner) (table key : ℕ) : Type 0 where
+  pub row : allows_row (mode_held s o (name.Row table key)) ≡ true
+  pub space : allows_space (mode_held s o (name.Space table)) ≡ true
 
 abbrev pub MayChange : MarksState → ℕ → Action → Type 0
-MayChange s slot (action.RowChange table key place value) = MayChangeRow s slot table key
-MayChange s slot (action.GiveSlot table key leaf) = MayChangeRow s slot table key
+MayChange s slot (action.RowChange table key place value) = MayChangeRow s (owner.Slot slot) table key
+MayChange s slot (action.GiveSlot table key leaf) = MayChangeRow s (owner.Slot slot) table key
 MayChange s slot (action.FormatIndex table) = Unit {0}
 MayChange s slot (action.FormatHeap table) = Unit {0}
 MayChange s slot (action.Split table left) = Unit {0}
@@ -162,7 +164,7 @@ pub record HoldsPages (s : MarksState) (a : Action) (frames : Frames) (place : O
   pub third : HoldsNth s (frame_of frames 2) (action_page a 2 place)
 
 pub record MayDraw (s : MarksState) (slot : ℕ) : Type 0 where
-  pub forward : is_forward (tran_of s slot).stage ≡ true
+  pub forward : is_forward (slot_tran s slot).stage ≡ true
   pub below : must_append s ≡ false
 
 pub record Changes (s : MarksState) (pages : List (List ℕ)) (most slot : ℕ) (a : Action) (frames : Frames) (out : Sent) : Type 0 where
@@ -171,12 +173,12 @@ pub record Changes (s : MarksState) (pages : List (List ℕ)) (most slot : ℕ) 
   pub holds : HoldsPages s a frames (place_by pages most a frames)
   pub is : out ≡ sent.Command (command.Draw (indexes_of frames))
 
-pub record Undoes (s : MarksState) (slot at : ℕ) (out : Sent) : Type 0 where
+pub record Undoes (s : MarksState) (o : Owner) (at : ℕ) (out : Sent) : Type 0 where
   pub newest : Change
-  pub undoing : is_undoing (tran_of s slot).stage ≡ true
-  pub stands : newest_of (tran_of s slot) ≡ Some newest
+  pub undoing : is_undoing (tran_of s o).stage ≡ true
+  pub stands : newest_of (tran_of s o) ≡ Some newest
   pub holds : HoldsPage s at (change_page newest.change)
-  pub row : MayChangeRow s slot newest.change.table newest.change.key
+  pub row : MayChangeRow s o newest.change.table newest.change.key
   pub below : must_append s ≡ false
   pub room : nat_le undo_bytes (room_of s.log) ≡ true
   pub is : out ≡ sent.Command (command.DrawUndo (record { count = 1; at = at ∷ 0 ∷ 0 ∷ [] }))
@@ -219,11 +221,11 @@ Lawful s pages c (intent.Answers slot n m asked) out = out ≡ sent.Command (com
 Lawful s pages c (intent.Status member) out = out ≡ sent.Command (command.Status member)
 Lawful s pages c (intent.Take past) out = out ≡ sent.Command (command.Take past)
 Lawful s pages c (intent.Answer asker n m) out = Asks (is_page_claimed s n ≡ false) (command.Answer asker n m (answer_to s n m) c.place) out
-Lawful s pages c (intent.ReleaseLock slot) out = Releases s slot out
+Lawful s pages c (intent.ReleaseLock slot) out = Releases s (owner.Slot slot) out
 Lawful s pages c (intent.ReleasePage page) out = ReleasesPage s page out
-Lawful s pages c (intent.End slot) out = EndsTran s slot out
-Lawful s pages c (intent.Wait slot holder flag) out = Asks ((id_of s slot).number ≢ 0) (command.Wait (id_of s slot) holder flag) out
-Lawful s pages c (intent.Unwait slot) out = Asks ((id_of s slot).number ≢ 0) (command.Unwait (id_of s slot)) out
+Lawful s pages c (intent.End slot) out = EndsTran s (owner.Slot slot) out
+Lawful s pages c (intent.Wait slot holder flag) out = Asks ((slot_id s slot).number ≢ 0) (command.Wait (slot_id s slot) holder flag) out
+Lawful s pages c (intent.Unwait slot) out = Asks ((slot_id s slot).number ≢ 0) (command.Unwait (slot_id s slot)) out
 Lawful s pages c (intent.Waits slots) out = out ≡ sent.Command command.Waits
 Lawful s pages c (intent.Flag flag) out = out ≡ sent.Command (command.Flag flag)
 Lawful s pages c (intent.Raise flag) out = out ≡ sent.Command (command.Raise flag)
@@ -233,7 +235,7 @@ Lawful s pages c (intent.Test frame slot gives) out = TestsFrame s frame slot gi
 Lawful s pages c (intent.WritePage frame) out = WritesFrame s pages frame out
 Lawful s pages c (intent.Unregister frame) out = FreesFrame s frame out
 Lawful s pages c (intent.Change slot action frames) out = Changes s pages c.limit slot action frames out
-Lawful s pages c (intent.Undo slot frame) out = Undoes s slot frame out
+Lawful s pages c (intent.Undo slot frame) out = Undoes s (owner.Slot slot) frame out
 Lawful s pages c (intent.Commit slot) out = Commits s slot out
 Lawful s pages c intent.Append out = Appends s out
 Lawful s pages c (intent.NextChanged past) out = out ≡ sent.Command (command.NextChanged past)

@@ -3,4 +3,4 @@ use Rattle.member_marks.specs.Frames.{first_changed}
 use Rattle.member_marks.proofs.frames.first_changed.Given as goal
 
 abbrev pub invariant-loop-set : goal.invariant-loop-set
-invariant-loop-set l = first_changed l.heads l.trans l.slot l.set (129 - l.set) ≡ first_changed l.heads l.trans l.slot 1 128
+invariant-loop-set l = first_changed l.heads l.trans l.owner l.set (129 - l.set) ≡ first_changed l.heads l.trans l.owner 1 128
