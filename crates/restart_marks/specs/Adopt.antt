@@ -1,22 +1,9 @@
 -- Transactions that wait for the restart of another member.
-use Rattle.std.specs.Prelude.{ℕ, ◌==◌, min, Bool, ◌&&◌, if◌then◌else◌, List, ◌++◌, length, take, drop, map, filter, is_none, Option, None, Some}
-use Rattle.log_trans.specs.declared.opened.OpenTran.{OpenTran}
+use Rattle.std.specs.Prelude.{◌==◌, Bool, ◌&&◌, if◌then◌else◌, length, is_none, Option, None, Some}
 use Rattle.restart_marks.specs.declared.adopt.Adopted.{Adopted}
 use Rattle.restart_marks.specs.declared.marks.KeptBy.{KeptBy}
-use Rattle.restart_marks.specs.declared.trans.RestartTran.{RestartTran}
-use Rattle.restart_marks.specs.Trans.{is_open, no_trans}
+use Rattle.restart_records.specs.Trans.{opened_among, no_trans}
 use Rattle.restart_marks.specs.State.{RestartState, with_trans}
-
--- how many of its row changes stand
-abbrev pub kept_in : RestartTran → ℕ
-kept_in t = min t.stands (length t.tran.undo)
-
--- the transaction as it stands now: the changes that were taken back stand behind those that were before
-abbrev pub open_of : RestartTran → OpenTran
-open_of t = record { id = t.tran.id; undo = take (kept_in t) t.tran.undo; undone = t.tran.undone ++ drop (kept_in t) t.tran.undo }
-
-abbrev pub opened_among : List RestartTran → List OpenTran
-opened_among list = map open_of (filter is_open list)
 
 -- all names that open transactions need are retained, and nothing is in hand, claimed or pending
 abbrev pub may_adopt : RestartState → Bool

@@ -7,7 +7,7 @@ use Rattle.restart_marks.specs.declared.intent.RestartSent.{RestartSent}
 use Rattle.restart_marks.specs.declared.intent.RestartSent.TheVariants as sent
 use Rattle.restart_marks.specs.declared.intent.RestartTest.{RestartTest}
 use Rattle.restart_marks.specs.declared.intent.RestartTest.TheVariants.{NotRetained, NotPlaced, StillPlaced, NotRegistered, NotFilled, StillFilled, NotChanged, StillChanged, NotStable, NotFirst, NotBrought, NotClaimed, StillClaimed}
-use Rattle.restart_marks.specs.declared.queue.TurnKey.{TurnKey}
+use Rattle.restart_records.specs.declared.queue.TurnKey.{TurnKey}
 use Rattle.restart_marks.specs.Moves.{is_same, is_claimed}
 use Rattle.restart_marks.specs.OwnNeeds.{listed_test}
 use Rattle.restart_marks.specs.State.{RestartState}

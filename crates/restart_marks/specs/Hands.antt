@@ -5,10 +5,10 @@ use Rattle.facility.specs.declared.command.Reply.{Reply}
 use Rattle.facility.specs.declared.command.Reply.TheVariants as reply
 use Rattle.write_order.specs.declared.rank.Rank.{Rank}
 use Rattle.restart_marks.specs.declared.hand.Hand.{Hand}
-use Rattle.restart_marks.specs.declared.queue.TurnKey.{TurnKey}
+use Rattle.restart_records.specs.declared.queue.TurnKey.{TurnKey}
 use Rattle.restart_marks.specs.declared.told.RestartTold.{RestartTold}
 use Rattle.restart_marks.specs.declared.told.RestartTold.TheVariants as told
-use Rattle.restart_marks.specs.Queue.{ranked_key, put_in, taken_out}
+use Rattle.restart_records.specs.Queue.{ranked_key, put_in, taken_out}
 use Rattle.restart_marks.specs.State.{RestartState, with_hand, with_pages}
 
 abbrev pub parked_told : Reply → RestartTold

@@ -1,8 +1,3 @@
-pub mod Queue
-pub mod Maps
-pub mod Names
-pub mod Own
-pub mod Trans
 pub mod State
 pub mod Moves
 pub mod Tested

@@ -6,9 +6,9 @@ use Rattle.facility.specs.declared.command.Reply.{Reply}
 use Rattle.facility.specs.declared.command.Reply.TheVariants as reply
 use Rattle.restart_marks.specs.declared.told.RestartTold.{RestartTold}
 use Rattle.restart_marks.specs.declared.told.RestartTold.TheVariants as told
-use Rattle.restart_marks.specs.declared.queue.TurnKey.{TurnKey}
-use Rattle.restart_marks.specs.Names.{retained_now, purged_now}
-use Rattle.restart_marks.specs.Queue.{key_by_name, put_in, taken_out}
+use Rattle.restart_records.specs.declared.queue.TurnKey.{TurnKey}
+use Rattle.restart_records.specs.Names.{retained_now, purged_now}
+use Rattle.restart_records.specs.Queue.{key_by_name, put_in, taken_out}
 use Rattle.restart_marks.specs.State.{RestartState, with_pages, with_names}
 
 -- ---- retained-at

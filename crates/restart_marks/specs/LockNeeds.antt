@@ -11,9 +11,9 @@ use Rattle.restart_marks.specs.declared.intent.RestartSent.{RestartSent}
 use Rattle.restart_marks.specs.declared.intent.RestartSent.TheVariants as sent
 use Rattle.restart_marks.specs.declared.intent.RestartTest.{RestartTest}
 use Rattle.restart_marks.specs.declared.intent.RestartTest.TheVariants.{NotRetained, NotPlaced, NotFilled, StillChanged, OtherPage, PagesFull, NotClaimed, NoneStands, NoRoom, AboveLimit, StillEnding}
-use Rattle.restart_marks.specs.declared.trans.Newest.{Newest}
-use Rattle.restart_marks.specs.Trans.{newest, page_undone, page_of}
-use Rattle.restart_marks.specs.Names.{mark_of}
+use Rattle.restart_records.specs.declared.trans.Newest.{Newest}
+use Rattle.restart_records.specs.Trans.{newest, page_undone, page_of}
+use Rattle.restart_records.specs.Names.{mark_of}
 use Rattle.restart_marks.specs.Moves.{is_same, is_claimed, is_claimed_as}
 use Rattle.restart_marks.specs.OwnNeeds.{recovered_test}
 use Rattle.restart_marks.specs.State.{RestartState}

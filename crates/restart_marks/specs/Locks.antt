@@ -4,7 +4,7 @@ use Rattle.facility.specs.declared.command.Reply.{Reply}
 use Rattle.facility.specs.declared.command.Reply.TheVariants as reply
 use Rattle.restart_marks.specs.declared.told.RestartTold.{RestartTold}
 use Rattle.restart_marks.specs.declared.told.RestartTold.TheVariants as told
-use Rattle.restart_marks.specs.Trans.{page_undone}
+use Rattle.restart_records.specs.Trans.{page_undone}
 use Rattle.restart_marks.specs.State.{RestartState}
 
 -- ---- obtain, grant

@@ -7,8 +7,8 @@ use Rattle.ds_model.specs.declared.log.Body.TheVariants as body
 use Rattle.ds_model.specs.RecordBytes.{record_bytes}
 use Rattle.member_log.specs.Buffers.{LogBuffer, room_of, after_put}
 use Rattle.restart_marks.specs.declared.hand.Hand.{Hand}
-use Rattle.restart_marks.specs.declared.queue.TurnKey.{TurnKey}
-use Rattle.restart_marks.specs.Trans.{is_undone, page_undone, after_end}
+use Rattle.restart_records.specs.declared.queue.TurnKey.{TurnKey}
+use Rattle.restart_records.specs.Trans.{is_undone, page_undone, after_end}
 use Rattle.restart_marks.specs.State.{RestartState, with_hand, with_log, with_trans, no_hand}
 
 pub data Local : Type 0 where

@@ -9,8 +9,8 @@ use Rattle.restart_marks.specs.declared.intent.RestartSent.{RestartSent}
 use Rattle.restart_marks.specs.declared.intent.RestartSent.TheVariants as sent
 use Rattle.restart_marks.specs.declared.intent.RestartTest.{RestartTest}
 use Rattle.restart_marks.specs.declared.intent.RestartTest.TheVariants.{NotRead, AlreadyRead, NoTail, HasTail, NotListed, AlreadyListed, PagesLeft, NotRetained, StillNeeded, SomeLeft, StillPlaced, StillChanged, StillClaimed, StillOpen, NonePending, StillPending}
-use Rattle.restart_marks.specs.Names.{mark_of}
-use Rattle.restart_marks.specs.Own.{next_in}
+use Rattle.restart_records.specs.Names.{mark_of}
+use Rattle.restart_records.specs.Own.{next_in}
 use Rattle.restart_marks.specs.State.{RestartState}
 use Rattle.restart_marks.specs.Tested.{Tested, passed, when, after, sends}
 

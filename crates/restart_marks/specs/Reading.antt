@@ -1,41 +1,23 @@
 -- The own log, as it is read.
-use Rattle.std.specs.Prelude.{ℕ, ◌-◌, Bool, if◌then◌else◌, List, [], ◌∷◌, length, slice_get, Option, None, Some, Result, Ok, Err}
+use Rattle.std.specs.Prelude.{ℕ, if◌then◌else◌, [], ◌∷◌, Option, None, Some, Result, Ok, Err}
 use Rattle.ds_base.specs.declared.names.Volume.TheVariants as volume
-use Rattle.ds_model.specs.declared.log.LogRecord.{LogRecord}
 use Rattle.member_log.specs.Buffers.{started}
 use Rattle.log_record.specs.declared.log.Log.{Log}
 use Rattle.log_record.specs.Logs.{Parts, parts_in}
 use Rattle.log_reader.specs.declared.calls.LogReply.{LogReply}
 use Rattle.log_reader.specs.Readers.{ReaderState, after_reply, is_whole}
 use Rattle.log_trans.specs.declared.damage.Damaged.{Damaged}
-use Rattle.log_trans.specs.declared.opened.OpenTran.{OpenTran}
 use Rattle.log_trans.specs.Courses.{open_trans}
 use Rattle.log_trans.specs.Damage.{log_damage}
 use Rattle.log_trans.specs.Numbers.{greatest}
 use Rattle.restart_marks.specs.declared.told.RestartTold.{RestartTold}
 use Rattle.restart_marks.specs.declared.told.RestartTold.TheVariants as told
-use Rattle.restart_marks.specs.Names.{NameState, all_needed}
-use Rattle.restart_marks.specs.Own.{own_with, own_read, places_by_page}
-use Rattle.restart_marks.specs.Trans.{all_added}
+use Rattle.restart_records.specs.Names.{trans_needed}
+use Rattle.restart_records.specs.Own.{own_with, own_read, places_by_page, last_number}
+use Rattle.restart_records.specs.Trans.{all_added}
 use Rattle.restart_marks.specs.State.{RestartState, with_own}
 
 -- ---- the log is sound
-
-abbrev pub number_in : Option LogRecord → ℕ
-number_in None = 0
-number_in (Some r) = r.lrsn
-
--- the number of the last record, 0 where there is none
-abbrev pub last_number : List LogRecord → ℕ
-last_number records = number_in (slice_get records (length records - 1))
-
--- the names of the transaction's row changes are needed
-abbrev pub tran_needed : NameState → OpenTran → NameState
-tran_needed n o = all_needed (all_needed n o.undo) o.undone
-
-abbrev pub trans_needed : NameState → List OpenTran → NameState
-trans_needed n [] = n
-trans_needed n (o ∷ os) = trans_needed (tran_needed n o) os
 
 abbrev pub entered : RestartState → Log → RestartState
 entered s log = record s {

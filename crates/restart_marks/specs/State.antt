@@ -4,10 +4,10 @@ use Rattle.ds_base.specs.declared.names.PageId.{PageId}
 use Rattle.member_log.specs.Buffers.{LogBuffer, empty_buffer}
 use Rattle.restart_marks.specs.declared.hand.Hand.{Hand}
 use Rattle.restart_marks.specs.declared.marks.KeptBy.{KeptBy}
-use Rattle.restart_marks.specs.declared.queue.TurnKey.{TurnKey}
-use Rattle.restart_marks.specs.Own.{OwnState, IsNewLog}
-use Rattle.restart_marks.specs.Names.{NameState, no_names}
-use Rattle.restart_marks.specs.Trans.{TransState, no_trans}
+use Rattle.restart_records.specs.declared.queue.TurnKey.{TurnKey}
+use Rattle.restart_records.specs.Own.{OwnState, IsNewLog}
+use Rattle.restart_records.specs.Names.{NameState, no_names}
+use Rattle.restart_records.specs.Trans.{TransState, no_trans}
 
 pub record RestartState : Type 0 where
   pub member : ℕ

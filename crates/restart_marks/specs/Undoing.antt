@@ -1,35 +1,15 @@
 -- Changes that are taken back, and the ends of their transactions.
-use Rattle.std.specs.Prelude.{ℕ, ◌+◌, ◌==◌, nat_le, Bool, true, false, not, ◌&&◌, if◌then◌else◌, length, Option, None, Some}
-use Rattle.ds_model.specs.declared.log.LogRecord.{LogRecord}
-use Rattle.ds_model.specs.declared.log.Body.TheVariants as body
-use Rattle.ds_model.specs.RecordBytes.{record_bytes}
-use Rattle.log_record.specs.Changes.{inverse}
-use Rattle.log_trans.specs.declared.opened.OpenTran.{OpenTran}
-use Rattle.member_log.specs.Buffers.{LogBuffer, room_of, after_put, after_force}
-use Rattle.restart_marks.specs.declared.trans.Newest.{Newest}
-use Rattle.restart_marks.specs.declared.trans.RestartTran.{RestartTran}
+use Rattle.std.specs.Prelude.{ℕ, ◌==◌, Bool, true, false, not, ◌&&◌, if◌then◌else◌, Option, None, Some}
+use Rattle.member_log.specs.Buffers.{after_force}
+use Rattle.restart_records.specs.declared.trans.Newest.{Newest}
+use Rattle.restart_records.specs.declared.trans.RestartTran.{RestartTran}
 use Rattle.restart_marks.specs.declared.told.RestartTold.{RestartTold}
 use Rattle.restart_marks.specs.declared.told.RestartTold.TheVariants as told
 use Rattle.restart_marks.specs.Hands.{met}
-use Rattle.restart_marks.specs.Names.{NameState, all_freed}
-use Rattle.restart_marks.specs.Trans.{newest, is_last, ending_in, after_back, after_end, after_finish}
+use Rattle.restart_records.specs.Names.{NameState, tran_freed}
+use Rattle.restart_records.specs.Written.{back_record, ended_record, both_fit, both_logged}
+use Rattle.restart_records.specs.Trans.{newest, is_last, ending_in, after_back, after_end, after_finish}
 use Rattle.restart_marks.specs.State.{RestartState, with_log, with_hand, with_trans}
-
--- ---- the records
-
-abbrev pub back_record : ℕ → ℕ → Newest → LogRecord
-back_record id lrsn it = record { lrsn = lrsn; tran = id; body = body.Compensation (inverse it.change) it.lrsn }
-
-abbrev pub ended_record : ℕ → ℕ → LogRecord
-ended_record id lrsn = record { lrsn = lrsn; tran = id; body = body.Ended }
-
--- there is room for both records
-abbrev pub both_fit : LogBuffer → LogRecord → LogRecord → Bool
-both_fit b r q = nat_le (length (record_bytes r) + length (record_bytes q)) (room_of b)
-
--- the second stands behind the first where that is the last
-abbrev pub both_logged : LogBuffer → LogRecord → LogRecord → Bool → LogBuffer
-both_logged b r q is_last = if is_last then after_put (after_put b r) q else after_put b r
 
 -- ---- the newest change is taken back
 
@@ -65,9 +45,6 @@ abbrev pub stale_after : RestartState → RestartState
 stale_after s = with_hand s (record s.hand { registered = false })
 
 -- ---- the log buffer stands in the log
-
-abbrev pub tran_freed : NameState → OpenTran → NameState
-tran_freed n o = all_freed (all_freed n o.undo) o.undone
 
 abbrev pub names_freed : NameState → Option RestartTran → NameState
 names_freed n None = n

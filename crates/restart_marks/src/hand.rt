@@ -6,10 +6,10 @@ ghost use Rattle.restart_marks.specs.State.{with_hand, no_hand};
 ghost use Rattle.restart_marks.specs.Hands.{parked_told, read_told, read_after, tested_told, tested_after, filled_after, written_told, written_after, ranked_after, brought_after, met, ready_after};
 
 use crate::marks::RestartMarks;
-use crate::queue::TurnKey;
 use crate::told::RestartTold;
 use ds_base::{Lrsn, NoMemory, PageId};
 use facility::Reply;
+use restart_records::{TurnKey, no_number};
 use write_order::Rank;
 
 /// The page in hand, under index 0.
@@ -25,12 +25,6 @@ pub struct Hand {
     pub brought: bool,
     /// The number of the last change that was made to it here.
     pub last: Lrsn,
-}
-
-pub fn no_number() -> Lrsn
-    ensures { result ≡ 0 }
-{
-    Lrsn::new(0).unwrap()
 }
 
 impl Hand {

@@ -17,17 +17,12 @@ mod laws;
 mod listing;
 mod lock_need;
 mod locks;
-mod map;
 mod marks;
 mod moves;
-mod names;
 mod need;
-mod own;
 mod own_need;
-mod queue;
 mod reading;
 mod told;
-mod trans;
 mod undoing;
 
 pub use adopt::Adopted;
@@ -36,12 +31,11 @@ pub use hand::Hand;
 pub use intent::{RestartFault, RestartIntent, RestartSent, RestartTest};
 pub use laws::restart_reaches_on;
 pub use locks::status_told;
-pub use log_trans::OpenTran;
 pub use marks::{KeptBy, RestartMarks};
-pub use names::NameMark;
-pub use queue::TurnKey;
+pub use restart_records::{
+    NameMark, Newest, OpenTran, RestartStage, RestartTran, TurnKey, page_of,
+};
 pub use told::RestartTold;
-pub use trans::{Newest, RestartStage, RestartTran, page_of};
 
 #[cfg(test)]
 mod tests;

@@ -4,11 +4,11 @@ ghost use Rattle.std.specs.Prelude.{◌≡◌, IfOk, OnOk, OnErr};
 ghost use Rattle.restart_marks.specs.Listing.{entered_name, record_told, record_after, purged_told, page_purged_after, name_purged_after, page_freed};
 
 use crate::marks::RestartMarks;
-use crate::queue::TurnKey;
 use crate::told::RestartTold;
 use ds_base::NoMemory;
 use facility::Reply;
 use lock_names::Name;
+use restart_records::TurnKey;
 
 impl RestartMarks {
     fn enter_name(&mut self, name: &Name) -> Result<(), NoMemory>

@@ -8,11 +8,11 @@ ghost use Rattle.restart_marks.specs.LockNeeds.{page_asked, free_test, lock_test
 
 use crate::intent::{RestartSent, RestartTest};
 use crate::marks::RestartMarks;
-use crate::trans::page_of;
 use ds_base::{LRSN_LIMIT, Lrsn, MemberId, PageId};
 use ds_model::RowChange;
 use facility::{Command, Indexes};
 use lock_names::{Interest, Mode, Name};
+use restart_records::page_of;
 
 /// The most bytes of a compensation and of the Ended record behind it.
 const UNDO_BYTES: u32 = 247 + 22;

@@ -1,20 +1,19 @@
 ghost use Rattle.std.specs.Prelude.{◌≡◌, slice_get, None, Some, IfOk, option_copied};
 ghost use Rattle.restart_marks.specs.State.{IsFresh, with_own};
-ghost use Rattle.restart_marks.specs.Trans.{tran_in, page_undone, newest};
-ghost use Rattle.restart_marks.specs.Names.{mark_of};
-ghost use Rattle.restart_marks.specs.Own.{own_with};
-ghost use Rattle.restart_marks.specs.Maps.{places_at};
+ghost use Rattle.restart_records.specs.Trans.{tran_in, page_undone, newest};
+ghost use Rattle.restart_records.specs.Names.{mark_of};
+ghost use Rattle.restart_records.specs.Own.{own_with};
+ghost use Rattle.restart_records.specs.Maps.{places_at};
 
 use crate::hand::Hand;
-use crate::names::{NameMark, Names};
-use crate::own::OwnLog;
-use crate::queue::{Queue, TurnKey};
-use crate::trans::{Newest, RestartTran, RestartTrans, page_of};
 use ds_base::{Lrsn, MemberId, NoMemory, PageId, Sequence};
 use ds_model::LogRecord;
 use lock_names::Name;
 use log_reader::LogReader;
 use member_log::MemberLog;
+use restart_records::{
+    NameMark, Names, Newest, OwnLog, Queue, RestartTran, RestartTrans, TurnKey, page_of,
+};
 use std::alloc::Global;
 use std::marker::Model;
 

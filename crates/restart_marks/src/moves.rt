@@ -7,9 +7,9 @@ ghost use Rattle.restart_marks.specs.Moves.{TakeUpRetained, TakeUpUndone, PutDow
 
 use crate::hand::Hand;
 use crate::marks::RestartMarks;
-use crate::queue::TurnKey;
 use ds_base::{Lrsn, PageId};
 use ds_model::{Body, LogRecord};
+use restart_records::TurnKey;
 
 fn hand_with(page: PageId, key: Option<TurnKey>) -> Hand
     ensures { result ≡ hand_with page key }

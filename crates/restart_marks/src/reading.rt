@@ -7,43 +7,17 @@ ghost use Rattle.ds_model.specs.RecordBytes.{IsAllowed};
 ghost use Rattle.log_trans.specs.Damage.{log_damage};
 ghost use Rattle.log_reader.specs.Readers.{IsRead};
 ghost use Rattle.restart_marks.specs.declared.told.RestartTold.TheVariants as told;
-ghost use Rattle.restart_marks.specs.State.{with_own, with_names};
-ghost use Rattle.restart_marks.specs.Reading.{last_number, tran_needed, trans_needed, entered, judged_told, judged_after, read_told, read_after, read_on_told, read_on_after};
+ghost use Rattle.restart_marks.specs.State.{with_own};
+ghost use Rattle.restart_marks.specs.Reading.{entered, judged_told, judged_after, read_told, read_after, read_on_told, read_on_after};
 
-use crate::hand::no_number;
 use crate::marks::RestartMarks;
-use crate::own::places_of;
 use crate::told::RestartTold;
-use ds_base::{Lrsn, MemberId, NoMemory, Volume};
-use ds_model::LogRecord;
+use ds_base::{MemberId, NoMemory, Volume};
 use log_reader::{LogRead, LogReader, LogReply};
 use log_record::Log;
-use log_trans::{Damaged, OpenTran, find_log_damage, greatest_number, open_trans};
+use log_trans::{Damaged, greatest_number, open_trans};
+use restart_records::{judge, last_number, places_of};
 use std::alloc::Global;
-
-fn last_number(records: &[LogRecord]) -> Lrsn
-    ensures { result ≡ last_number records.now }
-{
-    match records.last() {
-        Some(it) => it.lrsn,
-        None => no_number(),
-    }
-}
-
-// The log, and the first number in it that can't stand there.
-fn judge(alloc: Global, log: Log) -> Result<(Log, Option<Damaged>), NoMemory>
-    requires { AllByRecursion IsAllowed log.records }
-    ensures same { IfOk result (λ judged. judged.0 ≡ log) }
-    ensures found { IfOk result (λ judged. judged.1 ≡ log_damage (log ∷ [])) }
-{
-    let mut logs = Vec::new(alloc);
-    logs.push(log)?;
-    let found = find_log_damage(alloc, &logs)?;
-    let Some(log) = logs.pop() else {
-        unreachable!()
-    };
-    Ok((log, found))
-}
 
 fn damaged(member: MemberId, at: u64) -> RestartTold
     ensures { result ≡ told.Damaged (LogVolume member) at }
@@ -55,23 +29,6 @@ fn damaged(member: MemberId, at: u64) -> RestartTold
 }
 
 impl RestartMarks {
-    fn need_tran(&mut self, it: &OpenTran) -> Result<(), NoMemory>
-        ensures { OnOk result (self.new ≡ with_names self.old (tran_needed self.old.names it.now)) }
-    {
-        self.names.need_all(it.undo.as_slice())?;
-        self.names.need_all(it.undone.as_slice())
-    }
-
-    // The transactions need the names of their row changes.
-    fn need_trans(&mut self, opened: &[OpenTran]) -> Result<(), NoMemory>
-        ensures { OnOk result (self.new ≡ with_names self.old (trans_needed self.old.names opened.now)) }
-    {
-        for it in opened {
-            self.need_tran(it)?;
-        }
-        Ok(())
-    }
-
     // The log is read, and sound.
     fn enter_log(&mut self, alloc: Global, log: Log) -> Result<(), NoMemory>
         ensures { OnOk result (self.new ≡ entered self.old log) }
@@ -80,7 +37,7 @@ impl RestartMarks {
         let places = places_of(alloc, log.records())?;
         let last = last_number(log.records());
         let counter = greatest_number(&log);
-        self.need_trans(opened.as_slice())?;
+        self.names.need_trans(opened.as_slice())?;
         self.trans.add_all(opened)?;
         self.log.start_at(last);
         self.counter = counter;

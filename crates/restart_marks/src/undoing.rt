@@ -1,66 +1,17 @@
 //! Changes that are taken back, and the ends of their transactions.
 
 ghost use Rattle.std.specs.Prelude.{◌≡◌, true, Some};
-ghost use Rattle.ds_model.specs.RecordBytes.{Fits};
 ghost use Rattle.restart_marks.specs.declared.told.RestartTold.TheVariants as told;
-ghost use Rattle.restart_marks.specs.State.{with_log, with_names};
-ghost use Rattle.restart_marks.specs.Trans.{is_at_row, ending_in};
-ghost use Rattle.restart_marks.specs.Undoing.{back_record, ended_record, both_fit, both_logged, may_undo, may_undo_as, hand_changed, taken_back_from, undone_by, undone_told, undone_after, tran_freed, names_freed, forced_after, stale_after};
+ghost use Rattle.restart_marks.specs.State.{with_names};
+ghost use Rattle.restart_records.specs.Trans.{is_at_row, ending_in};
+ghost use Rattle.restart_marks.specs.Undoing.{may_undo, may_undo_as, hand_changed, taken_back_from, undone_by, undone_told, undone_after, names_freed, forced_after, stale_after};
 
 use crate::marks::RestartMarks;
-use crate::names::Names;
 use crate::told::RestartTold;
-use crate::trans::{Newest, RestartTran};
 use ds_base::Lrsn;
-use ds_model::{Body, LogRecord};
-use log_record::{compensation_of, record_length};
-
-fn back_record(id: Lrsn, lrsn: Lrsn, it: &Newest) -> LogRecord
-    ensures { result ≡ back_record id lrsn it.now }
-{
-    LogRecord {
-        lrsn,
-        tran: id,
-        body: compensation_of(&it.change, it.lrsn),
-    }
-}
-
-fn ended_record(id: Lrsn, lrsn: Lrsn) -> LogRecord
-    ensures { result ≡ ended_record id lrsn }
-{
-    LogRecord {
-        lrsn,
-        tran: id,
-        body: Body::Ended,
-    }
-}
-
-fn free_tran(names: &mut Names, it: &RestartTran)
-    ensures { names.new ≡ tran_freed names.old it.now.tran }
-{
-    names.free_all(it.tran.undo.as_slice());
-    names.free_all(it.tran.undone.as_slice());
-}
+use restart_records::{Newest, back_record, both_fit, ended_record, put_both};
 
 impl RestartMarks {
-    fn both_fit(&self, back: &LogRecord, ended: &LogRecord) -> bool
-        requires fits { Fits back.now × Fits ended.now }
-        ensures { result ≡ both_fit self.now.log back.now ended.now }
-    {
-        record_length(back) + record_length(ended) <= self.log.room() as usize
-    }
-
-    fn put_both(&mut self, back: &LogRecord, ended: &LogRecord, is_last: bool)
-        requires fits { Fits back.now × Fits ended.now }
-        requires room { both_fit self.old.log back.now ended.now ≡ true }
-        ensures { self.new ≡ with_log self.old (both_logged self.old.log back.now ended.now is_last) }
-    {
-        let _ = self.log.put(back);
-        if is_last {
-            let _ = self.log.put(ended);
-        }
-    }
-
     /// Whether the log buffer takes the records of the newest change of the transaction that is taken back by this number.
     pub fn may_undo(&self, id: Lrsn, lrsn: Lrsn) -> bool
         ensures { result ≡ may_undo self.now id lrsn }
@@ -73,7 +24,7 @@ impl RestartMarks {
         }
         let back = back_record(id, lrsn, &it);
         let ended = ended_record(id, lrsn);
-        self.both_fit(&back, &ended)
+        both_fit(&self.log, &back, &ended)
     }
 
     // The page in hand is changed by this number.
@@ -102,7 +53,7 @@ impl RestartMarks {
         let is_last = self.trans.is_last(id);
         let back = back_record(id, lrsn, it);
         let ended = ended_record(id, lrsn);
-        self.put_both(&back, &ended, is_last);
+        put_both(&mut self.log, &back, &ended, is_last);
         self.note_changed(lrsn);
         self.take_back(id, is_last);
     }
@@ -136,7 +87,7 @@ impl RestartMarks {
         ensures { self.new ≡ with_names self.old (names_freed self.old.names (ending_in self.old.trans)) }
     {
         if let Some(it) = self.trans.ending() {
-            free_tran(&mut self.names, it);
+            self.names.free_tran(&it.tran);
         }
     }
 

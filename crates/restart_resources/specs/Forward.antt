@@ -4,7 +4,7 @@ use Rattle.ds_base.specs.declared.names.PageId.{PageId}
 use Rattle.ds_model.specs.declared.log.LogRecord.{LogRecord}
 use Rattle.page_records.specs.Places.{places_in}
 use Rattle.page_redo.specs.Forward.{Forward, after_one, go_on, brought_forward}
-use Rattle.restart_marks.specs.Maps.{places_at}
+use Rattle.restart_records.specs.Maps.{places_at}
 use Rattle.restart_marks.specs.State.{RestartState}
 
 abbrev pub before : Option LogRecord → List LogRecord → List LogRecord

@@ -1,6 +1,0 @@
-use Rattle.std.proofs.Common.{◌≡◌}
-use Rattle.restart_marks.specs.Adopt.{opened_among}
-use Rattle.restart_marks.proofs.adopt.opened_among.Given as goal
-
-abbrev pub invariant-loop-tran : goal.invariant-loop-tran
-invariant-loop-tran l = l.opened ≡ opened_among l.yielded

@@ -1,6 +1,0 @@
-use Rattle.std.proofs.Common.{◌≡◌}
-use Rattle.restart_marks.specs.Trans.{all_added}
-use Rattle.restart_marks.proofs.trans.RestartTrans.add_all.Given as goal
-
-abbrev pub invariant-loop-tran : goal.invariant-loop-tran
-invariant-loop-tran l = l.self ≡ all_added l.fn.self l.yielded

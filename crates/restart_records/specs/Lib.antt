@@ -1,0 +1,6 @@
+pub mod Queue
+pub mod Maps
+pub mod Names
+pub mod Own
+pub mod Trans
+pub mod Written
