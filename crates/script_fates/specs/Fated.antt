@@ -1,5 +1,5 @@
 -- Fates as callers see them.
-use Rattle.std.specs.Prelude.{◌≡◌, ℕ, ◌≤◌, ◌==◌, ◌⊎◌, Bool, true, false, List, [], ◌∷◌, ◌++◌, Option, Some, None, slice_index_or}
+use Rattle.std.specs.Prelude.{◌≡◌, ℕ, ◌≤◌, ◌==◌, ◌&&◌, ◌⊎◌, Bool, true, false, List, [], ◌∷◌, ◌++◌, Option, Some, None, slice_index_or}
 use Rattle.std.specs.List.{AllByRecursion, list_any}
 use Rattle.ds_model.specs.declared.fate.Fate.{Fate}
 use Rattle.ds_model.specs.declared.fate.Fate.TheVariants as fate
@@ -55,6 +55,10 @@ has_tran trans n = list_any (λ (t : Tran). t.number == n) trans
 -- the phase has a transaction of this number
 abbrev pub is_in_phase : Phase → ℕ → Bool
 is_in_phase phase n = list_any (λ (p : Part). has_tran p.trans n) phase.parts
+
+-- the member has a transaction of this number in the phase
+abbrev pub is_in_part : Phase → ℕ → ℕ → Bool
+is_in_part phase member n = list_any (λ (p : Part). (member == p.member) && has_tran p.trans n) phase.parts
 
 -- stopped transactions, each with such a number, stand behind the others
 abbrev pub StopsOnly : (ℕ → Bool) → FatesState → FatesState → Type 0

@@ -1,7 +1,7 @@
 ghost use Rattle.std.specs.Prelude.{◌≡◌, ◌≢◌, ◌<◌, ℕ, ◌⊎◌, true, false, length, IfOk, IsSome};
 ghost use Rattle.ds_model.specs.declared.fate.Fate.TheVariants as fate;
 ghost use Rattle.tran_history.specs.Histories.{after_answer};
-ghost use Rattle.script_fates.specs.Fated.{waits_at, is_marked, is_in_phase, Ends, Fixes, Refuses, Stops, StopsOnly, no_fates};
+ghost use Rattle.script_fates.specs.Fated.{waits_at, is_marked, is_in_part, is_in_phase, Ends, Fixes, Refuses, Stops, StopsOnly, no_fates};
 
 use crate::copies::copy_tran;
 use ds_base::{MemberId, NoMemory};
@@ -152,8 +152,8 @@ impl Fates {
         }
     }
 
-    // Stops the transactions of a part of the phase that have no fate.
-    fn stop_part(&mut self, phase: &Phase, at: usize)
+    /// Those of a part of the phase that have no fate are stopped.
+    pub fn stop_part(&mut self, phase: &Phase, at: usize)
         requires { at < length phase.now.parts }
         ensures { StopsOnly (is_in_phase phase.now) self.old self.new }
     {
@@ -168,6 +168,29 @@ impl Fates {
     {
         for at in 0..phase.parts.len() {
             self.stop_part(phase, at);
+        }
+    }
+
+    // Stops the transactions of a part of the phase that have no fate, where it is the member's.
+    fn stop_part_of(&mut self, phase: &Phase, at: usize, member: MemberId)
+        requires { at < length phase.now.parts }
+        ensures { StopsOnly (is_in_part phase.now member) self.old self.new }
+    {
+        let part = &phase.parts.as_slice()[at];
+        if part.member != member {
+            return;
+        }
+        for tran in part.trans.as_slice() {
+            self.end(tran.number, Fate::Stopped);
+        }
+    }
+
+    /// Those of the member's part of the phase that have no fate are stopped.
+    pub fn stop_member(&mut self, phase: &Phase, member: MemberId)
+        ensures { StopsOnly (is_in_part phase.now member) self.old self.new }
+    {
+        for at in 0..phase.parts.len() {
+            self.stop_part_of(phase, at, member);
         }
     }
 
