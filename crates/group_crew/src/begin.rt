@@ -4,7 +4,7 @@ ghost use Rattle.std.specs.Prelude.{◌≡◌, ◌+◌, true, false, length, IfO
 
 use crate::crew::Crew;
 use crate::part::MemberPart;
-use crate::phase::{raisers_of, trans_of};
+use crate::phase::{fail_of, raisers_of, trans_of};
 use cache_structure::CacheFace;
 use ds_base::{NoMemory, TranId};
 use ds_model::Phase;
@@ -20,7 +20,7 @@ fn begin_in_all<P: Policy>(
 ) -> Result<(), NoMemory> {
     for part in parts {
         let trans = trans_of(alloc, phase, part.id)?;
-        part.begin_phase(alloc, trans, raisers)?;
+        part.begin_phase(alloc, trans, raisers, fail_of(phase, part.id))?;
     }
     Ok(())
 }

@@ -13,6 +13,7 @@ use ds_model::Script;
 use facility::Facility;
 use group_restart::GroupRestart;
 use member_intents::Look;
+use member_marks::Marks;
 use member_resources::Policy;
 use script_fates::Fates;
 
@@ -39,14 +40,35 @@ fn make_stale<P>(parts: &mut [MemberPart<P>]) {
     }
 }
 
+/// More rollbacks than a member has postponed at once.
+const ROLLBACKS: u32 = u32::MAX;
+
+// Whether one of the postponed rollbacks waits for a member that is up or restarting.
+fn waits_for_live<C: CacheFace>(facility: &Facility<C>, marks: &Marks) -> bool {
+    for at in 0..ROLLBACKS {
+        match marks.postponed(at) {
+            Some((_, by)) if facility.live(by) => return true,
+            Some(_) => {}
+            None => return false,
+        }
+    }
+    false
+}
+
 // What is seen for a member before an event.
-fn look_for<C: CacheFace>(facility: &Facility<C>, is_half: bool, member: MemberId) -> Look {
+fn look_for<C: CacheFace>(
+    facility: &Facility<C>,
+    is_half: bool,
+    member: MemberId,
+    marks: &Marks,
+) -> Look {
     Look {
         bell: facility.bell(member),
         asked: facility.asked(member),
         is_half,
         is_lost: facility.lost(),
         is_done: facility.done(member),
+        waits_for_live: waits_for_live(facility, marks),
     }
 }
 
@@ -57,7 +79,7 @@ fn find_in_all<C: CacheFace, P: Policy>(
     parts: &mut [MemberPart<P>],
 ) {
     for part in parts {
-        let look = look_for(facility, is_half, part.id);
+        let look = look_for(facility, is_half, part.id, part.resources.marks());
         part.find_ready(&look);
     }
 }

@@ -4,7 +4,7 @@ ghost use Rattle.member_resources.specs.Held.{IsNew};
 use crate::ready::ready_choices;
 use crate::sizes::GroupSizes;
 use ds_base::{MemberId, NoMemory, TranId};
-use ds_model::TranList;
+use ds_model::{FailAt, TranList};
 use member_intents::Look;
 use member_resources::{Policy, Resources};
 use std::alloc::Global;
@@ -28,8 +28,9 @@ impl<P: Policy> MemberPart<P> {
         alloc: Global,
         trans: TranList,
         raisers: &[Option<TranId>],
+        fail: Option<FailAt>,
     ) -> Result<(), NoMemory> {
-        self.policy.begin_phase(alloc, trans, raisers)
+        self.policy.begin_phase(alloc, trans, raisers, fail)
     }
 
     /// Finds what is ready again, if that may have changed.

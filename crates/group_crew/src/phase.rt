@@ -1,7 +1,7 @@
 //! What a phase gives to the members.
 
 use ds_base::{MemberId, NoMemory, TranId};
-use ds_model::{Op, Part, Phase, Tran, TranList};
+use ds_model::{FailAt, Op, Part, Phase, Tran, TranList};
 use script_fates::copy_trans;
 use std::alloc::Global;
 
@@ -49,4 +49,14 @@ pub fn trans_of(alloc: Global, phase: &Phase, member: MemberId) -> Result<TranLi
         }
     }
     Ok(TranList::new(alloc))
+}
+
+/// Where a member fails in a phase.
+pub fn fail_of(phase: &Phase, member: MemberId) -> Option<FailAt> {
+    for part in phase.parts.as_slice() {
+        if part.member == member {
+            return part.fail;
+        }
+    }
+    None
 }

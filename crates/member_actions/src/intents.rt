@@ -3,7 +3,7 @@
 use crate::frames::{last_frame, nth_frame};
 use ds_base::TableId;
 use member_intents::Intent;
-use member_marks::Marks;
+use member_marks::{Marks, Owner};
 use member_resources::Resources;
 use member_state::{Run, RunState, Work, fill_intent, test_intent};
 use page_plans::Action;
@@ -50,7 +50,7 @@ fn changes(run: &Run) -> Intent {
         },
         Work::Compensate => match last_frame(run) {
             Some(frame) => Intent::Undo {
-                slot: run.owner,
+                owner: Owner::Slot(run.owner),
                 frame,
             },
             None => Intent::Step,

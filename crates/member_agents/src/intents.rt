@@ -18,8 +18,12 @@ fn commit_intent(marks: &Marks, slot: u8) -> Intent {
 
 fn release_intent(marks: &Marks, slot: u8) -> Intent {
     match marks.releasing(&Owner::Slot(slot)) {
-        Some(_) => Intent::ReleaseLock { slot },
-        None => Intent::End { slot },
+        Some(_) => Intent::ReleaseLock {
+            owner: Owner::Slot(slot),
+        },
+        None => Intent::End {
+            owner: Owner::Slot(slot),
+        },
     }
 }
 

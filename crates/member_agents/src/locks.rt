@@ -5,7 +5,7 @@ use crate::refusals::{met, refuse_need};
 use ds_base::{NoMemory, TranId};
 use lock_names::{Mode, Name};
 use member_intents::{Event, Outcome};
-use member_marks::{Marks, Trial};
+use member_marks::{Marks, Owner, Trial};
 use member_state::{MemberState, SeatState, Standing};
 use plock_negotiate::{Negotiation, Progress};
 use std::alloc::Global;
@@ -68,7 +68,7 @@ fn conflict(
 }
 
 fn negotiate(state: &mut MemberState, slot: u8, name: Name, mode: Mode) {
-    let negotiation = Negotiation::new(slot, name, mode);
+    let negotiation = Negotiation::new(&Owner::Slot(slot), name, mode);
     state.set_state(slot, SeatState::Lock { negotiation });
 }
 

@@ -142,7 +142,7 @@ fn flag_told(
 // Closings: a page was written, a lock was given up, or the transaction has ended.
 fn closing_told(state: &mut MemberState, slot: u8, outcome: &Outcome<'_>) {
     match outcome {
-        Outcome::Released => state.set_state(slot, SeatState::Release),
+        Outcome::Released { .. } => state.set_state(slot, SeatState::Release),
         Outcome::Ended => state.free_seat(slot),
         _ => {}
     }

@@ -7,8 +7,8 @@ use crate::pages::{pages_intent, take_for_pages};
 use crate::queries::{query_intent, take_for_query};
 use crate::ready::{is_ready, negotiates, wants_room};
 use crate::settling::settle;
-use ds_base::{NoMemory, Sizes, TranId, Volume};
-use ds_model::{Reads, TranList};
+use ds_base::{Lrsn, NoMemory, Sizes, TranId, Volume};
+use ds_model::{FailAt, Reads, TranList};
 use member_agents::{seat_intent, take_for_seat};
 use member_intents::{Event, Intent, Look, Outcome};
 use member_marks::Marks;
@@ -103,8 +103,17 @@ impl Policy for Member {
         _alloc: Global,
         trans: TranList,
         raisers: &[Option<TranId>],
+        _fail: Option<FailAt>,
     ) -> Result<(), NoMemory> {
         self.state.begin_phase(trans, raisers)
+    }
+
+    fn is_fail_due(&self) -> bool {
+        false
+    }
+
+    fn adopt(&mut self, _id: Lrsn) -> Result<(), NoMemory> {
+        Ok(())
     }
 
     fn fail(&mut self) {

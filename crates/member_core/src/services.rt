@@ -60,7 +60,7 @@ fn ends(state: &mut MemberState, service: Service) {
 /// The service goes on by what the event came to.
 pub fn service_told(state: &mut MemberState, service: Service, outcome: &Outcome<'_>) {
     match outcome {
-        Outcome::Released => page_released(state, service),
+        Outcome::Released { .. } => page_released(state, service),
         Outcome::Stepped => ends(state, service),
         _ => {}
     }

@@ -11,7 +11,7 @@ use Rattle.list_structure.specs.declared.query.CellAnswer.TheVariants as answer
 use Rattle.facility.specs.declared.command.Reply.{Reply}
 use Rattle.facility.specs.declared.command.Reply.TheVariants as reply
 use Rattle.facility.specs.LockCommands.{is_about}
-use Rattle.member_trans.specs.declared.fate.Owner.TheVariants as owner
+use Rattle.member_trans.specs.declared.fate.Owner.{Owner}
 use Rattle.member_marks.specs.State.{MarksState}
 use Rattle.member_marks.specs.Claims.{offered}
 use Rattle.member_effects.specs.declared.answers.Said.{Said}
@@ -61,21 +61,21 @@ nothing = record { is_open = false; is_emptied = false; found = said.Clean }
 
 -- ---- the refusal
 
-abbrev pub in_the_way_after : MarksState → ℕ → Name → CellAnswer → ℕ → MarksState
-in_the_way_after s slot n answer.Clean event = s
-in_the_way_after s slot n (answer.Conflict by) event = offered s (owner.Slot slot) (refusal.Held n by) event
-in_the_way_after s slot n (answer.Postponed m) event = offered s (owner.Slot slot) (refusal.Retained n m) event
+abbrev pub in_the_way_after : MarksState → Owner → Name → CellAnswer → ℕ → MarksState
+in_the_way_after s o n answer.Clean event = s
+in_the_way_after s o n (answer.Conflict by) event = offered s o (refusal.Held n by) event
+in_the_way_after s o n (answer.Postponed m) event = offered s o (refusal.Retained n m) event
 
 abbrev pub in_the_way_told : CellAnswer → Told
 in_the_way_told answer.Clean = told.Stepped
 in_the_way_told (answer.Conflict by) = told.Conflict by
 in_the_way_told (answer.Postponed m) = told.Refused
 
-abbrev pub found_after : MarksState → ℕ → Name → Said → MarksState
-found_after s slot n said.Clean = s
-found_after s slot n said.Empty = s
-found_after s slot n said.Open = s
-found_after s slot n (said.InTheWay answer event) = in_the_way_after s slot n answer event
+abbrev pub found_after : MarksState → Owner → Name → Said → MarksState
+found_after s o n said.Clean = s
+found_after s o n said.Empty = s
+found_after s o n said.Open = s
+found_after s o n (said.InTheWay answer event) = in_the_way_after s o n answer event
 
 abbrev pub sum_told : Sum → Said → Told
 sum_told sum said.Clean = told.Cells sum.is_open sum.is_emptied
@@ -83,9 +83,9 @@ sum_told sum said.Empty = told.Cells sum.is_open sum.is_emptied
 sum_told sum said.Open = told.Cells sum.is_open sum.is_emptied
 sum_told sum (said.InTheWay answer event) = in_the_way_told answer
 
-abbrev pub answered_after : MarksState → ℕ → Name → Mode → ℕ → Reply → MarksState
-answered_after s slot n m asked (reply.Cells cells) = found_after s slot n (summed cells 0 asked n m nothing).found
-answered_after s slot n m asked _ = s
+abbrev pub answered_after : MarksState → Owner → Name → Mode → ℕ → Reply → MarksState
+answered_after s o n m asked (reply.Cells cells) = found_after s o n (summed cells 0 asked n m nothing).found
+answered_after s o n m asked _ = s
 
 abbrev pub answered_told : Name → Mode → ℕ → Reply → Told
 answered_told n m asked (reply.Cells cells) = sum_told (summed cells 0 asked n m nothing) (summed cells 0 asked n m nothing).found

@@ -89,7 +89,7 @@ abbrev pub changed_by : Kept → ℕ → Frames → Plan → ℕ → Kept
 changed_by k slot frames plan.None lrsn = k
 changed_by k slot frames (plan.System patches) lrsn = system_logged (patched_frames k frames patches lrsn) slot patches lrsn
 changed_by k slot frames (plan.Row c) lrsn = row_logged (row_nth k (frame_of frames 0) c lrsn) slot c lrsn
-changed_by k slot frames (plan.Back c) lrsn = back_logged (row_nth k (frame_of frames 0) c lrsn) (owner.Slot slot) lrsn
+changed_by k slot frames (plan.Back c) lrsn = k
 changed_by k slot frames (plan.Fault page at) lrsn = k
 
 abbrev pub plan_told : Plan → Told
@@ -99,12 +99,27 @@ plan_told (plan.Row c) = told.Drawn
 plan_told (plan.Back c) = told.Drawn
 plan_told (plan.Fault page at) = told.Damaged page at
 
+-- the newest change is taken back as it was planned, with the number that was drawn for it
+abbrev pub back_by : Kept → Owner → ℕ → Plan → ℕ → Kept
+back_by k o at plan.None lrsn = k
+back_by k o at (plan.System patches) lrsn = k
+back_by k o at (plan.Row c) lrsn = k
+back_by k o at (plan.Back c) lrsn = back_logged (row_frame k at c lrsn) o lrsn
+back_by k o at (plan.Fault page offset) lrsn = k
+
+abbrev pub back_told : Plan → Told
+back_told plan.None = told.Drawn
+back_told (plan.System patches) = told.Drawn
+back_told (plan.Row c) = told.Drawn
+back_told (plan.Back c) = told.Drawn
+back_told (plan.Fault page at) = told.Damaged page at
+
 -- ---- the reply
 
-abbrev pub undrawn_after : MarksState → ℕ → Reply → ℕ → MarksState
-undrawn_after s slot (reply.Stale index) place = after_registered s index false
-undrawn_after s slot (reply.LrsnEnd at) place = offered s (owner.Slot slot) (refusal.LrsnEnd at) place
-undrawn_after s slot _ place = s
+abbrev pub undrawn_after : MarksState → Owner → Reply → ℕ → MarksState
+undrawn_after s o (reply.Stale index) place = after_registered s index false
+undrawn_after s o (reply.LrsnEnd at) place = offered s o (refusal.LrsnEnd at) place
+undrawn_after s o _ place = s
 
 abbrev pub undrawn_told : Reply → Told
 undrawn_told (reply.Stale index) = told.Stale index
@@ -113,15 +128,23 @@ undrawn_told _ = told.Stepped
 
 abbrev pub drawn_after : Kept → ℕ → Frames → Plan → Reply → ℕ → Kept
 drawn_after k slot frames p (reply.Drawn lrsn) place = changed_by k slot frames p lrsn
-drawn_after k slot frames p other place = with_marks k (undrawn_after k.marks slot other place)
+drawn_after k slot frames p other place = with_marks k (undrawn_after k.marks (owner.Slot slot) other place)
 
 abbrev pub drawn_told : Plan → Reply → Told
 drawn_told p (reply.Drawn lrsn) = plan_told p
 drawn_told p other = undrawn_told other
 
+abbrev pub undone_after : Kept → Owner → ℕ → Plan → Reply → ℕ → Kept
+undone_after k o at p (reply.Drawn lrsn) place = back_by k o at p lrsn
+undone_after k o at p other place = with_marks k (undrawn_after k.marks o other place)
+
+abbrev pub undone_told : Plan → Reply → Told
+undone_told p (reply.Drawn lrsn) = back_told p
+undone_told p other = undrawn_told other
+
 abbrev pub committed_after : MarksState → ℕ → Reply → ℕ → MarksState
 committed_after s slot (reply.Drawn lrsn) place = after_commit s slot lrsn
-committed_after s slot other place = undrawn_after s slot other place
+committed_after s slot other place = undrawn_after s (owner.Slot slot) other place
 
 abbrev pub committed_told : Reply → Told
 committed_told (reply.Drawn lrsn) = told.Drawn

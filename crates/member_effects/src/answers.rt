@@ -5,7 +5,6 @@ ghost use Rattle.ds_model.specs.declared.fate.Refusal.TheVariants.{Held, Retaine
 ghost use Rattle.lock_names.specs.Modes.{is_same};
 ghost use Rattle.lock_structure.specs.Records.{same_name};
 ghost use Rattle.facility.specs.LockCommands.{is_about};
-ghost use Rattle.member_trans.specs.declared.fate.Owner.TheVariants as owners;
 ghost use Rattle.member_marks.specs.Claims.{offered};
 ghost use Rattle.member_effects.specs.Answers.{said_in_answer, said_by, is_asked, added, is_found, summed, nothing, in_the_way_after, in_the_way_told, found_after, sum_told, answered_after, answered_told};
 
@@ -162,49 +161,55 @@ fn summed(cells: &[Cell], asked: u32, name: &Name, mode: Mode) -> Sum
     sum
 }
 
-fn offer_held(marks: &mut Marks, slot: u8, name: &Name, by: &TranId, event: u64)
-    ensures { marks.new ≡ offered marks.old (owners.Slot slot) (Held name.now by.now) event }
+fn offer_held(marks: &mut Marks, owner: &Owner, name: &Name, by: &TranId, event: u64)
+    ensures { marks.new ≡ offered marks.old owner.now (Held name.now by.now) event }
 {
     let refusal = Refusal::Held {
         name: *name,
         by: *by,
     };
-    marks.offer(&Owner::Slot(slot), refusal, event);
+    marks.offer(owner, refusal, event);
 }
 
-fn offer_retained(marks: &mut Marks, slot: u8, name: &Name, by: &MemberId, event: u64)
-    ensures { marks.new ≡ offered marks.old (owners.Slot slot) (Retained name.now by.now) event }
+fn offer_retained(marks: &mut Marks, owner: &Owner, name: &Name, by: &MemberId, event: u64)
+    ensures { marks.new ≡ offered marks.old owner.now (Retained name.now by.now) event }
 {
     let refusal = Refusal::Retained {
         name: *name,
         by: *by,
     };
-    marks.offer(&Owner::Slot(slot), refusal, event);
+    marks.offer(owner, refusal, event);
 }
 
-fn in_the_way(marks: &mut Marks, slot: u8, name: &Name, answer: &CellAnswer, event: u64) -> Told
+fn in_the_way(
+    marks: &mut Marks,
+    owner: &Owner,
+    name: &Name,
+    answer: &CellAnswer,
+    event: u64,
+) -> Told
     ensures told { result ≡ in_the_way_told answer.now }
-    ensures after { marks.new ≡ in_the_way_after marks.old slot name.now answer.now event }
+    ensures after { marks.new ≡ in_the_way_after marks.old owner.now name.now answer.now event }
 {
     match answer {
         CellAnswer::Clean => Told::Stepped,
         CellAnswer::Conflict { by } => {
-            offer_held(marks, slot, name, by, event);
+            offer_held(marks, owner, name, by, event);
             Told::Conflict { by: *by }
         }
         CellAnswer::Postponed { member } => {
-            offer_retained(marks, slot, name, member, event);
+            offer_retained(marks, owner, name, member, event);
             Told::Refused
         }
     }
 }
 
-fn settled(marks: &mut Marks, slot: u8, name: &Name, sum: &Sum) -> Told
+fn settled(marks: &mut Marks, owner: &Owner, name: &Name, sum: &Sum) -> Told
     ensures told { result ≡ sum_told sum.now sum.now.found }
-    ensures after { marks.new ≡ found_after marks.old slot name.now sum.now.found }
+    ensures after { marks.new ≡ found_after marks.old owner.now name.now sum.now.found }
 {
     match &sum.found {
-        Said::InTheWay { answer, event } => in_the_way(marks, slot, name, answer, *event),
+        Said::InTheWay { answer, event } => in_the_way(marks, owner, name, answer, *event),
         Said::Clean | Said::Empty | Said::Open => Told::Cells {
             open: sum.is_open,
             emptied: sum.is_emptied,
@@ -215,18 +220,18 @@ fn settled(marks: &mut Marks, slot: u8, name: &Name, sum: &Sum) -> Told
 /// The reply to `answers`. Something in the way goes before an empty cell, and that before one that isn't answered yet.
 pub fn answered(
     marks: &mut Marks,
-    slot: u8,
+    owner: &Owner,
     name: &Name,
     mode: Mode,
     asked: u32,
     reply: &Reply,
 ) -> Told
     ensures told { result ≡ answered_told name.now mode asked reply.now }
-    ensures after { marks.new ≡ answered_after marks.old slot name.now mode asked reply.now }
+    ensures after { marks.new ≡ answered_after marks.old owner.now name.now mode asked reply.now }
 {
     let Reply::Cells { cells } = reply else {
         return Told::Stepped;
     };
     let sum = summed(cells, asked, name, mode);
-    settled(marks, slot, name, &sum)
+    settled(marks, owner, name, &sum)
 }

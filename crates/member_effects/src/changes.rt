@@ -10,7 +10,7 @@ ghost use Rattle.member_marks.specs.Frames.{after_marked};
 ghost use Rattle.member_marks.specs.Records.{after_system};
 ghost use Rattle.member_needs.specs.Plans.{PlanIsAllowed};
 ghost use Rattle.member_effects.specs.declared.told.Told.TheVariants as told;
-ghost use Rattle.member_effects.specs.Changes.{bytes_at, system_record, patched_frame, patched_nth, patched_frames, row_frame, row_nth, changed_by, plan_told, undrawn_after, undrawn_told, drawn_after, drawn_told, committed_after, committed_told};
+ghost use Rattle.member_effects.specs.Changes.{bytes_at, system_record, patched_frame, patched_nth, patched_frames, row_frame, row_nth, changed_by, plan_told, back_by, back_told, undone_after, undone_told, undrawn_after, undrawn_told, drawn_after, drawn_told, committed_after, committed_told};
 
 use crate::told::Told;
 use ds_base::{Lrsn, PageId};
@@ -171,9 +171,29 @@ fn change_by(
             marks.note_change(slot, lrsn, &change);
             Told::Drawn
         }
+        Plan::Back(_) => Told::Drawn,
+        Plan::Fault { page, at } => Told::Damaged { page, at },
+    }
+}
+
+// The newest change of the owner's transaction is taken back.
+fn back_by(
+    marks: &mut Marks,
+    pages: &mut [Page],
+    owner: &Owner,
+    at: u16,
+    plan: Plan,
+    lrsn: Lrsn,
+) -> Told
+    requires { PlanIsAllowed plan }
+    ensures told { result ≡ back_told plan }
+    ensures after { record { marks = marks.new; pages = pages.new } ≡ back_by (record { marks = marks.old; pages = pages.old }) owner.now at plan lrsn }
+{
+    match plan {
+        Plan::None | Plan::System(_) | Plan::Row(_) => Told::Drawn,
         Plan::Back(change) => {
-            put_nth(marks, pages, frame_of(frames, 0), &change, lrsn);
-            marks.note_undone(&Owner::Slot(slot), lrsn);
+            put_frame(marks, pages, at, &change, lrsn);
+            marks.note_undone(owner, lrsn);
             Told::Drawn
         }
         Plan::Fault { page, at } => Told::Damaged { page, at },
@@ -181,9 +201,9 @@ fn change_by(
 }
 
 // Nothing was drawn.
-fn not_drawn(marks: &mut Marks, slot: u8, reply: &Reply, place: u64) -> Told
+fn not_drawn(marks: &mut Marks, owner: &Owner, reply: &Reply, place: u64) -> Told
     ensures told { result ≡ undrawn_told reply.now }
-    ensures after { marks.new ≡ undrawn_after marks.old slot reply.now place }
+    ensures after { marks.new ≡ undrawn_after marks.old owner.now reply.now place }
 {
     match *reply {
         Reply::Stale { index } => {
@@ -191,14 +211,14 @@ fn not_drawn(marks: &mut Marks, slot: u8, reply: &Reply, place: u64) -> Told
             Told::Stale { frame: index }
         }
         Reply::LrsnEnd { at } => {
-            marks.offer(&Owner::Slot(slot), Refusal::LrsnEnd { at }, place);
+            marks.offer(owner, Refusal::LrsnEnd { at }, place);
             Told::Refused
         }
         _ => Told::Stepped,
     }
 }
 
-/// The reply to `draw` or `draw-undo` for these frames.
+/// The reply to `draw` for these frames.
 pub fn drawn(
     marks: &mut Marks,
     pages: &mut [Page],
@@ -214,7 +234,27 @@ pub fn drawn(
 {
     match reply {
         Reply::Drawn { lrsn } => change_by(marks, pages, slot, frames, plan, *lrsn),
-        _ => not_drawn(marks, slot, reply, place),
+        _ => not_drawn(marks, &Owner::Slot(slot), reply, place),
+    }
+}
+
+/// The reply to `draw-undo` for this frame.
+pub fn undone(
+    marks: &mut Marks,
+    pages: &mut [Page],
+    owner: &Owner,
+    at: u16,
+    plan: Plan,
+    reply: &Reply,
+    place: u64,
+) -> Told
+    requires { PlanIsAllowed plan }
+    ensures told { result ≡ undone_told plan reply.now }
+    ensures after { record { marks = marks.new; pages = pages.new } ≡ undone_after (record { marks = marks.old; pages = pages.old }) owner.now at plan reply.now place }
+{
+    match reply {
+        Reply::Drawn { lrsn } => back_by(marks, pages, owner, at, plan, *lrsn),
+        _ => not_drawn(marks, owner, reply, place),
     }
 }
 
@@ -228,6 +268,6 @@ pub fn commit_drawn(marks: &mut Marks, slot: u8, reply: &Reply, place: u64) -> T
             marks.draw_commit(slot, *lrsn);
             Told::Drawn
         }
-        _ => not_drawn(marks, slot, reply, place),
+        _ => not_drawn(marks, &Owner::Slot(slot), reply, place),
     }
 }

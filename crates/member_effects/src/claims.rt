@@ -1,9 +1,9 @@
 //! The replies to `obtain` and `grant`.
 
-ghost use Rattle.std.specs.Prelude.{◌≡◌, ◌==◌};
-ghost use Rattle.member_marks.specs.Claims.{offered};
+ghost use Rattle.std.specs.Prelude.{◌≡◌};
+ghost use Rattle.member_marks.specs.Claims.{is_for_agents, offered};
 ghost use Rattle.member_effects.specs.declared.told.Told.TheVariants as told;
-ghost use Rattle.member_effects.specs.Claims.{EntersPage, Enters, told_of, granted_told, Claims, claimed_told};
+ghost use Rattle.member_effects.specs.Claims.{EntersPage, agent_entered, agent_told, Enters, told_of, granted_told, Claims, claimed_told};
 
 use crate::told::Told;
 use ds_model::Refusal;
@@ -32,15 +32,33 @@ fn told_of(trial: Trial) -> Told
     }
 }
 
-fn granted(marks: &mut Marks, slot: u8, name: &Name, mode: Mode, place: u64) -> Told
-    ensures told { result ≡ granted_told marks.old slot name.now mode }
-    ensures after { Enters (slot == 0) marks.old slot name.now mode place marks.new }
+// The claim is that of the slot's transaction.
+fn enter_agent(marks: &mut Marks, owner: &Owner, name: &Name, mode: Mode, place: u64) -> Told
+    ensures told { result ≡ agent_told marks.old owner.now name.now mode }
+    ensures after { marks.new ≡ agent_entered marks.old owner.now name.now mode place }
 {
-    if slot == 0 {
-        enter_page(marks, name);
-        return Told::Granted;
+    match owner {
+        Owner::Slot(slot) => told_of(marks.enter_claim(*slot, name, mode, place)),
+        Owner::Rollback(_) => Told::Stepped,
     }
-    told_of(marks.enter_claim(slot, name, mode, place))
+}
+
+// Whether agents claim the name: that of a table space or row.
+fn is_for_agents(name: &Name) -> bool
+    ensures { result ≡ is_for_agents name.now }
+{
+    matches!(name, Name::Space(_) | Name::Row(..))
+}
+
+fn granted(marks: &mut Marks, owner: &Owner, name: &Name, mode: Mode, place: u64) -> Told
+    ensures told { result ≡ granted_told marks.old owner.now name.now mode }
+    ensures after { Enters (is_for_agents name.now) marks.old owner.now name.now mode place marks.new }
+{
+    if is_for_agents(name) {
+        return enter_agent(marks, owner, name, mode, place);
+    }
+    enter_page(marks, name);
+    Told::Granted
 }
 
 fn refused(marks: &mut Marks, owner: &Owner, refusal: Refusal, place: u64) -> Told
@@ -54,24 +72,24 @@ fn refused(marks: &mut Marks, owner: &Owner, refusal: Refusal, place: u64) -> To
 /// The reply to `obtain` or `grant`.
 pub fn claimed(
     marks: &mut Marks,
-    slot: u8,
+    owner: &Owner,
     name: &Name,
     mode: Mode,
     reply: &Reply,
     place: u64,
 ) -> Told
-    ensures told { result ≡ claimed_told marks.old slot name.now mode reply.now }
-    ensures after { Claims marks.old slot name.now mode reply.now place marks.new }
+    ensures told { result ≡ claimed_told marks.old owner.now name.now mode reply.now }
+    ensures after { Claims marks.old owner.now name.now mode reply.now place marks.new }
 {
     match *reply {
-        Reply::Granted { .. } => granted(marks, slot, name, mode, place),
+        Reply::Granted { .. } => granted(marks, owner, name, mode, place),
         Reply::Retained { by } => {
             let refusal = Refusal::Retained { name: *name, by };
-            refused(marks, &Owner::Slot(slot), refusal, place)
+            refused(marks, owner, refusal, place)
         }
         Reply::RecordsFull { limit } => {
             let refusal = Refusal::RecordsFull { limit };
-            refused(marks, &Owner::Slot(slot), refusal, place)
+            refused(marks, owner, refusal, place)
         }
         Reply::Contention {
             share,

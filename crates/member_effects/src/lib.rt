@@ -13,9 +13,9 @@ mod lists;
 mod told;
 
 pub use answers::{Said, Sum, answered};
-pub use changes::{commit_drawn, drawn};
+pub use changes::{commit_drawn, drawn, undone};
 pub use claims::claimed;
-pub use closing::{ended, page_released, released};
+pub use closing::{end_now, ended, page_released, purged, released};
 pub use cycles::cycle_refused;
 pub use frames::{page_read, read, tested, unregistered, written};
 pub use lists::{cast_told, changed_told, flag_told, query_told, status_told};

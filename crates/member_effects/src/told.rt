@@ -3,6 +3,7 @@ ghost use Rattle.member_effects.specs.Outcomes.{LendsAt, Tells};
 
 use ds_base::{PageId, TranId, Volume};
 use list_structure::{MemberStatus, Query};
+use lock_names::Name;
 use member_intents::Outcome;
 use page_format::Page;
 
@@ -22,7 +23,8 @@ pub enum Told {
     Raised(bool),
     Deadlock { slot: u8 },
     NoCycle,
-    Released,
+    Released { name: Option<Name> },
+    Purged,
     Ended,
     Filled,
     ToFill,
@@ -71,7 +73,8 @@ pub fn outcome_of(pages: &[Page], told: Told) -> Outcome<'_>
         Told::Raised(is_raised) => Outcome::Raised(is_raised),
         Told::Deadlock { slot } => Outcome::Deadlock { slot },
         Told::NoCycle => Outcome::NoCycle,
-        Told::Released => Outcome::Released,
+        Told::Released { name } => Outcome::Released { name },
+        Told::Purged => Outcome::Purged,
         Told::Ended => Outcome::Ended,
         Told::Filled => Outcome::Filled,
         Told::ToFill => Outcome::ToFill,

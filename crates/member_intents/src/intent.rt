@@ -1,6 +1,7 @@
 use ds_base::{MemberId, PageId, TableId, TranId};
 use list_structure::Asker;
 use lock_names::{Mode, Name};
+use member_trans::Owner;
 use page_plans::Action;
 
 /// Frames of a member, by their numbers: the first `count` of the three, 3 at most.
@@ -12,32 +13,33 @@ pub struct Frames {
 
 /// What a member wants of an event.
 ///
-/// A slot is that of an agent, 1 to 16, or 0 for the member itself, which claims pages.
+/// A slot is that of an agent, 1 to 16. An owner is whose need it is: where the name is that of a page or page set, the
+/// member claims it for the owner, and else the owner does, and must be a slot.
 #[derive(Clone, Copy, Debug)]
 pub enum Intent {
     /// Nothing is sent: a wait has ended, or a free slot takes a transaction.
     Step,
     // ---- locks
     Obtain {
-        slot: u8,
+        owner: Owner,
         name: Name,
         mode: Mode,
     },
-    /// Obtains a lock about which others were asked, in the cells of this slot.
+    /// Obtains a lock about which others were asked, in the cells of `cell_slot`.
     Grant {
-        slot: u8,
+        owner: Owner,
         name: Name,
         mode: Mode,
     },
     Ask {
-        slot: u8,
+        owner: Owner,
         to: MemberId,
         name: Name,
         mode: Mode,
     },
     /// Reads what was answered about this name and mode. Bit `m - 1` of `asked` stands for member m.
     Answers {
-        slot: u8,
+        owner: Owner,
         name: Name,
         mode: Mode,
         asked: u32,
@@ -57,14 +59,18 @@ pub enum Intent {
     },
     /// Gives up the next claim of a transaction that is over.
     ReleaseLock {
-        slot: u8,
+        owner: Owner,
     },
     ReleasePage {
         page: PageId,
     },
-    /// The transaction of the slot ends, with the claims that it has left.
+    /// Frees the retained record of a name that nobody claims any more.
+    Purge {
+        name: Name,
+    },
+    /// The owner's transaction ends, with the claims that it has left. Nothing is sent for one without a number.
     End {
-        slot: u8,
+        owner: Owner,
     },
     // ---- waits and flags
     /// The slot's transaction waits for another: for its lock, or for this flag where it isn't 0.
@@ -86,6 +92,8 @@ pub enum Intent {
     Raise {
         flag: u8,
     },
+    /// The cache structure is lost.
+    LoseCache,
     // ---- pages
     Read {
         frame: u16,
@@ -115,7 +123,7 @@ pub enum Intent {
     },
     /// Takes the newest change that stands back.
     Undo {
-        slot: u8,
+        owner: Owner,
         frame: u16,
     },
     Commit {

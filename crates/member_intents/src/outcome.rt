@@ -1,6 +1,7 @@
 use ds_base::{PageId, TranId, Volume};
 use facility::{Command, Reply};
 use list_structure::{MemberStatus, Query};
+use lock_names::Name;
 use page_format::Page;
 
 /// What an event came to, as the policy is told.
@@ -31,9 +32,11 @@ pub enum Outcome<'a> {
     /// The transaction of this slot is the highest of a cycle of waits, and its refusal stands.
     Deadlock { slot: u8 },
     NoCycle,
-    /// A claim was given up.
-    Released,
-    /// The transaction is gone from its slot.
+    /// A claim was given up: that of a transaction on this name, or that of a page.
+    Released { name: Option<Name> },
+    /// A retained record is gone.
+    Purged,
+    /// The transaction is gone from its slot, or the rollback is.
     Ended,
     // ---- pages
     /// The frame has its bytes.
@@ -74,7 +77,8 @@ pub struct Event {
 }
 
 /// What the group sees for a member before an event: its bell, whether a query waits for its answer, whether more than half
-/// of the cache's entries are changed, whether the cache is lost, and whether the member is done with the phase.
+/// of the cache's entries are changed, whether the cache is lost, whether the member is done with the phase, and whether
+/// one of its postponed rollbacks waits for a member that is up or restarting.
 #[derive(Clone, Copy, Debug, PartialEq, Eq)]
 pub struct Look {
     pub bell: u64,
@@ -82,6 +86,7 @@ pub struct Look {
     pub is_half: bool,
     pub is_lost: bool,
     pub is_done: bool,
+    pub waits_for_live: bool,
 }
 
 /// What went out in an event.

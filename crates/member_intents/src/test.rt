@@ -17,7 +17,7 @@ pub enum Test {
     /// It isn't over.
     NotOver,
     // ---- locks
-    /// A slot claims table spaces and rows.
+    /// The transaction of a slot claims table spaces and rows, and nobody else does.
     NotOfSlot,
     /// The member claims pages, in X.
     NotOfMember,
@@ -25,7 +25,7 @@ pub enum Test {
     NotJoined,
     /// No more pages may be claimed.
     PagesFull,
-    /// The page is claimed.
+    /// The name is claimed.
     StillClaimed,
     /// The page isn't claimed.
     NotClaimed,
@@ -33,6 +33,8 @@ pub enum Test {
     NoRow,
     /// The row's table space isn't claimed by the owner for changes.
     NoSpace,
+    /// The name's record isn't known as retained.
+    NotRetained,
     /// No claim is left that needs a release.
     NoneLeft,
     /// A claim is left that needs a release.

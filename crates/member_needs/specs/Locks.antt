@@ -1,5 +1,5 @@
 -- Claims of locks, and answers about them.
-use Rattle.std.specs.Prelude.{ℕ, ◌==◌, Bool, true, false, not, ◌||◌, if◌then◌else◌, Option, Some, None, Result, Err}
+use Rattle.std.specs.Prelude.{ℕ, Bool, true, false, not, ◌||◌, if◌then◌else◌, Option, Some, None, Result, Err}
 use Rattle.ds_model.specs.declared.lock.Name.{Name}
 use Rattle.ds_model.specs.declared.lock.Name.TheVariants as name
 use Rattle.lock_names.specs.declared.mode.Mode.{Mode}
@@ -11,6 +11,8 @@ use Rattle.member_intents.specs.declared.outcome.Sent.{Sent}
 use Rattle.member_intents.specs.declared.outcome.Sent.TheVariants as sent
 use Rattle.member_intents.specs.declared.test.Test.{Test}
 use Rattle.member_intents.specs.declared.test.Test.TheVariants.{NotForward, NotOfSlot, NotOfMember, NotJoined, PagesFull, StillClaimed}
+use Rattle.member_intents.specs.Cells.{cell_slot}
+use Rattle.member_trans.specs.declared.fate.Owner.{Owner}
 use Rattle.member_trans.specs.declared.fate.Owner.TheVariants as owner
 use Rattle.member_trans.specs.Trans.{is_forward}
 use Rattle.member_marks.specs.State.{MarksState, slot_tran}
@@ -29,12 +31,16 @@ abbrev pub is_joined : Option Mode → Mode → Bool
 is_joined None m = true
 is_joined (Some held) m = is_covering m held
 
--- a slot's transaction goes forward, and claims a table space or row in the join of the modes that it needs
+-- a slot's transaction goes forward, and claims the name in the join of the modes that it needs
 abbrev pub slot_test : MarksState → ℕ → Name → Mode → Tested
 slot_test s slot n m =
     when (is_forward (slot_tran s slot).stage) NotForward
-    (when (is_for_agents n) NotOfSlot
-    (when (is_joined (mode_held s (owner.Slot slot) n) m) NotJoined passed))
+    (when (is_joined (mode_held s (owner.Slot slot) n) m) NotJoined passed)
+
+-- table spaces and rows are claimed by the transactions of slots alone
+abbrev pub agent_test : MarksState → Owner → Name → Mode → Tested
+agent_test s (owner.Slot slot) n m = slot_test s slot n m
+agent_test s (owner.Rollback id) n m = Err NotOfSlot
 
 -- the member claims pages in X, as many as there is room for
 abbrev pub page_test : MarksState → Name → Mode → Tested
@@ -43,14 +49,21 @@ page_test s (name.Space t) m = Err NotOfMember
 page_test s (name.Row t k) m = Err NotOfMember
 page_test s (name.Set n) m = Err NotOfMember
 
-abbrev pub claim_test : MarksState → ℕ → Name → Mode → Tested
-claim_test s slot n m = if slot == 0 then page_test s n m else slot_test s slot n m
+-- whose need it is claims a table space or row, and the member claims a page for it
+abbrev pub claim_test : MarksState → Owner → Name → Mode → Tested
+claim_test s o n m = if is_for_agents n then agent_test s o n m else page_test s n m
 
-abbrev pub obtain_need : MarksState → ℕ → Name → Mode → Result Sent Test
-obtain_need s slot n m = sends (claim_test s slot n m) (sent.Command (command.Obtain n m))
+abbrev pub obtain_need : MarksState → Owner → Name → Mode → Result Sent Test
+obtain_need s o n m = sends (claim_test s o n m) (sent.Command (command.Obtain n m))
 
-abbrev pub grant_need : MarksState → ℕ → Name → Mode → Result Sent Test
-grant_need s slot n m = sends (claim_test s slot n m) (sent.Command (command.Grant slot n m))
+abbrev pub grant_need : MarksState → Owner → Name → Mode → Result Sent Test
+grant_need s o n m = sends (claim_test s o n m) (sent.Command (command.Grant (cell_slot o n) n m))
+
+abbrev pub ask_need : Owner → ℕ → Name → Mode → Sent
+ask_need o to n m = sent.Command (command.Ask (cell_slot o n) to n m)
+
+abbrev pub answers_need : Owner → Name → Sent
+answers_need o n = sent.Command (command.Answers (cell_slot o n))
 
 -- ---- answers
 

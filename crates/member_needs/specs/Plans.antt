@@ -80,7 +80,7 @@ back_plan page (Some it) = back_over it.change page
 
 abbrev pub intent_plan : MarksState → List (List ℕ) → ℕ → Intent → Result Plan Test
 intent_plan s pages limit (intent.Change slot a frames) = change_plan s pages limit a frames
-intent_plan s pages limit (intent.Undo slot frame) = Ok (back_plan (slice_get pages frame) (newest_of (tran_of s (owner.Slot slot))))
+intent_plan s pages limit (intent.Undo o frame) = Ok (back_plan (slice_get pages frame) (newest_of (tran_of s o)))
 intent_plan s pages limit _ = Ok plan.None
 
 -- ---- what the log may have

@@ -2,12 +2,13 @@
 
 ghost use Rattle.std.specs.Prelude.{◌≡◌};
 ghost use Rattle.member_marks.specs.Claims.{is_for_agents};
-ghost use Rattle.member_needs.specs.Locks.{is_x, is_joined, slot_test, page_test, claim_test, obtain_need, grant_need, is_page_claimed, answer_need};
+ghost use Rattle.member_needs.specs.Locks.{is_x, is_joined, slot_test, agent_test, page_test, claim_test, obtain_need, grant_need, is_page_claimed, ask_need, answers_need, answer_need};
 
+use ds_base::MemberId;
 use facility::Command;
 use list_structure::Asker;
 use lock_names::{Mode, Name, covers};
-use member_intents::{Sent, Test};
+use member_intents::{Sent, Test, cell_slot};
 use member_marks::{Marks, Owner};
 
 /// Whether agents claim the name.
@@ -39,13 +40,20 @@ fn test_slot(marks: &Marks, slot: u8, name: &Name, mode: Mode) -> Result<(), Tes
     if !marks.is_forward(slot) {
         return Err(Test::NotForward);
     }
-    if !is_of_slot(name) {
-        return Err(Test::NotOfSlot);
-    }
     if !is_joined(marks.holds(&Owner::Slot(slot), name), mode) {
         return Err(Test::NotJoined);
     }
     Ok(())
+}
+
+// Table spaces and rows are claimed by the transactions of slots alone.
+fn test_agent(marks: &Marks, owner: &Owner, name: &Name, mode: Mode) -> Result<(), Test>
+    ensures { result ≡ agent_test marks.now owner.now name.now mode }
+{
+    match owner {
+        Owner::Slot(slot) => test_slot(marks, *slot, name, mode),
+        Owner::Rollback(_) => Err(Test::NotOfSlot),
+    }
 }
 
 fn test_page(marks: &Marks, name: &Name, mode: Mode) -> Result<(), Test>
@@ -63,33 +71,54 @@ fn test_page(marks: &Marks, name: &Name, mode: Mode) -> Result<(), Test>
     Ok(())
 }
 
-// A claim of the slot's transaction, or of the member itself.
-fn test_claim(marks: &Marks, slot: u8, name: &Name, mode: Mode) -> Result<(), Test>
-    ensures { result ≡ claim_test marks.now slot name.now mode }
+// A claim of the owner, or of the member itself for the owner.
+fn test_claim(marks: &Marks, owner: &Owner, name: &Name, mode: Mode) -> Result<(), Test>
+    ensures { result ≡ claim_test marks.now owner.now name.now mode }
 {
-    if slot == 0 {
-        test_page(marks, name, mode)
+    if is_of_slot(name) {
+        test_agent(marks, owner, name, mode)
     } else {
-        test_slot(marks, slot, name, mode)
+        test_page(marks, name, mode)
     }
 }
 
-pub fn obtain_need(marks: &Marks, slot: u8, name: &Name, mode: Mode) -> Result<Sent, Test>
-    ensures { result ≡ obtain_need marks.now slot name.now mode }
+pub fn obtain_need(marks: &Marks, owner: &Owner, name: &Name, mode: Mode) -> Result<Sent, Test>
+    ensures { result ≡ obtain_need marks.now owner.now name.now mode }
 {
-    test_claim(marks, slot, name, mode)?;
+    test_claim(marks, owner, name, mode)?;
     Ok(Sent::Command(Command::Obtain { name: *name, mode }))
 }
 
-pub fn grant_need(marks: &Marks, slot: u8, name: &Name, mode: Mode) -> Result<Sent, Test>
-    ensures { result ≡ grant_need marks.now slot name.now mode }
+pub fn grant_need(marks: &Marks, owner: &Owner, name: &Name, mode: Mode) -> Result<Sent, Test>
+    ensures { result ≡ grant_need marks.now owner.now name.now mode }
 {
-    test_claim(marks, slot, name, mode)?;
+    test_claim(marks, owner, name, mode)?;
     Ok(Sent::Command(Command::Grant {
-        slot,
+        slot: cell_slot(owner, name),
         name: *name,
         mode,
     }))
+}
+
+/// A question to another member about a lock.
+pub fn ask_need(owner: &Owner, to: MemberId, name: &Name, mode: Mode) -> Sent
+    ensures { result ≡ ask_need owner.now to name.now mode }
+{
+    Sent::Command(Command::Ask {
+        slot: cell_slot(owner, name),
+        to,
+        name: *name,
+        mode,
+    })
+}
+
+/// A look at the answers.
+pub fn answers_need(owner: &Owner, name: &Name) -> Sent
+    ensures { result ≡ answers_need owner.now name.now }
+{
+    Sent::Command(Command::Answers {
+        slot: cell_slot(owner, name),
+    })
 }
 
 // Whether the name is that of a page that the member claims.

@@ -4,14 +4,14 @@ ghost use Rattle.std.specs.Prelude.{◌≡◌};
 ghost use Rattle.member_needs.specs.Needs.{need_of};
 
 use crate::castout::{Cast, cast_need, done_need};
-use crate::closing::{end_need, release_need, release_page_need};
+use crate::closing::{end_need, purge_need, release_need, release_page_need};
 use crate::frames::{read_need, read_page_need, test_need, unregister_need, write_need};
-use crate::locks::{answer_need, grant_need, obtain_need};
+use crate::locks::{answer_need, answers_need, ask_need, grant_need, obtain_need};
 use crate::records::{append_need, change_need, commit_need, undo_need};
 use crate::waits::{unwait_need, wait_need};
 use facility::Command;
 use member_intents::{Intent, Sent, Test};
-use member_marks::{Marks, Owner};
+use member_marks::Marks;
 use page_format::Page;
 
 /// What the tests look at beside the marks and the pages.
@@ -32,33 +32,30 @@ pub fn need(marks: &Marks, pages: &[Page], setting: &Setting, intent: &Intent) -
 {
     match *intent {
         Intent::Step => Ok(Sent::None),
-        Intent::Obtain { slot, name, mode } => obtain_need(marks, slot, &name, mode),
-        Intent::Grant { slot, name, mode } => grant_need(marks, slot, &name, mode),
+        Intent::Obtain { owner, name, mode } => obtain_need(marks, &owner, &name, mode),
+        Intent::Grant { owner, name, mode } => grant_need(marks, &owner, &name, mode),
         Intent::Ask {
-            slot,
+            owner,
             to,
             name,
             mode,
-        } => Ok(Sent::Command(Command::Ask {
-            slot,
-            to,
-            name,
-            mode,
-        })),
-        Intent::Answers { slot, .. } => Ok(Sent::Command(Command::Answers { slot })),
+        } => Ok(ask_need(&owner, to, &name, mode)),
+        Intent::Answers { owner, name, .. } => Ok(answers_need(&owner, &name)),
         Intent::Status { member } => Ok(Sent::Command(Command::Status { member })),
         Intent::Take { after } => Ok(Sent::Command(Command::Take { after })),
         Intent::Answer { asker, name, mode } => {
             answer_need(marks, asker, &name, mode, setting.place)
         }
-        Intent::ReleaseLock { slot } => release_need(marks, &Owner::Slot(slot)),
+        Intent::ReleaseLock { owner } => release_need(marks, &owner),
         Intent::ReleasePage { page } => release_page_need(marks, page),
-        Intent::End { slot } => end_need(marks, &Owner::Slot(slot)),
+        Intent::Purge { name } => purge_need(marks, &name),
+        Intent::End { owner } => end_need(marks, &owner),
         Intent::Wait { slot, holder, flag } => wait_need(marks, slot, holder, flag),
         Intent::Unwait { slot } => unwait_need(marks, slot),
         Intent::Waits { .. } => Ok(Sent::Command(Command::Waits)),
         Intent::Flag { flag } => Ok(Sent::Command(Command::Flag { flag })),
         Intent::Raise { flag } => Ok(Sent::Command(Command::Raise { flag })),
+        Intent::LoseCache => Ok(Sent::Command(Command::Lose)),
         Intent::Read { frame } => read_need(marks, frame),
         Intent::ReadPage { frame } => read_page_need(marks, frame),
         Intent::Test { frame, slot, gives } => test_need(marks, frame, slot, gives),
@@ -69,7 +66,7 @@ pub fn need(marks: &Marks, pages: &[Page], setting: &Setting, intent: &Intent) -
             action,
             frames,
         } => change_need(marks, pages, setting.limit, slot, &action, &frames),
-        Intent::Undo { slot, frame } => undo_need(marks, &Owner::Slot(slot), frame),
+        Intent::Undo { owner, frame } => undo_need(marks, &owner, frame),
         Intent::Commit { slot } => commit_need(marks, slot),
         Intent::Append => append_need(marks),
         Intent::NextChanged { after } => Ok(Sent::Command(Command::NextChanged { after })),

@@ -161,7 +161,7 @@ pub fn plan_for(
         Intent::Change { action, frames, .. } => {
             plan_change(alloc, marks, pages, limit, &action, &frames)
         }
-        Intent::Undo { slot, frame } => Ok(plan_undo(marks, pages, &Owner::Slot(slot), frame)),
+        Intent::Undo { owner, frame } => Ok(plan_undo(marks, pages, &owner, frame)),
         _ => Ok(Plan::None),
     }
 }

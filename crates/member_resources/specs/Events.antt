@@ -31,7 +31,7 @@ use Rattle.member_resources.specs.declared.prepared.Prepared.{Prepared}
 use Rattle.member_resources.specs.Held.{Held, with_marks, begun}
 use Rattle.member_resources.specs.Prepared.{wanted, Reserves}
 use Rattle.member_resources.specs.Lending.{Gives, page_at, with_page}
-use Rattle.member_resources.specs.Settled.{Settles, SettlesWaits, told_by, stored, stored_told}
+use Rattle.member_resources.specs.Settled.{Settles, SettlesWaits, told_by, unsent, unsent_told, stored, stored_told}
 
 -- whether the disk answers, and what it holds where it tells
 pub record Drive : Type 0 where
@@ -138,18 +138,18 @@ pub record RunsCall (w : Drive) (h : Held) (i : Intent) (s : Sent) (a : Answered
 
 -- ---- the event
 
--- nothing is sent
-pub record RunsNothing (w : World) (h : Held) (a : Answered) (said : Told) (v : World) (k : Held) : Type 0 where
+-- nothing is sent, and the event is settled
+pub record RunsNothing (w : World) (h : Held) (i : Intent) (a : Answered) (said : Told) (v : World) (k : Held) : Type 0 where
   pub is : a ≡ answered.None
-  pub said_is : said ≡ told.Stepped
-  pub held : k ≡ h
+  pub said_is : said ≡ unsent_told i
+  pub held : k ≡ unsent h i
   pub world : v ≡ w
 
 abbrev pub OnlyCalls : World → Held → Intent → Sent → Answered → Told → World → Held → Type 0
 OnlyCalls w h i s a said v k = RunsCall w.drive h i s a said v.drive k × (v.facility ≡ w.facility)
 
 abbrev pub Runs : World → Held → Intent → Sent → Plan → ℕ → Answered → Told → World → Held → Type 0
-Runs w h i sent.None p place a said v k = RunsNothing w h a said v k
+Runs w h i sent.None p place a said v k = RunsNothing w h i a said v k
 Runs w h i (sent.Command c) p place a said v k = RunsCommand w.facility h i c p place a said v.facility k × (v.drive ≡ w.drive)
 Runs w h i sent.AppendLog p place a said v k = OnlyCalls w h i sent.AppendLog a said v k
 Runs w h i (sent.ReadPage page) p place a said v k = OnlyCalls w h i (sent.ReadPage page) a said v k

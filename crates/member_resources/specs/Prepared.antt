@@ -42,7 +42,7 @@ abbrev pub with_change_room : Held → ℕ → Held
 with_change_room h slot = with_marks h (with_trans h.marks (with_tran h.marks.trans slot (with_room (slot_tran h.marks slot))))
 
 abbrev pub Reserves : Intent → Held → Held → Type 0
-Reserves (intent.Obtain slot n m) h k = HasSpare h k
-Reserves (intent.Grant slot n m) h k = HasSpare h k
+Reserves (intent.Obtain o n m) h k = HasSpare h k
+Reserves (intent.Grant o n m) h k = HasSpare h k
 Reserves (intent.Change slot action frames) h k = k ≡ with_change_room h slot
 Reserves _ h k = k ≡ h

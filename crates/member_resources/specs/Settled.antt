@@ -1,5 +1,5 @@
 -- What an answer makes of what a member holds.
-use Rattle.std.specs.Prelude.{ℕ, ◌≡◌, true, false, List, [], ◌∷◌, Option, Some, None}
+use Rattle.std.specs.Prelude.{ℕ, ◌≡◌, true, List, Option, Some, None}
 use Rattle.ds_base.specs.declared.names.PageId.{PageId}
 use Rattle.ds_model.specs.declared.lock.Name.{Name}
 use Rattle.lock_names.specs.declared.mode.Mode.{Mode}
@@ -9,7 +9,8 @@ use Rattle.facility.specs.declared.command.Reply.TheVariants as reply
 use Rattle.member_intents.specs.declared.intent.Frames.{Frames}
 use Rattle.member_intents.specs.declared.intent.Intent.{Intent}
 use Rattle.member_intents.specs.declared.intent.Intent.TheVariants as intent
-use Rattle.member_trans.specs.declared.fate.Owner.TheVariants as owner
+use Rattle.member_trans.specs.declared.fate.Owner.{Owner}
+use Rattle.member_marks.specs.Claims.{after_end_of}
 use Rattle.member_marks.specs.Frames.{after_filled}
 use Rattle.member_marks.specs.Records.{after_append}
 use Rattle.member_needs.specs.declared.castout.Cast.{Cast}
@@ -19,11 +20,11 @@ use Rattle.member_effects.specs.declared.told.Told.TheVariants as told
 use Rattle.member_effects.specs.Kept.{Kept}
 use Rattle.member_effects.specs.Claims.{Claims, claimed_told}
 use Rattle.member_effects.specs.Answers.{answered_after, answered_told}
-use Rattle.member_effects.specs.Closing.{released_after, released_told, page_released_after, ended_after, ended_told}
+use Rattle.member_effects.specs.Closing.{released_after, released_told, page_released_after, page_released_told, purged_after, purged_told, ended_after, ended_told}
 use Rattle.member_effects.specs.Cycles.{RefusesCycle}
 use Rattle.member_effects.specs.Frames.{read_after, read_told, tested_after, tested_told, written_after, written_told, unregistered_after}
 use Rattle.member_effects.specs.Lists.{status_told, query_told, flag_told, changed_told, cast_told}
-use Rattle.member_effects.specs.Changes.{drawn_after, drawn_told, committed_after, committed_told}
+use Rattle.member_effects.specs.Changes.{drawn_after, drawn_told, undone_after, undone_told, committed_after, committed_told}
 use Rattle.member_resources.specs.Held.{Held, with_marks, with_cast}
 
 -- ---- castout
@@ -44,26 +45,37 @@ kept_of h = record { marks = h.marks; pages = h.pages }
 abbrev pub with_kept : Held → Kept → Held
 with_kept h k = record h { marks = k.marks; pages = k.pages }
 
-abbrev pub one_frame : ℕ → Frames
-one_frame at = record { count = 1; at = at ∷ 0 ∷ 0 ∷ [] }
-
 abbrev pub drawn : Held → ℕ → Frames → Plan → Reply → ℕ → Held
 drawn h slot frames p answer place = with_kept h (drawn_after (kept_of h) slot frames p answer place)
+
+abbrev pub undone : Held → Owner → ℕ → Plan → Reply → ℕ → Held
+undone h o at p answer place = with_kept h (undone_after (kept_of h) o at p answer place)
+
+-- ---- events that send nothing
+
+abbrev pub unsent : Held → Intent → Held
+unsent h (intent.End o) = with_marks h (after_end_of h.marks o)
+unsent h _ = h
+
+abbrev pub unsent_told : Intent → Told
+unsent_told (intent.End o) = told.Ended
+unsent_told _ = told.Stepped
 
 -- ---- replies of the facility
 
 -- after the reply to an intent that claims no lock, and doesn't look for a cycle
 abbrev pub settled : Held → Intent → Plan → Reply → ℕ → Held
-settled h (intent.Answers slot n m asked) p answer place = with_marks h (answered_after h.marks slot n m asked answer)
-settled h (intent.ReleaseLock slot) p answer place = with_marks h (released_after h.marks (owner.Slot slot) answer)
+settled h (intent.Answers o n m asked) p answer place = with_marks h (answered_after h.marks o n m asked answer)
+settled h (intent.ReleaseLock o) p answer place = with_marks h (released_after h.marks o answer)
 settled h (intent.ReleasePage page) p answer place = with_marks h (page_released_after h.marks page answer)
-settled h (intent.End slot) p answer place = with_marks h (ended_after h.marks (owner.Slot slot) answer)
+settled h (intent.Purge n) p answer place = with_marks h (purged_after h.marks n answer)
+settled h (intent.End o) p answer place = with_marks h (ended_after h.marks o answer)
 settled h (intent.Read frame) p answer place = with_marks h (read_after h.marks frame answer)
 settled h (intent.Test frame slot gives) p answer place = with_marks h (tested_after h.marks h.pages frame slot gives h.limit answer place)
 settled h (intent.WritePage frame) p answer place = with_marks h (written_after h.marks frame answer)
 settled h (intent.Unregister frame) p answer place = with_marks h (unregistered_after h.marks frame answer)
 settled h (intent.Change slot action frames) p answer place = drawn h slot frames p answer place
-settled h (intent.Undo slot frame) p answer place = drawn h slot (one_frame frame) p answer place
+settled h (intent.Undo o frame) p answer place = undone h o frame p answer place
 settled h (intent.Commit slot) p answer place = with_marks h (committed_after h.marks slot answer place)
 settled h (intent.CastoutRead page) p answer place = cast_read h page answer
 settled h intent.CastoutWrite p answer place = with_cast h None
@@ -71,20 +83,21 @@ settled h intent.CastoutDone p answer place = with_cast h None
 settled h _ p answer place = h
 
 abbrev pub told_by : Held → Intent → Plan → Reply → Told
-told_by h (intent.Obtain slot n m) p answer = claimed_told h.marks slot n m answer
-told_by h (intent.Grant slot n m) p answer = claimed_told h.marks slot n m answer
-told_by h (intent.Answers slot n m asked) p answer = answered_told n m asked answer
+told_by h (intent.Obtain o n m) p answer = claimed_told h.marks o n m answer
+told_by h (intent.Grant o n m) p answer = claimed_told h.marks o n m answer
+told_by h (intent.Answers o n m asked) p answer = answered_told n m asked answer
 told_by h (intent.Status member) p answer = status_told answer
 told_by h (intent.Take past) p answer = query_told answer
-told_by h (intent.ReleaseLock slot) p answer = released_told answer
-told_by h (intent.ReleasePage page) p answer = released_told answer
-told_by h (intent.End slot) p answer = ended_told answer
+told_by h (intent.ReleaseLock o) p answer = released_told h.marks o answer
+told_by h (intent.ReleasePage page) p answer = page_released_told answer
+told_by h (intent.Purge n) p answer = purged_told answer
+told_by h (intent.End o) p answer = ended_told answer
 told_by h (intent.Flag flag) p answer = flag_told answer
 told_by h (intent.Read frame) p answer = read_told answer
 told_by h (intent.Test frame slot gives) p answer = tested_told h.pages frame gives h.limit answer
 told_by h (intent.WritePage frame) p answer = written_told answer
 told_by h (intent.Change slot action frames) p answer = drawn_told p answer
-told_by h (intent.Undo slot frame) p answer = drawn_told p answer
+told_by h (intent.Undo o frame) p answer = undone_told p answer
 told_by h (intent.Commit slot) p answer = committed_told answer
 told_by h (intent.NextChanged past) p answer = changed_told answer
 told_by h (intent.CastoutRead page) p answer = cast_told answer
@@ -93,12 +106,12 @@ told_by h intent.CastoutDone p answer = told.CastoutOver
 told_by h _ p answer = told.Stepped
 
 -- the claim of a lock, where it was granted
-abbrev pub SettlesClaim : Held → ℕ → Name → Mode → Reply → ℕ → Held → Type 0
-SettlesClaim h slot n m answer place k = Claims h.marks slot n m answer place k.marks × (k ≡ with_marks h k.marks)
+abbrev pub SettlesClaim : Held → Owner → Name → Mode → Reply → ℕ → Held → Type 0
+SettlesClaim h o n m answer place k = Claims h.marks o n m answer place k.marks × (k ≡ with_marks h k.marks)
 
 abbrev pub Settles : Held → Intent → Plan → Reply → ℕ → Held → Type 0
-Settles h (intent.Obtain slot n m) p answer place k = SettlesClaim h slot n m answer place k
-Settles h (intent.Grant slot n m) p answer place k = SettlesClaim h slot n m answer place k
+Settles h (intent.Obtain o n m) p answer place k = SettlesClaim h o n m answer place k
+Settles h (intent.Grant o n m) p answer place k = SettlesClaim h o n m answer place k
 Settles h other p answer place k = k ≡ settled h other p answer place
 
 -- ---- the look for a cycle

@@ -1,10 +1,12 @@
-ghost use Rattle.std.specs.Prelude.{◌≡◌, ◌≤◌, replicate, IfOk};
+ghost use Rattle.std.specs.Prelude.{◌≡◌, ◌≤◌, replicate, IfOk, OnOk, OnErr};
 ghost use Rattle.member_marks.specs.State.{with_trans};
+ghost use Rattle.member_marks.specs.Rollbacks.{may_adopt, after_adopt, with_room_of};
 ghost use Rattle.member_needs.specs.Frames.{is_stable as is_page_stable};
 ghost use Rattle.member_resources.specs.Held.{IsNew, zeros, with_marks};
 
-use ds_base::{MemberId, NoMemory, Sizes};
-use member_marks::{Marks, Refused};
+use ds_base::{Lrsn, MemberId, NoMemory, Sizes};
+use ds_model::RowChange;
+use member_marks::{Change, Marks, Refused};
 use member_needs::{Cast, is_stable};
 use page_format::Page;
 use std::alloc::Global;
@@ -85,5 +87,21 @@ impl Resources {
         ensures after { self.new ≡ with_marks self.old (with_trans self.old.marks (record self.old.marks.trans { answered = None })) }
     {
         self.marks.take_answered()
+    }
+
+    /// Adds a rollback that a restart of the member left, by its first number, which waits for this failed member: with the
+    /// changes that stand, the oldest first, and those that were taken back, as `Marks::adopt` does.
+    pub fn adopt(
+        &mut self,
+        id: Lrsn,
+        by: MemberId,
+        changes: Vec<Change>,
+        undone: &[RowChange],
+    ) -> Result<bool, NoMemory>
+        ensures told { IfOk result (λ adopted. adopted ≡ may_adopt self.old.marks id changes.items) }
+        ensures after { OnOk result (self.new ≡ with_marks self.old (with_room_of (after_adopt self.old.marks id by changes.items undone.now) self.new.marks)) }
+        ensures err { OnErr result (self.new ≡ with_marks self.old (with_room_of self.old.marks self.new.marks)) }
+    {
+        self.marks.adopt(id, by, changes, undone)
     }
 }

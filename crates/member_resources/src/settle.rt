@@ -2,11 +2,11 @@ ghost use Rattle.std.specs.Prelude.{◌≡◌, None, IfOk, OnErr};
 ghost use Rattle.member_effects.specs.declared.told.Told.TheVariants as told;
 ghost use Rattle.member_effects.specs.Lists.{cast_told};
 ghost use Rattle.member_effects.specs.Claims.{claimed_told};
-ghost use Rattle.member_effects.specs.Changes.{drawn_told};
+ghost use Rattle.member_effects.specs.Changes.{drawn_told, undone_told};
 ghost use Rattle.member_marks.specs.Records.{after_append};
 ghost use Rattle.member_needs.specs.Plans.{PlanIsAllowed};
 ghost use Rattle.member_resources.specs.Held.{with_marks, with_cast};
-ghost use Rattle.member_resources.specs.Settled.{cast_read, written_cast, one_frame, drawn as drawn_by, SettlesClaim, Settles, told_by, SettlesWaits, stored, stored_told};
+ghost use Rattle.member_resources.specs.Settled.{cast_read, written_cast, drawn as drawn_by, undone as undone_by, unsent, unsent_told, SettlesClaim, Settles, told_by, SettlesWaits, stored, stored_told};
 
 use crate::Resources;
 use ds_base::{NoMemory, PageId};
@@ -14,23 +14,14 @@ use facility::Reply;
 use list_structure::Wait;
 use lock_names::{Mode, Name};
 use member_effects::{
-    Told, answered, cast_told, changed_told, claimed, commit_drawn, cycle_refused, drawn, ended,
-    flag_told, page_read, page_released, query_told, read, released, status_told, tested,
-    unregistered, written,
+    Told, answered, cast_told, changed_told, claimed, commit_drawn, cycle_refused, drawn, end_now,
+    ended, flag_told, page_read, page_released, purged, query_told, read, released, status_told,
+    tested, undone, unregistered, written,
 };
 use member_intents::{Frames, Intent};
 use member_marks::Owner;
 use member_needs::{Cast, Plan};
 use std::alloc::Global;
-
-fn one_frame(at: u16) -> Frames
-    ensures { result ≡ one_frame at }
-{
-    Frames {
-        count: 1,
-        at: [at, 0, 0],
-    }
-}
 
 impl Resources {
     // The page is to be written next.
@@ -78,11 +69,18 @@ impl Resources {
         Told::Forced
     }
 
-    fn settle_claim(&mut self, slot: u8, name: &Name, mode: Mode, reply: &Reply, place: u64) -> Told
-        ensures told { result ≡ claimed_told self.old.marks slot name.now mode reply.now }
-        ensures after { SettlesClaim self.old slot name.now mode reply.now place self.new }
+    fn settle_claim(
+        &mut self,
+        owner: &Owner,
+        name: &Name,
+        mode: Mode,
+        reply: &Reply,
+        place: u64,
+    ) -> Told
+        ensures told { result ≡ claimed_told self.old.marks owner.now name.now mode reply.now }
+        ensures after { SettlesClaim self.old owner.now name.now mode reply.now place self.new }
     {
-        claimed(&mut self.marks, slot, name, mode, reply, place)
+        claimed(&mut self.marks, owner, name, mode, reply, place)
     }
 
     fn settle_drawn(
@@ -108,6 +106,40 @@ impl Resources {
         )
     }
 
+    fn settle_undone(
+        &mut self,
+        owner: &Owner,
+        frame: u16,
+        plan: Plan,
+        reply: &Reply,
+        place: u64,
+    ) -> Told
+        requires { PlanIsAllowed plan }
+        ensures told { result ≡ undone_told plan reply.now }
+        ensures after { self.new ≡ undone_by self.old owner.now frame plan reply.now place }
+    {
+        undone(
+            &mut self.marks,
+            self.pages.as_mut_slice(),
+            owner,
+            frame,
+            plan,
+            reply,
+            place,
+        )
+    }
+
+    /// The effect of an event that sends nothing.
+    pub(crate) fn settle_unsent(&mut self, intent: &Intent) -> Told
+        ensures told { result ≡ unsent_told intent.now }
+        ensures after { self.new ≡ unsent self.old intent.now }
+    {
+        match intent {
+            Intent::End { owner } => end_now(&mut self.marks, owner),
+            _ => Told::Stepped,
+        }
+    }
+
     /// The effect of a reply of the facility.
     pub(crate) fn settle_reply(
         &mut self,
@@ -121,20 +153,21 @@ impl Resources {
         ensures after { Settles self.old intent.now plan reply.now place self.new }
     {
         match *intent {
-            Intent::Obtain { slot, name, mode } | Intent::Grant { slot, name, mode } => {
-                self.settle_claim(slot, &name, mode, reply, place)
+            Intent::Obtain { owner, name, mode } | Intent::Grant { owner, name, mode } => {
+                self.settle_claim(&owner, &name, mode, reply, place)
             }
             Intent::Answers {
-                slot,
+                owner,
                 name,
                 mode,
                 asked,
-            } => answered(&mut self.marks, slot, &name, mode, asked, reply),
+            } => answered(&mut self.marks, &owner, &name, mode, asked, reply),
             Intent::Status { .. } => status_told(reply),
             Intent::Take { .. } => query_told(reply),
-            Intent::ReleaseLock { slot } => released(&mut self.marks, &Owner::Slot(slot), reply),
+            Intent::ReleaseLock { owner } => released(&mut self.marks, &owner, reply),
             Intent::ReleasePage { page } => page_released(&mut self.marks, page, reply),
-            Intent::End { slot } => ended(&mut self.marks, &Owner::Slot(slot), reply),
+            Intent::Purge { name } => purged(&mut self.marks, &name, reply),
+            Intent::End { owner } => ended(&mut self.marks, &owner, reply),
             Intent::Flag { .. } => flag_told(reply),
             Intent::Read { frame } => read(&mut self.marks, frame, reply),
             Intent::Test { frame, slot, gives } => tested(
@@ -152,8 +185,8 @@ impl Resources {
             Intent::Change { slot, frames, .. } => {
                 self.settle_drawn(slot, &frames, plan, reply, place)
             }
-            Intent::Undo { slot, frame } => {
-                self.settle_drawn(slot, &one_frame(frame), plan, reply, place)
+            Intent::Undo { owner, frame } => {
+                self.settle_undone(&owner, frame, plan, reply, place)
             }
             Intent::Commit { slot } => commit_drawn(&mut self.marks, slot, reply, place),
             Intent::NextChanged { .. } => changed_told(reply),
@@ -166,6 +199,7 @@ impl Resources {
             | Intent::Unwait { .. }
             | Intent::Waits { .. }
             | Intent::Raise { .. }
+            | Intent::LoseCache
             | Intent::ReadPage { .. }
             | Intent::Append
             | Intent::PhaseDone => Told::Stepped,

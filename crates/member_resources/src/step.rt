@@ -169,7 +169,7 @@ impl Resources {
         ensures failed { IfOk result (λ r. r.1 ≡ answered.Failed → Rose (D.faults disk.old) (D.faults disk.new)) }
     {
         match sent {
-            Sent::None => Ok((Told::Stepped, Answered::None)),
+            Sent::None => Ok((self.settle_unsent(intent), Answered::None)),
             Sent::Command(command) => {
                 self.run_command(alloc, facility, intent, command, plan, place)
             }

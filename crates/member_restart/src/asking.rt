@@ -4,10 +4,11 @@ ghost use Rattle.restart_marks.specs.Moves.{Reaches};
 
 use crate::restart::MemberRestart;
 use crate::stage::Stage;
-use ds_base::{Lrsn, MemberId};
+use ds_base::{Lrsn, MemberId, PageId};
 use list_structure::MemberStatus;
 use lock_names::{Mode, Name};
 use member_intents::{Event, Intent, Outcome};
+use member_trans::Owner;
 use page_format::Page;
 use plock_negotiate::{Negotiation, Progress};
 use restart_marks::{RestartIntent, RestartMarks};
@@ -93,15 +94,18 @@ fn advance(
 }
 
 impl MemberRestart {
+    // The transaction in hand, and the page of its next change.
+    fn page_wanted(&self, marks: &RestartMarks) -> Option<(Lrsn, PageId)> {
+        let id = self.tran()?;
+        Some((id, marks.page_undone(id)?))
+    }
+
     /// The page of the next change is locked next.
     pub(crate) fn begin_lock(&mut self, marks: &RestartMarks) {
-        let page = match self.tran() {
-            Some(id) => marks.page_undone(id),
-            None => None,
-        };
-        match page {
-            Some(page) => {
-                self.negotiation = Some(Negotiation::new(0, Name::Page(page), Mode::X));
+        match self.page_wanted(marks) {
+            Some((id, page)) => {
+                let owner = Owner::Rollback(id);
+                self.negotiation = Some(Negotiation::new(&owner, Name::Page(page), Mode::X));
                 self.stage = Stage::Lock;
             }
             None => self.stage = Stage::Unregister,

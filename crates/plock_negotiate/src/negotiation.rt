@@ -2,6 +2,7 @@ use ds_base::{MemberId, TranId};
 use list_structure::MemberStatus;
 use lock_names::{Class, Mode, Name, class};
 use member_intents::{Event, Intent, Outcome};
+use member_trans::Owner;
 
 /// What a negotiation does next.
 #[derive(Clone, Copy, Debug, PartialEq, Eq)]
@@ -25,12 +26,12 @@ pub enum Progress {
     Refused,
 }
 
-/// The negotiation of a lock for a slot of the member, or for the member itself, whose slot is 0.
+/// The negotiation of a lock for an owner of the member.
 ///
 /// Members stand in a mask: bit `m - 1` for member m.
 #[derive(Clone, Copy, Debug)]
 pub struct Negotiation {
-    slot: u8,
+    owner: Owner,
     name: Name,
     mode: Mode,
     stage: Stage,
@@ -50,9 +51,9 @@ fn in_the_way(mode: Mode, share: u32, exclusive: u32) -> u32 {
 }
 
 impl Negotiation {
-    pub fn new(slot: u8, name: Name, mode: Mode) -> Negotiation {
+    pub fn new(owner: &Owner, name: Name, mode: Mode) -> Negotiation {
         Negotiation {
-            slot,
+            owner: *owner,
             name,
             mode,
             stage: Stage::Obtain,
@@ -60,11 +61,6 @@ impl Negotiation {
             left: 0,
             bell: 0,
         }
-    }
-
-    /// Whether it is for this lock of this slot.
-    pub fn is_for(&self, slot: u8, name: &Name, mode: Mode) -> bool {
-        self.slot == slot && self.name == *name && self.mode == mode
     }
 
     pub fn name(&self) -> Name {
@@ -87,25 +83,25 @@ impl Negotiation {
 
     /// What is wanted next.
     pub fn intent(&self) -> Intent {
-        let slot = self.slot;
+        let owner = self.owner;
         let name = self.name;
         let mode = self.mode;
         match (self.stage, self.turn()) {
             (Stage::Ask, Some(to)) => Intent::Ask {
-                slot,
+                owner,
                 to,
                 name,
                 mode,
             },
             (Stage::Status, Some(member)) => Intent::Status { member },
             (Stage::Answers, _) => Intent::Answers {
-                slot,
+                owner,
                 name,
                 mode,
                 asked: self.asked,
             },
-            (Stage::Grant, _) => Intent::Grant { slot, name, mode },
-            _ => Intent::Obtain { slot, name, mode },
+            (Stage::Grant, _) => Intent::Grant { owner, name, mode },
+            _ => Intent::Obtain { owner, name, mode },
         }
     }
 
