@@ -4,12 +4,12 @@
 //! `Outcome`.
 #![tactic(auto)]
 
-mod cell_slot;
+mod cells;
 mod intent;
 mod outcome;
 mod test;
 
-pub use cell_slot::cell_slot;
+pub use cells::cell_slot;
 pub use intent::{Frames, Intent};
 pub use outcome::{Answered, Event, Look, Outcome, Sent};
 pub use test::{StepFault, Test};
