@@ -3,7 +3,7 @@ ghost use Rattle.member_marks.specs.Local.{Reaches};
 
 use crate::room::{COMPENSATION, ROW_CHANGE};
 use lock_names::{Mode, Name};
-use member_marks::{Marks, Owner};
+use member_marks::Marks;
 use member_state::{Run, RunState, Work};
 use page_plans::{Action, first_page};
 use plock_negotiate::Negotiation;
@@ -59,7 +59,7 @@ pub fn lock_held(run: &mut Run) {
 
 /// The page's lock is negotiated from the beginning.
 pub fn negotiate(run: &mut Run) {
-    let negotiation = Negotiation::new(&Owner::Slot(run.owner), Name::Page(run.page), Mode::X);
+    let negotiation = Negotiation::new(&run.owner, Name::Page(run.page), Mode::X);
     run.state = RunState::Lock { negotiation };
 }
 

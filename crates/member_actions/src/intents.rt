@@ -17,12 +17,16 @@ fn gives(run: &Run) -> Option<TableId> {
 }
 
 // Where the heap has no slot left, that refuses the owner's transaction.
+fn tests(run: &Run, frame: u16, marks: &Marks) -> Intent {
+    match (&run.owner, gives(run)) {
+        (Owner::Slot(slot), Some(table)) => test_intent(marks, frame, *slot, Some(table)),
+        _ => test_intent(marks, frame, 0, None),
+    }
+}
+
 fn looks_at(run: &Run, marks: &Marks) -> Intent {
     match last_frame(run) {
-        Some(frame) => match gives(run) {
-            Some(table) => test_intent(marks, frame, run.owner, Some(table)),
-            None => test_intent(marks, frame, 0, None),
-        },
+        Some(frame) => tests(run, frame, marks),
         None => Intent::Step,
     }
 }
@@ -41,20 +45,25 @@ fn fills(run: &Run, marks: &Marks) -> Option<Intent> {
     None
 }
 
+fn takes_back(run: &Run) -> Intent {
+    match last_frame(run) {
+        Some(frame) => Intent::Undo {
+            owner: run.owner,
+            frame,
+        },
+        None => Intent::Step,
+    }
+}
+
+// A rollback changes nothing but what it takes back.
 fn changes(run: &Run) -> Intent {
-    match run.work {
-        Work::Change(action) => Intent::Change {
-            slot: run.owner,
+    match (&run.owner, run.work) {
+        (Owner::Slot(slot), Work::Change(action)) => Intent::Change {
+            slot: *slot,
             action,
             frames: run.frames,
         },
-        Work::Compensate => match last_frame(run) {
-            Some(frame) => Intent::Undo {
-                owner: Owner::Slot(run.owner),
-                frame,
-            },
-            None => Intent::Step,
-        },
+        _ => takes_back(run),
     }
 }
 

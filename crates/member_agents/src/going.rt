@@ -118,7 +118,7 @@ fn meet(
         Wanted::Commit => state.set_state(slot, SeatState::CommitDraw),
         Wanted::Raise(flag) => state.set_state(slot, SeatState::Raise { flag }),
         Wanted::Await(flag) => state.set_state(slot, SeatState::Flag { flag }),
-        Wanted::LoseCache => state.set_standing_state(slot, SeatState::Lose, Standing::Idle),
+        Wanted::LoseCache => state.set_state(slot, SeatState::Lose),
     }
     Ok(false)
 }

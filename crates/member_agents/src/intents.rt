@@ -3,7 +3,7 @@
 use member_intents::Intent;
 use member_marks::{Marks, Owner};
 use member_resources::Resources;
-use member_state::{MemberState, SeatState, Standing, closing_intent, test_intent};
+use member_state::{MemberState, SeatState, Standing, closing_intent, release_intent, test_intent};
 
 /// The bytes of a Commit record.
 const COMMIT_BYTES: u32 = 22;
@@ -13,24 +13,6 @@ fn commit_intent(marks: &Marks, slot: u8) -> Intent {
         Intent::Append
     } else {
         Intent::Commit { slot }
-    }
-}
-
-fn release_intent(marks: &Marks, slot: u8) -> Intent {
-    match marks.releasing(&Owner::Slot(slot)) {
-        Some(_) => Intent::ReleaseLock {
-            owner: Owner::Slot(slot),
-        },
-        None => Intent::End {
-            owner: Owner::Slot(slot),
-        },
-    }
-}
-
-fn writes_intent(resources: &Resources, slot: u8) -> Intent {
-    match closing_intent(resources, slot) {
-        Some(intent) => intent,
-        None => release_intent(resources.marks(), slot),
     }
 }
 
@@ -48,8 +30,14 @@ fn intent_at(state: &SeatState, slot: u8, resources: &Resources) -> Intent {
         SeatState::Flag { flag } => Intent::Flag { flag: *flag },
         SeatState::CommitDraw => commit_intent(resources.marks(), slot),
         SeatState::Force => Intent::Append,
-        SeatState::Writes => writes_intent(resources, slot),
-        SeatState::Release => release_intent(resources.marks(), slot),
+        SeatState::Writes => closing_intent(resources, &Owner::Slot(slot)),
+        SeatState::Release { purge } => {
+            release_intent(resources.marks(), &Owner::Slot(slot), purge)
+        }
+        SeatState::Leave => Intent::End {
+            owner: Owner::Slot(slot),
+        },
+        SeatState::Lose => Intent::LoseCache,
         _ => Intent::Step,
     }
 }

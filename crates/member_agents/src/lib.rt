@@ -12,10 +12,11 @@
 //! | frame | choice 18 gives a frame |
 //! | read | `read`, disk, `test`; valid: the page is used |
 //! | action | choice 18 ends the page action |
-//! | raise, flag | that command |
+//! | raise, flag, lose | that command |
 //! | commit | `draw` (the log is appended first where it has no room); then force |
 //! | force | the append of the Commit or Ended record, by whichever choice |
 //! | writes, release | the changed pages of its page sets are written, its locks given up, and it ends |
+//! | leave | `end` of a transaction whose rollback was postponed |
 //!
 //! Between two states as much is computed as needs no command: locks that the member's own claims cover, wants that follow.
 #![tactic(auto)]

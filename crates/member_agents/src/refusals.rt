@@ -5,7 +5,7 @@ use crate::going::go_on;
 use crate::wants::{tell_met, tell_refused};
 use ds_base::NoMemory;
 use member_intents::Event;
-use member_marks::Marks;
+use member_marks::{Marks, Owner, Stage};
 use member_state::{MemberState, SeatState};
 use std::alloc::Global;
 use tran_core::Met;
@@ -55,9 +55,30 @@ pub fn refuse_need(
     Ok(ends_need(state, slot))
 }
 
-/// The refusal that stands in this event is the fate of the slot's transaction, which is rolled back.
+// The rollback needs a page that a failed member retains: it waits apart, with its claims, and the seat is left. It goes on
+// where the marks don't allow that.
 #[tactic(auto, using(member_marks::specs::Local::on, member_marks::specs::Local::stays))]
-pub fn refuse(
+fn postpone(
+    state: &mut MemberState,
+    alloc: Global,
+    slot: u8,
+    event: &Event,
+    marks: &mut Marks,
+) -> Result<(), NoMemory>
+    ensures reaches { Reaches marks.old marks.new }
+{
+    match marks.postpone(slot) {
+        Some(id) => {
+            state.add_rollback(id, event.bell)?;
+            state.set_state(slot, SeatState::Leave);
+            Ok(())
+        }
+        None => go_on(state, alloc, slot, event, marks),
+    }
+}
+
+#[tactic(auto, using(member_marks::specs::Local::on, member_marks::specs::Local::stays))]
+fn refuse_forward(
     state: &mut MemberState,
     alloc: Global,
     slot: u8,
@@ -70,4 +91,22 @@ pub fn refuse(
         go_on(state, alloc, slot, event, marks)?;
     }
     Ok(())
+}
+
+/// The refusal that stands in this event is the fate of the slot's transaction, which is rolled back. One that is being
+/// rolled back is postponed.
+#[tactic(auto, using(member_marks::specs::Local::on, member_marks::specs::Local::stays))]
+pub fn refuse(
+    state: &mut MemberState,
+    alloc: Global,
+    slot: u8,
+    event: &Event,
+    marks: &mut Marks,
+) -> Result<(), NoMemory>
+    ensures reaches { Reaches marks.old marks.new }
+{
+    match marks.stage(&Owner::Slot(slot)) {
+        Stage::Undoing => postpone(state, alloc, slot, event, marks),
+        _ => refuse_forward(state, alloc, slot, event, marks),
+    }
 }

@@ -8,7 +8,7 @@ use crate::wants::tell_met;
 use ds_base::NoMemory;
 use member_intents::{Event, Outcome};
 use member_marks::Marks;
-use member_state::{MemberState, Posted, Seat, SeatState, Standing, unpin_for_reader};
+use member_state::{MemberState, Posted, Seat, SeatState, Standing, purge_after, unpin_for_reader};
 use page_format::Page;
 use std::alloc::Global;
 use tran_core::{Agent, Met};
@@ -139,10 +139,20 @@ fn flag_told(
     Ok(())
 }
 
-// Closings: a page was written, a lock was given up, or the transaction has ended.
-fn closing_told(state: &mut MemberState, slot: u8, outcome: &Outcome<'_>) {
+// The number of the Commit record is drawn.
+fn commit_drawn(state: &mut MemberState, slot: u8) {
+    state.points.count_drawn();
+    state.set_state(slot, SeatState::Force);
+}
+
+// Closings: a page was written, a lock was given up, a name was purged, or the transaction has ended.
+fn closing_told(state: &mut MemberState, slot: u8, outcome: &Outcome<'_>, marks: &Marks) {
     match outcome {
-        Outcome::Released { .. } => state.set_state(slot, SeatState::Release),
+        Outcome::Released { name } => {
+            let purge = purge_after(marks, name);
+            state.set_state(slot, SeatState::Release { purge });
+        }
+        Outcome::Purged => state.set_state(slot, SeatState::Release { purge: None }),
         Outcome::Ended => state.free_seat(slot),
         _ => {}
     }
@@ -174,17 +184,19 @@ fn answered(
             clear_posted(state, slot);
             go_on(state, alloc, slot, event, marks)
         }
-        (SeatState::Raise { .. }, _) => action_done(state, alloc, slot, event, marks),
+        (SeatState::Raise { .. } | SeatState::Lose, _) => {
+            action_done(state, alloc, slot, event, marks)
+        }
         (SeatState::Flag { flag }, Outcome::Raised(is_raised)) => {
             flag_told(state, alloc, slot, event, flag, *is_raised, marks)
         }
         (SeatState::CommitDraw, Outcome::Drawn) => {
-            state.set_state(slot, SeatState::Force);
+            commit_drawn(state, slot);
             Ok(())
         }
         (SeatState::CommitDraw, Outcome::Refused) => refuse(state, alloc, slot, event, marks),
-        (SeatState::Writes | SeatState::Release, _) => {
-            closing_told(state, slot, outcome);
+        (SeatState::Writes | SeatState::Release { .. } | SeatState::Leave, _) => {
+            closing_told(state, slot, outcome, marks);
             Ok(())
         }
         _ => Ok(()),

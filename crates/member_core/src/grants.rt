@@ -4,7 +4,8 @@ ghost use Rattle.member_marks.specs.Local.{Reaches};
 use ds_base::PageId;
 use member_actions::frame_given;
 use member_marks::Marks;
-use member_state::{FrameRequest, MemberState, SeatState, find_for_reader, next_run};
+use member_retry::{frame_given as give_to_retry, is_locking, submit_where_locked};
+use member_state::{FrameRequest, MemberState, RETRY, SeatState, find_for_reader, next_run};
 
 fn is_served(state: &MemberState, page: PageId) -> bool {
     match state.service {
@@ -50,23 +51,38 @@ fn give_run_frame(state: &mut MemberState, page: PageId, marks: &mut Marks)
     }
 }
 
+// The change that the rollback in hand takes back goes first. While that asks for its page's lock, no other action begins.
+fn take_next(state: &mut MemberState, marks: &Marks) {
+    if state.run.is_none() {
+        submit_where_locked(state, marks);
+    }
+    if state.run.is_none() && !is_locking(state) {
+        state.run = next_run(state, marks);
+    }
+}
+
 /// Begins the next action, and gives the action in hand its frame.
 #[tactic(auto, using(member_marks::specs::Local::on, member_marks::specs::Local::stays))]
 pub fn begin_run(state: &mut MemberState, marks: &mut Marks)
     ensures reaches { Reaches marks.old marks.new }
 {
-    if state.run.is_none() {
-        state.run = next_run(state, marks);
-    }
+    take_next(state, marks);
     if let Some(page) = page_wanted(state) {
         give_run_frame(state, page, marks);
     }
 }
 
 // The seat reads in this frame.
-fn give_to_reader(state: &mut MemberState, request: FrameRequest, frame: u16) {
-    if let Ok(slot) = u8::try_from(request.choice) {
+fn give_to_seat(state: &mut MemberState, choice: u64, frame: u16) {
+    if let Ok(slot) = u8::try_from(choice) {
         state.set_state(slot, SeatState::Read { frame });
+    }
+}
+
+fn give_to_reader(state: &mut MemberState, request: FrameRequest, frame: u16) {
+    match request.choice {
+        RETRY => give_to_retry(state, request.page, frame),
+        choice => give_to_seat(state, choice, frame),
     }
 }
 

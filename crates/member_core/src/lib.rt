@@ -8,6 +8,7 @@
 //! | 18 | services, and the page action in hand |
 //! | 19 | castout |
 //! | 21 | the look for a cycle of waits |
+//! | 22 | postponed rollbacks |
 //!
 //! Choice 18 has two kinds of services: the yield of a page that another member asked for, and a frame's reuse. An event does
 //! the service in hand, and else goes on with the action; so a page that no action has pinned is yielded also while the

@@ -13,7 +13,8 @@ use member_agents::{seat_intent, take_for_seat};
 use member_intents::{Event, Intent, Look, Outcome};
 use member_marks::Marks;
 use member_resources::{Policy, Resources};
-use member_state::{CASTOUT, CYCLES, DUTY, MemberState, PAGES, QUERY};
+use member_retry::{retry_intent, take_for_retry};
+use member_state::{CASTOUT, CYCLES, DUTY, MemberState, PAGES, QUERY, RETRY};
 use std::alloc::Global;
 
 /// What a member of the group wants next: for its agents, for other members, and for room in its pool and in the cache.
@@ -52,6 +53,7 @@ impl Member {
                 Ok(())
             }
             CYCLES => take_for_cycles(state, alloc, event, outcome, marks),
+            RETRY => take_for_retry(state, event, outcome, marks),
             _ => Ok(()),
         }
     }
@@ -76,6 +78,7 @@ impl Policy for Member {
             PAGES => pages_intent(&self.state, resources),
             CASTOUT => castout_intent(&self.state),
             CYCLES => cycles_intent(&self.state),
+            RETRY => retry_intent(&self.state, resources),
             _ => Intent::Step,
         }
     }
@@ -89,6 +92,7 @@ impl Policy for Member {
         outcome: &Outcome<'_>,
         marks: &mut Marks,
     ) -> Result<(), NoMemory> {
+        self.state.points.count_event();
         self.note_damage(outcome);
         let goes_on = negotiates(&self.state, choice, outcome);
         self.take_for(alloc, choice, event, outcome, marks)?;
@@ -103,17 +107,17 @@ impl Policy for Member {
         _alloc: Global,
         trans: TranList,
         raisers: &[Option<TranId>],
-        _fail: Option<FailAt>,
+        fail: Option<FailAt>,
     ) -> Result<(), NoMemory> {
-        self.state.begin_phase(trans, raisers)
+        self.state.begin_phase(trans, raisers, fail)
     }
 
     fn is_fail_due(&self) -> bool {
-        false
+        self.state.is_fail_due()
     }
 
-    fn adopt(&mut self, _id: Lrsn) -> Result<(), NoMemory> {
-        Ok(())
+    fn adopt(&mut self, id: Lrsn) -> Result<(), NoMemory> {
+        self.state.add_rollback(id, 0)
     }
 
     fn fail(&mut self) {

@@ -1,8 +1,9 @@
 //! Which choices are ready, and which events are those of a negotiation that goes on.
 
 use member_intents::{Look, Outcome};
+use member_retry::is_locking;
 use member_state::{
-    CASTOUT, CYCLES, DUTY, MemberState, PAGES, QUERY, Run, RunState, SeatState, Standing,
+    CASTOUT, CYCLES, DUTY, MemberState, PAGES, QUERY, RETRY, Run, RunState, SeatState, Standing,
 };
 
 /// After so many draws that found a bit clear, an action counts as waiting for room in the cache.
@@ -21,14 +22,19 @@ fn is_castout_ready(state: &MemberState, look: &Look) -> bool {
     state.castout.is_some() || (!look.is_lost && (look.is_half || wants_room(state)))
 }
 
+// A member whose rollback waits for a live one isn't done: it may go on with it in this phase.
+fn is_done(state: &MemberState, look: &Look) -> bool {
+    state.is_at_rest() && !look.waits_for_live
+}
+
 /// Whether the choice may be taken now.
 pub fn is_ready(state: &MemberState, choice: u64, look: &Look) -> bool {
     match choice {
-        DUTY => !look.is_done && state.is_at_rest(),
+        DUTY => !look.is_done && is_done(state, look),
         QUERY => look.asked,
         CASTOUT => is_castout_ready(state, look),
         CYCLES => !state.waiting.is_empty() && state.standing(CYCLES).is_ready(look.bell),
-        1..=16 | PAGES => state.standing(choice).is_ready(look.bell),
+        1..=16 | PAGES | RETRY => state.standing(choice).is_ready(look.bell),
         _ => false,
     }
 }
@@ -59,11 +65,16 @@ fn seat_locks(state: &MemberState, choice: u64) -> bool {
     }
 }
 
+fn retry_locks(state: &MemberState) -> bool {
+    is_locking(state) && state.standing(RETRY) == Standing::Ready
+}
+
 /// Whether this is an event of a negotiation that goes on. It changes nothing else.
 pub fn negotiates(state: &MemberState, choice: u64, outcome: &Outcome<'_>) -> bool {
     let is_locking = match choice {
         1..=16 => seat_locks(state, choice),
         PAGES => pages_lock(state),
+        RETRY => retry_locks(state),
         _ => false,
     };
     is_locking && !is_end(outcome)

@@ -5,7 +5,8 @@ use crate::grants::{begin_run, first_request, give_reader_frames, page_wanted};
 use ds_base::PageId;
 use member_actions::has_frame;
 use member_marks::Marks;
-use member_state::{MemberState, PAGES, Service, Standing};
+use member_retry::is_locking;
+use member_state::{MemberState, PAGES, RETRY, Service, Standing};
 
 // A frame that was pinned meanwhile isn't reused.
 fn check_service(state: &mut MemberState, marks: &Marks) {
@@ -94,7 +95,19 @@ fn stand_pages(state: &mut MemberState) {
     state.stand(PAGES, standing);
 }
 
-/// Begins an action or a service, gives frames, and says how choice 18 stands.
+// Choice 22 asks for a page's lock while choice 18 has no action in hand. With no rollback in hand it waits for the next try.
+fn stand_retry(state: &mut MemberState) {
+    if is_locking(state) {
+        let standing = match state.run {
+            Some(_) => Standing::Idle,
+            None => Standing::Ready,
+        };
+        state.stand(RETRY, standing);
+    }
+    state.stand_retry();
+}
+
+/// Begins an action or a service, gives frames, and says how choices 18 and 22 stand.
 #[tactic(auto, using(member_marks::specs::Local::on, member_marks::specs::Local::stays))]
 pub fn settle(state: &mut MemberState, marks: &mut Marks)
     ensures reaches { Reaches marks.old marks.new }
@@ -105,4 +118,5 @@ pub fn settle(state: &mut MemberState, marks: &mut Marks)
     check_service(state, marks);
     pick_service(state, marks);
     stand_pages(state);
+    stand_retry(state);
 }

@@ -7,7 +7,7 @@ ghost use Rattle.member_marks.specs.Local.{Reaches};
 use crate::state::MemberState;
 use ds_base::{PageId, TableId};
 use member_intents::Intent;
-use member_marks::{Marks, Owner};
+use member_marks::Marks;
 use member_resources::Resources;
 
 /// What the frame needs before it can be tested or drawn for.
@@ -37,14 +37,6 @@ pub fn write_intent(resources: &Resources, frame: u16) -> Intent {
         Intent::WritePage { frame }
     } else {
         Intent::Append
-    }
-}
-
-/// What is written next, while a page of the page sets that the slot's transaction changed is changed.
-pub fn closing_intent(resources: &Resources, slot: u8) -> Option<Intent> {
-    match resources.marks().to_write(&Owner::Slot(slot)) {
-        Some(frame) => Some(write_intent(resources, frame)),
-        None => None,
     }
 }
 

@@ -5,8 +5,11 @@
 #![tactic(auto)]
 
 mod choices;
+mod closing;
 mod frames;
+mod points;
 mod queues;
+mod retry;
 mod run;
 mod seat;
 mod state;
@@ -14,10 +17,11 @@ mod state;
 pub use choices::{
     CASTOUT, CHOICES, CYCLES, ChoiceMask, DUTY, PAGES, QUERY, REBUILD, RETRY, Standing,
 };
-pub use frames::{
-    closing_intent, fill_intent, find_for_reader, test_intent, unpin_for_reader, write_intent,
-};
-pub use queues::{next_run, submit};
+pub use closing::{closing_intent, purge_after, release_intent};
+pub use frames::{fill_intent, find_for_reader, test_intent, unpin_for_reader, write_intent};
+pub use points::Points;
+pub use queues::{next_run, submit, submit_first};
+pub use retry::{RetryState, Rollback};
 pub use run::{FrameRequest, Run, RunState, Service, Work};
 pub use seat::{Posted, Seat, SeatState};
 pub use state::MemberState;

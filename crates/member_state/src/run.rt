@@ -2,6 +2,7 @@
 
 use ds_base::{PageId, Place};
 use member_intents::Frames;
+use member_marks::Owner;
 use page_plans::Action;
 use plock_negotiate::Negotiation;
 
@@ -26,10 +27,10 @@ pub enum RunState {
     Draw,
 }
 
-/// A page action for the transaction of a slot.
+/// A page action for the transaction of a slot, or for a postponed rollback.
 #[derive(Clone, Copy, Debug)]
 pub struct Run {
-    pub owner: u8,
+    pub owner: Owner,
     /// What was asked for.
     pub wanted: Work,
     /// What is done now: the split of a full branch goes before its entry.
@@ -65,9 +66,9 @@ pub struct FrameRequest {
 
 impl Run {
     /// A page action that begins at this page.
-    pub fn new(owner: u8, work: &Work, page: PageId) -> Run {
+    pub fn new(owner: &Owner, work: &Work, page: PageId) -> Run {
         Run {
-            owner,
+            owner: *owner,
             wanted: *work,
             work: *work,
             page,

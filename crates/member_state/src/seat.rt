@@ -2,6 +2,7 @@
 
 use crate::run::Work;
 use ds_base::{PageId, TranId};
+use lock_names::Name;
 use plock_negotiate::Negotiation;
 use tran_core::Agent;
 
@@ -27,7 +28,7 @@ pub enum SeatState {
     Raise { flag: u8 },
     /// It looks whether the flag is raised.
     Flag { flag: u8 },
-    /// The cache is to be lost. No script with that is played yet.
+    /// The cache is to be lost.
     Lose,
     /// The number of its Commit record is to be drawn.
     CommitDraw,
@@ -35,8 +36,10 @@ pub enum SeatState {
     Force,
     /// The changed pages of its page sets are to be written.
     Writes,
-    /// Its locks are to be given up.
-    Release,
+    /// Its locks are to be given up, after the purge of this name.
+    Release { purge: Option<Name> },
+    /// Its rollback was postponed. Its number ends, and the seat is free.
+    Leave,
 }
 
 /// The transactions for which a transaction waits, one for each of their members.
@@ -111,5 +114,13 @@ impl Seat {
 
     pub fn is_forcing(&self) -> bool {
         matches!(self.state, SeatState::Force)
+    }
+
+    /// Whether it raises this flag in its next event.
+    pub fn raises(&self, flag: u8) -> bool {
+        match self.state {
+            SeatState::Raise { flag: next } => next == flag,
+            _ => false,
+        }
     }
 }

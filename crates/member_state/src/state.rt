@@ -1,12 +1,15 @@
 //! What the policy of a member keeps.
 
-use crate::choices::{CHOICES, CYCLES, ChoiceMask, Standing};
+use crate::choices::{CHOICES, CYCLES, ChoiceMask, RETRY, Standing};
+use crate::points::Points;
+use crate::retry::{RetryState, Rollback};
 use crate::run::{FrameRequest, Run, Service};
 use crate::seat::{Seat, SeatState};
 use castout::Castout;
-use ds_base::{NoMemory, PageId, Sizes, TranId, Volume};
-use ds_model::{Reads, Tran, TranList};
+use ds_base::{Lrsn, NoMemory, PageId, Sizes, TranId, Volume};
+use ds_model::{FailAt, Reads, Tran, TranList};
 use list_structure::{Asker, Query};
+use member_marks::Owner;
 use std::alloc::Global;
 use std::collections::VecDeque;
 
@@ -50,6 +53,11 @@ pub struct MemberState {
     /// The castout in hand, and the page past which the next one is sought.
     pub castout: Option<Castout>,
     pub cast_after: Option<PageId>,
+    /// Postponed rollbacks in the order in which they were. The one that is tried has this place among them.
+    pub rollbacks: Vec<Rollback>,
+    pub retried: usize,
+    pub retry: RetryState,
+    pub points: Points,
     /// How many heap pages a table may have.
     pub heap_limit: u32,
     /// The first byte found that can't stand in its page.
@@ -104,6 +112,10 @@ impl MemberState {
             reader_limit: reader_limit(sizes),
             castout: None,
             cast_after: None,
+            rollbacks: Vec::with_capacity(alloc, slots)?,
+            retried: 0,
+            retry: RetryState::None,
+            points: Points::new(None),
             heap_limit: sizes.pages,
             damage: None,
         })
@@ -119,8 +131,10 @@ impl MemberState {
         self.full = ChoiceMask::new();
         self.waiting = ChoiceMask::new();
         self.damage = None;
+        self.points = Points::new(None);
         self.clear_part();
         self.clear_queues();
+        self.clear_rollbacks();
     }
 
     fn clear_part(&mut self) {
@@ -141,22 +155,29 @@ impl MemberState {
         self.cast_after = None;
     }
 
+    fn clear_rollbacks(&mut self) {
+        self.rollbacks.clear();
+        self.retried = 0;
+        self.retry = RetryState::None;
+    }
+
     /// The member's agents may run from now on.
     pub fn open(&mut self) {
         self.opened = true;
         self.stand_free_seats();
+        self.stand_retry();
     }
 
     // ---- parts
 
     /// A phase begins: the member's part of it is in hand. The raisers are those of the phase's flags, from flag 1 on.
-    ///
-    /// Without memory nothing changes but room.
     pub fn begin_phase(
         &mut self,
         trans: TranList,
         raisers: &[Option<TranId>],
+        fail: Option<FailAt>,
     ) -> Result<(), NoMemory> {
+        self.points = Points::new(fail);
         self.raisers.clear();
         self.raisers.extend_from_slice(raisers)?;
         let mut part = trans.into_vec();
@@ -247,8 +268,12 @@ impl MemberState {
         }
     }
 
-    /// The log buffer was appended: seats that waited for that write their pages next.
+    /// The log buffer was appended: seats and the rollback that waited for that write their pages next.
     pub fn forced(&mut self) {
+        self.points.count_forced();
+        if let RetryState::Force = self.retry {
+            self.retry = RetryState::Writes;
+        }
         for seat in self.seats.as_mut_slice().iter_mut() {
             if seat.is_forcing() {
                 seat.state = SeatState::Writes;
@@ -281,5 +306,37 @@ impl MemberState {
     pub fn unpark(&mut self, choice: u64) {
         self.stand(choice, Standing::Ready);
         self.full.remove(choice);
+    }
+}
+
+impl MemberState {
+    // ---- postponed rollbacks
+
+    /// The rollback waits, after a try at this bell.
+    pub fn add_rollback(&mut self, id: Lrsn, tried: u64) -> Result<(), NoMemory> {
+        self.rollbacks.push(Rollback { id, tried })?;
+        Ok(())
+    }
+
+    /// The rollback that is tried, or would be.
+    pub fn retried(&self) -> Option<Owner> {
+        let rollback = self.rollbacks.get(self.retried)?;
+        Some(Owner::Rollback(rollback.id))
+    }
+
+    fn oldest_try(&self) -> Option<u64> {
+        self.rollbacks.iter().map(|rollback| rollback.tried).min()
+    }
+
+    /// While no rollback is tried, choice 22 waits for the bell of the oldest try.
+    pub fn stand_retry(&mut self) {
+        let RetryState::None = self.retry else {
+            return;
+        };
+        let standing = match self.oldest_try() {
+            Some(tried) if self.opened => Standing::Until(tried),
+            _ => Standing::Idle,
+        };
+        self.stand(RETRY, standing);
     }
 }
