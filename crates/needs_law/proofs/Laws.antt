@@ -18,20 +18,20 @@ use Rattle.member_intents.specs.declared.test.Test.TheVariants.{NotWritten}
 use Rattle.member_trans.specs.declared.fate.Change.{Change}
 use Rattle.member_trans.specs.declared.fate.Owner.{Owner}
 use Rattle.member_trans.specs.declared.fate.Owner.TheVariants as owner
-use Rattle.member_trans.specs.Trans.{is_undoing, newest_of}
+use Rattle.member_trans.specs.Trans.{is_undoing, was_postponed, newest_of}
 use Rattle.member_marks.specs.State.{MarksState, tran_of}
-use Rattle.member_marks.specs.Claims.{releasing, releasing_page}
+use Rattle.member_marks.specs.Claims.{is_for_agents, releasing, releasing_page}
 use Rattle.member_marks.specs.Frames.{frame_in}
 use Rattle.member_needs.specs.declared.castout.Cast.{Cast}
 use Rattle.member_needs.specs.declared.needs.Setting.{Setting}
 use Rattle.member_needs.specs.Tested.{Tested, passed, sends}
-use Rattle.member_needs.specs.Locks.{slot_test, page_test, claim_test}
-use Rattle.member_needs.specs.Closing.{over_test, gives_up, ends, gives_up_page, is_page_changed}
+use Rattle.member_needs.specs.Locks.{slot_test, agent_test, page_test, claim_test}
+use Rattle.member_needs.specs.Closing.{over_test, gives_up, end_test, ends, purge_need, gives_up_page, is_page_changed}
 use Rattle.member_needs.specs.Waits.{tran_test}
 use Rattle.member_needs.specs.Frames.{reads, reads_page, header_test, gives_test, tests, writes, unregisters}
 use Rattle.member_needs.specs.Records.{row_test, action_test, frame_of, place_by, holds_test, nth_test, frames_test, forward_test, change_need, undoes, undo_need, commit_need, append_need}
 use Rattle.member_needs.specs.Castout.{done, cast_need, done_need}
-use Rattle.needs_law.specs.Lawful.{SlotClaims, MemberClaims, MayClaim, MayClose, Releases, EndsTran, ReleasesPage, page_of, ReadsFrame, FillsFrame, IsHeader, MayGive, TestsFrame, WritesFrame, FreesFrame, MayChangeRow, MayChange, HoldsPage, HoldsNth, HoldsPages, MayDraw, Changes, Undoes, Commits, Appends, WritesCast, EndsCast, Asks, SendsLawfully}
+use Rattle.needs_law.specs.Lawful.{SlotClaims, AgentClaims, MemberClaims, MayClaimAs, MayClaim, MayClose, Releases, MayEnd, EndsTran, Purges, ReleasesPage, page_of, ReadsFrame, FillsFrame, IsHeader, MayGive, TestsFrame, WritesFrame, FreesFrame, MayChangeRow, MayChange, HoldsPage, HoldsNth, HoldsPages, MayDraw, Changes, Undoes, Commits, Appends, WritesCast, EndsCast, Asks, SendsLawfully}
 use Rattle.needs_law.proofs.Tests.{when_ok, after_ok, ok_out, not_true, nonzero, is_zero}
 
 -- ---- what is sent behind a test
@@ -45,8 +45,11 @@ slot_claims : (s : MarksState) (slot : ℕ) (n : Name) (m : Mode) → slot_test 
 slot_claims s slot n m e =
     let a = when_ok _ _ _ e in
     let b = when_ok _ _ _ a.1 in
-    let c = when_ok _ _ _ b.1 in
-    record { forward = a.0; of_slot = b.0; joined = c.0 }
+    record { forward = a.0; joined = b.0 }
+
+agent_claims : (s : MarksState) (o : Owner) (n : Name) (m : Mode) → agent_test s o n m ≡ passed → AgentClaims s o n m
+agent_claims s (owner.Slot slot) n m e = slot_claims s slot n m e
+agent_claims s (owner.Rollback id) n m e = cc
 
 member_claims : (s : MarksState) (n : Name) (m : Mode) → page_test s n m ≡ passed → MemberClaims s n m
 member_claims s (name.Page page) m e =
@@ -57,9 +60,12 @@ member_claims s (name.Space table) m e = cc
 member_claims s (name.Row table key) m e = cc
 member_claims s (name.Set n) m e = cc
 
-may_claim : (own : Bool) (s : MarksState) (slot : ℕ) (n : Name) (m : Mode) → (if own then page_test s n m else slot_test s slot n m) ≡ passed → MayClaim own s slot n m
-may_claim true s slot n m e = member_claims s n m e
-may_claim false s slot n m e = slot_claims s slot n m e
+may_claim_as : (agents : Bool) (s : MarksState) (o : Owner) (n : Name) (m : Mode) → (if agents then agent_test s o n m else page_test s n m) ≡ passed → MayClaimAs agents s o n m
+may_claim_as true s o n m e = agent_claims s o n m e
+may_claim_as false s o n m e = member_claims s n m e
+
+may_claim : (s : MarksState) (o : Owner) (n : Name) (m : Mode) → claim_test s o n m ≡ passed → MayClaim s o n m
+may_claim s o n m e = may_claim_as (is_for_agents n) s o n m e
 
 -- ---- ends
 
@@ -73,9 +79,20 @@ releases : (s : MarksState) (o : Owner) (next : Option (Name × Interest)) (out 
 releases s o None out is over e = cc
 releases s o (Some x) out is over e = record { told = x; may = may_close s o over; next = is; is = ok_out _ _ e }
 
-ends_tran : (s : MarksState) (o : Owner) (next : Option (Name × Interest)) (out : Sent) → releasing s o ≡ next → over_test s o ≡ passed → ends s o next ≡ Ok out → EndsTran s o out
-ends_tran s o None out is over e = record { may = may_close s o over; none = is; is = ok_out _ _ e }
+may_end : (postponed : Bool) (s : MarksState) (o : Owner) → (if postponed then passed else over_test s o) ≡ passed → MayEnd postponed s o
+may_end true s o e = tt
+may_end false s o e = may_close s o e
+
+ends_tran : (s : MarksState) (o : Owner) (next : Option (Name × Interest)) (out : Sent) → releasing s o ≡ next → end_test s o ≡ passed → ends s o next ≡ Ok out → EndsTran s o out
+ends_tran s o None out is over e = record { may = may_end (was_postponed (tran_of s o).stage) s o over; none = is; is = ok_out _ _ e }
 ends_tran s o (Some x) out is over e = cc
+
+purges : (s : MarksState) (n : Name) (out : Sent) → purge_need s n ≡ Ok out → Purges s n out
+purges s n out e =
+    let a = after_ok _ _ _ e in
+    let b = when_ok _ _ _ a.0 in
+    let c = when_ok _ _ _ b.1 in
+    record { unclaimed = not_true _ b.0; kept = c.0; is = ok_out _ _ a.1 }
 
 releases_page : (s : MarksState) (page : PageId) (next : Option (Name × Interest)) (out : Sent) → releasing_page s page ≡ next → gives_up_page (is_page_changed s page) next ≡ Ok out → ReleasesPage s page out
 releases_page s page None out is e = cc
@@ -252,28 +269,30 @@ ends_cast c (Some cast) out is e = ends_cast_as c cast cast.is_written c.is_hold
 
 pub lawful : SendsLawfully
 lawful s pages c intent.Step out e = ok_out _ _ e
-lawful s pages c (intent.Obtain slot n m) out e = asks _ (claim_test s slot n m) _ out (may_claim (slot == 0) s slot n m) e
-lawful s pages c (intent.Grant slot n m) out e = asks _ (claim_test s slot n m) _ out (may_claim (slot == 0) s slot n m) e
-lawful s pages c (intent.Ask slot to n m) out e = ok_out _ _ e
-lawful s pages c (intent.Answers slot n m asked) out e = ok_out _ _ e
+lawful s pages c (intent.Obtain o n m) out e = asks _ (claim_test s o n m) _ out (may_claim s o n m) e
+lawful s pages c (intent.Grant o n m) out e = asks _ (claim_test s o n m) _ out (may_claim s o n m) e
+lawful s pages c (intent.Ask o to n m) out e = ok_out _ _ e
+lawful s pages c (intent.Answers o n m asked) out e = ok_out _ _ e
 lawful s pages c (intent.Status member) out e = ok_out _ _ e
 lawful s pages c (intent.Take past) out e = ok_out _ _ e
 lawful s pages c (intent.Answer asker n m) out e = asks _ _ _ out (λ h. not_true _ (when_ok _ _ _ h).0) e
-lawful s pages c (intent.ReleaseLock slot) out e = let a = after_ok _ _ _ e in releases s (owner.Slot slot) (releasing s (owner.Slot slot)) out refl a.0 a.1
+lawful s pages c (intent.ReleaseLock o) out e = let a = after_ok _ _ _ e in releases s o (releasing s o) out refl a.0 a.1
 lawful s pages c (intent.ReleasePage page) out e = releases_page s page (releasing_page s page) out refl e
-lawful s pages c (intent.End slot) out e = let a = after_ok _ _ _ e in ends_tran s (owner.Slot slot) (releasing s (owner.Slot slot)) out refl a.0 a.1
+lawful s pages c (intent.Purge n) out e = purges s n out e
+lawful s pages c (intent.End o) out e = let a = after_ok _ _ _ e in ends_tran s o (releasing s o) out refl a.0 a.1
 lawful s pages c (intent.Wait slot holder flag) out e = asks _ (tran_test s slot) _ out (λ h. nonzero _ (when_ok _ _ _ h).0) e
 lawful s pages c (intent.Unwait slot) out e = asks _ (tran_test s slot) _ out (λ h. nonzero _ (when_ok _ _ _ h).0) e
 lawful s pages c (intent.Waits slots) out e = ok_out _ _ e
 lawful s pages c (intent.Flag flag) out e = ok_out _ _ e
 lawful s pages c (intent.Raise flag) out e = ok_out _ _ e
+lawful s pages c intent.LoseCache out e = ok_out _ _ e
 lawful s pages c (intent.Read frame) out e = reads_frame s frame (page_of s frame) out refl e
 lawful s pages c (intent.ReadPage frame) out e = fills_frame s frame (page_of s frame) out refl e
 lawful s pages c (intent.Test frame slot gives) out e = tests_frame s frame slot gives (page_of s frame) out refl e
 lawful s pages c (intent.WritePage frame) out e = writes_frame s pages frame (page_of s frame) out refl e
 lawful s pages c (intent.Unregister frame) out e = frees_frame s frame (page_of s frame) out refl e
 lawful s pages c (intent.Change slot action frames) out e = changes s pages c.limit slot action frames out e
-lawful s pages c (intent.Undo slot frame) out e = undoes_change s (owner.Slot slot) frame out e
+lawful s pages c (intent.Undo o frame) out e = undoes_change s o frame out e
 lawful s pages c (intent.Commit slot) out e = commits s slot out e
 lawful s pages c intent.Append out e = appends s out e
 lawful s pages c (intent.NextChanged past) out e = ok_out _ _ e

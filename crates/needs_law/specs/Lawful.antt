@@ -18,18 +18,20 @@ use Rattle.member_intents.specs.declared.intent.Intent.{Intent}
 use Rattle.member_intents.specs.declared.intent.Intent.TheVariants as intent
 use Rattle.member_intents.specs.declared.outcome.Sent.{Sent}
 use Rattle.member_intents.specs.declared.outcome.Sent.TheVariants as sent
+use Rattle.member_intents.specs.Cells.{cell_slot}
 use Rattle.member_log.specs.Buffers.{room_of}
 use Rattle.member_trans.specs.declared.fate.Change.{Change}
 use Rattle.member_trans.specs.declared.fate.Owner.{Owner}
 use Rattle.member_trans.specs.declared.fate.Owner.TheVariants as owner
-use Rattle.member_trans.specs.Trans.{is_forward, is_undoing, is_over_at, newest_of}
-use Rattle.member_marks.specs.State.{MarksState, tran_of, slot_tran, id_of, slot_id}
-use Rattle.member_marks.specs.Claims.{is_for_agents, mode_held, has_page, has_page_room, answer_to, releasing, releasing_page}
+use Rattle.member_trans.specs.Trans.{is_forward, is_undoing, was_postponed, is_over_at, newest_of}
+use Rattle.member_marks.specs.Names.{has_name}
+use Rattle.member_marks.specs.State.{MarksState, tran_of, slot_tran, slot_id}
+use Rattle.member_marks.specs.Claims.{is_for_agents, mode_held, is_claimed, has_page, has_page_room, answer_to, releasing, releasing_page}
 use Rattle.member_marks.specs.Frames.{frame_in, to_write}
 use Rattle.member_needs.specs.declared.castout.Cast.{Cast}
 use Rattle.member_needs.specs.declared.needs.Setting.{Setting}
 use Rattle.member_needs.specs.Locks.{is_x, is_joined, is_page_claimed}
-use Rattle.member_needs.specs.Closing.{is_page_changed}
+use Rattle.member_needs.specs.Closing.{end_sent, is_page_changed}
 use Rattle.member_needs.specs.Frames.{is_stable, is_first}
 use Rattle.member_needs.specs.Records.{allows_row, allows_space, frame_of, place_by, must_append, indexes_of, change_page, undo_bytes, short_bytes}
 use Rattle.member_needs.specs.Castout.{done}
@@ -39,8 +41,12 @@ use Rattle.member_needs.specs.Needs.{need_of}
 
 pub record SlotClaims (s : MarksState) (slot : ℕ) (n : Name) (m : Mode) : Type 0 where
   pub forward : is_forward (slot_tran s slot).stage ≡ true
-  pub of_slot : is_for_agents n ≡ true
   pub joined : is_joined (mode_held s (owner.Slot slot) n) m ≡ true
+
+-- the transactions of slots alone claim table spaces and rows
+abbrev pub AgentClaims : MarksState → Owner → Name → Mode → Type 0
+AgentClaims s (owner.Slot slot) n m = SlotClaims s slot n m
+AgentClaims s (owner.Rollback id) n m = ⊥
 
 pub record PageClaims (s : MarksState) (page : PageId) (m : Mode) : Type 0 where
   pub in_x : is_x m ≡ true
@@ -52,10 +58,13 @@ MemberClaims s (name.Space table) m = ⊥
 MemberClaims s (name.Row table key) m = ⊥
 MemberClaims s (name.Set n) m = ⊥
 
--- slot 0 is the member itself
-abbrev pub MayClaim : Bool → MarksState → ℕ → Name → Mode → Type 0
-MayClaim true s slot n m = MemberClaims s n m
-MayClaim false s slot n m = SlotClaims s slot n m
+-- the owner itself claims the name where that is one for agents, and else the member does
+abbrev pub MayClaimAs : Bool → MarksState → Owner → Name → Mode → Type 0
+MayClaimAs true s o n m = AgentClaims s o n m
+MayClaimAs false s o n m = MemberClaims s n m
+
+abbrev pub MayClaim : MarksState → Owner → Name → Mode → Type 0
+MayClaim s o n m = MayClaimAs (is_for_agents n) s o n m
 
 -- ---- ends
 
@@ -69,10 +78,20 @@ pub record Releases (s : MarksState) (o : Owner) (out : Sent) : Type 0 where
   pub next : releasing s o ≡ Some told
   pub is : out ≡ sent.Command (command.Release told.0 told.1)
 
+-- a transaction whose rollback was postponed has nothing left
+abbrev pub MayEnd : Bool → MarksState → Owner → Type 0
+MayEnd true s o = Unit {0}
+MayEnd false s o = MayClose s o
+
 pub record EndsTran (s : MarksState) (o : Owner) (out : Sent) : Type 0 where
-  pub may : MayClose s o
+  pub may : MayEnd (was_postponed (tran_of s o).stage) s o
   pub none : releasing s o ≡ None
-  pub is : out ≡ sent.Command (command.End (id_of s o))
+  pub is : out ≡ end_sent s o
+
+pub record Purges (s : MarksState) (n : Name) (out : Sent) : Type 0 where
+  pub unclaimed : is_claimed s n ≡ false
+  pub kept : has_name s.kept n ≡ true
+  pub is : out ≡ sent.Command (command.Purge n)
 
 pub record ReleasesPage (s : MarksState) (page : PageId) (out : Sent) : Type 0 where
   pub told : Name × Interest
@@ -214,28 +233,30 @@ pub record Asks (may : Type 0) (c : Command) (out : Sent) : Type 0 where
 
 abbrev pub Lawful : MarksState → List (List ℕ) → Setting → Intent → Sent → Type 0
 Lawful s pages c intent.Step out = out ≡ sent.None
-Lawful s pages c (intent.Obtain slot n m) out = Asks (MayClaim (slot == 0) s slot n m) (command.Obtain n m) out
-Lawful s pages c (intent.Grant slot n m) out = Asks (MayClaim (slot == 0) s slot n m) (command.Grant slot n m) out
-Lawful s pages c (intent.Ask slot to n m) out = out ≡ sent.Command (command.Ask slot to n m)
-Lawful s pages c (intent.Answers slot n m asked) out = out ≡ sent.Command (command.Answers slot)
+Lawful s pages c (intent.Obtain o n m) out = Asks (MayClaim s o n m) (command.Obtain n m) out
+Lawful s pages c (intent.Grant o n m) out = Asks (MayClaim s o n m) (command.Grant (cell_slot o n) n m) out
+Lawful s pages c (intent.Ask o to n m) out = out ≡ sent.Command (command.Ask (cell_slot o n) to n m)
+Lawful s pages c (intent.Answers o n m asked) out = out ≡ sent.Command (command.Answers (cell_slot o n))
 Lawful s pages c (intent.Status member) out = out ≡ sent.Command (command.Status member)
 Lawful s pages c (intent.Take past) out = out ≡ sent.Command (command.Take past)
 Lawful s pages c (intent.Answer asker n m) out = Asks (is_page_claimed s n ≡ false) (command.Answer asker n m (answer_to s n m) c.place) out
-Lawful s pages c (intent.ReleaseLock slot) out = Releases s (owner.Slot slot) out
+Lawful s pages c (intent.ReleaseLock o) out = Releases s o out
 Lawful s pages c (intent.ReleasePage page) out = ReleasesPage s page out
-Lawful s pages c (intent.End slot) out = EndsTran s (owner.Slot slot) out
+Lawful s pages c (intent.Purge n) out = Purges s n out
+Lawful s pages c (intent.End o) out = EndsTran s o out
 Lawful s pages c (intent.Wait slot holder flag) out = Asks ((slot_id s slot).number ≢ 0) (command.Wait (slot_id s slot) holder flag) out
 Lawful s pages c (intent.Unwait slot) out = Asks ((slot_id s slot).number ≢ 0) (command.Unwait (slot_id s slot)) out
 Lawful s pages c (intent.Waits slots) out = out ≡ sent.Command command.Waits
 Lawful s pages c (intent.Flag flag) out = out ≡ sent.Command (command.Flag flag)
 Lawful s pages c (intent.Raise flag) out = out ≡ sent.Command (command.Raise flag)
+Lawful s pages c intent.LoseCache out = out ≡ sent.Command command.Lose
 Lawful s pages c (intent.Read frame) out = ReadsFrame s frame out
 Lawful s pages c (intent.ReadPage frame) out = FillsFrame s frame out
 Lawful s pages c (intent.Test frame slot gives) out = TestsFrame s frame slot gives out
 Lawful s pages c (intent.WritePage frame) out = WritesFrame s pages frame out
 Lawful s pages c (intent.Unregister frame) out = FreesFrame s frame out
 Lawful s pages c (intent.Change slot action frames) out = Changes s pages c.limit slot action frames out
-Lawful s pages c (intent.Undo slot frame) out = Undoes s (owner.Slot slot) frame out
+Lawful s pages c (intent.Undo o frame) out = Undoes s o frame out
 Lawful s pages c (intent.Commit slot) out = Commits s slot out
 Lawful s pages c intent.Append out = Appends s out
 Lawful s pages c (intent.NextChanged past) out = out ≡ sent.Command (command.NextChanged past)
