@@ -9,7 +9,7 @@ mod machine;
 mod stage;
 
 pub use machine::CacheRebuild;
-pub use stage::{Ended, Stage};
+pub use stage::Ended;
 
 #[cfg(test)]
 mod tests;

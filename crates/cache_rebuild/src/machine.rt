@@ -3,7 +3,7 @@ use member_intents::Event;
 use rebuild_resources::{Rebuild, RebuildIntent, RebuildPolicy, RebuildTold};
 
 /// The rebuild of the cache by a member: where it stands.
-#[derive(Clone, Copy, Debug)]
+#[derive(Clone, Copy)]
 pub struct CacheRebuild {
     stage: Stage,
     /// The bell above which another's claim may have gone.
@@ -19,10 +19,6 @@ impl CacheRebuild {
             bell: None,
             ended: None,
         }
-    }
-
-    pub fn stage(&self) -> Stage {
-        self.stage
     }
 
     /// How it has ended. Then it is given up.

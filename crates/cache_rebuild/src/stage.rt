@@ -1,7 +1,7 @@
 use ds_base::Volume;
 
 /// Where a rebuild stands.
-#[derive(Clone, Copy, Debug, PartialEq, Eq)]
+#[derive(Clone, Copy)]
 pub enum Stage {
     Claim,
     /// The logs are read.

@@ -1,5 +1,5 @@
 -- An event of a rebuild.
-use Rattle.std.specs.Prelude.{ℕ, ◌≡◌, Bool, Option, Result, Ok, Err}
+use Rattle.std.specs.Prelude.{◌≡◌, Bool, Option, Ok, Err}
 use Rattle.ds_disk.specs.Contents.{Contents}
 use Rattle.cache_structure.specs.Directory.{Directory}
 use Rattle.facility.specs.declared.command.Reply.{Reply}

@@ -1,5 +1,5 @@
 -- What is made of the logs.
-use Rattle.std.specs.Prelude.{◌≡◌, ℕ, ◌+◌, nat_lt, Bool, true, false, List, [], ◌∷◌, ◌++◌, Some}
+use Rattle.std.specs.Prelude.{◌≡◌, ◌+◌, nat_lt, Bool, true, false, [], ◌∷◌, ◌++◌, Some}
 use Rattle.ds_base.specs.declared.names.Volume.TheVariants as volume
 use Rattle.log_merge.specs.Merging.{all_records, in_order}
 use Rattle.log_reader.specs.declared.calls.LogRead.{LogRead}

@@ -1,5 +1,5 @@
 -- What is made of the pages that the logs name.
-use Rattle.std.specs.Prelude.{ℕ, Bool, true, false, List, drop, slice_get, Option, Some, None, Result, Ok, Err}
+use Rattle.std.specs.Prelude.{Bool, true, false, List, drop, slice_get, Option, Some, None, Result, Ok, Err}
 use Rattle.ds_base.specs.declared.names.PageId.{PageId}
 use Rattle.ds_base.specs.declared.names.Volume.TheVariants as volume
 use Rattle.ds_model.specs.declared.log.LogRecord.{LogRecord}

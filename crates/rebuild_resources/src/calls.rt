@@ -19,7 +19,7 @@ use page_format::Page;
 use std::alloc::Global;
 
 /// What a disk call has given.
-#[derive(Clone, Copy, Debug, PartialEq, Eq)]
+#[derive(Clone, Copy)]
 pub enum Got {
     Done,
     /// About the log that is read.

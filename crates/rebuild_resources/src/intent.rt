@@ -5,7 +5,7 @@ use ds_base::{MemberId, NoMemory, PageId};
 use facility::Command;
 
 /// What a rebuild of the cache wants of an event.
-#[derive(Clone, Copy, Debug, PartialEq, Eq)]
+#[derive(Clone, Copy, Debug)]
 pub enum RebuildIntent {
     /// Nothing is sent: a wait has ended.
     Step,

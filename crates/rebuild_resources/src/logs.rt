@@ -1,6 +1,6 @@
 //! The logs, as they are read.
 
-ghost use Rattle.std.specs.Prelude.{◌≡◌, IfOk};
+ghost use Rattle.std.specs.Prelude.{◌≡◌, IfOk, OnOk};
 ghost use Rattle.std.specs.List.{AllByRecursion};
 ghost use Rattle.ds_base.specs.declared.names.Volume.TheVariants as volume;
 ghost use Rattle.ds_model.specs.RecordBytes.{IsAllowed};

@@ -1,7 +1,7 @@
 use ds_base::{MemberId, Volume};
 
 /// What an event of a rebuild came to, as the policy is told.
-#[derive(Clone, Copy, Debug, PartialEq, Eq)]
+#[derive(Clone, Copy, Debug)]
 pub enum RebuildTold {
     /// Nothing was sent, or the reply tells nothing.
     Stepped,
