@@ -189,14 +189,17 @@ fn back_by(
     ensures told { result ≡ back_told plan }
     ensures after { record { marks = marks.new; pages = pages.new } ≡ back_by (record { marks = marks.old; pages = pages.old }) owner.now at plan lrsn }
 {
-    match plan {
+    match &plan {
         Plan::None | Plan::System(_) | Plan::Row(_) => Told::Drawn,
         Plan::Back(change) => {
-            put_frame(marks, pages, at, &change, lrsn);
+            put_frame(marks, pages, at, change, lrsn);
             marks.note_undone(owner, lrsn);
             Told::Drawn
         }
-        Plan::Fault { page, at } => Told::Damaged { page, at },
+        Plan::Fault { page, at } => Told::Damaged {
+            page: *page,
+            at: *at,
+        },
     }
 }
 

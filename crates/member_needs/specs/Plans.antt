@@ -22,7 +22,6 @@ use Rattle.member_intents.specs.declared.test.StepFault.{StepFault}
 use Rattle.member_intents.specs.declared.test.StepFault.TheVariants.{Unlawful, NotExecutable, NoMemory}
 use Rattle.member_log.specs.Buffers.{room_of}
 use Rattle.member_trans.specs.declared.fate.Change.{Change}
-use Rattle.member_trans.specs.declared.fate.Owner.TheVariants as owner
 use Rattle.member_trans.specs.Trans.{newest_of}
 use Rattle.member_marks.specs.State.{MarksState, tran_of}
 use Rattle.member_needs.specs.declared.plans.Plan.{Plan}
