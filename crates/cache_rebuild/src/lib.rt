@@ -10,6 +10,3 @@ mod stage;
 
 pub use machine::CacheRebuild;
 pub use stage::Ended;
-
-#[cfg(test)]
-mod tests;
