@@ -12,8 +12,6 @@ mod registrations;
 mod slot;
 mod slot_hash;
 mod table;
-#[cfg(test)]
-mod tests;
 mod validity;
 
 pub use cache::Cache;

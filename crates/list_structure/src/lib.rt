@@ -14,8 +14,6 @@ mod lists;
 mod pairs;
 mod query;
 mod standing;
-#[cfg(test)]
-mod tests;
 mod wait;
 
 pub use ds_model::Cycle;

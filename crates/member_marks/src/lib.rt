@@ -13,8 +13,6 @@ mod marks;
 mod moves;
 mod records;
 mod rollbacks;
-#[cfg(test)]
-mod tests;
 mod trial;
 
 pub use laws::reaches_on;

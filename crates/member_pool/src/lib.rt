@@ -10,8 +10,6 @@ mod listed;
 mod order;
 mod pool;
 mod sets;
-#[cfg(test)]
-mod tests;
 
 pub use frame::Frame;
 pub use heads::Heads;

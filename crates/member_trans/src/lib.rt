@@ -8,8 +8,6 @@
 mod fate;
 mod list;
 mod slot;
-#[cfg(test)]
-mod tests;
 mod trans;
 
 pub use fate::{Change, Offer, Owner, Refused, Stage};

@@ -36,6 +36,3 @@ pub use restart_records::{
     NameMark, Newest, OpenTran, RestartStage, RestartTran, TurnKey, page_of,
 };
 pub use told::RestartTold;
-
-#[cfg(test)]
-mod tests;
