@@ -1,4 +1,4 @@
-ghost use Rattle.std.specs.Prelude.{◌≡◌, ◌≤◌, None, IfOk, IfErr};
+ghost use Rattle.std.specs.Prelude.{◌≡◌, ◌≤◌, false, None, IfOk, IfErr};
 ghost use Rattle.ds_base.specs.Causes.{Rose};
 ghost use Rattle.ds_model.specs.Rows.{AreSorted};
 ghost use Rattle.group_core.specs.declared.fault.RunFault.TheVariants as fault;
@@ -40,6 +40,7 @@ fn begin<D: Disk, P: Policy + Drop>(
     requires { (1 ≤ sizes.now.locks) × (1 ≤ sizes.now.pool) }
     ensures later { IfOk result (λ group. D.faults disk ≤ D.faults group.disk) }
     ensures fault { IfOk result (λ group. group.fault ≡ None) }
+    ensures whole { IfOk result (λ group. group.failed ≡ false) }
     ensures left { IfErr result (λ f. D.faults disk ≤ D.faults f.disk) }
     ensures failed { IfErr result (λ f. f.why ≡ fault.Failed → Rose (D.faults disk) (D.faults f.disk)) }
 {
@@ -66,6 +67,7 @@ fn finish<D: Disk, P: Policy + Drop>(
     is_traced: bool,
 ) -> (D, Ended)
     requires fault { group.fault ≡ None }
+    requires whole { group.failed ≡ false }
     requires in_order { AreSorted opening.now.rows }
     ensures told { IfTold result.1 (IsTold (TellsAlways D.contents) script.now is_traced opening.now.rows (D.faults group.disk) (D.faults result.0) (D.contents result.0)) }
     ensures later { D.faults group.disk ≤ D.faults result.0 }

@@ -3,7 +3,7 @@
 ghost use Rattle.std.specs.Prelude.{◌≡◌, ◌≤◌, ◌⊎◌, ℕ, Bool, true, false, cond, None, IfOk, IfErr};
 ghost use Rattle.ds_base.specs.Causes.{Rose};
 ghost use Rattle.ds_model.specs.Rows.{AreSorted};
-ghost use Rattle.group_core.specs.Goes.{IsFailed};
+ghost use Rattle.group_core.specs.Goes.{HasFailed};
 ghost use Rattle.group_core.specs.declared.closed.Closed.TheVariants as closing;
 ghost use Rattle.group_core.specs.declared.schedule.RunEnd.TheVariants as ends;
 ghost use Rattle.checked_run.specs.Told.{IfTold, IsTold, TellsAlways, no_trace};
@@ -41,15 +41,16 @@ fn failure_with(failed: bool, closed: Closed, events: u64) -> Result<bool, Ended
     }
 }
 
-// The same of a run that ended so.
+// The same of a run that ended so, in which a call of a member has failed or not.
 fn failure_of(
+    failed: bool,
     fault: Option<RunFault>,
     end: RunEnd,
     closed: Closed,
     events: u64,
 ) -> Result<bool, Ended>
-    ensures whole { IfOk result (λ failed. failed ≡ false → (fault ≡ None) × (end ≡ ends.Over) × (closed ≡ closing.Done)) }
-    ensures cause { IfOk result (λ failed. failed ≡ true → IsFailed fault ⊎ (closed ≡ closing.Failed)) }
+    ensures whole { IfOk result (λ now. now ≡ false → (failed ≡ false) × (fault ≡ None) × (end ≡ ends.Over) × (closed ≡ closing.Done)) }
+    ensures cause { IfOk result (λ now. now ≡ true → HasFailed failed fault ⊎ (closed ≡ closing.Failed)) }
     ensures untold { IfErr result (λ ended. IfTold ended (λ _. ⊥)) }
 {
     match (fault, end) {
@@ -58,7 +59,7 @@ fn failure_of(
         (Some(RunFault::Unlawful { place }), _) => Err(Ended::Unsound { event: place }),
         (None, RunEnd::Stalled | RunEnd::Spent) => Err(Ended::Unsound { event: events }),
         (Some(RunFault::Failed), _) => failure_with(true, closed, events),
-        (None, RunEnd::Over) => failure_with(false, closed, events),
+        (None, RunEnd::Over) => failure_with(failed, closed, events),
     }
 }
 
@@ -124,13 +125,14 @@ pub fn settle<D: Disk>(
     is_traced: bool,
 ) -> Ended
     requires { AreSorted opening.now.rows }
-    ensures told { (before : ℕ) → before ≤ D.faults disk.old → (IsFailed played.fault ⊎ (closed ≡ closing.Failed) → Rose before (D.faults disk.old)) → IfTold result (IsTold (TellsAlways D.contents) script.now is_traced opening.now.rows before (D.faults disk.new) (D.contents disk.new)) }
+    ensures told { (before : ℕ) → before ≤ D.faults disk.old → (HasFailed played.failed played.fault ⊎ (closed ≡ closing.Failed) → Rose before (D.faults disk.old)) → IfTold result (IsTold (TellsAlways D.contents) script.now is_traced opening.now.rows before (D.faults disk.new) (D.contents disk.new)) }
     ensures later { D.faults disk.old ≤ D.faults disk.new }
 {
     let Ok(end) = end else {
         return Ended::NoMemory;
     };
-    let failed = match failure_of(played.fault, end, closed, played.journal.len() as u64) {
+    let events = played.journal.len() as u64;
+    let failed = match failure_of(played.failed, played.fault, end, closed, events) {
         Err(ended) => return ended,
         Ok(failed) => failed,
     };

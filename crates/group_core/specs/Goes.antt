@@ -1,6 +1,5 @@
--- How the disk goes on in a run, and why the run has ended.
-use Rattle.std.specs.Prelude.{◌≡◌, ◌⊎◌, ℕ, ◌≤◌, Option, Some}
-use Rattle.std.proofs.Common.{inl, inr, arith}
+-- How the disk goes on in a run, and whether a call of it has failed.
+use Rattle.std.specs.Prelude.{◌≡◌, ◌⊎◌, ℕ, ◌≤◌, Bool, true, Option, Some}
 use Rattle.ds_base.specs.Causes.{Rose}
 use Rattle.group_core.specs.declared.fault.RunFault.{RunFault}
 use Rattle.group_core.specs.declared.fault.RunFault.TheVariants as fault
@@ -8,30 +7,10 @@ use Rattle.group_core.specs.declared.fault.RunFault.TheVariants as fault
 abbrev pub IsFailed : Option RunFault → Type 0
 IsFailed why = why ≡ Some fault.Failed
 
--- the disk's count didn't fall, and where the run has ended with a call that failed, it rose
-unfoldable pub Goes : ℕ → Option RunFault → ℕ → Option RunFault → Type 0
-Goes before why now why_now = (before ≤ now) × (IsFailed why_now → IsFailed why ⊎ Rose before now)
+-- a call of a member has failed, or the run has ended with one that failed
+abbrev pub HasFailed : Bool → Option RunFault → Type 0
+HasFailed failed why = (failed ≡ true) ⊎ IsFailed why
 
-pub stays : (n : ℕ) (why : Option RunFault) → Goes n why n why
-unfolding Goes
-stays n why = (omega arith, λ e. inl e)
-
-pub ends : (n k : ℕ) (why why_now : Option RunFault) → n ≤ k → (IsFailed why_now → Rose n k) → Goes n why k why_now
-unfolding Goes
-ends n k why why_now le rose = (le, λ e. inr (rose e))
-
-earlier : (n k m : ℕ) → n ≤ k → Rose k m → Rose n m
-earlier n k m le rose = omega arith
-
-later : (n k m : ℕ) → Rose n k → k ≤ m → Rose n m
-later n k m rose le = omega arith
-
-pub on : (n k m : ℕ) (a b c : Option RunFault) → Goes n a k b → Goes k b m c → Goes n a m c
-unfolding Goes
-on n k m a b c one two = (
-  omega arith,
-  λ e. elim (two.1 e) [
-    | inl was ↦ elim (one.1 was) [ inl first ↦ inl first | inr rose ↦ inr (later n k m rose two.0) ]
-    | inr rose ↦ inr (earlier n k m one.0 rose)
-  ],
-)
+-- the disk's count didn't fall, and where a call has failed since, it rose
+unfoldable pub Goes : ℕ → Bool → Option RunFault → ℕ → Bool → Option RunFault → Type 0
+Goes before failed why now failed_now why_now = (before ≤ now) × (HasFailed failed_now why_now → HasFailed failed why ⊎ Rose before now)

@@ -24,6 +24,8 @@ pub struct Played {
     pub journal: Vec<u64>,
     /// The lines of the trace, where one was kept.
     pub lines: Option<Vec<Line>>,
+    /// A call of a member to the disk has failed.
+    pub failed: bool,
     pub fault: Option<RunFault>,
 }
 
@@ -69,12 +71,14 @@ impl<D, C: Drop, P: Drop> Group<D, C, P> {
     fn into_parts(self) -> (D, Played)
         ensures disk { result.0 ≡ self.disk }
         ensures fault { result.1.fault ≡ self.fault }
+        ensures whole { result.1.failed ≡ self.failed }
     {
         let Group {
             disk,
             crew,
             journal,
             lines,
+            failed,
             fault,
         } = self;
         let Crew { script, fates, .. } = crew;
@@ -85,6 +89,7 @@ impl<D, C: Drop, P: Drop> Group<D, C, P> {
             causes,
             journal,
             lines,
+            failed,
             fault,
         };
         (disk, played)
@@ -99,6 +104,7 @@ impl<D: Disk, C: Drop, P: Drop> Group<D, C, P> {
         ensures run { is_run result.2 ≡ is_closed self.fault }
         ensures unrun { is_closed self.fault ≡ false → result.0 ≡ self.disk }
         ensures fault { result.1.fault ≡ self.fault }
+        ensures whole { result.1.failed ≡ self.failed }
     {
         let (mut disk, played) = self.into_parts();
         let closed = close_after(alloc, &mut disk, played.fault);

@@ -3,7 +3,7 @@ use ds_base::Volume;
 /// Why a run ended before its script.
 #[derive(Clone, Copy, Debug, PartialEq, Eq)]
 pub enum RunFault {
-    /// A call of the disk failed. What was without a fate is stopped.
+    /// A call of the disk failed in a group restart. What was without a fate is stopped.
     Failed,
     /// The byte of a page or a log at this offset can't stand there.
     Damaged { volume: Volume, at: u64 },

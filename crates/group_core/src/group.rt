@@ -13,6 +13,8 @@ pub struct Group<D, C, P> {
     pub(crate) journal: Vec<u64>,
     /// Kept where a trace is wanted.
     pub(crate) lines: Option<Vec<Line>>,
+    /// A call of a member to the disk has failed.
+    pub(crate) failed: bool,
     pub(crate) fault: Option<RunFault>,
 }
 

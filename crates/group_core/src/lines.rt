@@ -3,8 +3,9 @@
 ghost use Rattle.std.specs.Prelude.{◌≡◌, ◌<◌, vec_len, vec_capacity, OnOk};
 
 use ds_base::NoMemory;
+use group_crew::Stepped;
 use member_intents::{Answered, Sent};
-use trace_words::{Line, line_of};
+use trace_words::{Line, fail_line, line_of, rebuild_line, restart_line};
 
 /// Takes memory for the event's number and line.
 pub fn reserve(journal: &mut Vec<u64>, lines: &mut Option<Vec<Line>>) -> Result<(), NoMemory>
@@ -24,6 +25,16 @@ pub fn note(lines: &mut Option<Vec<Line>>, line: Line) {
         if lines.len() < lines.capacity() {
             lines.push_reserved(line);
         }
+    }
+}
+
+/// The line of an event of a member.
+pub fn stepped_line(place: u64, event: u64, stepped: &Stepped) -> Line {
+    match stepped {
+        Stepped::Sent(sent, answered) => line_of(place, event, sent, answered),
+        Stepped::Restart(sent, answered) => restart_line(place, event, sent, answered),
+        Stepped::Rebuild(sent, answered) => rebuild_line(place, event, sent, answered),
+        Stepped::Failed => fail_line(place, event),
     }
 }
 

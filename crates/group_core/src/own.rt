@@ -17,12 +17,12 @@ use member_resources::Policy;
 use std::alloc::Global;
 use trace_words::call_line;
 
-#[tactic(auto, using(crate::specs::Goes::on, crate::specs::Goes::stays, crate::specs::Goes::ends))]
+#[tactic(auto, using(crate::proofs::Going::on, crate::proofs::Going::stays, crate::proofs::Going::ends))]
 impl<D: Disk, C: CacheFace, P: Policy> Group<D, C, P> {
     // The next phase begins.
     fn take_phase(&mut self, alloc: Global, place: u64) -> Result<(), NoMemory>
         ensures moves { OnOk result (Moves C.directory 0 self.old.crew self.new.crew self.new.fault) }
-        ensures goes { Goes (D.faults self.old.disk) self.old.fault (D.faults self.new.disk) self.new.fault }
+        ensures goes { Goes (D.faults self.old.disk) self.old.failed self.old.fault (D.faults self.new.disk) self.new.failed self.new.fault }
         ensures journal { self.new.journal.items ≡ self.old.journal.items }
     {
         if !self.crew.begin_phase(alloc)? {
@@ -34,7 +34,7 @@ impl<D: Disk, C: CacheFace, P: Policy> Group<D, C, P> {
     // The script lets the group fail.
     fn take_failure(&mut self, alloc: Global) -> Result<(), NoMemory>
         ensures moves { OnOk result (Moves C.directory 64 self.old.crew self.new.crew self.new.fault) }
-        ensures goes { Goes (D.faults self.old.disk) self.old.fault (D.faults self.new.disk) self.new.fault }
+        ensures goes { Goes (D.faults self.old.disk) self.old.failed self.old.fault (D.faults self.new.disk) self.new.failed self.new.fault }
         ensures journal { self.new.journal.items ≡ self.old.journal.items }
     {
         self.crew.progress.count_groupfail();
@@ -44,6 +44,7 @@ impl<D: Disk, C: CacheFace, P: Policy> Group<D, C, P> {
     // Goes on from where the group restart stands.
     fn enter_restart(&mut self, alloc: Global, reached: &State) -> Result<(), NoMemory>
         ensures disk { self.new.disk ≡ self.old.disk }
+        ensures failed { self.new.failed ≡ self.old.failed }
         ensures fault { IsFailed self.new.fault → IsFailed self.old.fault ⊎ (reached.now ≡ state.Failed) }
         ensures moves { OnOk result (Moves C.directory 128 self.old.crew self.new.crew self.new.fault) }
         ensures journal { self.new.journal.items ≡ self.old.journal.items }
@@ -63,7 +64,7 @@ impl<D: Disk, C: CacheFace, P: Policy> Group<D, C, P> {
     // The next call of the disk in the group restart.
     fn take_restart(&mut self, alloc: Global, event: u64, place: u64) -> Result<(), NoMemory>
         ensures moves { OnOk result (Moves C.directory 128 self.old.crew self.new.crew self.new.fault) }
-        ensures goes { Goes (D.faults self.old.disk) self.old.fault (D.faults self.new.disk) self.new.fault }
+        ensures goes { Goes (D.faults self.old.disk) self.old.failed self.old.fault (D.faults self.new.disk) self.new.failed self.new.fault }
         ensures journal { self.new.journal.items ≡ self.old.journal.items }
     {
         let Some(restart) = &mut self.crew.restart else {
@@ -77,7 +78,7 @@ impl<D: Disk, C: CacheFace, P: Policy> Group<D, C, P> {
 
     /// Takes a ready event of the group itself.
     pub(crate) fn take_own(&mut self, alloc: Global, event: u64, place: u64) -> Result<(), NoMemory>
-        ensures goes { Goes (D.faults self.old.disk) self.old.fault (D.faults self.new.disk) self.new.fault }
+        ensures goes { Goes (D.faults self.old.disk) self.old.failed self.old.fault (D.faults self.new.disk) self.new.failed self.new.fault }
         ensures journal { self.new.journal.items ≡ self.old.journal.items }
         ensures moves { OnOk result (Moves C.directory event self.old.crew self.new.crew self.new.fault) }
     {

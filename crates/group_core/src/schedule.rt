@@ -105,7 +105,7 @@ impl<D, C, P> Group<D, C, P> {
     }
 }
 
-#[tactic(auto, using(crate::specs::Goes::on, crate::specs::Goes::stays))]
+#[tactic(auto, using(crate::proofs::Going::on, crate::proofs::Going::stays))]
 /// Takes at most so many events, each drawn from those that are ready.
 pub fn run_one_thread<D: Disk, C: CacheFace, P: Policy>(
     alloc: Global,
@@ -113,7 +113,7 @@ pub fn run_one_thread<D: Disk, C: CacheFace, P: Policy>(
     generator: &mut Generator,
     events: u64,
 ) -> Result<RunEnd, NoMemory>
-    ensures goes { Goes (D.faults group.old.disk) group.old.fault (D.faults group.new.disk) group.new.fault }
+    ensures goes { Goes (D.faults group.old.disk) group.old.failed group.old.fault (D.faults group.new.disk) group.new.failed group.new.fault }
     ensures wanting { OnErr result (group.new.fault ≡ Some fault.NoMemory) }
 {
     for _ in 0..events {

@@ -1,4 +1,4 @@
-ghost use Rattle.std.specs.Prelude.{◌≡◌, ◌≤◌, None, IfOk, IfErr};
+ghost use Rattle.std.specs.Prelude.{◌≡◌, ◌≤◌, false, None, IfOk, IfErr};
 ghost use Rattle.ds_base.specs.Causes.{Rose};
 ghost use Rattle.cache_structure.specs.Directory.{empty_directory};
 ghost use Rattle.group_core.specs.declared.fault.RunFault.TheVariants as fault;
@@ -52,6 +52,7 @@ impl<D: Disk, C: CacheFace + Drop, P: Policy + Drop> Group<D, C, P> {
         requires cache { C.directory cache ≡ empty_directory sizes.now.cache sizes.now.pool }
         ensures disk { IfOk result (λ group. D.faults disk ≤ D.faults group.disk) }
         ensures fault { IfOk result (λ group. group.fault ≡ None) }
+        ensures whole { IfOk result (λ group. group.failed ≡ false) }
         ensures err { IfErr result (λ why. D.faults disk ≤ D.faults why.disk) }
         ensures failed { IfErr result (λ why. why.why ≡ fault.Failed → Rose (D.faults disk) (D.faults why.disk)) }
     {
@@ -66,6 +67,7 @@ impl<D: Disk, C: CacheFace + Drop, P: Policy + Drop> Group<D, C, P> {
                 crew,
                 journal: Vec::new(alloc),
                 lines: None,
+                failed: false,
                 fault: None,
             }),
             Err(_) => Err(StartFault {

@@ -1,46 +1,43 @@
-ghost use Rattle.std.specs.Prelude.{◌≡◌, ◌∷◌, [], ◌++◌, true, false, IsErr, IsOk, OnOk, OnErr, Some};
-ghost use Rattle.member_intents.specs.declared.outcome.Answered.TheVariants as answers;
+ghost use Rattle.std.specs.Prelude.{◌≡◌, ◌||◌, ◌∷◌, [], ◌++◌, true, false, IsErr, IsOk, OnOk, OnErr, Some};
 ghost use Rattle.group_core.specs.declared.fault.RunFault.TheVariants as fault;
 ghost use Rattle.group_core.specs.Moves.{is_taken, Moves};
 ghost use Rattle.group_crew.specs.Crews.{Keeps};
+ghost use Rattle.group_crew.specs.Stepping.{has_failed};
 ghost use Rattle.group_core.specs.Goes.{Goes, IsFailed};
 
 use crate::fault::RunFault;
 use crate::group::Group;
-use crate::lines::{note, note_silent, reserve};
+use crate::lines::{note, note_silent, reserve, stepped_line};
 use cache_structure::CacheFace;
 use ds_base::{NoMemory, Volume};
 use ds_disk::Disk;
-use member_intents::{Answered, Sent, StepFault};
+use group_crew::{EventFault, Stepped};
 use member_resources::Policy;
 use std::alloc::Global;
-use trace_words::line_of;
 
-// Why a run ends with this answer of the disk, or with this byte that can't stand there.
-fn fault_of(answered: &Answered, damage: Option<(Volume, u64)>) -> Option<RunFault>
-    ensures { IsFailed result → answered.now ≡ answers.Failed }
+// Why a run ends with this byte that can't stand there.
+fn fault_of(damage: Option<(Volume, u64)>) -> Option<RunFault>
+    ensures { IsFailed result → ⊥ }
 {
-    match (answered, damage) {
-        (Answered::Failed, _) => Some(RunFault::Failed),
-        (_, Some((volume, at))) => Some(RunFault::Damaged { volume, at }),
-        (_, None) => None,
+    match damage {
+        Some((volume, at)) => Some(RunFault::Damaged { volume, at }),
+        None => None,
     }
 }
 
-#[tactic(auto, using(crate::specs::Goes::on, crate::specs::Goes::stays, crate::specs::Goes::ends))]
+#[tactic(auto, using(crate::proofs::Going::on, crate::proofs::Going::stays, crate::proofs::Going::ends, crate::proofs::Going::enters))]
 impl<D: Disk, C: CacheFace, P: Policy> Group<D, C, P> {
-    // Enters what was sent for the member at a place, and what was answered.
-    fn enter(&mut self, at: usize, event: u64, place: u64, sent: &Sent, answered: &Answered)
+    // Enters what an event of the member at a place was.
+    fn enter(&mut self, at: usize, event: u64, place: u64, stepped: &Stepped)
         ensures disk { self.new.disk ≡ self.old.disk }
-        ensures fault { IsFailed self.new.fault → answered.now ≡ answers.Failed }
-        ensures keeps { Keeps self.old.crew self.new.crew }
+        ensures failed { self.new.failed ≡ (self.old.failed || has_failed stepped.now) }
+        ensures fault { IsFailed self.new.fault → ⊥ }
+        ensures crew { self.new.crew ≡ self.old.crew }
         ensures journal { self.new.journal.items ≡ self.old.journal.items }
     {
-        note(&mut self.lines, line_of(place, event, sent, answered));
-        self.fault = fault_of(answered, self.crew.damage_at(at));
-        if let Some(RunFault::Failed) = self.fault {
-            self.crew.fates.stop_all();
-        }
+        note(&mut self.lines, stepped_line(place, event, stepped));
+        self.failed |= stepped.has_failed();
+        self.fault = fault_of(self.crew.damage_at(at));
     }
 
     // The event of a choice of the member at a place.
@@ -51,7 +48,7 @@ impl<D: Disk, C: CacheFace, P: Policy> Group<D, C, P> {
         event: u64,
         place: u64,
     ) -> Result<(), NoMemory>
-        ensures goes { Goes (D.faults self.old.disk) self.old.fault (D.faults self.new.disk) self.new.fault }
+        ensures goes { Goes (D.faults self.old.disk) self.old.failed self.old.fault (D.faults self.new.disk) self.new.failed self.new.fault }
         ensures journal { self.new.journal.items ≡ self.old.journal.items }
         ensures keeps { Keeps self.old.crew self.new.crew }
     {
@@ -59,11 +56,9 @@ impl<D: Disk, C: CacheFace, P: Policy> Group<D, C, P> {
             .crew
             .step_member(alloc, &mut self.disk, at, event / 64, place)
         {
-            Err(StepFault::NoMemory) => return Err(NoMemory),
-            Err(StepFault::Unlawful(_) | StepFault::NotExecutable) => {
-                self.fault = Some(RunFault::Unlawful { place });
-            }
-            Ok((sent, answered)) => self.enter(at, event, place, &sent, &answered),
+            Err(EventFault::NoMemory) => return Err(NoMemory),
+            Err(EventFault::Unlawful) => self.fault = Some(RunFault::Unlawful { place }),
+            Ok(stepped) => self.enter(at, event, place, &stepped),
         }
         Ok(())
     }
@@ -77,7 +72,7 @@ impl<D: Disk, C: CacheFace, P: Policy> Group<D, C, P> {
 
     // Takes a ready event.
     fn take_ready(&mut self, alloc: Global, event: u64, place: u64) -> Result<(), NoMemory>
-        ensures goes { Goes (D.faults self.old.disk) self.old.fault (D.faults self.new.disk) self.new.fault }
+        ensures goes { Goes (D.faults self.old.disk) self.old.failed self.old.fault (D.faults self.new.disk) self.new.failed self.new.fault }
         ensures journal { self.new.journal.items ≡ self.old.journal.items }
         ensures moves { OnOk result (Moves C.directory event self.old.crew self.new.crew self.new.fault) }
     {
@@ -90,7 +85,7 @@ impl<D: Disk, C: CacheFace, P: Policy> Group<D, C, P> {
     }
 
     fn take_event(&mut self, alloc: Global, event: u64, place: u64) -> Result<(), NoMemory>
-        ensures goes { Goes (D.faults self.old.disk) self.old.fault (D.faults self.new.disk) self.new.fault }
+        ensures goes { Goes (D.faults self.old.disk) self.old.failed self.old.fault (D.faults self.new.disk) self.new.failed self.new.fault }
         ensures journal { self.new.journal.items ≡ self.old.journal.items }
         ensures left { is_taken self.old.fault self.old.crew event ≡ false → self.new ≡ record self.old { lines = self.new.lines } }
         ensures moves { is_taken self.old.fault self.old.crew event ≡ true → OnOk result (Moves C.directory event self.old.crew self.new.crew self.new.fault) }
@@ -105,7 +100,7 @@ impl<D: Disk, C: CacheFace, P: Policy> Group<D, C, P> {
 
     // Takes the event's number into the journal, and then the event.
     fn enter_event(&mut self, alloc: Global, event: u64) -> Result<(), NoMemory>
-        ensures goes { Goes (D.faults self.old.disk) self.old.fault (D.faults self.new.disk) self.new.fault }
+        ensures goes { Goes (D.faults self.old.disk) self.old.failed self.old.fault (D.faults self.new.disk) self.new.failed self.new.fault }
         ensures journal { OnOk result (self.new.journal.items ≡ self.old.journal.items ++ event ∷ []) }
         ensures moves { is_taken self.old.fault self.old.crew event ≡ true → OnOk result (Moves C.directory event self.old.crew self.new.crew self.new.fault) }
         ensures left { is_taken self.old.fault self.old.crew event ≡ false → self.new ≡ record self.old { journal = self.new.journal; lines = self.new.lines } }
@@ -119,7 +114,7 @@ impl<D: Disk, C: CacheFace, P: Policy> Group<D, C, P> {
     /// Takes one event. One whose choice isn't ready changes nothing but the journal, and the lines of the trace. Where memory
     /// was wanting, it is wanting from then on.
     pub fn step(&mut self, alloc: Global, event: u64) -> Result<(), NoMemory>
-        ensures goes { Goes (D.faults self.old.disk) self.old.fault (D.faults self.new.disk) self.new.fault }
+        ensures goes { Goes (D.faults self.old.disk) self.old.failed self.old.fault (D.faults self.new.disk) self.new.failed self.new.fault }
         ensures journal { OnOk result (self.new.journal.items ≡ self.old.journal.items ++ event ∷ []) }
         ensures left { is_taken self.old.fault self.old.crew event ≡ false → self.new ≡ record self.old { journal = self.new.journal; lines = self.new.lines; fault = self.new.fault } }
         ensures moves { is_taken self.old.fault self.old.crew event ≡ true → OnOk result (Moves C.directory event self.old.crew self.new.crew self.new.fault) }

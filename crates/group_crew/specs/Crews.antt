@@ -1,6 +1,10 @@
 -- What a crew may do next, and what its members' events leave as it is.
-use Rattle.std.specs.Prelude.{◌≡◌, ℕ, Bool, map, is_some}
+use Rattle.std.specs.Prelude.{◌≡◌, ℕ, ◌*◌, Bool, true, nat_lt, count_by, map, is_some, None}
+use Rattle.ds_base.specs.declared.names.Sizes.{Sizes}
+use Rattle.cache_structure.specs.Directory.{Directory}
+use Rattle.member_resources.specs.Held.{IsNew}
 use Rattle.group_crew.specs.declared.crew.Crew.{Crew}
+use Rattle.group_crew.specs.declared.part.MemberPart.{MemberPart}
 use Rattle.group_crew.specs.Progresses.{own_choice}
 use Rattle.group_crew.specs.Ready.{is_ready}
 
@@ -8,6 +12,20 @@ use Rattle.group_crew.specs.Ready.{is_ready}
 abbrev pub is_ready_in : {C P : Type 0} → Crew C P → ℕ → Bool
 is_ready_in {C} {P} crew event =
     is_ready (is_some crew.restart) (own_choice (is_some crew.restart) crew.progress crew.script) (map (λ p. p.ready) crew.parts.items) event
+
+-- more than half of the cache's entries are changed
+abbrev pub is_half : Sizes → Directory → Bool
+is_half sizes d = nat_lt sizes.cache (2 * count_by (λ e. e.changed) d.entries)
+
+-- what is ready has to be found again
+abbrev pub stale : {P : Type 0} → MemberPart P → MemberPart P
+stale {P} part = record part { is_stale = true }
+
+-- the member holds nothing, and has no restart and no rebuild
+pub record IsDown {P : Type 0} (sizes : Sizes) (part : MemberPart P) : Type 0 where
+  pub holds : IsNew part.id sizes part.resources
+  pub rests : part.restart ≡ None
+  pub idles : part.rebuild ≡ None
 
 -- what no event of a member changes
 pub record Keeps {C P : Type 0} (old new : Crew C P) : Type 0 where

@@ -1,19 +1,18 @@
-ghost use Rattle.std.specs.Prelude.{◌≡◌, true, false, is_some, map, slice_get};
+ghost use Rattle.std.specs.Prelude.{◌≡◌, None, true, false, is_some, map, slice_get};
 ghost use Rattle.group_crew.specs.Progresses.{is_at_end, own_choice};
 ghost use Rattle.group_crew.specs.Ready.{is_own, ready_at};
-ghost use Rattle.group_crew.specs.Crews.{is_ready_in};
+ghost use Rattle.group_crew.specs.Crews.{is_half, is_ready_in, stale};
 
 use crate::part::MemberPart;
 use crate::progress::{GROUP_RESTART, Progress};
 use crate::ready::has_choice;
 use crate::sizes::GroupSizes;
 use cache_structure::CacheFace;
-use ds_base::{MemberId, Volume};
+use ds_base::Volume;
 use ds_model::Script;
 use facility::Facility;
 use group_restart::GroupRestart;
 use member_intents::Look;
-use member_marks::Marks;
 use member_resources::Policy;
 use script_fates::Fates;
 
@@ -34,19 +33,18 @@ pub struct Crew<C, P> {
     pub sizes: GroupSizes,
 }
 
-fn make_stale<P>(parts: &mut [MemberPart<P>]) {
+fn make_stale<P>(parts: &mut [MemberPart<P>])
+    ensures { parts.new ≡ map stale parts.old }
+{
     for part in parts {
         part.is_stale = true;
     }
 }
 
-/// More rollbacks than a member has postponed at once.
-const ROLLBACKS: u32 = u32::MAX;
-
-// Whether one of the postponed rollbacks waits for a member that is up or restarting.
-fn waits_for_live<C: CacheFace>(facility: &Facility<C>, marks: &Marks) -> bool {
-    for at in 0..ROLLBACKS {
-        match marks.postponed(at) {
+// Whether a postponed rollback of the member waits for a live one.
+fn waits_for_live<C: CacheFace, P>(facility: &Facility<C>, part: &MemberPart<P>) -> bool {
+    for at in 0..u32::MAX {
+        match part.resources.marks().postponed(at) {
             Some((_, by)) if facility.live(by) => return true,
             Some(_) => {}
             None => return false,
@@ -56,31 +54,28 @@ fn waits_for_live<C: CacheFace>(facility: &Facility<C>, marks: &Marks) -> bool {
 }
 
 // What is seen for a member before an event.
-fn look_for<C: CacheFace>(
-    facility: &Facility<C>,
-    is_half: bool,
-    member: MemberId,
-    marks: &Marks,
-) -> Look {
+fn look_for<C: CacheFace, P>(facility: &Facility<C>, is_half: bool, part: &MemberPart<P>) -> Look {
     Look {
-        bell: facility.bell(member),
-        asked: facility.asked(member),
-        is_half,
+        bell: facility.bell(part.id),
+        asked: facility.asked(part.id),
+        is_half: is_half || part.waits_for_room(),
         is_lost: facility.lost(),
-        is_done: facility.done(member),
-        waits_for_live: waits_for_live(facility, marks),
+        is_done: facility.done(part.id),
+        waits_for_live: waits_for_live(facility, part),
     }
 }
 
-// Finds again which choices of members are ready.
+// Finds again which choices of members are ready, of those alone for which that may have changed.
 fn find_in_all<C: CacheFace, P: Policy>(
     facility: &Facility<C>,
     is_half: bool,
     parts: &mut [MemberPart<P>],
 ) {
     for part in parts {
-        let look = look_for(facility, is_half, part.id, part.resources.marks());
-        part.find_ready(&look);
+        if part.is_stale {
+            let look = look_for(facility, is_half, part);
+            part.find_ready(&look, facility.live(part.id));
+        }
     }
 }
 
@@ -145,13 +140,17 @@ impl<C, P> Crew<C, P> {
 
 impl<C: CacheFace, P> Crew<C, P> {
     /// Whether more than half of the cache's entries are changed.
-    pub fn is_half(&self) -> bool {
+    pub fn is_half(&self) -> bool
+        ensures { result ≡ is_half self.now.sizes.sizes (C.directory self.now.facility.cache) }
+    {
         2 * self.facility.changed_count() as u64 > self.sizes.sizes.cache as u64
     }
 
     /// A bell has rung, or what is seen for all members has changed.
     pub fn make_all_stale(&mut self)
-        ensures { self.new ≡ record self.old { parts = self.new.parts; is_own_stale = true; was_half = self.new.was_half } }
+        ensures rest { self.new ≡ record self.old { parts = self.new.parts; is_own_stale = true; was_half = self.new.was_half } }
+        ensures parts { self.new.parts.items ≡ map stale self.old.parts.items }
+        ensures half { self.new.was_half ≡ is_half self.old.sizes.sizes (C.directory self.old.facility.cache) }
     {
         self.was_half = self.is_half();
         self.is_own_stale = true;
@@ -182,9 +181,11 @@ impl<C: CacheFace, P: Policy> Crew<C, P> {
     }
 
     /// A byte that a member has read and that can't stand there.
-    pub fn damage_at(&self, at: usize) -> Option<(Volume, u64)> {
+    pub fn damage_at(&self, at: usize) -> Option<(Volume, u64)>
+        ensures { slice_get self.now.parts.items at ≡ None → result ≡ None }
+    {
         match self.parts.get(at) {
-            Some(part) => part.policy.damage(),
+            Some(part) => part.damage(),
             None => None,
         }
     }

@@ -31,6 +31,8 @@ fn make_parts<P: Policy + Drop>(
             id,
             resources: Resources::new(alloc, id, sizes)?,
             policy,
+            restart: None,
+            rebuild: None,
             ready: 0,
             is_stale: true,
         })?;

@@ -1,7 +1,11 @@
 //! What a phase gives to the members.
 
+ghost use Rattle.std.specs.Prelude.{◌≡◌, None, Some, IfOk, MatchOption};
+ghost use Rattle.group_crew.specs.Phases.{fail_in, is_failed, is_left_out, op_noted, part_in, raisers_of, restarts_in, tran_noted, trans_in, trans_noted};
+
 use ds_base::{MemberId, NoMemory, TranId};
 use ds_model::{FailAt, Op, Part, Phase, Tran, TranList};
+use list_structure::{Lists, MemberStatus};
 use script_fates::copy_trans;
 use std::alloc::Global;
 
@@ -11,7 +15,9 @@ const FLAGS: usize = 64;
 /// For each flag who is to raise it.
 pub type Raisers = [Option<TranId>; FLAGS];
 
-fn note_raise(raisers: &mut Raisers, op: &Op, id: TranId) {
+fn note_raise(raisers: &mut Raisers, op: &Op, id: TranId)
+    ensures { raisers.new ≡ op_noted raisers.old op.now id }
+{
     if let Op::Raise { flag } = *op {
         if 1 <= flag && flag <= 64 {
             raisers[flag as usize - 1] = Some(id);
@@ -19,44 +25,83 @@ fn note_raise(raisers: &mut Raisers, op: &Op, id: TranId) {
     }
 }
 
-fn note_tran(raisers: &mut Raisers, member: MemberId, tran: &Tran) {
+fn note_tran(raisers: &mut Raisers, member: MemberId, tran: &Tran)
+    ensures { raisers.new ≡ tran_noted raisers.old member tran.now }
+{
     let number = tran.number;
     for op in tran.ops.as_slice() {
         note_raise(raisers, op, TranId { member, number });
     }
 }
 
-fn note_part(raisers: &mut Raisers, part: &Part) {
+fn note_part(raisers: &mut Raisers, part: &Part)
+    ensures { raisers.new ≡ trans_noted raisers.old part.now.member part.now.trans }
+{
     for tran in part.trans.as_slice() {
         note_tran(raisers, part.member, tran);
     }
 }
 
-/// For each flag who is to raise it in this phase.
-pub fn raisers_of(phase: &Phase) -> Raisers {
+pub fn is_failed(status: MemberStatus) -> bool
+    ensures { result ≡ is_failed status }
+{
+    matches!(status, MemberStatus::Failed)
+}
+
+/// Whether the member has a part of the phase in which it restarts.
+pub fn restarts_in(phase: &Phase, member: MemberId) -> bool
+    ensures { result ≡ restarts_in phase.now member }
+{
+    phase
+        .parts
+        .as_slice()
+        .iter()
+        .any(|part| part.member == member && part.restart)
+}
+
+/// Whether the member has failed, and doesn't restart in the phase.
+pub fn is_left_out(phase: &Phase, lists: &Lists, member: MemberId) -> bool
+    ensures { result ≡ is_left_out phase.now lists.now.statuses member }
+{
+    is_failed(lists.status(member)) && !restarts_in(phase, member)
+}
+
+/// For each flag who is to raise it in this phase. A transaction of a member that is left out raises none.
+pub fn raisers_of(phase: &Phase, lists: &Lists) -> Raisers
+    ensures { result ≡ raisers_of phase.now lists.now.statuses }
+{
     let mut raisers = [None; FLAGS];
     for part in phase.parts.as_slice() {
-        note_part(&mut raisers, part);
+        if !is_left_out(phase, lists, part.member) {
+            note_part(&mut raisers, part);
+        }
     }
     raisers
 }
 
-/// The transactions that a member plays in a phase.
-pub fn trans_of(alloc: Global, phase: &Phase, member: MemberId) -> Result<TranList, NoMemory> {
+// The member's part of a phase.
+fn part_in(phase: &Phase, member: MemberId) -> Option<&Part>
+    ensures { MatchOption result (part_in phase.now member ≡ None) (λ part. part_in phase.now member ≡ Some part.now) }
+{
     for part in phase.parts.as_slice() {
         if part.member == member {
-            return copy_trans(alloc, part.trans.as_slice());
-        }
-    }
-    Ok(TranList::new(alloc))
-}
-
-/// Where a member fails in a phase.
-pub fn fail_of(phase: &Phase, member: MemberId) -> Option<FailAt> {
-    for part in phase.parts.as_slice() {
-        if part.member == member {
-            return part.fail;
+            return Some(part);
         }
     }
     None
+}
+
+/// The transactions that a member plays in a phase, and where it fails.
+pub fn part_of(
+    alloc: Global,
+    phase: &Phase,
+    member: MemberId,
+) -> Result<(TranList, Option<FailAt>), NoMemory>
+    ensures trans { IfOk result (λ r. r.0 ≡ trans_in (part_in phase.now member)) }
+    ensures fail { IfOk result (λ r. r.1 ≡ fail_in (part_in phase.now member)) }
+{
+    match part_in(phase, member) {
+        Some(part) => Ok((copy_trans(alloc, part.trans.as_slice())?, part.fail)),
+        None => Ok((TranList::new(alloc), None)),
+    }
 }

@@ -1,19 +1,69 @@
 //! Which choices are ready.
 
-ghost use Rattle.std.specs.Prelude.{◌≡◌, true, IfSome};
+ghost use Rattle.std.specs.Prelude.{◌≡◌, ◌-◌, ◌^◌, true, IfSome};
 ghost use Rattle.group_crew.specs.Ready.{has_choice};
 
+use crate::rebuilding::Rebuilding;
+use crate::restarting::Restarting;
 use member_intents::Look;
 use member_resources::Policy;
 
 /// How many choices a member has.
 pub const CHOICES: u64 = 23;
 
+/// The member's own duty: to restart, and to be done with the phase.
+pub const DUTY: u64 = 0;
+
+/// The rebuild of the lost cache.
+pub const REBUILD: u64 = 20;
+
+/// A bit for each choice of a member.
+pub fn all_choices() -> u32
+    ensures { result ≡ 2 ^ 23 - 1 }
+{
+    (1 << CHOICES) - 1
+}
+
+// Whether the member's duty is ready. A member that restarts has that for its duty.
+fn is_duty_ready<P: Policy>(policy: &P, restart: &Option<Restarting>, look: &Look) -> bool {
+    match restart {
+        Some(restart) => restart.is_ready(look.bell),
+        None => policy.is_ready(DUTY, look),
+    }
+}
+
+// Whether a rebuild may go on, or begin.
+fn is_rebuild_ready(rebuild: &Option<Rebuilding>, look: &Look) -> bool {
+    match rebuild {
+        Some(rebuild) => rebuild.is_ready(look.bell),
+        None => look.is_lost,
+    }
+}
+
+fn is_ready<P: Policy>(
+    policy: &P,
+    restart: &Option<Restarting>,
+    rebuild: &Option<Rebuilding>,
+    choice: u64,
+    look: &Look,
+) -> bool {
+    match choice {
+        DUTY => is_duty_ready(policy, restart, look),
+        REBUILD => is_rebuild_ready(rebuild, look),
+        _ => policy.is_ready(choice, look),
+    }
+}
+
 /// A bit for each choice of a member that is ready.
-pub fn ready_choices<P: Policy>(policy: &P, look: &Look) -> u32 {
+pub fn ready_choices<P: Policy>(
+    policy: &P,
+    restart: &Option<Restarting>,
+    rebuild: &Option<Rebuilding>,
+    look: &Look,
+) -> u32 {
     let mut ready = 0u32;
     for choice in 0..CHOICES {
-        if policy.is_ready(choice, look) {
+        if is_ready(policy, restart, rebuild, choice, look) {
             ready |= 1 << choice;
         }
     }

@@ -5,7 +5,6 @@ use Rattle.ds_base.specs.declared.row.Row.{Row}
 use Rattle.ds_base.specs.declared.names.Sizes.{Sizes}
 use Rattle.ds_model.specs.declared.script.Script.{Script}
 use Rattle.ds_model.specs.declared.report.Report.{Report}
-use Rattle.ds_model.specs.ReportText.{report_text}
 use Rattle.ds_model.specs.ScriptText.{script_text}
 use Rattle.work_maker.specs.Made.{made}
 use Rattle.group_core.specs.declared.fault.RunFault.{RunFault}
@@ -25,12 +24,12 @@ use Rattle.group_run.specs.declared.prepare.Setting.{Setting}
 use Rattle.group_run.specs.declared.prepare.Prepared.TheVariants as prepared
 use Rattle.group_run.specs.declared.telling.Telling.{Telling}
 use Rattle.group_run.specs.Outside.{Outside, DiskIsUntouched}
-use Rattle.group_run.specs.Prepares.{IsPrepared, ReadsNothing}
+use Rattle.group_run.specs.Prepares.{IsPrepared, ReadsNothing, setting_of}
 use Rattle.group_run.specs.Reports.{empty_report}
 use Rattle.group_run.specs.Statuses.{short_text}
-use Rattle.group_run.specs.Read.{IsReady}
-use Rattle.group_run.specs.Tellings.{short_telling, script_telling, met_by, telling_of, fault_status, IsOrWanting, TellsOutcome}
-use Rattle.group_run.specs.Ends.{MetByDisk, MetBy, RunsTo, RanBy, run_text, text_for, text_by, TouchesNoDisk, Tells, Meets}
+use Rattle.group_run.specs.Read.{IsRead}
+use Rattle.group_run.specs.Tellings.{short_telling, script_telling, met_by, told_text, telling_of, fault_status, IsOrWanting, TellsOutcome}
+use Rattle.group_run.specs.Ends.{MetByDisk, MetBy, RunsTo, RanBy, work_of, run_text, text_for, text_by, TouchesNoDisk, Tells, Meets, Works}
 
 -- ---- a call that opened no disk
 
@@ -82,14 +81,14 @@ met_by_order None met before after h untouched = cc
 met_by_order (Some (order.Play sizes seed trace)) met before after h untouched = inl (h, untouched)
 met_by_order (Some order.Show) met before after h untouched = let f : prepared.Ended met ≡ prepared.Show = h in cc
 met_by_order (Some (order.Make n)) met before after h untouched = let f : prepared.Ended met ≡ prepared.Make n = h in cc
-met_by_order (Some (order.Work n sizes)) met before after h untouched = cc
+met_by_order (Some (order.Work n sizes)) met before after h untouched = let f : prepared.Ended met ≡ prepared.Work n (setting_of sizes (Some n) false) = h.0 in cc
 
 text_by_order : (o : Option Order) (met : Status) (a b : Option (List ℕ)) (f g : ℕ) → IsPrepared o (prepared.Ended met) a b f g → short_text met ≡ text_for o met
 text_by_order None met a b f g h = refl
 text_by_order (Some (order.Play sizes seed trace)) met a b f g h = refl
 text_by_order (Some order.Show) met a b f g h = refl
 text_by_order (Some (order.Make n)) met a b f g h = let f : prepared.Ended met ≡ prepared.Make n = h in cc
-text_by_order (Some (order.Work n sizes)) met a b f g h = refl
+text_by_order (Some (order.Work n sizes)) met a b f g h = let f : prepared.Ended met ≡ prepared.Work n (setting_of sizes (Some n) false) = h.0 in cc
 
 pub ended : (tells : Type 0) (o : Option Order) (before after : Outside) (met : Status) (told : Telling)
     → IsPrepared o (prepared.Ended met) before.left after.left before.source_faults after.source_faults → DiskIsUntouched before after → (ReadsNothing o → after.left ≡ before.left)
@@ -107,7 +106,7 @@ made_by None n before after h = let f : prepared.Make n ≡ prepared.Ended statu
 made_by (Some (order.Play sizes seed trace)) n before after h = absurd h
 made_by (Some order.Show) n before after h = let f : prepared.Make n ≡ prepared.Show = h in cc
 made_by (Some (order.Make k)) n before after h = (refl, ap (λ i. script_text (made i)) (same_number n k h))
-made_by (Some (order.Work k sizes)) n before after h = let f : prepared.Make n ≡ prepared.Ended status.NotYet = h in cc
+made_by (Some (order.Work k sizes)) n before after h = let f : prepared.Make n ≡ prepared.Work k (setting_of sizes (Some k) false) = h.0 in cc
 
 pub is_made : (tells : Type 0) (o : Option Order) (before after : Outside) (n : ℕ) (told : Telling)
     → IsPrepared o (prepared.Make n) before.left after.left before.source_faults after.source_faults → DiskIsUntouched before after → (ReadsNothing o → after.left ≡ before.left)
@@ -135,21 +134,21 @@ runs_told Keeps report has it = elim (has report it) [
   | inr five ↦ subst (λ n. RunsTo Keeps (cond (nat_eq n 5) status.DiskFailed status.Done) report) (sym five) (it, five)
 ]
 
-runs_to : (Keeps : Report → Type 0) (e : Ended) → HasStatus Keeps → IfTold e Keeps → (let t : Telling = telling_of e in RunsTo Keeps t.status t.report)
-runs_to Keeps (ending.Told report) has it = runs_told Keeps report has it
-runs_to Keeps (ending.Damaged volume at) has it = refl
-runs_to Keeps (ending.Unsound event) has it = refl
-runs_to Keeps ending.NoMemory has it = refl
+runs_to : (Keeps : Report → Type 0) (work : Option ℕ) (e : Ended) → HasStatus Keeps → IfTold e Keeps → (let t : Telling = telling_of work e in RunsTo Keeps t.status t.report)
+runs_to Keeps work (ending.Told report) has it = runs_told Keeps report has it
+runs_to Keeps work (ending.Damaged volume at) has it = refl
+runs_to Keeps work (ending.Unsound event) has it = refl
+runs_to Keeps work ending.NoMemory has it = refl
 
-text_when : (b : Bool) (report : Report) → report_text report ≡ run_text (cond b status.DiskFailed status.Done) report
-text_when true report = refl
-text_when false report = refl
+text_when : (work : Option ℕ) (b : Bool) (report : Report) → told_text work report ≡ run_text work (cond b status.DiskFailed status.Done) report
+text_when work true report = refl
+text_when work false report = refl
 
-run_told : (e : Ended) → (let t : Telling = telling_of e in t.text ≡ run_text t.status t.report)
-run_told (ending.Told report) = text_when (nat_eq report.status 5) report
-run_told (ending.Damaged volume at) = refl
-run_told (ending.Unsound event) = refl
-run_told ending.NoMemory = refl
+run_told : (work : Option ℕ) (e : Ended) → (let t : Telling = telling_of work e in t.text ≡ run_text work t.status t.report)
+run_told work (ending.Told report) = text_when work (nat_eq report.status 5) report
+run_told work (ending.Damaged volume at) = refl
+run_told work (ending.Unsound event) = refl
+run_told work ending.NoMemory = refl
 
 -- an order by which a disk is opened, so that a report keeps this by the rows before
 record Opens (tells : Type 0) (o : Option Order) (before after : Outside) (Keeps : List Row → Report → Type 0) : Type 0 where
@@ -164,7 +163,7 @@ abbrev MeetsOpened : Type 0 → Option Order → Outside → Outside → List Ro
 MeetsOpened tells o before after rows t = Meets tells o before after t.status t.text true rows t.report
 
 meets_opened : (tells : Type 0) (o : Option Order) (before after : Outside) (Keeps : List Row → Report → Type 0) (rows : List Row) (t : Telling)
-    → Opens tells o before after Keeps → IsOpening before.contents rows → RunsTo (Keeps rows) t.status t.report → t.text ≡ run_text t.status t.report → MeetsOpened tells o before after rows t
+    → Opens tells o before after Keeps → IsOpening before.contents rows → RunsTo (Keeps rows) t.status t.report → t.text ≡ run_text (work_of o) t.status t.report → MeetsOpened tells o before after rows t
 meets_opened tells o before after Keeps rows t opens opening runs its = record {
   ran = λ e. opens.runs rows t.status t.report runs;
   short = λ e. let f : true ≡ false = e in cc;
@@ -176,7 +175,7 @@ meets_opened tells o before after Keeps rows t opens opening runs its = record {
 }
 
 of_outcome : (tells : Type 0) (o : Option Order) (before after : Outside) (Keeps : List Row → Report → Type 0) (out : Outcome) (opened : Bool) (opening : List Row) (t : Telling)
-    → Opens tells o before after Keeps → Comes before.contents before.disk_faults after.disk_faults Keeps out → TellsOutcome out opened opening t
+    → Opens tells o before after Keeps → Comes before.contents before.disk_faults after.disk_faults Keeps out → TellsOutcome (work_of o) out opened opening t
     → Meets tells o before after t.status t.text opened opening t.report
 of_outcome tells o before after Keeps (outcome.Unopened why) opened opening t opens comes told =
     let untouched : TouchesNoDisk o → DiskIsUntouched before after = λ none. absurd (opens.touches none) in
@@ -185,7 +184,8 @@ of_outcome tells o before after Keeps (outcome.Unopened why) opened opening t op
     let meets : MeetsUnopened tells o before after t = meets_or_wanting tells o before after (short_telling (fault_status why)) t untouched opens.unread short told.2 in
     subst (λ (rows : List Row). Meets tells o before after t.status t.text opened rows t.report) (sym told.1) (subst (λ (b : Bool). Meets tells o before after t.status t.text b [] t.report) (sym told.0) meets)
 of_outcome tells o before after Keeps (outcome.Opened rows end) opened opening t opens comes told =
-    let whole : MeetsOpened tells o before after rows (telling_of end) = meets_opened tells o before after Keeps rows (telling_of end) opens comes.0 (runs_to (Keeps rows) end (opens.has_status rows) comes.1) (run_told end) in
+    let work : Option ℕ = work_of o in
+    let whole : MeetsOpened tells o before after rows (telling_of work end) = meets_opened tells o before after Keeps rows (telling_of work end) opens comes.0 (runs_to (Keeps rows) work end (opens.has_status rows) comes.1) (run_told work end) in
     let wanting : MeetsOpened tells o before after rows (short_telling status.NoMemory) = meets_opened tells o before after Keeps rows (short_telling status.NoMemory) opens comes.0 refl refl in
     let meets : MeetsOpened tells o before after rows t = elim told.2 [
       | inl e ↦ subst (MeetsOpened tells o before after rows) (sym e) whole
@@ -200,9 +200,24 @@ sizes_by None script given a b f g h = let f : prepared.Play script given ≡ pr
 sizes_by (Some (order.Play sizes seed trace)) script given a b f g h = subst (λ (s : Setting). AreSizes s.sizes) (sym h.1) h.2
 sizes_by (Some order.Show) script given a b f g h = let f : prepared.Play script given ≡ prepared.Show = h in cc
 sizes_by (Some (order.Make n)) script given a b f g h = let f : prepared.Play script given ≡ prepared.Make n = h in cc
-sizes_by (Some (order.Work n sizes)) script given a b f g h = let f : prepared.Play script given ≡ prepared.Ended status.NotYet = h in cc
+sizes_by (Some (order.Work n sizes)) script given a b f g h = let f : prepared.Play script given ≡ prepared.Work n (setting_of sizes (Some n) false) = h.0 in cc
 
-play_opens : (tells : Type 0) (sizes : Sizes) (seed : Option ℕ) (trace : Bool) (before after : Outside) (script : Script) → IsReady sizes.members before.left after.left script
+same_work : (n k : ℕ) (given setting : Setting) → prepared.Work n given ≡ prepared.Work k setting → n ≡ k
+same_work n k given setting e = cc
+
+same_setting : (n k : ℕ) (given setting : Setting) → prepared.Work n given ≡ prepared.Work k setting → given ≡ setting
+same_setting n k given setting e = cc
+
+pub work_by : (o : Option Order) (n : ℕ) (given : Setting) (a b : Option (List ℕ)) (f g : ℕ) → IsPrepared o (prepared.Work n given) a b f g → AreSizes given.sizes × (given.trace ≡ false)
+work_by None n given a b f g h = let f : prepared.Work n given ≡ prepared.Ended status.WordsRefused = h in cc
+work_by (Some (order.Play sizes seed trace)) n given a b f g h = absurd h
+work_by (Some order.Show) n given a b f g h = let f : prepared.Work n given ≡ prepared.Show = h in cc
+work_by (Some (order.Make k)) n given a b f g h = let f : prepared.Work n given ≡ prepared.Make k = h in cc
+work_by (Some (order.Work k sizes)) n given a b f g h =
+    let e = same_setting n k given (setting_of sizes (Some k) false) h.0 in
+    (subst (λ (s : Setting). AreSizes s.sizes) (sym e) h.1, ap (λ (s : Setting). s.trace) e)
+
+play_opens : (tells : Type 0) (sizes : Sizes) (seed : Option ℕ) (trace : Bool) (before after : Outside) (script : Script) → IsRead sizes.members before.left after.left script
     → Opens tells (Some (order.Play sizes seed trace)) before after (λ rows. IsTold tells script trace rows before.disk_faults after.disk_faults after.contents)
 play_opens tells sizes seed trace before after script ready = record {
   met = λ met is. inr ((script, ready), is);
@@ -223,28 +238,52 @@ show_opens tells before after same = record {
   unread = λ none. same;
 }
 
+work_opens : (tells : Type 0) (n : ℕ) (sizes : Sizes) (before after : Outside) → after.left ≡ before.left
+    → Opens tells (Some (order.Work n sizes)) before after (λ rows. IsTold tells (made n) false rows before.disk_faults after.disk_faults after.contents)
+work_opens tells n sizes before after same = record {
+  met = λ met is. is;
+  texts = λ met. refl;
+  runs = λ rows met report run. run;
+  has_status = λ rows report is. is.status;
+  touches = λ none. none;
+  unread = λ none. same;
+}
+
 pub plays : (tells : Type 0) (o : Option Order) (before after : Outside) (script : Script) (given : Setting) (out : Outcome) (opened : Bool) (opening : List Row) (t : Telling)
     → IsPrepared o (prepared.Play script given) before.left after.left before.source_faults after.source_faults
     → Comes before.contents before.disk_faults after.disk_faults (λ rows. IsTold tells script given.trace rows before.disk_faults after.disk_faults after.contents) out
-    → TellsOutcome out opened opening t → Meets tells o before after t.status t.text opened opening t.report
+    → TellsOutcome None out opened opening t → Meets tells o before after t.status t.text opened opening t.report
 plays tells None before after script given out opened opening t h comes told = let f : prepared.Play script given ≡ prepared.Ended status.WordsRefused = h in cc
 plays tells (Some (order.Play sizes seed trace)) before after script given out opened opening t h comes told =
     let its = subst (λ (s : Setting). Comes before.contents before.disk_faults after.disk_faults (λ rows. IsTold tells script s.trace rows before.disk_faults after.disk_faults after.contents) out) h.1 comes in
     of_outcome tells (Some (order.Play sizes seed trace)) before after (λ rows. IsTold tells script trace rows before.disk_faults after.disk_faults after.contents) out opened opening t (play_opens tells sizes seed trace before after script h.0) its told
 plays tells (Some order.Show) before after script given out opened opening t h comes told = let f : prepared.Play script given ≡ prepared.Show = h in cc
 plays tells (Some (order.Make n)) before after script given out opened opening t h comes told = let f : prepared.Play script given ≡ prepared.Make n = h in cc
-plays tells (Some (order.Work n sizes)) before after script given out opened opening t h comes told = let f : prepared.Play script given ≡ prepared.Ended status.NotYet = h in cc
+plays tells (Some (order.Work n sizes)) before after script given out opened opening t h comes told = let f : prepared.Play script given ≡ prepared.Work n (setting_of sizes (Some n) false) = h.0 in cc
 
 pub shows : (tells : Type 0) (o : Option Order) (before after : Outside) (out : Outcome) (opened : Bool) (opening : List Row) (t : Telling)
     → IsPrepared o prepared.Show before.left after.left before.source_faults after.source_faults → (ReadsNothing o → after.left ≡ before.left)
     → Comes before.contents before.disk_faults after.disk_faults (ShowsRows before.disk_faults after.disk_faults) out
-    → TellsOutcome out opened opening t → Meets tells o before after t.status t.text opened opening t.report
+    → TellsOutcome None out opened opening t → Meets tells o before after t.status t.text opened opening t.report
 shows tells None before after out opened opening t h unread comes told = let f : prepared.Show ≡ prepared.Ended status.WordsRefused = h in cc
 shows tells (Some (order.Play sizes seed trace)) before after out opened opening t h unread comes told = absurd h
 shows tells (Some order.Show) before after out opened opening t h unread comes told =
     of_outcome tells (Some order.Show) before after (ShowsRows before.disk_faults after.disk_faults) out opened opening t (show_opens tells before after (unread tt)) comes told
 shows tells (Some (order.Make n)) before after out opened opening t h unread comes told = let f : prepared.Show ≡ prepared.Make n = h in cc
-shows tells (Some (order.Work n sizes)) before after out opened opening t h unread comes told = let f : prepared.Show ≡ prepared.Ended status.NotYet = h in cc
+shows tells (Some (order.Work n sizes)) before after out opened opening t h unread comes told = let f : prepared.Show ≡ prepared.Work n (setting_of sizes (Some n) false) = h.0 in cc
+
+pub works : (tells : Type 0) (o : Option Order) (before after : Outside) (n : ℕ) (given : Setting) (opened : Bool) (opening : List Row) (t : Telling)
+    → IsPrepared o (prepared.Work n given) before.left after.left before.source_faults after.source_faults → (ReadsNothing o → after.left ≡ before.left)
+    → Works tells n before.contents before.disk_faults after.disk_faults after.contents opened opening t → Meets tells o before after t.status t.text opened opening t.report
+works tells None before after n given opened opening t h unread does = let f : prepared.Work n given ≡ prepared.Ended status.WordsRefused = h in cc
+works tells (Some (order.Play sizes seed trace)) before after n given opened opening t h unread does = absurd h
+works tells (Some order.Show) before after n given opened opening t h unread does = let f : prepared.Work n given ≡ prepared.Show = h in cc
+works tells (Some (order.Make k)) before after n given opened opening t h unread does = let f : prepared.Work n given ≡ prepared.Make k = h in cc
+works tells (Some (order.Work k sizes)) before after n given opened opening t h unread does =
+    let e = same_work n k given (setting_of sizes (Some k) false) h.0 in
+    let its = subst (λ (i : ℕ). Comes before.contents before.disk_faults after.disk_faults (λ rows. IsTold tells (made i) false rows before.disk_faults after.disk_faults after.contents) does.outcome) e does.comes in
+    let told = subst (λ (i : ℕ). TellsOutcome (Some i) does.outcome opened opening t) e does.told_is in
+    of_outcome tells (Some (order.Work k sizes)) before after (λ rows. IsTold tells (made k) false rows before.disk_faults after.disk_faults after.contents) does.outcome opened opening t (work_opens tells k sizes before after (unread tt)) its told
 
 -- ---- no call meets a failed sink
 
@@ -253,7 +292,7 @@ short_no_sink None before after h = let f : status.SinkFailed ≡ status.WordsRe
 short_no_sink (Some (order.Play sizes seed trace)) before after h = elim h [ inl source ↦ source.0 | inr disk ↦ disk.1 ]
 short_no_sink (Some order.Show) before after h = h
 short_no_sink (Some (order.Make n)) before after h = let f : status.SinkFailed ≡ status.Done = h in cc
-short_no_sink (Some (order.Work n sizes)) before after h = let f : status.SinkFailed ≡ status.NotYet = h in cc
+short_no_sink (Some (order.Work n sizes)) before after h = h
 
 ran_no_sink : (tells : Type 0) (o : Option Order) (before after : Outside) (opening : List Row) (report : Report) → RanBy tells o status.SinkFailed before after opening report → ⊥
 ran_no_sink tells None before after opening report h = h

@@ -3,22 +3,25 @@ use Rattle.std.specs.Prelude.{◌≡◌, ◌⊎◌, ℕ, ◌<◌, Bool, true, fa
 use Rattle.std.specs.Io.KnownBytes.{Appends}
 use Rattle.ds_base.specs.Causes.{Rose}
 use Rattle.ds_base.specs.declared.row.Row.{Row}
+use Rattle.ds_disk.specs.Contents.{Contents}
 use Rattle.ds_model.specs.declared.script.Script.{Script}
 use Rattle.ds_model.specs.declared.report.Report.{Report}
 use Rattle.ds_model.specs.ScriptText.{script_text}
-use Rattle.ds_model.specs.ReportText.{report_text}
 use Rattle.work_maker.specs.Made.{made}
 use Rattle.checked_run.specs.Told.{IsTold}
-use Rattle.checked_run.specs.Outcomes.{IsOpening, ShowsRows}
+use Rattle.checked_run.specs.declared.ended.Outcome.{Outcome}
+use Rattle.checked_run.specs.Outcomes.{Comes, IsOpening, ShowsRows}
 use Rattle.group_words.specs.declared.order.Order.{Order}
 use Rattle.group_words.specs.declared.order.Order.TheVariants as order
 use Rattle.group_run.specs.declared.status.Status.{Status}
 use Rattle.group_run.specs.declared.status.Status.TheVariants as status
 use Rattle.group_run.specs.Statuses.{short_text}
 use Rattle.group_run.specs.Outside.{Outside, DiskIsUntouched}
-use Rattle.group_run.specs.Read.{IsReady}
+use Rattle.group_run.specs.Read.{IsRead}
 use Rattle.group_run.specs.Prepares.{MetBySource, ReadsNothing}
 use Rattle.group_run.specs.Reports.{empty_report}
+use Rattle.group_run.specs.Tellings.{told_text, TellsOutcome}
+use Rattle.group_run.specs.declared.telling.Telling.{Telling}
 
 -- ---- what holds where a call meets a status and opens no disk
 
@@ -32,14 +35,13 @@ MetByDisk status.SinkFailed before after = ⊥
 MetByDisk status.DiskFailed before after = Rose before.disk_faults after.disk_faults
 MetByDisk status.NoMemory before after = Unit {0}
 MetByDisk (status.Damaged volume at) before after = Unit {0}
-MetByDisk status.NotYet before after = ⊥
 MetByDisk (status.SelfCheckFailed event) before after = Unit {0}
 
--- the source gave no script that is ready, and the disk wasn't touched; or it gave one
+-- the source gave no script, and the disk wasn't touched; or it gave one
 abbrev pub MetByPlay : ℕ → Status → Outside → Outside → Type 0
 MetByPlay members met before after =
     (MetBySource members met before.left after.left before.source_faults after.source_faults × DiskIsUntouched before after)
-    ⊎ (((script : Script) × IsReady members before.left after.left script) × MetByDisk met before after)
+    ⊎ (((script : Script) × IsRead members before.left after.left script) × MetByDisk met before after)
 
 -- by the order of the words, if there is one
 abbrev pub MetBy : Option Order → Status → Outside → Outside → Type 0
@@ -47,7 +49,7 @@ MetBy None met before after = met ≡ status.WordsRefused
 MetBy (Some (order.Play sizes seed trace)) met before after = MetByPlay sizes.members met before after
 MetBy (Some order.Show) met before after = MetByDisk met before after
 MetBy (Some (order.Make n)) met before after = met ≡ status.Done
-MetBy (Some (order.Work n sizes)) met before after = met ≡ status.NotYet
+MetBy (Some (order.Work n sizes)) met before after = MetByDisk met before after
 
 -- ---- what holds where a call has opened the disk and meets a status
 
@@ -61,33 +63,39 @@ RunsTo Keeps status.SinkFailed report = ⊥
 RunsTo Keeps status.DiskFailed report = Keeps report × (report.status ≡ 5)
 RunsTo Keeps status.NoMemory report = report ≡ empty_report 6
 RunsTo Keeps (status.Damaged volume at) report = report ≡ empty_report 7
-RunsTo Keeps status.NotYet report = ⊥
 RunsTo Keeps (status.SelfCheckFailed event) report = report ≡ empty_report 11
 
--- The script that was read was played: a report is sound for it, for the rows before and for the logs that are left on a disk of a type
--- that tells always. Or the rows before were shown.
+-- The script that was read, or that of the number, was played: a report is sound for it, for the rows before and for the logs that are
+-- left on a disk of a type that tells always. Or the rows before were shown.
 abbrev pub RanBy : Type 0 → Option Order → Status → Outside → Outside → List Row → Report → Type 0
 RanBy tells None met before after opening report = ⊥
 RanBy tells (Some (order.Play sizes seed trace)) met before after opening report =
-    (script : Script) × IsReady sizes.members before.left after.left script × RunsTo (IsTold tells script trace opening before.disk_faults after.disk_faults after.contents) met report
+    (script : Script) × IsRead sizes.members before.left after.left script × RunsTo (IsTold tells script trace opening before.disk_faults after.disk_faults after.contents) met report
 RanBy tells (Some order.Show) met before after opening report = RunsTo (ShowsRows before.disk_faults after.disk_faults opening) met report
 RanBy tells (Some (order.Make n)) met before after opening report = ⊥
-RanBy tells (Some (order.Work n sizes)) met before after opening report = ⊥
+RanBy tells (Some (order.Work n sizes)) met before after opening report = RunsTo (IsTold tells (made n) false opening before.disk_faults after.disk_faults after.contents) met report
 
 -- ---- what is written
 
--- where the disk was opened: the report, or the text of a status without one
-abbrev pub run_text : Status → Report → List ℕ
-run_text status.Done report = report_text report
-run_text status.WordsRefused report = short_text status.WordsRefused
-run_text (status.ScriptRefused fault) report = short_text (status.ScriptRefused fault)
-run_text status.SourceFailed report = short_text status.SourceFailed
-run_text status.SinkFailed report = short_text status.SinkFailed
-run_text status.DiskFailed report = report_text report
-run_text status.NoMemory report = short_text status.NoMemory
-run_text (status.Damaged volume at) report = short_text (status.Damaged volume at)
-run_text status.NotYet report = short_text status.NotYet
-run_text (status.SelfCheckFailed event) report = short_text (status.SelfCheckFailed event)
+-- the number whose work is ordered
+abbrev pub work_of : Option Order → Option ℕ
+work_of None = None
+work_of (Some (order.Play sizes seed trace)) = None
+work_of (Some order.Show) = None
+work_of (Some (order.Make n)) = None
+work_of (Some (order.Work n sizes)) = Some n
+
+-- where the disk was opened: the report, or its line for the work of a number; or the text of a status without one
+abbrev pub run_text : Option ℕ → Status → Report → List ℕ
+run_text work status.Done report = told_text work report
+run_text work status.WordsRefused report = short_text status.WordsRefused
+run_text work (status.ScriptRefused fault) report = short_text (status.ScriptRefused fault)
+run_text work status.SourceFailed report = short_text status.SourceFailed
+run_text work status.SinkFailed report = short_text status.SinkFailed
+run_text work status.DiskFailed report = told_text work report
+run_text work status.NoMemory report = short_text status.NoMemory
+run_text work (status.Damaged volume at) report = short_text (status.Damaged volume at)
+run_text work (status.SelfCheckFailed event) report = short_text (status.SelfCheckFailed event)
 
 -- where it wasn't: the script of a number, or the text of the status
 abbrev pub text_for : Option Order → Status → List ℕ
@@ -95,13 +103,21 @@ text_for (Some (order.Make n)) status.Done = script_text (made n)
 text_for o met = short_text met
 
 abbrev pub text_by : Option Order → Bool → Status → Report → List ℕ
-text_by o true met report = run_text met report
+text_by o true met report = run_text (work_of o) met report
 text_by o false met report = text_for o met
 
 -- the sink took the whole text; or it failed, as it counted, and took a front of it
 pub record Tells (met ended : Status) (text : List ℕ) (taken taken_now : Option (List ℕ)) (faults faults_now : ℕ) : Type 0 where
   pub whole : (ended ≡ status.SinkFailed → ⊥) → (ended ≡ met) × Appends taken taken_now text
   pub front : ended ≡ status.SinkFailed → Rose faults faults_now × ((n : ℕ) × (n < length text) × Appends taken taken_now (take n text))
+
+-- ---- the work of a number
+
+-- what became of a disk that told this and had failed so often, and what is told of it
+pub record Works (tells : Type 0) (n : ℕ) (was : Option Contents) (before now : ℕ) (after : Option Contents) (opened : Bool) (opening : List Row) (told : Telling) : Type 0 where
+  pub outcome : Outcome
+  pub comes : Comes was before now (λ rows. IsTold tells (made n) false rows before now after) outcome
+  pub told_is : TellsOutcome (Some n) outcome opened opening told
 
 -- ---- how a call ends
 
@@ -111,7 +127,7 @@ TouchesNoDisk None = Unit {0}
 TouchesNoDisk (Some (order.Play sizes seed trace)) = ⊥
 TouchesNoDisk (Some order.Show) = ⊥
 TouchesNoDisk (Some (order.Make n)) = Unit {0}
-TouchesNoDisk (Some (order.Work n sizes)) = Unit {0}
+TouchesNoDisk (Some (order.Work n sizes)) = ⊥
 
 -- over a disk of a type that tells always or not: which status a call meets with which text, by what the words order and by whether
 -- the disk was opened

@@ -1,9 +1,9 @@
 pub mod Statuses
 pub mod Input
-pub mod Steady
 pub mod Read
 pub mod Prepares
 pub mod Reports
+pub mod Summary
 pub mod Tellings
 pub mod Outside
 pub mod Ends

@@ -1,9 +1,8 @@
 -- The steps of a call before a disk is touched.
-use Rattle.std.specs.Prelude.{◌≡◌, ℕ, Bool, List, String, Option, Some, None, Err}
+use Rattle.std.specs.Prelude.{◌≡◌, ℕ, Bool, false, List, String, Option, Some, None, Err}
 use Rattle.std.specs.declared.alloc.Global.{Global}
 use Rattle.ds_base.specs.Causes.{Rose}
 use Rattle.ds_base.specs.declared.names.Sizes.{Sizes}
-use Rattle.ds_model.specs.declared.script.Script.{Script}
 use Rattle.ds_model.specs.declared.script.ScriptFault.{ScriptFault}
 use Rattle.script_text.specs.Reading.{script_of}
 use Rattle.group_words.specs.Orders.{AreSizes, order_of, texts}
@@ -15,8 +14,7 @@ use Rattle.group_run.specs.declared.prepare.Setting.{Setting}
 use Rattle.group_run.specs.declared.prepare.Prepared.{Prepared}
 use Rattle.group_run.specs.declared.prepare.Prepared.TheVariants as prepared
 use Rattle.group_run.specs.Input.{WasRead}
-use Rattle.group_run.specs.Read.{IsRead, IsReady}
-use Rattle.group_run.specs.Steady.{IsSteady}
+use Rattle.group_run.specs.Read.{IsRead}
 
 -- what the words order, if they order anything
 abbrev pub ordered : List (String Global) → Option Order
@@ -44,13 +42,13 @@ MetBySource members status.SinkFailed left left_now faults faults_now = ⊥
 MetBySource members status.DiskFailed left left_now faults faults_now = ⊥
 MetBySource members status.NoMemory left left_now faults faults_now = ⊥
 MetBySource members (status.Damaged volume at) left left_now faults faults_now = ⊥
-MetBySource members status.NotYet left left_now faults faults_now = (s : Script) × IsRead members left left_now s × (IsSteady s → ⊥)
 MetBySource members (status.SelfCheckFailed event) left left_now faults faults_now = ⊥
 
 abbrev pub IsPreparedToPlay : Setting → Prepared → Option (List ℕ) → Option (List ℕ) → ℕ → ℕ → Type 0
-IsPreparedToPlay setting (prepared.Play script given) left left_now faults faults_now = IsReady setting.sizes.members left left_now script × (given ≡ setting) × AreSizes setting.sizes
+IsPreparedToPlay setting (prepared.Play script given) left left_now faults faults_now = IsRead setting.sizes.members left left_now script × (given ≡ setting) × AreSizes setting.sizes
 IsPreparedToPlay setting prepared.Show left left_now faults faults_now = ⊥
 IsPreparedToPlay setting (prepared.Make n) left left_now faults faults_now = ⊥
+IsPreparedToPlay setting (prepared.Work n given) left left_now faults faults_now = ⊥
 IsPreparedToPlay setting (prepared.Ended met) left left_now faults faults_now = MetBySource setting.sizes.members met left left_now faults faults_now
 
 -- what is ready to run by what the words order
@@ -59,7 +57,7 @@ IsPrepared None p left left_now faults faults_now = p ≡ prepared.Ended status.
 IsPrepared (Some (order.Play sizes seed trace)) p left left_now faults faults_now = IsPreparedToPlay (setting_of sizes seed trace) p left left_now faults faults_now
 IsPrepared (Some order.Show) p left left_now faults faults_now = p ≡ prepared.Show
 IsPrepared (Some (order.Make n)) p left left_now faults faults_now = p ≡ prepared.Make n
-IsPrepared (Some (order.Work n sizes)) p left left_now faults faults_now = p ≡ prepared.Ended status.NotYet
+IsPrepared (Some (order.Work n sizes)) p left left_now faults faults_now = (p ≡ prepared.Work n (setting_of sizes (Some n) false)) × AreSizes sizes
 
 -- the order is one for which nothing is read
 abbrev pub ReadsNothing : Option Order → Type 0

@@ -5,7 +5,6 @@ use Rattle.ds_model.specs.declared.script.Script.{Script}
 use Rattle.ds_model.specs.Scripts.{IsScript}
 use Rattle.script_text.specs.Reading.{script_of}
 use Rattle.group_run.specs.Input.{script_limit}
-use Rattle.group_run.specs.Steady.{IsSteady}
 
 -- the bytes are this script for so many members
 pub record Spells (members : ℕ) (bytes : List ℕ) (script : Script) : Type 0 where
@@ -19,8 +18,3 @@ pub record IsRead (members : ℕ) (left left_now : Option (List ℕ)) (script : 
   pub consumed : Consumes left left_now bytes
   pub at_end : IsAtEnd left_now
   pub spelled : Spells members bytes script
-
--- it can be played
-pub record IsReady (members : ℕ) (left left_now : Option (List ℕ)) (script : Script) : Type 0 where
-  pub read : IsRead members left left_now script
-  pub steady : IsSteady script

@@ -18,7 +18,6 @@ number_of status.SinkFailed = 4
 number_of status.DiskFailed = 5
 number_of status.NoMemory = 6
 number_of (status.Damaged v at) = 7
-number_of status.NotYet = 8
 number_of (status.SelfCheckFailed event) = 11
 
 abbrev pub kind_word : FaultKind → List ℕ
@@ -60,5 +59,4 @@ short_text status.SinkFailed = []
 short_text status.DiskFailed = line (codes "disk failed")
 short_text status.NoMemory = []
 short_text (status.Damaged v at) = damage_text v at
-short_text status.NotYet = line (codes "not yet")
 short_text (status.SelfCheckFailed event) = check_text event

@@ -1,5 +1,5 @@
 -- What is told: a status, its text and its report.
-use Rattle.std.specs.Prelude.{◌≡◌, ◌⊎◌, ℕ, true, false, Bool, cond, nat_eq, List, []}
+use Rattle.std.specs.Prelude.{◌≡◌, ◌⊎◌, ℕ, true, false, Bool, cond, nat_eq, List, [], Option, Some, None}
 use Rattle.ds_base.specs.declared.row.Row.{Row}
 use Rattle.ds_model.specs.declared.report.Report.{Report}
 use Rattle.ds_model.specs.ReportText.{report_text}
@@ -16,6 +16,7 @@ use Rattle.group_run.specs.declared.status.Status.TheVariants as status
 use Rattle.group_run.specs.declared.telling.Telling.{Telling}
 use Rattle.group_run.specs.Reports.{empty_report}
 use Rattle.group_run.specs.Statuses.{short_text, number_of}
+use Rattle.group_run.specs.Summary.{summary_text}
 
 -- a status without a report
 abbrev pub short_telling : Status → Telling
@@ -29,12 +30,17 @@ script_telling n = record { status = status.Done; text = script_text (made n); r
 abbrev pub met_by : Report → Status
 met_by report = cond (nat_eq report.status 5) status.DiskFailed status.Done
 
+-- a report whole; or, of the work of a number, the line of its fates
+abbrev pub told_text : Option ℕ → Report → List ℕ
+told_text None report = report_text report
+told_text (Some n) report = summary_text n report
+
 -- what a disk came to that was opened
-abbrev pub telling_of : Ended → Telling
-telling_of (ending.Told report) = record { status = met_by report; text = report_text report; report = report }
-telling_of (ending.Damaged volume at) = short_telling (status.Damaged volume at)
-telling_of (ending.Unsound event) = short_telling (status.SelfCheckFailed event)
-telling_of ending.NoMemory = short_telling status.NoMemory
+abbrev pub telling_of : Option ℕ → Ended → Telling
+telling_of work (ending.Told report) = record { status = met_by report; text = told_text work report; report = report }
+telling_of work (ending.Damaged volume at) = short_telling (status.Damaged volume at)
+telling_of work (ending.Unsound event) = short_telling (status.SelfCheckFailed event)
+telling_of work ending.NoMemory = short_telling status.NoMemory
 
 -- why a disk was not opened
 abbrev pub fault_status : RunFault → Status
@@ -48,6 +54,6 @@ abbrev pub IsOrWanting : Telling → Telling → Type 0
 IsOrWanting wanted told = (told ≡ wanted) ⊎ (told ≡ short_telling status.NoMemory)
 
 -- what is told of what became of a disk: whether it was opened, and with which rows
-abbrev pub TellsOutcome : Outcome → Bool → List Row → Telling → Type 0
-TellsOutcome (outcome.Unopened why) opened opening told = (opened ≡ false) × (opening ≡ []) × IsOrWanting (short_telling (fault_status why)) told
-TellsOutcome (outcome.Opened rows ended) opened opening told = (opened ≡ true) × (opening ≡ rows) × IsOrWanting (telling_of ended) told
+abbrev pub TellsOutcome : Option ℕ → Outcome → Bool → List Row → Telling → Type 0
+TellsOutcome work (outcome.Unopened why) opened opening told = (opened ≡ false) × (opening ≡ []) × IsOrWanting (short_telling (fault_status why)) told
+TellsOutcome work (outcome.Opened rows ended) opened opening told = (opened ≡ true) × (opening ≡ rows) × IsOrWanting (telling_of work ended) told

@@ -4,10 +4,10 @@
 mod gate;
 mod input;
 mod output;
-mod plays;
 mod prepare;
 mod run;
 mod status;
+mod summary;
 mod telling;
 mod top;
 

@@ -3,7 +3,6 @@ ghost use Rattle.group_words.specs.Orders.{AreSizes};
 ghost use Rattle.group_run.specs.Prepares.{ordered, setting_of, IsPrepared, IsPreparedToPlay, ReadsNothing};
 
 use crate::input::{ReadError, read_all};
-use crate::plays::plays;
 use crate::status::Status;
 use ds_base::{NoMemory, Sizes, Source};
 use ds_model::Script;
@@ -27,6 +26,8 @@ pub enum Prepared {
     Show,
     /// The script of this number is to be written.
     Make(u64),
+    /// The script of this number is to be played, and the line of its fates written.
+    Work(u64, Setting),
     Ended(Status),
 }
 
@@ -58,8 +59,7 @@ fn prepare_to_play<S: Source>(
     match read_script(alloc, &bytes, setting.sizes.members) {
         Err(ScriptError::NoMemory) => Err(NoMemory),
         Err(ScriptError::Fault(fault)) => Ok(Prepared::Ended(Status::ScriptRefused(fault))),
-        Ok(script) if plays(&script) => Ok(Prepared::Play(script, setting)),
-        Ok(_) => Ok(Prepared::Ended(Status::NotYet)),
+        Ok(script) => Ok(Prepared::Play(script, setting)),
     }
 }
 
@@ -81,6 +81,6 @@ pub fn prepare<S: Source>(
         }
         Ok(Order::Show) => Ok(Prepared::Show),
         Ok(Order::Make { n }) => Ok(Prepared::Make(n)),
-        Ok(Order::Work { .. }) => Ok(Prepared::Ended(Status::NotYet)),
+        Ok(Order::Work { n, sizes }) => Ok(Prepared::Work(n, setting_of(sizes, Some(n), false))),
     }
 }

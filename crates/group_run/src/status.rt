@@ -24,8 +24,6 @@ pub enum Status {
     NoMemory,
     /// The byte of a page or a log at this offset can't stand there.
     Damaged { volume: Volume, at: u64 },
-    /// The order or the script is for a later stage.
-    NotYet,
     /// What was wanted in this event may not be done; or, where it is 0, the report isn't sound. It is a defect of the program,
     /// or of a disk that doesn't give back what was written.
     SelfCheckFailed { event: u64 },
@@ -47,7 +45,6 @@ impl Status {
             Status::DiskFailed => 5,
             Status::NoMemory => 6,
             Status::Damaged { .. } => 7,
-            Status::NotYet => 8,
             Status::SelfCheckFailed { .. } => 11,
         }
     }
@@ -133,7 +130,6 @@ fn fixed_text(status: &Status) -> &'static [u8]
         Status::WordsRefused => b"words refused\n",
         Status::SourceFailed => b"source failed\n",
         Status::DiskFailed => b"disk failed\n",
-        Status::NotYet => b"not yet\n",
         Status::Done
         | Status::SinkFailed
         | Status::NoMemory

@@ -2,9 +2,10 @@
 
 ghost use Rattle.std.specs.Prelude.{◌≡◌, IfOk};
 ghost use Rattle.group_run.specs.Reports.{empty_report};
-ghost use Rattle.group_run.specs.Tellings.{short_telling, script_telling, met_by, telling_of, fault_status, IsOrWanting};
+ghost use Rattle.group_run.specs.Tellings.{short_telling, script_telling, met_by, told_text, telling_of, fault_status, IsOrWanting};
 
 use crate::status::{Status, text_of};
+use crate::summary::write_summary;
 use checked_run::{Ended, RunFault, plain_report};
 use ds_base::{Bytes, NoMemory, RowList};
 use ds_model::Report;
@@ -62,10 +63,20 @@ fn met_by(report: &Report) -> Status
     }
 }
 
-fn report_telling(alloc: Global, report: Report) -> Result<Telling, NoMemory>
-    ensures { IfOk result (λ telling. telling ≡ telling_of (Ended.Told report)) }
+// The report, or the line of the work of this number.
+fn told_text(alloc: Global, work: Option<u64>, report: &Report) -> Result<Bytes, NoMemory>
+    ensures { IfOk result (λ text. text ≡ told_text work report.now) }
 {
-    let text = write_report(alloc, &report)?;
+    match work {
+        Some(n) => write_summary(alloc, n, report),
+        None => write_report(alloc, report),
+    }
+}
+
+fn report_telling(alloc: Global, work: Option<u64>, report: Report) -> Result<Telling, NoMemory>
+    ensures { IfOk result (λ telling. telling ≡ telling_of work (Ended.Told report)) }
+{
+    let text = told_text(alloc, work, &report)?;
     Ok(Telling {
         status: met_by(&report),
         text,
@@ -73,12 +84,12 @@ fn report_telling(alloc: Global, report: Report) -> Result<Telling, NoMemory>
     })
 }
 
-/// What a disk came to that was opened.
-pub fn telling_of(alloc: Global, ended: Ended) -> Result<Telling, NoMemory>
-    ensures { IfOk result (λ telling. telling ≡ telling_of ended) }
+/// What a disk came to that was opened, for a script that was read or the work of this number.
+pub fn telling_of(alloc: Global, work: Option<u64>, ended: Ended) -> Result<Telling, NoMemory>
+    ensures { IfOk result (λ telling. telling ≡ telling_of work ended) }
 {
     match ended {
-        Ended::Told(report) => report_telling(alloc, report),
+        Ended::Told(report) => report_telling(alloc, work, report),
         Ended::Damaged { volume, at } => short_telling(alloc, Status::Damaged { volume, at }),
         Ended::Unsound { event } => short_telling(alloc, Status::SelfCheckFailed { event }),
         Ended::NoMemory => short_telling(alloc, Status::NoMemory),

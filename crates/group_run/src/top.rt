@@ -3,11 +3,12 @@ ghost use Rattle.checked_run.specs.Told.{TellsAlways};
 ghost use Rattle.group_run.specs.Outside.{outside};
 ghost use Rattle.group_run.specs.Prepares.{ordered};
 ghost use Rattle.group_run.specs.Tellings.{TellsOutcome};
-ghost use Rattle.group_run.specs.Ends.{Tells, Meets, Ends};
+ghost use Rattle.group_words.specs.Orders.{AreSizes};
+ghost use Rattle.group_run.specs.Ends.{Tells, Meets, Works, Ends};
 
 use crate::gate::Gate;
 use crate::output::write_all;
-use crate::prepare::{Prepared, prepare};
+use crate::prepare::{Prepared, Setting, prepare};
 use crate::run::run;
 use crate::status::Status;
 use crate::telling::{
@@ -20,6 +21,7 @@ use ds_model::Report;
 use std::alloc::Global;
 use std::sync::Wait;
 use std::thread::Threads;
+use work_maker::make_script;
 
 /// What a call leaves.
 ///
@@ -67,10 +69,10 @@ fn unopened<D>(alloc: Global, disk: D, telling: Telling) -> Came<D>
     }
 }
 
-// What a call has come to by what became of the disk.
-fn came_of<D>(alloc: Global, ran: Ran<D>) -> Came<D>
+// What a call has come to by what became of the disk. The work of a number is told in one line.
+fn came_of<D>(alloc: Global, work: Option<u64>, ran: Ran<D>) -> Came<D>
     ensures disk { result.disk ≡ ran.disk }
-    ensures tells { TellsOutcome ran.outcome result.opened result.opening result.telling }
+    ensures tells { TellsOutcome work ran.outcome result.opened result.opening result.telling }
 {
     let Ran { disk, outcome } = ran;
     match outcome {
@@ -79,7 +81,7 @@ fn came_of<D>(alloc: Global, ran: Ran<D>) -> Came<D>
             unopened(alloc, disk, or_wanting(alloc, telling))
         }
         Outcome::Opened { opening, ended } => {
-            let telling = telling_of(alloc, ended);
+            let telling = telling_of(alloc, work, ended);
             Came {
                 disk,
                 opened: true,
@@ -87,6 +89,20 @@ fn came_of<D>(alloc: Global, ran: Ran<D>) -> Came<D>
                 telling: or_wanting(alloc, telling),
             }
         }
+    }
+}
+
+// Plays the script of a number.
+fn perform_work<D: Disk>(alloc: Global, disk: D, n: u64, setting: &Setting) -> Came<D>
+    requires sizes { AreSizes setting.now.sizes }
+    requires untraced { setting.now.trace ≡ false }
+    ensures { Works (TellsAlways D.contents) n
+        (D.contents disk) (D.faults disk) (D.faults result.disk) (D.contents result.disk)
+        result.opened result.opening result.telling }
+{
+    match make_script(alloc, n) {
+        Err(NoMemory) => unopened(alloc, disk, or_wanting(alloc, Err(NoMemory))),
+        Ok(script) => came_of(alloc, Some(n), run(alloc, disk, &script, setting)),
     }
 }
 
@@ -107,18 +123,21 @@ fn perform<S: Source, D: Disk>(alloc: Global, words: &[String], source: &mut S, 
             let telling = script_telling(alloc, n);
             unopened(alloc, disk, or_wanting(alloc, telling))
         }
-        Ok(Prepared::Show) => came_of(alloc, show_disk(alloc, disk)),
-        Ok(Prepared::Play(script, setting)) => came_of(alloc, run(alloc, disk, &script, &setting)),
+        Ok(Prepared::Show) => came_of(alloc, None, show_disk(alloc, disk)),
+        Ok(Prepared::Play(script, setting)) => {
+            came_of(alloc, None, run(alloc, disk, &script, &setting))
+        }
+        Ok(Prepared::Work(n, setting)) => perform_work(alloc, disk, n, &setting),
     }
 }
 
-/// Does what the words order: plays the script of the source on the disk, or shows the disk, and writes the report to the sink; or
-/// writes the script of a number.
+/// Does what the words order: plays the script of the source on the disk, or shows the disk, and writes the report to the sink;
+/// or plays the script of a number, and writes how many transactions met which fate; or writes the script of a number.
 ///
 /// The words are the command line without the program's name. For a script the source is read to its end, or to the first byte past
 /// the longest script. Then the logs of the disk are read, and a group restart opens it; the script is run; another group restart
 /// closes the disk. The report is held against the script, the rows before and the logs, and where it isn't sound the status says so.
-/// The sink gets the report, or the one line of a status. Today one thread plays all, and no gate is passed.
+/// The sink gets the report, its one line for the work of a number, or the one line of a status. Today one thread plays all, and no gate is passed.
 pub fn play<R: Threads + Wait + Sync, S: Source, K: Sink, D: Disk + Send, G: Gate + Sync>(
     _rt: &R,
     alloc: Global,

@@ -10,6 +10,16 @@ use restart_marks::RestartMarks;
 use restart_resources::RestartOutcome;
 use std::alloc::Global;
 
+// Table spaces are freed before rows, each by their numbers, in whatever order they are listed.
+fn turn_of(name: &Name) -> (u64, u64, u64) {
+    match *name {
+        Name::Space(table) => (1, table.number() as u64, 0),
+        Name::Row(table, key) => (2, table.number() as u64, key),
+        Name::Page(page) => (3, page.set as u64, page.number as u64),
+        Name::Set(set) => (4, set as u64, 0),
+    }
+}
+
 impl MemberRestart {
     // The open transactions: those with nothing to take back first, then the latest first.
     fn order_trans(&mut self, marks: &RestartMarks) -> Result<(), NoMemory> {
@@ -68,7 +78,10 @@ impl MemberRestart {
                 self.names.push(*name)?;
                 Ok(())
             }
-            RestartOutcome::NoRecord => self.next_page(marks),
+            RestartOutcome::NoRecord => {
+                self.names.sort_by_key(|name| turn_of(name))?;
+                self.next_page(marks)
+            }
             _ => Ok(()),
         }
     }

@@ -1,8 +1,8 @@
-use ds_disk::DiskOp;
+use ds_disk::DiskFailure;
 
-/// A script, and which call of the disk fails, counted from 1. The disk is then dead, with so many bytes of an append.
+/// A script, and which call of the disk fails.
 #[derive(Clone, Copy, Debug)]
 pub struct Setting<'a> {
     pub script: &'a str,
-    pub dies: Option<(DiskOp, u64, u64)>,
+    pub fails: Option<DiskFailure>,
 }

@@ -3,8 +3,12 @@
 
 mod call;
 mod line;
+mod rebuild;
+mod restart;
 mod words;
 
 pub use call::{call_line, call_word};
-pub use line::{Line, line_of};
+pub use line::{Line, fail_line, line_of, rebuild_line, restart_line};
+pub use rebuild::rebuild_word;
+pub use restart::restart_word;
 pub use words::{answered_word, sent_word};

@@ -54,7 +54,7 @@ fn list_word(command: &Command) -> &'static [u8] {
     }
 }
 
-fn command_word(command: &Command) -> &'static [u8] {
+pub(crate) fn command_word(command: &Command) -> &'static [u8] {
     if let Some(word) = lock_word(command) {
         return word;
     }

@@ -6,9 +6,9 @@ pub returns-in-Unopened-clause-tells : goal.returns-in-Unopened-clause-tells
 returns-in-Unopened-clause-tells g c =
     let made = subst (λ s. IfOk c.short_telling-telling.result (λ t. t ≡ short_telling s)) c.fault_status.ensures c.short_telling-telling.ensures in
     let told = c.or_wanting.ensures (short_telling (fault_status c.in-Unopened.why)) made in
-    subst (λ x. TellsOutcome c.args.ran.outcome x.opened x.opening x.telling) (sym c.unopened.ensures) (subst (λ o. TellsOutcome o false [] c.or_wanting.result) (sym c.in-Unopened.is) (refl, refl, told))
+    subst (λ x. TellsOutcome c.args.work c.args.ran.outcome x.opened x.opening x.telling) (sym c.unopened.ensures) (subst (λ o. TellsOutcome c.args.work o false [] c.or_wanting.result) (sym c.in-Unopened.is) (refl, refl, told))
 
 pub returns-in-Opened-clause-tells : goal.returns-in-Opened-clause-tells
 returns-in-Opened-clause-tells g c =
-    let told = c.or_wanting-in-Opened.ensures (telling_of c.in-Opened.ended) c.telling_of-telling.ensures in
-    subst (λ o. TellsOutcome o true c.in-Opened.opening c.or_wanting-in-Opened.result) (sym c.in-Opened.is) (refl, refl, told)
+    let told = c.or_wanting-in-Opened.ensures (telling_of c.args.work c.in-Opened.ended) c.telling_of-telling.ensures in
+    subst (λ o. TellsOutcome c.args.work o true c.in-Opened.opening c.or_wanting-in-Opened.result) (sym c.in-Opened.is) (refl, refl, told)

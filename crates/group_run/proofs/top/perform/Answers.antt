@@ -5,7 +5,7 @@ use Rattle.group_run.specs.Prepares.{ordered}
 use Rattle.group_run.specs.Tellings.{short_telling, script_telling}
 use Rattle.group_run.specs.declared.status.Status.TheVariants as status
 use Rattle.group_run.specs.Ends.{Meets}
-use Rattle.group_run.proofs.Called.{wanted, ended, is_made, shows, plays, sizes_by}
+use Rattle.group_run.proofs.Called.{wanted, ended, is_made, shows, plays, works, sizes_by, work_by}
 use Rattle.group_run.proofs.top.perform.Goals as goal
 
 pub run-requires : goal.run-requires
@@ -61,3 +61,18 @@ returns-in-Ok-Play g c =
     let left_disk = c.run.result.disk in
     subst (λ d. Meets (TellsAlways g.D.Disk.contents) (ordered c.args.words.now) before (outside left faults (g.D.Disk.contents d) (g.D.Disk.alive d) (g.D.Disk.faults d)) came.telling.status came.telling.text came.opened came.opening came.telling.report) (sym c.came_of-in-Ok-Play.ensures.disk)
     (plays (TellsAlways g.D.Disk.contents) (ordered c.args.words.now) before (outside left faults (g.D.Disk.contents left_disk) (g.D.Disk.alive left_disk) (g.D.Disk.faults left_disk)) c.in-Ok-Play.script c.in-Ok-Play.setting c.run.result.outcome came.opened came.opening came.telling prepared c.run.ensures c.came_of-in-Ok-Play.ensures.tells)
+
+pub perform_work-requires-clause-sizes : goal.perform_work-requires-clause-sizes
+perform_work-requires-clause-sizes g c = (work_by (ordered c.args.words.now) c.in-Ok-Work.n c.in-Ok-Work.setting _ _ _ _ (rw c.in-Ok-Work.field-0-is at c.in-Ok-Work.ensures.prepared)).0
+
+pub perform_work-requires-clause-untraced : goal.perform_work-requires-clause-untraced
+perform_work-requires-clause-untraced g c = (work_by (ordered c.args.words.now) c.in-Ok-Work.n c.in-Ok-Work.setting _ _ _ _ (rw c.in-Ok-Work.field-0-is at c.in-Ok-Work.ensures.prepared)).1
+
+pub returns-in-Ok-Work : goal.returns-in-Ok-Work
+returns-in-Ok-Work g c =
+    let before = outside (g.S.Source.left c.args.source.now) (g.S.Source.faults c.args.source.now) (g.D.Disk.contents c.args.disk) (g.D.Disk.alive c.args.disk) (g.D.Disk.faults c.args.disk) in
+    let left = g.S.Source.left c.prepare.new.source in
+    let faults = g.S.Source.faults c.prepare.new.source in
+    let prepared = rw c.in-Ok-Work.field-0-is at c.in-Ok-Work.ensures.prepared in
+    let came = c.perform_work.result in
+    works (TellsAlways g.D.Disk.contents) (ordered c.args.words.now) before (outside left faults (g.D.Disk.contents came.disk) (g.D.Disk.alive came.disk) (g.D.Disk.faults came.disk)) c.in-Ok-Work.n c.in-Ok-Work.setting came.opened came.opening came.telling prepared c.prepare.ensures.unread c.perform_work.ensures

@@ -1,0 +1,47 @@
+-- The restarts of members begin one by one.
+use Rattle.std.proofs.Common.{◌≡◌, ℕ, ◌+◌, ◌<◌, ◌≤◌, Bool, true, false, List, [], ◌∷◌, ◌++◌, length, take, slice_set, slice_index_or, refl, sym, ap, subst, ◌∙◌, if◌then◌else◌, arith}
+use Rattle.std.proofs.lemmas.List.{get_or-set_other, take_more, take_more_set}
+use Rattle.ds_model.specs.declared.script.Phase.{Phase}
+use Rattle.list_structure.specs.States.{ListsState}
+use Rattle.group_crew.specs.declared.part.MemberPart.{MemberPart}
+use Rattle.group_crew.specs.Beginning.{AllRestart, RestartBegins, Restarts, begins_restart, lists_begun, restarting}
+
+-- the lists are alike from a place on
+abbrev pub SameFrom : {A : Type 0} → ℕ → List A → List A → Type 0
+SameFrom {A} i xs ys = (k : ℕ) (d : A) → i ≤ k → slice_index_or xs k d ≡ slice_index_or ys k d
+
+pub same_more : {A : Type 0} (i : ℕ) (xs ys : List A) (x : A) → SameFrom i xs ys → SameFrom (i + 1) (slice_set xs i x) ys
+same_more i xs ys x same k d above = get_or-set_other xs i k x d (omega arith) ∙ same k d (omega arith)
+
+pub restart_made : {P : Type 0} (b : Bool) (old new : MemberPart P) (l m : ListsState)
+    → (b ≡ false → (new ≡ old) × (m ≡ l)) → (b ≡ true → RestartBegins old l new m) → Restarts b old new
+restart_made true old new l m same begun = (begun refl).fresh
+restart_made false old new l m same begun = (same refl).0
+
+pub lists_made : {P : Type 0} (b : Bool) (old new : MemberPart P) (l m : ListsState)
+    → (b ≡ false → (new ≡ old) × (m ≡ l)) → (b ≡ true → RestartBegins old l new m) → m ≡ (if b then restarting l old.id else l)
+lists_made true old new l m same begun = (begun refl).lists_are
+lists_made false old new l m same begun = (same refl).1
+
+-- one more behind the others
+behind : {P : Type 0} (phase : Phase) (l m : ListsState) (olds news : List (MemberPart P)) (old new : MemberPart P)
+    → AllRestart phase l olds news m → Restarts (begins_restart phase m.statuses old.id) old new → AllRestart phase l (olds ++ old ∷ []) (news ++ new ∷ []) (lists_begun phase m old.id)
+behind phase l m [] [] old new all its =
+    (subst (λ (n : ListsState). Restarts (begins_restart phase n.statuses old.id) old new) all its, ap (λ (n : ListsState). lists_begun phase n old.id) all)
+behind phase l m [] (x ∷ xs) old new all its = absurd all
+behind phase l m (x ∷ xs) [] old new all its = absurd all
+behind phase l m (x ∷ xs) (y ∷ ys) old new all its = (all.0, behind phase (lists_begun phase l x.id) m xs ys old new all.1 its)
+
+pub restarts_more : {P : Type 0} (phase : Phase) (l m n : ListsState) (parts items : List (MemberPart P)) (i : ℕ) (d new : MemberPart P)
+    → i < length parts → i < length items → SameFrom i items parts → AllRestart phase l (take i parts) (take i items) m
+    → Restarts (begins_restart phase m.statuses (slice_index_or items i d).id) (slice_index_or items i d) new → n ≡ lists_begun phase m (slice_index_or items i d).id
+    → AllRestart phase l (take (i + 1) parts) (take (i + 1) (slice_set items i new)) n
+restarts_more {P} phase l m n parts items i d new within there same all its lists =
+    let old : MemberPart P = slice_index_or items i d in
+    let is : slice_index_or items i d ≡ slice_index_or parts i d = same i d (omega arith) in
+    let next : AllRestart phase l (take i parts ++ old ∷ []) (take i items ++ new ∷ []) (lists_begun phase m old.id) = behind phase l m (take i parts) (take i items) old new all its in
+    let olds : take i parts ++ old ∷ [] ≡ take (i + 1) parts = ap (λ (x : MemberPart P). take i parts ++ x ∷ []) is ∙ sym (take_more parts i d within) in
+    let news : take i items ++ new ∷ [] ≡ take (i + 1) (slice_set items i new) = sym (take_more_set items i new there) in
+    subst (λ (xs : List (MemberPart P)). AllRestart phase l xs (take (i + 1) (slice_set items i new)) n) olds
+    (subst (λ (ys : List (MemberPart P)). AllRestart phase l (take i parts ++ old ∷ []) ys n) news
+    (subst (λ (k : ListsState). AllRestart phase l (take i parts ++ old ∷ []) (take i items ++ new ∷ []) k) (sym lists) next))

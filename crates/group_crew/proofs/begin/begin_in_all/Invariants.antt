@@ -1,0 +1,6 @@
+use Rattle.std.proofs.Common.{◌≡◌, map}
+use Rattle.group_crew.specs.Beginning.{kept_by}
+use Rattle.group_crew.proofs.begin.begin_in_all.Given as goal
+
+abbrev pub invariant-loop-part : goal.invariant-loop-part
+invariant-loop-part g l = map kept_by l.part-items ≡ map kept_by l.fn.parts

@@ -1,0 +1,10 @@
+use Rattle.std.proofs.Common.{◌≡◌, map, take}
+use Rattle.group_crew.specs.Beginning.{AllRestart, kept_by}
+use Rattle.group_crew.proofs.Restarts.{SameFrom}
+use Rattle.group_crew.proofs.begin.begin_restarts.Given as goal
+
+abbrev pub invariant-loop-part : goal.invariant-loop-part
+invariant-loop-part g l =
+    (map kept_by l.part-items ≡ map kept_by l.fn.parts)
+    × SameFrom l.part-index l.part-items l.fn.parts
+    × AllRestart l.phase l.fn.lists (take l.part-index l.fn.parts) (take l.part-index l.part-items) l.lists
