@@ -1,5 +1,5 @@
 -- The commands of the members: when one may be given, and what it answers and leaves.
-use Rattle.std.specs.Prelude.{ℕ, ◌≡◌, ◌+◌, ◌^◌, ◌≤◌, ◌<◌, ◌==◌, ◌||◌, Bool, false, IsTrue, List, Option}
+use Rattle.std.specs.Prelude.{ℕ, ◌≡◌, ◌+◌, ◌^◌, ◌≤◌, ◌<◌, ◌==◌, ◌||◌, Bool, false, IsTrue, List, [], Option}
 use Rattle.std.specs.Option.{ForSome}
 use Rattle.ds_base.specs.Ids.{IsLrsn}
 use Rattle.ds_model.specs.declared.lock.Name.{Name}
@@ -7,8 +7,11 @@ use Rattle.lock_structure.specs.Locks.{Locks, entry_for, has_room}
 use Rattle.lock_structure.specs.Records.{area_of}
 use Rattle.cache_structure.specs.declared.face.DoneReply.TheVariants as done
 use Rattle.cache_structure.specs.Replies.{done_reply}
+use Rattle.list_structure.specs.declared.query.Cell.{Cell}
 use Rattle.list_structure.specs.declared.wait.Wait.{Wait}
+use Rattle.list_structure.specs.Askers.{slot_of}
 use Rattle.list_structure.specs.Bells.{CanRing}
+use Rattle.list_structure.specs.Cells.{cells_by}
 use Rattle.list_structure.specs.States.{ListsState, is_settled}
 use Rattle.list_structure.specs.Waits.{wait_for, with_wait, FitsWaits}
 use Rattle.facility.specs.declared.command.Command.{Command}
@@ -65,6 +68,18 @@ CanExecute w m (command.Draw indexes) = AreFrames w.directory indexes
 CanExecute w m (command.DrawUndo indexes) = AreFrames w.directory indexes × IsLrsn (w.counter + 1)
 CanExecute w m _ = Unit {0}
 
+-- ---- the cells that a command asks for
+
+-- the slot whose cells the command asks for is one, if it asks for any
+abbrev pub AsksSlot : Command → Type 0
+AsksSlot (command.Answers slot) = IsSlot slot
+AsksSlot _ = Unit {0}
+
+-- those of the slot whose answers the member reads, and none for any other command
+unfoldable pub cells_for : List Cell → ℕ → Command → List Cell
+cells_for cells m (command.Answers slot) = cells_by cells (slot_of m slot)
+cells_for cells m _ = []
+
 -- ---- what a command does
 
 -- What the member's command answers and leaves, where the page has these bytes before and after. Only a read and the
@@ -87,7 +102,7 @@ Executes w m command.Rebuilt page answer v after = HasRebuilt w answer v × (aft
 Executes w m (command.Ask slot to n mode) page answer v after = AsksMember w m slot to n mode answer v × (after ≡ page)
 Executes w m (command.Take past) page answer v after = TakesQuery w m past answer v × (after ≡ page)
 Executes w m (command.Answer asker n mode said event) page answer v after = AnswersQuery w m asker n mode said event answer v × (after ≡ page)
-Executes w m (command.Answers slot) page answer v after = ReadsCells w m slot answer v × (after ≡ page)
+Executes w m (command.Answers slot) page answer v after = ReadsCells w answer v × (after ≡ page)
 Executes w m (command.Wait tran holder flag) page answer v after = Waits w tran holder flag answer v × (after ≡ page)
 Executes w m (command.Unwait tran) page answer v after = WaitsNoMore w tran answer v × (after ≡ page)
 Executes w m command.Waits page answer v after = ReadsWaits w answer v × (after ≡ page)

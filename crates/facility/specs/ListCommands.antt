@@ -1,13 +1,12 @@
 -- The commands of the list structure.
-use Rattle.std.specs.Prelude.{ℕ, ◌≡◌, ◌-◌, ◌≤◌, Bool, true, false, List, map, slice_set, slice_index_or, Option, Some, None, if◌then◌else◌}
-use Rattle.ds_base.specs.Ids.{IsMember}
+use Rattle.std.specs.Prelude.{ℕ, ◌≡◌, ◌-◌, ◌≤◌, Bool, true, false, List, map, slice_set, Option, Some, None, if◌then◌else◌}
 use Rattle.ds_base.specs.declared.names.TranId.{TranId}
 use Rattle.ds_model.specs.declared.lock.Name.{Name}
 use Rattle.lock_names.specs.declared.mode.Mode.{Mode}
 use Rattle.lock_structure.specs.Locks.{entry_for}
 use Rattle.list_structure.specs.declared.query.Asker.{Asker}
 use Rattle.list_structure.specs.declared.query.Cell.{Cell}
-use Rattle.list_structure.specs.declared.query.Cell.TheVariants.{Empty, Asked, Answered}
+use Rattle.list_structure.specs.declared.query.Cell.TheVariants.{Asked, Answered}
 use Rattle.list_structure.specs.declared.query.CellAnswer.{CellAnswer}
 use Rattle.list_structure.specs.declared.standing.MemberStatus.{MemberStatus}
 use Rattle.list_structure.specs.declared.standing.ClaimReply.{ClaimReply}
@@ -52,13 +51,8 @@ AnswersQuery w m asker n mode answer event reply.Done v =
 AnswersQuery w m asker n mode answer event reply.Gone v = (¬ (cell_of w.lists.cells asker m ≡ Asked n mode)) × (v ≡ w)
 AnswersQuery w m asker n mode answer event _ v = ⊥
 
--- the asker's cells, by the number of the asked member less one
-abbrev pub IsCellsReply : List Cell → Asker → Reply → Type 0
-IsCellsReply cells asker (reply.Cells found) = (k : ℕ) → IsMember k → slice_index_or found (k - 1) Empty ≡ cell_of cells asker k
-IsCellsReply cells asker _ = ⊥
-
-abbrev pub ReadsCells : Held → ℕ → ℕ → Reply → Held → Type 0
-ReadsCells w m slot answer v = IsCellsReply w.lists.cells (slot_of m slot) answer × (v ≡ w)
+abbrev pub ReadsCells : Held → Reply → Held → Type 0
+ReadsCells w answer v = (answer ≡ reply.Cells) × (v ≡ w)
 
 -- ---- waits and flags
 

@@ -91,7 +91,8 @@ impl Clean {
 
     /// Those who have answered so in these cells about this name and mode.
     #[tactic(auto, using(crate::proofs::Answers::clean_start))]
-    pub fn among(cells: &[Cell; 32], name: &Name, mode: Mode) -> Clean
+    pub fn among(cells: &[Cell], name: &Name, mode: Mode) -> Clean
+        requires { length cells.now ≡ 32 }
         ensures { result ≡ clean_among (λ k. clean_version name.now mode (slice_index_or cells.now (k - 1) Empty)) 32 }
     {
         let mut clean = Clean::new();

@@ -1,5 +1,5 @@
 use ds_base::{Lrsn, MemberId, PageId, TranId};
-use list_structure::{Asker, Cell, CellAnswer, MemberStatus, Query};
+use list_structure::{Asker, CellAnswer, MemberStatus, Query};
 use lock_names::{Interest, Mode, Name};
 
 /// Frames of a member, by their indexes: the first `count` of the three, 3 at most.
@@ -189,9 +189,8 @@ pub enum Reply {
         query: Query,
     },
     Gone,
-    Cells {
-        cells: [Cell; 32],
-    },
+    /// The cells are read by `Facility::answers`.
+    Cells,
     /// The pairs are read by `Facility::waits`.
     Waits,
     Raised,

@@ -1,5 +1,5 @@
 //! When a member may give a command. Each test takes the same time whatever the facility holds.
-ghost use Rattle.std.specs.Prelude.{◌≡◌, ◌↔◌, ◌≤◌, ◌<◌, ◌+◌, ℕ, IsTrue, slice_index_or};
+ghost use Rattle.std.specs.Prelude.{◌≡◌, ◌↔◌, ◌≤◌, ◌<◌, ◌+◌, ℕ, true, IsTrue, slice_index_or};
 ghost use Rattle.std.specs.Option.{ForSome};
 ghost use Rattle.ds_base.specs.Ids.{IsLrsn};
 ghost use Rattle.cache_structure.specs.declared.face.DoneReply.TheVariants as done;
@@ -8,7 +8,7 @@ ghost use Rattle.list_structure.specs.Bells.{CanRing};
 ghost use Rattle.list_structure.specs.Waits.{wait_for};
 ghost use Rattle.facility.specs.States.{held};
 ghost use Rattle.facility.specs.Counting.{AreFrames};
-ghost use Rattle.facility.specs.Commands.{CanExecute, CanGrant, CanWait, IsSlot, IsFlag};
+ghost use Rattle.facility.specs.Commands.{CanExecute, CanGrant, CanWait, AsksSlot, IsSlot, IsFlag};
 
 use crate::{Command, Facility, Indexes};
 use cache_structure::CacheFace;
@@ -28,7 +28,8 @@ const MOST_FRAMES: u8 = 3;
 impl<C: CacheFace> Facility<C> {
     /// Whether the member may give the command now.
     pub fn can_execute(&self, member: MemberId, command: &Command) -> bool
-        ensures { IsTrue result ↔ CanExecute (held C.directory self.now) member command.now }
+        ensures exact { IsTrue result ↔ CanExecute (held C.directory self.now) member command.now }
+        ensures slot { result ≡ true → AsksSlot command.now }
     {
         match command {
             Command::Obtain { name, .. } => self.can_record(member, name),

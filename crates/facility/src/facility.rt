@@ -1,15 +1,18 @@
-ghost use Rattle.std.specs.Prelude.{◌≡◌, ℕ, ◌+◌, ◌<◌, ◌≤◌, ◌↔◌, false, length, count_by, IfOk};
+ghost use Rattle.std.specs.Prelude.{◌≡◌, ℕ, ◌+◌, ◌-◌, ◌<◌, ◌≤◌, ◌↔◌, false, length, slice_index_or, count_by, IfOk};
+ghost use Rattle.ds_base.specs.Ids.{IsMember};
 ghost use Rattle.cache_structure.specs.Directory.{bit, castout_of, empty_directory};
 ghost use Rattle.list_structure.specs.Bells.{bell_of, CanRing};
-ghost use Rattle.list_structure.specs.Cells.{NoneAsked};
+ghost use Rattle.list_structure.specs.Askers.{slot_of};
+ghost use Rattle.list_structure.specs.Cells.{cell_of, cells_by, NoneAsked};
+ghost use Rattle.list_structure.specs.declared.query.Cell.TheVariants.{Empty};
 ghost use Rattle.list_structure.specs.Standings.{done_of, is_live, status_of};
 ghost use Rattle.facility.specs.States.{held, IsMade, IsReset, MemberFailed, PhaseBegun};
-ghost use Rattle.facility.specs.Commands.{CanExecute, Executes};
+ghost use Rattle.facility.specs.Commands.{AsksSlot, CanExecute, Executes, IsSlot, cells_for};
 
 use crate::{Command, Reply};
 use cache_structure::CacheFace;
 use ds_base::{Lrsn, MemberId, NoMemory, PageId, Sizes, TranId};
-use list_structure::{Lists, Wait};
+use list_structure::{Cell, Lists, Wait};
 use lock_structure::LockStructure;
 use page_format::Page;
 use std::alloc::Global;
@@ -87,7 +90,7 @@ impl<C: CacheFace> Facility<C> {
                 answer,
                 event,
             } => self.answer(member, asker, &name, mode, answer, event),
-            Command::Answers { slot } => self.answers(member, slot),
+            Command::Answers { .. } => Reply::Cells,
             Command::Wait { tran, holder, flag } => self.wait(tran, holder, flag),
             Command::Unwait { tran } => self.unwait(tran),
             Command::Waits => Reply::Waits,
@@ -134,6 +137,29 @@ impl<C: CacheFace> Facility<C> {
         self.cache.rebuilt();
         self.lists.reset();
         self.counter = counter;
+    }
+
+    /// The cells of a member's slot, by the number of the asked member less one.
+    pub fn answers(&self, member: MemberId, slot: u8) -> &[Cell]
+        requires { IsSlot slot }
+        ensures cells { result.now ≡ cells_by self.now.lists.cells (slot_of member slot) }
+        ensures count { length result.now ≡ 32 }
+        ensures each { (m : ℕ) → IsMember m → slice_index_or result.now (m - 1) Empty ≡ cell_of self.now.lists.cells (slot_of member slot) m }
+    {
+        self.lists.answers(member, slot)
+    }
+
+    /// The cells that the member's command asks for: those of the slot whose answers it reads, and none for any other
+    /// command.
+    #[tactic(auto, unfolding(crate::specs::Commands::cells_for))]
+    pub fn cells_for(&self, member: MemberId, command: &Command) -> &[Cell]
+        requires { AsksSlot command.now }
+        ensures { result.now ≡ cells_for self.now.lists.cells member command.now }
+    {
+        match *command {
+            Command::Answers { slot } => self.answers(member, slot),
+            _ => &[],
+        }
     }
 
     /// Who waits for whom, in the order in which the waits began.

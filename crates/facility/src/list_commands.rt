@@ -5,7 +5,7 @@ ghost use Rattle.list_structure.specs.Bells.{CanRing};
 ghost use Rattle.list_structure.specs.Waits.{wait_for};
 ghost use Rattle.facility.specs.States.{held};
 ghost use Rattle.facility.specs.Commands.{CanWait, IsSlot, IsFlag};
-ghost use Rattle.facility.specs.ListCommands.{AsksMember, TakesQuery, AnswersQuery, ReadsCells, Waits, WaitsNoMore, EndsTran, RaisesFlag, ReadsFlag, SetsStatus, ReadsStatus, ClaimsRebuild, GivesUpRebuild, EndsPhase};
+ghost use Rattle.facility.specs.ListCommands.{AsksMember, TakesQuery, AnswersQuery, Waits, WaitsNoMore, EndsTran, RaisesFlag, ReadsFlag, SetsStatus, ReadsStatus, ClaimsRebuild, GivesUpRebuild, EndsPhase};
 
 use crate::{Facility, Reply};
 use cache_structure::CacheFace;
@@ -63,15 +63,6 @@ impl<C: CacheFace> Facility<C> {
         } else {
             Reply::Gone
         }
-    }
-
-    /// Reads the cells of a slot.
-    pub(crate) fn answers(&mut self, member: MemberId, slot: u8) -> Reply
-        requires { IsSlot slot }
-        ensures { ReadsCells (held C.directory self.old) member slot result (held C.directory self.new) }
-    {
-        let cells = self.lists.answers(member, slot);
-        Reply::Cells { cells }
     }
 
     /// A transaction waits for another: for its lock, or for this flag where it isn't 0.

@@ -42,7 +42,7 @@ impl<C: CacheFace> Facility<C> {
         ensures { GrantsLock (held C.directory self.old) member slot name.now mode result (held C.directory self.new) }
     {
         let cells = self.lists.answers(member, slot);
-        let clean = Clean::among(&cells, name, mode);
+        let clean = Clean::among(cells, name, mode);
         self.lists.empty_cells(member, slot);
         match self.locks.grant(member, name, mode, clean.as_slice()) {
             GrantReply::Granted { version } => Reply::Granted { version },

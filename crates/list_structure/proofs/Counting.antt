@@ -1,11 +1,11 @@
 -- One cell is set: what the others are, and how the counts change.
-use Rattle.std.proofs.Common.{◌≡◌, ◌≢◌, refl, sym, ap, ◌∙◌, subst, ℕ, zero, suc, ◌+◌, ◌*◌, ◌<◌, ◌≤◌, ◌==◌, ◌&&◌, Bool, true, false, List, length, slice_index_or, slice_set, slice_index, if◌then◌else◌, arith, get_or-set_same, get_or-set_other, length-set, ◌⊎◌, inl, inr}
+use Rattle.std.proofs.Common.{◌≡◌, ◌≢◌, refl, sym, ap, ◌∙◌, subst, ℕ, zero, suc, ◌+◌, ◌*◌, ◌<◌, ◌≤◌, ◌==◌, ◌&&◌, Bool, true, false, List, length, take, drop, slice_index_or, slice_set, slice_index, if◌then◌else◌, arith, get_or-set_same, get_or-set_other, length-set, ◌⊎◌, inl, inr}
 use Rattle.std.proofs.lemmas.List.{get_or_read}
 use Rattle.std.proofs.lemmas.Bool.{cases_eq}
 use Rattle.std.proofs.lemmas.Bool.Decides.{nat_tests}
 use Rattle.list_structure.specs.declared.query.Cell.{Cell}
 use Rattle.list_structure.specs.declared.query.Cell.TheVariants.{Empty}
-use Rattle.list_structure.specs.Cells.{cell_at, is_asked}
+use Rattle.list_structure.specs.Cells.{cell_at, cells_at, is_asked}
 use Rattle.list_structure.specs.Counts.{one_if, asked_count, IsCounted}
 
 -- two places are one only where asker and member are
@@ -134,3 +134,8 @@ IsCounted-empty cells counts e all f zeros = record {
   counts_length = f;
   counted = λ t l. zeros t ∙ sym (count_from_none cells t 544 (λ i k. ap is_asked (all (i * 32 + t))));
 }
+
+-- a slice of the cells is that of one asker
+pub cells_between : (cells found : List Cell) (i n : ℕ) → n ≡ 32 → found ≡ cells → take n (drop (i * 32) found) ≡ cells_at cells i
+unfolding cells_at
+cells_between cells found i n e f = rw (e, f) refl

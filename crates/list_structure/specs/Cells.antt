@@ -1,5 +1,5 @@
 -- The cells of queries, one for each asker and each member that it may ask.
-use Rattle.std.specs.Prelude.{ℕ, ◌≡◌, ◌-◌, ◌+◌, ◌*◌, ◌≤◌, ◌==◌, Bool, true, false, ◌&&◌, ◌||◌, List, slice_index_or, Option, Some, None, if◌then◌else◌}
+use Rattle.std.specs.Prelude.{ℕ, ◌≡◌, ◌-◌, ◌+◌, ◌*◌, ◌≤◌, ◌==◌, Bool, true, false, ◌&&◌, ◌||◌, List, take, drop, slice_index_or, Option, Some, None, if◌then◌else◌}
 use Rattle.ds_base.specs.Ids.{IsMember}
 use Rattle.list_structure.specs.declared.query.Asker.{Asker}
 use Rattle.list_structure.specs.declared.query.Cell.{Cell}
@@ -14,6 +14,14 @@ cell_at cells asker asked = slice_index_or cells (asker * 32 + asked) Empty
 -- the cell of the asker to the member
 abbrev pub cell_of : List Cell → Asker → ℕ → Cell
 cell_of cells asker to = cell_at cells (place_of asker) (to - 1)
+
+-- the cells of the asker at this place, by asked member
+unfoldable pub cells_at : List Cell → ℕ → List Cell
+cells_at cells asker = take 32 (drop (asker * 32) cells)
+
+-- the asker's cells, by asked member
+abbrev pub cells_by : List Cell → Asker → List Cell
+cells_by cells asker = cells_at cells (place_of asker)
 
 -- each asker's cell to each member is as the function says
 abbrev pub AreCells : List Cell → (Asker → ℕ → Cell) → Type 0

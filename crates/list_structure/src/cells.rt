@@ -1,6 +1,6 @@
 //! The cells of queries, by the places of asker and asked member, and how many to each member are asked.
-ghost use Rattle.std.specs.Prelude.{◌≡◌, ℕ, ◌+◌, ◌*◌, ◌<◌, ◌≤◌, ◌==◌, ◌&&◌, ◌||◌, nat_lt, nat_le, not, true, false, Some, None, IfOk, IfSome, IfNone, if◌then◌else◌, ◌↔◌};
-ghost use Rattle.list_structure.specs.Cells.{cell_at, is_asked};
+ghost use Rattle.std.specs.Prelude.{◌≡◌, ℕ, ◌+◌, ◌*◌, ◌<◌, ◌≤◌, ◌==◌, ◌&&◌, ◌||◌, length, slice_index_or, nat_lt, nat_le, not, true, false, Some, None, IfOk, IfSome, IfNone, if◌then◌else◌, ◌↔◌};
+ghost use Rattle.list_structure.specs.Cells.{cell_at, cells_at, is_asked};
 ghost use Rattle.list_structure.specs.Counts.{one_if};
 ghost use Rattle.list_structure.specs.declared.query.Cell.TheVariants.{Empty};
 
@@ -59,6 +59,17 @@ impl Cells {
         ensures { result ≡ cell_at self.now asker to }
     {
         self.cells[asker * MEMBERS + to]
+    }
+
+    /// The cells of an asker, by asked member.
+    pub fn by_asker(&self, asker: usize) -> &[Cell]
+        requires { asker < 544 }
+        ensures cells { result.now ≡ cells_at self.now asker }
+        ensures count { length result.now ≡ 32 }
+        ensures each { (t : ℕ) → t < 32 → slice_index_or result.now t Empty ≡ cell_at self.now asker t }
+    {
+        let start = asker * MEMBERS;
+        &self.cells[start..start + MEMBERS]
     }
 
     /// Sets one cell.

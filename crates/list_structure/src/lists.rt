@@ -3,7 +3,7 @@ ghost use Rattle.std.specs.Option.{ForSome};
 ghost use Rattle.ds_base.specs.Ids.{IsMember};
 ghost use Rattle.list_structure.specs.Askers.{slot_of};
 ghost use Rattle.list_structure.specs.Bells.{bell_of, rung, CanRing};
-ghost use Rattle.list_structure.specs.Cells.{AreCells, cell_at, cell_of, emptied, with_cell, without_member, IsNextQuery, NoneAsked};
+ghost use Rattle.list_structure.specs.Cells.{AreCells, cell_of, cells_by, emptied, with_cell, without_member, IsNextQuery, NoneAsked};
 ghost use Rattle.list_structure.specs.Kept.{AreApart};
 ghost use Rattle.list_structure.specs.Rounds.{start_of, query_in, IsNextAsked};
 ghost use Rattle.list_structure.specs.Flags.{flag_for, flag_of, raised_by, raised_for, with_raised};
@@ -141,12 +141,14 @@ impl Lists {
     }
 
     /// The asker's cells, by the number of the asked member less one.
-    pub fn answers(&self, member: MemberId, slot: u8) -> [Cell; 32]
+    pub fn answers(&self, member: MemberId, slot: u8) -> &[Cell]
         requires { slot ≤ 16 }
-        ensures { (m : ℕ) → IsMember m → slice_index_or result (m - 1) Empty ≡ cell_of self.now.cells (slot_of member slot) m }
+        ensures cells { result.now ≡ cells_by self.now.cells (slot_of member slot) }
+        ensures count { length result.now ≡ 32 }
+        ensures each { (m : ℕ) → IsMember m → slice_index_or result.now (m - 1) Empty ≡ cell_of self.now.cells (slot_of member slot) m }
     {
         let asker = Asker { member, slot };
-        cells_of(&self.cells, asker.place())
+        self.cells.by_asker(asker.place())
     }
 
     /// Empties the asker's cells.
@@ -396,16 +398,4 @@ fn query_in(cell: Cell, asker: Asker) -> Option<Query>
         Cell::Asked { name, mode } => Some(Query { asker, name, mode }),
         _ => None,
     }
-}
-
-// An asker's cells.
-fn cells_of(cells: &Cells, asker: usize) -> [Cell; 32]
-    requires { asker < 544 }
-    ensures { (t : ℕ) → t < 32 → slice_index_or result t Empty ≡ cell_at cells.now asker t }
-{
-    let mut all = [Cell::Empty; 32];
-    for to in 0..32usize {
-        all[to] = cells.get(asker, to);
-    }
-    all
 }

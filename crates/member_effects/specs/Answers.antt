@@ -8,8 +8,6 @@ use Rattle.list_structure.specs.declared.query.Cell.{Cell}
 use Rattle.list_structure.specs.declared.query.Cell.TheVariants as cell
 use Rattle.list_structure.specs.declared.query.CellAnswer.{CellAnswer}
 use Rattle.list_structure.specs.declared.query.CellAnswer.TheVariants as answer
-use Rattle.facility.specs.declared.command.Reply.{Reply}
-use Rattle.facility.specs.declared.command.Reply.TheVariants as reply
 use Rattle.facility.specs.LockCommands.{is_about}
 use Rattle.member_trans.specs.declared.fate.Owner.{Owner}
 use Rattle.member_marks.specs.State.{MarksState}
@@ -83,10 +81,8 @@ sum_told sum said.Empty = told.Cells sum.is_open sum.is_emptied
 sum_told sum said.Open = told.Cells sum.is_open sum.is_emptied
 sum_told sum (said.InTheWay answer event) = in_the_way_told answer
 
-abbrev pub answered_after : MarksState → Owner → Name → Mode → ℕ → Reply → MarksState
-answered_after s o n m asked (reply.Cells cells) = found_after s o n (summed cells 0 asked n m nothing).found
-answered_after s o n m asked _ = s
+abbrev pub answered_after : MarksState → Owner → Name → Mode → ℕ → List Cell → MarksState
+answered_after s o n m asked cells = found_after s o n (summed cells 0 asked n m nothing).found
 
-abbrev pub answered_told : Name → Mode → ℕ → Reply → Told
-answered_told n m asked (reply.Cells cells) = sum_told (summed cells 0 asked n m nothing) (summed cells 0 asked n m nothing).found
-answered_told n m asked _ = told.Stepped
+abbrev pub answered_told : Name → Mode → ℕ → List Cell → Told
+answered_told n m asked cells = sum_told (summed cells 0 asked n m nothing) (summed cells 0 asked n m nothing).found

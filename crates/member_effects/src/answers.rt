@@ -11,7 +11,6 @@ ghost use Rattle.member_effects.specs.Answers.{said_in_answer, said_by, is_asked
 use crate::told::Told;
 use ds_base::{MemberId, TranId};
 use ds_model::Refusal;
-use facility::Reply;
 use list_structure::{Cell, CellAnswer};
 use lock_names::{Mode, Name};
 use member_marks::{Marks, Owner};
@@ -217,21 +216,19 @@ fn settled(marks: &mut Marks, owner: &Owner, name: &Name, sum: &Sum) -> Told
     }
 }
 
-/// The reply to `answers`. Something in the way goes before an empty cell, and that before one that isn't answered yet.
+/// What the cells of those asked say. Something in the way goes before an empty cell, and that before one that isn't
+/// answered yet.
 pub fn answered(
     marks: &mut Marks,
     owner: &Owner,
     name: &Name,
     mode: Mode,
     asked: u32,
-    reply: &Reply,
+    cells: &[Cell],
 ) -> Told
-    ensures told { result ≡ answered_told name.now mode asked reply.now }
-    ensures after { marks.new ≡ answered_after marks.old owner.now name.now mode asked reply.now }
+    ensures told { result ≡ answered_told name.now mode asked cells.now }
+    ensures after { marks.new ≡ answered_after marks.old owner.now name.now mode asked cells.now }
 {
-    let Reply::Cells { cells } = reply else {
-        return Told::Stepped;
-    };
     let sum = summed(cells, asked, name, mode);
     settled(marks, owner, name, &sum)
 }

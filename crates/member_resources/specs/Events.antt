@@ -7,14 +7,16 @@ use Rattle.ds_disk.specs.Contents.{Contents, Same, log_of, with_log}
 use Rattle.ds_disk.specs.Pages as disk
 use Rattle.ds_disk.specs.declared.disk.DiskError.{DiskError}
 use Rattle.ds_disk.specs.declared.disk.DiskError.TheVariants.{Failed}
+use Rattle.list_structure.specs.declared.query.Cell.{Cell}
 use Rattle.list_structure.specs.declared.wait.Wait.{Wait}
+use Rattle.list_structure.specs.States.{ListsState}
 use Rattle.cache_structure.specs.Directory.{Directory, castout_of}
 use Rattle.facility.specs.declared.command.Reply.{Reply}
 use Rattle.facility.specs.declared.command.Command.{Command}
 use Rattle.facility.specs.declared.facility.Facility.{Facility}
 use Rattle.facility.specs.States as facility
 use Rattle.facility.specs.States.{held}
-use Rattle.facility.specs.Commands.{CanExecute}
+use Rattle.facility.specs.Commands.{CanExecute, cells_for}
 use Rattle.member_intents.specs.declared.intent.Intent.{Intent}
 use Rattle.member_intents.specs.declared.intent.Intent.TheVariants as intent
 use Rattle.member_intents.specs.declared.outcome.Sent.{Sent}
@@ -52,13 +54,14 @@ abbrev pub waits_in : Intent → Option ℕ
 waits_in (intent.Waits slots) = Some slots
 waits_in _ = None
 
-abbrev pub SettlesAs : Option ℕ → Held → Intent → Plan → List Wait → Reply → ℕ → Told → Held → Type 0
-SettlesAs None h i p waits answer place said k = (said ≡ told_by h i p answer) × Settles h i p answer place k
-SettlesAs (Some slots) h i p waits answer place said k = SettlesWaits h waits slots place said k
+abbrev pub SettlesAs : Option ℕ → Held → Intent → Plan → List Wait → List Cell → Reply → ℕ → Told → Held → Type 0
+SettlesAs None h i p waits cells answer place said k = (said ≡ told_by h i p answer cells) × Settles h i p answer cells place k
+SettlesAs (Some slots) h i p waits cells answer place said k = SettlesWaits h waits slots place said k
 
--- the reply is settled, where these are the waits
-abbrev pub SettlesReply : Held → Intent → Plan → List Wait → Reply → ℕ → Told → Held → Type 0
-SettlesReply h i p waits answer place said k = SettlesAs (waits_in i) h i p waits answer place said k
+-- the reply to the command is settled, where these are the lists behind it
+abbrev pub SettlesReply : Held → Intent → Command → Plan → ListsState → Reply → ℕ → Told → Held → Type 0
+SettlesReply h i c p lists answer place said k =
+    SettlesAs (waits_in i) h i p lists.waits (cells_for lists.cells h.marks.member c) answer place said k
 
 -- the command is given, and its reply settled
 pub record RunsCommand (w : facility.Held) (h : Held) (i : Intent) (c : Command) (p : Plan) (place : ℕ) (a : Answered) (said : Told) (v : facility.Held) (k : Held) : Type 0 where
@@ -66,7 +69,7 @@ pub record RunsCommand (w : facility.Held) (h : Held) (i : Intent) (c : Command)
   pub after : Held
   pub is : a ≡ answered.Reply answer
   pub gives : Gives h w c answer after v
-  pub settles : SettlesReply after i p v.lists.waits answer place said k
+  pub settles : SettlesReply after i c p v.lists answer place said k
 
 -- the facility's condition for the command doesn't hold, and nothing is changed
 pub record CannotExecute (w : facility.Held) (h : Held) (c : Command) (v : facility.Held) (k : Held) : Type 0 where

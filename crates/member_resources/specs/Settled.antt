@@ -3,6 +3,7 @@ use Rattle.std.specs.Prelude.{ℕ, ◌≡◌, true, false, List, Option, Some, N
 use Rattle.ds_base.specs.declared.names.PageId.{PageId}
 use Rattle.ds_model.specs.declared.lock.Name.{Name}
 use Rattle.lock_names.specs.declared.mode.Mode.{Mode}
+use Rattle.list_structure.specs.declared.query.Cell.{Cell}
 use Rattle.list_structure.specs.declared.wait.Wait.{Wait}
 use Rattle.facility.specs.declared.command.Reply.{Reply}
 use Rattle.facility.specs.declared.command.Reply.TheVariants as reply
@@ -63,56 +64,57 @@ unsent_told _ = told.Stepped
 
 -- ---- replies of the facility
 
--- after the reply to an intent that claims no lock, and doesn't look for a cycle
-abbrev pub settled : Held → Intent → Plan → Reply → ℕ → Held
-settled h (intent.Answers o n m asked) p answer place = with_marks h (answered_after h.marks o n m asked answer)
-settled h (intent.ReleaseLock o) p answer place = with_marks h (released_after h.marks o answer)
-settled h (intent.ReleasePage page) p answer place = with_marks h (page_released_after h.marks page answer)
-settled h (intent.Purge n) p answer place = with_marks h (purged_after h.marks n answer)
-settled h (intent.End o) p answer place = with_marks h (ended_after h.marks o answer)
-settled h (intent.Read frame) p answer place = with_marks h (read_after h.marks frame answer)
-settled h (intent.Test frame slot gives) p answer place = with_marks h (tested_after h.marks h.pages frame slot gives h.limit answer place)
-settled h (intent.WritePage frame) p answer place = with_marks h (written_after h.marks frame answer)
-settled h (intent.Unregister frame) p answer place = with_marks h (unregistered_after h.marks frame answer)
-settled h (intent.Change slot action frames) p answer place = drawn h slot frames p answer place
-settled h (intent.Undo o frame) p answer place = undone h o frame p answer place
-settled h (intent.Commit slot) p answer place = with_marks h (committed_after h.marks slot answer place)
-settled h (intent.CastoutRead page) p answer place = cast_read h page answer
-settled h intent.CastoutWrite p answer place = with_cast h None
-settled h intent.CastoutDone p answer place = with_cast h None
-settled h _ p answer place = h
+-- after the reply to an intent that claims no lock, and doesn't look for a cycle, where these are the cells that its command
+-- asks for
+abbrev pub settled : Held → Intent → Plan → Reply → List Cell → ℕ → Held
+settled h (intent.Answers o n m asked) p answer cells place = with_marks h (answered_after h.marks o n m asked cells)
+settled h (intent.ReleaseLock o) p answer cells place = with_marks h (released_after h.marks o answer)
+settled h (intent.ReleasePage page) p answer cells place = with_marks h (page_released_after h.marks page answer)
+settled h (intent.Purge n) p answer cells place = with_marks h (purged_after h.marks n answer)
+settled h (intent.End o) p answer cells place = with_marks h (ended_after h.marks o answer)
+settled h (intent.Read frame) p answer cells place = with_marks h (read_after h.marks frame answer)
+settled h (intent.Test frame slot gives) p answer cells place = with_marks h (tested_after h.marks h.pages frame slot gives h.limit answer place)
+settled h (intent.WritePage frame) p answer cells place = with_marks h (written_after h.marks frame answer)
+settled h (intent.Unregister frame) p answer cells place = with_marks h (unregistered_after h.marks frame answer)
+settled h (intent.Change slot action frames) p answer cells place = drawn h slot frames p answer place
+settled h (intent.Undo o frame) p answer cells place = undone h o frame p answer place
+settled h (intent.Commit slot) p answer cells place = with_marks h (committed_after h.marks slot answer place)
+settled h (intent.CastoutRead page) p answer cells place = cast_read h page answer
+settled h intent.CastoutWrite p answer cells place = with_cast h None
+settled h intent.CastoutDone p answer cells place = with_cast h None
+settled h _ p answer cells place = h
 
-abbrev pub told_by : Held → Intent → Plan → Reply → Told
-told_by h (intent.Obtain o n m) p answer = claimed_told h.marks o n m answer
-told_by h (intent.Grant o n m) p answer = claimed_told h.marks o n m answer
-told_by h (intent.Answers o n m asked) p answer = answered_told n m asked answer
-told_by h (intent.Status member) p answer = status_told answer
-told_by h (intent.Take past) p answer = query_told answer
-told_by h (intent.ReleaseLock o) p answer = released_told h.marks o answer
-told_by h (intent.ReleasePage page) p answer = page_released_told answer
-told_by h (intent.Purge n) p answer = purged_told answer
-told_by h (intent.End o) p answer = ended_told answer
-told_by h (intent.Flag flag) p answer = flag_told answer
-told_by h (intent.Read frame) p answer = read_told answer
-told_by h (intent.Test frame slot gives) p answer = tested_told h.pages frame gives h.limit answer
-told_by h (intent.WritePage frame) p answer = written_told answer
-told_by h (intent.Change slot action frames) p answer = drawn_told p answer
-told_by h (intent.Undo o frame) p answer = undone_told p answer
-told_by h (intent.Commit slot) p answer = committed_told answer
-told_by h (intent.NextChanged past) p answer = changed_told answer
-told_by h (intent.CastoutRead page) p answer = cast_told answer
-told_by h intent.CastoutWrite p answer = told.CastoutOver
-told_by h intent.CastoutDone p answer = told.CastoutOver
-told_by h _ p answer = told.Stepped
+abbrev pub told_by : Held → Intent → Plan → Reply → List Cell → Told
+told_by h (intent.Obtain o n m) p answer cells = claimed_told h.marks o n m answer
+told_by h (intent.Grant o n m) p answer cells = claimed_told h.marks o n m answer
+told_by h (intent.Answers o n m asked) p answer cells = answered_told n m asked cells
+told_by h (intent.Status member) p answer cells = status_told answer
+told_by h (intent.Take past) p answer cells = query_told answer
+told_by h (intent.ReleaseLock o) p answer cells = released_told h.marks o answer
+told_by h (intent.ReleasePage page) p answer cells = page_released_told answer
+told_by h (intent.Purge n) p answer cells = purged_told answer
+told_by h (intent.End o) p answer cells = ended_told answer
+told_by h (intent.Flag flag) p answer cells = flag_told answer
+told_by h (intent.Read frame) p answer cells = read_told answer
+told_by h (intent.Test frame slot gives) p answer cells = tested_told h.pages frame gives h.limit answer
+told_by h (intent.WritePage frame) p answer cells = written_told answer
+told_by h (intent.Change slot action frames) p answer cells = drawn_told p answer
+told_by h (intent.Undo o frame) p answer cells = undone_told p answer
+told_by h (intent.Commit slot) p answer cells = committed_told answer
+told_by h (intent.NextChanged past) p answer cells = changed_told answer
+told_by h (intent.CastoutRead page) p answer cells = cast_told answer
+told_by h intent.CastoutWrite p answer cells = told.CastoutOver
+told_by h intent.CastoutDone p answer cells = told.CastoutOver
+told_by h _ p answer cells = told.Stepped
 
 -- the claim of a lock, where it was granted
 abbrev pub SettlesClaim : Held → Owner → Name → Mode → Reply → ℕ → Held → Type 0
 SettlesClaim h o n m answer place k = Claims h.marks o n m answer place k.marks × (k ≡ with_marks h k.marks)
 
-abbrev pub Settles : Held → Intent → Plan → Reply → ℕ → Held → Type 0
-Settles h (intent.Obtain o n m) p answer place k = SettlesClaim h o n m answer place k
-Settles h (intent.Grant o n m) p answer place k = SettlesClaim h o n m answer place k
-Settles h other p answer place k = k ≡ settled h other p answer place
+abbrev pub Settles : Held → Intent → Plan → Reply → List Cell → ℕ → Held → Type 0
+Settles h (intent.Obtain o n m) p answer cells place k = SettlesClaim h o n m answer place k
+Settles h (intent.Grant o n m) p answer cells place k = SettlesClaim h o n m answer place k
+Settles h other p answer cells place k = k ≡ settled h other p answer cells place
 
 -- ---- the look for a cycle
 

@@ -1,10 +1,10 @@
 //! Pages that are lent to the facility.
 
-ghost use Rattle.std.specs.Prelude.{◌≡◌, ◌<◌, length, if◌then◌else◌, IfOk, IfErr, OnErr};
+ghost use Rattle.std.specs.Prelude.{◌≡◌, ◌<◌, length, if◌then◌else◌, IfOk, IfErr, OnOk, OnErr};
 ghost use Rattle.member_marks.specs.Frames.{frame_in};
 ghost use Rattle.member_resources.specs.declared.lending.Lent.TheVariants.{Frame, Buffer, Spare};
 ghost use Rattle.member_intents.specs.declared.test.StepFault.TheVariants.{NotExecutable};
-ghost use Rattle.facility.specs.Commands.{CanExecute};
+ghost use Rattle.facility.specs.Commands.{AsksSlot, CanExecute};
 ghost use Rattle.facility.specs.States.{held};
 ghost use Rattle.member_resources.specs.Lending.{framed, lent_of, IsThere, Executed, Gives};
 
@@ -115,6 +115,7 @@ impl Resources {
         command: &Command,
     ) -> Result<Reply, StepFault>
         ensures ok { IfOk result (λ answer. Gives self.old (held C.directory facility.old) command.now answer self.new (held C.directory facility.new)) }
+        ensures slot { OnOk result (AsksSlot command.now) }
         ensures fault { IfErr result (λ fault. fault ≡ NotExecutable) }
         ensures cannot { OnErr result (¬ CanExecute (held C.directory facility.old) self.old.marks.member command.now) }
         ensures same { OnErr result (self.new ≡ self.old) }

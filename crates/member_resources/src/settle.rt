@@ -11,7 +11,7 @@ ghost use Rattle.member_resources.specs.Settled.{cast_read, written_cast, drawn 
 use crate::Resources;
 use ds_base::{NoMemory, PageId};
 use facility::Reply;
-use list_structure::Wait;
+use list_structure::{Cell, Wait};
 use lock_names::{Mode, Name};
 use member_effects::{
     Told, answered, cast_told, changed_told, claimed, commit_drawn, cycle_refused, drawn, end_now,
@@ -140,17 +140,18 @@ impl Resources {
         }
     }
 
-    /// The effect of a reply of the facility.
+    /// The effect of a reply of the facility, to a command that asks for these cells.
     pub(crate) fn settle_reply(
         &mut self,
         intent: &Intent,
         plan: Plan,
         reply: &Reply,
+        cells: &[Cell],
         place: u64,
     ) -> Told
         requires { PlanIsAllowed plan }
-        ensures told { result ≡ told_by self.old intent.now plan reply.now }
-        ensures after { Settles self.old intent.now plan reply.now place self.new }
+        ensures told { result ≡ told_by self.old intent.now plan reply.now cells.now }
+        ensures after { Settles self.old intent.now plan reply.now cells.now place self.new }
     {
         match *intent {
             Intent::Obtain { owner, name, mode } | Intent::Grant { owner, name, mode } => {
@@ -161,7 +162,7 @@ impl Resources {
                 name,
                 mode,
                 asked,
-            } => answered(&mut self.marks, &owner, &name, mode, asked, reply),
+            } => answered(&mut self.marks, &owner, &name, mode, asked, cells),
             Intent::Status { .. } => status_told(reply),
             Intent::Take { .. } => query_told(reply),
             Intent::ReleaseLock { owner } => released(&mut self.marks, &owner, reply),

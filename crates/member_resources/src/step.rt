@@ -3,6 +3,7 @@ ghost use Rattle.ds_base.specs.Causes.{Rose};
 ghost use Rattle.ds_disk.specs.Answers.{HasCause};
 ghost use Rattle.ds_disk.specs.declared.disk.DiskError.TheVariants.{Failed};
 ghost use Rattle.member_intents.specs.declared.outcome.Answered.TheVariants as answered;
+ghost use Rattle.facility.specs.Commands.{AsksSlot};
 ghost use Rattle.facility.specs.States.{held};
 ghost use Rattle.member_intents.specs.declared.test.Test.{Test};
 ghost use Rattle.member_intents.specs.declared.test.StepFault.TheVariants.{Unlawful, NotExecutable};
@@ -94,22 +95,28 @@ impl Resources {
         }
     }
 
-    // Settles a reply.
+    // Settles the reply to a command, behind which the facility is so. The waits and the cells that it asks for are looked
+    // at where they stand.
     fn settle<C: CacheFace>(
         &mut self,
         alloc: Global,
         facility: &Facility<C>,
         intent: &Intent,
+        command: &Command,
         plan: Plan,
         reply: &Reply,
         place: u64,
     ) -> Result<Told, NoMemory>
-        requires { PlanIsAllowed plan }
-        ensures { IfOk result (λ said. SettlesReply self.old intent.now plan facility.now.lists.waits reply.now place said self.new) }
+        requires plan { PlanIsAllowed plan }
+        requires slot { AsksSlot command.now }
+        ensures { IfOk result (λ said. SettlesReply self.old intent.now command.now plan facility.now.lists reply.now place said self.new) }
     {
         match waits_in(intent) {
             Some(slots) => self.settle_waits(alloc, facility.waits(), slots, place),
-            None => Ok(self.settle_reply(intent, plan, reply, place)),
+            None => {
+                let cells = facility.cells_for(self.marks.member(), command);
+                Ok(self.settle_reply(intent, plan, reply, cells, place))
+            }
         }
     }
 }
@@ -131,7 +138,7 @@ impl Resources {
         ensures cannot { result ≡ Err NotExecutable → CannotExecute (held C.directory facility.old) self.old command.now (held C.directory facility.new) self.new }
     {
         let reply = self.give(facility, command)?;
-        let told = self.settle(alloc, facility, intent, plan, &reply, place)?;
+        let told = self.settle(alloc, facility, intent, command, plan, &reply, place)?;
         Ok((told, Answered::Reply(reply)))
     }
 

@@ -5,8 +5,6 @@ use Rattle.list_structure.specs.declared.query.Cell.{Cell}
 use Rattle.list_structure.specs.declared.query.Cell.TheVariants as cell
 use Rattle.list_structure.specs.declared.query.CellAnswer.{CellAnswer}
 use Rattle.list_structure.specs.declared.query.CellAnswer.TheVariants as answer
-use Rattle.facility.specs.declared.command.Reply.{Reply}
-use Rattle.facility.specs.declared.command.Reply.TheVariants as reply
 use Rattle.restart_marks.specs.declared.cells.Sum.{Sum}
 use Rattle.restart_marks.specs.declared.told.RestartTold.{RestartTold}
 use Rattle.restart_marks.specs.declared.told.RestartTold.TheVariants as told
@@ -45,6 +43,5 @@ no_sum = record { is_open = false; is_emptied = false }
 abbrev pub sum_told : Sum → RestartTold
 sum_told sum = told.Cells sum.is_open sum.is_emptied
 
-abbrev pub answers_told : ℕ → Reply → RestartTold
-answers_told asked (reply.Cells cells) = sum_told (summed cells 0 asked no_sum)
-answers_told asked _ = told.Stepped
+abbrev pub answers_told : ℕ → List Cell → RestartTold
+answers_told asked cells = sum_told (summed cells 0 asked no_sum)

@@ -4,7 +4,6 @@ ghost use Rattle.std.specs.Prelude.{◌≡◌};
 ghost use Rattle.restart_marks.specs.Cells.{is_asked, is_open, is_emptied, added, summed, no_sum, answers_told};
 
 use crate::told::RestartTold;
-use facility::Reply;
 use list_structure::{Cell, CellAnswer};
 
 /// What several cells say.
@@ -62,13 +61,10 @@ fn summed(cells: &[Cell], asked: u32) -> Sum
     sum
 }
 
-/// The reply to `answers`.
-pub fn answers_told(asked: u32, reply: &Reply) -> RestartTold
-    ensures { result ≡ answers_told asked reply.now }
+/// What the cells of those asked say.
+pub fn answers_told(asked: u32, cells: &[Cell]) -> RestartTold
+    ensures { result ≡ answers_told asked cells.now }
 {
-    let Reply::Cells { cells } = reply else {
-        return RestartTold::Stepped;
-    };
     let sum = summed(cells, asked);
     RestartTold::Cells {
         open: sum.is_open,

@@ -7,7 +7,7 @@ use Rattle.facility.specs.declared.command.Command.{Command}
 use Rattle.facility.specs.declared.facility.Facility.{Facility}
 use Rattle.facility.specs.States as facility
 use Rattle.facility.specs.States.{held}
-use Rattle.facility.specs.Commands.{CanExecute}
+use Rattle.facility.specs.Commands.{CanExecute, cells_for}
 use Rattle.member_intents.specs.declared.outcome.Answered.{Answered}
 use Rattle.member_intents.specs.declared.outcome.Answered.TheVariants as answered
 use Rattle.restart_marks.specs.declared.intent.RestartIntent.{RestartIntent}
@@ -33,13 +33,13 @@ world_of directory alive contents facility disk =
 
 -- ---- what goes out
 
--- the command is given, and its reply settled
+-- the command is given, and its reply settled, with the cells that it asks for
 pub record RunsCommand (w : facility.Held) (h : Held) (i : RestartIntent) (c : Command) (a : Answered) (said : RestartTold) (v : facility.Held) (k : Held) : Type 0 where
   pub answer : Reply
   pub after : Held
   pub is : a ≡ answered.Reply answer
   pub gives : Gives h w c answer after v
-  pub said_is : said ≡ told_by after i answer
+  pub said_is : said ≡ told_by after i answer (cells_for v.lists.cells after.marks.member c)
   pub settles : k ≡ settled after i answer
 
 -- the facility's condition for the command doesn't hold, and nothing is changed

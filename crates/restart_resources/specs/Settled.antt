@@ -2,6 +2,7 @@
 use Rattle.std.specs.Prelude.{ℕ, Bool, false, if◌then◌else◌, is_none, List, Option, Some, None, Result, Ok, Err}
 use Rattle.ds_base.specs.declared.names.PageId.{PageId}
 use Rattle.ds_base.specs.declared.names.Volume.TheVariants as volume
+use Rattle.list_structure.specs.declared.query.Cell.{Cell}
 use Rattle.facility.specs.declared.command.Reply.{Reply}
 use Rattle.facility.specs.declared.command.Reply.TheVariants as reply
 use Rattle.heap_space.specs.Written.{after_patch}
@@ -129,21 +130,22 @@ settle_undo_after h id _ = h
 
 -- ---- replies of the facility
 
-abbrev pub told_by : Held → RestartIntent → Reply → RestartTold
-told_by h intent.RetainedAt answer = listing.record_told answer
-told_by h intent.Read answer = read_told h answer
-told_by h intent.Test answer = tested_told h answer
-told_by h intent.WritePage answer = hand.written_told answer
-told_by h intent.PurgePage answer = listing.purged_told answer
-told_by h (intent.Purge n) answer = listing.purged_told answer
-told_by h (intent.Obtain id) answer = locks.claim_told answer
-told_by h (intent.Grant id) answer = locks.claim_told answer
-told_by h (intent.Answers id asked) answer = answers_told asked answer
-told_by h (intent.Status m) answer = locks.status_told answer
-told_by h (intent.Undo id) answer = settle_undo_told h id answer
-told_by h intent.ReleasePage answer = locks.released_told answer
-told_by h intent.Up answer = locks.up_told answer
-told_by h _ answer = told.Stepped
+-- where these are the cells that the command asks for
+abbrev pub told_by : Held → RestartIntent → Reply → List Cell → RestartTold
+told_by h intent.RetainedAt answer cells = listing.record_told answer
+told_by h intent.Read answer cells = read_told h answer
+told_by h intent.Test answer cells = tested_told h answer
+told_by h intent.WritePage answer cells = hand.written_told answer
+told_by h intent.PurgePage answer cells = listing.purged_told answer
+told_by h (intent.Purge n) answer cells = listing.purged_told answer
+told_by h (intent.Obtain id) answer cells = locks.claim_told answer
+told_by h (intent.Grant id) answer cells = locks.claim_told answer
+told_by h (intent.Answers id asked) answer cells = answers_told asked cells
+told_by h (intent.Status m) answer cells = locks.status_told answer
+told_by h (intent.Undo id) answer cells = settle_undo_told h id answer
+told_by h intent.ReleasePage answer cells = locks.released_told answer
+told_by h intent.Up answer cells = locks.up_told answer
+told_by h _ answer cells = told.Stepped
 
 abbrev pub settled : Held → RestartIntent → Reply → Held
 settled h intent.RetainedAt answer = with_marks h (listing.record_after h.marks answer)

@@ -1,8 +1,8 @@
 //! The page that is lent to the facility.
 
-ghost use Rattle.std.specs.Prelude.{◌≡◌, true, false, if◌then◌else◌, IfOk, IfErr, OnErr};
+ghost use Rattle.std.specs.Prelude.{◌≡◌, true, false, if◌then◌else◌, IfOk, IfErr, OnOk, OnErr};
 ghost use Rattle.restart_marks.specs.declared.intent.RestartFault.TheVariants.{NotExecutable};
-ghost use Rattle.facility.specs.Commands.{CanExecute};
+ghost use Rattle.facility.specs.Commands.{AsksSlot, CanExecute};
 ghost use Rattle.facility.specs.States.{held};
 ghost use Rattle.restart_resources.specs.Lending.{is_hand, Executed, Gives};
 
@@ -62,6 +62,7 @@ impl RestartResources {
         command: &Command,
     ) -> Result<Reply, RestartFault>
         ensures ok { IfOk result (λ answer. Gives self.old (held C.directory facility.old) command.now answer self.new (held C.directory facility.new)) }
+        ensures slot { OnOk result (AsksSlot command.now) }
         ensures fault { IfErr result (λ fault. fault ≡ NotExecutable) }
         ensures cannot { OnErr result (¬ CanExecute (held C.directory facility.old) self.old.marks.member command.now) }
         ensures same { OnErr result (self.new ≡ self.old) }

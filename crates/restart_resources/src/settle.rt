@@ -8,6 +8,7 @@ use crate::RestartResources;
 use crate::forward::{bring_own, number_of};
 use ds_base::{Lrsn, NoMemory, PageId, Volume};
 use facility::Reply;
+use list_structure::Cell;
 use page_redo::{FieldFault, undo_row};
 use restart_marks::{Newest, RestartIntent, RestartTold, answers_told, page_of, status_told};
 use write_order::rank_of;
@@ -124,13 +125,14 @@ impl RestartResources {
         }
     }
 
-    /// The effect of a reply of the facility.
+    /// The effect of a reply of the facility, to a command that asks for these cells.
     pub(crate) fn settle_reply(
         &mut self,
         intent: &RestartIntent,
         reply: &Reply,
+        cells: &[Cell],
     ) -> Result<RestartTold, NoMemory>
-        ensures told { IfOk result (λ said. said ≡ told_by self.old intent.now reply.now) }
+        ensures told { IfOk result (λ said. said ≡ told_by self.old intent.now reply.now cells.now) }
         ensures after { OnOk result (self.new ≡ settled self.old intent.now reply.now) }
     {
         match *intent {
@@ -143,7 +145,7 @@ impl RestartResources {
             RestartIntent::Obtain { id } | RestartIntent::Grant { id } => {
                 Ok(self.marks.claimed(id, reply))
             }
-            RestartIntent::Answers { asked, .. } => Ok(answers_told(asked, reply)),
+            RestartIntent::Answers { asked, .. } => Ok(answers_told(asked, cells)),
             RestartIntent::Status { .. } => Ok(status_told(reply)),
             RestartIntent::Undo { id } => Ok(self.settle_undo(id, reply)),
             RestartIntent::ReleasePage => Ok(self.marks.released(reply)),

@@ -30,7 +30,8 @@ impl RestartResources {
         ensures cannot { result ≡ Err NotExecutable → CannotExecute (held C.directory facility.old) self.old command.now (held C.directory facility.new) self.new }
     {
         let reply = self.give(facility, command)?;
-        let told = self.settle_reply(intent, &reply)?;
+        let cells = facility.cells_for(self.marks.member(), command);
+        let told = self.settle_reply(intent, &reply, cells)?;
         Ok((told, Answered::Reply(reply)))
     }
 

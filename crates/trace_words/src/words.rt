@@ -123,7 +123,7 @@ fn list_reply_word(reply: &Reply) -> &'static [u8] {
         Reply::Done => b"done",
         Reply::Query { .. } => b"query",
         Reply::Gone => b"gone",
-        Reply::Cells { .. } => b"cells",
+        Reply::Cells => b"cells",
         Reply::Waits => b"pairs",
         Reply::Raised => b"raised",
         Reply::NotRaised => b"not-raised",
