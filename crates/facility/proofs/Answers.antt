@@ -19,7 +19,7 @@ clean_suc f n = refl
 clean_step : (f : ℕ → Option ℕ) (n : ℕ) → clean_among f (n + 1) ≡ clean_among f n ++ stamped (n + 1) (f (n + 1))
 clean_step f n = rw add-one (clean_suc f n)
 
--- the versions in an array of cells, by member
+-- the versions in cells, by member
 abbrev pub versions_in : List Cell → Name → Mode → ℕ → Option ℕ
 versions_in cells name mode = λ k. clean_version name mode (slice_index_or cells (k - 1) Empty)
 
@@ -41,15 +41,8 @@ clean_same f g (suc n) h e =
     let at = e (suc n) (omega arith, omega arith) in
     rw (ih, at) refl
 
--- a place in range has the same cell, whatever stands past the end
-any_default : (cells : List Cell) (n : ℕ) (d e : Cell) → n < length cells → slice_index_or cells n d ≡ slice_index_or cells n e
-any_default [] n d e h = absurd (omega arith)
-any_default (x ∷ xs) zero d e h = refl
-any_default (x ∷ xs) (suc n) d e h = any_default xs n d e (omega arith)
-
 -- one cell more
-pub clean_kept : (cells : List Cell) (name : Name) (mode : Mode) (n m : ℕ) (version : Option ℕ) (d : Cell) (before after : List (ℕ × ℕ)) → n < length cells → before ≡ clean_among (versions_in cells name mode) n → m ≡ n + 1 → version ≡ clean_version name mode (slice_index_or cells n d) → after ≡ before ++ stamped m version → after ≡ clean_among (versions_in cells name mode) (n + 1)
-clean_kept cells name mode n m version d before after h b i v a =
+pub clean_kept : (cells : List Cell) (name : Name) (mode : Mode) (n m : ℕ) (version : Option ℕ) (before after : List (ℕ × ℕ)) → before ≡ clean_among (versions_in cells name mode) n → m ≡ n + 1 → version ≡ clean_version name mode (slice_index_or cells n Empty) → after ≡ before ++ stamped m version → after ≡ clean_among (versions_in cells name mode) (n + 1)
+clean_kept cells name mode n m version before after b i v a =
     let s = clean_next cells name mode n in
-    let e = any_default cells n d Empty h in
-    grind (arith, s, b, i, v, a, e)
+    grind (arith, s, b, i, v, a)
