@@ -1,5 +1,5 @@
 -- The answers of the members, one after the other.
-use Rattle.std.proofs.Common.{◌≡◌, ℕ, zero, suc, ◌+◌, ◌-◌, ◌≤◌, ◌<◌, refl, arith, List, [], ◌∷◌, ◌++◌, length, slice_index_or, add-one, append-nil}
+use Rattle.std.proofs.Common.{◌≡◌, ℕ, zero, suc, ◌+◌, ◌-◌, ◌≤◌, refl, arith, List, [], ◌∷◌, ◌++◌, slice_index_or, add-one, append-nil}
 use Rattle.std.specs.Prelude.{Option, Some, None}
 use Rattle.ds_base.specs.Ids.{IsMember}
 use Rattle.ds_model.specs.declared.lock.Name.{Name}
