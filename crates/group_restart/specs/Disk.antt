@@ -3,7 +3,7 @@ use Rattle.std.specs.Prelude.{◌≡◌, ◌⊎◌, ℕ, ◌++◌, min, Bool, Li
 use Rattle.std.specs.List.{AllByRecursion}
 use Rattle.std.specs.FinMap as map
 use Rattle.ds_base.specs.declared.names.PageId.{PageId}
-use Rattle.ds_model.specs.RecordBytes.{log_bytes}
+use Rattle.ds_model.specs.RecordBytes.{IsAllowed, log_bytes}
 use Rattle.ds_disk.specs.Answers.{Answers, Appended}
 use Rattle.ds_disk.specs.Contents.{Contents, Same, log_of, with_log}
 use Rattle.ds_disk.specs.Pages.{page_at}
@@ -72,11 +72,11 @@ with_page h page = record h { page = page }
 abbrev pub with_reader_block : Restart → List ℕ → Restart
 with_reader_block h block = record h { reader = with_block h.reader block }
 
--- a log is read into the reader's block, and a page into the page at hand; what is appended are records of a restart
+-- a log is read into the reader's block, and a page into the page at hand; what is appended are records of a restart, which can be read back
 abbrev pub Calls : Restart → Call → Drive → Result Reply DiskError → Drive → Restart → Type 0
 Calls h (call.LogLength member) w done v k = TellsLength member w done v × (k ≡ h)
 Calls h (call.ReadLog member at count) w done v k = TellsBlock member at count k.reader.block w done v × (k ≡ with_reader_block h k.reader.block)
 Calls h (call.CutLog member n) w done v k = Cuts member n w done v × (k ≡ h)
-Calls h (call.AppendLog member) w done v k = Appends member (log_bytes h.added) w done v × AllByRecursion IsOfRestart h.added × (k ≡ h)
+Calls h (call.AppendLog member) w done v k = Appends member (log_bytes h.added) w done v × AllByRecursion IsOfRestart h.added × AllByRecursion IsAllowed h.added × (k ≡ h)
 Calls h (call.ReadPage id) w done v k = ReadsPage id k.page w done v × (k ≡ with_page h k.page)
 Calls h (call.WritePage id) w done v k = WritesPage id h.page w done v × (k ≡ h)

@@ -4,7 +4,7 @@ use Rattle.std.specs.List.{AllByRecursion}
 use Rattle.ds_model.specs.declared.log.LogRecord.{LogRecord}
 use Rattle.ds_model.specs.declared.log.Body.{Body}
 use Rattle.ds_model.specs.declared.log.Body.TheVariants as body
-use Rattle.ds_model.specs.RecordBytes.{Fits, log_bytes}
+use Rattle.ds_model.specs.RecordBytes.{Fits, IsAllowed, log_bytes}
 use Rattle.log_record.specs.Changes.{inverse}
 use Rattle.restart_plan.specs.declared.opened.Undo.{Undo}
 
@@ -26,6 +26,7 @@ pub record IsOfRestart (r : LogRecord) : Type 0 where
 pub record AreSpelled (records : List LogRecord) (bytes : List ℕ) : Type 0 where
   pub spelled : bytes ≡ log_bytes records
   pub each : AllByRecursion IsOfRestart records
+  pub allowed : AllByRecursion IsAllowed records
 
 abbrev pub ended : ℕ → ℕ → LogRecord
 ended lrsn tran = record { lrsn = lrsn; tran = tran; body = body.Ended }

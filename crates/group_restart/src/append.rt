@@ -1,6 +1,6 @@
 ghost use Rattle.std.specs.Prelude.{◌≡◌, [], ◌∷◌, ◌++◌, IfOk};
 ghost use Rattle.std.specs.List.{AllByRecursion};
-ghost use Rattle.ds_model.specs.RecordBytes.{log_bytes};
+ghost use Rattle.ds_model.specs.RecordBytes.{IsAllowed, log_bytes};
 ghost use Rattle.group_restart.specs.Records.{IsOfRestart};
 
 use ds_base::{Bytes, NoMemory};
@@ -55,6 +55,7 @@ impl Append {
     pub fn bytes(&self) -> &[u8]
         ensures bytes { result.now ≡ log_bytes self.now }
         ensures records { AllByRecursion IsOfRestart self.now }
+        ensures allowed { AllByRecursion IsAllowed self.now }
     {
         self.bytes.as_slice()
     }

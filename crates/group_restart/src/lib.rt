@@ -20,4 +20,4 @@ mod stage;
 mod undo;
 
 pub use calls::{Call, State};
-pub use machine::{GroupRestart, restart_disk};
+pub use machine::GroupRestart;

@@ -132,18 +132,3 @@ impl GroupRestart {
         }
     }
 }
-
-/// Runs a group restart to its end. It never answers `Going`.
-pub fn restart_disk<D: Disk>(alloc: Global, disk: &mut D) -> Result<State, NoMemory>
-    ensures later { D.faults disk.old ≤ D.faults disk.new }
-    ensures failed { result ≡ Ok state.Failed → Rose (D.faults disk.old) (D.faults disk.new) }
-{
-    let mut restart = GroupRestart::new(alloc)?;
-    for _ in 0..u64::MAX {
-        let state = restart.step(alloc, disk)?;
-        if state != State::Going {
-            return Ok(state);
-        }
-    }
-    Err(NoMemory)
-}

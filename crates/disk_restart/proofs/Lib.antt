@@ -1,0 +1,11 @@
+pub mod Kept
+pub mod Told
+pub mod Each
+pub mod Whole
+pub mod Cutting
+pub mod Reading
+pub mod Stages
+pub mod Going
+pub mod Calls
+pub mod Logs
+pub mod Steps

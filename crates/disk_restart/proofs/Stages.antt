@@ -1,0 +1,61 @@
+-- How the logs of a disk stand between two calls of a restart.
+use Rattle.std.proofs.Common.{◌≡◌, List, ◌∷◌, length}
+use Rattle.log_record.specs.declared.log.Log.{Log}
+use Rattle.log_reader.specs.Readers.{ReaderState}
+use Rattle.restart_plan.specs.declared.tails.Tail.{Tail}
+use Rattle.group_restart.specs.declared.calls.State.TheVariants as state
+use Rattle.group_restart.specs.declared.stage.Stage.{Stage}
+use Rattle.group_restart.specs.declared.stage.Stage.TheVariants as stage
+use Rattle.group_restart.specs.Machine.{Restart}
+use Rattle.group_restart.specs.Course.{Next}
+use Rattle.disk_restart.proofs.Cutting.{Logs, Keeps, AreWhole, CutsDue}
+use Rattle.disk_restart.proofs.Reading.{Reads}
+
+-- nothing has changed, and these logs are read
+pub record IsReadingLogs (o c : Logs) (r : ReaderState) (logs : List Log) : Type 0 where
+  pub same : c ≡ o
+  pub all : length o ≡ 32
+  pub reads : Reads o r logs
+
+-- these tails are still to be cut
+pub record Cuts (o c : Logs) (tails : List Tail) : Type 0 where
+  pub keeps : Keeps o c
+  pub due : CutsDue tails c
+
+-- all tails are cut
+pub record Stands (o c : Logs) : Type 0 where
+  pub keeps : Keeps o c
+  pub whole : AreWhole c
+
+-- before the call of a stage: o were the logs at the start, and c are the logs now
+abbrev pub InStage : Stage → Logs → Restart → Logs → Type 0
+InStage stage.ReadLog o h c = IsReadingLogs o c h.reader h.logs
+InStage (stage.CutTail tail) o h c = Cuts o c (tail ∷ h.plan.tails)
+InStage (stage.RedoRead page) o h c = Stands o c
+InStage (stage.RedoWrite page) o h c = Stands o c
+InStage (stage.CloseAppend member) o h c = Stands o c
+InStage (stage.UndoRead page) o h c = Stands o c
+InStage (stage.UndoAppend member page) o h c = Stands o c
+InStage (stage.UndoWrite page) o h c = Stands o c
+InStage (stage.EndAppend member) o h c = Stands o c
+InStage stage.End o h c = Stands o c
+
+abbrev pub Runs : Logs → Restart → Logs → Type 0
+Runs o h c = InStage h.stage o h c
+
+-- after the call of a stage was done
+abbrev pub AfterCall : Stage → Logs → Restart → Logs → Type 0
+AfterCall stage.ReadLog o h d = ⊥
+AfterCall (stage.CutTail tail) o h d = Cuts o d h.plan.tails
+AfterCall (stage.RedoRead page) o h d = Stands o d
+AfterCall (stage.RedoWrite page) o h d = Stands o d
+AfterCall (stage.CloseAppend member) o h d = Stands o d
+AfterCall (stage.UndoRead page) o h d = Stands o d
+AfterCall (stage.UndoAppend member page) o h d = Stands o d
+AfterCall (stage.UndoWrite page) o h d = Stands o d
+AfterCall (stage.EndAppend member) o h d = Stands o d
+AfterCall stage.End o h d = Stands o d
+
+-- where it goes on, the logs stand for the stage that it goes to
+abbrev pub Good : Logs → Logs → Next → Type 0
+Good o d n = n.1 ≡ state.Going → Runs o n.0 d

@@ -1,0 +1,34 @@
+use Rattle.std.proofs.Common.{rules, ◌≡◌, Ok, arith}
+use Rattle.std.proofs.lemmas.Grind.{common_steps}
+use Rattle.group_restart.specs.declared.calls.State.TheVariants as state
+use Rattle.group_restart.specs.Disk.{Drive}
+use Rattle.disk_restart.proofs.Steps.{begun, step_goes, step_keeps, alive_keeps}
+use Rattle.disk_restart.proofs.restart.restart_disk.Goals as goal
+
+pub loop-init : goal.loop-init
+loop-init g c = (omega arith, begun (g.D.Disk.contents c.args.disk.now) c.in_ok-restart.restart (g.D.Disk.has_logs c.args.disk.now) c.in_ok-restart.ensures)
+
+pub returns-in_err-state-clause-keeps : goal.returns-in_err-state-clause-keeps
+returns-in_err-state-clause-keeps g c =
+    let w : Drive = record { alive = g.D.Disk.alive c.loop.disk; contents = g.D.Disk.contents c.loop.disk } in
+    let v : Drive = record { alive = g.D.Disk.alive c.step.new.disk; contents = g.D.Disk.contents c.step.new.disk } in
+    step_keeps c.log_laws.ensures.sound (g.D.Disk.contents c.args.disk.now) w v c.loop.restart c.step.new.self c.step.result c.loop.invariant.1 c.step.ensures.goes
+
+pub returns-then-ne-clause-keeps : goal.returns-then-ne-clause-keeps
+returns-then-ne-clause-keeps g c =
+    let w : Drive = record { alive = g.D.Disk.alive c.loop.disk; contents = g.D.Disk.contents c.loop.disk } in
+    let v : Drive = record { alive = g.D.Disk.alive c.step.new.disk; contents = g.D.Disk.contents c.step.new.disk } in
+    step_keeps c.log_laws.ensures.sound (g.D.Disk.contents c.args.disk.now) w v c.loop.restart c.step.new.self c.step.result c.loop.invariant.1 c.step.ensures.goes
+
+pub loop-preserved : goal.loop-preserved
+loop-preserved g c =
+    let w : Drive = record { alive = g.D.Disk.alive c.loop.disk; contents = g.D.Disk.contents c.loop.disk } in
+    let v : Drive = record { alive = g.D.Disk.alive c.step.new.disk; contents = g.D.Disk.contents c.step.new.disk } in
+    let going : c.in_ok-state.state ≡ state.Going = first_of (search rules, grind (arith, common_steps, c.ne.ensures)) in
+    let again : c.step.result ≡ Ok state.Going = cc in (
+      omega (arith, c.loop.invariant.0, c.step.ensures.later),
+      step_goes c.log_laws.ensures.sound (g.D.Disk.contents c.args.disk.now) w v c.loop.restart c.step.new.self c.step.result c.loop.invariant.1 c.step.ensures.goes again,
+    )
+
+pub returns-clause-keeps : goal.returns-clause-keeps
+returns-clause-keeps g c = alive_keeps (g.D.Disk.contents c.args.disk.now) (g.D.Disk.contents c.loop.disk) c.loop.restart c.loop.invariant.1

@@ -1,0 +1,32 @@
+ghost use Rattle.std.specs.Prelude.{◌≡◌, ◌≢◌, ◌≤◌, Ok, IfOk};
+ghost use Rattle.ds_base.specs.Causes.{Rose};
+ghost use Rattle.ds_disk.specs.Contents.{Becomes};
+ghost use Rattle.group_restart.specs.declared.calls.State.TheVariants as state;
+ghost use Rattle.disk_restart.specs.Keeping.{KeepsRecords};
+
+use ds_base::NoMemory;
+use ds_disk::Disk;
+use group_restart::{GroupRestart, State};
+use log_record::log_laws;
+use std::alloc::Global;
+
+/// Runs a group restart to its end.
+///
+/// Whatever its end, also where a call of the disk fails or memory is wanting, each log has the row changes, the page changes
+/// for no transaction and the commits that it had.
+pub fn restart_disk<D: Disk>(alloc: Global, disk: &mut D) -> Result<State, NoMemory>
+    ensures later { D.faults disk.old ≤ D.faults disk.new }
+    ensures failed { result ≡ Ok state.Failed → Rose (D.faults disk.old) (D.faults disk.new) }
+    ensures ends { IfOk result (λ s. s ≢ state.Going) }
+    ensures keeps { Becomes (D.contents disk.old) (D.contents disk.new) KeepsRecords }
+{
+    log_laws();
+    let mut restart = GroupRestart::new(alloc)?;
+    for _ in 0..u64::MAX {
+        let state = restart.step(alloc, disk)?;
+        if state != State::Going {
+            return Ok(state);
+        }
+    }
+    Err(NoMemory)
+}
