@@ -1,3 +1,3 @@
 pub mod Parts
-pub mod Telling
 pub mod Restarts
+pub mod Raises

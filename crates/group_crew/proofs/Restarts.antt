@@ -1,10 +1,11 @@
 -- The restarts of members begin one by one.
-use Rattle.std.proofs.Common.{◌≡◌, ℕ, ◌+◌, ◌<◌, ◌≤◌, Bool, true, false, List, [], ◌∷◌, ◌++◌, length, take, slice_set, slice_index_or, refl, sym, ap, subst, ◌∙◌, if◌then◌else◌, arith}
+use Rattle.std.proofs.Common.{◌≡◌, ℕ, zero, suc, ◌+◌, ◌<◌, ◌≤◌, Bool, true, false, Option, None, Some, List, [], ◌∷◌, ◌++◌, length, take, slice_set, slice_index_or, refl, sym, ap, subst, ◌∙◌, if◌then◌else◌, arith}
 use Rattle.std.proofs.lemmas.List.{get_or-set_other, take_more, take_more_set}
 use Rattle.ds_model.specs.declared.script.Phase.{Phase}
+use Rattle.list_structure.specs.Bells.{CanRing, rung}
 use Rattle.list_structure.specs.States.{ListsState}
-use Rattle.group_crew.specs.declared.part.MemberPart.{MemberPart}
-use Rattle.group_crew.specs.Beginning.{AllRestart, RestartBegins, Restarts, begins_restart, lists_begun, restarting}
+use Rattle.group_member.specs.declared.part.MemberPart.{MemberPart}
+use Rattle.group_crew.specs.Beginning.{AllRestart, CannotBegin, CannotRing, Rang, RestartBegins, Restarts, begins_restart, lists_begun, restarting, rung_times}
 
 -- the lists are alike from a place on
 abbrev pub SameFrom : {A : Type 0} → ℕ → List A → List A → Type 0
@@ -45,3 +46,21 @@ restarts_more {P} phase l m n parts items i d new within there same all its list
     subst (λ (xs : List (MemberPart P)). AllRestart phase l xs (take (i + 1) (slice_set items i new)) n) olds
     (subst (λ (ys : List (MemberPart P)). AllRestart phase l (take i parts ++ old ∷ []) ys n) news
     (subst (λ (k : ListsState). AllRestart phase l (take i parts ++ old ∷ []) (take i items ++ new ∷ []) k) (sym lists) next))
+
+-- ---- the bells
+
+-- the restart of one more member rings them, or not
+pub rang_more : (b : Bool) (bells : List ℕ) (i id : ℕ) (l m : ListsState) → m ≡ (if b then restarting l id else l) → Rang bells i l.bells → Rang bells (i + 1) m.bells
+rang_more true bells i id l m is rang = record { rings = suc rang.rings; few = omega (arith, rang.few); are = ap (λ (n : ListsState). n.bells) is ∙ ap rung rang.are }
+rang_more false bells i id l m is rang = record { rings = rang.rings; few = omega (arith, rang.few); are = ap (λ (n : ListsState). n.bells) is ∙ rang.are }
+
+pub none_rang : (bells : List ℕ) (i : ℕ) → Rang bells i bells
+none_rang bells i = record { rings = 0; few = omega arith; are = refl }
+
+-- after so many rings they can't ring again
+pub cannot_ring : (bells : List ℕ) (i most : ℕ) (now : List ℕ) → Rang bells i now → i ≤ most → ¬ CanRing now → CannotRing bells most
+cannot_ring bells i most now rang few silent = record { rings = rang.rings; few = omega (arith, rang.few); ends = subst (λ (b : List ℕ). ¬ CanRing b) rang.are silent }
+
+pub cannot_begin : (o : Option Phase) (bells : List ℕ) (members : ℕ) → CannotRing bells members → CannotBegin o bells members
+cannot_begin None bells members cannot = tt
+cannot_begin (Some phase) bells members cannot = cannot

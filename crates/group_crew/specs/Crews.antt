@@ -1,10 +1,9 @@
 -- What a crew may do next, and what its members' events leave as it is.
-use Rattle.std.specs.Prelude.{◌≡◌, ℕ, ◌*◌, Bool, true, nat_lt, count_by, map, is_some, None}
+use Rattle.std.specs.Prelude.{◌≡◌, ℕ, ◌*◌, Bool, true, false, nat_lt, count_by, map, is_some}
 use Rattle.ds_base.specs.declared.names.Sizes.{Sizes}
 use Rattle.cache_structure.specs.Directory.{Directory}
-use Rattle.member_resources.specs.Held.{IsNew}
 use Rattle.group_crew.specs.declared.crew.Crew.{Crew}
-use Rattle.group_crew.specs.declared.part.MemberPart.{MemberPart}
+use Rattle.group_member.specs.declared.part.MemberPart.{MemberPart}
 use Rattle.group_crew.specs.Progresses.{own_choice}
 use Rattle.group_crew.specs.Ready.{is_ready}
 
@@ -21,11 +20,14 @@ is_half sizes d = nat_lt sizes.cache (2 * count_by (λ e. e.changed) d.entries)
 abbrev pub stale : {P : Type 0} → MemberPart P → MemberPart P
 stale {P} part = record part { is_stale = true }
 
--- the member holds nothing, and has no restart and no rebuild
-pub record IsDown {P : Type 0} (sizes : Sizes) (part : MemberPart P) : Type 0 where
-  pub holds : IsNew part.id sizes part.resources
-  pub rests : part.restart ≡ None
-  pub idles : part.rebuild ≡ None
+-- a member but for what is found to be ready
+abbrev pub unlooked : {P : Type 0} → MemberPart P → MemberPart P
+unlooked {P} part = record part { ready = 0; is_stale = false }
+
+-- what a look for ready choices leaves as it is
+pub record Looks {C P : Type 0} (old new : Crew C P) : Type 0 where
+  pub rest : new ≡ record old { parts = new.parts; progress = record old.progress { is_idle = new.progress.is_idle }; is_own_stale = new.is_own_stale }
+  pub parts : map unlooked new.parts.items ≡ map unlooked old.parts.items
 
 -- what no event of a member changes
 pub record Keeps {C P : Type 0} (old new : Crew C P) : Type 0 where

@@ -1,9 +1,6 @@
 pub mod Progresses
 pub mod Ready
 pub mod Phases
-pub mod Stepping
 pub mod Crews
 pub mod Beginning
-pub mod Adopting
-pub mod Queries
 pub mod Happening

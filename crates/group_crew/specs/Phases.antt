@@ -1,6 +1,6 @@
 -- What a phase says of its members.
-use Rattle.std.specs.Prelude.{ℕ, ◌-◌, ◌==◌, ◌&&◌, Bool, true, false, not, nat_le, List, [], ◌∷◌, replicate, Option, Some, None, slice_get, slice_set, if◌then◌else◌}
-use Rattle.std.specs.List.{find, list_any}
+use Rattle.std.specs.Prelude.{◌≡◌, ℕ, ◌+◌, ◌<◌, ◌==◌, ◌&&◌, Bool, true, false, not, List, [], ◌∷◌, Option, Some, None, slice_index_or, if◌then◌else◌}
+use Rattle.std.specs.List.{find, flat_map, list_any}
 use Rattle.ds_base.specs.declared.names.TranId.{TranId}
 use Rattle.ds_model.specs.declared.script.FailAt.{FailAt}
 use Rattle.ds_model.specs.declared.script.Op.{Op}
@@ -8,23 +8,9 @@ use Rattle.ds_model.specs.declared.script.Op.TheVariants as op
 use Rattle.ds_model.specs.declared.script.Tran.{Tran}
 use Rattle.ds_model.specs.declared.script.Part.{Part}
 use Rattle.ds_model.specs.declared.script.Phase.{Phase}
-use Rattle.ds_model.specs.declared.script.Script.{Script}
-use Rattle.script_fates.specs.Fated.{is_in_part}
 use Rattle.list_structure.specs.declared.standing.MemberStatus.{MemberStatus}
 use Rattle.list_structure.specs.declared.standing.MemberStatus.TheVariants as statuses
 use Rattle.list_structure.specs.Standings.{status_of}
-
--- the phase that began last
-abbrev pub phase_in_hand : Script → ℕ → Option Phase
-phase_in_hand script begun = if begun == 0 then None else slice_get script.phases (begun - 1)
-
-abbrev pub is_in_part_of : Option Phase → ℕ → ℕ → Bool
-is_in_part_of None member n = false
-is_in_part_of (Some phase) member n = is_in_part phase member n
-
--- the member has a transaction of this number in the phase that began last
-abbrev pub is_in_hand : Script → ℕ → ℕ → ℕ → Bool
-is_in_hand script begun member n = is_in_part_of (phase_in_hand script begun) member n
 
 abbrev pub is_failed : MemberStatus → Bool
 is_failed statuses.Down = false
@@ -53,34 +39,37 @@ abbrev pub fail_in : Option Part → Option FailAt
 fail_in None = None
 fail_in (Some p) = p.fail
 
--- ---- who is to raise each flag, by the flag less one
+-- ---- who is to raise each flag
 
-abbrev pub raise_noted : List (Option TranId) → ℕ → TranId → List (Option TranId)
-raise_noted raisers flag id = if nat_le 1 flag && nat_le flag 64 then slice_set raisers (flag - 1) (Some id) else raisers
+-- a raise: the flag, and the transaction that raises it
+abbrev pub raise_in : TranId → Op → List (ℕ × TranId)
+raise_in id (op.Raise flag) = (flag, id) ∷ []
+raise_in id _ = []
 
-abbrev pub op_noted : List (Option TranId) → Op → TranId → List (Option TranId)
-op_noted raisers (op.Raise flag) id = raise_noted raisers flag id
-op_noted raisers _ id = raisers
+abbrev pub raises_of_tran : ℕ → Tran → List (ℕ × TranId)
+raises_of_tran member t = flat_map (raise_in (record { member = member; number = t.number })) t.ops
 
-abbrev pub ops_noted : List (Option TranId) → List Op → TranId → List (Option TranId)
-ops_noted raisers [] id = raisers
-ops_noted raisers (o ∷ os) id = ops_noted (op_noted raisers o id) os id
+abbrev pub raises_of_part : Part → List (ℕ × TranId)
+raises_of_part p = flat_map (raises_of_tran p.member) p.trans
 
-abbrev pub tran_noted : List (Option TranId) → ℕ → Tran → List (Option TranId)
-tran_noted raisers member t = ops_noted raisers t.ops (record { member = member; number = t.number })
+-- a member that is left out raises none
+abbrev pub raises_counted : Phase → List MemberStatus → Part → List (ℕ × TranId)
+raises_counted phase statuses p = if is_left_out phase statuses p.member then [] else raises_of_part p
 
-abbrev pub trans_noted : List (Option TranId) → ℕ → List Tran → List (Option TranId)
-trans_noted raisers member [] = raisers
-trans_noted raisers member (t ∷ ts) = trans_noted (tran_noted raisers member t) member ts
+-- in the order of the script
+abbrev pub raises_in : Phase → List MemberStatus → List (ℕ × TranId)
+raises_in phase statuses = flat_map (raises_counted phase statuses) phase.parts
 
-abbrev pub part_noted : List (Option TranId) → Bool → Part → List (Option TranId)
-part_noted raisers true p = raisers
-part_noted raisers false p = trans_noted raisers p.member p.trans
+-- the later one, if there is one
+abbrev pub later_of : Option TranId → Option TranId → Option TranId
+later_of earlier None = earlier
+later_of earlier (Some id) = Some id
 
--- the last raise in the order of the script counts; members that are left out raise none
-abbrev pub parts_noted : List (Option TranId) → Phase → List MemberStatus → List Part → List (Option TranId)
-parts_noted raisers phase statuses [] = raisers
-parts_noted raisers phase statuses (p ∷ ps) = parts_noted (part_noted raisers (is_left_out phase statuses p.member) p) phase statuses ps
+-- who raises the flag last
+abbrev pub last_raiser : ℕ → List (ℕ × TranId) → Option TranId
+last_raiser flag [] = None
+last_raiser flag (r ∷ rs) = later_of (if r.0 == flag then Some r.1 else None) (last_raiser flag rs)
 
-abbrev pub raisers_of : Phase → List MemberStatus → List (Option TranId)
-raisers_of phase statuses = parts_noted (replicate 64 None) phase statuses phase.parts
+-- by flag less one: who raises it last in these, or who was to raise it before
+abbrev pub Noted : List (ℕ × TranId) → List (Option TranId) → List (Option TranId) → Type 0
+Noted raises old new = (k : ℕ) → k < 64 → slice_index_or new k None ≡ later_of (slice_index_or old k None) (last_raiser (k + 1) raises)

@@ -1,9 +1,6 @@
 -- Which events are ready.
-use Rattle.std.specs.Prelude.{ℕ, zero, suc, ◌/◌, ◌%◌, ◌^◌, ◌==◌, ◌&&◌, Bool, false, not, nat_lt, List, Option, Some, None, slice_get}
-
--- the bit of a choice of a member, 0 to 22
-abbrev pub has_choice : ℕ → ℕ → Bool
-has_choice ready choice = nat_lt choice 23 && ((ready / 2 ^ choice) % 2 == 1)
+use Rattle.std.specs.Prelude.{ℕ, zero, suc, ◌/◌, ◌%◌, ◌==◌, ◌&&◌, Bool, false, not, List, Option, Some, None, slice_get}
+use Rattle.group_member.specs.Choices.{has_choice}
 
 abbrev pub ready_at : Option ℕ → ℕ → Bool
 ready_at None choice = false

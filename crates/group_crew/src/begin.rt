@@ -1,16 +1,16 @@
 //! The begin of a phase.
 
 ghost use Rattle.std.specs.Prelude.{◌≡◌, ◌+◌, true, false, length, map, slice_get, Ok, IfOk, IfSome};
+ghost use Rattle.list_structure.specs.Bells.{CanRing};
 ghost use Rattle.script_fates.specs.Fated.{StopsOnly, is_in_phase};
-ghost use Rattle.group_crew.specs.Beginning.{AllRestart, RestartBegins, begins_restart, kept_by};
+ghost use Rattle.group_crew.specs.Beginning.{AllRestart, CannotBegin, CannotRing, Rang, RestartBegins, begins_restart, kept_by};
 
 use crate::crew::Crew;
-use crate::part::MemberPart;
 use crate::phase::{is_failed, is_left_out, part_of, raisers_of, restarts_in};
-use crate::restarting::Restarting;
 use cache_structure::CacheFace;
 use ds_base::{NoMemory, TranId};
 use ds_model::Phase;
+use group_member::{MemberPart, Restarting};
 use list_structure::{Lists, MemberStatus};
 use member_resources::Policy;
 use script_fates::Fates;
@@ -36,6 +36,7 @@ fn begin_restart<P>(
 ) -> Result<bool, NoMemory>
     ensures same { begins_restart phase.now lists.old.statuses part.old.id ≡ false → (part.new ≡ part.old) × (lists.new ≡ lists.old) × (result ≡ Ok true) }
     ensures begun { begins_restart phase.now lists.old.statuses part.old.id ≡ true → IfOk result (λ begun. begun ≡ true → RestartBegins part.old lists.old part.new lists.new) }
+    ensures refused { result ≡ Ok false → ¬ CanRing lists.old.bells }
     ensures rest { part.new ≡ record part.old { restart = part.new.restart } }
 {
     if !is_failed(lists.status(part.id)) || !restarts_in(phase, part.id) {
@@ -58,6 +59,8 @@ fn begin_restarts<P>(
 ) -> Result<bool, NoMemory>
     ensures kept { map kept_by parts.new ≡ map kept_by parts.old }
     ensures each { IfOk result (λ begun. begun ≡ true → AllRestart phase.now lists.old parts.old parts.new lists.new) }
+    ensures rang { IfOk result (λ begun. begun ≡ true → Rang lists.old.bells (length parts.old) lists.new.bells) }
+    ensures refused { result ≡ Ok false → CannotRing lists.old.bells (length parts.old) }
 {
     for part in parts {
         if !begin_restart(alloc, part, lists, phase)? {
@@ -88,6 +91,7 @@ impl<C: CacheFace, P: Policy> Crew<C, P> {
     /// stopped. Answers whether there is such a phase, and the bells could ring.
     pub fn begin_phase(&mut self, alloc: Global) -> Result<bool, NoMemory>
         ensures begun { IfOk result (λ begun. begun ≡ true → self.new.progress ≡ record { begun = self.old.progress.begun + 1; groupfails = 0; is_idle = false }) }
+        ensures refused { result ≡ Ok false → CannotBegin (slice_get self.old.script.phases self.old.progress.begun) self.old.facility.lists.bells (length self.old.parts.items) }
         ensures stopped { IfSome (slice_get self.old.script.phases self.old.progress.begun) (λ phase. StopsOnly (is_in_phase phase) self.old.fates self.new.fates) }
         ensures members { map kept_by self.new.parts.items ≡ map kept_by self.old.parts.items }
         ensures others { self.new ≡ record self.old { facility = self.new.facility; parts = self.new.parts; progress = self.new.progress; fates = self.new.fates; is_own_stale = self.new.is_own_stale; was_half = self.new.was_half } }

@@ -1,16 +1,15 @@
-ghost use Rattle.std.specs.Prelude.{◌≡◌, None, true, false, is_some, map, slice_get};
+ghost use Rattle.std.specs.Prelude.{◌≡◌, ℕ, None, true, false, is_some, map, slice_get};
 ghost use Rattle.group_crew.specs.Progresses.{is_at_end, own_choice};
 ghost use Rattle.group_crew.specs.Ready.{is_own, ready_at};
-ghost use Rattle.group_crew.specs.Crews.{is_half, is_ready_in, stale};
+ghost use Rattle.group_crew.specs.Crews.{Looks, is_half, is_ready_in, stale, unlooked};
+ghost use Rattle.group_crew.specs.Happening.{member_at};
 
-use crate::part::MemberPart;
 use crate::progress::{GROUP_RESTART, Progress};
-use crate::ready::has_choice;
-use crate::sizes::GroupSizes;
 use cache_structure::CacheFace;
 use ds_base::Volume;
 use ds_model::Script;
 use facility::Facility;
+use group_member::{GroupSizes, MemberPart, has_choice};
 use group_restart::GroupRestart;
 use member_intents::Look;
 use member_resources::Policy;
@@ -65,17 +64,26 @@ fn look_for<C: CacheFace, P>(facility: &Facility<C>, is_half: bool, part: &Membe
     }
 }
 
+// Finds again which choices of the member are ready, where that may have changed.
+fn find_in<C: CacheFace, P: Policy>(facility: &Facility<C>, is_half: bool, part: &mut MemberPart<P>)
+    ensures { unlooked part.new ≡ unlooked part.old }
+{
+    if part.is_stale {
+        let look = look_for(facility, is_half, part);
+        part.find_ready(&look, facility.live(part.id));
+    }
+}
+
 // Finds again which choices of members are ready, of those alone for which that may have changed.
 fn find_in_all<C: CacheFace, P: Policy>(
     facility: &Facility<C>,
     is_half: bool,
     parts: &mut [MemberPart<P>],
-) {
+)
+    ensures { map unlooked parts.new ≡ map unlooked parts.old }
+{
     for part in parts {
-        if part.is_stale {
-            let look = look_for(facility, is_half, part);
-            part.find_ready(&look, facility.live(part.id));
-        }
+        find_in(facility, is_half, part);
     }
 }
 
@@ -150,6 +158,7 @@ impl<C: CacheFace, P> Crew<C, P> {
     pub fn make_all_stale(&mut self)
         ensures rest { self.new ≡ record self.old { parts = self.new.parts; is_own_stale = true; was_half = self.new.was_half } }
         ensures parts { self.new.parts.items ≡ map stale self.old.parts.items }
+        ensures members { (k : ℕ) → member_at self.new.parts.items k ≡ member_at self.old.parts.items k }
         ensures half { self.new.was_half ≡ is_half self.old.sizes.sizes (C.directory self.old.facility.cache) }
     {
         self.was_half = self.is_half();
@@ -171,7 +180,7 @@ impl<C: CacheFace, P> Crew<C, P> {
 impl<C: CacheFace, P: Policy> Crew<C, P> {
     /// Finds again which choices are ready, where that may have changed. While a group restart is in hand no member has any.
     pub fn find_ready(&mut self)
-        ensures { self.new ≡ record self.old { parts = self.new.parts; progress = record self.old.progress { is_idle = self.new.progress.is_idle }; is_own_stale = self.new.is_own_stale } }
+        ensures { Looks self.old self.new }
     {
         if self.restart.is_some() {
             return;

@@ -1,21 +1,16 @@
-//! The failure of a member, that of the whole group, and the group restart that follows it.
+//! The failure of the whole group, and the group restart that follows it.
 
-ghost use Rattle.std.specs.Prelude.{◌≡◌, ◌≢◌, ◌≤◌, ℕ, All, None, IfOk, OnOk, IfSome, is_some, true, map, slice_get};
+ghost use Rattle.std.specs.Prelude.{◌≡◌, ◌≤◌, All, None, IfOk, OnOk, is_some, true};
 ghost use Rattle.ds_base.specs.Causes.{Rose};
-ghost use Rattle.list_structure.specs.Bells.{CanRing};
-ghost use Rattle.facility.specs.States.{held, IsReset, MemberFailed};
+ghost use Rattle.facility.specs.States.{held, IsReset};
 ghost use Rattle.group_restart.specs.declared.calls.State.TheVariants as state;
-ghost use Rattle.script_fates.specs.Fated.{StopsOnly};
-ghost use Rattle.group_crew.specs.Crews.{IsDown, stale};
-ghost use Rattle.group_crew.specs.Phases.{is_in_hand};
+ghost use Rattle.group_member.specs.Members.{IsDown, member_of};
 
 use crate::crew::Crew;
-use crate::fault::EventFault;
-use crate::part::MemberPart;
-use crate::sizes::GroupSizes;
 use cache_structure::CacheFace;
-use ds_base::{Lrsn, MemberId, NoMemory};
+use ds_base::{Lrsn, NoMemory};
 use ds_disk::Disk;
+use group_member::{GroupSizes, MemberPart};
 use group_restart::{Call, GroupRestart, State};
 use member_resources::Policy;
 use std::alloc::Global;
@@ -32,7 +27,7 @@ fn reset_all<P: Policy>(
     parts: &mut [MemberPart<P>],
     sizes: &GroupSizes,
 ) -> Result<(), NoMemory>
-    ensures { OnOk result (All (IsDown sizes.now.sizes) parts.new) }
+    ensures { OnOk result (All (λ part. IsDown sizes.now.sizes (member_of part)) parts.new) }
 {
     for part in parts {
         part.reset(alloc, sizes)?;
@@ -54,72 +49,7 @@ pub fn step_restart<D: Disk>(
     Ok((call, state))
 }
 
-// What the member at a place had is gone, if there is one.
-fn fail_at<P: Policy>(
-    alloc: Global,
-    parts: &mut [MemberPart<P>],
-    at: usize,
-    sizes: &GroupSizes,
-) -> Result<(), NoMemory>
-    ensures member { OnOk result (IfSome (slice_get parts.new at) (IsDown sizes.now.sizes)) }
-    ensures others { (k : ℕ) → k ≢ at → slice_get parts.new k ≡ slice_get parts.old k }
-{
-    if at < parts.len() {
-        parts[at].fail(alloc, sizes)?;
-    }
-    Ok(())
-}
-
 impl<C: CacheFace, P: Policy> Crew<C, P> {
-    // Stops the member's transactions of the phase in hand, where they have no fate.
-    fn stop_member(&mut self, member: MemberId)
-        ensures fates { StopsOnly (is_in_hand self.old.script self.old.progress.begun member) self.old.fates self.new.fates }
-        ensures others { self.new ≡ record self.old { fates = self.new.fates } }
-    {
-        let Some(at) = self.progress.begun.checked_sub(1) else {
-            return;
-        };
-        if let Some(phase) = self.script.phases.as_slice().get(at) {
-            self.fates.stop_member(phase, member);
-        }
-    }
-
-    // The member at a place fails, whose number this is. The bells can ring.
-    fn fail_part(&mut self, alloc: Global, at: usize, member: MemberId) -> Result<(), NoMemory>
-        requires { CanRing self.old.facility.lists.bells }
-        ensures facility { MemberFailed (held C.directory self.old.facility) member (held C.directory self.new.facility) }
-        ensures member { OnOk result (IfSome (slice_get self.new.parts.items at) (IsDown self.old.sizes.sizes)) }
-        ensures others { (k : ℕ) → k ≢ at → slice_get self.new.parts.items k ≡ slice_get self.old.parts.items k }
-        ensures fates { OnOk result (StopsOnly (is_in_hand self.old.script self.old.progress.begun member) self.old.fates self.new.fates) }
-        ensures rest { self.new ≡ record self.old { facility = self.new.facility; parts = self.new.parts; fates = self.new.fates } }
-    {
-        self.facility.fail(member);
-        fail_at(alloc, &mut self.parts, at, &self.sizes)?;
-        self.stop_member(member);
-        Ok(())
-    }
-
-    /// The member at a place fails: what it had is gone, its transactions without a fate are stopped, and its locks under which
-    /// it changed something are retained.
-    pub fn fail_member(&mut self, alloc: Global, at: usize) -> Result<(), EventFault>
-        ensures facility { OnOk result (IfSome (slice_get self.old.parts.items at) (λ part. MemberFailed (held C.directory self.old.facility) part.id (held C.directory self.new.facility))) }
-        ensures member { OnOk result (IfSome (slice_get self.new.parts.items at) (IsDown self.old.sizes.sizes)) }
-        ensures others { (k : ℕ) → k ≢ at → OnOk result (slice_get self.new.parts.items k ≡ slice_get (map stale self.old.parts.items) k) }
-        ensures fates { OnOk result (IfSome (slice_get self.old.parts.items at) (λ part. StopsOnly (is_in_hand self.old.script self.old.progress.begun part.id) self.old.fates self.new.fates)) }
-        ensures rest { self.new ≡ record self.old { facility = self.new.facility; parts = self.new.parts; fates = self.new.fates; is_own_stale = self.new.is_own_stale; was_half = self.new.was_half } }
-    {
-        let Some(part) = self.parts.get(at) else {
-            return Err(EventFault::Unlawful);
-        };
-        if !self.facility.lists.can_ring() {
-            return Err(EventFault::Unlawful);
-        }
-        let member = part.id;
-        self.fail_part(alloc, at, member)?;
-        self.make_all_stale();
-        Ok(())
-    }
-
     // Stops the transactions of the last phase that has begun, where they have no fate.
     fn stop_phase(&mut self)
         ensures { self.new ≡ record self.old { fates = self.new.fates } }
@@ -148,7 +78,7 @@ impl<C: CacheFace, P: Policy> Crew<C, P> {
     /// The group restart is done, with this counter. All begin anew.
     pub fn reset(&mut self, alloc: Global, counter: Lrsn) -> Result<(), NoMemory>
         ensures facility { IsReset (held C.directory self.old.facility) counter (held C.directory self.new.facility) }
-        ensures members { OnOk result (All (IsDown self.old.sizes.sizes) self.new.parts.items) }
+        ensures members { OnOk result (All (λ part. IsDown self.old.sizes.sizes (member_of part)) self.new.parts.items) }
         ensures restart { self.new.restart ≡ None }
         ensures others { self.new ≡ record self.old { facility = self.new.facility; parts = self.new.parts; restart = self.new.restart; is_own_stale = true; was_half = self.new.was_half } }
     {

@@ -1,14 +1,13 @@
-ghost use Rattle.std.specs.Prelude.{◌≡◌, ◌≤◌, IfOk};
+ghost use Rattle.std.specs.Prelude.{◌≡◌, ◌≤◌, None, IfOk};
 ghost use Rattle.cache_structure.specs.Directory.{empty_directory};
 
 use crate::crew::Crew;
-use crate::part::MemberPart;
 use crate::progress::Progress;
-use crate::sizes::GroupSizes;
 use cache_structure::CacheFace;
 use ds_base::{Lrsn, MemberId, NoMemory, Sizes};
 use ds_model::Script;
 use facility::Facility;
+use group_member::{GroupSizes, MemberPart};
 use member_resources::{Policy, Resources};
 use script_fates::Fates;
 use std::alloc::Global;
@@ -53,6 +52,9 @@ impl<C: CacheFace + Drop, P: Policy + Drop> Crew<C, P> {
         requires sizes { (1 ≤ sizes.now.locks) × (1 ≤ sizes.now.pool) }
         requires cache { C.directory cache ≡ empty_directory sizes.now.cache sizes.now.pool }
         ensures counter { IfOk result (λ crew. crew.facility.counter ≡ counter) }
+        ensures script { IfOk result (λ crew. crew.script ≡ script) }
+        ensures unplayed { IfOk result (λ crew. (crew.progress.begun ≡ 0) × (crew.progress.groupfails ≡ 0)) }
+        ensures unfailed { IfOk result (λ crew. crew.restart ≡ None) }
     {
         let mut crew = Crew {
             facility: Facility::new(alloc, sizes, cache, counter)?,

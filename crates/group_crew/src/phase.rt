@@ -1,7 +1,7 @@
 //! What a phase gives to the members.
 
-ghost use Rattle.std.specs.Prelude.{◌≡◌, None, Some, IfOk, MatchOption};
-ghost use Rattle.group_crew.specs.Phases.{fail_in, is_failed, is_left_out, op_noted, part_in, raisers_of, restarts_in, tran_noted, trans_in, trans_noted};
+ghost use Rattle.std.specs.Prelude.{◌≡◌, ◌+◌, ◌<◌, ℕ, None, Some, IfOk, MatchOption, slice_index_or};
+ghost use Rattle.group_crew.specs.Phases.{Noted, fail_in, is_failed, is_left_out, last_raiser, part_in, raise_in, raises_counted, raises_in, raises_of_part, raises_of_tran, restarts_in, trans_in};
 
 use ds_base::{MemberId, NoMemory, TranId};
 use ds_model::{FailAt, Op, Part, Phase, Tran, TranList};
@@ -16,7 +16,7 @@ const FLAGS: usize = 64;
 pub type Raisers = [Option<TranId>; FLAGS];
 
 fn note_raise(raisers: &mut Raisers, op: &Op, id: TranId)
-    ensures { raisers.new ≡ op_noted raisers.old op.now id }
+    ensures { Noted (raise_in id op.now) raisers.old raisers.new }
 {
     if let Op::Raise { flag } = *op {
         if 1 <= flag && flag <= 64 {
@@ -26,7 +26,7 @@ fn note_raise(raisers: &mut Raisers, op: &Op, id: TranId)
 }
 
 fn note_tran(raisers: &mut Raisers, member: MemberId, tran: &Tran)
-    ensures { raisers.new ≡ tran_noted raisers.old member tran.now }
+    ensures { Noted (raises_of_tran member tran.now) raisers.old raisers.new }
 {
     let number = tran.number;
     for op in tran.ops.as_slice() {
@@ -35,10 +35,19 @@ fn note_tran(raisers: &mut Raisers, member: MemberId, tran: &Tran)
 }
 
 fn note_part(raisers: &mut Raisers, part: &Part)
-    ensures { raisers.new ≡ trans_noted raisers.old part.now.member part.now.trans }
+    ensures { Noted (raises_of_part part.now) raisers.old raisers.new }
 {
     for tran in part.trans.as_slice() {
         note_tran(raisers, part.member, tran);
+    }
+}
+
+// Notes the raises of a part, unless its member is left out.
+fn note_counted(raisers: &mut Raisers, phase: &Phase, lists: &Lists, part: &Part)
+    ensures { Noted (raises_counted phase.now lists.now.statuses part.now) raisers.old raisers.new }
+{
+    if !is_left_out(phase, lists, part.member) {
+        note_part(raisers, part);
     }
 }
 
@@ -68,13 +77,11 @@ pub fn is_left_out(phase: &Phase, lists: &Lists, member: MemberId) -> bool
 
 /// For each flag who is to raise it in this phase. A transaction of a member that is left out raises none.
 pub fn raisers_of(phase: &Phase, lists: &Lists) -> Raisers
-    ensures { result ≡ raisers_of phase.now lists.now.statuses }
+    ensures { (k : ℕ) → k < 64 → slice_index_or result k None ≡ last_raiser (k + 1) (raises_in phase.now lists.now.statuses) }
 {
     let mut raisers = [None; FLAGS];
     for part in phase.parts.as_slice() {
-        if !is_left_out(phase, lists, part.member) {
-            note_part(&mut raisers, part);
-        }
+        note_counted(&mut raisers, phase, lists, part);
     }
     raisers
 }

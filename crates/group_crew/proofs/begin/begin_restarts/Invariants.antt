@@ -1,5 +1,5 @@
 use Rattle.std.proofs.Common.{◌≡◌, map, take}
-use Rattle.group_crew.specs.Beginning.{AllRestart, kept_by}
+use Rattle.group_crew.specs.Beginning.{AllRestart, Rang, kept_by}
 use Rattle.group_crew.proofs.Restarts.{SameFrom}
 use Rattle.group_crew.proofs.begin.begin_restarts.Given as goal
 
@@ -8,3 +8,4 @@ invariant-loop-part g l =
     (map kept_by l.part-items ≡ map kept_by l.fn.parts)
     × SameFrom l.part-index l.part-items l.fn.parts
     × AllRestart l.phase l.fn.lists (take l.part-index l.fn.parts) (take l.part-index l.part-items) l.lists
+    × Rang l.fn.lists.bells l.part-index l.lists.bells

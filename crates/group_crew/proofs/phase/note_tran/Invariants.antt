@@ -1,6 +1,7 @@
-use Rattle.std.proofs.Common.{◌≡◌, drop}
-use Rattle.group_crew.specs.Phases.{ops_noted, tran_noted}
+use Rattle.std.proofs.Common.{take}
+use Rattle.std.specs.List.{flat_map}
+use Rattle.group_crew.specs.Phases.{Noted, raise_in}
 use Rattle.group_crew.proofs.phase.note_tran.Given as goal
 
 abbrev pub invariant-loop-op : goal.invariant-loop-op
-invariant-loop-op l = ops_noted l.raisers (drop l.op-index l.tran.ops) (record { member = l.member; number = l.tran.number }) ≡ tran_noted l.fn.raisers l.member l.tran
+invariant-loop-op l = Noted (flat_map (raise_in (record { member = l.member; number = l.tran.number })) (take l.op-index l.tran.ops)) l.fn.raisers l.raisers

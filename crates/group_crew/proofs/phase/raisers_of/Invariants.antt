@@ -1,6 +1,7 @@
-use Rattle.std.proofs.Common.{◌≡◌, drop}
-use Rattle.group_crew.specs.Phases.{parts_noted, raisers_of}
+use Rattle.std.proofs.Common.{take}
+use Rattle.std.specs.List.{flat_map}
+use Rattle.group_crew.specs.Phases.{Noted, raises_counted}
 use Rattle.group_crew.proofs.phase.raisers_of.Given as goal
 
 abbrev pub invariant-loop-part : goal.invariant-loop-part
-invariant-loop-part l = parts_noted l.raisers l.phase l.lists.statuses (drop l.part-index l.phase.parts) ≡ raisers_of l.phase l.lists.statuses
+invariant-loop-part l = Noted (flat_map (raises_counted l.phase l.lists.statuses) (take l.part-index l.phase.parts)) l.initial.raisers l.raisers

@@ -1,27 +1,10 @@
-use Rattle.std.proofs.Common.{◌≡◌, ℕ, ◌∙◌, List, length, map, take, drop, ◌++◌, sym, ap, arith}
-use Rattle.std.proofs.lemmas.List.{append-nil, drop_all, take_all, length-map}
-use Rattle.group_crew.specs.Beginning.{kept_by}
-use Rattle.group_crew.proofs.Parts.{kept_stale}
+use Rattle.std.proofs.Common.{◌≡◌, ℕ, false, List, ◌∙◌, length, map, slice_get, sym, ap, subst, arith}
+use Rattle.std.proofs.lemmas.Bool.{iff_false}
+use Rattle.list_structure.specs.Bells.{CanRing}
+use Rattle.group_crew.specs.Beginning.{CannotRing, kept_by}
+use Rattle.group_crew.proofs.Parts.{both, kept_stale}
+use Rattle.group_crew.proofs.Restarts.{cannot_begin, cannot_ring}
 use Rattle.group_crew.proofs.crew.Crew.begin_phase.Goals as goal
-
-same_length : {A B : Type 0} (f : A → B) (xs ys : List A) → map f xs ≡ map f ys → length xs ≡ length ys
-same_length f xs ys same = simp length-map at (ap length same)
-
--- a list that is written back whole
-whole : {A : Type 0} (n : ℕ) (xs ys : List A) → length xs ≡ n → length ys ≡ n → take n (ys ++ drop (length ys) xs) ≡ ys
-whole n xs ys long also = rw (drop_all (length ys) xs (omega arith), append-nil ys) (take_all n ys (omega arith))
-
--- twice, where f can't tell what is written
-both : {A B : Type 0} (f : A → B) (n : ℕ) (xs ys zs : List A)
-    → length xs ≡ n → map f ys ≡ map f xs → map f zs ≡ map f (take n (ys ++ drop (length ys) xs))
-    → map f (take n (zs ++ drop (length zs) (take n (ys ++ drop (length ys) xs)))) ≡ map f xs
-both f n xs ys zs long first second =
-    let ys_long : length ys ≡ n = same_length f ys xs first ∙ long in
-    let mid : take n (ys ++ drop (length ys) xs) ≡ ys = whole n xs ys long ys_long in
-    let zs_same : map f zs ≡ map f ys = second ∙ ap (map f) mid in
-    let zs_long : length zs ≡ n = same_length f zs ys zs_same ∙ ys_long in
-    let mid_long : length (take n (ys ++ drop (length ys) xs)) ≡ n = ap length mid ∙ ys_long in
-    ap (map f) (whole n (take n (ys ++ drop (length ys) xs)) zs mid_long zs_long) ∙ (zs_same ∙ first)
 
 pub returns-clause-members : goal.returns-clause-members
 returns-clause-members g c =
@@ -30,3 +13,18 @@ returns-clause-members g c =
     ∙ both (kept_by {P = g.row.P.Denot}) c.args.self.now.parts.len c.args.self.now.parts.items c.begin_restarts.new.parts c.begin_in_all.new.parts
     (sym c.args.self.now.parts.ok.0) (c.begin_restarts.ensures.kept ∙ ap (map (kept_by {P = g.row.P.Denot})) c.deref_mut.ensures.value)
     (c.begin_in_all.ensures ∙ ap (map (kept_by {P = g.row.P.Denot})) c.deref_mut-2.ensures.value))
+
+pub returns-then-not-branch-clause-refused : goal.returns-then-not-branch-clause-refused
+returns-then-not-branch-clause-refused g c = λ is.
+    let bells : List ℕ = c.args.self.now.facility.lists.bells in
+    cannot_begin (slice_get c.args.self.now.script.phases c.args.self.now.progress.begun) bells (length c.args.self.now.parts.items)
+    (subst (λ (n : ℕ). CannotRing bells n) (ap length c.deref_mut.ensures.value) (c.in_ok-begin_restarts.ensures.refused cc))
+
+pub returns-then-not-can_ring-clause-refused : goal.returns-then-not-can_ring-clause-refused
+returns-then-not-can_ring-clause-refused g c = λ is.
+    let bells : List ℕ = c.args.self.now.facility.lists.bells in
+    let off : c.can_ring.result ≡ false = cc in
+    let silent : ¬ CanRing c.begin_restarts.new.lists.bells = iff_false {b = c.can_ring.result} {P = CanRing c.begin_restarts.new.lists.bells} c.can_ring.ensures off in
+    cannot_begin (slice_get c.args.self.now.script.phases c.args.self.now.progress.begun) bells (length c.args.self.now.parts.items)
+    (subst (λ (n : ℕ). CannotRing bells n) (ap length c.deref_mut.ensures.value)
+    (cannot_ring bells (length c.deref_mut.result.now) (length c.deref_mut.result.now) c.begin_restarts.new.lists.bells (c.in_ok-begin_restarts.ensures.rang c.if-not-branch.false) (omega arith) silent))

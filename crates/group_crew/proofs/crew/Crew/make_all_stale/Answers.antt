@@ -1,0 +1,15 @@
+use Rattle.std.proofs.Common.{◌≡◌, ℕ, ◌∙◌, List, length, map, sym, ap, arith}
+use Rattle.group_member.specs.declared.part.MemberPart.{MemberPart}
+use Rattle.group_crew.specs.Crews.{stale}
+use Rattle.group_crew.specs.Happening.{member_at}
+use Rattle.group_crew.proofs.Parts.{at_all_stale, same_stale, whole}
+use Rattle.group_crew.proofs.crew.Crew.make_all_stale.Goals as goal
+
+pub returns-clause-members : goal.returns-clause-members
+returns-clause-members g c = λ k.
+    let items : List (MemberPart g.row.P.Denot) = c.args.self.now.parts.items in
+    let news : List (MemberPart g.row.P.Denot) = c.make_stale.new.parts in
+    let n : ℕ = c.args.self.now.parts.len in
+    let long : length items ≡ n = sym c.args.self.now.parts.ok.0 in
+    let are : news ≡ map stale items = c.make_stale.ensures ∙ ap (map (stale {P = g.row.P.Denot})) c.deref_mut.ensures.value in
+    ap (λ (its : List (MemberPart g.row.P.Denot)). member_at its k) (whole n items news long (same_stale news items are ∙ long)) ∙ at_all_stale items news k are

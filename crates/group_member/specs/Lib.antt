@@ -1,0 +1,11 @@
+pub mod Faults
+pub mod Choices
+pub mod Stepping
+pub mod Queries
+pub mod Adopting
+pub mod Members
+pub mod Entering
+pub mod Failing
+pub mod Happening
+pub mod Restarting
+pub mod Refusing

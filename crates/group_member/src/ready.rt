@@ -1,0 +1,109 @@
+//! Which choices are ready.
+
+ghost use Rattle.std.specs.Prelude.{◌≡◌, ◌<◌, ◌≤◌, ◌-◌, ◌^◌, length, slice_get, IfSome};
+ghost use Rattle.group_member.specs.Choices.{choices_of, has_choice};
+
+use crate::rebuilding::Rebuilding;
+use crate::restarting::Restarting;
+use member_intents::Look;
+use member_resources::Policy;
+
+/// How many choices a member has.
+pub const CHOICES: u64 = 23;
+
+/// The member's own duty: to restart, and to be done with the phase.
+pub const DUTY: u64 = 0;
+
+/// The rebuild of the lost cache.
+pub const REBUILD: u64 = 20;
+
+/// A bit for each choice of a member.
+pub fn all_choices() -> u32
+    ensures { result ≡ 2 ^ 23 - 1 }
+{
+    (1 << CHOICES) - 1
+}
+
+// Whether the member's duty is ready. A member that restarts has that for its duty.
+fn is_duty_ready<P: Policy>(policy: &P, restart: &Option<Restarting>, look: &Look) -> bool {
+    match restart {
+        Some(restart) => restart.is_ready(look.bell),
+        None => policy.is_ready(DUTY, look),
+    }
+}
+
+// Whether a rebuild may go on, or begin.
+fn is_rebuild_ready(rebuild: &Option<Rebuilding>, look: &Look) -> bool {
+    match rebuild {
+        Some(rebuild) => rebuild.is_ready(look.bell),
+        None => look.is_lost,
+    }
+}
+
+fn is_ready<P: Policy>(
+    policy: &P,
+    restart: &Option<Restarting>,
+    rebuild: &Option<Rebuilding>,
+    choice: u64,
+    look: &Look,
+) -> bool {
+    match choice {
+        DUTY => is_duty_ready(policy, restart, look),
+        REBUILD => is_rebuild_ready(rebuild, look),
+        _ => policy.is_ready(choice, look),
+    }
+}
+
+/// A bit for each choice of a member that is ready.
+pub fn ready_choices<P: Policy>(
+    policy: &P,
+    restart: &Option<Restarting>,
+    rebuild: &Option<Rebuilding>,
+    look: &Look,
+) -> u32 {
+    let mut ready = 0u32;
+    for choice in 0..CHOICES {
+        if is_ready(policy, restart, rebuild, choice, look) {
+            ready |= 1 << choice;
+        }
+    }
+    ready
+}
+
+/// Whether the bit of the choice is set.
+pub fn has_choice(ready: u32, choice: u64) -> bool
+    ensures { result ≡ has_choice ready choice }
+{
+    choice < CHOICES && (ready >> choice) % 2 == 1
+}
+
+/// How many choices of a member are ready.
+pub fn count_choices(ready: u32) -> u64
+    ensures number { result ≡ length (choices_of ready) }
+    ensures few { result ≤ 23 }
+{
+    let mut count = 0;
+    for choice in 0..CHOICES {
+        if has_choice(ready, choice) {
+            count += 1;
+        }
+    }
+    count
+}
+
+/// The ready choice before which so many others are ready.
+pub fn nth_choice(ready: u32, n: u32) -> Option<u64>
+    ensures nth { result ≡ slice_get (choices_of ready) n }
+    ensures below { IfSome result (λ choice. choice < 23) }
+{
+    let mut left = n;
+    for choice in 0..CHOICES {
+        if has_choice(ready, choice) {
+            if left == 0 {
+                return Some(choice);
+            }
+            left -= 1;
+        }
+    }
+    None
+}
