@@ -1,38 +1,41 @@
 -- How the disk has gone on from one step of a run to the next.
-use Rattle.std.proofs.Common.{◌≡◌, ◌⊎◌, inl, inr, ℕ, ◌≤◌, Bool, true, false, ◌||◌, Option, refl, arith}
+use Rattle.std.proofs.Common.{◌≡◌, ◌≢◌, ◌⊎◌, inl, inr, ℕ, ◌≤◌, Bool, true, false, List, [], ◌∷◌, ◌++◌, Option, Some, None, refl, sym, ◌∙◌, arith}
 use Rattle.ds_base.specs.Causes.{Rose}
 use Rattle.group_core.specs.declared.fault.RunFault.{RunFault}
-use Rattle.group_core.specs.Goes.{IsFailed, Goes}
+use Rattle.group_core.specs.declared.fault.RunFault.TheVariants as fault
+use Rattle.group_core.specs.Goes.{Goes, HasFailed, IsFailed, noted}
 
-pub stays : (n : ℕ) (failed : Bool) (why : Option RunFault) → Goes n failed why n failed why
-unfolding Goes
-stays n failed why = (omega arith, λ e. inl e)
+pub stays : (n : ℕ) (faults : List ℕ) (why : Option RunFault) → Goes n faults why n faults why
+stays n faults why = record { later = omega arith; kept = λ has. has; rose = λ has. inl has; ended = λ is. inl is }
 
--- no call of a member was made, and one of a group restart has failed only where the count rose
-pub ends : (n k : ℕ) (failed : Bool) (why why_now : Option RunFault) → n ≤ k → (IsFailed why_now → IsFailed why ⊎ Rose n k) → Goes n failed why k failed why_now
-unfolding Goes
-ends n k failed why why_now le rose = (
-  le,
-  λ e. elim e [
-    | inl was ↦ inl (inl was)
-    | inr now ↦ elim (rose now) [ inl was ↦ inl (inr was) | inr up ↦ inr up ]
-  ],
-)
+-- memory was wanting
+pub wants : (n k : ℕ) (faults : List ℕ) (why why_now : Option RunFault) → n ≤ k → why_now ≡ Some fault.NoMemory → Goes n faults why k faults why_now
+wants n k faults why why_now le is = record {
+  later = le;
+  kept = λ has. has;
+  rose = λ has. inl has;
+  ended = λ failed. let never : Some fault.NoMemory ≡ Some fault.Failed = sym is ∙ failed in cc;
+}
 
-with_call : (failed called : Bool) → (failed || called) ≡ true → (failed ≡ true) ⊎ (called ≡ true)
-with_call true called e = inl refl
-with_call false called e = inr e
+more : (faults : List ℕ) (place : ℕ) → faults ++ place ∷ [] ≢ []
+more [] place e = cc
+more (first ∷ faults) place e = cc
 
--- a call of a member may have failed, and then the count rose
-pub enters : (n k : ℕ) (failed called : Bool) (why why_now : Option RunFault) → n ≤ k → (called ≡ true → Rose n k) → (IsFailed why_now → ⊥) → Goes n failed why k (failed || called) why_now
-unfolding Goes
-enters n k failed called why why_now le rose not_failed = (
-  le,
-  λ e. elim e [
-    | inl now ↦ elim (with_call failed called now) [ inl was ↦ inl (inl was) | inr did ↦ inr (rose did) ]
-    | inr ended ↦ absurd (not_failed ended)
-  ],
-)
+-- one event, in which a call of the disk has failed or not
+pub notes : (n k place : ℕ) (faults : List ℕ) (failed : Bool) (why why_now : Option RunFault) → n ≤ k → (failed ≡ true → Rose n k) → (IsFailed why_now → IsFailed why ⊎ (failed ≡ true))
+    → Goes n faults why k (noted faults place failed) why_now
+notes n k place faults true why why_now le rose ended = record {
+  later = le;
+  kept = λ has. more faults place;
+  rose = λ has. inr (rose refl);
+  ended = λ is. inr (more faults place);
+}
+notes n k place faults false why why_now le rose ended = record {
+  later = le;
+  kept = λ has. has;
+  rose = λ has. inl has;
+  ended = λ is. elim (ended is) [ inl was ↦ inl was | inr failed ↦ (let never : false ≡ true = failed in cc) ];
+}
 
 earlier : (n k m : ℕ) → n ≤ k → Rose k m → Rose n m
 earlier n k m le rose = omega arith
@@ -40,12 +43,16 @@ earlier n k m le rose = omega arith
 later : (n k m : ℕ) → Rose n k → k ≤ m → Rose n m
 later n k m rose le = omega arith
 
-pub on : (n k m : ℕ) (f g h : Bool) (a b c : Option RunFault) → Goes n f a k g b → Goes k g b m h c → Goes n f a m h c
-unfolding Goes
-on n k m f g h a b c one two = (
-  omega arith,
-  λ e. elim (two.1 e) [
-    | inl was ↦ elim (one.1 was) [ inl first ↦ inl first | inr rose ↦ inr (later n k m rose two.0) ]
-    | inr rose ↦ inr (earlier n k m one.0 rose)
-  ],
-)
+pub on : (n k m : ℕ) (f g h : List ℕ) (a b c : Option RunFault) → Goes n f a k g b → Goes k g b m h c → Goes n f a m h c
+on n k m f g h a b c one two = record {
+  later = (let first = one.later in let second = two.later in omega arith);
+  kept = λ has. two.kept (one.kept has);
+  rose = λ has. elim (two.rose has) [
+    | inl was ↦ elim (one.rose was) [ inl first ↦ inl first | inr rose ↦ inr (later n k m rose two.later) ]
+    | inr rose ↦ inr (earlier n k m one.later rose)
+  ];
+  ended = λ is. elim (two.ended is) [
+    | inl was ↦ elim (one.ended was) [ inl first ↦ inl first | inr has ↦ inr (two.kept has) ]
+    | inr has ↦ inr has
+  ];
+}

@@ -1,1 +1,5 @@
 mod Going
+mod Runs
+mod Listed
+mod Taking
+mod Taken

@@ -1,17 +1,12 @@
--- Which events are taken, and how they move the script on.
-use Rattle.std.specs.Prelude.{◌≡◌, ◌≢◌, ◌⊎◌, ℕ, ◌+◌, ◌&&◌, Bool, true, false, not, Option, is_some}
+-- How an event that is taken moves the script on.
+use Rattle.std.specs.Prelude.{◌≡◌, ◌≢◌, ◌⊎◌, ℕ, ◌+◌, true, false, Option, is_some}
 use Rattle.cache_structure.specs.Directory.{Directory}
 use Rattle.facility.specs.States.{held, IsReset}
 use Rattle.group_crew.specs.declared.crew.Crew.{Crew}
-use Rattle.group_crew.specs.Crews.{is_ready_in}
 use Rattle.group_core.specs.declared.fault.RunFault.{RunFault}
 
--- whether the event is taken: the run hasn't ended, and its choice is ready
-abbrev pub is_taken : {C P : Type 0} → Option RunFault → Crew C P → ℕ → Bool
-is_taken {C} {P} why crew event = not (is_some why) && is_ready_in crew event
-
--- How a taken event moves the script on: event 0 begins the next phase, or shows why that may not be, and no other begins one;
--- event 64 lets the group fail; a group restart that is in hand is done by event 128 alone, and then the facility is as it was made.
+-- Event 0 begins the next phase, or shows why that may not be, and no other begins one; event 64 lets the group fail; a group
+-- restart that is in hand is done by event 128 alone, and then the facility is as it was made.
 pub record Moves {C P : Type 0} (directory : C → Directory) (event : ℕ) (old new : Crew C P) (why : Option RunFault) : Type 0 where
   pub script : new.script ≡ old.script
   pub begins : event ≡ 0 → (new.progress.begun ≡ old.progress.begun + 1) ⊎ (is_some why ≡ true)

@@ -6,10 +6,10 @@ ghost use Rattle.group_core.specs.Closing.{is_closed, is_run};
 use crate::closed::Closed;
 use crate::fault::RunFault;
 use crate::group::Group;
+use disk_restart::{State, restart_disk};
 use ds_disk::Disk;
 use ds_model::{Entry, Script};
 use group_crew::Crew;
-use group_restart::{State, restart_disk};
 use script_fates::Cause;
 use std::alloc::Global;
 use trace_words::Line;
@@ -24,8 +24,8 @@ pub struct Played {
     pub journal: Vec<u64>,
     /// The lines of the trace, where one was kept.
     pub lines: Option<Vec<Line>>,
-    /// A call of a member to the disk has failed.
-    pub failed: bool,
+    /// The places in the journal, from 1 on, at which a call of the disk has failed.
+    pub faults: Vec<u64>,
     pub fault: Option<RunFault>,
 }
 
@@ -71,14 +71,17 @@ impl<D, C: Drop, P: Drop> Group<D, C, P> {
     fn into_parts(self) -> (D, Played)
         ensures disk { result.0 ≡ self.disk }
         ensures fault { result.1.fault ≡ self.fault }
-        ensures whole { result.1.failed ≡ self.failed }
+        ensures faults { result.1.faults ≡ self.faults }
+        ensures journal { result.1.journal ≡ self.journal }
+        ensures entries { result.1.entries.items ≡ self.crew.fates.entries }
+        ensures causes { result.1.causes.items ≡ self.crew.fates.causes }
     {
         let Group {
             disk,
             crew,
             journal,
             lines,
-            failed,
+            faults,
             fault,
         } = self;
         let Crew { script, fates, .. } = crew;
@@ -89,7 +92,7 @@ impl<D, C: Drop, P: Drop> Group<D, C, P> {
             causes,
             journal,
             lines,
-            failed,
+            faults,
             fault,
         };
         (disk, played)
@@ -104,7 +107,10 @@ impl<D: Disk, C: Drop, P: Drop> Group<D, C, P> {
         ensures run { is_run result.2 ≡ is_closed self.fault }
         ensures unrun { is_closed self.fault ≡ false → result.0 ≡ self.disk }
         ensures fault { result.1.fault ≡ self.fault }
-        ensures whole { result.1.failed ≡ self.failed }
+        ensures faults { result.1.faults ≡ self.faults }
+        ensures journal { result.1.journal ≡ self.journal }
+        ensures entries { result.1.entries.items ≡ self.crew.fates.entries }
+        ensures causes { result.1.causes.items ≡ self.crew.fates.causes }
     {
         let (mut disk, played) = self.into_parts();
         let closed = close_after(alloc, &mut disk, played.fault);

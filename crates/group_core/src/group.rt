@@ -1,5 +1,4 @@
-ghost use Rattle.std.specs.Prelude.{◌≡◌, ◌||◌, is_some};
-ghost use Rattle.group_crew.specs.Progresses.{is_at_end};
+ghost use Rattle.std.specs.Prelude.{◌≡◌};
 
 use crate::fault::RunFault;
 use group_crew::Crew;
@@ -13,12 +12,14 @@ pub struct Group<D, C, P> {
     pub(crate) journal: Vec<u64>,
     /// Kept where a trace is wanted.
     pub(crate) lines: Option<Vec<Line>>,
-    /// A call of a member to the disk has failed.
-    pub(crate) failed: bool,
+    /// The places in the journal, from 1 on, at which a call of the disk has failed.
+    pub(crate) faults: Vec<u64>,
     pub(crate) fault: Option<RunFault>,
 }
 
 impl<D, C, P> Group<D, C, P> {
+    ghost use Rattle.group_core.specs.Events.{is_over, takes};
+
     /// The numbers of the events so far.
     pub fn journal(&self) -> &[u64]
         ensures { result.now ≡ self.now.journal.items }
@@ -35,8 +36,15 @@ impl<D, C, P> Group<D, C, P> {
 
     /// Whether the run has ended: the script is played, or there is a fault.
     pub fn is_over(&self) -> bool
-        ensures { result ≡ (is_some self.now.fault || is_at_end (is_some self.now.crew.restart) self.now.crew.progress self.now.crew.script) }
+        ensures { result ≡ is_over self.now }
     {
         self.fault.is_some() || self.crew.is_played()
+    }
+
+    /// Whether the event would be taken: the run hasn't ended, and the event's choice is ready.
+    pub fn is_taken(&self, event: u64) -> bool
+        ensures { result ≡ takes self.now event }
+    {
+        self.fault.is_none() && self.crew.is_ready(event)
     }
 }

@@ -1,22 +1,40 @@
 //! The number of an event in the journal, and its line of the trace.
 
 ghost use Rattle.std.specs.Prelude.{◌≡◌, ◌<◌, vec_len, vec_capacity, OnOk};
+ghost use Rattle.group_core.specs.Goes.{noted};
 
 use ds_base::NoMemory;
 use group_crew::Stepped;
 use member_intents::{Answered, Sent};
 use trace_words::{Line, fail_line, line_of, rebuild_line, restart_line};
 
-/// Takes memory for the event's number and line.
-pub fn reserve(journal: &mut Vec<u64>, lines: &mut Option<Vec<Line>>) -> Result<(), NoMemory>
+/// Takes memory for the event's number, for its place among those of failed calls, and for its line.
+pub fn reserve(
+    journal: &mut Vec<u64>,
+    faults: &mut Vec<u64>,
+    lines: &mut Option<Vec<Line>>,
+) -> Result<(), NoMemory>
     ensures journal { journal.new.items ≡ journal.old.items }
+    ensures faults { faults.new.items ≡ faults.old.items }
     ensures room { OnOk result (vec_len journal.new < vec_capacity journal.new) }
+    ensures spare { OnOk result (vec_len faults.new < vec_capacity faults.new) }
 {
     journal.reserve(1)?;
+    faults.reserve(1)?;
     if let Some(lines) = lines {
         lines.reserve(1)?;
     }
     Ok(())
+}
+
+/// Notes the place of an event, where a call of the disk has failed in it.
+pub fn note_failure(faults: &mut Vec<u64>, place: u64, failed: bool)
+    requires { vec_len faults.old < vec_capacity faults.old }
+    ensures { faults.new.items ≡ noted faults.old.items place failed }
+{
+    if failed {
+        faults.push_reserved(place);
+    }
 }
 
 /// Keeps a line, where lines are kept.

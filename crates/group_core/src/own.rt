@@ -1,9 +1,11 @@
 //! The events of the group itself.
 
-ghost use Rattle.std.specs.Prelude.{◌≡◌, ◌⊎◌, OnOk};
-ghost use Rattle.group_restart.specs.declared.calls.State.TheVariants as state;
+ghost use Rattle.std.specs.Prelude.{◌≡◌, ◌≢◌, ◌≤◌, ℕ, true, false, None, Some, OnOk, IfOk};
+ghost use Rattle.ds_base.specs.Causes.{Rose};
+ghost use Rattle.group_core.specs.declared.fault.RunFault.TheVariants as fault;
+ghost use Rattle.group_core.specs.Goes.{ends_failed};
 ghost use Rattle.group_core.specs.Moves.{Moves};
-ghost use Rattle.group_core.specs.Goes.{Goes, IsFailed};
+ghost use Rattle.group_core.specs.Takes.{TakesOwn, is_stopped};
 
 use crate::fault::RunFault;
 use crate::group::Group;
@@ -17,13 +19,23 @@ use member_resources::Policy;
 use std::alloc::Global;
 use trace_words::call_line;
 
-#[tactic(auto, using(crate::proofs::Going::on, crate::proofs::Going::stays, crate::proofs::Going::ends))]
+// Whether a call of the disk has failed in a group restart.
+fn is_stopped(reached: &State) -> bool
+    ensures { result ≡ is_stopped reached.now }
+{
+    match *reached {
+        State::Failed => true,
+        State::Going | State::Done { .. } | State::Damaged { .. } => false,
+    }
+}
+
 impl<D: Disk, C: CacheFace, P: Policy> Group<D, C, P> {
     // The next phase begins.
     fn take_phase(&mut self, alloc: Global, place: u64) -> Result<(), NoMemory>
+        requires { self.old.fault ≡ None }
         ensures moves { OnOk result (Moves C.directory 0 self.old.crew self.new.crew self.new.fault) }
-        ensures goes { Goes (D.faults self.old.disk) self.old.failed self.old.fault (D.faults self.new.disk) self.new.failed self.new.fault }
-        ensures journal { self.new.journal.items ≡ self.old.journal.items }
+        ensures leads { OnOk result (TakesOwn self.old.crew 0 place false self.new.fault) }
+        ensures rest { self.new ≡ record self.old { crew = self.new.crew; fault = self.new.fault } }
     {
         if !self.crew.begin_phase(alloc)? {
             self.fault = Some(RunFault::Unlawful { place });
@@ -34,8 +46,7 @@ impl<D: Disk, C: CacheFace, P: Policy> Group<D, C, P> {
     // The script lets the group fail.
     fn take_failure(&mut self, alloc: Global) -> Result<(), NoMemory>
         ensures moves { OnOk result (Moves C.directory 64 self.old.crew self.new.crew self.new.fault) }
-        ensures goes { Goes (D.faults self.old.disk) self.old.failed self.old.fault (D.faults self.new.disk) self.new.failed self.new.fault }
-        ensures journal { self.new.journal.items ≡ self.old.journal.items }
+        ensures rest { self.new ≡ record self.old { crew = self.new.crew } }
     {
         self.crew.progress.count_groupfail();
         self.crew.fail(alloc)
@@ -43,11 +54,11 @@ impl<D: Disk, C: CacheFace, P: Policy> Group<D, C, P> {
 
     // Goes on from where the group restart stands.
     fn enter_restart(&mut self, alloc: Global, reached: &State) -> Result<(), NoMemory>
-        ensures disk { self.new.disk ≡ self.old.disk }
-        ensures failed { self.new.failed ≡ self.old.failed }
-        ensures fault { IsFailed self.new.fault → IsFailed self.old.fault ⊎ (reached.now ≡ state.Failed) }
+        requires { self.old.fault ≡ None }
         ensures moves { OnOk result (Moves C.directory 128 self.old.crew self.new.crew self.new.fault) }
-        ensures journal { self.new.journal.items ≡ self.old.journal.items }
+        ensures failed { OnOk result (is_stopped reached.now ≡ ends_failed self.new.fault) }
+        ensures lawful { (at : ℕ) → self.new.fault ≢ Some (fault.Unlawful at) }
+        ensures rest { self.new ≡ record self.old { crew = self.new.crew; fault = self.new.fault } }
     {
         match *reached {
             State::Going => {}
@@ -61,35 +72,62 @@ impl<D: Disk, C: CacheFace, P: Policy> Group<D, C, P> {
         Ok(())
     }
 
-    // The next call of the disk in the group restart.
-    fn take_restart(&mut self, alloc: Global, event: u64, place: u64) -> Result<(), NoMemory>
+    // The next call of the disk in the group restart. Answers whether it has failed.
+    fn take_restart(&mut self, alloc: Global, event: u64, place: u64) -> Result<bool, NoMemory>
+        requires { self.old.fault ≡ None }
         ensures moves { OnOk result (Moves C.directory 128 self.old.crew self.new.crew self.new.fault) }
-        ensures goes { Goes (D.faults self.old.disk) self.old.failed self.old.fault (D.faults self.new.disk) self.new.failed self.new.fault }
-        ensures journal { self.new.journal.items ≡ self.old.journal.items }
+        ensures leads { IfOk result (λ failed. TakesOwn self.old.crew 128 place failed self.new.fault) }
+        ensures later { D.faults self.old.disk ≤ D.faults self.new.disk }
+        ensures rose { IfOk result (λ failed. failed ≡ true → Rose (D.faults self.old.disk) (D.faults self.new.disk)) }
+        ensures rest { self.new ≡ record self.old { disk = self.new.disk; crew = self.new.crew; lines = self.new.lines; fault = self.new.fault } }
     {
         let Some(restart) = &mut self.crew.restart else {
-            return Ok(());
+            return Ok(false);
         };
-        let (call, state) = step_restart(alloc, restart, &mut self.disk)?;
-        let has_failed = matches!(&state, State::Failed);
+        let (call, reached) = step_restart(alloc, restart, &mut self.disk)?;
+        let has_failed = is_stopped(&reached);
         note(&mut self.lines, call_line(place, event, &call, has_failed));
-        self.enter_restart(alloc, &state)
+        self.enter_restart(alloc, &reached)?;
+        Ok(has_failed)
     }
 
-    /// Takes a ready event of the group itself.
-    pub(crate) fn take_own(&mut self, alloc: Global, event: u64, place: u64) -> Result<(), NoMemory>
-        ensures goes { Goes (D.faults self.old.disk) self.old.failed self.old.fault (D.faults self.new.disk) self.new.failed self.new.fault }
-        ensures journal { self.new.journal.items ≡ self.old.journal.items }
+    // Takes a ready event of the group itself. Answers whether a call of the disk has failed.
+    fn take_choice(&mut self, alloc: Global, event: u64, place: u64) -> Result<bool, NoMemory>
+        requires { self.old.fault ≡ None }
         ensures moves { OnOk result (Moves C.directory event self.old.crew self.new.crew self.new.fault) }
+        ensures leads { IfOk result (λ failed. TakesOwn self.old.crew event place failed self.new.fault) }
+        ensures later { D.faults self.old.disk ≤ D.faults self.new.disk }
+        ensures rose { IfOk result (λ failed. failed ≡ true → Rose (D.faults self.old.disk) (D.faults self.new.disk)) }
+        ensures rest { self.new ≡ record self.old { disk = self.new.disk; crew = self.new.crew; lines = self.new.lines; fault = self.new.fault } }
     {
         if event == GROUP_RESTART * 64 {
             return self.take_restart(alloc, event, place);
         }
         note_silent(&mut self.lines, place, event);
         if event == NEXT_PHASE * 64 {
-            self.take_phase(alloc, place)
+            self.take_phase(alloc, place)?;
         } else {
-            self.take_failure(alloc)
+            self.take_failure(alloc)?;
         }
+        Ok(false)
+    }
+
+    /// The same, and then what is ready is found again.
+    pub(crate) fn take_own(
+        &mut self,
+        alloc: Global,
+        event: u64,
+        place: u64,
+    ) -> Result<bool, NoMemory>
+        requires { self.old.fault ≡ None }
+        ensures moves { OnOk result (Moves C.directory event self.old.crew self.new.crew self.new.fault) }
+        ensures leads { IfOk result (λ failed. TakesOwn self.old.crew event place failed self.new.fault) }
+        ensures later { D.faults self.old.disk ≤ D.faults self.new.disk }
+        ensures rose { IfOk result (λ failed. failed ≡ true → Rose (D.faults self.old.disk) (D.faults self.new.disk)) }
+        ensures rest { self.new ≡ record self.old { disk = self.new.disk; crew = self.new.crew; lines = self.new.lines; fault = self.new.fault } }
+    {
+        let failed = self.take_choice(alloc, event, place)?;
+        self.crew.find_ready();
+        Ok(failed)
     }
 }

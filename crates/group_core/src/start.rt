@@ -1,23 +1,26 @@
-ghost use Rattle.std.specs.Prelude.{◌≡◌, ◌≤◌, false, None, IfOk, IfErr};
+ghost use Rattle.std.specs.Prelude.{◌≡◌, ◌≢◌, ◌≤◌, ℕ, [], None, IfOk, IfErr};
 ghost use Rattle.ds_base.specs.Causes.{Rose};
 ghost use Rattle.cache_structure.specs.Directory.{empty_directory};
+ghost use Rattle.ds_disk.specs.Contents.{Becomes};
+ghost use Rattle.disk_restart.specs.Keeping.{KeepsRecords};
 ghost use Rattle.group_core.specs.declared.fault.RunFault.TheVariants as fault;
 ghost use Rattle.group_restart.specs.declared.calls.State.TheVariants as state;
 
 use crate::fault::{RunFault, StartFault};
 use crate::group::Group;
 use cache_structure::CacheFace;
+use disk_restart::{State, restart_disk};
 use ds_base::{Lrsn, Sizes};
 use ds_disk::Disk;
 use ds_model::Script;
 use group_crew::Crew;
-use group_restart::{State, restart_disk};
 use member_resources::Policy;
 use std::alloc::Global;
 
 // The greatest number that was drawn for a log record, where a group restart has ended well.
 fn counter_of(ended: &State) -> Result<Lrsn, RunFault>
-    ensures { IfErr result (λ why. why ≡ fault.Failed → ended.now ≡ state.Failed) }
+    ensures failed { IfErr result (λ why. why ≡ fault.Failed → ended.now ≡ state.Failed) }
+    ensures lawful { IfErr result (λ why. (at : ℕ) → why ≢ fault.Unlawful at) }
 {
     match *ended {
         State::Done { counter } => Ok(counter),
@@ -29,8 +32,10 @@ fn counter_of(ended: &State) -> Result<Lrsn, RunFault>
 
 // Runs the group restart that opens the disk.
 fn open_disk<D: Disk>(alloc: Global, disk: &mut D) -> Result<Lrsn, RunFault>
+    ensures keeps { Becomes (D.contents disk.old) (D.contents disk.new) KeepsRecords }
     ensures later { D.faults disk.old ≤ D.faults disk.new }
     ensures failed { IfErr result (λ why. why ≡ fault.Failed → Rose (D.faults disk.old) (D.faults disk.new)) }
+    ensures lawful { IfErr result (λ why. (at : ℕ) → why ≢ fault.Unlawful at) }
 {
     match restart_disk(alloc, disk) {
         Ok(ended) => counter_of(&ended),
@@ -51,10 +56,16 @@ impl<D: Disk, C: CacheFace + Drop, P: Policy + Drop> Group<D, C, P> {
         requires sizes { (1 ≤ sizes.now.locks) × (1 ≤ sizes.now.pool) }
         requires cache { C.directory cache ≡ empty_directory sizes.now.cache sizes.now.pool }
         ensures disk { IfOk result (λ group. D.faults disk ≤ D.faults group.disk) }
+        ensures keeps { IfOk result (λ group. Becomes (D.contents disk) (D.contents group.disk) KeepsRecords) }
         ensures fault { IfOk result (λ group. group.fault ≡ None) }
-        ensures whole { IfOk result (λ group. group.failed ≡ false) }
+        ensures faults { IfOk result (λ group. group.faults.items ≡ []) }
+        ensures journal { IfOk result (λ group. group.journal.items ≡ []) }
+        ensures script { IfOk result (λ group. group.crew.script ≡ script) }
+        ensures unplayed { IfOk result (λ group. group.crew.progress.begun ≡ 0) }
         ensures err { IfErr result (λ why. D.faults disk ≤ D.faults why.disk) }
+        ensures left { IfErr result (λ why. Becomes (D.contents disk) (D.contents why.disk) KeepsRecords) }
         ensures failed { IfErr result (λ why. why.why ≡ fault.Failed → Rose (D.faults disk) (D.faults why.disk)) }
+        ensures lawful { IfErr result (λ why. (at : ℕ) → why.why ≢ fault.Unlawful at) }
     {
         let mut disk = disk;
         let counter = match open_disk(alloc, &mut disk) {
@@ -67,7 +78,7 @@ impl<D: Disk, C: CacheFace + Drop, P: Policy + Drop> Group<D, C, P> {
                 crew,
                 journal: Vec::new(alloc),
                 lines: None,
-                failed: false,
+                faults: Vec::new(alloc),
                 fault: None,
             }),
             Err(_) => Err(StartFault {
