@@ -1,3 +1,5 @@
 pub mod Sound
+pub mod Settling
 pub mod Going
+pub mod Led
 pub mod Opened

@@ -1,5 +1,7 @@
 -- A disk that was opened, and what became of it.
-use Rattle.std.proofs.Common.{◌≡◌, ℕ, ◌≤◌, Bool, List, Option, Some, None, sym, subst, arith}
+use Rattle.std.proofs.Common.{◌≡◌, inl, inr, ℕ, ◌≤◌, Bool, List, Option, Some, None, Result, Ok, Err, refl, sym, subst, arith}
+use Rattle.std.specs.Prelude.{Vec}
+use Rattle.std.specs.declared.alloc.Global.{Global}
 use Rattle.ds_base.specs.Causes.{Rose}
 use Rattle.ds_base.specs.declared.row.Row.{Row}
 use Rattle.ds_disk.specs.Contents.{Contents, WhenTold, Becomes, Same}
@@ -7,16 +9,26 @@ use Rattle.ds_model.specs.declared.script.Script.{Script}
 use Rattle.ds_model.specs.declared.report.Report.{Report}
 use Rattle.ds_model.specs.declared.history.Entry.{Entry}
 use Rattle.ds_model.specs.Rows.{AreSorted}
+use Rattle.disk_restart.specs.Keeping.{KeepsRecords}
 use Rattle.opening_rows.specs.declared.opening.Opening.{Opening}
-use Rattle.opening_rows.specs.Reading.{AreLogsOf}
+use Rattle.opening_rows.specs.declared.fault.LogsFault.{LogsFault}
+use Rattle.opening_rows.specs.declared.fault.LogsFault.TheVariants as reading
+use Rattle.opening_rows.specs.Reading.{AreLogsOf, HasDamage, Reads}
 use Rattle.opening_rows.specs.Opening.{OpensAs, OpensWith}
 use Rattle.log_record.specs.declared.log.Log.{Log}
-use Rattle.checked_run.specs.Back.{HoldsLogs}
+use Rattle.checked_run.specs.Back.{HoldsLogs, HoldsDamage, TellsDamage, RoseTwice}
 use Rattle.checked_run.specs.declared.ended.Outcome.{Outcome}
 use Rattle.checked_run.specs.declared.ended.Outcome.TheVariants as outcome
-use Rattle.checked_run.specs.Told.{IfTold, IsTold, DiskStandsFor, RoseTwice}
-use Rattle.checked_run.proofs.Sound.{if_told}
-use Rattle.checked_run.specs.Outcomes.{IsOpening, Comes, ComesFrom, ShowsRows}
+use Rattle.checked_run.specs.declared.account.Account.{Account}
+use Rattle.checked_run.specs.declared.ended.Ended.{Ended}
+use Rattle.checked_run.specs.declared.ended.Ended.TheVariants as ended
+use Rattle.checked_run.specs.Told.{IsTold, DiskStandsFor}
+use Rattle.checked_run.specs.Refuted.{IsRefuted}
+use Rattle.checked_run.specs.Settled.{Settles}
+use Rattle.checked_run.specs.Leading.{ComesTo}
+use Rattle.checked_run.specs.Outcomes.{IsOpening, HasCause, IsLeft, Comes, ComesFrom, ShowsRows, Shows}
+use Rattle.group_core.specs.declared.fault.RunFault.{RunFault}
+use Rattle.group_core.specs.declared.schedule.RunEnd.{RunEnd}
 
 -- ---- logs that were read
 
@@ -24,6 +36,29 @@ pub holds_logs : (before after : Option Contents) (logs : List Log) → WhenTold
 holds_logs None after logs are same = tt
 holds_logs (Some c) None logs are same = absurd same
 holds_logs (Some c) (Some d) logs are same = (same, subst (λ (x : Contents). AreLogsOf x.logs logs) (sym same) are)
+
+holds_damage : (before after : Option Contents) (member at : ℕ) → WhenTold before (HasDamage member at) → Becomes before after Same → Becomes before after (HoldsDamage member at)
+holds_damage None after member at has same = tt
+holds_damage (Some c) None member at has same = absurd same
+holds_damage (Some c) (Some d) member at has same = (same, subst (HasDamage member at) (sym same) has)
+
+pub damage : (before after : Option Contents) (n k : ℕ) (result : Result (Vec Log Global) LogsFault) → Reads before after n k (λ (logs : Vec Log Global) c. AreLogsOf c.logs logs.items) result → TellsDamage before after result
+damage before after n k (Ok logs) reads = tt
+damage before after n k (Err reading.Failed) reads = tt
+damage before after n k (Err (reading.Damaged member at)) reads = holds_damage before after member at (reads.damaged member at refl) reads.same
+damage before after n k (Err reading.NoMemory) reads = tt
+
+damaged_again : (a b c : Option Contents) (member at : ℕ) → Becomes a b Same → Becomes b c (HoldsDamage member at) → Becomes a c (HoldsDamage member at)
+damaged_again None b c member at p q = tt
+damaged_again (Some x) None c member at p q = absurd p
+damaged_again (Some x) (Some y) None member at p q = q
+damaged_again (Some x) (Some y) (Some z) member at p q = (subst (λ (v : Contents). z ≡ v) p q.0, q.1)
+
+pub damage_again : (a b c : Option Contents) (result : Result (Vec Log Global) LogsFault) → Becomes a b Same → TellsDamage b c result → TellsDamage a c result
+damage_again a b c (Ok logs) same tells = tt
+damage_again a b c (Err reading.Failed) same tells = tt
+damage_again a b c (Err (reading.Damaged member at)) same tells = damaged_again a b c member at same tells
+damage_again a b c (Err reading.NoMemory) same tells = tt
 
 -- a reading that was done again
 pub holds_again : (a b c : Option Contents) (logs : List Log) → Becomes a b Same → Becomes b c (HoldsLogs logs) → Becomes a c (HoldsLogs logs)
@@ -51,11 +86,12 @@ stands_earlier tells n a b c after opening history le it = record {
 }
 
 -- what is told from a later moment on is told from an earlier one on
-pub told_earlier : (tells : Type 0) (script : Script) (traced : Bool) (opening : List Row) (a b c : ℕ) (after : Option Contents) → a ≤ b → (report : Report) → IsTold tells script traced opening b c after report → IsTold tells script traced opening a c after report
-told_earlier tells script traced opening a b c after le report it = record {
+told_earlier : (tells : Type 0) (script : Script) (traced : Bool) (opening : List Row) (a b c : ℕ) (after : Option Contents) (account : Account) → a ≤ b → (report : Report) → IsTold tells script traced opening b c after account report → IsTold tells script traced opening a c after account report
+told_earlier tells script traced opening a b c after account le report it = record {
   status = it.status;
   cause = λ e. earlier a b c le (it.cause e);
-  untraced = it.untraced;
+  unfailed = it.unfailed;
+  trace = it.trace;
   sound = record {
     history = it.sound.history;
     sound = it.sound.sound;
@@ -64,16 +100,66 @@ told_earlier tells script traced opening a b c after le report it = record {
   };
 }
 
-pub shows_earlier : (a b c : ℕ) (rows : List Row) → a ≤ b → (report : Report) → ShowsRows b c rows report → ShowsRows a c rows report
-shows_earlier a b c rows le report it = record { report_is = it.report_is; status = it.status; cause = λ e. earlier a b c le (it.cause e) }
+refuted_earlier : (tells : Type 0) (script : Script) (opening : Opening) (printed : List Entry) (a b c : ℕ) (after : Option Contents) → a ≤ b → IsRefuted tells script opening printed b c after → IsRefuted tells script opening printed a c after
+refuted_earlier tells script opening printed a b c after le it = elim it [
+  | inl logs ↦ inl logs
+  | inr alone ↦ inr (earlier_twice a b c le alone.0, alone.1)
+]
+
+pub settles_earlier : (tells : Type 0) (script : Script) (traced : Bool) (opening : Opening) (a b c : ℕ) (after : Option Contents) (account : Account) → a ≤ b → (end : RunEnd) (why : Option RunFault) (entries : List Entry) (out : Ended)
+    → Settles tells script traced opening b c after account end why entries out → Settles tells script traced opening a c after account end why entries out
+settles_earlier tells script traced opening a b c after account le end why entries (ended.Told report) it = record {
+  told = told_earlier tells script traced opening.rows a b c after account le report it.told;
+  entries_are = it.entries_are;
+  played = it.played;
+  whole = it.whole;
+}
+settles_earlier tells script traced opening a b c after account le end why entries (ended.Damaged volume at) it = tt
+settles_earlier tells script traced opening a b c after account le end why entries (ended.Unsound event) it = elim it [
+  | inl stuck ↦ inl stuck
+  | inr said ↦ inr (said.0, (said.1.0, (said.1.1.0, (said.1.1.1.0, refuted_earlier tells script opening said.1.1.0 a b c after le said.1.1.1.1))))
+]
+settles_earlier tells script traced opening a b c after account le end why entries ended.NoMemory it = tt
+
+shows_rows_earlier : (a b c : ℕ) (rows : List Row) → a ≤ b → (report : Report) → ShowsRows b c rows report → ShowsRows a c rows report
+shows_rows_earlier a b c rows le report it = record { report_is = it.report_is; status = it.status; cause = λ e. earlier a b c le (it.cause e) }
+
+pub shows_earlier : (a b c : ℕ) (rows : List Row) → a ≤ b → (out : Ended) → Shows b c rows out → Shows a c rows out
+shows_earlier a b c rows le (ended.Told report) it = shows_rows_earlier a b c rows le report it
+shows_earlier a b c rows le (ended.Damaged volume at) it = tt
+shows_earlier a b c rows le (ended.Unsound event) it = it
+shows_earlier a b c rows le ended.NoMemory it = tt
+
+-- ---- the end to which a journal leads
+
+pub came_as : (L M : RunEnd → Option RunFault → List Entry → Type 0) (S T : RunEnd → Option RunFault → List Entry → Ended → Type 0) (out : Ended)
+    → ((end : RunEnd) (why : Option RunFault) (entries : List Entry) → L end why entries → M end why entries)
+    → ((end : RunEnd) (why : Option RunFault) (entries : List Entry) → S end why entries out → T end why entries out) → ComesTo L S out → ComesTo M T out
+came_as L M S T out f g it = elim it [
+  | inl none ↦ inl none
+  | inr came ↦ inr (record {
+    end = came.end;
+    why = came.why;
+    entries = came.entries;
+    leads = f came.end came.why came.entries came.leads;
+    settles = g came.end came.why came.entries came.settles;
+  })
+]
 
 -- ---- from the reading of the logs on
 
-pub comes : (was : Option Contents) (before mid now : ℕ) (opening : Opening) (P Q : List Row → Report → Type 0) (o : Outcome)
-    → before ≤ mid → AreSorted opening.rows → WhenTold was (λ c. OpensAs c opening) → ((report : Report) → P opening.rows report → Q opening.rows report)
-    → ComesFrom opening.rows mid now P o → Comes was before now Q o
-comes was before mid now opening P Q (outcome.Unopened why) le sorted opens f it = λ e. earlier before mid now le (it e)
-comes was before mid now opening P Q (outcome.Opened rows end) le sorted opens f it =
+-- what an earlier moment had is kept where the disk isn't opened
+pub left_on : ((a b e : Option Contents) → Becomes a b KeepsRecords → Becomes b e KeepsRecords → Becomes a e KeepsRecords) → (a b e : Option Contents) (o : Outcome) → Becomes a b KeepsRecords → IsLeft o b e → IsLeft o a e
+left_on on a b e (outcome.Unopened why) first second = on a b e first second
+left_on on a b e (outcome.Opened opening end) first second = tt
+
+cause_earlier : (a b c : ℕ) (why : RunFault) → a ≤ b → HasCause b c why → HasCause a c why
+cause_earlier a b c why le it = record { failed = λ e. earlier a b c le (it.failed e); lawful = it.lawful }
+
+pub comes : (was : Option Contents) (before mid now : ℕ) (account : Account) (opening : Opening) (P Q : List Row → Ended → Type 0) (o : Outcome)
+    → before ≤ mid → AreSorted opening.rows → WhenTold was (λ c. OpensAs c opening) → ((out : Ended) → P opening.rows out → Q opening.rows out)
+    → ComesFrom opening.rows mid now account P o → Comes was before now account Q o
+comes was before mid now account opening P Q (outcome.Unopened why) le sorted opens f it = (cause_earlier before mid now why le it.0, it.1)
+comes was before mid now account opening P Q (outcome.Opened rows end) le sorted opens f it =
     let is : IsOpening was opening.rows = (sorted, opens_with was opening opens) in
-    let told : IfTold end (Q opening.rows) = if_told end (P opening.rows) (Q opening.rows) f it.1 in
-    subst (λ (x : List Row). IsOpening was x × IfTold end (Q x)) (sym it.0) (is, told)
+    subst (λ (x : List Row). IsOpening was x × Q x end) (sym it.0) (is, f end it.1)

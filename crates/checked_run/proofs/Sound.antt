@@ -1,11 +1,13 @@
 -- Reports that were found sound.
-use Rattle.std.proofs.Common.{◌≡◌, ◌≢◌, ◌⊎◌, inl, inr, ℕ, ◌≤◌, Bool, true, false, cond, List, [], ◌∷◌, map, Option, Some, None, Result, Ok, Err, IfOk, refl, sym, ap, subst, ◌∙◌, arith}
+use Rattle.std.proofs.Common.{◌≡◌, ◌≢◌, ◌⊎◌, inl, inr, ℕ, ◌≤◌, Bool, true, false, cond, List, [], ◌∷◌, map, Option, Some, None, Result, Ok, Err, IfOk, IsErr, refl, sym, ap, subst, ◌∙◌, arith}
 use Rattle.std.proofs.lemmas.List.{append-nil, take_all}
+use Rattle.std.specs.Prelude.{Vec, IsErrOf}
+use Rattle.std.specs.declared.alloc.Global.{Global}
 use Rattle.std.specs.Bool.{Decides}
 use Rattle.std.specs.Option.{SomeIff}
 use Rattle.ds_base.specs.Causes.{Rose}
 use Rattle.ds_base.specs.declared.row.Row.{Row}
-use Rattle.ds_disk.specs.Contents.{Contents, Becomes}
+use Rattle.ds_disk.specs.Contents.{Contents, WhenTold, Becomes}
 use Rattle.ds_model.specs.declared.script.Script.{Script}
 use Rattle.ds_model.specs.declared.report.Report.{Report}
 use Rattle.ds_model.specs.declared.report.Trace.{Trace}
@@ -21,20 +23,28 @@ use Rattle.report_check.specs.Records.{records_of}
 use Rattle.report_check.specs.Reports.{IsSoundReport, IsSoundAlone}
 use Rattle.report_check.specs.Laws.{settled, TellsSoundHistory, TellsSoundAlone}
 use Rattle.opening_rows.specs.Reading.{AreLogsOf}
-use Rattle.checked_run.specs.Back.{AreWhole, HoldsLogs}
+use Rattle.checked_run.specs.declared.account.Account.{Account}
+use Rattle.checked_run.specs.Accounts.{TellsTrace}
+use Rattle.checked_run.specs.Back.{AreWhole, HoldsLogs, HoldsDamage, TellsDamage, RoseTwice}
+use Rattle.checked_run.specs.Refuted.{Contradict, LogsRefute, IsRefuted}
+use Rattle.checked_run.specs.Settled.{Checks}
+use Rattle.opening_rows.specs.declared.opening.Opening.{Opening}
+use Rattle.opening_rows.specs.declared.fault.LogsFault.{LogsFault}
+use Rattle.opening_rows.specs.declared.fault.LogsFault.TheVariants as reading
 use Rattle.ds_base.specs.declared.fault.NoMemory.{NoMemory}
 use Rattle.checked_run.specs.declared.ended.Ended.{Ended}
 use Rattle.checked_run.specs.declared.ended.Ended.TheVariants as ended
-use Rattle.checked_run.specs.Told.{IfTold, RoseTwice, LogsStandFor, IsTold, IsHeld, IsAlone, no_trace}
+use Rattle.checked_run.specs.Told.{IfTold, LogsStandFor, IsTold, IsHeld, IsAlone}
 
 abbrev pub report_of : Script → List Entry → List Row → Trace → ℕ → Report
 report_of script entries rows trace status = record { entries = map (entry_of script) entries; trace = trace; rows = rows; status = status }
 
 pub held : TellsSoundHistory → (script : Script) (opening : List Row) (entries : List Entry) (logs : List (List LogRecord)) (had : List ℕ) (rows : List Row) (trace : Trace) (status : ℕ) (report : Report)
-    → IsSoundReport script (map_of opening) entries logs had → rows ≡ listed (rows_of_logs logs) → report ≡ report_of script entries rows trace status → IsHeld script opening logs trace status report
+    → IsSoundReport script (map_of opening) entries logs had → rows ≡ listed (rows_of_logs logs) → report ≡ report_of script entries rows trace status → IsHeld script opening entries logs trace status report
 held law script opening entries logs had rows trace status report is its e =
     let told = law script (map_of opening) entries logs had is in
-    let given : IsHeld script opening logs trace status (report_of script entries rows trace status) = record {
+    let given : IsHeld script opening entries logs trace status (report_of script entries rows trace status) = record {
+      entries_are = refl;
       trace_is = refl;
       status_is = refl;
       sound = record {
@@ -44,13 +54,14 @@ held law script opening entries logs had rows trace status report is its e =
         stands = sym told.rows;
       };
     } in
-    subst (IsHeld script opening logs trace status) (sym e) given
+    subst (IsHeld script opening entries logs trace status) (sym e) given
 
 pub alone : TellsSoundAlone → (script : Script) (opening : List Row) (entries : List Entry) (rows : List Row) (trace : Trace) (status : ℕ) (report : Report)
-    → IsSoundAlone script (map_of opening) entries → rows ≡ listed (replay (map_of opening) entries) → report ≡ report_of script entries rows trace status → IsAlone script opening trace status report
+    → IsSoundAlone script (map_of opening) entries → rows ≡ listed (replay (map_of opening) entries) → report ≡ report_of script entries rows trace status → IsAlone script opening entries trace status report
 alone law script opening entries rows trace status report is its e =
     let told = law script (map_of opening) entries is in
-    let given : IsAlone script opening trace status (report_of script entries rows trace status) = record {
+    let given : IsAlone script opening entries trace status (report_of script entries rows trace status) = record {
+      entries_are = refl;
       trace_is = refl;
       status_is = refl;
       sound = record {
@@ -60,16 +71,16 @@ alone law script opening entries rows trace status report is its e =
         stands = tt;
       };
     } in
-    subst (IsAlone script opening trace status) (sym e) given
+    subst (IsAlone script opening entries trace status) (sym e) given
 
 -- the same by what was asked
 pub held_by : TellsSoundHistory → (script : Script) (opening : List Row) (given entries : List Entry) (logs : List (List LogRecord)) (had : List ℕ) (sound : Bool) (rows : List Row) (trace : Trace) (status : ℕ) (report : Report)
-    → given ≡ entries → Decides sound (IsSoundReport script (map_of opening) given logs had) → sound ≡ true → rows ≡ listed (rows_of_logs logs) → report ≡ report_of script entries rows trace status → IsHeld script opening logs trace status report
+    → given ≡ entries → Decides sound (IsSoundReport script (map_of opening) given logs had) → sound ≡ true → rows ≡ listed (rows_of_logs logs) → report ≡ report_of script entries rows trace status → IsHeld script opening entries logs trace status report
 held_by law script opening given entries logs had sound rows trace status report same decides found its e =
     held law script opening entries logs had rows trace status report (subst (λ (es : List Entry). IsSoundReport script (map_of opening) es logs had) same (decides.0 found)) its e
 
 pub alone_by : TellsSoundAlone → (script : Script) (opening : List Row) (given entries : List Entry) (found : Option (List Row)) (rows : List Row) (trace : Trace) (status : ℕ) (report : Report)
-    → given ≡ entries → SomeIff found (IsSoundAlone script (map_of opening) given) (listed (replay (map_of opening) given)) → found ≡ Some rows → report ≡ report_of script entries rows trace status → IsAlone script opening trace status report
+    → given ≡ entries → SomeIff found (IsSoundAlone script (map_of opening) given) (listed (replay (map_of opening) given)) → found ≡ Some rows → report ≡ report_of script entries rows trace status → IsAlone script opening entries trace status report
 alone_by law script opening given entries found rows trace status report same iff is e =
     let some : SomeIff (Some rows) (IsSoundAlone script (map_of opening) given) (listed (replay (map_of opening) given)) = subst (λ (o : Option (List Row)). SomeIff o (IsSoundAlone script (map_of opening) given) (listed (replay (map_of opening) given))) is iff in
     let its : SomeIff (Some rows) (IsSoundAlone script (map_of opening) entries) (listed (replay (map_of opening) entries)) = subst (λ (es : List Entry). SomeIff (Some rows) (IsSoundAlone script (map_of opening) es) (listed (replay (map_of opening) es))) same some in
@@ -108,16 +119,25 @@ caused : (failed : Bool) → code failed ≡ 5 → failed ≡ true
 caused true e = refl
 caused false e = absurd (omega (arith, e))
 
-pub told_with : (tells : Type 0) (script : Script) (opening : List Row) (traced failed : Bool) (trace : Trace) (before now : ℕ) (was after : Option Contents) (logs : List Log) (report : Report)
-    → (tells → was ≢ None) → Becomes was after (HoldsLogs logs) → (failed ≡ true → Rose before now) → (traced ≡ false → trace ≡ no_trace)
-    → AreWhole logs × IsHeld script opening (records_of logs) trace (cond failed 5 0) report → IsTold tells script traced opening before now after report
-told_with tells script opening traced failed trace before now was after logs report told read rose untraced held =
+uncaused : (failed : Bool) → code failed ≡ 0 → failed ≡ false
+uncaused true e = absurd (omega (arith, e))
+uncaused false e = refl
+
+pub unfailed_before : (failed now_failed : Bool) → (failed ≡ true → now_failed ≡ true) → now_failed ≡ false → failed ≡ false
+unfailed_before true now_failed kept e = let f : true ≡ false = sym (kept refl) ∙ e in cc
+unfailed_before false now_failed kept e = refl
+
+pub told_with : (tells : Type 0) (script : Script) (opening : List Row) (traced failed : Bool) (trace : Trace) (before now : ℕ) (was after : Option Contents) (account : Account) (entries : List Entry) (logs : List Log) (report : Report)
+    → (tells → was ≢ None) → Becomes was after (HoldsLogs logs) → (failed ≡ true → Rose before now) → (failed ≡ false → account.faults ≡ []) → TellsTrace script traced account.causes trace
+    → AreWhole logs × IsHeld script opening entries (records_of logs) trace (cond failed 5 0) report → IsTold tells script traced opening before now after account report
+told_with tells script opening traced failed trace before now was after account entries logs report told read rose none traces held =
     let is = held.1 in
     let stands : tells → LogsStandFor after (replay (map_of opening) is.sound.history) = λ t. logs_stand was after logs (replay (map_of opening) is.sound.history) (told t) read held.0 is.sound.stands in
     record {
       status = subst (λ n. (n ≡ 0) ⊎ (n ≡ 5)) (sym is.status_is) (zero_or_five failed);
       cause = λ e. rose (caused failed (sym is.status_is ∙ e));
-      untraced = λ e. is.trace_is ∙ untraced e;
+      unfailed = λ e. none (uncaused failed (sym is.status_is ∙ e));
+      trace = subst (TellsTrace script traced account.causes) (sym is.trace_is) traces;
       sound = record {
         history = is.sound.history;
         sound = is.sound.sound;
@@ -126,13 +146,14 @@ told_with tells script opening traced failed trace before now was after logs rep
       };
     }
 
-pub told_alone : (tells : Type 0) (script : Script) (opening : List Row) (traced : Bool) (trace : Trace) (before now : ℕ) (after : Option Contents) (report : Report)
-    → Rose before now → RoseTwice before now → (traced ≡ false → trace ≡ no_trace)
-    → IsAlone script opening trace 5 report → IsTold tells script traced opening before now after report
-told_alone tells script opening traced trace before now after report rose twice untraced is = record {
+pub told_alone : (tells : Type 0) (script : Script) (opening : List Row) (traced : Bool) (trace : Trace) (before now : ℕ) (after : Option Contents) (account : Account) (entries : List Entry) (report : Report)
+    → Rose before now → RoseTwice before now → TellsTrace script traced account.causes trace
+    → IsAlone script opening entries trace 5 report → IsTold tells script traced opening before now after account report
+told_alone tells script opening traced trace before now after account entries report rose twice traces is = record {
   status = inr is.status_is;
   cause = λ e. rose;
-  untraced = λ e. is.trace_is ∙ untraced e;
+  unfailed = λ e. absurd (omega (arith, e, is.status_is));
+  trace = subst (TellsTrace script traced account.causes) (sym is.trace_is) traces;
   sound = record {
     history = is.sound.history;
     sound = is.sound.sound;
@@ -150,16 +171,117 @@ if_told (ended.Damaged volume at) P Q f p = tt
 if_told (ended.Unsound event) P Q f p = tt
 if_told ended.NoMemory P Q f p = tt
 
+-- ---- the check
+
+pub checks : (e : Ended) (P Q : Report → Type 0) (R S : Type 0) → ((report : Report) → P report → Q report) → (R → S) → Checks P R e → Checks Q S e
+checks (ended.Told report) P Q R S f g p = f report p
+checks (ended.Damaged volume at) P Q R S f g p = p
+checks (ended.Unsound event) P Q R S f g p = (p.0, g p.1)
+checks ended.NoMemory P Q R S f g p = p
+
+-- of a report that keeps this, another fact
+pub checks_told : (e : Ended) (P Q : Report → Type 0) (R : Type 0) → ((report : Report) → P report → Q report) → Checks P R e → IfTold e Q
+checks_told (ended.Told report) P Q R f p = f report p
+checks_told (ended.Damaged volume at) P Q R f p = tt
+checks_told (ended.Unsound event) P Q R f p = tt
+checks_told ended.NoMemory P Q R f p = tt
+
+refuted_in : (was after : Option Contents) (script : Script) (opening : Opening) (entries : List Entry) (logs : List Log) → was ≢ None → Becomes was after (HoldsLogs logs) → Contradict script opening entries logs → WhenTold after (LogsRefute script opening entries)
+refuted_in None after script opening entries logs told p con = absurd (told refl)
+refuted_in (Some c) None script opening entries logs told p con = tt
+refuted_in (Some c) (Some d) script opening entries logs told p con = inr (logs, (p.1, con))
+
+pub refuted : (tells : Type 0) (script : Script) (opening : Opening) (entries : List Entry) (before now : ℕ) (was after : Option Contents) (logs : List Log) → (tells → was ≢ None) → Becomes was after (HoldsLogs logs) → Contradict script opening entries logs
+    → IsRefuted tells script opening entries before now after
+refuted tells script opening entries before now was after logs told p con = inl (λ t. refuted_in was after script opening entries logs (told t) p con)
+
+damaged_in : (was after : Option Contents) (script : Script) (opening : Opening) (entries : List Entry) (member at : ℕ) → was ≢ None → Becomes was after (HoldsDamage member at) → WhenTold after (LogsRefute script opening entries)
+damaged_in None after script opening entries member at told p = absurd (told refl)
+damaged_in (Some c) None script opening entries member at told p = tt
+damaged_in (Some c) (Some d) script opening entries member at told p = inl (member, (at, p.1))
+
+pub damaged : (tells : Type 0) (script : Script) (opening : Opening) (entries : List Entry) (before now : ℕ) (was after : Option Contents) (member at : ℕ) → (tells → was ≢ None) → Becomes was after (HoldsDamage member at)
+    → IsRefuted tells script opening entries before now after
+damaged tells script opening entries before now was after member at told p = inl (λ t. damaged_in was after script opening entries member at (told t) p)
+
 -- the same of an answer that may be want of memory
-pub held_told : (tells : Type 0) (script : Script) (opening : List Row) (traced failed : Bool) (trace : Trace) (status before now : ℕ) (was after : Option Contents) (read given : List Log) (answer : Result Ended NoMemory)
-    → (tells → was ≢ None) → Becomes was after (HoldsLogs read) → (failed ≡ true → Rose before now) → (traced ≡ false → trace ≡ no_trace) → given ≡ read → status ≡ cond failed 5 0
-    → IfOk answer (λ e. IfTold e (λ report. AreWhole given × IsHeld script opening (records_of given) trace status report))
-    → IfOk answer (λ e. IfTold e (IsTold tells script traced opening before now after))
-held_told tells script opening traced failed trace status before now was after read given (Err none) told holds rose untraced same is it = it
-held_told tells script opening traced failed trace status before now was after read given (Ok e) told holds rose untraced same is it =
-    let its = subst (λ n. IfTold e (λ report. AreWhole read × IsHeld script opening (records_of read) trace n report)) is (subst (λ (logs : List Log). IfTold e (λ report. AreWhole logs × IsHeld script opening (records_of logs) trace status report)) same it) in
-    if_told e (λ report. AreWhole read × IsHeld script opening (records_of read) trace (cond failed 5 0) report) (IsTold tells script traced opening before now after)
-    (λ report held. told_with tells script opening traced failed trace before now was after read report told holds rose untraced held) its
+pub checks_ok : (answer : Result Ended NoMemory) (P : Report → Type 0) (R S : Type 0) → (R → S) → IfOk answer (Checks P R) → IfOk answer (Checks P S)
+checks_ok (Err none) P R S g it = it
+checks_ok (Ok e) P R S g it = checks e P P R S (λ report p. p) g it
+
+pub told_ok : (answer : Result Ended NoMemory) (P Q : Report → Type 0) → ((report : Report) → P report → Q report) → IfOk answer (λ e. IfTold e P) → IfOk answer (λ e. IfTold e Q)
+told_ok (Err none) P Q f it = it
+told_ok (Ok e) P Q f it = if_told e P Q f it
+
+pub held_told : (tells : Type 0) (script : Script) (opening : Opening) (traced failed : Bool) (trace : Trace) (status before now : ℕ) (was after : Option Contents) (account : Account) (entries : List Entry) (read given : List Log) (answer : Result Ended NoMemory)
+    → (tells → was ≢ None) → Becomes was after (HoldsLogs read) → (failed ≡ true → Rose before now) → (failed ≡ false → account.faults ≡ []) → TellsTrace script traced account.causes trace → given ≡ read → status ≡ cond failed 5 0
+    → IfOk answer (Checks (λ report. AreWhole given × IsHeld script opening.rows entries (records_of given) trace status report) (Contradict script opening entries given))
+    → IfOk answer (Checks (IsTold tells script traced opening.rows before now after account) (IsRefuted tells script opening entries before now after))
+held_told tells script opening traced failed trace status before now was after account entries read given (Err none) told holds rose unfailed traces same is it = it
+held_told tells script opening traced failed trace status before now was after account entries read given (Ok e) told holds rose unfailed traces same is it =
+    let at_logs = subst (λ (logs : List Log). Checks (λ report. AreWhole logs × IsHeld script opening.rows entries (records_of logs) trace status report) (Contradict script opening entries logs) e) same it in
+    let its = subst (λ n. Checks (λ report. AreWhole read × IsHeld script opening.rows entries (records_of read) trace n report) (Contradict script opening entries read) e) is at_logs in
+    checks e (λ report. AreWhole read × IsHeld script opening.rows entries (records_of read) trace (cond failed 5 0) report) (IsTold tells script traced opening.rows before now after account) (Contradict script opening entries read) (IsRefuted tells script opening entries before now after)
+    (λ report held. told_with tells script opening.rows traced failed trace before now was after account entries read report told holds rose unfailed traces held)
+    (refuted tells script opening entries before now was after read told holds) its
+
+pub alone_told : (tells : Type 0) (script : Script) (opening : Opening) (traced : Bool) (trace : Trace) (before now : ℕ) (after : Option Contents) (account : Account) (entries : List Entry) (answer : Result Ended NoMemory)
+    → Rose before now → RoseTwice before now → TellsTrace script traced account.causes trace
+    → IfOk answer (Checks (IsAlone script opening.rows entries trace 5) (IsSoundAlone script (map_of opening.rows) entries → ⊥))
+    → IfOk answer (Checks (IsTold tells script traced opening.rows before now after account) (IsRefuted tells script opening entries before now after))
+alone_told tells script opening traced trace before now after account entries (Err none) rose twice traces it = it
+alone_told tells script opening traced trace before now after account entries (Ok e) rose twice traces it =
+    checks e (IsAlone script opening.rows entries trace 5) (IsTold tells script traced opening.rows before now after account) (IsSoundAlone script (map_of opening.rows) entries → ⊥) (IsRefuted tells script opening entries before now after)
+    (λ report is. told_alone tells script opening.rows traced trace before now after account entries report rose twice traces is) (λ not. inr (twice, not)) it
+
+-- of what was held against logs or alone: which entries are told, and which status says that no call failed
+pub held_entries : (script : Script) (opening : Opening) (failed now_failed : Bool) (trace : Trace) (status : ℕ) (entries : List Entry) (logs : List Log) (answer : Result Ended NoMemory)
+    → (failed ≡ true → now_failed ≡ true) → status ≡ cond now_failed 5 0
+    → IfOk answer (Checks (λ report. AreWhole logs × IsHeld script opening.rows entries (records_of logs) trace status report) (Contradict script opening entries logs))
+    → IfOk answer (λ e. IfTold e (λ report. (report.entries ≡ map (entry_of script) entries) × (report.status ≡ 0 → failed ≡ false)))
+held_entries script opening failed now_failed trace status entries logs (Err none) kept is it = it
+held_entries script opening failed now_failed trace status entries logs (Ok e) kept is it =
+    checks_told e (λ report. AreWhole logs × IsHeld script opening.rows entries (records_of logs) trace status report) (λ report. (report.entries ≡ map (entry_of script) entries) × (report.status ≡ 0 → failed ≡ false)) (Contradict script opening entries logs)
+    (λ report held. (held.1.entries_are, λ zero. unfailed_before failed now_failed kept (uncaused now_failed (sym is ∙ (sym held.1.status_is ∙ zero))))) it
+
+pub alone_entries : (script : Script) (opening : Opening) (failed : Bool) (trace : Trace) (entries : List Entry) (answer : Result Ended NoMemory)
+    → IfOk answer (Checks (IsAlone script opening.rows entries trace 5) (IsSoundAlone script (map_of opening.rows) entries → ⊥))
+    → IfOk answer (λ e. IfTold e (λ report. (report.entries ≡ map (entry_of script) entries) × (report.status ≡ 0 → failed ≡ false)))
+alone_entries script opening failed trace entries (Err none) it = it
+alone_entries script opening failed trace entries (Ok e) it =
+    checks_told e (IsAlone script opening.rows entries trace 5) (λ report. (report.entries ≡ map (entry_of script) entries) × (report.status ≡ 0 → failed ≡ false)) (IsSoundAlone script (map_of opening.rows) entries → ⊥)
+    (λ report is. (is.entries_are, λ zero. absurd (omega (arith, zero, is.status_is)))) it
+
+none_ok : (answer : Result Ended NoMemory) (P : Ended → Type 0) → IsErr answer → IfOk answer P
+none_ok (Err none) P wanting = tt
+none_ok (Ok e) P wanting = let f : false ≡ true = wanting in cc
+
+-- of logs that were not read
+pub unread_told : (tells : Type 0) (script : Script) (opening : Opening) (traced failed : Bool) (trace : Trace) (before now : ℕ) (was after : Option Contents) (account : Account) (entries : List Entry) (read : Result (Vec Log Global) LogsFault) (why : LogsFault) (answer : Result Ended NoMemory)
+    → (tells → was ≢ None) → read ≡ Err why → (failed ≡ true → Rose before now) → (IsErrOf read reading.Failed → RoseTwice before now × (failed ≡ true)) → TellsTrace script traced account.causes trace → TellsDamage was after read
+    → (why ≡ reading.Failed → IfOk answer (Checks (IsAlone script opening.rows entries trace 5) (IsSoundAlone script (map_of opening.rows) entries → ⊥)))
+    → ((member at : ℕ) → why ≡ reading.Damaged member at → answer ≡ Ok (ended.Unsound 0))
+    → (why ≡ reading.NoMemory → IsErr answer)
+    → IfOk answer (Checks (IsTold tells script traced opening.rows before now after account) (IsRefuted tells script opening entries before now after))
+unread_told tells script opening traced failed trace before now was after account entries read reading.Failed answer told is one two traces harm alone unsound wanting =
+    let both : RoseTwice before now × (failed ≡ true) = two (subst (λ (r : Result (Vec Log Global) LogsFault). IsErrOf r reading.Failed) (sym is) refl) in
+    alone_told tells script opening traced trace before now after account entries answer (one both.1) both.0 traces (alone refl)
+unread_told tells script opening traced failed trace before now was after account entries read (reading.Damaged member at) answer told is one two traces harm alone unsound wanting =
+    subst (λ (a : Result Ended NoMemory). IfOk a (Checks (IsTold tells script traced opening.rows before now after account) (IsRefuted tells script opening entries before now after))) (sym (unsound member at refl))
+    (refl, damaged tells script opening entries before now was after member at told (subst (λ (r : Result (Vec Log Global) LogsFault). TellsDamage was after r) is harm))
+unread_told tells script opening traced failed trace before now was after account entries read reading.NoMemory answer told is one two traces harm alone unsound wanting =
+    none_ok answer (Checks (IsTold tells script traced opening.rows before now after account) (IsRefuted tells script opening entries before now after)) (wanting refl)
+
+pub unread_entries : (script : Script) (opening : Opening) (failed : Bool) (trace : Trace) (entries : List Entry) (why : LogsFault) (answer : Result Ended NoMemory)
+    → (why ≡ reading.Failed → IfOk answer (Checks (IsAlone script opening.rows entries trace 5) (IsSoundAlone script (map_of opening.rows) entries → ⊥)))
+    → ((member at : ℕ) → why ≡ reading.Damaged member at → answer ≡ Ok (ended.Unsound 0))
+    → (why ≡ reading.NoMemory → IsErr answer)
+    → IfOk answer (λ e. IfTold e (λ report. (report.entries ≡ map (entry_of script) entries) × (report.status ≡ 0 → failed ≡ false)))
+unread_entries script opening failed trace entries reading.Failed answer alone unsound wanting = alone_entries script opening failed trace entries answer (alone refl)
+unread_entries script opening failed trace entries (reading.Damaged member at) answer alone unsound wanting =
+    subst (λ (a : Result Ended NoMemory). IfOk a (λ e. IfTold e (λ report. (report.entries ≡ map (entry_of script) entries) × (report.status ≡ 0 → failed ≡ false)))) (sym (unsound member at refl)) tt
+unread_entries script opening failed trace entries reading.NoMemory answer alone unsound wanting =
+    none_ok answer (λ e. IfTold e (λ report. (report.entries ≡ map (entry_of script) entries) × (report.status ≡ 0 → failed ≡ false))) (wanting refl)
 
 pub twice : (a b c : ℕ) → Rose a b → Rose b c → RoseTwice a c
 twice a b c one two = omega arith

@@ -1,3 +1,4 @@
+use crate::account::Account;
 use ds_base::{RowList, Volume};
 use ds_model::Report;
 use group_core::RunFault;
@@ -23,9 +24,10 @@ pub enum Outcome {
     Opened { opening: RowList, ended: Ended },
 }
 
-/// What a call leaves.
+/// What a call leaves. Where no disk was opened, and where one was only shown, the account is empty.
 #[derive(Drop)]
 pub struct Ran<D> {
     pub disk: D,
     pub outcome: Outcome,
+    pub account: Account,
 }

@@ -1,5 +1,6 @@
-ghost use Rattle.std.specs.Prelude.{◌≡◌, Some};
+ghost use Rattle.std.specs.Prelude.{◌≡◌, ◌≢◌, ℕ, Some};
 ghost use Rattle.group_core.specs.Goes.{IsFailed};
+ghost use Rattle.group_core.specs.declared.fault.RunFault.TheVariants as fault;
 ghost use Rattle.opening_rows.specs.declared.fault.LogsFault.TheVariants as reading;
 
 use ds_base::Volume;
@@ -8,7 +9,8 @@ use opening_rows::LogsFault;
 
 /// Why a disk wasn't opened whose logs were not read.
 pub fn fault_of(why: LogsFault) -> RunFault
-    ensures { IsFailed (Some result) → why ≡ reading.Failed }
+    ensures failed { IsFailed (Some result) → why ≡ reading.Failed }
+    ensures lawful { (place : ℕ) → result ≢ fault.Unlawful place }
 {
     match why {
         LogsFault::Failed => RunFault::Failed,

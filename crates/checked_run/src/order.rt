@@ -1,39 +1,26 @@
 //! The order in which the transactions of a run are printed.
 
+ghost use Rattle.std.specs.Prelude.{◌≡◌, IfOk, OnOk};
+ghost use Rattle.checked_run.specs.Printed.{print_key, IsPrinted};
+
 use ds_base::NoMemory;
 use ds_model::{Entry, Fate};
-use std::alloc::Global;
 
-// Puts an entry at the place of its number.
-fn put_at(others: &mut [Option<Entry>], entry: Entry) {
-    let at = entry.tran.number as usize;
-    if at < others.len() {
-        others[at] = Some(entry);
+// Committed ones come first, and all others by their numbers.
+fn print_key(entry: &Entry) -> u32
+    ensures { result ≡ print_key entry.now }
+{
+    match &entry.fate {
+        Fate::Committed { .. } => 0,
+        Fate::Refused(_) | Fate::Stopped => entry.tran.number,
     }
 }
 
-fn places_for(alloc: Global, count: usize) -> Result<Vec<Option<Entry>>, NoMemory> {
-    let mut places = Vec::new(alloc);
-    for _ in 0..count {
-        places.push(None)?;
-    }
-    Ok(places)
-}
-
-/// The committed ones in the order of their commits, and then all others by their numbers, which are at most as many as they.
-pub fn in_print_order(alloc: Global, entries: Vec<Entry>) -> Result<Vec<Entry>, NoMemory> {
-    let mut printed = Vec::new(alloc);
-    let mut others = places_for(alloc, entries.len().saturating_add(1))?;
-    for entry in entries {
-        match &entry.fate {
-            Fate::Committed { .. } => printed.push(entry)?,
-            Fate::Refused(_) | Fate::Stopped => put_at(&mut others, entry),
-        }
-    }
-    for other in others {
-        if let Some(entry) = other {
-            printed.push(entry)?;
-        }
-    }
+/// The committed ones in the order of their commits, and then all others by their numbers, which are counted from 1.
+pub fn in_print_order(entries: Vec<Entry>) -> Result<Vec<Entry>, NoMemory>
+    ensures { IfOk result (λ printed. IsPrinted entries.items printed.items) }
+{
+    let mut printed = entries;
+    printed.sort_by_key(|entry| print_key(entry))?;
     Ok(printed)
 }

@@ -1,7 +1,8 @@
 //! A report without entries.
 
 ghost use Rattle.std.specs.Prelude.{◌≡◌};
-ghost use Rattle.checked_run.specs.Told.{no_trace, plain_report};
+ghost use Rattle.checked_run.specs.Accounts.{no_trace};
+ghost use Rattle.checked_run.specs.Told.{plain_report};
 
 use ds_base::{RowList, Sequence};
 use ds_model::{Report, Trace};

@@ -1,17 +1,22 @@
 //! A report that is held against script, opening rows and logs before it is told.
 
-ghost use Rattle.std.specs.Prelude.{◌≡◌, map, IfOk};
-ghost use Rattle.ds_model.specs.Rows.{AreSorted};
+ghost use Rattle.std.specs.Prelude.{◌≡◌, ℕ, map, Ok, IfOk, IsErr};
+ghost use Rattle.ds_model.specs.Rows.{AreSorted, map_of};
 ghost use Rattle.ds_model.specs.Told.{entry_of};
+ghost use Rattle.opening_rows.specs.declared.fault.LogsFault.TheVariants as reading;
 ghost use Rattle.report_check.specs.Records.{records_of};
+ghost use Rattle.report_check.specs.Reports.{IsSoundAlone};
+ghost use Rattle.checked_run.specs.declared.ended.Ended.TheVariants as ended;
 ghost use Rattle.checked_run.specs.Back.{AreWhole};
-ghost use Rattle.checked_run.specs.Told.{IfTold, IsHeld, IsAlone};
+ghost use Rattle.checked_run.specs.Told.{IsHeld, IsAlone};
+ghost use Rattle.checked_run.specs.Refuted.{Contradict};
+ghost use Rattle.checked_run.specs.Settled.{Checks};
 
 use crate::ended::Ended;
 use crate::logs::are_whole;
 use ds_base::{NoMemory, RowList};
 use ds_model::{Entry, Report, Script, Trace};
-use opening_rows::{Log, Opening};
+use opening_rows::{Log, LogsFault, Opening};
 use report_check::{is_sound, rows_of, sound_rows, soundness_laws};
 use report_told::tell_entries;
 use std::alloc::Global;
@@ -35,8 +40,8 @@ fn report_of(
     })
 }
 
-/// The report of entries that are sound for these logs. Bytes behind the last whole record of a log make none sound: records are
-/// appended whole, and a group restart cuts what a stop has cut short.
+/// The report of entries that are sound for these logs, or that they aren't. Bytes behind the last whole record of a log make none
+/// sound: records are appended whole, and a group restart cuts what a stop has cut short.
 pub fn told_with(
     alloc: Global,
     script: &Script,
@@ -47,7 +52,7 @@ pub fn told_with(
     status: u8,
 ) -> Result<Ended, NoMemory>
     requires { AreSorted opening.now.rows }
-    ensures { IfOk result (λ ended. IfTold ended (λ report. AreWhole logs.now × IsHeld script.now opening.now.rows (records_of logs.now) trace status report)) }
+    ensures { IfOk result (Checks (λ report. AreWhole logs.now × IsHeld script.now opening.now.rows entries.items (records_of logs.now) trace status report) (Contradict script.now opening.now entries.items logs.now)) }
 {
     soundness_laws();
     if !are_whole(logs) {
@@ -61,7 +66,7 @@ pub fn told_with(
     Ok(Ended::Told(report))
 }
 
-/// The report of entries that are sound as far as that can be told without the logs.
+/// The report of entries that are sound as far as that can be told without the logs, or that they aren't.
 pub fn told_alone(
     alloc: Global,
     script: &Script,
@@ -71,7 +76,7 @@ pub fn told_alone(
     status: u8,
 ) -> Result<Ended, NoMemory>
     requires { AreSorted opening.now }
-    ensures { IfOk result (λ ended. IfTold ended (λ report. IsAlone script.now opening.now trace status report)) }
+    ensures { IfOk result (Checks (IsAlone script.now opening.now entries.items trace status) (IsSoundAlone script.now (map_of opening.now) entries.items → ⊥)) }
 {
     soundness_laws();
     match sound_rows(alloc, script, opening, &entries)? {
@@ -80,5 +85,26 @@ pub fn told_alone(
             let report = report_of(alloc, script, entries, rows, trace, status)?;
             Ok(Ended::Told(report))
         }
+    }
+}
+
+/// The same of entries whose logs were not read for this reason. A damaged log makes none sound.
+pub fn told_unread(
+    alloc: Global,
+    script: &Script,
+    opening: &RowList,
+    entries: Vec<Entry>,
+    trace: Trace,
+    why: LogsFault,
+) -> Result<Ended, NoMemory>
+    requires { AreSorted opening.now }
+    ensures failed { why ≡ reading.Failed → IfOk result (Checks (IsAlone script.now opening.now entries.items trace 5) (IsSoundAlone script.now (map_of opening.now) entries.items → ⊥)) }
+    ensures damaged { (member at : ℕ) → why ≡ reading.Damaged member at → result ≡ Ok (ended.Unsound 0) }
+    ensures wanting { why ≡ reading.NoMemory → IsErr result }
+{
+    match why {
+        LogsFault::Failed => told_alone(alloc, script, opening, entries, trace, 5),
+        LogsFault::Damaged { .. } => Ok(Ended::Unsound { event: 0 }),
+        LogsFault::NoMemory => Err(NoMemory),
     }
 }

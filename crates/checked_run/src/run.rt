@@ -1,15 +1,21 @@
-ghost use Rattle.std.specs.Prelude.{◌≡◌, ◌≤◌, false, None, IfOk, IfErr};
-ghost use Rattle.ds_base.specs.Causes.{Rose};
+ghost use Rattle.std.specs.Prelude.{◌≡◌, ◌≤◌, IfOk, IfErr};
+ghost use Rattle.cache_structure.specs.State.{directory_of};
+ghost use Rattle.ds_disk.specs.Contents.{Becomes};
 ghost use Rattle.ds_model.specs.Rows.{AreSorted};
+ghost use Rattle.disk_restart.specs.Keeping.{KeepsRecords};
 ghost use Rattle.group_core.specs.declared.fault.RunFault.TheVariants as fault;
-ghost use Rattle.checked_run.specs.Told.{IfTold, IsTold, TellsAlways};
-ghost use Rattle.checked_run.specs.Outcomes.{Comes, ComesFrom};
+ghost use Rattle.checked_run.specs.Leading.{Begins, ComesTo, Leads, LeadsFrom, kind_of};
+ghost use Rattle.checked_run.specs.Outcomes.{Comes, ComesFrom, HasCause, IsLeft, Plays};
+ghost use Rattle.checked_run.specs.Settled.{Settles};
+ghost use Rattle.checked_run.specs.Told.{TellsAlways};
 
+use crate::account::{Account, no_account};
 use crate::copies::copy_script;
 use crate::ended::{Ended, Outcome, Ran};
 use crate::fault::fault_of;
 use crate::settle::settle;
 use cache_structure::Cache;
+use disk_restart::keeping_laws;
 use draw_generator::Generator;
 use ds_base::Sizes;
 use ds_disk::Disk;
@@ -39,11 +45,12 @@ fn begin<D: Disk, P: Policy + Drop>(
 ) -> Result<Group<D, Cache, P>, StartFault<D>>
     requires { (1 ≤ sizes.now.locks) × (1 ≤ sizes.now.pool) }
     ensures later { IfOk result (λ group. D.faults disk ≤ D.faults group.disk) }
-    ensures fault { IfOk result (λ group. group.fault ≡ None) }
-    ensures whole { IfOk result (λ group. group.failed ≡ false) }
+    ensures begins { IfOk result (Begins script.now) }
     ensures left { IfErr result (λ f. D.faults disk ≤ D.faults f.disk) }
-    ensures failed { IfErr result (λ f. f.why ≡ fault.Failed → Rose (D.faults disk) (D.faults f.disk)) }
+    ensures keeps { IfErr result (λ f. Becomes (D.contents disk) (D.contents f.disk) KeepsRecords) }
+    ensures cause { IfErr result (λ f. HasCause (D.faults disk) (D.faults f.disk) f.why) }
 {
+    keeping_laws();
     let Ok(cache) = Cache::new(alloc, sizes.cache, sizes.pool) else {
         return Err(no_memory(disk));
     };
@@ -65,20 +72,22 @@ fn finish<D: Disk, P: Policy + Drop>(
     opening: &Opening,
     seed: u64,
     is_traced: bool,
-) -> (D, Ended)
-    requires fault { group.fault ≡ None }
-    requires whole { group.failed ≡ false }
+) -> (D, Account, Ended)
+    requires begins { Begins script.now group }
     requires in_order { AreSorted opening.now.rows }
-    ensures told { IfTold result.1 (IsTold (TellsAlways D.contents) script.now is_traced opening.now.rows (D.faults group.disk) (D.faults result.0) (D.contents result.0)) }
+    ensures comes { ComesTo
+        (LeadsFrom directory_of D.alive D.contents D.faults group seed result.1)
+        (Settles (TellsAlways D.contents) script.now is_traced opening.now (D.faults group.disk) (D.faults result.0) (D.contents result.0) result.1)
+        result.2 }
     ensures later { D.faults group.disk ≤ D.faults result.0 }
 {
     let mut generator = Generator::new(seed);
     let end = run_one_thread(alloc, &mut group, &mut generator, u64::MAX);
     let (mut disk, played, closed) = group.close(alloc);
-    let ended = settle(
+    let (account, ended) = settle(
         alloc, &mut disk, script, opening, played, end, closed, is_traced,
     );
-    (disk, ended)
+    (disk, account, ended)
 }
 
 // Plays a script on a disk whose logs were read.
@@ -94,23 +103,30 @@ fn play_from<D: Disk, P: Policy + Drop>(
 ) -> Ran<D>
     requires sizes { (1 ≤ sizes.now.locks) × (1 ≤ sizes.now.pool) }
     requires in_order { AreSorted opening.rows }
-    ensures comes { ComesFrom opening.rows (D.faults disk) (D.faults result.disk) (λ rows. IsTold (TellsAlways D.contents) script.now is_traced rows (D.faults disk) (D.faults result.disk) (D.contents result.disk)) result.outcome }
+    ensures comes { ComesFrom opening.rows (D.faults disk) (D.faults result.disk) result.account
+        (λ _. ComesTo
+        (Leads P D.alive D.contents D.faults script.now seed result.account)
+        (Settles (TellsAlways D.contents) script.now is_traced opening (D.faults disk) (D.faults result.disk) (D.contents result.disk) result.account))
+        result.outcome }
+    ensures left { IsLeft result.outcome (D.contents disk) (D.contents result.disk) }
     ensures later { D.faults disk ≤ D.faults result.disk }
 {
     match begin(alloc, disk, script, sizes, members, is_traced) {
         Ok(group) => {
-            let (disk, ended) = finish(alloc, group, script, &opening, seed, is_traced);
+            let (disk, account, ended) = finish(alloc, group, script, &opening, seed, is_traced);
             Ran {
                 disk,
                 outcome: Outcome::Opened {
                     opening: opening.rows,
                     ended,
                 },
+                account,
             }
         }
         Err(StartFault { disk, why }) => Ran {
             disk,
             outcome: Outcome::Unopened(why),
+            account: no_account(alloc),
         },
     }
 }
@@ -121,6 +137,8 @@ fn play_from<D: Disk, P: Policy + Drop>(
 ///
 /// Where a call of the disk has failed the logs may not be read back: then the report is held against script and rows alone. It is
 /// told so only where two calls have failed: where the first is one of the reading, the logs are read once more.
+///
+/// The account is that of the group to which its journal leads, and the report tells the fates of that group's transactions.
 pub fn run_script<D: Disk, P: Policy + Drop>(
     alloc: Global,
     mut disk: D,
@@ -131,13 +149,18 @@ pub fn run_script<D: Disk, P: Policy + Drop>(
     is_traced: bool,
 ) -> Ran<D>
     requires { (1 ≤ sizes.now.locks) × (1 ≤ sizes.now.pool) }
-    ensures comes { Comes (D.contents disk) (D.faults disk) (D.faults result.disk) (λ rows. IsTold (TellsAlways D.contents) script.now is_traced rows (D.faults disk) (D.faults result.disk) (D.contents result.disk)) result.outcome }
+    ensures comes { Comes (D.contents disk) (D.faults disk) (D.faults result.disk) result.account
+        (Plays (kind_of P D.alive D.contents D.faults) script.now seed is_traced (D.contents disk) (D.faults disk) (D.faults result.disk) (D.contents result.disk) result.account)
+        result.outcome }
+    ensures left { IsLeft result.outcome (D.contents disk) (D.contents result.disk) }
     ensures later { D.faults disk ≤ D.faults result.disk }
 {
+    keeping_laws();
     match read_opening(alloc, &mut disk) {
         Err(why) => Ran {
             disk,
             outcome: Outcome::Unopened(fault_of(why)),
+            account: no_account(alloc),
         },
         Ok(opening) => play_from(
             alloc, disk, opening, script, sizes, members, seed, is_traced,

@@ -1,7 +1,9 @@
 //! The trace of a run.
 
-ghost use Rattle.std.specs.Prelude.{◌≡◌, false, IfOk};
-ghost use Rattle.checked_run.specs.Told.{no_trace};
+ghost use Rattle.std.specs.Prelude.{◌≡◌, map, IfOk};
+ghost use Rattle.ds_model.specs.declared.script.Script.{Script as AnyScript};
+ghost use Rattle.report_told.specs.Names.{names_in};
+ghost use Rattle.checked_run.specs.Accounts.{cause_line, cause_lines, TellsTrace};
 
 use crate::plain::no_trace;
 use ds_base::{Bytes, NoMemory, Sequence};
@@ -32,19 +34,36 @@ fn events_of(alloc: Global, lines: &[Line]) -> Result<EventLineList, NoMemory> {
     Ok(events)
 }
 
-fn causes_of(alloc: Global, script: &Script, causes: &[Cause]) -> Result<CauseLineList, NoMemory> {
+// The lines that were kept, if any were.
+fn kept(lines: &Option<Vec<Line>>) -> &[Line] {
+    match lines {
+        Some(lines) => lines,
+        None => &[],
+    }
+}
+
+fn cause_line(alloc: Global, names: &[&Bytes], cause: Cause) -> Result<CauseLine, NoMemory>
+    ensures { (s : AnyScript) → map (λ n. n.now) names.now ≡ names_in s → IfOk result (λ line. line ≡ cause_line s cause) }
+{
+    Ok(CauseLine {
+        name: name_at(alloc, names, cause.number)?,
+        place: cause.place,
+    })
+}
+
+fn causes_of(alloc: Global, script: &Script, causes: &[Cause]) -> Result<CauseLineList, NoMemory>
+    ensures { IfOk result (λ told. told ≡ cause_lines script.now causes.now) }
+{
     let names = names_of(alloc, script)?;
     let mut told = Sequence::new(alloc);
     for cause in causes {
-        told.push(CauseLine {
-            name: name_at(alloc, &names, cause.number)?,
-            place: cause.place,
-        })?;
+        told.push(cause_line(alloc, &names, *cause)?)?;
     }
     Ok(told)
 }
 
-/// The trace of a run, where one is wanted.
+/// The trace of a run, where one is wanted: the causes of its refusals with the names of their transactions, and the lines that
+/// were kept.
 pub fn trace_of(
     alloc: Global,
     script: &Script,
@@ -52,13 +71,13 @@ pub fn trace_of(
     lines: &Option<Vec<Line>>,
     is_traced: bool,
 ) -> Result<Trace, NoMemory>
-    ensures { IfOk result (λ trace. is_traced ≡ false → trace ≡ no_trace) }
+    ensures { IfOk result (TellsTrace script.now is_traced causes.now) }
 {
-    match lines {
-        Some(lines) if is_traced => Ok(Trace {
-            causes: causes_of(alloc, script, causes)?,
-            events: events_of(alloc, lines)?,
-        }),
-        Some(_) | None => Ok(no_trace(alloc)),
+    if !is_traced {
+        return Ok(no_trace(alloc));
     }
+    Ok(Trace {
+        causes: causes_of(alloc, script, causes)?,
+        events: events_of(alloc, kept(lines))?,
+    })
 }

@@ -13,8 +13,10 @@ use Rattle.checked_run.specs.declared.ended.Ended.{Ended}
 use Rattle.checked_run.specs.declared.ended.Ended.TheVariants as ending
 use Rattle.checked_run.specs.declared.ended.Outcome.{Outcome}
 use Rattle.checked_run.specs.declared.ended.Outcome.TheVariants as outcome
-use Rattle.checked_run.specs.Told.{IfTold, IsTold}
-use Rattle.checked_run.specs.Outcomes.{IsOpening, HasCause, Comes, ShowsRows}
+use Rattle.checked_run.specs.Accounts.{no_account}
+use Rattle.checked_run.specs.Leading.{Came, Kind}
+use Rattle.checked_run.specs.declared.account.Account.{Account}
+use Rattle.checked_run.specs.Outcomes.{IsOpening, HasCause, Comes, Plays, Shows}
 use Rattle.group_words.specs.Orders.{AreSizes}
 use Rattle.group_words.specs.declared.order.Order.{Order}
 use Rattle.group_words.specs.declared.order.Order.TheVariants as order
@@ -24,12 +26,12 @@ use Rattle.group_run.specs.declared.prepare.Setting.{Setting}
 use Rattle.group_run.specs.declared.prepare.Prepared.TheVariants as prepared
 use Rattle.group_run.specs.declared.telling.Telling.{Telling}
 use Rattle.group_run.specs.Outside.{Outside, DiskIsUntouched}
-use Rattle.group_run.specs.Prepares.{IsPrepared, ReadsNothing, setting_of}
+use Rattle.group_run.specs.Prepares.{IsPrepared, ReadsNothing, seed_of, setting_of}
 use Rattle.group_run.specs.Reports.{empty_report}
 use Rattle.group_run.specs.Statuses.{short_text}
 use Rattle.group_run.specs.Read.{IsRead}
 use Rattle.group_run.specs.Tellings.{short_telling, script_telling, met_by, told_text, telling_of, fault_status, IsOrWanting, TellsOutcome}
-use Rattle.group_run.specs.Ends.{MetByDisk, MetBy, RunsTo, RanBy, work_of, run_text, text_for, text_by, TouchesNoDisk, Tells, Meets, Works}
+use Rattle.group_run.specs.Ends.{MetByDisk, MetBy, RunsTo, PlaysFrom, RanBy, work_of, run_text, text_for, text_by, TouchesNoDisk, PlaysNothing, Tells, Meets, Works}
 
 -- ---- a call that opened no disk
 
@@ -41,38 +43,40 @@ no_text (Some (order.Make n)) = refl
 no_text (Some (order.Work n sizes)) = refl
 
 -- a status was met, and no disk opened
-meets_short : (tells : Type 0) (o : Option Order) (before after : Outside) (met : Status) (text : List ℕ) (n : ℕ)
+meets_short : (kind : Kind) (o : Option Order) (before after : Outside) (met : Status) (text : List ℕ) (n : ℕ)
     → ((met ≡ status.NoMemory → ⊥) → MetBy o met before after) → text ≡ text_for o met → (TouchesNoDisk o → DiskIsUntouched before after) → (ReadsNothing o → after.left ≡ before.left)
-    → Meets tells o before after met text false [] (empty_report n)
-meets_short tells o before after met text n is its untouched unread = record {
+    → Meets kind o before after met text false [] no_account (empty_report n)
+meets_short kind o before after met text n is its untouched unread = record {
   ran = λ e. let f : false ≡ true = e in cc;
   short = λ e not. is not;
   text_is = its;
   opens = λ e. let f : false ≡ true = e in cc;
-  unopened = λ e. (refl, refl);
+  unopened = λ e. (refl, (refl, refl));
+  unfailed = λ done. refl;
+  unplayed = λ none. refl;
   untouched = untouched;
   unread = unread;
 }
 
-meets_wanting : (tells : Type 0) (o : Option Order) (before after : Outside) → (TouchesNoDisk o → DiskIsUntouched before after) → (ReadsNothing o → after.left ≡ before.left)
-    → Meets tells o before after status.NoMemory [] false [] (empty_report 6)
-meets_wanting tells o before after untouched unread = meets_short tells o before after status.NoMemory [] 6 (λ not. absurd (not refl)) (no_text o) untouched unread
+meets_wanting : (kind : Kind) (o : Option Order) (before after : Outside) → (TouchesNoDisk o → DiskIsUntouched before after) → (ReadsNothing o → after.left ≡ before.left)
+    → Meets kind o before after status.NoMemory [] false [] no_account (empty_report 6)
+meets_wanting kind o before after untouched unread = meets_short kind o before after status.NoMemory [] 6 (λ not. absurd (not refl)) (no_text o) untouched unread
 
 -- what is told where no disk opened
-abbrev pub MeetsUnopened : Type 0 → Option Order → Outside → Outside → Telling → Type 0
-MeetsUnopened tells o before after t = Meets tells o before after t.status t.text false [] t.report
+abbrev pub MeetsUnopened : Kind → Option Order → Outside → Outside → Telling → Type 0
+MeetsUnopened kind o before after t = Meets kind o before after t.status t.text false [] no_account t.report
 
-meets_or_wanting : (tells : Type 0) (o : Option Order) (before after : Outside) (wanted told : Telling) → (TouchesNoDisk o → DiskIsUntouched before after) → (ReadsNothing o → after.left ≡ before.left)
-    → MeetsUnopened tells o before after wanted → IsOrWanting wanted told → MeetsUnopened tells o before after told
-meets_or_wanting tells o before after wanted told untouched unread meets is = elim is [
-  | inl e ↦ subst (MeetsUnopened tells o before after) (sym e) meets
-  | inr e ↦ subst (MeetsUnopened tells o before after) (sym e) (meets_wanting tells o before after untouched unread)
+meets_or_wanting : (kind : Kind) (o : Option Order) (before after : Outside) (wanted told : Telling) → (TouchesNoDisk o → DiskIsUntouched before after) → (ReadsNothing o → after.left ≡ before.left)
+    → MeetsUnopened kind o before after wanted → IsOrWanting wanted told → MeetsUnopened kind o before after told
+meets_or_wanting kind o before after wanted told untouched unread meets is = elim is [
+  | inl e ↦ subst (MeetsUnopened kind o before after) (sym e) meets
+  | inr e ↦ subst (MeetsUnopened kind o before after) (sym e) (meets_wanting kind o before after untouched unread)
 ]
 
-pub wanted : (tells : Type 0) (o : Option Order) (before after : Outside) (told : Telling) → DiskIsUntouched before after → (ReadsNothing o → after.left ≡ before.left)
-    → IsOrWanting (short_telling status.NoMemory) told → MeetsUnopened tells o before after told
-wanted tells o before after told untouched unread is =
-    meets_or_wanting tells o before after (short_telling status.NoMemory) told (λ t. untouched) unread (meets_wanting tells o before after (λ t. untouched) unread) is
+pub wanted : (kind : Kind) (o : Option Order) (before after : Outside) (told : Telling) → DiskIsUntouched before after → (ReadsNothing o → after.left ≡ before.left)
+    → IsOrWanting (short_telling status.NoMemory) told → MeetsUnopened kind o before after told
+wanted kind o before after told untouched unread is =
+    meets_or_wanting kind o before after (short_telling status.NoMemory) told (λ t. untouched) unread (meets_wanting kind o before after (λ t. untouched) unread) is
 
 -- ---- by what was prepared
 
@@ -90,13 +94,13 @@ text_by_order (Some order.Show) met a b f g h = refl
 text_by_order (Some (order.Make n)) met a b f g h = let f : prepared.Ended met ≡ prepared.Make n = h in cc
 text_by_order (Some (order.Work n sizes)) met a b f g h = let f : prepared.Ended met ≡ prepared.Work n (setting_of sizes (Some n) false) = h.0 in cc
 
-pub ended : (tells : Type 0) (o : Option Order) (before after : Outside) (met : Status) (told : Telling)
+pub ended : (kind : Kind) (o : Option Order) (before after : Outside) (met : Status) (told : Telling)
     → IsPrepared o (prepared.Ended met) before.left after.left before.source_faults after.source_faults → DiskIsUntouched before after → (ReadsNothing o → after.left ≡ before.left)
-    → IsOrWanting (short_telling met) told → MeetsUnopened tells o before after told
-ended tells o before after met told h untouched unread is =
-    let meets : MeetsUnopened tells o before after (short_telling met) =
-    meets_short tells o before after met (short_text met) _ (λ not. met_by_order o met before after h untouched) (text_by_order o met before.left after.left before.source_faults after.source_faults h) (λ t. untouched) unread in
-    meets_or_wanting tells o before after (short_telling met) told (λ t. untouched) unread meets is
+    → IsOrWanting (short_telling met) told → MeetsUnopened kind o before after told
+ended kind o before after met told h untouched unread is =
+    let meets : MeetsUnopened kind o before after (short_telling met) =
+    meets_short kind o before after met (short_text met) _ (λ not. met_by_order o met before after h untouched) (text_by_order o met before.left after.left before.source_faults after.source_faults h) (λ t. untouched) unread in
+    meets_or_wanting kind o before after (short_telling met) told (λ t. untouched) unread meets is
 
 same_number : (n k : ℕ) → prepared.Make n ≡ prepared.Make k → n ≡ k
 same_number n k e = cc
@@ -108,37 +112,52 @@ made_by (Some order.Show) n before after h = let f : prepared.Make n ≡ prepare
 made_by (Some (order.Make k)) n before after h = (refl, ap (λ i. script_text (made i)) (same_number n k h))
 made_by (Some (order.Work k sizes)) n before after h = let f : prepared.Make n ≡ prepared.Work k (setting_of sizes (Some k) false) = h.0 in cc
 
-pub is_made : (tells : Type 0) (o : Option Order) (before after : Outside) (n : ℕ) (told : Telling)
+pub is_made : (kind : Kind) (o : Option Order) (before after : Outside) (n : ℕ) (told : Telling)
     → IsPrepared o (prepared.Make n) before.left after.left before.source_faults after.source_faults → DiskIsUntouched before after → (ReadsNothing o → after.left ≡ before.left)
-    → IsOrWanting (script_telling n) told → MeetsUnopened tells o before after told
-is_made tells o before after n told h untouched unread is =
+    → IsOrWanting (script_telling n) told → MeetsUnopened kind o before after told
+is_made kind o before after n told h untouched unread is =
     let by = made_by o n before after h in
-    let meets : MeetsUnopened tells o before after (script_telling n) = meets_short tells o before after status.Done (script_text (made n)) 0 (λ not. by.0) by.1 (λ t. untouched) unread in
-    meets_or_wanting tells o before after (script_telling n) told (λ t. untouched) unread meets is
+    let meets : MeetsUnopened kind o before after (script_telling n) = meets_short kind o before after status.Done (script_text (made n)) 0 (λ not. by.0) by.1 (λ t. untouched) unread in
+    meets_or_wanting kind o before after (script_telling n) told (λ t. untouched) unread meets is
 
 -- ---- by what became of a disk
 
 disk_met : (why : RunFault) (before after : Outside) → HasCause before.disk_faults after.disk_faults why → MetByDisk (fault_status why) before after
-disk_met fault.Failed before after cause = cause refl
+disk_met fault.Failed before after cause = cause.failed refl
 disk_met (fault.Damaged volume at) before after cause = tt
-disk_met (fault.Unlawful place) before after cause = tt
+disk_met (fault.Unlawful place) before after cause = cause.lawful place refl
 disk_met fault.NoMemory before after cause = tt
 
--- a report that keeps this has one of two statuses
-abbrev pub HasStatus : (Report → Type 0) → Type 0
-HasStatus Keeps = (report : Report) → Keeps report → (report.status ≡ 0) ⊎ (report.status ≡ 5)
+-- a report of which this is known has one of two statuses
+abbrev pub HasStatus : (Ended → Type 0) → Type 0
+HasStatus Keeps = (report : Report) → Keeps (ending.Told report) → (report.status ≡ 0) ⊎ (report.status ≡ 5)
 
-runs_told : (Keeps : Report → Type 0) (report : Report) → HasStatus Keeps → Keeps report → RunsTo Keeps (met_by report) report
+runs_told : (Keeps : Ended → Type 0) (report : Report) → HasStatus Keeps → Keeps (ending.Told report) → RunsTo Keeps (met_by report) report
 runs_told Keeps report has it = elim (has report it) [
   | inl zero ↦ subst (λ n. RunsTo Keeps (cond (nat_eq n 5) status.DiskFailed status.Done) report) (sym zero) (it, zero)
   | inr five ↦ subst (λ n. RunsTo Keeps (cond (nat_eq n 5) status.DiskFailed status.Done) report) (sym five) (it, five)
 ]
 
-runs_to : (Keeps : Report → Type 0) (work : Option ℕ) (e : Ended) → HasStatus Keeps → IfTold e Keeps → (let t : Telling = telling_of work e in RunsTo Keeps t.status t.report)
+runs_to : (Keeps : Ended → Type 0) (work : Option ℕ) (e : Ended) → HasStatus Keeps → Keeps e → (let t : Telling = telling_of work e in RunsTo Keeps t.status t.report)
 runs_to Keeps work (ending.Told report) has it = runs_told Keeps report has it
-runs_to Keeps work (ending.Damaged volume at) has it = refl
-runs_to Keeps work (ending.Unsound event) has it = refl
+runs_to Keeps work (ending.Damaged volume at) has it = (it, refl)
+runs_to Keeps work (ending.Unsound event) has it = (it, refl)
 runs_to Keeps work ending.NoMemory has it = refl
+
+-- where the call is done, no call of the disk failed in the run
+abbrev pub IsUnfailed : (Ended → Type 0) → Account → Type 0
+IsUnfailed Keeps account = (report : Report) → Keeps (ending.Told report) → report.status ≡ 0 → account.faults ≡ []
+
+unfailed : (Keeps : Ended → Type 0) (account : Account) (met : Status) (report : Report) → IsUnfailed Keeps account → RunsTo Keeps met report → met ≡ status.Done → account.faults ≡ []
+unfailed Keeps account status.Done report is runs e = is report runs.0 runs.1
+unfailed Keeps account status.WordsRefused report is runs e = absurd runs
+unfailed Keeps account (status.ScriptRefused fault) report is runs e = absurd runs
+unfailed Keeps account status.SourceFailed report is runs e = absurd runs
+unfailed Keeps account status.SinkFailed report is runs e = absurd runs
+unfailed Keeps account status.DiskFailed report is runs e = cc
+unfailed Keeps account status.NoMemory report is runs e = cc
+unfailed Keeps account (status.Damaged volume at) report is runs e = cc
+unfailed Keeps account (status.SelfCheckFailed event) report is runs e = cc
 
 text_when : (work : Option ℕ) (b : Bool) (report : Report) → told_text work report ≡ run_text work (cond b status.DiskFailed status.Done) report
 text_when work true report = refl
@@ -150,48 +169,67 @@ run_told work (ending.Damaged volume at) = refl
 run_told work (ending.Unsound event) = refl
 run_told work ending.NoMemory = refl
 
--- an order by which a disk is opened, so that a report keeps this by the rows before
-record Opens (tells : Type 0) (o : Option Order) (before after : Outside) (Keeps : List Row → Report → Type 0) : Type 0 where
+-- an order by which a disk is opened, so that this is known of what came of it, by the rows before
+record Opens (kind : Kind) (o : Option Order) (before after : Outside) (account : Account) (Keeps : List Row → Ended → Type 0) : Type 0 where
   met : (met : Status) → MetByDisk met before after → MetBy o met before after
   texts : (met : Status) → short_text met ≡ text_for o met
-  runs : (rows : List Row) (met : Status) (report : Report) → RunsTo (Keeps rows) met report → RanBy tells o met before after rows report
+  runs : (rows : List Row) (met : Status) (report : Report) → RunsTo (Keeps rows) met report → RanBy kind o met before after rows account report
   has_status : (rows : List Row) → HasStatus (Keeps rows)
+  unfailed : (rows : List Row) → IsUnfailed (Keeps rows) account
+  unplayed : PlaysNothing o → account ≡ no_account
   touches : TouchesNoDisk o → ⊥
   unread : ReadsNothing o → after.left ≡ before.left
 
-abbrev MeetsOpened : Type 0 → Option Order → Outside → Outside → List Row → Telling → Type 0
-MeetsOpened tells o before after rows t = Meets tells o before after t.status t.text true rows t.report
+abbrev MeetsOpened : Kind → Option Order → Outside → Outside → List Row → Account → Telling → Type 0
+MeetsOpened kind o before after rows account t = Meets kind o before after t.status t.text true rows account t.report
 
-meets_opened : (tells : Type 0) (o : Option Order) (before after : Outside) (Keeps : List Row → Report → Type 0) (rows : List Row) (t : Telling)
-    → Opens tells o before after Keeps → IsOpening before.contents rows → RunsTo (Keeps rows) t.status t.report → t.text ≡ run_text (work_of o) t.status t.report → MeetsOpened tells o before after rows t
-meets_opened tells o before after Keeps rows t opens opening runs its = record {
+meets_opened : (kind : Kind) (o : Option Order) (before after : Outside) (account : Account) (Keeps : List Row → Ended → Type 0) (rows : List Row) (t : Telling)
+    → Opens kind o before after account Keeps → IsOpening before.contents rows → RunsTo (Keeps rows) t.status t.report → t.text ≡ run_text (work_of o) t.status t.report → MeetsOpened kind o before after rows account t
+meets_opened kind o before after account Keeps rows t opens opening runs its = record {
   ran = λ e. opens.runs rows t.status t.report runs;
   short = λ e. let f : true ≡ false = e in cc;
   text_is = its;
   opens = λ e. opening;
   unopened = λ e. let f : true ≡ false = e in cc;
+  unfailed = unfailed (Keeps rows) account t.status t.report (opens.unfailed rows) runs;
+  unplayed = opens.unplayed;
   untouched = λ none. absurd (opens.touches none);
   unread = opens.unread;
 }
 
-of_outcome : (tells : Type 0) (o : Option Order) (before after : Outside) (Keeps : List Row → Report → Type 0) (out : Outcome) (opened : Bool) (opening : List Row) (t : Telling)
-    → Opens tells o before after Keeps → Comes before.contents before.disk_faults after.disk_faults Keeps out → TellsOutcome (work_of o) out opened opening t
-    → Meets tells o before after t.status t.text opened opening t.report
-of_outcome tells o before after Keeps (outcome.Unopened why) opened opening t opens comes told =
+of_outcome : (kind : Kind) (o : Option Order) (before after : Outside) (account : Account) (Keeps : List Row → Ended → Type 0) (out : Outcome) (opened : Bool) (opening : List Row) (t : Telling)
+    → Opens kind o before after account Keeps → Comes before.contents before.disk_faults after.disk_faults account Keeps out → TellsOutcome (work_of o) out opened opening t
+    → Meets kind o before after t.status t.text opened opening account t.report
+of_outcome kind o before after account Keeps (outcome.Unopened why) opened opening t opens comes told =
     let untouched : TouchesNoDisk o → DiskIsUntouched before after = λ none. absurd (opens.touches none) in
-    let short : MeetsUnopened tells o before after (short_telling (fault_status why)) =
-    meets_short tells o before after (fault_status why) (short_text (fault_status why)) _ (λ not. opens.met (fault_status why) (disk_met why before after comes)) (opens.texts (fault_status why)) untouched opens.unread in
-    let meets : MeetsUnopened tells o before after t = meets_or_wanting tells o before after (short_telling (fault_status why)) t untouched opens.unread short told.2 in
-    subst (λ (rows : List Row). Meets tells o before after t.status t.text opened rows t.report) (sym told.1) (subst (λ (b : Bool). Meets tells o before after t.status t.text b [] t.report) (sym told.0) meets)
-of_outcome tells o before after Keeps (outcome.Opened rows end) opened opening t opens comes told =
+    let short : MeetsUnopened kind o before after (short_telling (fault_status why)) =
+    meets_short kind o before after (fault_status why) (short_text (fault_status why)) _ (λ not. opens.met (fault_status why) (disk_met why before after comes.0)) (opens.texts (fault_status why)) untouched opens.unread in
+    let meets : MeetsUnopened kind o before after t = meets_or_wanting kind o before after (short_telling (fault_status why)) t untouched opens.unread short told.2 in
+    subst (λ (a : Account). Meets kind o before after t.status t.text opened opening a t.report) (sym comes.1)
+    (subst (λ (rows : List Row). Meets kind o before after t.status t.text opened rows no_account t.report) (sym told.1) (subst (λ (b : Bool). Meets kind o before after t.status t.text b [] no_account t.report) (sym told.0) meets))
+of_outcome kind o before after account Keeps (outcome.Opened rows end) opened opening t opens comes told =
     let work : Option ℕ = work_of o in
-    let whole : MeetsOpened tells o before after rows (telling_of work end) = meets_opened tells o before after Keeps rows (telling_of work end) opens comes.0 (runs_to (Keeps rows) work end (opens.has_status rows) comes.1) (run_told work end) in
-    let wanting : MeetsOpened tells o before after rows (short_telling status.NoMemory) = meets_opened tells o before after Keeps rows (short_telling status.NoMemory) opens comes.0 refl refl in
-    let meets : MeetsOpened tells o before after rows t = elim told.2 [
-      | inl e ↦ subst (MeetsOpened tells o before after rows) (sym e) whole
-      | inr e ↦ subst (MeetsOpened tells o before after rows) (sym e) wanting
+    let whole : MeetsOpened kind o before after rows account (telling_of work end) = meets_opened kind o before after account Keeps rows (telling_of work end) opens comes.0 (runs_to (Keeps rows) work end (opens.has_status rows) comes.1) (run_told work end) in
+    let wanting : MeetsOpened kind o before after rows account (short_telling status.NoMemory) = meets_opened kind o before after account Keeps rows (short_telling status.NoMemory) opens comes.0 refl refl in
+    let meets : MeetsOpened kind o before after rows account t = elim told.2 [
+      | inl e ↦ subst (MeetsOpened kind o before after rows account) (sym e) whole
+      | inr e ↦ subst (MeetsOpened kind o before after rows account) (sym e) wanting
     ] in
-    subst (λ (x : List Row). Meets tells o before after t.status t.text opened x t.report) (sym told.1) (subst (λ (b : Bool). Meets tells o before after t.status t.text b rows t.report) (sym told.0) meets)
+    subst (λ (x : List Row). Meets kind o before after t.status t.text opened x account t.report) (sym told.1) (subst (λ (b : Bool). Meets kind o before after t.status t.text b rows account t.report) (sym told.0) meets)
+
+-- ---- what is known of a report that is told
+
+played_status : (kind : Kind) (script : Script) (seed : ℕ) (trace : Bool) (before after : Outside) (account : Account) (rows : List Row) → HasStatus (PlaysFrom kind script seed trace before after account rows)
+played_status kind script seed trace before after account rows report plays = elim plays.comes [
+  | inl none ↦ (let f : ending.Told report ≡ ending.NoMemory = none in cc)
+  | inr came ↦ came.settles.told.status
+]
+
+played_unfailed : (kind : Kind) (script : Script) (seed : ℕ) (trace : Bool) (before after : Outside) (account : Account) (rows : List Row) → IsUnfailed (PlaysFrom kind script seed trace before after account rows) account
+played_unfailed kind script seed trace before after account rows report plays zero = elim plays.comes [
+  | inl none ↦ (let f : ending.Told report ≡ ending.NoMemory = none in cc)
+  | inr came ↦ came.settles.told.unfailed zero
+]
 
 -- ---- by what the words order
 
@@ -208,82 +246,92 @@ same_work n k given setting e = cc
 same_setting : (n k : ℕ) (given setting : Setting) → prepared.Work n given ≡ prepared.Work k setting → given ≡ setting
 same_setting n k given setting e = cc
 
-pub work_by : (o : Option Order) (n : ℕ) (given : Setting) (a b : Option (List ℕ)) (f g : ℕ) → IsPrepared o (prepared.Work n given) a b f g → AreSizes given.sizes × (given.trace ≡ false)
+pub work_by : (o : Option Order) (n : ℕ) (given : Setting) (a b : Option (List ℕ)) (f g : ℕ) → IsPrepared o (prepared.Work n given) a b f g → AreSizes given.sizes × ((given.trace ≡ false) × (given.seed ≡ n))
 work_by None n given a b f g h = let f : prepared.Work n given ≡ prepared.Ended status.WordsRefused = h in cc
 work_by (Some (order.Play sizes seed trace)) n given a b f g h = absurd h
 work_by (Some order.Show) n given a b f g h = let f : prepared.Work n given ≡ prepared.Show = h in cc
 work_by (Some (order.Make k)) n given a b f g h = let f : prepared.Work n given ≡ prepared.Make k = h in cc
 work_by (Some (order.Work k sizes)) n given a b f g h =
     let e = same_setting n k given (setting_of sizes (Some k) false) h.0 in
-    (subst (λ (s : Setting). AreSizes s.sizes) (sym e) h.1, ap (λ (s : Setting). s.trace) e)
+    (subst (λ (s : Setting). AreSizes s.sizes) (sym e) h.1, (ap (λ (s : Setting). s.trace) e, ap (λ (s : Setting). s.seed) e ∙ sym (same_work n k given (setting_of sizes (Some k) false) h.0)))
 
-play_opens : (tells : Type 0) (sizes : Sizes) (seed : Option ℕ) (trace : Bool) (before after : Outside) (script : Script) → IsRead sizes.members before.left after.left script
-    → Opens tells (Some (order.Play sizes seed trace)) before after (λ rows. IsTold tells script trace rows before.disk_faults after.disk_faults after.contents)
-play_opens tells sizes seed trace before after script ready = record {
+play_opens : (kind : Kind) (sizes : Sizes) (seed : Option ℕ) (trace : Bool) (before after : Outside) (account : Account) (script : Script) → IsRead sizes.members before.left after.left script
+    → Opens kind (Some (order.Play sizes seed trace)) before after account (PlaysFrom kind script (seed_of seed) trace before after account)
+play_opens kind sizes seed trace before after account script ready = record {
   met = λ met is. inr ((script, ready), is);
   texts = λ met. refl;
   runs = λ rows met report run. (script, ready, run);
-  has_status = λ rows report is. is.status;
+  has_status = played_status kind script (seed_of seed) trace before after account;
+  unfailed = played_unfailed kind script (seed_of seed) trace before after account;
+  unplayed = λ none. absurd none;
   touches = λ none. none;
   unread = λ none. absurd none;
 }
 
-show_opens : (tells : Type 0) (before after : Outside) → after.left ≡ before.left → Opens tells (Some order.Show) before after (ShowsRows before.disk_faults after.disk_faults)
-show_opens tells before after same = record {
+show_opens : (kind : Kind) (before after : Outside) (account : Account) → account ≡ no_account → after.left ≡ before.left → Opens kind (Some order.Show) before after account (Shows before.disk_faults after.disk_faults)
+show_opens kind before after account none same = record {
   met = λ met is. is;
   texts = λ met. refl;
   runs = λ rows met report run. run;
   has_status = λ rows report is. is.status;
+  unfailed = λ rows report is zero. ap (λ (a : Account). a.faults) none;
+  unplayed = λ nothing. none;
   touches = λ none. none;
   unread = λ none. same;
 }
 
-work_opens : (tells : Type 0) (n : ℕ) (sizes : Sizes) (before after : Outside) → after.left ≡ before.left
-    → Opens tells (Some (order.Work n sizes)) before after (λ rows. IsTold tells (made n) false rows before.disk_faults after.disk_faults after.contents)
-work_opens tells n sizes before after same = record {
+work_opens : (kind : Kind) (n : ℕ) (sizes : Sizes) (before after : Outside) (account : Account) → after.left ≡ before.left
+    → Opens kind (Some (order.Work n sizes)) before after account (PlaysFrom kind (made n) n false before after account)
+work_opens kind n sizes before after account same = record {
   met = λ met is. is;
   texts = λ met. refl;
   runs = λ rows met report run. run;
-  has_status = λ rows report is. is.status;
+  has_status = played_status kind (made n) n false before after account;
+  unfailed = played_unfailed kind (made n) n false before after account;
+  unplayed = λ none. absurd none;
   touches = λ none. none;
   unread = λ none. same;
 }
 
-pub plays : (tells : Type 0) (o : Option Order) (before after : Outside) (script : Script) (given : Setting) (out : Outcome) (opened : Bool) (opening : List Row) (t : Telling)
+-- what a script came to that was played, and how the disk has gone on
+abbrev pub CameOf : Kind → Script → ℕ → Bool → Outside → Outside → Account → Outcome → Type 0
+CameOf kind script seed trace before after account out = Comes before.contents before.disk_faults after.disk_faults account (PlaysFrom kind script seed trace before after account) out
+
+pub plays : (kind : Kind) (o : Option Order) (before after : Outside) (account : Account) (script : Script) (given : Setting) (out : Outcome) (opened : Bool) (opening : List Row) (t : Telling)
     → IsPrepared o (prepared.Play script given) before.left after.left before.source_faults after.source_faults
-    → Comes before.contents before.disk_faults after.disk_faults (λ rows. IsTold tells script given.trace rows before.disk_faults after.disk_faults after.contents) out
-    → TellsOutcome None out opened opening t → Meets tells o before after t.status t.text opened opening t.report
-plays tells None before after script given out opened opening t h comes told = let f : prepared.Play script given ≡ prepared.Ended status.WordsRefused = h in cc
-plays tells (Some (order.Play sizes seed trace)) before after script given out opened opening t h comes told =
-    let its = subst (λ (s : Setting). Comes before.contents before.disk_faults after.disk_faults (λ rows. IsTold tells script s.trace rows before.disk_faults after.disk_faults after.contents) out) h.1 comes in
-    of_outcome tells (Some (order.Play sizes seed trace)) before after (λ rows. IsTold tells script trace rows before.disk_faults after.disk_faults after.contents) out opened opening t (play_opens tells sizes seed trace before after script h.0) its told
-plays tells (Some order.Show) before after script given out opened opening t h comes told = let f : prepared.Play script given ≡ prepared.Show = h in cc
-plays tells (Some (order.Make n)) before after script given out opened opening t h comes told = let f : prepared.Play script given ≡ prepared.Make n = h in cc
-plays tells (Some (order.Work n sizes)) before after script given out opened opening t h comes told = let f : prepared.Play script given ≡ prepared.Work n (setting_of sizes (Some n) false) = h.0 in cc
+    → CameOf kind script given.seed given.trace before after account out
+    → TellsOutcome None out opened opening t → Meets kind o before after t.status t.text opened opening account t.report
+plays kind None before after account script given out opened opening t h comes told = let f : prepared.Play script given ≡ prepared.Ended status.WordsRefused = h in cc
+plays kind (Some (order.Play sizes seed trace)) before after account script given out opened opening t h comes told =
+    let its = subst (λ (s : Setting). CameOf kind script s.seed s.trace before after account out) h.1 comes in
+    of_outcome kind (Some (order.Play sizes seed trace)) before after account (PlaysFrom kind script (seed_of seed) trace before after account) out opened opening t (play_opens kind sizes seed trace before after account script h.0) its told
+plays kind (Some order.Show) before after account script given out opened opening t h comes told = let f : prepared.Play script given ≡ prepared.Show = h in cc
+plays kind (Some (order.Make n)) before after account script given out opened opening t h comes told = let f : prepared.Play script given ≡ prepared.Make n = h in cc
+plays kind (Some (order.Work n sizes)) before after account script given out opened opening t h comes told = let f : prepared.Play script given ≡ prepared.Work n (setting_of sizes (Some n) false) = h.0 in cc
 
-pub shows : (tells : Type 0) (o : Option Order) (before after : Outside) (out : Outcome) (opened : Bool) (opening : List Row) (t : Telling)
-    → IsPrepared o prepared.Show before.left after.left before.source_faults after.source_faults → (ReadsNothing o → after.left ≡ before.left)
-    → Comes before.contents before.disk_faults after.disk_faults (ShowsRows before.disk_faults after.disk_faults) out
-    → TellsOutcome None out opened opening t → Meets tells o before after t.status t.text opened opening t.report
-shows tells None before after out opened opening t h unread comes told = let f : prepared.Show ≡ prepared.Ended status.WordsRefused = h in cc
-shows tells (Some (order.Play sizes seed trace)) before after out opened opening t h unread comes told = absurd h
-shows tells (Some order.Show) before after out opened opening t h unread comes told =
-    of_outcome tells (Some order.Show) before after (ShowsRows before.disk_faults after.disk_faults) out opened opening t (show_opens tells before after (unread tt)) comes told
-shows tells (Some (order.Make n)) before after out opened opening t h unread comes told = let f : prepared.Show ≡ prepared.Make n = h in cc
-shows tells (Some (order.Work n sizes)) before after out opened opening t h unread comes told = let f : prepared.Show ≡ prepared.Work n (setting_of sizes (Some n) false) = h.0 in cc
+pub shows : (kind : Kind) (o : Option Order) (before after : Outside) (account : Account) (out : Outcome) (opened : Bool) (opening : List Row) (t : Telling)
+    → IsPrepared o prepared.Show before.left after.left before.source_faults after.source_faults → (ReadsNothing o → after.left ≡ before.left) → account ≡ no_account
+    → Comes before.contents before.disk_faults after.disk_faults account (Shows before.disk_faults after.disk_faults) out
+    → TellsOutcome None out opened opening t → Meets kind o before after t.status t.text opened opening account t.report
+shows kind None before after account out opened opening t h unread none comes told = let f : prepared.Show ≡ prepared.Ended status.WordsRefused = h in cc
+shows kind (Some (order.Play sizes seed trace)) before after account out opened opening t h unread none comes told = absurd h
+shows kind (Some order.Show) before after account out opened opening t h unread none comes told =
+    of_outcome kind (Some order.Show) before after account (Shows before.disk_faults after.disk_faults) out opened opening t (show_opens kind before after account none (unread tt)) comes told
+shows kind (Some (order.Make n)) before after account out opened opening t h unread none comes told = let f : prepared.Show ≡ prepared.Make n = h in cc
+shows kind (Some (order.Work n sizes)) before after account out opened opening t h unread none comes told = let f : prepared.Show ≡ prepared.Work n (setting_of sizes (Some n) false) = h.0 in cc
 
-pub works : (tells : Type 0) (o : Option Order) (before after : Outside) (n : ℕ) (given : Setting) (opened : Bool) (opening : List Row) (t : Telling)
+pub works : (kind : Kind) (o : Option Order) (before after : Outside) (account : Account) (n : ℕ) (given : Setting) (opened : Bool) (opening : List Row) (t : Telling)
     → IsPrepared o (prepared.Work n given) before.left after.left before.source_faults after.source_faults → (ReadsNothing o → after.left ≡ before.left)
-    → Works tells n before.contents before.disk_faults after.disk_faults after.contents opened opening t → Meets tells o before after t.status t.text opened opening t.report
-works tells None before after n given opened opening t h unread does = let f : prepared.Work n given ≡ prepared.Ended status.WordsRefused = h in cc
-works tells (Some (order.Play sizes seed trace)) before after n given opened opening t h unread does = absurd h
-works tells (Some order.Show) before after n given opened opening t h unread does = let f : prepared.Work n given ≡ prepared.Show = h in cc
-works tells (Some (order.Make k)) before after n given opened opening t h unread does = let f : prepared.Work n given ≡ prepared.Make k = h in cc
-works tells (Some (order.Work k sizes)) before after n given opened opening t h unread does =
+    → Works kind n before.contents before.disk_faults after.disk_faults after.contents opened opening account t → Meets kind o before after t.status t.text opened opening account t.report
+works kind None before after account n given opened opening t h unread does = let f : prepared.Work n given ≡ prepared.Ended status.WordsRefused = h in cc
+works kind (Some (order.Play sizes seed trace)) before after account n given opened opening t h unread does = absurd h
+works kind (Some order.Show) before after account n given opened opening t h unread does = let f : prepared.Work n given ≡ prepared.Show = h in cc
+works kind (Some (order.Make k)) before after account n given opened opening t h unread does = let f : prepared.Work n given ≡ prepared.Make k = h in cc
+works kind (Some (order.Work k sizes)) before after account n given opened opening t h unread does =
     let e = same_work n k given (setting_of sizes (Some k) false) h.0 in
-    let its = subst (λ (i : ℕ). Comes before.contents before.disk_faults after.disk_faults (λ rows. IsTold tells (made i) false rows before.disk_faults after.disk_faults after.contents) does.outcome) e does.comes in
+    let its = subst (λ (i : ℕ). CameOf kind (made i) i false before after account does.outcome) e does.comes in
     let told = subst (λ (i : ℕ). TellsOutcome (Some i) does.outcome opened opening t) e does.told_is in
-    of_outcome tells (Some (order.Work k sizes)) before after (λ rows. IsTold tells (made k) false rows before.disk_faults after.disk_faults after.contents) does.outcome opened opening t (work_opens tells k sizes before after (unread tt)) its told
+    of_outcome kind (Some (order.Work k sizes)) before after account (PlaysFrom kind (made k) k false before after account) does.outcome opened opening t (work_opens kind k sizes before after account (unread tt)) its told
 
 -- ---- no call meets a failed sink
 
@@ -294,17 +342,17 @@ short_no_sink (Some order.Show) before after h = h
 short_no_sink (Some (order.Make n)) before after h = let f : status.SinkFailed ≡ status.Done = h in cc
 short_no_sink (Some (order.Work n sizes)) before after h = h
 
-ran_no_sink : (tells : Type 0) (o : Option Order) (before after : Outside) (opening : List Row) (report : Report) → RanBy tells o status.SinkFailed before after opening report → ⊥
-ran_no_sink tells None before after opening report h = h
-ran_no_sink tells (Some (order.Play sizes seed trace)) before after opening report h = h.2
-ran_no_sink tells (Some order.Show) before after opening report h = h
-ran_no_sink tells (Some (order.Make n)) before after opening report h = h
-ran_no_sink tells (Some (order.Work n sizes)) before after opening report h = h
+ran_no_sink : (kind : Kind) (o : Option Order) (before after : Outside) (opening : List Row) (account : Account) (report : Report) → RanBy kind o status.SinkFailed before after opening account report → ⊥
+ran_no_sink kind None before after opening account report h = h
+ran_no_sink kind (Some (order.Play sizes seed trace)) before after opening account report h = h.2
+ran_no_sink kind (Some order.Show) before after opening account report h = h
+ran_no_sink kind (Some (order.Make n)) before after opening account report h = h
+ran_no_sink kind (Some (order.Work n sizes)) before after opening account report h = h
 
-pub no_sink : (tells : Type 0) (o : Option Order) (before after : Outside) (met : Status) (text : List ℕ) (opened : Bool) (opening : List Row) (report : Report)
-    → Meets tells o before after met text opened opening report → met ≡ status.SinkFailed → ⊥
-no_sink tells o before after met text true opening report meets e = ran_no_sink tells o before after opening report (subst (λ m. RanBy tells o m before after opening report) e (meets.ran refl))
-no_sink tells o before after met text false opening report meets e =
+pub no_sink : (kind : Kind) (o : Option Order) (before after : Outside) (met : Status) (text : List ℕ) (opened : Bool) (opening : List Row) (account : Account) (report : Report)
+    → Meets kind o before after met text opened opening account report → met ≡ status.SinkFailed → ⊥
+no_sink kind o before after met text true opening account report meets e = ran_no_sink kind o before after opening account report (subst (λ m. RanBy kind o m before after opening account report) e (meets.ran refl))
+no_sink kind o before after met text false opening account report meets e =
     let sunk : status.SinkFailed ≡ status.NoMemory → ⊥ = λ n. cc in
     short_no_sink o before after (subst (λ m. MetBy o m before after) e (meets.short refl (λ n. sunk (sym e ∙ n))))
 
@@ -314,9 +362,9 @@ no_text_by : (o : Option Order) (opened : Bool) (report : Report) → text_by o 
 no_text_by o true report = refl
 no_text_by o false report = sym (no_text o)
 
-pub nothing_written : (tells : Type 0) (o : Option Order) (before after : Outside) (met ended : Status) (text : List ℕ) (opened : Bool) (opening : List Row) (report : Report) (taken taken_now : Option (List ℕ)) (f g : ℕ)
-    → Meets tells o before after met text opened opening report → Tells met ended text taken taken_now f g → ended ≡ status.NoMemory → Appends taken taken_now []
-nothing_written tells o before after met ended text opened opening report taken taken_now f g meets told e =
+pub nothing_written : (kind : Kind) (o : Option Order) (before after : Outside) (met ended : Status) (text : List ℕ) (opened : Bool) (opening : List Row) (account : Account) (report : Report) (taken taken_now : Option (List ℕ)) (f g : ℕ)
+    → Meets kind o before after met text opened opening account report → Tells met ended text taken taken_now f g → ended ≡ status.NoMemory → Appends taken taken_now []
+nothing_written kind o before after met ended text opened opening account report taken taken_now f g meets told e =
     let other : ended ≡ status.SinkFailed → ⊥ = λ s. let same : status.NoMemory ≡ status.SinkFailed = sym e ∙ s in cc in
     let whole = told.whole other in
     let none : text ≡ [] = meets.text_is ∙ ap (λ m. text_by o opened m report) (sym whole.0 ∙ e) ∙ no_text_by o opened report in

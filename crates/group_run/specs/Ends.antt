@@ -8,9 +8,13 @@ use Rattle.ds_model.specs.declared.script.Script.{Script}
 use Rattle.ds_model.specs.declared.report.Report.{Report}
 use Rattle.ds_model.specs.ScriptText.{script_text}
 use Rattle.work_maker.specs.Made.{made}
-use Rattle.checked_run.specs.Told.{IsTold}
+use Rattle.checked_run.specs.Accounts.{no_account}
+use Rattle.checked_run.specs.Leading.{Kind}
+use Rattle.checked_run.specs.declared.account.Account.{Account}
+use Rattle.checked_run.specs.declared.ended.Ended.{Ended}
+use Rattle.checked_run.specs.declared.ended.Ended.TheVariants as ending
 use Rattle.checked_run.specs.declared.ended.Outcome.{Outcome}
-use Rattle.checked_run.specs.Outcomes.{Comes, IsOpening, ShowsRows}
+use Rattle.checked_run.specs.Outcomes.{Comes, IsOpening, Plays, Shows}
 use Rattle.group_words.specs.declared.order.Order.{Order}
 use Rattle.group_words.specs.declared.order.Order.TheVariants as order
 use Rattle.group_run.specs.declared.status.Status.{Status}
@@ -18,7 +22,7 @@ use Rattle.group_run.specs.declared.status.Status.TheVariants as status
 use Rattle.group_run.specs.Statuses.{short_text}
 use Rattle.group_run.specs.Outside.{Outside, DiskIsUntouched}
 use Rattle.group_run.specs.Read.{IsRead}
-use Rattle.group_run.specs.Prepares.{MetBySource, ReadsNothing}
+use Rattle.group_run.specs.Prepares.{MetBySource, ReadsNothing, seed_of}
 use Rattle.group_run.specs.Reports.{empty_report}
 use Rattle.group_run.specs.Tellings.{told_text, TellsOutcome}
 use Rattle.group_run.specs.declared.telling.Telling.{Telling}
@@ -35,7 +39,7 @@ MetByDisk status.SinkFailed before after = ⊥
 MetByDisk status.DiskFailed before after = Rose before.disk_faults after.disk_faults
 MetByDisk status.NoMemory before after = Unit {0}
 MetByDisk (status.Damaged volume at) before after = Unit {0}
-MetByDisk (status.SelfCheckFailed event) before after = Unit {0}
+MetByDisk (status.SelfCheckFailed event) before after = ⊥
 
 -- the source gave no script, and the disk wasn't touched; or it gave one
 abbrev pub MetByPlay : ℕ → Status → Outside → Outside → Type 0
@@ -53,27 +57,32 @@ MetBy (Some (order.Work n sizes)) met before after = MetByDisk met before after
 
 -- ---- what holds where a call has opened the disk and meets a status
 
--- a report that keeps this, or none that is told
-abbrev pub RunsTo : (Report → Type 0) → Status → Report → Type 0
-RunsTo Keeps status.Done report = Keeps report × (report.status ≡ 0)
+-- a report of which this is known, or none that is told for a reason of which it is
+abbrev pub RunsTo : (Ended → Type 0) → Status → Report → Type 0
+RunsTo Keeps status.Done report = Keeps (ending.Told report) × (report.status ≡ 0)
 RunsTo Keeps status.WordsRefused report = ⊥
 RunsTo Keeps (status.ScriptRefused fault) report = ⊥
 RunsTo Keeps status.SourceFailed report = ⊥
 RunsTo Keeps status.SinkFailed report = ⊥
-RunsTo Keeps status.DiskFailed report = Keeps report × (report.status ≡ 5)
+RunsTo Keeps status.DiskFailed report = Keeps (ending.Told report) × (report.status ≡ 5)
 RunsTo Keeps status.NoMemory report = report ≡ empty_report 6
-RunsTo Keeps (status.Damaged volume at) report = report ≡ empty_report 7
-RunsTo Keeps (status.SelfCheckFailed event) report = report ≡ empty_report 11
+RunsTo Keeps (status.Damaged volume at) report = Keeps (ending.Damaged volume at) × (report ≡ empty_report 7)
+RunsTo Keeps (status.SelfCheckFailed event) report = Keeps (ending.Unsound event) × (report ≡ empty_report 11)
 
--- The script that was read, or that of the number, was played: a report is sound for it, for the rows before and for the logs that are
--- left on a disk of a type that tells always. Or the rows before were shown.
-abbrev pub RanBy : Type 0 → Option Order → Status → Outside → Outside → List Row → Report → Type 0
-RanBy tells None met before after opening report = ⊥
-RanBy tells (Some (order.Play sizes seed trace)) met before after opening report =
-    (script : Script) × IsRead sizes.members before.left after.left script × RunsTo (IsTold tells script trace opening before.disk_faults after.disk_faults after.contents) met report
-RanBy tells (Some order.Show) met before after opening report = RunsTo (ShowsRows before.disk_faults after.disk_faults opening) met report
-RanBy tells (Some (order.Make n)) met before after opening report = ⊥
-RanBy tells (Some (order.Work n sizes)) met before after opening report = RunsTo (IsTold tells (made n) false opening before.disk_faults after.disk_faults after.contents) met report
+-- what a script comes to that is played by this seed from these rows
+abbrev pub PlaysFrom : Kind → Script → ℕ → Bool → Outside → Outside → Account → List Row → Ended → Type 0
+PlaysFrom kind script seed trace before after account opening = Plays kind script seed trace before.contents before.disk_faults after.disk_faults after.contents account opening
+
+-- The script that was read, or that of the number, was played: its journal leads to the end of the script, and a report tells the fates to
+-- which it leads, is sound for the script, for the rows before and for the logs that are left on a disk of a type that tells always; or the
+-- run was stuck at an event, or the check said no to its entries. Or the rows before were shown.
+abbrev pub RanBy : Kind → Option Order → Status → Outside → Outside → List Row → Account → Report → Type 0
+RanBy kind None met before after opening account report = ⊥
+RanBy kind (Some (order.Play sizes seed trace)) met before after opening account report =
+    (script : Script) × IsRead sizes.members before.left after.left script × RunsTo (PlaysFrom kind script (seed_of seed) trace before after account opening) met report
+RanBy kind (Some order.Show) met before after opening account report = RunsTo (Shows before.disk_faults after.disk_faults opening) met report
+RanBy kind (Some (order.Make n)) met before after opening account report = ⊥
+RanBy kind (Some (order.Work n sizes)) met before after opening account report = RunsTo (PlaysFrom kind (made n) n false before after account opening) met report
 
 -- ---- what is written
 
@@ -114,9 +123,9 @@ pub record Tells (met ended : Status) (text : List ℕ) (taken taken_now : Optio
 -- ---- the work of a number
 
 -- what became of a disk that told this and had failed so often, and what is told of it
-pub record Works (tells : Type 0) (n : ℕ) (was : Option Contents) (before now : ℕ) (after : Option Contents) (opened : Bool) (opening : List Row) (told : Telling) : Type 0 where
+pub record Works (kind : Kind) (n : ℕ) (was : Option Contents) (before now : ℕ) (after : Option Contents) (opened : Bool) (opening : List Row) (account : Account) (told : Telling) : Type 0 where
   pub outcome : Outcome
-  pub comes : Comes was before now (λ rows. IsTold tells (made n) false rows before now after) outcome
+  pub comes : Comes was before now account (Plays kind (made n) n false was before now after account) outcome
   pub told_is : TellsOutcome (Some n) outcome opened opening told
 
 -- ---- how a call ends
@@ -129,21 +138,31 @@ TouchesNoDisk (Some order.Show) = ⊥
 TouchesNoDisk (Some (order.Make n)) = Unit {0}
 TouchesNoDisk (Some (order.Work n sizes)) = ⊥
 
--- over a disk of a type that tells always or not: which status a call meets with which text, by what the words order and by whether
--- the disk was opened
-pub record Meets (tells : Type 0) (o : Option Order) (before after : Outside) (met : Status) (text : List ℕ) (opened : Bool) (opening : List Row) (report : Report) : Type 0 where
-  pub ran : opened ≡ true → RanBy tells o met before after opening report
+-- the order is one for which nothing is played
+abbrev pub PlaysNothing : Option Order → Type 0
+PlaysNothing None = Unit {0}
+PlaysNothing (Some (order.Play sizes seed trace)) = ⊥
+PlaysNothing (Some order.Show) = Unit {0}
+PlaysNothing (Some (order.Make n)) = Unit {0}
+PlaysNothing (Some (order.Work n sizes)) = ⊥
+
+-- over a kind of disks: which status a call meets with which text, by what the words order and by whether the disk was opened, and what is
+-- kept of the events of a run
+pub record Meets (kind : Kind) (o : Option Order) (before after : Outside) (met : Status) (text : List ℕ) (opened : Bool) (opening : List Row) (account : Account) (report : Report) : Type 0 where
+  pub ran : opened ≡ true → RanBy kind o met before after opening account report
   pub short : opened ≡ false → (met ≡ status.NoMemory → ⊥) → MetBy o met before after
   pub text_is : text ≡ text_by o opened met report
   pub opens : opened ≡ true → IsOpening before.contents opening
-  pub unopened : opened ≡ false → (report.entries ≡ []) × (opening ≡ [])
+  pub unopened : opened ≡ false → (report.entries ≡ []) × ((opening ≡ []) × (account ≡ no_account))
+  pub unfailed : met ≡ status.Done → account.faults ≡ []
+  pub unplayed : PlaysNothing o → account ≡ no_account
   pub untouched : TouchesNoDisk o → DiskIsUntouched before after
   pub unread : ReadsNothing o → after.left ≡ before.left
 
 -- the same, and it is told; where memory is wanting nothing is written
-pub record Ends (tells : Type 0) (o : Option Order) (before after : Outside) (ended : Status) (opened : Bool) (opening : List Row) (report : Report) (taken taken_now : Option (List ℕ)) (faults faults_now : ℕ) : Type 0 where
+pub record Ends (kind : Kind) (o : Option Order) (before after : Outside) (ended : Status) (opened : Bool) (opening : List Row) (account : Account) (report : Report) (taken taken_now : Option (List ℕ)) (faults faults_now : ℕ) : Type 0 where
   pub met : Status
   pub text : List ℕ
-  pub meets : Meets tells o before after met text opened opening report
+  pub meets : Meets kind o before after met text opened opening account report
   pub told : Tells met ended text taken taken_now faults faults_now
   pub wanting : ended ≡ status.NoMemory → Appends taken taken_now []

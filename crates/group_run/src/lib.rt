@@ -11,6 +11,7 @@ mod summary;
 mod telling;
 mod top;
 
+pub use checked_run::{Cause, CauseList, FailList, Journal};
 pub use gate::{Gate, OpenGate};
 pub use status::Status;
 pub use top::{Finished, play};

@@ -1,12 +1,14 @@
 //! A run of a script by a group of members.
 
 ghost use Rattle.std.specs.Prelude.{◌≤◌};
-ghost use Rattle.checked_run.specs.Told.{IsTold, TellsAlways};
-ghost use Rattle.checked_run.specs.Outcomes.{Comes};
+ghost use Rattle.member_core.specs.declared.member.Member.{Member as AnyMember};
+ghost use Rattle.checked_run.specs.Leading.{kind_of};
+ghost use Rattle.checked_run.specs.Outcomes.{Comes, IsLeft, Plays};
 ghost use Rattle.group_words.specs.Orders.{AreSizes};
 
 use crate::prepare::Setting;
-use checked_run::{Outcome, Ran, RunFault, run_script};
+use checked_run::{Outcome, Ran, RunFault, no_account, run_script};
+use disk_restart::keeping_laws;
 use ds_base::{NoMemory, Sizes};
 use ds_disk::Disk;
 use ds_model::Script;
@@ -25,12 +27,17 @@ fn make_members(alloc: Global, sizes: &Sizes) -> Result<Vec<Member>, NoMemory> {
 /// Plays a script in a group of its own.
 pub fn run<D: Disk>(alloc: Global, disk: D, script: &Script, setting: &Setting) -> Ran<D>
     requires { AreSizes setting.now.sizes }
-    ensures { Comes (D.contents disk) (D.faults disk) (D.faults result.disk) (λ rows. IsTold (TellsAlways D.contents) script.now setting.now.trace rows (D.faults disk) (D.faults result.disk) (D.contents result.disk)) result.outcome }
+    ensures comes { Comes (D.contents disk) (D.faults disk) (D.faults result.disk) result.account
+        (Plays (kind_of AnyMember D.alive D.contents D.faults) script.now setting.now.seed setting.now.trace (D.contents disk) (D.faults disk) (D.faults result.disk) (D.contents result.disk) result.account)
+        result.outcome }
+    ensures left { IsLeft result.outcome (D.contents disk) (D.contents result.disk) }
 {
+    keeping_laws();
     let Ok(members) = make_members(alloc, &setting.sizes) else {
         return Ran {
             disk,
             outcome: Outcome::Unopened(RunFault::NoMemory),
+            account: no_account(alloc),
         };
     };
     run_script(

@@ -1,5 +1,10 @@
-ghost use Rattle.std.specs.Prelude.{◌≡◌, true, false, []};
-ghost use Rattle.checked_run.specs.Told.{TellsAlways};
+ghost use Rattle.std.specs.Prelude.{◌≡◌, true, false, [], Option};
+ghost use Rattle.ds_disk.specs.Contents.{Contents, Becomes};
+ghost use Rattle.disk_restart.specs.Keeping.{KeepsRecords};
+ghost use Rattle.member_core.specs.declared.member.Member.{Member as AnyMember};
+ghost use Rattle.checked_run.specs.Accounts.{no_account};
+ghost use Rattle.checked_run.specs.Leading.{kind_of};
+ghost use Rattle.checked_run.specs.Outcomes.{IsLeft};
 ghost use Rattle.group_run.specs.Outside.{outside};
 ghost use Rattle.group_run.specs.Prepares.{ordered};
 ghost use Rattle.group_run.specs.Tellings.{TellsOutcome};
@@ -14,7 +19,8 @@ use crate::status::Status;
 use crate::telling::{
     Telling, fault_status, or_wanting, script_telling, short_telling, telling_of,
 };
-use checked_run::{Outcome, Ran, show_disk};
+use checked_run::{Account, CauseList, FailList, Journal, Outcome, Ran, no_account, show_disk};
+use disk_restart::keeping_laws;
 use ds_base::{NoMemory, RowList, Sink, Source};
 use ds_disk::Disk;
 use ds_model::Report;
@@ -26,14 +32,18 @@ use work_maker::make_script;
 /// What a call leaves.
 ///
 /// `opened` says whether the words and the script were in order, the logs of the disk were read, and the opening group restart was
-/// done, so that a run began. `opening` has the rows for which the logs stood before. Where no run began there are none, and the
-/// report has no entries.
+/// done, so that a run began. `opening` has the rows for which the logs stood before. `journal` has the numbers of the run's events,
+/// `causes` the transactions that were refused, each with the place of the event in which the cause held, and `faults` the places of the
+/// events in which a call of the disk failed. Where no run began these four are empty, and the report has no entries.
 #[derive(Drop)]
 pub struct Finished<D> {
     pub status: Status,
     pub opened: bool,
     pub disk: D,
     pub report: Report,
+    pub journal: Journal,
+    pub causes: CauseList,
+    pub faults: FailList,
     pub opening: RowList,
 }
 
@@ -54,17 +64,19 @@ struct Came<D> {
     disk: D,
     opened: bool,
     opening: RowList,
+    account: Account,
     telling: Telling,
 }
 
 // What a call has come to that opened no disk.
 fn unopened<D>(alloc: Global, disk: D, telling: Telling) -> Came<D>
-    ensures { result ≡ record { disk = disk; opened = false; opening = []; telling = telling } }
+    ensures { result ≡ record { disk = disk; opened = false; opening = []; account = no_account; telling = telling } }
 {
     Came {
         disk,
         opened: false,
         opening: RowList::new(alloc),
+        account: no_account(alloc),
         telling,
     }
 }
@@ -72,13 +84,25 @@ fn unopened<D>(alloc: Global, disk: D, telling: Telling) -> Came<D>
 // What a call has come to by what became of the disk. The work of a number is told in one line.
 fn came_of<D>(alloc: Global, work: Option<u64>, ran: Ran<D>) -> Came<D>
     ensures disk { result.disk ≡ ran.disk }
+    ensures account { result.account ≡ ran.account }
     ensures tells { TellsOutcome work ran.outcome result.opened result.opening result.telling }
+    ensures left { (before after : Option Contents) → IsLeft ran.outcome before after → result.opened ≡ false → Becomes before after KeepsRecords }
 {
-    let Ran { disk, outcome } = ran;
+    let Ran {
+        disk,
+        outcome,
+        account,
+    } = ran;
     match outcome {
         Outcome::Unopened(why) => {
             let telling = short_telling(alloc, fault_status(why));
-            unopened(alloc, disk, or_wanting(alloc, telling))
+            Came {
+                disk,
+                opened: false,
+                opening: RowList::new(alloc),
+                account,
+                telling: or_wanting(alloc, telling),
+            }
         }
         Outcome::Opened { opening, ended } => {
             let telling = telling_of(alloc, work, ended);
@@ -86,6 +110,7 @@ fn came_of<D>(alloc: Global, work: Option<u64>, ran: Ran<D>) -> Came<D>
                 disk,
                 opened: true,
                 opening,
+                account,
                 telling: or_wanting(alloc, telling),
             }
         }
@@ -96,10 +121,13 @@ fn came_of<D>(alloc: Global, work: Option<u64>, ran: Ran<D>) -> Came<D>
 fn perform_work<D: Disk>(alloc: Global, disk: D, n: u64, setting: &Setting) -> Came<D>
     requires sizes { AreSizes setting.now.sizes }
     requires untraced { setting.now.trace ≡ false }
-    ensures { Works (TellsAlways D.contents) n
+    requires seeded { setting.now.seed ≡ n }
+    ensures works { Works (kind_of AnyMember D.alive D.contents D.faults) n
         (D.contents disk) (D.faults disk) (D.faults result.disk) (D.contents result.disk)
-        result.opened result.opening result.telling }
+        result.opened result.opening result.account result.telling }
+    ensures left { result.opened ≡ false → Becomes (D.contents disk) (D.contents result.disk) KeepsRecords }
 {
+    keeping_laws();
     match make_script(alloc, n) {
         Err(NoMemory) => unopened(alloc, disk, or_wanting(alloc, Err(NoMemory))),
         Ok(script) => came_of(alloc, Some(n), run(alloc, disk, &script, setting)),
@@ -108,11 +136,13 @@ fn perform_work<D: Disk>(alloc: Global, disk: D, n: u64, setting: &Setting) -> C
 
 // All that a call does but tell it.
 fn perform<S: Source, D: Disk>(alloc: Global, words: &[String], source: &mut S, disk: D) -> Came<D>
-    ensures { Meets (TellsAlways D.contents) (ordered words.now)
+    ensures meets { Meets (kind_of AnyMember D.alive D.contents D.faults) (ordered words.now)
         (outside (S.left source.old) (S.faults source.old) (D.contents disk) (D.alive disk) (D.faults disk))
         (outside (S.left source.new) (S.faults source.new) (D.contents result.disk) (D.alive result.disk) (D.faults result.disk))
-        result.telling.status result.telling.text result.opened result.opening result.telling.report }
+        result.telling.status result.telling.text result.opened result.opening result.account result.telling.report }
+    ensures left { result.opened ≡ false → Becomes (D.contents disk) (D.contents result.disk) KeepsRecords }
 {
+    keeping_laws();
     match prepare(alloc, words, source) {
         Err(NoMemory) => unopened(alloc, disk, or_wanting(alloc, Err(NoMemory))),
         Ok(Prepared::Ended(met)) => {
@@ -147,18 +177,28 @@ pub fn play<R: Threads + Wait + Sync, S: Source, K: Sink, D: Disk + Send, G: Gat
     disk: D,
     _gate: &G,
 ) -> Finished<D>
-    ensures { Ends (TellsAlways D.contents) (ordered words.now)
+    ensures ends { Ends (kind_of AnyMember D.alive D.contents D.faults) (ordered words.now)
         (outside (S.left source.old) (S.faults source.old) (D.contents disk) (D.alive disk) (D.faults disk))
         (outside (S.left source.new) (S.faults source.new) (D.contents result.disk) (D.alive result.disk) (D.faults result.disk))
-        result.status result.opened result.opening result.report
+        result.status result.opened result.opening
+        (record { journal = result.journal; causes = result.causes; faults = result.faults })
+        result.report
         (K.taken sink.old) (K.taken sink.new) (K.faults sink.old) (K.faults sink.new) }
+    // What the logs of a disk say of rows isn't touched where no run began.
+    ensures left { result.opened ≡ false → Becomes (D.contents disk) (D.contents result.disk) KeepsRecords }
 {
     let Came {
         disk,
         opened,
         opening,
+        account,
         telling,
     } = perform(alloc, words, source, disk);
+    let Account {
+        journal,
+        causes,
+        faults,
+    } = account;
     let Telling {
         status,
         text,
@@ -169,6 +209,9 @@ pub fn play<R: Threads + Wait + Sync, S: Source, K: Sink, D: Disk + Send, G: Gat
         opened,
         disk,
         report,
+        journal,
+        causes,
+        faults,
         opening,
     }
 }

@@ -1,16 +1,34 @@
-use Rattle.std.proofs.Common.{refl}
-use Rattle.checked_run.specs.Told.{IsTold, TellsAlways}
-use Rattle.checked_run.proofs.Sound.{if_told}
-use Rattle.checked_run.proofs.Opened.{told_earlier}
+use Rattle.std.proofs.Common.{List, Option, refl}
+use Rattle.cache_structure.specs.State.{directory_of}
+use Rattle.ds_model.specs.declared.history.Entry.{Entry}
+use Rattle.group_core.specs.declared.fault.RunFault.{RunFault}
+use Rattle.group_core.specs.declared.schedule.RunEnd.{RunEnd}
+use Rattle.checked_run.specs.Leading.{Leads, LeadsFrom}
+use Rattle.checked_run.specs.Settled.{Settles}
+use Rattle.checked_run.specs.Told.{TellsAlways}
+use Rattle.checked_run.proofs.Opened.{came_as, settles_earlier}
 use Rattle.checked_run.proofs.run.play_from.Goals as goal
 
 pub returns-in-Ok-clause-comes : goal.returns-in-Ok-clause-comes
 returns-in-Ok-clause-comes g c =
     let tells = TellsAlways g.D.Disk.contents in
     let script = c.args.script.now in
-    let rows = c.args.opening.rows in
+    let traced = c.args.is_traced in
+    let opening = c.args.opening in
+    let group = c.in-Ok.group in
     let begun = g.D.Disk.faults c.args.disk in
-    let started = g.D.Disk.faults c.in-Ok.group.disk in
+    let started = g.D.Disk.faults group.disk in
     let now = g.D.Disk.faults c.finish-disk.result.0 in
     let after = g.D.Disk.contents c.finish-disk.result.0 in
-    (refl, if_told c.finish-disk.result.1 (IsTold tells script c.args.is_traced rows started now after) (IsTold tells script c.args.is_traced rows begun now after) (told_earlier tells script c.args.is_traced rows begun started now after c.in-Ok.ensures.later) c.finish-disk.ensures.told)
+    let account = c.finish-disk.result.1 in (
+      refl,
+      came_as
+          (LeadsFrom directory_of g.D.Disk.alive g.D.Disk.contents g.D.Disk.faults group c.args.seed account)
+          (Leads g.row.P.Denot g.D.Disk.alive g.D.Disk.contents g.D.Disk.faults script c.args.seed account)
+          (Settles tells script traced opening started now after account)
+          (Settles tells script traced opening begun now after account)
+          c.finish-disk.result.2
+          (λ (end : RunEnd) (why : Option RunFault) (entries : List Entry) leads. (group, (c.in-Ok.ensures.begins, leads)))
+          (λ end why entries. settles_earlier tells script traced opening begun started now after account c.in-Ok.ensures.later end why entries c.finish-disk.result.2)
+          c.finish-disk.ensures.comes,
+    )

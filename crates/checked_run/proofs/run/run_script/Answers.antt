@@ -1,17 +1,43 @@
-use Rattle.std.proofs.Common.{List}
+use Rattle.std.proofs.Common.{List, refl}
 use Rattle.ds_base.specs.declared.row.Row.{Row}
-use Rattle.checked_run.specs.Told.{IsTold, TellsAlways}
-use Rattle.checked_run.proofs.Opened.{comes, told_earlier}
+use Rattle.group_core.specs.declared.fault.RunFault.{RunFault}
+use Rattle.checked_run.specs.declared.ended.Ended.{Ended}
+use Rattle.checked_run.specs.Leading.{Leads, ComesTo, kind_of}
+use Rattle.checked_run.specs.Outcomes.{Plays}
+use Rattle.checked_run.specs.Settled.{Settles}
+use Rattle.checked_run.specs.Told.{TellsAlways}
+use Rattle.checked_run.proofs.Opened.{comes, came_as, left_on, settles_earlier}
 use Rattle.checked_run.proofs.run.run_script.Goals as goal
 
 pub returns-in-Ok-clause-comes : goal.returns-in-Ok-clause-comes
 returns-in-Ok-clause-comes g c =
     let tells = TellsAlways g.D.Disk.contents in
     let script = c.args.script.now in
+    let traced = c.args.is_traced in
+    let was = g.D.Disk.contents c.args.disk in
     let begun = g.D.Disk.faults c.args.disk in
     let read = g.D.Disk.faults c.read_opening.new.disk in
     let now = g.D.Disk.faults c.play_from.result.disk in
     let after = g.D.Disk.contents c.play_from.result.disk in
-    let opening = c.in-Ok.ensures.opening in
-    comes (g.D.Disk.contents c.args.disk) begun read now c.in-Ok.opening (λ (rows : List Row). IsTold tells script c.args.is_traced rows read now after) (λ (rows : List Row). IsTold tells script c.args.is_traced rows begun now after) c.play_from.result.outcome
-    opening.later c.in-Ok.ensures.in_order opening.ok (told_earlier tells script c.args.is_traced c.in-Ok.opening.rows begun read now after opening.later) c.play_from.ensures.comes
+    let account = c.play_from.result.account in
+    let opening = c.in-Ok.opening in
+    let opened = c.in-Ok.ensures.opening in
+    let leads = Leads g.row.P.Denot g.D.Disk.alive g.D.Disk.contents g.D.Disk.faults script c.args.seed account in
+    comes was begun read now account opening
+    (λ (rows : List Row). ComesTo leads (Settles tells script traced opening read now after account))
+    (Plays (kind_of g.row.P.Denot g.D.Disk.alive g.D.Disk.contents g.D.Disk.faults) script c.args.seed traced was begun now after account)
+    c.play_from.result.outcome opened.later c.in-Ok.ensures.in_order opened.ok
+    (λ (out : Ended) came. record {
+      opening = opening;
+      opens = opened.ok;
+      rows_are = refl;
+      comes = came_as leads leads (Settles tells script traced opening read now after account) (Settles tells script traced opening begun now after account) out
+          (λ end why entries its. its) (λ end why entries. settles_earlier tells script traced opening begun read now after account opened.later end why entries out) came;
+    })
+    c.play_from.ensures.comes
+
+pub returns-in-Ok-clause-left : goal.returns-in-Ok-clause-left
+returns-in-Ok-clause-left g c =
+    let was = g.D.Disk.contents c.args.disk in
+    let read = g.D.Disk.contents c.read_opening.new.disk in
+    left_on c.keeping_laws.ensures.on was read (g.D.Disk.contents c.play_from.result.disk) c.play_from.result.outcome (c.keeping_laws.ensures.same was read c.in-Ok.ensures.opening.same) c.play_from.ensures.left

@@ -1,32 +1,53 @@
-use Rattle.std.proofs.Common.{◌≡◌, Bool, refl, sym, subst}
+use Rattle.std.proofs.Common.{◌≡◌, ℕ, Bool, false, refl, sym, subst}
+use Rattle.member_core.specs.declared.member.Member.{Member}
 use Rattle.ds_model.specs.declared.script.Script.{Script}
 use Rattle.group_core.specs.declared.fault.RunFault.TheVariants as fault
-use Rattle.checked_run.specs.Told.{IsTold, TellsAlways}
-use Rattle.checked_run.specs.Outcomes.{Comes}
+use Rattle.checked_run.specs.declared.account.Account.{Account}
 use Rattle.checked_run.specs.declared.ended.Outcome.TheVariants as outcome
+use Rattle.checked_run.specs.Accounts.{no_account}
+use Rattle.checked_run.specs.Leading.{kind_of}
+use Rattle.checked_run.specs.Outcomes.{Comes, HasCause, Plays}
 use Rattle.group_run.specs.Tellings.{short_telling}
 use Rattle.group_run.specs.declared.status.Status.TheVariants as status
 use Rattle.group_run.specs.Ends.{Works}
+use Rattle.ds_disk.specs.Contents.{Becomes}
+use Rattle.disk_restart.specs.Keeping.{KeepsRecords}
 use Rattle.group_run.proofs.top.perform_work.Goals as goal
 
-pub returns-in-Err : goal.returns-in-Err
-returns-in-Err g c =
+pub returns-in-Err-clause-works : goal.returns-in-Err-clause-works
+returns-in-Err-clause-works g c =
+    let kind = kind_of Member g.D.Disk.alive g.D.Disk.contents g.D.Disk.faults in
     let was = g.D.Disk.contents c.args.disk in
     let before = g.D.Disk.faults c.args.disk in
     let told = c.or_wanting.ensures (short_telling status.NoMemory) tt in
-    subst (λ x. Works (TellsAlways g.D.Disk.contents) c.args.n was before (g.D.Disk.faults x.disk) (g.D.Disk.contents x.disk) x.opened x.opening x.telling) (sym c.unopened.ensures)
-    (record { outcome = outcome.Unopened fault.NoMemory; comes = λ e. let f : fault.NoMemory ≡ fault.Failed = e in cc; told_is = (refl, refl, told) })
+    let none : HasCause before before fault.NoMemory = record {
+      failed = λ e. let f : fault.NoMemory ≡ fault.Failed = e in cc;
+      lawful = λ place e. let f : fault.NoMemory ≡ fault.Unlawful place = e in cc;
+    } in
+    subst (λ x. Works kind c.args.n was before (g.D.Disk.faults x.disk) (g.D.Disk.contents x.disk) x.opened x.opening x.account x.telling) (sym c.unopened.ensures)
+    (record { outcome = outcome.Unopened fault.NoMemory; comes = (none, refl); told_is = (refl, refl, told) })
 
-pub returns-in-Ok : goal.returns-in-Ok
-returns-in-Ok g c =
-    let tells = TellsAlways g.D.Disk.contents in
+pub returns-in-Ok-clause-works : goal.returns-in-Ok-clause-works
+returns-in-Ok-clause-works g c =
+    let kind = kind_of Member g.D.Disk.alive g.D.Disk.contents g.D.Disk.faults in
     let was = g.D.Disk.contents c.args.disk in
     let before = g.D.Disk.faults c.args.disk in
     let left = c.run.result.disk in
     let now = g.D.Disk.faults left in
     let after = g.D.Disk.contents left in
+    let account = c.run.result.account in
     let came = c.came_of.result in
-    let untraced = subst (λ (b : Bool). Comes was before now (λ rows. IsTold tells c.in-Ok.script b rows before now after) c.run.result.outcome) c.requires.untraced c.run.ensures in
-    let its = subst (λ (s : Script). Comes was before now (λ rows. IsTold tells s Rattle.std.proofs.Common.false rows before now after) c.run.result.outcome) c.in-Ok.ensures untraced in
-    subst (λ d. Works tells c.args.n was before (g.D.Disk.faults d) (g.D.Disk.contents d) came.opened came.opening came.telling) (sym c.came_of.ensures.disk)
-    (record { outcome = c.run.result.outcome; comes = its; told_is = c.came_of.ensures.tells })
+    let untraced = subst (λ (b : Bool). Comes was before now account (Plays kind c.in-Ok.script c.args.setting.now.seed b was before now after account) c.run.result.outcome) c.requires.untraced c.run.ensures.comes in
+    let seeded = subst (λ (n : ℕ). Comes was before now account (Plays kind c.in-Ok.script n false was before now after account) c.run.result.outcome) c.requires.seeded untraced in
+    let its = subst (λ (s : Script). Comes was before now account (Plays kind s c.args.n false was before now after account) c.run.result.outcome) c.in-Ok.ensures seeded in
+    subst (λ (a : Account). Works kind c.args.n was before (g.D.Disk.faults came.disk) (g.D.Disk.contents came.disk) came.opened came.opening a came.telling) (sym c.came_of.ensures.account)
+    (subst (λ d. Works kind c.args.n was before (g.D.Disk.faults d) (g.D.Disk.contents d) came.opened came.opening account came.telling) (sym c.came_of.ensures.disk)
+    (record { outcome = c.run.result.outcome; comes = its; told_is = c.came_of.ensures.tells }))
+
+pub returns-in-Err-clause-left : goal.returns-in-Err-clause-left
+returns-in-Err-clause-left g c = λ closed. subst (λ x. Becomes (g.D.Disk.contents c.args.disk) (g.D.Disk.contents x.disk) KeepsRecords) (sym c.unopened.ensures) (c.keeping_laws.ensures.itself (g.D.Disk.contents c.args.disk))
+
+pub returns-in-Ok-clause-left : goal.returns-in-Ok-clause-left
+returns-in-Ok-clause-left g c = λ closed.
+    subst (λ d. Becomes (g.D.Disk.contents c.args.disk) (g.D.Disk.contents d) KeepsRecords) (sym c.came_of.ensures.disk)
+    (c.came_of.ensures.left (g.D.Disk.contents c.args.disk) (g.D.Disk.contents c.run.result.disk) c.run.ensures.left closed)

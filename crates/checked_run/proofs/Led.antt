@@ -1,0 +1,55 @@
+-- Where the journal of a run leads.
+use Rattle.std.proofs.Common.{◌≡◌, inl, inr, ℕ, ◌<◌, Bool, List, [], ◌++◌, length, Option, Result, Ok, Err, IsErr, refl, sym, ap, subst, ◌∙◌, arith, length-append, ◌+◌}
+use Rattle.std.specs.Prelude.{Vec}
+use Rattle.std.specs.declared.alloc.Global.{Global}
+use Rattle.ds_base.specs.declared.fault.NoMemory.{NoMemory}
+use Rattle.ds_disk.specs.Contents.{Contents}
+use Rattle.cache_structure.specs.Directory.{Directory}
+use Rattle.ds_model.specs.declared.script.Script.{Script}
+use Rattle.ds_model.specs.declared.history.Entry.{Entry}
+use Rattle.group_core.specs.declared.close.Played.{Played}
+use Rattle.group_core.specs.declared.group.Group.{Group}
+use Rattle.group_core.specs.declared.fault.RunFault.{RunFault}
+use Rattle.group_core.specs.declared.schedule.RunEnd.{RunEnd}
+use Rattle.group_core.specs.Ends.{Ends}
+use Rattle.group_core.specs.Runs.{Draws, Runs, RunsOn}
+use Rattle.checked_run.specs.declared.account.Account.{Account}
+use Rattle.checked_run.specs.declared.ended.Ended.{Ended}
+use Rattle.checked_run.specs.declared.ended.Ended.TheVariants as ended
+use Rattle.checked_run.specs.Accounts.{account_of}
+use Rattle.checked_run.specs.Leading.{Begins, LeadsFrom, Came, ComesTo}
+
+-- a list in memory has fewer elements than an index can count
+short : (v : Vec ℕ Global) → length v.items < 18446744073709551615
+short v = omega (arith, v.ok.0, v.ok.1, v.small)
+
+-- so no run takes all the events that can be counted
+pub unspent : (v : Vec ℕ Global) (old events : List ℕ) → v.items ≡ old ++ events → length events ≡ 18446744073709551615 → ⊥
+unspent v old events is all =
+    let long : length v.items ≡ length old + length events = ap length is ∙ length-append old events in
+    omega (arith, short v, long, all)
+
+-- what a group leaves is that of the group to which its journal leads
+pub led : {C D P : Type 0} (directory : C → Directory) (alive : D → Bool) (contents : D → Option Contents) (count : D → ℕ) (script : Script) (start last : Group D C P) (seed most after : ℕ) (end : RunEnd) (account : Account) (played : Played)
+    → Begins script start → RunsOn directory alive contents count start seed most end last after → Ends end last → account ≡ account_of played
+    → played.journal.items ≡ last.journal.items → played.faults.items ≡ last.faults.items → played.causes.items ≡ last.crew.fates.causes → played.entries.items ≡ last.crew.fates.entries → played.fault ≡ last.fault
+    → LeadsFrom directory alive contents count start seed account end played.fault played.entries.items
+led {C} {D} {P} directory alive contents count script start last seed most after end account played begins ran ends same journal faults causes entries why =
+    let events : account.journal ≡ ran.events = ap (λ (a : Account). a.journal) same ∙ (journal ∙ (ran.journal ∙ ap (λ (es : List ℕ). es ++ ran.events) begins.journal)) in
+    record {
+      last = last;
+      after = after;
+      runs = subst (λ (es : List ℕ). Runs directory alive contents count start es last) (sym events) ran.runs;
+      draws = subst (λ (es : List ℕ). Draws directory alive contents count start seed es last after) (sym events) ran.draws;
+      ends = ends;
+      fault_is = sym why;
+      entries_are = sym entries;
+      causes_are = sym causes ∙ sym (ap (λ (a : Account). a.causes) same);
+      faults_are = sym faults ∙ sym (ap (λ (a : Account). a.faults) same);
+    }
+
+-- by what the run answered
+pub answered : (end : Result RunEnd NoMemory) (L : RunEnd → Option RunFault → List Entry → Type 0) (S : RunEnd → Option RunFault → List Entry → Ended → Type 0) (out : Ended)
+    → ((e : RunEnd) → end ≡ Ok e → Came L S out) → (IsErr end → out ≡ ended.NoMemory) → ComesTo L S out
+answered (Ok e) L S out came wanting = inr (came e refl)
+answered (Err none) L S out came wanting = inl (wanting refl)
