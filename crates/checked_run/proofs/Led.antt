@@ -31,7 +31,7 @@ unspent v old events is all =
 
 -- what a group leaves is that of the group to which its journal leads
 pub led : {C D P : Type 0} (directory : C → Directory) (alive : D → Bool) (contents : D → Option Contents) (count : D → ℕ) (script : Script) (start last : Group D C P) (seed most after : ℕ) (end : RunEnd) (account : Account) (played : Played)
-    → Begins script start → RunsOn directory alive contents count start seed most end last after → Ends end last → account ≡ account_of played
+    → Begins directory script start → RunsOn directory alive contents count start seed most end last after → Ends end last → account ≡ account_of played
     → played.journal.items ≡ last.journal.items → played.faults.items ≡ last.faults.items → played.causes.items ≡ last.crew.fates.causes → played.entries.items ≡ last.crew.fates.entries → played.fault ≡ last.fault
     → LeadsFrom directory alive contents count start seed account end played.fault played.entries.items
 led {C} {D} {P} directory alive contents count script start last seed most after end account played begins ran ends same journal faults causes entries why =
@@ -53,3 +53,9 @@ pub answered : (end : Result RunEnd NoMemory) (L : RunEnd → Option RunFault �
     → ((e : RunEnd) → end ≡ Ok e → Came L S out) → (IsErr end → out ≡ ended.NoMemory) → ComesTo L S out
 answered (Ok e) L S out came wanting = inr (came e refl)
 answered (Err none) L S out came wanting = inl (wanting refl)
+
+-- a group that has just started, and keeps the lines of a trace from now on
+pub begins_traced : {C D P : Type 0} (directory : C → Directory) (script : Script) (old new : Group D C P) → new ≡ record old { lines = new.lines } → Begins directory script old → Begins directory script new
+begins_traced {C} {D} {P} directory script old new same begins =
+    subst (λ (group : Group D C P). Begins directory script group) (sym same)
+    (record { script_is = begins.script_is; fresh = begins.fresh; journal = begins.journal; faults = begins.faults; fault = begins.fault })

@@ -10,15 +10,16 @@ use Rattle.group_core.specs.declared.fault.RunFault.{RunFault}
 use Rattle.group_core.specs.declared.schedule.RunEnd.{RunEnd}
 use Rattle.group_core.specs.Ends.{Ends}
 use Rattle.group_core.specs.Runs.{Draws, Runs}
+use Rattle.group_core.specs.Starts.{IsFresh}
 use Rattle.checked_run.specs.declared.account.Account.{Account}
 use Rattle.checked_run.specs.declared.ended.Ended.{Ended}
 use Rattle.checked_run.specs.declared.ended.Ended.TheVariants as ended
 use Rattle.checked_run.specs.Told.{TellsAlways}
 
--- a group that has begun no phase of this script
-pub record Begins {C D P : Type 0} (script : Script) (group : Group D C P) : Type 0 where
+-- a group that has just started, with this script
+pub record Begins {C D P : Type 0} (directory : C → Directory) (script : Script) (group : Group D C P) : Type 0 where
   pub script_is : group.crew.script ≡ script
-  pub unplayed : group.crew.progress.begun ≡ 0
+  pub fresh : IsFresh directory group
   pub journal : group.journal.items ≡ []
   pub faults : group.faults.items ≡ []
   pub fault : group.fault ≡ None
@@ -37,10 +38,10 @@ pub record LeadsFrom {C D P : Type 0} (directory : C → Directory) (alive : D �
   pub causes_are : last.crew.fates.causes ≡ account.causes
   pub faults_are : last.faults.items ≡ account.faults
 
--- they do so from a group with members of this type that has begun no phase of the script
+-- they do so from a group with members of this type that has just started, with the script
 abbrev pub Leads : {D : Type 0} → (P : Type 0) → (D → Bool) → (D → Option Contents) → (D → ℕ) → Script → ℕ → Account → RunEnd → Option RunFault → List Entry → Type 0
 Leads {D} P alive contents count script seed account end why entries =
-    (start : Group D CacheState P) × (Begins script start × LeadsFrom directory_of alive contents count start seed account end why entries)
+    (start : Group D CacheState P) × (Begins directory_of script start × LeadsFrom directory_of alive contents count start seed account end why entries)
 
 -- What is known of runs over a type of disks: whether each tells at every moment what it holds, and to which ends of a script the journals of
 -- accounts lead, by the seed.

@@ -45,7 +45,7 @@ fn begin<D: Disk, P: Policy + Drop>(
 ) -> Result<Group<D, Cache, P>, StartFault<D>>
     requires { (1 ≤ sizes.now.locks) × (1 ≤ sizes.now.pool) }
     ensures later { IfOk result (λ group. D.faults disk ≤ D.faults group.disk) }
-    ensures begins { IfOk result (Begins script.now) }
+    ensures begins { IfOk result (Begins directory_of script.now) }
     ensures left { IfErr result (λ f. D.faults disk ≤ D.faults f.disk) }
     ensures keeps { IfErr result (λ f. Becomes (D.contents disk) (D.contents f.disk) KeepsRecords) }
     ensures cause { IfErr result (λ f. HasCause (D.faults disk) (D.faults f.disk) f.why) }
@@ -73,7 +73,7 @@ fn finish<D: Disk, P: Policy + Drop>(
     seed: u64,
     is_traced: bool,
 ) -> (D, Account, Ended)
-    requires begins { Begins script.now group }
+    requires begins { Begins directory_of script.now group }
     requires in_order { AreSorted opening.now.rows }
     ensures comes { ComesTo
         (LeadsFrom directory_of D.alive D.contents D.faults group seed result.1)

@@ -5,3 +5,4 @@ pub mod Takes
 pub mod Runs
 pub mod Ends
 pub mod Closing
+pub mod Starts

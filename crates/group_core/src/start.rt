@@ -4,6 +4,7 @@ ghost use Rattle.cache_structure.specs.Directory.{empty_directory};
 ghost use Rattle.ds_disk.specs.Contents.{Becomes};
 ghost use Rattle.disk_restart.specs.Keeping.{KeepsRecords};
 ghost use Rattle.group_core.specs.declared.fault.RunFault.TheVariants as fault;
+ghost use Rattle.group_core.specs.Starts.{IsFresh};
 ghost use Rattle.group_restart.specs.declared.calls.State.TheVariants as state;
 
 use crate::fault::{RunFault, StartFault};
@@ -61,7 +62,7 @@ impl<D: Disk, C: CacheFace + Drop, P: Policy + Drop> Group<D, C, P> {
         ensures faults { IfOk result (λ group. group.faults.items ≡ []) }
         ensures journal { IfOk result (λ group. group.journal.items ≡ []) }
         ensures script { IfOk result (λ group. group.crew.script ≡ script) }
-        ensures unplayed { IfOk result (λ group. group.crew.progress.begun ≡ 0) }
+        ensures fresh { IfOk result (λ group. IsFresh C.directory group) }
         ensures err { IfErr result (λ why. D.faults disk ≤ D.faults why.disk) }
         ensures left { IfErr result (λ why. Becomes (D.contents disk) (D.contents why.disk) KeepsRecords) }
         ensures failed { IfErr result (λ why. why.why ≡ fault.Failed → Rose (D.faults disk) (D.faults why.disk)) }

@@ -1,3 +1,4 @@
 pub mod Parts
 pub mod Restarts
 pub mod Raises
+pub mod Made

@@ -4,3 +4,4 @@ pub mod Phases
 pub mod Crews
 pub mod Beginning
 pub mod Happening
+pub mod Making

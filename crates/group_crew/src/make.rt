@@ -1,5 +1,7 @@
-ghost use Rattle.std.specs.Prelude.{◌≡◌, ◌≤◌, None, IfOk};
+ghost use Rattle.std.specs.Prelude.{◌≡◌, ◌≤◌, All, None, IfOk};
 ghost use Rattle.cache_structure.specs.Directory.{empty_directory};
+ghost use Rattle.group_member.specs.Members.{IsDown, member_of};
+ghost use Rattle.group_crew.specs.Making.{IsNewCrew};
 
 use crate::crew::Crew;
 use crate::progress::Progress;
@@ -18,6 +20,7 @@ fn make_parts<P: Policy + Drop>(
     policies: Vec<P>,
 ) -> Result<Vec<MemberPart<P>>, NoMemory>
     requires { (1 ≤ sizes.now.locks) × (1 ≤ sizes.now.pool) }
+    ensures { IfOk result (λ parts. All (λ part. IsDown sizes.now (member_of part)) parts.items) }
 {
     let mut parts = Vec::new(alloc);
     let mut number = 0u64;
@@ -39,6 +42,39 @@ fn make_parts<P: Policy + Drop>(
     Ok(parts)
 }
 
+// A crew of which nothing is known to be ready.
+fn make_crew<C: CacheFace + Drop, P: Policy + Drop>(
+    alloc: Global,
+    cache: C,
+    sizes: &Sizes,
+    counter: Lrsn,
+    script: Script,
+    policies: Vec<P>,
+) -> Result<Crew<C, P>, NoMemory>
+    requires sizes { (1 ≤ sizes.now.locks) × (1 ≤ sizes.now.pool) }
+    requires cache { C.directory cache ≡ empty_directory sizes.now.cache sizes.now.pool }
+    ensures fresh { IfOk result (λ crew. IsNewCrew C.directory crew) }
+    ensures counter { IfOk result (λ crew. crew.facility.counter ≡ counter) }
+    ensures script { IfOk result (λ crew. crew.script ≡ script) }
+    ensures sized { IfOk result (λ crew. crew.sizes.sizes ≡ sizes.now) }
+{
+    let facility = Facility::new(alloc, sizes, cache, counter)?;
+    let parts = make_parts(alloc, sizes, policies)?;
+    let fates = Fates::new(alloc, &script)?;
+    let progress = Progress::new();
+    Ok(Crew {
+        facility,
+        parts,
+        script,
+        progress,
+        restart: None,
+        fates,
+        is_own_stale: true,
+        was_half: false,
+        sizes: GroupSizes { sizes: *sizes },
+    })
+}
+
 impl<C: CacheFace + Drop, P: Policy + Drop> Crew<C, P> {
     /// A crew with these policies, over an empty cache. Nothing is played.
     pub fn new(
@@ -51,22 +87,12 @@ impl<C: CacheFace + Drop, P: Policy + Drop> Crew<C, P> {
     ) -> Result<Crew<C, P>, NoMemory>
         requires sizes { (1 ≤ sizes.now.locks) × (1 ≤ sizes.now.pool) }
         requires cache { C.directory cache ≡ empty_directory sizes.now.cache sizes.now.pool }
+        ensures fresh { IfOk result (λ crew. IsNewCrew C.directory crew) }
         ensures counter { IfOk result (λ crew. crew.facility.counter ≡ counter) }
         ensures script { IfOk result (λ crew. crew.script ≡ script) }
-        ensures unplayed { IfOk result (λ crew. (crew.progress.begun ≡ 0) × (crew.progress.groupfails ≡ 0)) }
-        ensures unfailed { IfOk result (λ crew. crew.restart ≡ None) }
+        ensures sized { IfOk result (λ crew. crew.sizes.sizes ≡ sizes.now) }
     {
-        let mut crew = Crew {
-            facility: Facility::new(alloc, sizes, cache, counter)?,
-            parts: make_parts(alloc, sizes, policies)?,
-            fates: Fates::new(alloc, &script)?,
-            script,
-            progress: Progress::new(),
-            restart: None,
-            is_own_stale: true,
-            was_half: false,
-            sizes: GroupSizes { sizes: *sizes },
-        };
+        let mut crew = make_crew(alloc, cache, sizes, counter, script, policies)?;
         crew.find_ready();
         Ok(crew)
     }

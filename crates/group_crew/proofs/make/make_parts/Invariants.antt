@@ -1,0 +1,7 @@
+use Rattle.std.proofs.Common.{All}
+use Rattle.group_member.specs.declared.part.MemberPart.{MemberPart}
+use Rattle.group_member.specs.Members.{IsDown, member_of}
+use Rattle.group_crew.proofs.make.make_parts.Given as goal
+
+abbrev pub invariant-loop-policy : goal.invariant-loop-policy
+invariant-loop-policy g l = All (λ (part : MemberPart g.row.P.Denot). IsDown l.sizes (member_of part)) l.parts.items
