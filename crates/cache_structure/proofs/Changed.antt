@@ -4,17 +4,16 @@ use Rattle.std.specs.Prelude.{is_some, count_by}
 use Rattle.std.specs.Option.{option_map_or}
 use Rattle.std.proofs.lemmas.Bool.{eqb-true}
 use Rattle.std.proofs.lemmas.Option.{none-some}
-use Rattle.indexmap.specs.IndexMap.{IndexMap}
+use Rattle.page_index.specs.Places.{Index}
+use Rattle.page_index.proofs.CallerLemmas.{same_name, found_at, apart_by}
 use Rattle.ds_base.specs.declared.names.PageId.{PageId}
 use Rattle.cache_structure.specs.declared.slot.Slot.{Slot}
 use Rattle.cache_structure.specs.Entries.{Entry, same_page}
-use Rattle.cache_structure.specs.Slots.{Table, holds, slot_at, find_slot, entry_in, entry_at, entries_in, changed_page}
-use Rattle.cache_structure.specs.Places.{holds_at}
+use Rattle.cache_structure.specs.Slots.{Table, page_of as page_of_slot, holds, slot_at, find_slot, entry_in, entry_at, entries_in, changed_page}
 use Rattle.cache_structure.specs.Order.{changed_in}
 use Rattle.cache_structure.specs.Kept.{IsKept}
-use Rattle.cache_structure.proofs.Leading.{finds, found_at, same_name}
 use Rattle.cache_structure.proofs.Views.{counted_by}
-use Rattle.cache_structure.proofs.Tables.{held_at, own, found, in_order}
+use Rattle.cache_structure.proofs.Tables.{holds_found, page_at_is, found, in_order}
 
 entry_changed : (slot : Slot) (b : Option (List ℕ)) (id : PageId) → slot.page ≡ Some id → option_map_or (λ (e : Entry). e.changed) (entry_in slot b) false ≡ slot.changed
 entry_changed slot b id e = grind arith
@@ -31,7 +30,7 @@ is_changed_slot slot b = by slot.page slot.changed refl refl
 pub count_is : (t : Table) → count_by (λ f. is_some (changed_page (slot_at t.slots f))) t.order ≡ count_by (λ (e : Entry). e.changed) (entries_in t)
 count_is t = sym (counted_by (entry_at t) (λ e. e.changed) (λ f. is_some (changed_page (slot_at t.slots f))) t.order (λ x. is_changed_slot (slot_at t.slots x) (slice_get t.pages x)))
 
-module _ {S : Type 0} (t : Table) (places : IndexMap (ℕ × ℕ) ℕ S) (used : ℕ) (kept : IsKept t places used) where
+module _ (t : Table) (places : Index) (used : ℕ) (kept : IsKept t places used) where
   page_of : (slot : Slot) (id : PageId) → changed_page slot ≡ Some id → (slot.changed ≡ true) × (slot.page ≡ Some id)
   page_of slot id e = by slot.changed refl
     where
@@ -42,8 +41,7 @@ module _ {S : Type 0} (t : Table) (places : IndexMap (ℕ × ℕ) ℕ S) (used :
   pub slot_changed : (s : ℕ) (id : PageId) → changed_page (slot_at t.slots s) ≡ Some id → changed_in t id ≡ true
   slot_changed s id e =
       let is = page_of (slot_at t.slots s) id e in
-      let h : holds_at t.slots s id ≡ true = held_at t.slots s id ∙ ap (λ o. option_map_or (same_page id) o false) is.1 ∙ own id in
-      ap (λ o. option_map_or (λ (e : Entry). e.changed) o false) (found t places used kept id ∙ ap (λ r. option_map_or (entry_at t) r None) (found_at places t.slots kept.leads s id h))
+      ap (λ o. option_map_or (λ (e : Entry). e.changed) o false) (found t places used kept id ∙ ap (λ r. option_map_or (entry_at t) r None) (found_at page_of_slot t.slots (apart_by page_of_slot t.slots places kept.index) s id (page_at_is t.slots s ∙ is.1)))
       ∙ entry_changed (slot_at t.slots s) (slice_get t.pages s) id is.1
       ∙ is.0
 
@@ -61,9 +59,9 @@ module _ {S : Type 0} (t : Table) (places : IndexMap (ℕ × ℕ) ℕ S) (used :
       by None e =
           absurd (true≢false (sym h ∙ ap (λ o. option_map_or (λ (e : Entry). e.changed) o false) (found t places used kept id ∙ ap (λ r. option_map_or (entry_at t) r None) e)))
       by (Some s) e =
-          let at = finds t.slots id s e in (
+          let at = holds_found t.slots id s e in (
             s,
             in_order t places used kept s id at,
-            named s (slot_at t.slots s).page refl (sym (held_at t.slots s id) ∙ at)
+            named s (slot_at t.slots s).page refl at
                 (sym (ap (λ o. option_map_or (λ (e : Entry). e.changed) o false) (found t places used kept id ∙ ap (λ r. option_map_or (entry_at t) r None) e)) ∙ h),
           )

@@ -1,5 +1,3 @@
-pub mod Orders
-pub mod Leading
 pub mod Binding
 pub mod Views
 pub mod Tables

@@ -7,7 +7,9 @@ use Rattle.std.proofs.lemmas.Bool.{eqb-true}
 use Rattle.std.proofs.lemmas.List.{length-set, length-append}
 use Rattle.std.proofs.lemmas.List.Elements.{filter_map-append}
 use Rattle.std.proofs.lemmas.List.Sums.{sum_by-cons}
-use Rattle.indexmap.specs.IndexMap.{IndexMap}
+use Rattle.page_index.specs.Places.{Index}
+use Rattle.page_index.specs.Uses.{without as all_but, newest as used_last, is_in}
+use Rattle.page_index.proofs.CallerLemmas.{same_name, own}
 use Rattle.ds_base.specs.declared.names.PageId.{PageId}
 use Rattle.page_tree.specs.Order.{same_page, IsNextAmong, is_past}
 use Rattle.page_tree.specs.Pages.{Pages, has, is_in as is_among}
@@ -16,12 +18,10 @@ use Rattle.cache_structure.specs.Entries.{Entry}
 use Rattle.cache_structure.specs.Frames.{is_page}
 use Rattle.cache_structure.specs.Slots.{Table, slot_at, page_in, entry_at, entry_in, entries_in, changed_page, free_slot}
 use Rattle.cache_structure.specs.Order.{changed_in}
-use Rattle.cache_structure.specs.Uses.{all_but, used_last, is_in, countdown}
 use Rattle.cache_structure.specs.Kept.{IsKept}
 use Rattle.cache_structure.specs.Listed.{IsListed, changed_at, changed_pages, is_page_of}
-use Rattle.cache_structure.proofs.Leading.{same_name}
 use Rattle.cache_structure.proofs.Views.{others_same, as_many, none_left, one_less}
-use Rattle.cache_structure.proofs.Tables.{own, slot_set, pages_apart}
+use Rattle.cache_structure.proofs.Tables.{slot_set, pages_apart}
 use Rattle.cache_structure.proofs.Changed.{slot_changed, changed_slot, count_is}
 
 decide : (b : Bool) (P : Type 0) → (b ≡ true → P) → (b ≡ false → P) → P
@@ -181,14 +181,14 @@ some_page slot bytes h = by (changed_page slot) refl h
     by None e h = absurd (true≢false (sym h))
     by (Some p) e h = some_entry slot bytes p (page_of slot p e)
 
-module _ {S : Type 0} (t : Table) (places : IndexMap (ℕ × ℕ) ℕ S) (used : ℕ) (kept : IsKept t places used) (set : Pages) (listed : IsListed t.slots t.order set) where
+module _ (t : Table) (places : Index) (used : ℕ) (kept : IsKept t places used) (set : Pages) (listed : IsListed t.slots t.order set) where
   -- ---- what the set says
 
   pub has_changed : (q : PageId) → has set q ≡ changed_in t q
   has_changed q = listed.listed q ∙ decide (is_among q (changed_pages t.slots t.order)) _
       (λ h. h ∙ sym (found_among (changed_at t.slots) q t.order (changed_in t q ≡ true) (λ s e. slot_changed t places used kept s q e) h))
       (λ h. h ∙ sym (never (changed_in t q) (λ c. let at = changed_slot t places used kept q c in
-      true≢false (sym (parted (changed_at t.slots) q at.0 t.order (kept.covers at.0 at.1) ∙ ap (λ o. is_page_of q o || is_among q (filter_map (changed_at t.slots) (all_but at.0 t.order))) at.2
+      true≢false (sym (parted (changed_at t.slots) q at.0 t.order (kept.whole.covers at.0 at.1) ∙ ap (λ o. is_page_of q o || is_among q (filter_map (changed_at t.slots) (all_but at.0 t.order))) at.2
       ∙ ap (λ b. b || is_among q (filter_map (changed_at t.slots) (all_but at.0 t.order))) (own q)) ∙ h))))
     where
       never : (b : Bool) → (b ≡ true → ⊥) → b ≡ false
@@ -220,7 +220,7 @@ module _ {S : Type 0} (t : Table) (places : IndexMap (ℕ × ℕ) ℕ S) (used :
 
   module _ (s : ℕ) (l : s < length t.slots) where
     old_parts : (q : PageId) → has set q ≡ (is_page_of q (changed_at t.slots s) || is_among q (filter_map (changed_at t.slots) (all_but s t.order)))
-    old_parts q = listed.listed q ∙ parted (changed_at t.slots) q s t.order (kept.covers s l)
+    old_parts q = listed.listed q ∙ parted (changed_at t.slots) q s t.order (kept.whole.covers s l)
 
     pub set_has : (p : PageId) → changed_at t.slots s ≡ Some p → has set p ≡ true
     set_has p is = old_parts p ∙ ap (λ o. is_page_of p o || is_among p (filter_map (changed_at t.slots) (all_but s t.order))) is ∙ ap (λ b. b || is_among p (filter_map (changed_at t.slots) (all_but s t.order))) (own p)
@@ -230,8 +230,8 @@ module _ {S : Type 0} (t : Table) (places : IndexMap (ℕ × ℕ) ℕ S) (used :
 
     pub has_room : (p : PageId) → IsDistinct nat_eq t.order → changed_at t.slots s ≡ None → page_in t.slots s ≡ Some p → 1 ≤ set.room
     has_room p d none is =
-        let a = one_less (changed_at t.slots) s t.order d (kept.covers s l) in
-        let b = one_less (entry_at t) s t.order d (kept.covers s l) in
+        let a = one_less (changed_at t.slots) s t.order d (kept.whole.covers s l) in
+        let b = one_less (entry_at t) s t.order d (kept.whole.covers s l) in
         let c = fewer (changed_at t.slots) (entry_at t) (all_but s t.order) (λ x h. some_page (slot_at t.slots x) (slice_get t.pages x) h) in
         let e = ap ones none in
         let g = ap one_if (some_entry (slot_at t.slots s) (slice_get t.pages s) p is) in
@@ -252,15 +252,15 @@ module _ {S : Type 0} (t : Table) (places : IndexMap (ℕ × ℕ) ℕ S) (used :
         let E = changed_at t.slots in
         let others = others_same E F s t.order (λ x differs. ap changed_page (slot_set t.slots s new x l ∙ ap (λ b. cond b new (slot_at t.slots x)) differs)) in
         let here : F s ≡ changed_page new = ap changed_page (slot_set t.slots s new s l ∙ ap (λ b. cond b new (slot_at t.slots s)) (itself s)) in
-        let a = one_less E s t.order d (kept.covers s l) in
-        let b = one_less F s t.order d (kept.covers s l) in
+        let a = one_less E s t.order d (kept.whole.covers s l) in
+        let b = one_less F s t.order d (kept.whole.covers s l) in
         let c = ap length others in
         let e = ap ones here in
         let count = listed.count in
         let before = listed.room in
         let size = length-set t.slots s new in
         record {
-          listed = λ q. pages q ∙ only q (changed_at t.slots s) refl ∙ sym (parted F q s t.order (kept.covers s l) ∙ (λ i. is_page_of q (here i) || is_among q (others i)));
+          listed = λ q. pages q ∙ only q (changed_at t.slots s) refl ∙ sym (parted F q s t.order (kept.whole.covers s l) ∙ (λ i. is_page_of q (here i) || is_among q (others i)));
           count = omega (arith, a, b, c, e, count, long);
           room = omega (arith, room, before, size);
         }

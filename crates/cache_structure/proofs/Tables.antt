@@ -1,33 +1,24 @@
 -- What the moves of a table make of its entries.
-use Rattle.std.proofs.Common.{◌≡◌, ◌⊎◌, inl, inr, ℕ, zero, suc, ◌+◌, ◌*◌, ◌^◌, ◌<◌, ◌≤◌, Bool, true, false, cond, List, [], ◌∷◌, ◌++◌, map, length, replicate, Option, Some, None, refl, sym, ap, subst, ◌∙◌, true≢false, arith, nat_eq, slice_get, slice_set, get_or}
+use Rattle.std.proofs.Common.{◌≡◌, ◌⊎◌, inl, inr, ℕ, zero, suc, ◌+◌, ◌^◌, ◌<◌, ◌≤◌, Bool, true, false, cond, List, [], ◌∷◌, ◌++◌, map, length, replicate, Option, Some, None, refl, sym, ap, subst, ◌∙◌, true≢false, arith, nat_eq, slice_get, slice_set, get_or}
 use Rattle.std.specs.Prelude.{find, filter_map, is_some, is_none, unwrap_or, IfSome, nat_lt}
-use Rattle.std.specs.List.{IsDistinct, cons_option, list_all}
-use Rattle.cache_structure.proofs.Orders.{within_newest, in_newest, within_countdown, in_countdown}
+use Rattle.std.specs.List.{IsDistinct, cons_option}
 use Rattle.std.specs.Option.{option_map_or, option_map}
-use Rattle.std.proofs.lemmas.Bool.{eqb-true}
+use Rattle.std.proofs.lemmas.Bool.{eqb-true, eq-eqb}
 use Rattle.std.proofs.lemmas.List.{length-set, length-append, length-replicate}
 use Rattle.std.proofs.lemmas.List.Elements.{filter_map-append}
-use Rattle.std.proofs.lemmas.Option.{slice_get_read, slice_get_within, slice_get_past}
-use Rattle.indexmap.specs.IndexMap.{IndexMap}
+use Rattle.std.proofs.lemmas.Option.{slice_get_read, slice_get_within, slice_get_past, none-some}
+use Rattle.page_index.specs.Places.{Index, IsIndexOf, page_at}
+use Rattle.page_index.specs.Uses.{without as all_but, newest as used_last, may_take, IsOrderOf}
+use Rattle.page_index.proofs.CallerLemmas.{own, is_page_so, so_is_page, get_set, finds, misses, apart_by, index_less}
 use Rattle.ds_base.specs.declared.names.PageId.{PageId}
 use Rattle.cache_structure.specs.declared.slot.Slot.{Slot}
-use Rattle.cache_structure.specs.Entries.{Entry, fresh, is_of, is_idle, same_page, entry_of, without, newest, at_entry, written_with, locked_by, cast_out, freed_of}
-use Rattle.cache_structure.specs.Slots.{Table, rewritten, locked_for, unlocked, freed_slot, free_slot, holding, holds, slot_at, find_slot, entry_in, entry_at, entries_in, bytes_at, is_idle_slot, page_in}
+use Rattle.cache_structure.specs.Entries.{Entry, fresh, is_of, is_idle, entry_of, without, newest, at_entry, written_with, locked_by, cast_out, freed_of}
+use Rattle.cache_structure.specs.Slots.{Table, page_of, holds_at, rewritten, locked_for, unlocked, freed_slot, free_slot, holding, holds, slot_at, find_slot, entry_in, entry_at, entries_in, bytes_at, is_idle_slot, page_in}
 use Rattle.cache_structure.specs.Frames.{is_page}
-use Rattle.cache_structure.specs.Uses.{all_but, used_last, is_in, countdown}
-use Rattle.cache_structure.specs.Places.{holds_at, LeadsToAll, HasRoomFor}
 use Rattle.cache_structure.specs.Kept.{IsKept}
-use Rattle.cache_structure.proofs.Leading.{finds, misses, none_held, leads_set}
 use Rattle.cache_structure.proofs.Views.{others_same, page_leaves, nothing_leaves, stays_without, finds_entry, finds_none, mapped, as_many, none_left, first_passing, one_less}
 
 -- ---- one slot
-
-pub get_set : {X : Type 0} (xs : List X) (i : ℕ) (v : X) (k : ℕ) → i < length xs → slice_get (slice_set xs i v) k ≡ cond (nat_eq i k) (Some v) (slice_get xs k)
-get_set [] i v k l = absurd (omega (arith, l))
-get_set (x ∷ xs) zero v zero l = refl
-get_set (x ∷ xs) zero v (suc k) l = grind arith
-get_set (x ∷ xs) (suc i) v zero l = grind arith
-get_set (x ∷ xs) (suc i) v (suc k) l = let ih = get_set xs i v k (omega (arith, l)) in grind (arith, ih)
 
 pub slot_read : (slots : List Slot) (s : ℕ) (x : Slot) → s < length slots → x ≡ get_or slots s x → x ≡ slot_at slots s
 slot_read slots s x l e = sym (ap (λ o. unwrap_or o free_slot) (slice_get_read slots (length slots) s x refl l e))
@@ -52,20 +43,13 @@ slot_here slots s new l = slot_set slots s new s l ∙ ap (λ b. cond b new (slo
     same : (n : ℕ) → nat_eq n n ≡ true
     same n = grind arith
 
-pub own : (id : PageId) → same_page id id ≡ true
-own id = grind arith
-
 -- the entry in a slot is one of the page exactly where the slot holds it
 pub seen : (t : Table) (s : ℕ) (id : PageId) → option_map_or (is_of id) (entry_at t s) false ≡ holds_at t.slots s id
-seen t s id = by (slice_get t.slots s)
+seen t s id = page (slot_at t.slots s) (slot_at t.slots s).page refl
   where
     page : (slot : Slot) (o : Option PageId) → slot.page ≡ o → option_map_or (is_of id) (entry_in slot (slice_get t.pages s)) false ≡ holds id slot
     page slot None e = grind arith
     page slot (Some p) e = grind arith
-
-    by : (o : Option Slot) → option_map_or (is_of id) (entry_in (unwrap_or o free_slot) (slice_get t.pages s)) false ≡ option_map_or (holds id) o false
-    by None = refl
-    by (Some slot) = page slot slot.page refl
 
 seen_so : (t : Table) (s : ℕ) (id : PageId) (e : Entry) → entry_at t s ≡ Some e → is_of id e ≡ holds_at t.slots s id
 seen_so t s id e is = sym (ap (λ o. option_map_or (is_of id) o false) is) ∙ seen t s id
@@ -77,14 +61,31 @@ some_of id (Some e) h = (e, refl)
 pub there : (t : Table) (s : ℕ) (id : PageId) → holds_at t.slots s id ≡ true → (e : Entry) × (entry_at t s ≡ Some e)
 there t s id h = some_of id (entry_at t s) (seen t s id ∙ h)
 
-pub held_at : (slots : List Slot) (s : ℕ) (id : PageId) → holds_at slots s id ≡ holds id (slot_at slots s)
-held_at slots s id = by (slice_get slots s)
+pub page_at_is : (slots : List Slot) (s : ℕ) → page_at page_of slots s ≡ page_in slots s
+page_at_is slots s = by (slice_get slots s)
   where
-    by : (o : Option Slot) → option_map_or (holds id) o false ≡ holds id (unwrap_or o free_slot)
+    by : (o : Option Slot) → option_map_or page_of o None ≡ page_of (unwrap_or o free_slot)
     by None = refl
     by (Some slot) = refl
 
-module _ {S : Type 0} (t : Table) (places : IndexMap (ℕ × ℕ) ℕ S) (used : ℕ) (kept : IsKept t places used) where
+stands : (slots : List Slot) (s : ℕ) (id : PageId) → holds_at slots s id ≡ true → page_at page_of slots s ≡ Some id
+stands slots s id h = page_at_is slots s ∙ is_page_so id (page_in slots s) h
+
+pub holds_found : (slots : List Slot) (id : PageId) (s : ℕ) → find_slot slots id ≡ Some s → holds_at slots s id ≡ true
+holds_found slots id s e = so_is_page id (page_in slots s) (sym (page_at_is slots s) ∙ finds page_of slots id s e)
+
+-- a slot may be taken exactly where its entry may be reclaimed
+pub idle_same : (slots : List Slot) (f : ℕ) → may_take is_idle_slot slots f ≡ is_idle_slot (slot_at slots f)
+idle_same slots f = by (slice_get slots f)
+  where
+    by : (o : Option Slot) → option_map_or is_idle_slot o false ≡ is_idle_slot (unwrap_or o free_slot)
+    by None = refl
+    by (Some slot) = refl
+
+module _ (t : Table) (places : Index) (used : ℕ) (kept : IsKept t places used) where
+  one_slot : (s x : ℕ) (id : PageId) → holds_at t.slots s id ≡ true → holds_at t.slots x id ≡ true → s ≡ x
+  one_slot s x id h at = apart_by page_of t.slots places kept.index s x id (stands t.slots s id h) (stands t.slots x id at)
+
   -- no other slot holds the page
   pub own_page : (s : ℕ) (id : PageId) → holds_at t.slots s id ≡ true → (x : ℕ) (e : Entry) → entry_at t x ≡ Some e → is_of id e ≡ nat_eq s x
   own_page s id h x e is = by (nat_eq s x) (holds_at t.slots x id) refl refl
@@ -93,27 +94,18 @@ module _ {S : Type 0} (t : Table) (places : IndexMap (ℕ × ℕ) ℕ S) (used :
       by true held same at = seen_so t x id e is ∙ ap (λ k. holds_at t.slots k id) (sym (eqb-true s x same)) ∙ h ∙ sym same
       by false false same at = seen_so t x id e is ∙ at ∙ sym same
       by false true same at =
-          let to : Some s ≡ Some x = sym (kept.leads s id h) ∙ kept.leads x id at in
-          absurd (apart to same)
-        where
-          apart : Some s ≡ Some x → nat_eq s x ≡ false → ⊥
-          apart to differs = grind arith
+          absurd (true≢false (sym (eq-eqb s x (one_slot s x id h at)) ∙ same))
 
   pub pages_apart : (f s : ℕ) (id : PageId) → page_in t.slots f ≡ Some id → is_page id (page_in t.slots s) ≡ nat_eq s f
   pages_apart f s id is = by (nat_eq s f) (holds_at t.slots s id) refl refl
     where
       there : holds_at t.slots f id ≡ true
-      there = held_at t.slots f id ∙ ap (λ p. option_map_or (same_page id) p false) is ∙ own id
+      there = so_is_page id (page_in t.slots f) is
 
       by : (same held : Bool) → nat_eq s f ≡ same → holds_at t.slots s id ≡ held → is_page id (page_in t.slots s) ≡ nat_eq s f
-      by true held same at = sym (held_at t.slots s id) ∙ ap (λ k. holds_at t.slots k id) (eqb-true s f same) ∙ there ∙ sym same
-      by false false same at = sym (held_at t.slots s id) ∙ at ∙ sym same
-      by false true same at =
-          let to : Some f ≡ Some s = sym (kept.leads f id there) ∙ kept.leads s id at in
-          absurd (apart to same)
-        where
-          apart : Some f ≡ Some s → nat_eq s f ≡ false → ⊥
-          apart to differs = grind arith
+      by true held same at = ap (λ k. holds_at t.slots k id) (eqb-true s f same) ∙ there ∙ sym same
+      by false false same at = at ∙ sym same
+      by false true same at = absurd (true≢false (sym (eq-eqb s f (one_slot s f id at there)) ∙ same))
 
   own_entry : (s : ℕ) (e : Entry) → entry_at t s ≡ Some e → (x : ℕ) (f : Entry) → entry_at t x ≡ Some f → is_of e.page f ≡ nat_eq s x
   own_entry s e is = own_page s e.page (sym (seen_so t s e.page e is) ∙ own e.page)
@@ -122,14 +114,14 @@ module _ {S : Type 0} (t : Table) (places : IndexMap (ℕ × ℕ) ℕ S) (used :
   none_of id none x e is = by (holds_at t.slots x id) refl
     where
       by : (b : Bool) → holds_at t.slots x id ≡ b → is_of id e ≡ false
-      by true h = absurd (misses t.slots id x none h)
+      by true h = absurd (misses page_of t.slots id x none (stands t.slots x id h))
       by false h = seen_so t x id e is ∙ h
 
   pub in_order : (s : ℕ) (id : PageId) → holds_at t.slots s id ≡ true → s < length t.slots
   in_order s id h = by (slice_get t.slots s) refl
     where
       by : (o : Option Slot) → slice_get t.slots s ≡ o → s < length t.slots
-      by None e = absurd (true≢false (sym h ∙ ap (λ o. option_map_or (holds id) o false) e))
+      by None e = absurd (true≢false (sym h ∙ ap (λ o. holds id (unwrap_or o free_slot)) e))
       by (Some x) e = slice_get_within t.slots s x e
 
   -- ---- a page is looked up
@@ -140,16 +132,16 @@ module _ {S : Type 0} (t : Table) (places : IndexMap (ℕ × ℕ) ℕ S) (used :
       by : (o : Option ℕ) → find_slot t.slots id ≡ o → entry_of (entries_in t) id ≡ option_map_or (entry_at t) o None
       by None e = finds_none (entry_at t) id t.order (none_of id e)
       by (Some s) e =
-          let h = finds t.slots id s e in
+          let h = holds_found t.slots id s e in
           let is = there t s id h in
-          finds_entry (entry_at t) s id is.0 t.order (own_page s id h) is.1 (kept.covers s (in_order s id h))
+          finds_entry (entry_at t) s id is.0 t.order (own_page s id h) is.1 (kept.whole.covers s (in_order s id h))
 
   pub found_there : (id : PageId) → IfSome (find_slot t.slots id) (λ s. holds_at t.slots s id ≡ true)
   found_there id = by (find_slot t.slots id) refl
     where
       by : (o : Option ℕ) → find_slot t.slots id ≡ o → IfSome o (λ s. holds_at t.slots s id ≡ true)
       by None e = tt
-      by (Some s) e = finds t.slots id s e
+      by (Some s) e = holds_found t.slots id s e
 
   -- ---- an entry is used
 
@@ -237,36 +229,32 @@ module _ {S : Type 0} (t : Table) (places : IndexMap (ℕ × ℕ) ℕ S) (used :
       one (Some e) = refl
 
   in_place : (s : ℕ) → s < length t.slots → IsDistinct nat_eq t.order → cond (is_some (entry_at t s)) 1 0 + length (filter_map (entry_at t) (all_but s t.order)) ≡ used
-  in_place s l d = one_less (entry_at t) s t.order d (kept.covers s l) ∙ kept.count
+  in_place s l d = one_less (entry_at t) s t.order d (kept.whole.covers s l) ∙ kept.count
 
-  pub kept_touched : (s : ℕ) (order : List ℕ) → s < length t.slots → IsDistinct nat_eq t.order → order ≡ used_last s t.order → IsKept (record t { order = order }) places used
-  kept_touched s order l d is =
+  pub kept_touched : (s : ℕ) (order : List ℕ) → s < length t.slots → IsDistinct nat_eq t.order → order ≡ used_last s t.order → IsOrderOf (length t.slots) order → IsKept (record t { order = order }) places used
+  kept_touched s order l d is whole =
       let a = length_last s in
       let b = in_place s l d in
       let count : length (filter_map (entry_at t) (used_last s t.order)) ≡ used = omega (arith, a, b) in
       subst (λ o. IsKept (record t { order = o }) places used) (sym is) (record {
         same = kept.same;
         small = kept.small;
-        within = within_newest (length t.slots) s t.order l kept.within;
-        covers = λ g lt. in_newest s g t.order (kept.covers g lt);
-        leads = kept.leads;
-        room = kept.room;
+        whole = subst (IsOrderOf (length t.slots)) is whole;
+        index = kept.index;
         count = count;
         free = kept.free;
         at_most = kept.at_most;
       })
 
   -- the slots and the storage change, and no page
-  pub kept_changed : (new : Table) → new.order ≡ t.order → length new.slots ≡ length t.slots → length new.pages ≡ length t.pages → LeadsToAll places new.slots
+  pub kept_changed : (new : Table) → new.order ≡ t.order → length new.slots ≡ length t.slots → length new.pages ≡ length t.pages → IsIndexOf page_of new.slots places
       → ((x : ℕ) → (slot_at new.slots x).page ≡ (slot_at t.slots x).page) → IsKept new places used
-  kept_changed new order long pages leads page =
+  kept_changed new order long pages index page =
       record {
         same = pages ∙ kept.same ∙ sym long;
         small = subst (λ n. n < 2 ^ 32) (sym long) kept.small;
-        within = subst (λ n. list_all (λ g. nat_lt g n) new.order ≡ true) (sym long) (subst (λ o. list_all (λ g. nat_lt g (length t.slots)) o ≡ true) (sym order) kept.within);
-        covers = λ g lt. subst (λ o. is_in g o ≡ true) (sym order) (kept.covers g (subst (λ n. g < n) long lt));
-        leads = leads;
-        room = subst (λ n. HasRoomFor places (2 * n)) (sym long) kept.room;
+        whole = subst (λ n. IsOrderOf n new.order) (sym long) (subst (IsOrderOf (length t.slots)) (sym order) kept.whole);
+        index = index;
         count = ap (λ o. length (filter_map (entry_at new) o)) order ∙ as_many (entry_at t) (entry_at new) t.order some ∙ kept.count;
         free = λ s le. page s ∙ kept.free s le;
         at_most = subst (λ n. used ≤ n) (sym long) kept.at_most;
@@ -275,11 +263,11 @@ module _ {S : Type 0} (t : Table) (places : IndexMap (ℕ × ℕ) ℕ S) (used :
       some : (x : ℕ) → is_some (entry_at new x) ≡ is_some (entry_at t x)
       some x = is_there (slot_at new.slots x) (slice_get new.pages x) ∙ ap is_some (page x) ∙ sym (is_there (slot_at t.slots x) (slice_get t.pages x))
 
-  pub kept_made : (s : ℕ) (id : PageId) (order : List ℕ) (then : IndexMap (ℕ × ℕ) ℕ S) (now : ℕ) → s < length t.slots → IsDistinct nat_eq t.order → order ≡ used_last s t.order
-      → LeadsToAll then (slice_set t.slots s (holding id)) → HasRoomFor then (2 * length t.slots)
+  pub kept_made : (s : ℕ) (id : PageId) (order : List ℕ) (then : Index) (now : ℕ) → s < length t.slots → IsDistinct nat_eq t.order → order ≡ used_last s t.order
+      → IsOrderOf (length t.slots) order → IsIndexOf page_of (slice_set t.slots s (holding id)) then
       → (((slot_at t.slots s).page ≡ None) × (now ≡ used + 1) × (s ≡ used)) ⊎ ((is_some (slot_at t.slots s).page ≡ true) × (now ≡ used))
       → IsKept (record { slots = slice_set t.slots s (holding id); pages = t.pages; order = order }) then now
-  kept_made s id order then now l d is leads room place =
+  kept_made s id order then now l d is whole index place =
       let E = entry_at t in
       let F : ℕ → Option Entry = entry_at (record t { slots = slice_set t.slots s (holding id) }) in
       let at : F s ≡ Some (fresh id) = made_entry s id l s ∙ ap (λ b. cond b (Some (fresh id)) (E s)) (itself s) in
@@ -293,10 +281,8 @@ module _ {S : Type 0} (t : Table) (places : IndexMap (ℕ × ℕ) ℕ S) (used :
       record {
         same = kept.same ∙ sym long;
         small = subst (λ n. n < 2 ^ 32) (sym long) kept.small;
-        within = subst (λ n. list_all (λ g. nat_lt g n) order ≡ true) (sym long) (subst (λ o. list_all (λ g. nat_lt g (length t.slots)) o ≡ true) (sym is) (within_newest (length t.slots) s t.order l kept.within));
-        covers = λ g lt. subst (λ o. is_in g o ≡ true) (sym is) (in_newest s g t.order (kept.covers g (subst (λ n. g < n) long lt)));
-        leads = leads;
-        room = subst (λ n. HasRoomFor then (2 * n)) (sym long) room;
+        whole = subst (λ n. IsOrderOf n order) (sym long) whole;
+        index = index;
         count = count;
         free = λ x le. ap (λ (slot : Slot). slot.page) (slot_set t.slots s (holding id) x l) ∙ rest x (nat_eq s x) refl le facts.0;
         at_most = subst (λ n. now ≤ n) (sym long) facts.1;
@@ -372,11 +358,11 @@ freed_in slot b member = by slot.page (option_map_or (λ by. nat_eq by member) s
     by (Some p) true e f = grind arith
     by (Some p) false e f = grind arith
 
-module _ {S : Type 0} (t : Table) (places : IndexMap (ℕ × ℕ) ℕ S) (used : ℕ) (kept : IsKept t places used) where
+module _ (t : Table) (places : Index) (used : ℕ) (kept : IsKept t places used) where
   pub kept_put : (s : ℕ) (new : Slot) → s < length t.slots → new.page ≡ (slot_at t.slots s).page → IsKept (record t { slots = slice_set t.slots s new }) places used
   kept_put s new l page =
       kept_changed t places used kept (record t { slots = slice_set t.slots s new }) refl (length-set t.slots s new) refl
-      (leads_set places t.slots s new l kept.leads (λ id h. held_at t.slots s id ∙ ap (λ o. option_map_or (same_page id) o false) (sym page) ∙ h))
+      (index_less page_of t.slots places kept.index s new l (λ id h. page_at_is t.slots s ∙ sym page ∙ h))
       (λ x. ap (λ (slot : Slot). slot.page) (slot_set t.slots s new x l) ∙ by x (nat_eq s x) refl)
     where
       by : (x : ℕ) (b : Bool) → nat_eq s x ≡ b → (cond (nat_eq s x) new (slot_at t.slots x)).page ≡ (slot_at t.slots x).page
@@ -384,7 +370,7 @@ module _ {S : Type 0} (t : Table) (places : IndexMap (ℕ × ℕ) ℕ S) (used :
       by x false e = ap (λ b. (cond b new (slot_at t.slots x)).page) e
 
   pub kept_stored : (s : ℕ) (bytes : List ℕ) → IsKept (record t { pages = slice_set t.pages s bytes }) places used
-  kept_stored s bytes = kept_changed t places used kept (record t { pages = slice_set t.pages s bytes }) refl refl (length-set t.pages s bytes) kept.leads (λ x. refl)
+  kept_stored s bytes = kept_changed t places used kept (record t { pages = slice_set t.pages s bytes }) refl refl (length-set t.pages s bytes) kept.index (λ x. refl)
 
   pub put_entries : (s : ℕ) (id : PageId) (new : Slot) (change : Entry → Entry) → s < length t.slots → holds_at t.slots s id ≡ true
       → entry_in new (slice_get t.pages s) ≡ option_map change (entry_at t s) → entries_in (record t { slots = slice_set t.slots s new }) ≡ at_entry id change (entries_in t)
@@ -428,34 +414,37 @@ free_at (suc n) (suc s) = free_at n s
 pub no_entries : (t : Table) → ((s : ℕ) → slot_at t.slots s ≡ free_slot) → entries_in t ≡ []
 no_entries t free = none_left (entry_at t) t.order (λ s. ap (λ slot. entry_in slot (slice_get t.pages s)) (free s))
 
-pub kept_new : {S : Type 0} (n : ℕ) (page : List ℕ) (t : Table) (places : IndexMap (ℕ × ℕ) ℕ S) → n < 2 ^ 32 → t.pages ≡ replicate n page → t.slots ≡ replicate n free_slot → t.order ≡ countdown n
-    → HasRoomFor places (2 * n) → IsKept t places 0
-kept_new n page t places small p f o room =
+-- an index names nothing that must be there, where all slots are free
+none_named : (slots : List Slot) (places : Index) → ((s : ℕ) → slot_at slots s ≡ free_slot) → length slots ≤ places.size → IsIndexOf page_of slots places
+none_named slots places free room = record {
+  leads = λ g id h. absurd (none-some id (sym (page_at_is slots g ∙ ap page_of (free g)) ∙ h));
+  room = room;
+}
+
+pub kept_new : (n : ℕ) (page : List ℕ) (t : Table) (places : Index) → n < 2 ^ 32 → t.pages ≡ replicate n page → t.slots ≡ replicate n free_slot → IsOrderOf n t.order
+    → n ≤ places.size → IsKept t places 0
+kept_new n page t places small p f whole room =
     let long : length t.slots ≡ n = ap length f ∙ length-replicate n free_slot in
     let free : (s : ℕ) → slot_at t.slots s ≡ free_slot = λ s. ap (λ slots. slot_at slots s) f ∙ free_at n s in
     record {
       same = ap length p ∙ length-replicate n page ∙ sym long;
       small = subst (λ k. k < 2 ^ 32) (sym long) small;
-      within = ap (list_all (λ g. nat_lt g (length t.slots))) o ∙ within_countdown (length t.slots) n (omega (arith, long));
-      covers = λ g lt. ap (is_in g) o ∙ in_countdown n g (omega (arith, long, lt));
-      leads = λ g id h. absurd (none_held n g id (sym (ap (λ fs. holds_at fs g id) f) ∙ h));
-      room = subst (λ k. HasRoomFor places (2 * k)) (sym long) room;
+      whole = subst (λ k. IsOrderOf k t.order) (sym long) whole;
+      index = none_named t.slots places free (omega (arith, long, room));
       count = ap length (no_entries t free);
       free = λ s le. ap (λ (slot : Slot). slot.page) (free s);
       at_most = omega arith;
     }
 
 -- every entry is gone, and the order of the slots stays
-pub kept_cleared : {S : Type 0} (t : Table) (slots : List Slot) (old new : IndexMap (ℕ × ℕ) ℕ S) (used : ℕ) → IsKept t old used → length slots ≡ length t.slots → ((s : ℕ) → slot_at slots s ≡ free_slot) → HasRoomFor new (2 * length t.slots)
+pub kept_cleared : (t : Table) (slots : List Slot) (old new : Index) (used : ℕ) → IsKept t old used → length slots ≡ length t.slots → ((s : ℕ) → slot_at slots s ≡ free_slot) → new.size ≡ old.size
     → IsKept (record t { slots = slots }) new 0
 kept_cleared t slots old new used kept long free room =
     record {
       same = kept.same ∙ sym long;
       small = subst (λ k. k < 2 ^ 32) (sym long) kept.small;
-      within = subst (λ k. list_all (λ g. nat_lt g k) t.order ≡ true) (sym long) kept.within;
-      covers = λ g lt. kept.covers g (subst (λ k. g < k) long lt);
-      leads = λ g id h. absurd (true≢false (sym h ∙ held_at slots g id ∙ ap (holds id) (free g)));
-      room = subst (λ k. HasRoomFor new (2 * k)) (sym long) room;
+      whole = subst (λ k. IsOrderOf k t.order) (sym long) kept.whole;
+      index = none_named slots new free (omega (arith, long, room, kept.index.room));
       count = ap length (no_entries (record t { slots = slots }) free);
       free = λ s le. ap (λ (slot : Slot). slot.page) (free s);
       at_most = omega arith;
@@ -538,7 +527,7 @@ some_is : (o : Option PageId) → is_none o ≡ false → is_some o ≡ true
 some_is None e = absurd (true≢false e)
 some_is (Some p) e = refl
 
-module _ {S : Type 0} (t : Table) (places : IndexMap (ℕ × ℕ) ℕ S) (used : ℕ) (kept : IsKept t places used) (s : ℕ) (x : Slot) (read : x ≡ slot_at t.slots s) where
+module _ (t : Table) (places : Index) (used : ℕ) (kept : IsKept t places used) (s : ℕ) (x : Slot) (read : x ≡ slot_at t.slots s) where
   pub in_free : is_none x.page ≡ true → ((slot_at t.slots s).page ≡ None → s ≡ length (entries_in t)) → ((slot_at t.slots s).page ≡ None) × (used + 1 ≡ used + 1) × (s ≡ used)
   in_free e next =
       let page : (slot_at t.slots s).page ≡ None = ap (λ (slot : Slot). slot.page) (sym read) ∙ none_is x.page e in

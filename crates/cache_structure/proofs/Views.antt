@@ -7,7 +7,7 @@ use Rattle.std.proofs.lemmas.Bool.{eqb-true}
 use Rattle.std.proofs.lemmas.List.Sums.{sum_by-cons}
 use Rattle.ds_base.specs.declared.names.PageId.{PageId}
 use Rattle.cache_structure.specs.Entries.{Entry, is_of, without}
-use Rattle.cache_structure.specs.Uses.{all_but, is_in}
+use Rattle.page_index.specs.Uses.{without as all_but, is_in}
 
 -- ---- one more entry, or none
 

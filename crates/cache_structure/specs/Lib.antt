@@ -2,13 +2,10 @@ pub mod Bound
 pub mod Directory
 pub mod Entries
 pub mod Frames
-pub mod Hashes
 pub mod Kept
 pub mod Listed
 pub mod Order
-pub mod Places
 pub mod Replies
 pub mod Slots
 pub mod Sound
 pub mod State
-pub mod Uses

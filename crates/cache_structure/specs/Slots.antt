@@ -14,6 +14,9 @@ free_slot = record { page = None; filled = false; changed = false; castout = Non
 abbrev pub holding : PageId → Slot
 holding id = record { page = Some id; filled = false; changed = false; castout = None; written = false }
 
+abbrev pub page_of : Slot → Option PageId
+page_of slot = slot.page
+
 -- whether the slot holds the page's entry
 abbrev pub holds : PageId → Slot → Bool
 holds id slot = option_map_or (same_page id) slot.page false
@@ -29,6 +32,10 @@ slot_at slots s = unwrap_or (slice_get slots s) free_slot
 -- the page whose entry stands in the slot of this number
 abbrev pub page_in : List Slot → ℕ → Option PageId
 page_in slots s = (slot_at slots s).page
+
+-- whether the page's entry stands in the slot of this number
+abbrev pub holds_at : List Slot → ℕ → PageId → Bool
+holds_at slots s id = holds id (slot_at slots s)
 
 -- the number of the slot that holds the page's entry
 abbrev pub find_slot : List Slot → PageId → Option ℕ

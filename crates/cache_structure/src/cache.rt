@@ -12,8 +12,7 @@ ghost use Rattle.cache_structure.specs.Directory.{
 };
 ghost use Rattle.cache_structure.specs.Frames.{page_dropped, others_dropped};
 ghost use Rattle.cache_structure.specs.Entries.{fresh, newest, without};
-ghost use Rattle.cache_structure.specs.Slots.{find_slot, bytes_at, slot_at, entries_in, entry_at, page_in};
-ghost use Rattle.cache_structure.specs.Places.{holds_at};
+ghost use Rattle.cache_structure.specs.Slots.{find_slot, holds_at, bytes_at, slot_at, entries_in, entry_at, page_in};
 ghost use Rattle.cache_structure.specs.State.{directory_of};
 
 use crate::face::{CacheFace, CastReply, DoneReply, ReadReply, WriteReply};

@@ -4,13 +4,9 @@
 
 mod cache;
 mod face;
-mod index;
 mod law;
-mod order;
-mod page_hash;
 mod registrations;
 mod slot;
-mod slot_hash;
 mod table;
 mod validity;
 

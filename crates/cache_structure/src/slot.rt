@@ -4,18 +4,19 @@ ghost use Rattle.cache_structure.specs.Slots.{
   holding,
   free_slot,
   slot_at,
-  holds,
   is_idle_slot,
   rewritten,
   locked_for,
   unlocked,
   freed_slot,
   changed_page,
+  page_of,
 };
 ghost use Rattle.cache_structure.specs.Replies.{cast_reply_for};
 
 use crate::face::CastReply;
 use ds_base::{MemberId, NoMemory, PageId};
+use page_index::HoldsPage;
 use std::alloc::Global;
 
 /// A slot of the directory: an entry without its bytes, or nothing.
@@ -54,16 +55,6 @@ impl Slot {
         Slot {
             page: Some(id),
             ..Slot::free()
-        }
-    }
-
-    /// Whether the page's entry stands here.
-    pub fn holds(&self, id: PageId) -> bool
-        ensures { result ≡ holds id self.now }
-    {
-        match self.page {
-            Some(page) => id == page,
-            None => false,
         }
     }
 
@@ -165,6 +156,20 @@ impl Slot {
         ensures { result ≡ changed_page self.now }
     {
         if self.changed { self.page } else { None }
+    }
+}
+
+impl HoldsPage for Slot {
+    ghost page = { page_of };
+
+    ghost may_be_taken = { is_idle_slot };
+
+    fn page(&self) -> Option<PageId> {
+        self.page
+    }
+
+    fn may_be_taken(&self) -> bool {
+        self.is_idle()
     }
 }
 

@@ -14,18 +14,16 @@ ghost use Rattle.cache_structure.specs.Entries.{
   cast_out,
   freed_of,
 };
-ghost use Rattle.cache_structure.specs.Slots.{free_slot, slot_at, page_in, find_slot, entry_at, entry_in, entries_in, bytes_at};
+ghost use Rattle.cache_structure.specs.Slots.{free_slot, slot_at, page_in, find_slot, holds_at, entry_at, entry_in, entries_in, bytes_at};
 ghost use Rattle.cache_structure.specs.Frames.{is_page};
-ghost use Rattle.cache_structure.specs.Places.{holds_at};
 ghost use Rattle.cache_structure.specs.Order.{IsNextAmong, changed_in};
 ghost use Rattle.cache_structure.specs.Listed.{is_page_of};
 ghost use Rattle.page_tree.specs.Pages.{has};
 
-use crate::index::{PageIndex, enter, find_in, new_index};
-use crate::order::Order;
 use crate::slot::{Slot, free_all, free_slots};
 use ds_base::{MemberId, NoMemory, PageId};
 use page_format::Page;
+use page_index::{PageIndex, UseOrder};
 use page_tree::PageSet;
 use std::alloc::Global;
 use std::marker::Model;
@@ -37,7 +35,7 @@ use std::marker::Model;
 pub struct EntryTable {
     slots: Vec<Slot>,
     pages: Vec<Page>,
-    order: Order,
+    order: UseOrder,
     index: PageIndex,
     used: u32,
     changed: PageSet,
@@ -64,8 +62,8 @@ impl EntryTable {
         Ok(EntryTable {
             slots: free_slots(alloc, entries)?,
             pages: zero_pages(alloc, entries)?,
-            order: Order::new(alloc, entries)?,
-            index: new_index(alloc, entries)?,
+            order: UseOrder::new(alloc, entries)?,
+            index: PageIndex::new(alloc, entries)?,
             used: 0,
             changed: PageSet::new(alloc, entries)?,
         })
@@ -84,7 +82,7 @@ impl EntryTable {
         ensures there { IfSome result (λ s. holds_at self.now.slots s id ≡ true) }
         ensures entry { entry_of (entries_in self.now) id ≡ option_map_or (entry_at self.now) result None }
     {
-        find_in(&self.index, self.slots.as_slice(), id)
+        self.index.find(self.slots.as_slice(), id)
     }
 
     /// What stands in a slot.
@@ -156,7 +154,7 @@ impl EntryTable {
         ensures entry { find is_idle (entries_in self.now) ≡ option_map_or (entry_at self.now) result None }
         ensures there { IfSome result (λ s. s < length self.now.slots) }
     {
-        self.order.first_idle(self.slots.as_slice())
+        self.order.first_to_take(self.slots.as_slice())
     }
 
     /// How many entries are changed.
@@ -187,8 +185,8 @@ impl EntryTable {
         let was_free = self.slots[at as usize].is_free();
         let before = self.slots[at as usize].changed_page();
         relist(&mut self.changed, before, None);
+        self.index.enter(self.slots.as_slice(), at, id);
         self.slots[at as usize] = Slot::holding(id);
-        enter(&mut self.index, self.slots.as_slice(), at, id);
         self.order.make_newest(at);
         if was_free {
             self.used += 1;

@@ -7,7 +7,7 @@ use Rattle.lock_names.specs.Modes.{is_same}
 use Rattle.lock_structure.specs.declared.replies.Obtained.TheVariants as obtained
 use Rattle.lock_structure.specs.declared.replies.GrantReply.TheVariants as grant
 use Rattle.lock_structure.specs.Locks.{Locks, Obtains, Grants, IsReleased, IsPurged, retained_in}
-use Rattle.lock_structure.specs.Records.{same_name}
+use Rattle.lock_names.specs.Names.{same_name}
 use Rattle.list_structure.specs.declared.query.Cell.{Cell}
 use Rattle.list_structure.specs.declared.query.Cell.TheVariants.{Answered}
 use Rattle.list_structure.specs.declared.query.CellAnswer.TheVariants.{Clean}

@@ -1,13 +1,11 @@
 //! The answers of other members that they have nothing in the way of a lock.
 ghost use Rattle.std.specs.Prelude.{◌≡◌, ◌-◌, ◌≤◌, ◌<◌, ◌+◌, ℕ, [], ◌++◌, length, slice_index_or};
 ghost use Rattle.list_structure.specs.declared.query.Cell.TheVariants.{Empty};
-ghost use Rattle.lock_names.specs.Modes.{is_same};
-ghost use Rattle.lock_structure.specs.Records.{same_name};
-ghost use Rattle.facility.specs.LockCommands.{clean_version, clean_among, is_about, stamped};
+ghost use Rattle.facility.specs.LockCommands.{clean_version, clean_among, stamped};
 
 use ds_base::MemberId;
 use list_structure::{Cell, CellAnswer};
-use lock_names::{Mode, Name};
+use lock_names::{Mode, Name, is_same_mode, is_same_name};
 use std::marker::Model;
 
 /// Members that have nothing in the way, each with the version of the entry at which it said so.
@@ -25,28 +23,6 @@ impl Model for Clean {
     ghost view = { λ c. take c.count c.answers };
 
     ghost invariant = { λ c. c.count ≤ 32 };
-}
-
-/// Whether both are the same name.
-#[tactic(auto, unfolding(lock_structure::specs::Records::same_name))]
-fn is_same_name(a: &Name, b: &Name) -> bool
-    ensures { result ≡ same_name a.now b.now }
-{
-    match (a, b) {
-        (Name::Space(x), Name::Space(y)) => x.number() == y.number(),
-        (Name::Row(x, k), Name::Row(y, l)) => x.number() == y.number() && k == l,
-        (Name::Page(x), Name::Page(y)) => x.set == y.set && x.number == y.number,
-        (Name::Set(x), Name::Set(y)) => x == y,
-        _ => false,
-    }
-}
-
-/// Whether both are the same mode.
-#[tactic(auto, unfolding(lock_names::specs::Modes::is_same))]
-fn is_same_mode(a: Mode, b: Mode) -> bool
-    ensures { result ≡ is_same a b }
-{
-    a == b
 }
 
 /// The version at which the cell's member had nothing in the way of this name and mode, if it answered so.

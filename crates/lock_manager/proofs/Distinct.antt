@@ -1,34 +1,14 @@
 -- No two claims of an owner are on one name.
 use Rattle.std.proofs.Common.{◌≡◌, ℕ, zero, suc, ◌+◌, Bool, true, false, List, [], ◌∷◌, length, drop, set, refl, sym, ◌∙◌, ap, subst, arith, if◌then◌else◌}
 use Rattle.std.specs.Prelude.{Option, Some, None, is_some, ◌||◌}
-use Rattle.std.proofs.lemmas.Grind.{common_steps}
 use Rattle.ds_model.specs.declared.lock.Name.{Name}
-use Rattle.ds_model.specs.declared.lock.Name.TheVariants as name
 use Rattle.lock_names.specs.declared.mode.Mode.{Mode}
+use Rattle.lock_names.specs.Names.{same_name}
+use Rattle.lock_names.proofs.Names.{same_equal, same_turn}
 use Rattle.lock_manager.specs.declared.claim.Claim.{Claim}
-use Rattle.lock_manager.specs.Claims.{same_name, mode_in, without}
+use Rattle.lock_manager.specs.Claims.{mode_in, without}
 use Rattle.lock_manager.specs.Holders.{is_held}
 use Rattle.lock_manager.specs.Buckets.{AreDistinct}
-use Rattle.lock_manager.proofs.Rooms.{same_itself}
-
-same_equal : (a b : Name) → same_name a b ≡ true → a ≡ b
-unfolding same_name
-same_equal (name.Space t) (name.Space u) e = grind (arith, common_steps)
-same_equal (name.Row t k) (name.Row u l) e = grind (arith, common_steps)
-same_equal (name.Page p) (name.Page q) e = grind (arith, common_steps)
-same_equal (name.Set p) (name.Set q) e = grind (arith, common_steps)
-same_equal (name.Space t) (name.Row u k) e = cc
-same_equal (name.Space t) (name.Page q) e = cc
-same_equal (name.Space t) (name.Set q) e = cc
-same_equal (name.Row t l) (name.Space u) e = cc
-same_equal (name.Row t l) (name.Page q) e = cc
-same_equal (name.Row t l) (name.Set q) e = cc
-same_equal (name.Page p) (name.Space u) e = cc
-same_equal (name.Page p) (name.Row u k) e = cc
-same_equal (name.Page p) (name.Set q) e = cc
-same_equal (name.Set p) (name.Space u) e = cc
-same_equal (name.Set p) (name.Row u k) e = cc
-same_equal (name.Set p) (name.Page q) e = cc
 
 other_case : (c : Claim) (cs : List Claim) (n m : Name) (b : Bool) → same_name c.name n ≡ b → same_name n m ≡ false → mode_in (without cs n) m ≡ mode_in cs m → mode_in (if b then cs else c ∷ without cs n) m ≡ mode_in (c ∷ cs) m
 other_case c cs n m true s e ih = let other : same_name c.name m ≡ false = ap (λ z. same_name z m) (same_equal c.name n s) ∙ e in grind (arith, other)
@@ -39,18 +19,11 @@ absent_other : (cs : List Claim) (n m : Name) → same_name n m ≡ false → mo
 absent_other [] n m e = refl
 absent_other (c ∷ cs) n m e = other_case c cs n m (same_name c.name n) refl e (absent_other cs n m e)
 
-differs : (a b : Name) (x : Bool) → same_name b a ≡ x → same_name a b ≡ false → x ≡ false
-differs a b true s e = let itself = same_itself a in let same = ap (λ z. same_name a z) (same_equal b a s) in grind (arith, itself, same, e)
-differs a b false s e = refl
-
-different : (a b : Name) → same_name a b ≡ false → same_name b a ≡ false
-different a b e = differs a b (same_name b a) refl e
-
 -- a claim is taken out
 without_case : (c : Claim) (cs : List Claim) (n : Name) (b : Bool) → same_name c.name n ≡ b → AreDistinct (c ∷ cs) → AreDistinct (without cs n) × (mode_in (without cs n) n ≡ None)
     → AreDistinct (if b then cs else c ∷ without cs n) × (mode_in (if b then cs else c ∷ without cs n) n ≡ None)
 without_case c cs n true s d ih = (d.1, ap (λ z. mode_in cs z) (sym (same_equal c.name n s)) ∙ d.0)
-without_case c cs n false s d ih = ((absent_other cs n c.name (different c.name n s) ∙ d.0, ih.0), ap (λ z. if z then Some c.mode else mode_in (without cs n) n) s ∙ ih.1)
+without_case c cs n false s d ih = ((absent_other cs n c.name (same_turn n c.name ∙ s) ∙ d.0, ih.0), ap (λ z. if z then Some c.mode else mode_in (without cs n) n) s ∙ ih.1)
 
 pub distinct_without : (cs : List Claim) (n : Name) → AreDistinct cs → AreDistinct (without cs n) × (mode_in (without cs n) n ≡ None)
 distinct_without [] n d = (tt, refl)
@@ -59,7 +32,7 @@ distinct_without (c ∷ cs) n d = without_case c cs n (same_name c.name n) refl 
 with_case : (c : Claim) (cs : List Claim) (n : Name) (b : Bool) → same_name c.name n ≡ b → AreDistinct (if b then cs else c ∷ without cs n) → mode_in (if b then cs else c ∷ without cs n) n ≡ None
     → (AreDistinct (without cs n) → mode_in (without cs n) n ≡ None → AreDistinct cs) → AreDistinct (c ∷ cs)
 with_case c cs n true s d a ih = (ap (λ z. mode_in cs z) (same_equal c.name n s) ∙ a, d)
-with_case c cs n false s d a ih = (sym (absent_other cs n c.name (different c.name n s)) ∙ d.0, ih d.1 (sym (ap (λ z. if z then Some c.mode else mode_in (without cs n) n) s) ∙ a))
+with_case c cs n false s d a ih = (sym (absent_other cs n c.name (same_turn n c.name ∙ s)) ∙ d.0, ih d.1 (sym (ap (λ z. if z then Some c.mode else mode_in (without cs n) n) s) ∙ a))
 
 -- a claim is put in
 pub distinct_with : (cs : List Claim) (n : Name) → AreDistinct (without cs n) → mode_in (without cs n) n ≡ None → AreDistinct cs

@@ -8,15 +8,16 @@ use Rattle.lock_names.specs.declared.mode.Class.TheVariants.{Share, Exclusive}
 use Rattle.lock_names.specs.declared.mode.Interest.{Interest}
 use Rattle.lock_names.specs.Entries.{entry_number}
 use Rattle.lock_names.specs.Modes.{class_of}
+use Rattle.lock_names.specs.Names.{same_name}
 use Rattle.lock_manager.specs.declared.claim.Claim.{Claim}
 use Rattle.lock_manager.specs.declared.claim.Ask.{Ask}
 use Rattle.lock_manager.specs.declared.claim.Ask.TheVariants as ask
 use Rattle.lock_manager.specs.declared.claim.LockAnswer.{LockAnswer}
 use Rattle.lock_manager.specs.declared.claim.LockAnswer.TheVariants as answer
-use Rattle.lock_manager.specs.Claims.{same_name, same_class, mode_in, needs, one_needs, joined_both, is_in_way}
+use Rattle.lock_manager.specs.Claims.{same_class, mode_in, needs, one_needs, joined_both, is_in_way}
 use Rattle.lock_manager.specs.Holders.{is_owner, first_in_way, mode_of_all, is_held, any_needs, kept}
 use Rattle.lock_manager.specs.Managers.{Book, held_by, held_by_member, ask_of, answer_of}
-use Rattle.lock_manager.proofs.Places.{same_entry}
+use Rattle.lock_names.proofs.Names.{same_entry}
 
 no_class : (k : Class) → same_class k Share ≡ false → same_class k Exclusive ≡ false → ⊥
 unfolding same_class

@@ -1,38 +1,16 @@
 -- Each name is claimed in the chain on which it falls, and nowhere else.
-use Rattle.std.proofs.Common.{◌≡◌, ℕ, zero, suc, ◌+◌, ◌%◌, ◌^◌, ◌<◌, ◌≤◌, Bool, true, false, List, [], ◌∷◌, ◌++◌, length, take, drop, set, get_or, refl, sym, ◌∙◌, ap, subst, arith, if◌then◌else◌}
+use Rattle.std.proofs.Common.{◌≡◌, ℕ, zero, suc, ◌+◌, ◌^◌, ◌<◌, ◌≤◌, Bool, true, false, List, [], ◌∷◌, ◌++◌, length, take, drop, set, get_or, refl, sym, ◌∙◌, ap, subst, arith, if◌then◌else◌}
 use Rattle.std.specs.Prelude.{Some, None, is_some, replicate}
 use Rattle.std.proofs.lemmas.List.{get_or_default, at_drop_more, append_assoc, take_more, length-set, length-append}
-use Rattle.std.proofs.lemmas.Grind.{common_steps}
 use Rattle.ds_model.specs.declared.lock.Name.{Name}
-use Rattle.ds_model.specs.declared.lock.Name.TheVariants as name
 use Rattle.lock_names.specs.declared.mode.Mode.{Mode}
-use Rattle.lock_names.specs.Entries.{entry_number, number_of}
+use Rattle.lock_names.specs.Entries.{entry_number}
+use Rattle.lock_names.specs.Names.{same_name}
+use Rattle.lock_names.proofs.Names.{same_itself, same_entry}
 use Rattle.lock_manager.specs.declared.claim.Claim.{Claim}
-use Rattle.lock_manager.specs.Claims.{same_name, mode_in, without, with_mode}
+use Rattle.lock_manager.specs.Claims.{mode_in, without, with_mode}
 use Rattle.lock_manager.specs.Buckets.{all_in, FallOn, IsInPlace, HasBuckets}
-use Rattle.lock_manager.proofs.Rooms.{absent_without, same_itself, drop_next}
-
-same_number : (a b : Name) → same_name a b ≡ true → number_of a ≡ number_of b
-unfolding same_name number_of
-same_number (name.Space t) (name.Space u) e = grind (arith, common_steps)
-same_number (name.Row t k) (name.Row u l) e = grind (arith, common_steps)
-same_number (name.Page p) (name.Page q) e = grind (arith, common_steps)
-same_number (name.Set p) (name.Set q) e = grind (arith, common_steps)
-same_number (name.Space t) (name.Row u k) e = cc
-same_number (name.Space t) (name.Page q) e = cc
-same_number (name.Space t) (name.Set q) e = cc
-same_number (name.Row t l) (name.Space u) e = cc
-same_number (name.Row t l) (name.Page q) e = cc
-same_number (name.Row t l) (name.Set q) e = cc
-same_number (name.Page p) (name.Space u) e = cc
-same_number (name.Page p) (name.Row u k) e = cc
-same_number (name.Page p) (name.Set q) e = cc
-same_number (name.Set p) (name.Space u) e = cc
-same_number (name.Set p) (name.Row u k) e = cc
-same_number (name.Set p) (name.Page q) e = cc
-
-pub same_entry : (a b : Name) (count : ℕ) → same_name a b ≡ true → entry_number a count ≡ entry_number b count
-same_entry a b count e = ap (λ z. z % count) (same_number a b e)
+use Rattle.lock_manager.proofs.Rooms.{absent_without, drop_next}
 
 absent : (count k : ℕ) (cs : List Claim) (n : Name) → FallOn count k cs → (entry_number n count ≡ k → ⊥) → mode_in cs n ≡ None
 absent count k [] n f ne = refl

@@ -6,12 +6,11 @@ use Rattle.std.proofs.lemmas.List.Edits.{length-remove, get_or-remove_below}
 use Rattle.std.specs.List.{remove}
 use Rattle.std.proofs.lemmas.Grind.{common_steps}
 use Rattle.ds_model.specs.declared.lock.Name.{Name}
-use Rattle.ds_model.specs.declared.lock.Name.TheVariants as name
 use Rattle.lock_names.specs.declared.mode.Mode.{Mode}
 use Rattle.lock_manager.specs.declared.claim.Claim.{Claim}
 use Rattle.lock_manager.specs.declared.claim.Rollback.{Rollback}
 use Rattle.lock_manager.specs.Areas.{Room}
-use Rattle.lock_manager.specs.Claims.{same_name, mode_in, without, with_mode, entered, joined}
+use Rattle.lock_manager.specs.Claims.{mode_in, without, with_mode, entered, joined}
 use Rattle.lock_manager.specs.Holders.{total}
 use Rattle.lock_manager.specs.Managers.{Book, HasRoom, IsGiven, claims_of, held_by, given, spare_after}
 
@@ -61,13 +60,6 @@ more_room hs rs agents own others after f s has = record {
   pages = has.pages;
   spare = let p = has.spare in omega (arith, f, s, p);
 }
-
-pub same_itself : (n : Name) → same_name n n ≡ true
-unfolding same_name
-same_itself (name.Space t) = grind (arith, common_steps)
-same_itself (name.Row t k) = grind (arith, common_steps)
-same_itself (name.Page p) = grind (arith, common_steps)
-same_itself (name.Set s) = grind (arith, common_steps)
 
 pub absent_without : (cs : List Claim) (n : Name) → is_some (mode_in cs n) ≡ false → without cs n ≡ cs
 absent_without [] n e = refl

@@ -17,8 +17,8 @@ use Rattle.lock_manager.specs.declared.claim.Rollback.{Rollback}
 use Rattle.lock_manager.specs.Areas.{Room}
 use Rattle.lock_manager.specs.Holders.{any_needs, total, kept}
 use Rattle.lock_manager.specs.Managers.{HasRoom}
-use Rattle.lock_manager.proofs.Places.{same_entry}
-use Rattle.lock_manager.proofs.Rooms.{some_total, same_itself}
+use Rattle.lock_names.proofs.Names.{same_itself, same_entry}
+use Rattle.lock_manager.proofs.Rooms.{some_total}
 use Rattle.lock_manager.specs.Tallies.{Tallied, tallied, counted, counted_mode, count_in, count_of_all, IsTally, IsCounted}
 
 -- a count at one place becomes another

@@ -1,21 +1,13 @@
 -- The claims of one owner: which names it holds in which modes.
 use Rattle.std.specs.Prelude.{ℕ, Bool, true, false, not, ◌&&◌, ◌||◌, ◌==◌, if◌then◌else◌, Option, Some, None, is_some, List, [], ◌∷◌}
 use Rattle.ds_model.specs.declared.lock.Name.{Name}
-use Rattle.ds_model.specs.declared.lock.Name.TheVariants as name
 use Rattle.lock_names.specs.declared.mode.Mode.{Mode}
 use Rattle.lock_names.specs.declared.mode.Class.{Class}
 use Rattle.lock_names.specs.declared.mode.Class.TheVariants.{Share, Exclusive}
 use Rattle.lock_names.specs.Modes.{join_of, are_compatible, is_covering, class_of}
 use Rattle.lock_names.specs.Entries.{entry_number}
+use Rattle.lock_names.specs.Names.{same_name}
 use Rattle.lock_manager.specs.declared.claim.Claim.{Claim}
-
--- whether both are the same name
-unfoldable pub same_name : Name → Name → Bool
-same_name (name.Space t) (name.Space u) = t == u
-same_name (name.Row t k) (name.Row u l) = (t == u) && (k == l)
-same_name (name.Page p) (name.Page q) = (p.set == q.set) && (p.number == q.number)
-same_name (name.Set s) (name.Set t) = s == t
-same_name _ _ = false
 
 -- the mode in which the owner of these claims holds the name
 abbrev pub mode_in : List Claim → Name → Option Mode

@@ -3,9 +3,9 @@
 ghost use Rattle.std.specs.Prelude.{◌≡◌, ◌≢◌, ◌∷◌, [], is_some, None, Some, length, ◌+◌, ◌<◌, ◌≤◌, true, false, drop, MatchOption, IfOk, IfErr, reverse};
 ghost use Rattle.lock_manager.specs.Claims.{mode_in, without, with_mode};
 
-use crate::claim::{Claim, is_same};
+use crate::claim::Claim;
 use ds_model::Name;
-use lock_names::Mode;
+use lock_names::{Mode, is_same_name};
 use std::marker::Model;
 use std::mem;
 
@@ -55,7 +55,7 @@ impl Chain {
     {
         let mut left = self;
         while let Node::Link(claim, rest) = &left.node {
-            if is_same(&claim.name, name) {
+            if is_same_name(&claim.name, name) {
                 return Some(claim.mode);
             }
             left = rest;
@@ -74,7 +74,7 @@ impl Chain {
         match &mut self.node {
             Node::End => {}
             Node::Link(claim, rest) => {
-                if is_same(&claim.name, name) {
+                if is_same_name(&claim.name, name) {
                     claim.mode = mode;
                 } else {
                     rest.put(name, mode);
@@ -101,7 +101,7 @@ impl Chain {
             Node::End => None,
             Node::Link(claim, rest) => {
                 let mut rest = rest;
-                if is_same(&claim.name, name) {
+                if is_same_name(&claim.name, name) {
                     self.node = mem::replace(&mut rest.node, Node::End);
                     return Some(rest);
                 }

@@ -1,7 +1,7 @@
 //! Claims and the answers about them.
 
 ghost use Rattle.std.specs.Prelude.{◌≡◌};
-ghost use Rattle.lock_manager.specs.Claims.{same_name, joined, is_covered, is_in_way, same_class};
+ghost use Rattle.lock_manager.specs.Claims.{joined, is_covered, is_in_way, same_class};
 
 use ds_base::{Lrsn, MemberId};
 use ds_model::Name;
@@ -45,20 +45,6 @@ pub enum LockAnswer {
     Postponed { member: MemberId },
     /// Nothing here is in the way.
     Clean,
-}
-
-/// Whether both are the same name.
-#[tactic(auto, unfolding(crate::specs::Claims::same_name))]
-pub fn is_same(a: &Name, b: &Name) -> bool
-    ensures { result ≡ same_name a.now b.now }
-{
-    match (a, b) {
-        (Name::Space(x), Name::Space(y)) => x.number() == y.number(),
-        (Name::Row(x, k), Name::Row(y, l)) => x.number() == y.number() && k == l,
-        (Name::Page(x), Name::Page(y)) => x.set == y.set && x.number == y.number,
-        (Name::Set(x), Name::Set(y)) => x == y,
-        _ => false,
-    }
 }
 
 /// The mode of an owner that holds one and needs another.

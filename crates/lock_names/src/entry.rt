@@ -1,5 +1,6 @@
 ghost use Rattle.std.specs.Prelude.{◌≡◌, ◌≤◌, ◌<◌};
 ghost use Rattle.lock_names.specs.Entries.{entry_number};
+ghost use Rattle.lock_names.specs.Names.{same_name};
 
 use ds_model::Name;
 
@@ -23,4 +24,12 @@ pub fn entry_of(name: &Name, entries: u32) -> u32
     };
     let sum = (kind * FACTOR + first as u128) * FACTOR + second as u128;
     (sum % entries as u128) as u32
+}
+
+/// Whether both are the same name.
+#[tactic(auto, unfolding(crate::specs::Names::same_name))]
+pub fn is_same_name(a: &Name, b: &Name) -> bool
+    ensures { result ≡ same_name a.now b.now }
+{
+    *a == *b
 }

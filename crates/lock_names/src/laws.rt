@@ -1,7 +1,10 @@
 //! What the tables keep to. The functions do nothing: each is called where its facts are needed.
 
-ghost use Rattle.std.specs.Prelude.{◌≡◌, ◌↔◌, ◌&&◌, IsTrue};
+ghost use Rattle.std.specs.Prelude.{◌≡◌, ◌↔◌, ◌&&◌, IsTrue, ℕ, true};
+ghost use Rattle.ds_model.specs.declared.lock.Name.{Name};
 ghost use Rattle.lock_names.specs.Modes.{are_compatible, class_of, is_covering, is_recorded, join_of};
+ghost use Rattle.lock_names.specs.Entries.{entry_number};
+ghost use Rattle.lock_names.specs.Names.{same_name};
 ghost use Rattle.lock_names.specs.declared.mode.Mode.{Mode};
 ghost use Rattle.lock_names.specs.declared.mode.Class.TheVariants.{Share, Exclusive};
 
@@ -52,4 +55,13 @@ pub fn stronger_laws()
     ensures conflicts { (a b c : Mode) → IsTrue (is_covering a b) → IsTrue (are_compatible a c) → IsTrue (are_compatible b c) }
     ensures interest { (a b : Mode) → IsTrue (is_covering a b) → class_of b ≡ Exclusive → class_of a ≡ Exclusive }
     ensures records { (a b : Mode) → IsTrue (is_covering a b) → IsTrue (is_recorded b) → IsTrue (is_recorded a) }
+{}
+
+/// Names that are the same are one name, which falls on one entry of the lock table.
+#[tactic(auto, using(crate::proofs::Names::same_itself, crate::proofs::Names::same_equal, crate::proofs::Names::same_turn, crate::proofs::Names::same_entry))]
+pub fn name_laws()
+    ensures reflexive { (a : Name) → same_name a a ≡ true }
+    ensures equal { (a b : Name) → same_name a b ≡ true → a ≡ b }
+    ensures symmetric { (a b : Name) → same_name a b ≡ same_name b a }
+    ensures entry { (a b : Name) (entries : ℕ) → same_name a b ≡ true → entry_number a entries ≡ entry_number b entries }
 {}

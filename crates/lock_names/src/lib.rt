@@ -10,12 +10,13 @@ mod mode;
 mod tables;
 
 pub use ds_model::Name;
-pub use entry::entry_of;
+pub use entry::{entry_of, is_same_name};
 pub use laws::{
-    bound_laws, compatibility_laws, conflict_laws, covering_laws, join_laws, stronger_laws,
+    bound_laws, compatibility_laws, conflict_laws, covering_laws, join_laws, name_laws,
+    stronger_laws,
 };
 pub use mode::{Class, Interest, Mode};
-pub use tables::{class, compatible, covers, join, recorded};
+pub use tables::{class, compatible, covers, is_same_mode, join, recorded};
 
 #[cfg(test)]
 mod tests;

@@ -1,5 +1,5 @@
 ghost use Rattle.std.specs.Prelude.{◌≡◌};
-ghost use Rattle.lock_names.specs.Modes.{are_compatible, class_of, is_covering, is_recorded, join_of};
+ghost use Rattle.lock_names.specs.Modes.{are_compatible, class_of, is_covering, is_recorded, is_same, join_of};
 
 use crate::{Class, Mode};
 
@@ -50,10 +50,17 @@ pub fn recorded(m: Mode) -> bool
     matches!(m, Mode::IX | Mode::SIX | Mode::X)
 }
 
-/// Whether an owner that holds one mode needs nothing more for the other.
+/// Whether both are the same mode.
 #[tactic(auto, unfolding(crate::specs::Modes::is_same))]
+pub fn is_same_mode(a: Mode, b: Mode) -> bool
+    ensures { result ≡ is_same a b }
+{
+    a == b
+}
+
+/// Whether an owner that holds one mode needs nothing more for the other.
 pub fn covers(held: Mode, asked: Mode) -> bool
     ensures answer { result ≡ is_covering held asked }
 {
-    join(held, asked) == held
+    is_same_mode(join(held, asked), held)
 }

@@ -1,94 +1,14 @@
 -- What becomes of a chain's records, name by name.
-use Rattle.std.proofs.Common.{◌≡◌, ℕ, true, List, [], ◌∷◌, map, refl, ◌∙◌, arith, if◌then◌else◌, ◌==◌}
+use Rattle.std.proofs.Common.{◌≡◌, ℕ, true, List, [], ◌∷◌, map, refl, arith, if◌then◌else◌, ◌==◌}
 use Rattle.std.specs.Prelude.{Some, None, is_some, ◌&&◌}
 use Rattle.ds_model.specs.declared.lock.Name.{Name}
-use Rattle.ds_model.specs.declared.lock.Name.TheVariants as name
 use Rattle.lock_names.specs.declared.mode.Mode.{Mode}
-use Rattle.lock_names.specs.Entries.{number_of}
+use Rattle.lock_names.specs.Names.{same_name}
+use Rattle.lock_names.proofs.Names.{same_left, same_right}
 use Rattle.lock_structure.specs.declared.chain.Record.{Record}
 use Rattle.lock_structure.specs.declared.chain.Held.{Held}
-use Rattle.lock_structure.specs.Records.{same_name, record_in, joined, after_grant, after_release, after_purge, after_failure, retained_by}
+use Rattle.lock_structure.specs.Records.{record_in, joined, after_grant, after_release, after_purge, after_failure, retained_by}
 use Rattle.lock_structure.specs.Buckets.{IsUnique, put_in, without, recorded_in, released_in, purged_in}
-
-pub same_left : (a n p : Name) → same_name a n ≡ true → same_name a p ≡ same_name n p
-unfolding same_name
-same_left (name.Space t) (name.Space u) (name.Space v) e = grind (arith, e)
-same_left (name.Space t) (name.Space u) (name.Row v k) e = refl
-same_left (name.Space t) (name.Space u) (name.Page v) e = refl
-same_left (name.Space t) (name.Space u) (name.Set v) e = refl
-same_left (name.Row t k) (name.Row u l) (name.Row v j) e = grind (arith, e)
-same_left (name.Row t k) (name.Row u l) (name.Space v) e = refl
-same_left (name.Row t k) (name.Row u l) (name.Page v) e = refl
-same_left (name.Row t k) (name.Row u l) (name.Set v) e = refl
-same_left (name.Page t) (name.Page u) (name.Page v) e = grind (arith, e)
-same_left (name.Page t) (name.Page u) (name.Space v) e = refl
-same_left (name.Page t) (name.Page u) (name.Row v k) e = refl
-same_left (name.Page t) (name.Page u) (name.Set v) e = refl
-same_left (name.Set t) (name.Set u) (name.Set v) e = grind (arith, e)
-same_left (name.Set t) (name.Set u) (name.Space v) e = refl
-same_left (name.Set t) (name.Set u) (name.Row v k) e = refl
-same_left (name.Set t) (name.Set u) (name.Page v) e = refl
-same_left (name.Space t) (name.Row u k) p e = cc
-same_left (name.Space t) (name.Page u) p e = cc
-same_left (name.Space t) (name.Set u) p e = cc
-same_left (name.Row t k) (name.Space u) p e = cc
-same_left (name.Row t k) (name.Page u) p e = cc
-same_left (name.Row t k) (name.Set u) p e = cc
-same_left (name.Page t) (name.Space u) p e = cc
-same_left (name.Page t) (name.Row u k) p e = cc
-same_left (name.Page t) (name.Set u) p e = cc
-same_left (name.Set t) (name.Space u) p e = cc
-same_left (name.Set t) (name.Row u k) p e = cc
-same_left (name.Set t) (name.Page u) p e = cc
-
-pub same_turn : (a b : Name) → same_name a b ≡ same_name b a
-unfolding same_name
-same_turn (name.Space t) (name.Space u) = grind arith
-same_turn (name.Space t) (name.Row u k) = refl
-same_turn (name.Space t) (name.Page u) = refl
-same_turn (name.Space t) (name.Set u) = refl
-same_turn (name.Row t k) (name.Space u) = refl
-same_turn (name.Row t k) (name.Row u l) = grind arith
-same_turn (name.Row t k) (name.Page u) = refl
-same_turn (name.Row t k) (name.Set u) = refl
-same_turn (name.Page t) (name.Space u) = refl
-same_turn (name.Page t) (name.Row u k) = refl
-same_turn (name.Page t) (name.Page u) = grind arith
-same_turn (name.Page t) (name.Set u) = refl
-same_turn (name.Set t) (name.Space u) = refl
-same_turn (name.Set t) (name.Row u k) = refl
-same_turn (name.Set t) (name.Page u) = refl
-same_turn (name.Set t) (name.Set u) = grind arith
-
-pub same_self : (a : Name) → same_name a a ≡ true
-unfolding same_name
-same_self (name.Space t) = grind arith
-same_self (name.Row t k) = grind arith
-same_self (name.Page t) = grind arith
-same_self (name.Set t) = grind arith
-
-pub same_right : (a n p : Name) → same_name n p ≡ true → same_name a n ≡ same_name a p
-same_right a n p e = same_turn a n ∙ same_left n p a e ∙ same_turn p a
-
--- one name falls on one place
-pub same_number : (a b : Name) → same_name a b ≡ true → number_of a ≡ number_of b
-unfolding same_name number_of
-same_number (name.Space t) (name.Space u) e = grind (arith, e)
-same_number (name.Row t k) (name.Row u l) e = grind (arith, e)
-same_number (name.Page t) (name.Page u) e = grind (arith, e)
-same_number (name.Set t) (name.Set u) e = grind (arith, e)
-same_number (name.Space t) (name.Row u k) e = cc
-same_number (name.Space t) (name.Page u) e = cc
-same_number (name.Space t) (name.Set u) e = cc
-same_number (name.Row t k) (name.Space u) e = cc
-same_number (name.Row t k) (name.Page u) e = cc
-same_number (name.Row t k) (name.Set u) e = cc
-same_number (name.Page t) (name.Space u) e = cc
-same_number (name.Page t) (name.Row u k) e = cc
-same_number (name.Page t) (name.Set u) e = cc
-same_number (name.Set t) (name.Space u) e = cc
-same_number (name.Set t) (name.Row u k) e = cc
-same_number (name.Set t) (name.Page u) e = cc
 
 -- one name has one record
 pub same_record : (hs : List Held) (k : ℕ) (n p : Name) → same_name n p ≡ true → record_in hs k n ≡ record_in hs k p

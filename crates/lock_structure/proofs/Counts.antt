@@ -5,31 +5,17 @@ use Rattle.std.proofs.lemmas.List.{get_or_default}
 use Rattle.std.proofs.lemmas.Grind.{common_steps}
 use Rattle.ds_model.specs.declared.lock.Name.{Name}
 use Rattle.ds_model.specs.declared.lock.Name.TheVariants as name
+use Rattle.lock_names.specs.Names.{same_name}
+use Rattle.lock_names.proofs.Names.{same_equal}
 use Rattle.lock_structure.specs.declared.chain.Record.{Record}
 use Rattle.lock_structure.specs.declared.chain.Held.{Held}
 use Rattle.lock_structure.specs.Areas.{Room}
-use Rattle.lock_structure.specs.Records.{same_name, area_of, how_many, record_in, retained_by}
+use Rattle.lock_structure.specs.Records.{area_of, how_many, record_in, retained_by}
 use Rattle.lock_structure.specs.Buckets.{put_in, without, count_in, no_room, all_free, HasRoom}
 
 -- one name has one area
 same_area : (a n : Name) (m : ℕ) → same_name a n ≡ true → area_of m a ≡ area_of m n
-unfolding same_name area_of
-same_area (name.Space t) (name.Space u) m e = refl
-same_area (name.Space t) (name.Row u k) m e = refl
-same_area (name.Row t l) (name.Space u) m e = refl
-same_area (name.Row t l) (name.Row u k) m e = refl
-same_area (name.Page p) (name.Page q) m e = refl
-same_area (name.Page p) (name.Set q) m e = refl
-same_area (name.Set p) (name.Page q) m e = refl
-same_area (name.Set p) (name.Set q) m e = refl
-same_area (name.Space t) (name.Page q) m e = cc
-same_area (name.Space t) (name.Set q) m e = cc
-same_area (name.Row t l) (name.Page q) m e = cc
-same_area (name.Row t l) (name.Set q) m e = cc
-same_area (name.Page p) (name.Space t) m e = cc
-same_area (name.Page p) (name.Row t l) m e = cc
-same_area (name.Set p) (name.Space t) m e = cc
-same_area (name.Set p) (name.Row t l) m e = cc
+same_area a n m e = ap (λ z. area_of m z) (same_equal a n e)
 
 pub put_count : (hs : List Held) (m : ℕ) (n : Name) (r : Record) (area : ℕ) → how_many area (put_in hs m n r) ≡ how_many area hs
 put_count [] m n r area = refl

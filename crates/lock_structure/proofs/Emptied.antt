@@ -2,13 +2,13 @@
 use Rattle.std.proofs.Common.{◌≡◌, ℕ, zero, suc, ◌+◌, ◌<◌, false, List, [], ◌∷◌, ◌++◌, length, set, get_or, drop, replicate, refl, ap, ◌∙◌, arith, add-one, subst}
 use Rattle.std.specs.Prelude.{Some, is_some, slice_get}
 use Rattle.std.proofs.lemmas.List.{get_or-set_same, set-get_or, get_or_default}
+use Rattle.lock_names.proofs.Names.{same_itself}
 use Rattle.lock_structure.specs.declared.chain.Held.{Held}
 use Rattle.lock_structure.specs.Buckets.{without}
-use Rattle.lock_structure.proofs.Chains.{same_self}
 
 first_out : (hs : List Held) (h : Held) → slice_get hs 0 ≡ Some h → length (without hs h.member h.name) + 1 ≡ length hs
 first_out [] h e = cc
-first_out (x ∷ xs) h e = let s = same_self h.name in grind (arith, s, e)
+first_out (x ∷ xs) h e = let s = same_itself h.name in grind (arith, s, e)
 
 -- the chain shrinks
 pub first_shrinks : (cs : List (List Held)) (at : ℕ) (chain : List Held) (h : Held) → at < length cs → chain ≡ get_or cs at chain → slice_get chain 0 ≡ Some h

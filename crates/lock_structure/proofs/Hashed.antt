@@ -8,11 +8,13 @@ use Rattle.std.proofs.lemmas.Grind.{common_steps}
 use Rattle.ds_model.specs.declared.lock.Name.{Name}
 use Rattle.lock_names.specs.declared.mode.Mode.{Mode}
 use Rattle.lock_names.specs.Entries.{entry_number}
+use Rattle.lock_names.specs.Names.{same_name}
+use Rattle.lock_names.proofs.Names.{same_entry}
 use Rattle.lock_structure.specs.declared.chain.Record.{Record}
 use Rattle.lock_structure.specs.declared.chain.Held.{Held}
-use Rattle.lock_structure.specs.Records.{same_name, area_of, how_many, record_in, retained_of, joined, after_grant, after_release, after_purge, one_if, Alters, Retains, retained_by}
+use Rattle.lock_structure.specs.Records.{area_of, how_many, record_in, retained_of, joined, after_grant, after_release, after_purge, one_if, Alters, Retains, retained_by}
 use Rattle.lock_structure.specs.Buckets.{IsUnique, IsHashed, flat, all_retained, count_in, recorded_in, released_in, purged_in}
-use Rattle.lock_structure.proofs.Chains.{same_number, recorded_now, recorded_unique, released_now, released_unique, purged_now, purged_unique, retained_now, retained_unique}
+use Rattle.lock_structure.proofs.Chains.{recorded_now, recorded_unique, released_now, released_unique, purged_now, purged_unique, retained_now, retained_unique}
 use Rattle.lock_structure.proofs.Counts.{changed_count, put_count, without_count, absent_without, retained_count}
 
 pub record_append : (xs ys : List Held) (k : ℕ) (p : Name) → record_in (xs ++ ys) k p ≡ (if is_some (record_in xs k p) then record_in xs k p else record_in ys k p)
@@ -71,7 +73,7 @@ record Changes (m : ℕ) (n : Name) (f : Option Record → Option Record) (hs ys
   unique : IsUnique ys
 
 other_name : (n p : Name) (e : ℕ) → (entry_number p e == entry_number n e) ≡ false → same_name n p ≡ false
-other_name n p e ne = let s = same_number n p in grind (arith, s, ne)
+other_name n p e ne = let s = same_entry n p e in grind (arith, s, ne)
 
 changed_hashed : (cs : List (List Held)) (m : ℕ) (n : Name) (f : Option Record → Option Record) (ys : List Held) → Changes m n f (get_or cs (entry_number n (length cs)) []) ys → IsHashed cs → IsHashed (set cs (entry_number n (length cs)) ys)
 changed_hashed cs m n f ys c h = set_hashed cs (entry_number n (length cs)) ys (place_bound cs n h.some) c.unique

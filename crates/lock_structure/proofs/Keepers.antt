@@ -7,9 +7,10 @@ use Rattle.ds_base.specs.Ids.{IsMember}
 use Rattle.ds_model.specs.declared.lock.Name.{Name}
 use Rattle.lock_names.specs.declared.mode.Mode.{Mode}
 use Rattle.lock_names.specs.Entries.{entry_number}
+use Rattle.lock_names.specs.Names.{same_name}
 use Rattle.lock_structure.specs.declared.chain.Record.{Record}
 use Rattle.lock_structure.specs.declared.chain.Held.{Held}
-use Rattle.lock_structure.specs.Records.{same_name, record_in}
+use Rattle.lock_structure.specs.Records.{record_in}
 use Rattle.lock_structure.specs.Buckets.{IsUnique, IsHashed, flat, is_keeping, lower, lowest_in}
 use Rattle.lock_structure.specs.Locks.{IsLowest, is_kept_out}
 use Rattle.lock_structure.proofs.Chains.{same_record}

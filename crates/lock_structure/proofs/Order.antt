@@ -8,10 +8,11 @@ use Rattle.ds_model.specs.declared.lock.Name.{Name}
 use Rattle.lock_names.specs.declared.mode.Mode.{Mode}
 use Rattle.lock_names.specs.Entries.{entry_number}
 use Rattle.lock_structure.specs.declared.chain.Record.{Record}
+use Rattle.lock_names.proofs.Names.{same_itself}
 use Rattle.lock_structure.specs.declared.chain.Held.{Held}
 use Rattle.lock_structure.specs.Records.{record_in, retained_of, names_of, without_name, is_retained, joined, retained_by}
 use Rattle.lock_structure.specs.Buckets.{IsUnique, IsHashed, flat, put_in, without, recorded_in, released_in, purged_in}
-use Rattle.lock_structure.proofs.Chains.{same_self, same_record}
+use Rattle.lock_structure.proofs.Chains.{same_record}
 use Rattle.lock_structure.proofs.Counts.{absent_without}
 use Rattle.lock_structure.proofs.Hashed.{record_append, all_none, place_bound, hashed_find, flat_retained, retained_append}
 
@@ -20,7 +21,7 @@ use Rattle.lock_structure.proofs.Hashed.{record_append, all_none, place_bound, h
 unique_append : (xs ys : List Held) → IsUnique xs → IsUnique ys → ((k : ℕ) (p : Name) → is_some (record_in xs k p) ≡ true → record_in ys k p ≡ None) → IsUnique (xs ++ ys)
 unique_append [] ys u v d = v
 unique_append (x ∷ xs) ys u v d =
-    let self = same_self x.name in
+    let self = same_itself x.name in
     let rest = d x.member x.name (grind (arith, self)) in
     let a = record_append xs ys x.member x.name in
     (grind (arith, a, rest, u.0), unique_append xs ys u.1 v (λ k p s. d k p (grind (arith, s))))
@@ -47,7 +48,7 @@ found_in : (hs : List Held) (m i : ℕ) (x : Name × Mode) → IsUnique hs → s
 found_in [] m i x u e = cc
 found_in (h ∷ hs) m zero x u e =
     let ih = found_in hs m zero x u.1 in
-    let self = same_self h.name in
+    let self = same_itself h.name in
     let one = same_record hs m h.name x.0 in grind (arith, ih, self, one, u.0, e)
 found_in (h ∷ hs) m (suc i) x u e =
     let here = found_in hs m (suc i) x u.1 in

@@ -4,11 +4,12 @@ use Rattle.ds_model.specs.declared.lock.Name.{Name}
 use Rattle.lock_names.specs.declared.mode.Mode.{Mode}
 use Rattle.lock_names.specs.Modes.{is_recorded, are_compatible}
 use Rattle.lock_names.specs.Entries.{entry_number}
+use Rattle.lock_names.specs.Names.{same_name}
 use Rattle.lock_structure.specs.declared.chain.Record.{Record}
 use Rattle.lock_structure.specs.declared.chain.Held.{Held}
 use Rattle.lock_structure.specs.declared.cursor.Cursor.{Cursor}
 use Rattle.lock_structure.specs.Areas.{Room}
-use Rattle.lock_structure.specs.Records.{same_name, is_of, record_in, how_many, retained_of, is_retained, joined, retained_by}
+use Rattle.lock_structure.specs.Records.{is_of, record_in, how_many, retained_of, is_retained, joined, retained_by}
 
 -- ---- one chain
 

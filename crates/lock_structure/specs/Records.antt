@@ -4,16 +4,9 @@ use Rattle.ds_model.specs.declared.lock.Name.{Name}
 use Rattle.ds_model.specs.declared.lock.Name.TheVariants as name
 use Rattle.lock_names.specs.declared.mode.Mode.{Mode}
 use Rattle.lock_names.specs.Modes.{join_of, is_recorded}
+use Rattle.lock_names.specs.Names.{same_name}
 use Rattle.lock_structure.specs.declared.chain.Record.{Record}
 use Rattle.lock_structure.specs.declared.chain.Held.{Held}
-
--- whether both are the same name
-unfoldable pub same_name : Name → Name → Bool
-same_name (name.Space t) (name.Space u) = t == u
-same_name (name.Row t k) (name.Row u l) = (t == u) && (k == l)
-same_name (name.Page p) (name.Page q) = (p.set == q.set) && (p.number == q.number)
-same_name (name.Set s) (name.Set t) = s == t
-same_name _ _ = false
 
 -- whether it is this member's, of this name
 abbrev pub is_of : ℕ → Name → Held → Bool

@@ -2,12 +2,12 @@
 
 ghost use Rattle.std.specs.Prelude.{◌≡◌, ◌∷◌, ◌==◌, ◌&&◌, map, is_some, [], ◌+◌, length, slice_get, IfOk, IfErr, IfSome, Some, None};
 ghost use Rattle.ds_base.specs.Ids.{IsMember};
-ghost use Rattle.lock_structure.specs.Records.{same_name, is_of, record_in, retained_of, retained_by};
+ghost use Rattle.lock_structure.specs.Records.{is_of, record_in, retained_of, retained_by};
 ghost use Rattle.lock_structure.specs.Buckets.{put_in, without, is_keeping, lower, lowest_in};
 
 use ds_base::MemberId;
 use ds_model::Name;
-use lock_names::{Mode, compatible};
+use lock_names::{Mode, compatible, is_same_name};
 use std::marker::Model;
 use std::mem;
 
@@ -60,26 +60,12 @@ impl Model for Chain {
     ghost size_decreases = { λ a h. depth_le-length-held_in a.node };
 }
 
-/// Whether both are the same name.
-#[tactic(auto, unfolding(crate::specs::Records::same_name))]
-fn is_same(a: &Name, b: &Name) -> bool
-    ensures { result ≡ same_name a.now b.now }
-{
-    match (a, b) {
-        (Name::Space(x), Name::Space(y)) => x.number() == y.number(),
-        (Name::Row(x, k), Name::Row(y, l)) => x.number() == y.number() && k == l,
-        (Name::Page(x), Name::Page(y)) => x.set == y.set && x.number == y.number,
-        (Name::Set(x), Name::Set(y)) => x == y,
-        _ => false,
-    }
-}
-
 impl Held {
     /// Whether it is this member's, of this name.
     pub(crate) fn is_of(&self, member: MemberId, name: &Name) -> bool
         ensures { result ≡ is_of member name.now self.now }
     {
-        self.member.number() == member.number() && is_same(&self.name, name)
+        self.member.number() == member.number() && is_same_name(&self.name, name)
     }
 
     /// Whether it is another member's, retained, and in the way of the name and mode.
@@ -88,7 +74,7 @@ impl Held {
     {
         self.lock.retained
             && self.member.number() != member.number()
-            && is_same(&self.name, name)
+            && is_same_name(&self.name, name)
             && !compatible(self.lock.mode, mode)
     }
 }

@@ -2,8 +2,6 @@
 
 ghost use Rattle.std.specs.Prelude.{◌≡◌};
 ghost use Rattle.ds_model.specs.declared.fate.Refusal.TheVariants.{Held, Retained};
-ghost use Rattle.lock_names.specs.Modes.{is_same};
-ghost use Rattle.lock_structure.specs.Records.{same_name};
 ghost use Rattle.facility.specs.LockCommands.{is_about};
 ghost use Rattle.member_marks.specs.Claims.{offered};
 ghost use Rattle.member_effects.specs.Answers.{said_in_answer, said_by, is_asked, added, is_found, summed, nothing, in_the_way_after, in_the_way_told, found_after, sum_told, answered_after, answered_told};
@@ -12,7 +10,7 @@ use crate::told::Told;
 use ds_base::{MemberId, TranId};
 use ds_model::Refusal;
 use list_structure::{Cell, CellAnswer};
-use lock_names::{Mode, Name};
+use lock_names::{Mode, Name, is_same_mode, is_same_name};
 use member_marks::{Marks, Owner};
 
 /// What one cell says about a need.
@@ -34,28 +32,6 @@ pub struct Sum {
     pub is_open: bool,
     pub is_emptied: bool,
     pub found: Said,
-}
-
-/// Whether both are the same mode.
-#[tactic(auto, unfolding(lock_names::specs::Modes::is_same))]
-fn is_same_mode(a: Mode, b: Mode) -> bool
-    ensures { result ≡ is_same a b }
-{
-    a == b
-}
-
-/// Whether both are the same name.
-#[tactic(auto, unfolding(lock_structure::specs::Records::same_name))]
-fn is_same_name(a: &Name, b: &Name) -> bool
-    ensures { result ≡ same_name a.now b.now }
-{
-    match (a, b) {
-        (Name::Space(x), Name::Space(y)) => x.number() == y.number(),
-        (Name::Row(x, k), Name::Row(y, l)) => x.number() == y.number() && k == l,
-        (Name::Page(x), Name::Page(y)) => x.set == y.set && x.number == y.number,
-        (Name::Set(x), Name::Set(y)) => x == y,
-        _ => false,
-    }
 }
 
 // Whether the answer is to a query about this name and mode.

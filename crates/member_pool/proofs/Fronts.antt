@@ -1,9 +1,10 @@
 -- Lists in which those that pass come first.
-use Rattle.std.proofs.Common.{◌≡◌, ℕ, Bool, true, false, cond, not, List, [], ◌∷◌, ◌++◌, refl, sym, ap, ◌∙◌, arith, nat_eq}
-use Rattle.std.specs.Prelude.{Some, None, find, slice_get}
+use Rattle.std.proofs.Common.{◌≡◌, ℕ, Bool, true, false, cond, not, ◌||◌, List, [], ◌∷◌, ◌++◌, refl, sym, ap, subst, ◌∙◌, true≢false, arith, nat_eq}
+use Rattle.std.specs.Prelude.{Some, None, find, slice_get, IfSome}
+use Rattle.std.proofs.lemmas.Bool.{eqb-true}
 use Rattle.std.specs.List.{list_all}
 use Rattle.std.proofs.lemmas.Option.{none-some}
-use Rattle.member_pool.specs.Uses.{without, newest}
+use Rattle.page_index.specs.Uses.{without, newest, is_in}
 use Rattle.member_pool.specs.Sound.{come_first}
 
 all_without : (q : ℕ → Bool) (f : ℕ) (xs : List ℕ) → list_all q xs ≡ true → list_all q (without f xs) ≡ true
@@ -91,3 +92,24 @@ front_fails p x (y ∷ xs) first e h =
 pub no_front : (p : ℕ → Bool) (xs : List ℕ) → slice_get xs 0 ≡ None → find p xs ≡ None
 no_front p [] e = refl
 no_front p (x ∷ xs) e = absurd (none-some x (sym e))
+
+pub found_passes : (p : ℕ → Bool) (xs : List ℕ) → IfSome (find p xs) (λ f. p f ≡ true)
+found_passes p [] = tt
+found_passes p (x ∷ xs) = by (p x) refl (found_passes p xs)
+  where
+    by : (b : Bool) → p x ≡ b → IfSome (find p xs) (λ f. p f ≡ true) → IfSome (find p (x ∷ xs)) (λ f. p f ≡ true)
+    by true e rest = subst (λ b. IfSome (cond b (Some x) (find p xs)) (λ f. p f ≡ true)) (sym e) e
+    by false e rest = subst (λ b. IfSome (cond b (Some x) (find p xs)) (λ f. p f ≡ true)) (sym e) rest
+
+-- where none is found, each that is in the list fails
+pub none_passes : (p : ℕ → Bool) (f : ℕ) (xs : List ℕ) → find p xs ≡ None → is_in f xs ≡ true → p f ≡ false
+none_passes p f [] e h = absurd (true≢false (sym h))
+none_passes p f (x ∷ xs) e h = by (p x) refl (none_passes p f xs)
+  where
+    by : (b : Bool) → p x ≡ b → (find p xs ≡ None → is_in f xs ≡ true → p f ≡ false) → p f ≡ false
+    by true t rest = absurd (none-some x (sym e ∙ ap (λ b. cond b (Some x) (find p xs)) t))
+    by false t rest = here (nat_eq f x) refl
+      where
+        here : (b : Bool) → nat_eq f x ≡ b → p f ≡ false
+        here true is = ap p (eqb-true f x is) ∙ t
+        here false is = rest (sym (ap (λ b. cond b (Some x) (find p xs)) t) ∙ e) (sym (ap (λ b. b || is_in f xs) is) ∙ h)

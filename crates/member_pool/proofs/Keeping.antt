@@ -1,33 +1,38 @@
 -- What the heads of a pool keep while one of its frames changes.
-use Rattle.std.proofs.Common.{◌≡◌, ◌≢◌, ℕ, zero, suc, ◌<◌, ◌≤◌, ◌*◌, ◌^◌, Bool, true, false, true≢false, arith, replicate, List, [], ◌∷◌, length, get_or, Option, Some, None, refl, sym, ap, subst, ◌∙◌, cond, nat_eq, slice_get, slice_set}
-use Rattle.std.specs.Prelude.{nat_lt, is_some, unwrap_or, slice_index}
-use Rattle.std.specs.List.{list_all, range_with_len, position_or_len}
+use Rattle.std.proofs.Common.{◌≡◌, ◌≢◌, ℕ, zero, suc, ◌<◌, ◌≤◌, ◌^◌, Bool, true, false, true≢false, arith, replicate, List, [], ◌∷◌, length, get_or, Option, Some, None, refl, sym, ap, subst, ◌∙◌, cond, nat_eq, slice_get, slice_set}
+use Rattle.std.specs.Prelude.{nat_lt, find, unwrap_or, slice_index}
+use Rattle.std.specs.List.{list_all, position_or_len}
 use Rattle.std.proofs.lemmas.List.Folds.{position_or_len-set}
 use Rattle.std.specs.Option.{option_map_or}
 use Rattle.std.proofs.lemmas.Bool.{eqb-true, eq-eqb}
 use Rattle.std.proofs.lemmas.List.{length-set, length-replicate, get_or-set_same, get_or-set_other}
-use Rattle.std.proofs.lemmas.Option.{slice_get_read, none-some}
+use Rattle.std.proofs.lemmas.Option.{slice_get_read, slice_get-get_or, none-some}
 use Rattle.ds_base.specs.declared.names.PageId.{PageId}
-use Rattle.indexmap.specs.IndexMap.{IndexMap}
+use Rattle.page_index.specs.Places.{Index, IsIndexOf, page_at}
+use Rattle.page_index.specs.Uses.{newest, oldest, may_take, IsOrderOf}
+use Rattle.page_index.proofs.CallerLemmas.{index_less}
 use Rattle.write_order.specs.declared.key.WriteKey.{WriteKey}
 use Rattle.write_order.specs.declared.rank.Rank.{Rank}
 use Rattle.member_pool.specs.declared.frame.Frame.{Frame}
-use Rattle.member_pool.specs.Frames.{holds, same_page, holding, free_frame, frame_at, is_free, find_page}
+use Rattle.member_pool.specs.Frames.{holds, same_page, holding, free_frame, frame_at, is_free, is_unpinned, find_page, page_of}
 use Rattle.member_pool.specs.Marks.{entry_of, entry_with}
 use Rattle.member_pool.specs.Heads.{HeadState, head_of, with_head, marked}
-use Rattle.member_pool.specs.Uses.{is_in, newest, oldest}
 use Rattle.member_pool.specs.Sound.{come_first}
 use Rattle.member_pool.specs.Listed.{Entries, entry_in, with_entry, AreMarked}
-use Rattle.member_pool.specs.Places.{holds_at, LeadsToAll, HasRoomFor}
 use Rattle.member_pool.specs.Kept.{AreKept}
-use Rattle.member_pool.proofs.Firsts.{frame_is, within_frames}
+use Rattle.member_pool.proofs.Firsts.{frame_is}
 use Rattle.member_pool.proofs.Fronts.{first_newest, first_oldest, all_first}
-use Rattle.member_pool.proofs.Leading.{leads_set, none_held, there_at}
-use Rattle.member_pool.proofs.Orders.{in_newest, in_oldest, within_newest, within_oldest, in_range, within_range}
 use Rattle.member_pool.proofs.Tallies.{none_marked}
 
 pub read_at : (frames : List Frame) (f : ℕ) (x : Frame) → f < length frames → x ≡ get_or frames f x → x ≡ frame_at frames f
 read_at frames f x l e = sym (ap (λ o. unwrap_or o free_frame) (slice_get_read frames (length frames) f x refl l e))
+
+pub page_at_is : (frames : List Frame) (f : ℕ) → page_at page_of frames f ≡ (frame_at frames f).page
+page_at_is frames f = by (slice_get frames f)
+  where
+    by : (o : Option Frame) → option_map_or page_of o None ≡ page_of (unwrap_or o free_frame)
+    by None = refl
+    by (Some x) = refl
 
 pub at_same : (frames : List Frame) (f : ℕ) (x : Frame) → f < length frames → frame_at (slice_set frames f x) f ≡ x
 at_same frames f x l = frame_is (slice_set frames f x) f ∙ get_or-set_same frames f x free_frame l
@@ -71,32 +76,24 @@ entry_page None changed rank key h = absurd (none-some key h)
 entry_page (Some id) true rank key h = cc
 entry_page (Some id) false rank key h = absurd (none-some key h)
 
-module _ {S : Type 0} (frames : List Frame) (order : List ℕ) (places : IndexMap (ℕ × ℕ) ℕ S) (listed : List ℕ) (capacity : ℕ) (counts : List ℕ) (kept : AreKept frames order places listed capacity counts) (f : ℕ) (l : f < length frames) where
-  -- the frame, the order, the directory and the marks change
-  kept_so : (new : Frame) (now : List ℕ) (then : IndexMap (ℕ × ℕ) ℕ S) (list : List ℕ) (room : ℕ) (tally : List ℕ)
-      → list_all (λ g. nat_lt g (length frames)) now ≡ true → ((g : ℕ) → g < length frames → is_in g now ≡ true)
-      → come_first (λ g. is_free (frame_at (slice_set frames f new) g)) now ≡ true
-      → LeadsToAll then (slice_set frames f new) → HasRoomFor then (2 * length frames)
+module _ (frames : List Frame) (order : List ℕ) (places : Index) (listed : List ℕ) (capacity : ℕ) (counts : List ℕ) (kept : AreKept frames order places listed capacity counts) (f : ℕ) (l : f < length frames) where
+  -- the frame, the order, the index and the marks change
+  kept_so : (new : Frame) (now : List ℕ) (then : Index) (list : List ℕ) (room : ℕ) (tally : List ℕ) → IsOrderOf (length frames) now
+      → come_first (λ g. is_free (frame_at (slice_set frames f new) g)) now ≡ true → IsIndexOf page_of (slice_set frames f new) then
       → AreMarked (entry_in (slice_set frames f new)) (length frames) list tally → length frames ≤ room → AreKept (slice_set frames f new) now then list room tally
-  kept_so new now then list room tally within covers first leads has marked enough =
+  kept_so new now then list room tally whole first index marked enough =
       let long = length-set frames f new in
       record {
         small = subst (λ n. n < 2 ^ 16) (sym long) kept.small;
-        within = subst (λ n. list_all (λ g. nat_lt g n) now ≡ true) (sym long) within;
-        covers = λ g lt. covers g (subst (λ n. g < n) long lt);
+        whole = subst (λ n. IsOrderOf n now) (sym long) whole;
         free_first = first;
-        leads = leads;
-        room = subst (λ n. HasRoomFor then (2 * n)) (sym long) has;
+        index = index;
         marked = subst (λ n. AreMarked (entry_in (slice_set frames f new)) n list tally) (sym long) marked;
         list_room = subst (λ n. n ≤ room) (sym long) enough;
       }
 
-  -- the frame still holds what it held
-  still : (x : Frame) → x ≡ get_or frames f x → (id : PageId) → holds id x ≡ true → option_map_or (holds id) (slice_get frames f) false ≡ true
-  still x e id t = ap (λ o. option_map_or (holds id) o false) (slice_get_read frames (length frames) f x refl l e) ∙ t
-
-  leads_still : (x new : Frame) → x ≡ get_or frames f x → new.page ≡ x.page → LeadsToAll places (slice_set frames f new)
-  leads_still x new e page = leads_set places frames f new l kept.leads (λ id t. still x e id (sym (ap (λ o. option_map_or (same_page id) o false) page) ∙ t))
+  index_still : (x new : Frame) → x ≡ get_or frames f x → new.page ≡ x.page → IsIndexOf page_of (slice_set frames f new) places
+  index_still x new e page = index_less page_of frames places kept.index f new l (λ id t. ap (λ o. option_map_or page_of o None) (slice_get_read frames (length frames) f x refl l e) ∙ sym page ∙ t)
 
   free_still : (x new : Frame) → x ≡ get_or frames f x → new.page ≡ x.page → is_free new ≡ is_free (frame_at frames f)
   free_still x new e page = (λ i. is_free_page (page i)) ∙ ap is_free (read_at frames f x l e)
@@ -112,77 +109,90 @@ module _ {S : Type 0} (frames : List Frame) (order : List ℕ) (places : IndexMa
 
   pub kept_marked : (x new : Frame) → x ≡ get_or frames f x → new.page ≡ x.page → entry_of new ≡ entry_of x → AreKept (slice_set frames f new) order places listed capacity counts
   kept_marked x new e page entry =
-      kept_so new order places listed capacity counts kept.within kept.covers (first_still x new e page) (leads_still x new e page) kept.room
+      kept_so new order places listed capacity counts kept.whole (first_still x new e page) (index_still x new e page)
       (marked_still new (entry ∙ ap entry_of (read_at frames f x l e))) kept.list_room
 
   -- a frame is entered in the list, or taken out of it
   pub kept_listed : (x new : Frame) (list : List ℕ) (room : ℕ) (tally : List ℕ) → x ≡ get_or frames f x → new.page ≡ x.page
       → AreMarked (with_entry (entry_in frames) f (entry_of new)) (length frames) list tally → capacity ≤ room → AreKept (slice_set frames f new) order places list room tally
   kept_listed x new list room tally e page marked more =
-      kept_so new order places list room tally kept.within kept.covers (first_still x new e page) (leads_still x new e page) kept.room
+      kept_so new order places list room tally kept.whole (first_still x new e page) (index_still x new e page)
       (subst (λ (g : Entries). AreMarked g (length frames) list tally) (entries_set frames f new l) marked) (omega (arith, kept.list_room, more))
 
   others_still : (new : Frame) (g : ℕ) → nat_eq f g ≡ false → is_free (frame_at (slice_set frames f new) g) ≡ is_free (frame_at frames g)
   others_still new g h = ap is_free (at_other frames f g new (apart_from f g h))
 
-  pub kept_newest : (x new : Frame) (now : List ℕ) → x ≡ get_or frames f x → new.page ≡ x.page → entry_of new ≡ entry_of x → is_free x ≡ false → now ≡ newest f order
+  pub kept_newest : (x new : Frame) (now : List ℕ) → x ≡ get_or frames f x → new.page ≡ x.page → entry_of new ≡ entry_of x → is_free x ≡ false → now ≡ newest f order → IsOrderOf (length frames) now
       → AreKept (slice_set frames f new) now places listed capacity counts
-  kept_newest x new now e page entry full is =
+  kept_newest x new now e page entry full is whole =
       subst (λ o. AreKept (slice_set frames f new) o places listed capacity counts) (sym is)
-      (kept_so new (newest f order) places listed capacity counts (within_newest (length frames) f order l kept.within) (λ g lt. in_newest f g order (kept.covers g lt))
+      (kept_so new (newest f order) places listed capacity counts (subst (IsOrderOf (length frames)) is whole)
       (first_newest (λ g. is_free (frame_at frames g)) (λ g. is_free (frame_at (slice_set frames f new) g)) f order (others_still new)
       (ap is_free (at_same frames f new l) ∙ free_still x new e page ∙ sym (ap is_free (read_at frames f x l e)) ∙ full) kept.free_first)
-      (leads_still x new e page) kept.room (marked_still new (entry ∙ ap entry_of (read_at frames f x l e))) kept.list_room)
+      (index_still x new e page) (marked_still new (entry ∙ ap entry_of (read_at frames f x l e))) kept.list_room)
 
-  pub kept_free : (new : Frame) (now : List ℕ) → entry_in frames f ≡ None → new ≡ free_frame → now ≡ oldest f order → AreKept (slice_set frames f new) now places listed capacity counts
-  kept_free new now none free is =
+  pub kept_free : (new : Frame) (now : List ℕ) → entry_in frames f ≡ None → new ≡ free_frame → now ≡ oldest f order → IsOrderOf (length frames) now → AreKept (slice_set frames f new) now places listed capacity counts
+  kept_free new now none free is whole =
       subst (λ o. AreKept (slice_set frames f new) o places listed capacity counts) (sym is)
-      (kept_so new (oldest f order) places listed capacity counts (within_oldest (length frames) f order l kept.within) (λ g lt. in_oldest f g order (kept.covers g lt))
+      (kept_so new (oldest f order) places listed capacity counts (subst (IsOrderOf (length frames)) is whole)
       (first_oldest (λ g. is_free (frame_at frames g)) (λ g. is_free (frame_at (slice_set frames f new) g)) f order (others_still new)
       (ap is_free (at_same frames f new l) ∙ ap is_free free) kept.free_first)
-      (leads_set places frames f new l kept.leads (λ id t. absurd (true≢false (sym t ∙ ap (holds id) free))))
-      kept.room (marked_still new (ap entry_of free ∙ sym none)) kept.list_room)
+      (index_less page_of frames places kept.index f new l (λ id t. absurd (none-some id (sym (ap page_of free) ∙ t))))
+      (marked_still new (ap entry_of free ∙ sym none)) kept.list_room)
 
-  pub kept_placed : (id : PageId) (new : Frame) (now : List ℕ) (then : IndexMap (ℕ × ℕ) ℕ S) → entry_in frames f ≡ None → new ≡ holding id → now ≡ newest f order
-      → LeadsToAll then (slice_set frames f new) → HasRoomFor then (2 * length frames) → AreKept (slice_set frames f new) now then listed capacity counts
-  kept_placed id new now then none holds_it is leads has =
+  pub kept_placed : (id : PageId) (new : Frame) (now : List ℕ) (then : Index) → entry_in frames f ≡ None → new ≡ holding id → now ≡ newest f order → IsOrderOf (length frames) now
+      → IsIndexOf page_of (slice_set frames f new) then → AreKept (slice_set frames f new) now then listed capacity counts
+  kept_placed id new now then none holds_it is whole index =
       subst (λ o. AreKept (slice_set frames f new) o then listed capacity counts) (sym is)
-      (kept_so new (newest f order) then listed capacity counts (within_newest (length frames) f order l kept.within) (λ g lt. in_newest f g order (kept.covers g lt))
+      (kept_so new (newest f order) then listed capacity counts (subst (IsOrderOf (length frames)) is whole)
       (first_newest (λ g. is_free (frame_at frames g)) (λ g. is_free (frame_at (slice_set frames f new) g)) f order (others_still new)
       (ap is_free (at_same frames f new l) ∙ ap is_free holds_it) kept.free_first)
-      leads has (marked_still new (ap entry_of holds_it ∙ sym none)) kept.list_room)
+      index (marked_still new (ap entry_of holds_it ∙ sym none)) kept.list_room)
 
   -- no other frame's entry is of this frame's page
   pub no_other : (id : PageId) → (frame_at frames f).page ≡ Some id → entry_in frames f ≡ None → (g : ℕ) (other : WriteKey) → entry_in frames g ≡ Some other → other.page ≢ id
   no_other id page none g other h is =
-      let there : g < length frames = within_frames frames g (ap is_some h) in
       let own : (frame_at frames g).page ≡ Some id = entry_page (frame_at frames g).page (frame_at frames g).changed (frame_at frames g).rank other h ∙ ap (λ p. Some p) is in
-      let a = kept.leads g id (there_at frames g id there (sym (ap (λ (x : Frame). x.page) (frame_is frames g)) ∙ own)) in
-      let b = kept.leads f id (there_at frames f id l (sym (ap (λ (x : Frame). x.page) (frame_is frames f)) ∙ page)) in
+      let a = kept.index.leads g id (page_at_is frames g ∙ own) in
+      let b = kept.index.leads f id (page_at_is frames f ∙ page) in
       let same : g ≡ f = some_same g f (sym a ∙ b) in
       none-some other (sym none ∙ sym (ap (entry_in frames) same) ∙ h)
     where
       some_same : (m n : ℕ) → Some m ≡ Some n → m ≡ n
       some_same m n e = cc
 
+-- where the order has numbers of frames alone, a frame may be taken exactly where it isn't pinned
+pub taken_same : (frames : List Frame) (order : List ℕ) → list_all (λ g. nat_lt g (length frames)) order ≡ true → find (may_take is_unpinned frames) order ≡ find (λ f. is_unpinned (frame_at frames f)) order
+taken_same frames [] h = refl
+taken_same frames (x ∷ xs) h =
+    let here : nat_lt x (length frames) ≡ true = grind arith in
+    let rest : list_all (λ g. nat_lt g (length frames)) xs ≡ true = grind arith in
+    let at = slice_get-get_or frames x free_frame (within x (length frames) here) in
+    let same : may_take is_unpinned frames x ≡ is_unpinned (frame_at frames x) = ap (λ o. option_map_or is_unpinned o false) at ∙ sym (ap (λ o. is_unpinned (unwrap_or o free_frame)) at) in
+    (λ i. cond (same i) (Some x) (taken_same frames xs rest i))
+  where
+    within : (m n : ℕ) → nat_lt m n ≡ true → m < n
+    within m n e = grind arith
+
 pub free_at : (n f : ℕ) → frame_at (replicate n free_frame) f ≡ free_frame
 free_at zero f = refl
 free_at (suc n) zero = refl
 free_at (suc n) (suc f) = free_at n f
 
-pub kept_new : {S : Type 0} (n : ℕ) (frames : List Frame) (order : List ℕ) (places : IndexMap (ℕ × ℕ) ℕ S) (listed : List ℕ) (capacity : ℕ) (counts : List ℕ) → n < 2 ^ 16
-    → frames ≡ replicate n free_frame → order ≡ range_with_len 0 n → HasRoomFor places (2 * n) → listed ≡ [] → n ≤ capacity → counts ≡ replicate 129 0
+pub kept_new : (n : ℕ) (frames : List Frame) (order : List ℕ) (places : Index) (listed : List ℕ) (capacity : ℕ) (counts : List ℕ) → n < 2 ^ 16
+    → frames ≡ replicate n free_frame → IsOrderOf n order → n ≤ places.size → listed ≡ [] → n ≤ capacity → counts ≡ replicate 129 0
     → AreKept frames order places listed capacity counts
-kept_new n frames order places listed capacity counts small f o room none enough zeros =
+kept_new n frames order places listed capacity counts small f whole room none enough zeros =
     let long : length frames ≡ n = ap length f ∙ length-replicate n free_frame in
     let each : (g : ℕ) → frame_at frames g ≡ free_frame = λ g. ap (λ (fs : List Frame). frame_at fs g) f ∙ free_at n g in
     record {
       small = subst (λ k. k < 2 ^ 16) (sym long) small;
-      within = ap (list_all (λ g. nat_lt g (length frames))) o ∙ within_range (length frames) 0 n (omega (arith, long));
-      covers = λ g lt. ap (is_in g) o ∙ in_range g 0 n (omega arith) (omega (arith, long, lt));
+      whole = subst (λ k. IsOrderOf k order) (sym long) whole;
       free_first = all_first (λ g. is_free (frame_at frames g)) order (λ g. ap is_free (each g));
-      leads = λ g id h. absurd (none_held n g id (sym (ap (λ fs. holds_at fs g id) f) ∙ h));
-      room = subst (λ k. HasRoomFor places (2 * k)) (sym long) room;
+      index = record {
+        leads = λ g id h. absurd (none-some id (sym (page_at_is frames g ∙ ap page_of (each g)) ∙ h));
+        room = omega (arith, long, room);
+      };
       marked = subst (λ xs. AreMarked (entry_in frames) (length frames) xs counts) (sym none)
           (none_marked (length frames) (entry_in frames) counts (λ g. ap entry_of (each g)) (ap length zeros ∙ length-replicate {A = ℕ} 129 0) (λ s. ap (λ c. slice_index c s) zeros ∙ zero_at 129 s));
       list_room = omega (arith, long, enough);

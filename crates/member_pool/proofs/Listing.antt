@@ -9,7 +9,7 @@ use Rattle.std.proofs.lemmas.List.Quantifiers.{all_pairs_remove}
 use Rattle.write_order.specs.declared.key.WriteKey.{WriteKey}
 use Rattle.write_order.specs.Keys.{table_of, is_before}
 use Rattle.write_order.specs.Ranks.{then_by}
-use Rattle.member_pool.specs.Uses.{is_in}
+use Rattle.page_index.specs.Uses.{is_in}
 use Rattle.member_pool.specs.Listed.{Entries, with_entry, precedes, is_earlier, table_in, IsListed}
 
 -- ---- lists

@@ -16,6 +16,9 @@ holding id = record { page = Some id; changed = false; rank = HeapPage; filled =
 abbrev pub same_page : PageId → PageId → Bool
 same_page a b = (a.set == b.set) && (a.number == b.number)
 
+abbrev pub page_of : Frame → Option PageId
+page_of frame = frame.page
+
 -- whether the frame holds the page
 abbrev pub holds : PageId → Frame → Bool
 holds id frame = option_map_or (same_page id) frame.page false

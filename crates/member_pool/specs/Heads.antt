@@ -7,7 +7,7 @@ use Rattle.write_order.specs.declared.rank.Rank.{Rank}
 use Rattle.member_pool.specs.declared.frame.Frame.{Frame}
 use Rattle.member_pool.specs.Frames.{free_frame, holding, frame_at, is_free, is_unpinned}
 use Rattle.member_pool.specs.Marks.{entry_of, is_first, first_of, has_changed_of}
-use Rattle.member_pool.specs.Uses.{newest, oldest}
+use Rattle.page_index.specs.Uses.{newest, oldest}
 
 -- the use of each frame, and the frames in the order of their use, the one used longest ago first
 pub record HeadState : Type 0 where

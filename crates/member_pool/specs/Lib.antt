@@ -5,8 +5,6 @@ pub mod Kept
 pub mod Lending
 pub mod Listed
 pub mod Marks
-pub mod Places
 pub mod Pools
 pub mod Sets
 pub mod Sound
-pub mod Uses

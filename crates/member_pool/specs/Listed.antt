@@ -7,7 +7,7 @@ use Rattle.write_order.specs.Keys.{table_of, is_before}
 use Rattle.member_pool.specs.declared.frame.Frame.{Frame}
 use Rattle.member_pool.specs.Frames.{frame_at}
 use Rattle.member_pool.specs.Marks.{entry_of, is_of_set}
-use Rattle.member_pool.specs.Uses.{is_in}
+use Rattle.page_index.specs.Uses.{is_in}
 
 -- the place of each frame's page in the write order, None where it isn't changed
 abbrev pub Entries : Type 0

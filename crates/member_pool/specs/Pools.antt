@@ -4,7 +4,7 @@ use Rattle.ds_base.specs.declared.names.PageId.{PageId}
 use Rattle.write_order.specs.declared.rank.Rank.{Rank}
 use Rattle.member_pool.specs.declared.frame.Frame.{Frame}
 use Rattle.member_pool.specs.Frames.{free_frame, holding, frame_at, is_unpinned}
-use Rattle.member_pool.specs.Uses.{newest, oldest}
+use Rattle.page_index.specs.Uses.{newest, oldest}
 
 -- the bytes and the use of each frame, and the frames in the order of their use, the one used longest ago first
 pub record PoolState : Type 0 where

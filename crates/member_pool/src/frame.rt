@@ -1,8 +1,9 @@
 ghost use Rattle.std.specs.Prelude.{◌≡◌};
-ghost use Rattle.member_pool.specs.Frames.{holding, free_frame, holds};
+ghost use Rattle.member_pool.specs.Frames.{holding, free_frame, holds, is_unpinned, page_of};
 ghost use Rattle.member_pool.specs.Marks.{entry_of};
 
 use ds_base::PageId;
+use page_index::HoldsPage;
 use write_order::{Rank, WriteKey};
 
 /// What a frame of the pool holds, and how it is used.
@@ -70,5 +71,19 @@ impl Frame {
         } else {
             None
         }
+    }
+}
+
+impl HoldsPage for Frame {
+    ghost page = { page_of };
+
+    ghost may_be_taken = { is_unpinned };
+
+    fn page(&self) -> Option<PageId> {
+        self.page
+    }
+
+    fn may_be_taken(&self) -> bool {
+        self.pins == 0
     }
 }

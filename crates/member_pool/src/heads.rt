@@ -21,11 +21,10 @@ ghost use Rattle.member_pool.specs.Sets.{has_set, any_set};
 
 use crate::Frame;
 use crate::counts::SetCounts;
-use crate::directory::{Directory, enter, find_in, new_directory};
 use crate::listed::{first_of, list, new_list, unlist};
-use crate::order::Order;
 use crate::sets::SetMask;
 use ds_base::{NoMemory, PageId, TableId};
+use page_index::{PageIndex, UseOrder};
 use std::alloc::Global;
 use std::marker::Model;
 use write_order::{Rank, WriteKey};
@@ -37,8 +36,8 @@ use write_order::{Rank, WriteKey};
 #[derive(Drop)]
 pub struct Heads {
     frames: Vec<Frame>,
-    order: Order,
-    places: Directory,
+    order: UseOrder,
+    places: PageIndex,
     listed: Vec<u16>,
     counts: SetCounts,
 }
@@ -63,8 +62,8 @@ impl Heads {
     {
         Ok(Heads {
             frames: free_frames(alloc, frames)?,
-            order: Order::new(alloc, frames)?,
-            places: new_directory(alloc, frames)?,
+            order: UseOrder::new(alloc, frames as u32)?,
+            places: PageIndex::new(alloc, frames as u32)?,
             listed: new_list(alloc, frames)?,
             counts: SetCounts::new(),
         })
@@ -75,7 +74,7 @@ impl Heads {
         ensures { self.new ≡ all_free (length self.old.frames) }
     {
         clear_frames(&mut self.frames);
-        self.order.reset(self.frames.len() as u16);
+        self.order.reset(self.frames.len() as u32);
         self.listed.clear();
         self.counts.clear();
     }
@@ -99,7 +98,7 @@ impl Heads {
     pub fn find(&self, id: PageId) -> Option<u16>
         ensures { result ≡ find_page self.now.frames id }
     {
-        find_in(&self.places, self.frames.as_slice(), id)
+        as_frame(self.places.find(self.frames.as_slice(), id))
     }
 
     /// Places a page in a frame. All marks are clear, and the frame is the newest.
@@ -134,7 +133,7 @@ impl Heads {
             pins: held.pins + 1,
             ..held
         };
-        self.order.make_newest(frame);
+        self.order.make_newest(frame as u32);
     }
 
     /// Takes one pin back. The order of use stays.
@@ -198,7 +197,7 @@ impl Heads {
         ensures unpinned { IfSome result (λ f. is_unpinned (head_of self.now f) ≡ true) }
         ensures none { IsNone result → (f : ℕ) → f < length self.now.frames → is_unpinned (head_of self.now f) ≡ false }
     {
-        self.order.first_unpinned(self.frames.as_slice())
+        as_frame(self.order.first_to_take(self.frames.as_slice()))
     }
 
     /// A free frame: the one that was freed last, and else the least number.
@@ -207,7 +206,7 @@ impl Heads {
         ensures there { IfSome result (λ f. f < length self.now.frames) }
     {
         match self.order.oldest() {
-            Some(oldest) => self.if_free(oldest),
+            Some(oldest) => as_frame(self.if_free(oldest)),
             None => None,
         }
     }
@@ -262,7 +261,7 @@ impl Heads {
     }
 
     // The frame that was used longest ago, if it is free.
-    fn if_free(&self, oldest: u16) -> Option<u16>
+    fn if_free(&self, oldest: u32) -> Option<u32>
         requires { slice_get self.now.order 0 ≡ Some oldest }
         ensures free { result ≡ free_in self.now }
         ensures there { IfSome result (λ f. f < length self.now.frames) }
@@ -349,9 +348,9 @@ impl Heads {
         requires alone { (f : ℕ) → find_page self.old.frames id ≡ Some f → f ≡ frame }
         ensures { self.new ≡ placed_in self.old frame id }
     {
+        self.places.enter(self.frames.as_slice(), frame as u32, id);
         self.frames[frame as usize] = Frame::holding(id);
-        enter(&mut self.places, self.frames.as_slice(), frame, id);
-        self.order.make_newest(frame);
+        self.order.make_newest(frame as u32);
     }
 
     // Makes an unchanged frame free.
@@ -361,7 +360,18 @@ impl Heads {
         ensures { self.new ≡ freed self.old frame }
     {
         self.frames[frame as usize] = Frame::free();
-        self.order.make_oldest(frame);
+        self.order.make_oldest(frame as u32);
+    }
+}
+
+// The number of a frame, of which there are fewer than 65,536.
+fn as_frame(at: Option<u32>) -> Option<u16>
+    requires { IfSome at (λ f. f < 2 ^ 16) }
+    ensures { result ≡ at }
+{
+    match at {
+        Some(at) => Some(at as u16),
+        None => None,
     }
 }
 

@@ -2,12 +2,10 @@
 #![tactic(auto)]
 
 mod counts;
-mod directory;
 mod frame;
 mod heads;
 mod law;
 mod listed;
-mod order;
 mod pool;
 mod sets;
 

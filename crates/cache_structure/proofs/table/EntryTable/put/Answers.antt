@@ -1,9 +1,8 @@
 use Rattle.std.proofs.Common.{◌≡◌, ◌<◌, sym, ap, ◌∙◌, subst, true, length, slice_get}
 use Rattle.std.specs.Option.{option_map}
-use Rattle.cache_structure.specs.Slots.{Table, slot_at, entry_at, entry_in, entries_in, changed_page}
+use Rattle.cache_structure.specs.Slots.{Table, holds_at, slot_at, entry_at, entry_in, entries_in, changed_page}
 use Rattle.cache_structure.specs.Listed.{changed_at}
 use Rattle.cache_structure.specs.Entries.{at_entry}
-use Rattle.cache_structure.specs.Places.{holds_at}
 use Rattle.cache_structure.proofs.Tables.{kept_put, put_entries, slot_read}
 use Rattle.cache_structure.proofs.Listing.{same_changed, page_kept, set_has, set_lacks, has_room, relisted_by}
 use Rattle.cache_structure.proofs.table.EntryTable.put.Goals as goal

@@ -1,8 +1,7 @@
 use Rattle.std.proofs.Common.{◌≡◌, ◌<◌, sym, ap, ◌∙◌, subst, true, length, slice_set}
 use Rattle.cache_structure.specs.declared.slot.Slot.{Slot}
-use Rattle.cache_structure.specs.Slots.{Table, slot_at, entries_in, rewritten}
+use Rattle.cache_structure.specs.Slots.{Table, holds_at, slot_at, entries_in, rewritten}
 use Rattle.cache_structure.specs.Entries.{at_entry, written_with}
-use Rattle.cache_structure.specs.Places.{holds_at}
 use Rattle.cache_structure.proofs.Tables.{kept_put, kept_stored, write_entries, slot_read}
 use Rattle.cache_structure.proofs.table.EntryTable.write.Goals as goal
 

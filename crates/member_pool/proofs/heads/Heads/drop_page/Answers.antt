@@ -2,7 +2,7 @@ use Rattle.std.proofs.Common.{List, ap, ◌∙◌}
 use Rattle.std.proofs.lemmas.List.{set-set}
 use Rattle.member_pool.specs.declared.frame.Frame.{Frame}
 use Rattle.member_pool.specs.Frames.{free_frame}
-use Rattle.member_pool.specs.Uses.{oldest}
+use Rattle.page_index.specs.Uses.{oldest}
 use Rattle.member_pool.specs.Heads.{HeadState, freed}
 use Rattle.member_pool.proofs.heads.Heads.drop_page.Goals as goal
 

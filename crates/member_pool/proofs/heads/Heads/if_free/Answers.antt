@@ -10,13 +10,13 @@ pub index-requires : goal.index-requires
 index-requires c =
     let h = c.self.inside in
     let front : slice_get h.order 0 ≡ Some c.args.oldest = subst (λ (s : HeadState). slice_get s.order 0 ≡ Some c.args.oldest) (sym c.self.view_is) c.requires in
-    omega (arith, front_within (length h.frames.items) c.args.oldest h.order c.self.invariant.within front, h.frames.ok.0)
+    omega (arith, front_within (length h.frames.items) c.args.oldest h.order c.self.invariant.whole.within front, h.frames.ok.0)
 
 pub returns-in-None : goal.returns-in-None
 returns-in-None c =
     let h = c.self.inside in
     let front : slice_get h.order 0 ≡ Some c.args.oldest = subst (λ (s : HeadState). slice_get s.order 0 ≡ Some c.args.oldest) (sym c.self.view_is) c.requires in
-    let l = front_within (length h.frames.items) c.args.oldest h.order c.self.invariant.within front in
+    let l = front_within (length h.frames.items) c.args.oldest h.order c.self.invariant.whole.within front in
     let passes : is_free (frame_at h.frames.items c.args.oldest) ≡ true =
     sym (ap is_free (read_at h.frames.items c.args.oldest c.index.result.now l c.index.ensures)) ∙ ap is_none c.in-None.is in
     record {
@@ -28,7 +28,7 @@ pub returns-in-Some : goal.returns-in-Some
 returns-in-Some c =
     let h = c.self.inside in
     let front : slice_get h.order 0 ≡ Some c.args.oldest = subst (λ (s : HeadState). slice_get s.order 0 ≡ Some c.args.oldest) (sym c.self.view_is) c.requires in
-    let l = front_within (length h.frames.items) c.args.oldest h.order c.self.invariant.within front in
+    let l = front_within (length h.frames.items) c.args.oldest h.order c.self.invariant.whole.within front in
     let fails : is_free (frame_at h.frames.items c.args.oldest) ≡ false =
     sym (ap is_free (read_at h.frames.items c.args.oldest c.index.result.now l c.index.ensures)) ∙ ap is_none c.in-Some.is in
     record {

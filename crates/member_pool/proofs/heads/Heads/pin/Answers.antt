@@ -19,7 +19,8 @@ invariant_of-self c =
     ap is_free (read_at c.self.inside.frames.items c.args.frame c.index-held.result.now l c.index-held.ensures)
     ∙ ap (λ (s : HeadState). is_free (head_of s c.args.frame)) c.self.view_is
     ∙ taken (head_of c.args.self.now c.args.frame).page c.requires.placed in
-    kept_newest _ _ _ _ _ _ c.self.invariant c.args.frame l c.index-held.result.now _ c.make_newest.new.self c.index-held.ensures refl refl full c.make_newest.ensures
+    kept_newest _ _ _ _ _ _ c.self.invariant c.args.frame l c.index-held.result.now _ c.make_newest.new.self c.index-held.ensures refl refl full c.make_newest.ensures.order
+    (c.make_newest.ensures.whole (length c.self.inside.frames.items) l c.self.invariant.whole)
 
 pub returns : goal.returns
 returns c =
@@ -28,5 +29,5 @@ returns c =
     let is = read_at p.frames.items c.args.frame c.index-held.result.now l c.index-held.ensures in
     let at : Frame → List ℕ → HeadState = λ x order. record { frames = slice_set p.frames.items c.args.frame (record x { pins = x.pins + 1 }); order = order } in
     ap (λ x. at x c.make_newest.new.self) is
-    ∙ ap (at (frame_at p.frames.items c.args.frame)) c.make_newest.ensures
+    ∙ ap (at (frame_at p.frames.items c.args.frame)) c.make_newest.ensures.order
     ∙ ap (λ (s : HeadState). pinned_to s c.args.frame ((head_of s c.args.frame).pins + 1)) c.self.view_is

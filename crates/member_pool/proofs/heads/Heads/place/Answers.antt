@@ -2,7 +2,7 @@ use Rattle.std.proofs.Common.{◌≡◌, ℕ, List, Some, refl, sym, ap, subst, 
 use Rattle.std.proofs.lemmas.List.{set-set}
 use Rattle.member_pool.specs.declared.frame.Frame.{Frame}
 use Rattle.member_pool.specs.Frames.{find_page, holding}
-use Rattle.member_pool.specs.Uses.{newest}
+use Rattle.page_index.specs.Uses.{newest}
 use Rattle.member_pool.specs.Heads.{HeadState, placed_in}
 use Rattle.member_pool.proofs.Keeping.{found_still}
 use Rattle.member_pool.proofs.heads.Heads.place.Goals as goal
