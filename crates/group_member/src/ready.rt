@@ -78,17 +78,12 @@ pub fn has_choice(ready: u32, choice: u64) -> bool
 }
 
 /// How many choices of a member are ready.
+#[tactic(auto, using(crate::proofs::Choices::counted, crate::proofs::Choices::few_counted))]
 pub fn count_choices(ready: u32) -> u64
     ensures number { result ≡ length (choices_of ready) }
     ensures few { result ≤ 23 }
 {
-    let mut count = 0;
-    for choice in 0..CHOICES {
-        if has_choice(ready, choice) {
-            count += 1;
-        }
-    }
-    count
+    (ready % (1 << CHOICES)).count_ones() as u64
 }
 
 /// The ready choice before which so many others are ready.
