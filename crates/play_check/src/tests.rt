@@ -74,6 +74,41 @@ fn source_of(alloc: Global, script: &str) -> Result<MemorySource, Fail> {
     Ok(MemorySource::new(script, 7, Vec::new(alloc)))
 }
 
+/// What is left of a call over memory.
+#[derive(Drop)]
+struct Played {
+    status: Status,
+    opened: bool,
+    sink: MemorySink,
+    disk: MemoryDisk,
+}
+
+/// Does what these words say, with a sink that takes so many bytes. (One call for all tests: to prove what it needs is dear.)
+fn play_over_memory<R: Threads + Wait + Sync + Abort>(
+    rt: &R,
+    alloc: Global,
+    spelled: &str,
+    source: MemorySource,
+    room: u64,
+    disk: MemoryDisk,
+) -> Result<Played, Fail> {
+    let words = words_of(alloc, spelled)?;
+    let mut source = source;
+    let mut sink = MemorySink::new(alloc, room, Vec::new(alloc))?;
+    let Finished {
+        status,
+        opened,
+        disk,
+        ..
+    } = play(rt, alloc, &words, &mut source, &mut sink, disk, &OpenGate);
+    Ok(Played {
+        status,
+        opened,
+        sink,
+        disk,
+    })
+}
+
 /// Plays on an empty disk, and gives back the disk.
 fn plays<R: Threads + Wait + Sync + Abort>(
     rt: &R,
@@ -82,14 +117,12 @@ fn plays<R: Threads + Wait + Sync + Abort>(
     number: u8,
     text: &str,
 ) -> Result<MemoryDisk, Fail> {
-    let words = words_of(alloc, PLAY)?;
-    let mut source = source_of(alloc, setting.script)?;
-    let mut sink = MemorySink::new(alloc, 4000, Vec::new(alloc))?;
+    let source = source_of(alloc, setting.script)?;
     let disk = MemoryDisk::new(alloc, failures_of(alloc, setting.fails)?)?;
-    let finished = play(rt, alloc, &words, &mut source, &mut sink, disk, &OpenGate);
-    assert!(rt; sink.taken() == text.as_bytes());
-    assert!(rt; finished.status.number() == number);
-    Ok(finished.disk)
+    let played = play_over_memory(rt, alloc, PLAY, source, 4000, disk)?;
+    assert!(rt; played.sink.taken() == text.as_bytes());
+    assert!(rt; played.status.number() == number);
+    Ok(played.disk)
 }
 
 /// Shows a disk that answers again.
@@ -98,13 +131,10 @@ fn shows<R: Threads + Wait + Sync + Abort>(
     alloc: Global,
     disk: MemoryDisk,
 ) -> Result<MemorySink, Fail> {
-    let words = words_of(alloc, "show")?;
-    let mut source = source_of(alloc, "")?;
-    let mut sink = MemorySink::new(alloc, 4000, Vec::new(alloc))?;
     let disk = disk.reopen(Vec::new(alloc));
-    let finished = play(rt, alloc, &words, &mut source, &mut sink, disk, &OpenGate);
-    assert!(rt; finished.status == Status::Done);
-    Ok(sink)
+    let played = play_over_memory(rt, alloc, "show", source_of(alloc, "")?, 4000, disk)?;
+    assert!(rt; played.status == Status::Done);
+    Ok(played.sink)
 }
 
 /// The disk dies in an append, of which it keeps so many bytes. Answers how many bytes the log has, and the text that then shows the rows.
@@ -191,32 +221,26 @@ fn fails_once<R: Threads + Wait + Sync + Abort>(
     call: DiskOp,
     number: u64,
 ) -> Result<bool, Fail> {
-    let words = words_of(alloc, PLAY)?;
-    let mut source = source_of(alloc, FLAGS)?;
-    let mut sink = MemorySink::new(alloc, 4000, Vec::new(alloc))?;
     let failure = DiskFailure {
         call,
         number,
         dies: None,
     };
     let disk = MemoryDisk::new(alloc, failures_of(alloc, Some(failure))?)?;
-    let Finished {
-        status,
-        opened,
-        disk,
-        ..
-    } = play(rt, alloc, &words, &mut source, &mut sink, disk, &OpenGate);
-    if status == Status::Done {
+    let source = source_of(alloc, FLAGS)?;
+    let played = play_over_memory(rt, alloc, PLAY, source, 4000, disk)?;
+    if played.status == Status::Done {
         return Ok(false);
     }
-    assert!(rt; status == Status::DiskFailed);
-    if !opened {
-        assert!(rt; sink.taken() == b"disk failed\n".as_slice());
+    assert!(rt; played.status == Status::DiskFailed);
+    if !played.opened {
+        assert!(rt; played.sink.taken() == b"disk failed\n".as_slice());
         return Ok(true);
     }
-    let shown = shows(rt, alloc, disk)?;
+    let shown = shows(rt, alloc, played.disk)?;
     let rows = rows_shown(shown.taken()).ok_or("rows")?;
-    let told = sink
+    let told = played
+        .sink
         .taken()
         .strip_suffix(b"end 5\n".as_slice())
         .ok_or("an end")?;
@@ -245,14 +269,12 @@ fn source_fails<R: Threads + Wait + Sync + Abort>(
     alloc: Global,
     number: u64,
 ) -> Result<(), Fail> {
-    let words = words_of(alloc, PLAY)?;
     let script = Bytes::from_vec(HELLO.as_bytes().to_vec(alloc)?);
-    let mut source = MemorySource::new(script, 1, vec![in alloc; number]?);
-    let mut sink = MemorySink::new(alloc, 4000, Vec::new(alloc))?;
+    let source = MemorySource::new(script, 1, vec![in alloc; number]?);
     let disk = MemoryDisk::new(alloc, Vec::new(alloc))?;
-    let finished = play(rt, alloc, &words, &mut source, &mut sink, disk, &OpenGate);
-    assert!(rt; finished.status == Status::SourceFailed);
-    assert!(rt; sink.taken() == b"source failed\n".as_slice());
+    let played = play_over_memory(rt, alloc, PLAY, source, 4000, disk)?;
+    assert!(rt; played.status == Status::SourceFailed);
+    assert!(rt; played.sink.taken() == b"source failed\n".as_slice());
     Ok(())
 }
 
@@ -262,14 +284,12 @@ fn sink_fails<R: Threads + Wait + Sync + Abort>(
     alloc: Global,
     room: usize,
 ) -> Result<(), Fail> {
-    let words = words_of(alloc, PLAY)?;
-    let mut source = source_of(alloc, HELLO)?;
-    let mut sink = MemorySink::new(alloc, room as u64, Vec::new(alloc))?;
     let disk = MemoryDisk::new(alloc, Vec::new(alloc))?;
-    let finished = play(rt, alloc, &words, &mut source, &mut sink, disk, &OpenGate);
-    assert!(rt; finished.status == Status::SinkFailed);
-    assert!(rt; sink.taken().len() == room);
-    assert!(rt; HELLO_REPORT.as_bytes().starts_with(sink.taken()));
+    let source = source_of(alloc, HELLO)?;
+    let played = play_over_memory(rt, alloc, PLAY, source, room as u64, disk)?;
+    assert!(rt; played.status == Status::SinkFailed);
+    assert!(rt; played.sink.taken().len() == room);
+    assert!(rt; HELLO_REPORT.as_bytes().starts_with(played.sink.taken()));
     Ok(())
 }
 
