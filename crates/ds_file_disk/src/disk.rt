@@ -2,7 +2,8 @@ ghost use Rattle.std.specs.Prelude.{◌≡◌, None, true};
 ghost use Rattle.ds_file_disk.specs.Untold.{never_told};
 
 use crate::health::Health;
-use crate::{files, names};
+use crate::logs::Logs;
+use crate::{files, logs, names};
 use ds_base::{MemberId, PageId};
 use ds_disk::{Disk, DiskError};
 use std::rt::Files;
@@ -11,14 +12,15 @@ use std::rt::Files;
 ///
 /// It is dead once a write has failed that was begun, for then no one knows how much of it was done.
 #[derive(Drop)]
-pub struct FileDisk<R> {
+pub struct FileDisk<R: Files> {
     rt: R,
     folder: String,
+    logs: Logs<R::File>,
     health: Health,
 }
 
 impl<R: Files + Alloc + Send + Drop> FileDisk<R> {
-    /// Touches nothing. Files are opened when they are used.
+    /// Touches nothing. Files are opened when they are used, and a log's file stays open from its first append on.
     pub fn new(rt: R, folder: String) -> FileDisk<R>
         ensures contents { ⟦<FileDisk<R> as Disk>⟧.contents result ≡ None }
         ensures alive { ⟦<FileDisk<R> as Disk>⟧.alive result ≡ true }
@@ -27,6 +29,7 @@ impl<R: Files + Alloc + Send + Drop> FileDisk<R> {
         FileDisk {
             rt,
             folder,
+            logs: Logs::new(),
             health: Health::new(),
         }
     }
@@ -60,10 +63,11 @@ impl<R: Files + Alloc> Disk for FileDisk<R> {
 
     fn append_log(&mut self, member: MemberId, bytes: &[u8]) -> Result<(), DiskError> {
         self.health.check()?;
-        let path = names::log_file(&self.rt, self.folder.as_str(), member)?;
-        let opened = files::open_to_append(&self.rt, path.as_path());
+        let opened = logs::take_or_open(&mut self.logs, &self.rt, self.folder.as_str(), member)?;
         let mut file = self.health.looked(opened)?;
-        self.health.written(files::append(&mut file, bytes))
+        let appended = files::append(&mut file, bytes);
+        self.logs.put(member, file);
+        self.health.written(appended)
     }
 
     fn log_length(&mut self, member: MemberId) -> Result<u64, DiskError> {

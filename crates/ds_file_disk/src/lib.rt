@@ -4,6 +4,7 @@
 mod disk;
 mod files;
 mod health;
+mod logs;
 mod names;
 
 pub use disk::FileDisk;

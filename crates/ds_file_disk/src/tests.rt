@@ -14,6 +14,7 @@ fn emptied(rt: HostRuntime, folder: &str) -> Result<FileDisk<HostRuntime>, Fail>
 #[test]
 fn a_log_grows_is_read_and_is_cut(rt: HostRuntime) -> Result<(), Fail> {
     let mut disk = emptied(rt, "logs")?;
+    let first = MemberId::new(1).unwrap();
     let last = MemberId::new(32).unwrap();
     let mut bytes = [0; 4];
     assert!(rt; disk.read_log(last, 0, &mut bytes) == Ok(0));
@@ -25,8 +26,11 @@ fn a_log_grows_is_read_and_is_cut(rt: HostRuntime) -> Result<(), Fail> {
     assert!(rt; &bytes[..2] == b"fg".as_slice());
     assert!(rt; disk.read_log(last, u64::MAX, &mut bytes) == Ok(0));
     assert!(rt; disk.cut_log(last, 5) == Ok(()));
+    assert!(rt; disk.append_log(first, b"first") == Ok(()));
     assert!(rt; disk.append_log(last, b"x") == Ok(()));
-    assert!(rt; fs::read(&rt, "logs/log-32.log")?.as_slice() == b"abcdex".as_slice());
+    assert!(rt; disk.append_log(last, b"y") == Ok(()));
+    assert!(rt; fs::read(&rt, "logs/log-32.log")?.as_slice() == b"abcdexy".as_slice());
+    assert!(rt; fs::read(&rt, "logs/log-01.log")?.as_slice() == b"first".as_slice());
     fs::remove_dir_all(&rt, "logs")?;
     Ok(())
 }
