@@ -1,5 +1,5 @@
-mod Going
+pub mod Going
 mod Runs
 mod Listed
-mod Taking
+pub mod Taking
 mod Taken

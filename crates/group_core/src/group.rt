@@ -8,13 +8,13 @@ use trace_words::Line;
 #[derive(Drop)]
 pub struct Group<D, C, P> {
     pub disk: D,
-    pub(crate) crew: Crew<C, P>,
-    pub(crate) journal: Vec<u64>,
+    pub crew: Crew<C, P>,
+    pub journal: Vec<u64>,
     /// Kept where a trace is wanted.
-    pub(crate) lines: Option<Vec<Line>>,
+    pub lines: Option<Vec<Line>>,
     /// The places in the journal, from 1 on, at which a call of the disk has failed.
-    pub(crate) faults: Vec<u64>,
-    pub(crate) fault: Option<RunFault>,
+    pub faults: Vec<u64>,
+    pub fault: Option<RunFault>,
 }
 
 impl<D, C, P> Group<D, C, P> {

@@ -85,8 +85,8 @@ fn nth_event<P>(parts: &[MemberPart<P>], n: u64) -> Option<u64>
 }
 
 impl<D, C, P> Group<D, C, P> {
-    // The event of the group itself that is ready.
-    fn own_event(&self) -> Option<u64>
+    /// The event of the group itself that is ready.
+    pub fn own_event(&self) -> Option<u64>
         ensures { result ≡ own_event self.now.crew }
     {
         match self.crew.own_choice() {
@@ -186,8 +186,8 @@ impl<D, C, P> Group<D, C, P> {
         self.nth_ready(generator.draw_below(count))
     }
 
-    // How a run stands behind its last event.
-    fn standing(&self) -> RunEnd
+    /// How a run stands behind its last event.
+    pub fn standing(&self) -> RunEnd
         ensures { Ends result self.now }
     {
         if self.is_over() {

@@ -52,8 +52,12 @@ fn waits_for_live<C: CacheFace, P>(facility: &Facility<C>, part: &MemberPart<P>)
     false
 }
 
-// What is seen for a member before an event.
-fn look_for<C: CacheFace, P>(facility: &Facility<C>, is_half: bool, part: &MemberPart<P>) -> Look {
+/// What is seen for a member before an event.
+pub fn look_for<C: CacheFace, P>(
+    facility: &Facility<C>,
+    is_half: bool,
+    part: &MemberPart<P>,
+) -> Look {
     Look {
         bell: facility.bell(part.id),
         asked: facility.asked(part.id),

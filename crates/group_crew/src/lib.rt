@@ -10,10 +10,11 @@ mod member_step;
 mod phase;
 mod progress;
 
-pub use crew::Crew;
+pub use crew::{Crew, look_for};
 pub use failure::step_restart;
 pub use group_member::{
     CHOICES, EventFault, GroupSizes, MemberPart, Rebuilding, Restarting, Stepped, count_choices,
     has_choice, nth_choice,
 };
+pub use member_step::command_of;
 pub use progress::{GROUP_FAILURE, GROUP_RESTART, NEXT_PHASE, Progress};

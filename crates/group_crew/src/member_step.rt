@@ -60,8 +60,8 @@ fn make_stale_at<P>(parts: &mut [MemberPart<P>], member: MemberId)
     }
 }
 
-// The command that was sent.
-fn command_of(stepped: &Stepped) -> Option<&Command> {
+/// The command that was sent.
+pub fn command_of(stepped: &Stepped) -> Option<&Command> {
     match stepped {
         Stepped::Sent(Sent::Command(command), _)
         | Stepped::Restart(RestartSent::Command(command), _)

@@ -92,8 +92,8 @@ impl<P: Policy> MemberPart<P> {
         self.policy.begin_phase(alloc, trans, raisers, fail)
     }
 
-    // The choices of a live member that are ready: all of them, where the member is to fail.
-    fn live_choices(&self, look: &Look) -> u32 {
+    /// The choices of a live member that are ready: all of them, where the member is to fail.
+    pub fn live_choices(&self, look: &Look) -> u32 {
         if self.policy.is_fail_due() {
             all_choices()
         } else {
