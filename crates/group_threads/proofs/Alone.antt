@@ -94,30 +94,30 @@ module _ {P : Type 0} where
 -- ---- the whole group
 
 module _ {C D P : Type 0} (directory : C → Directory) (alive : D → Bool) (contents : D → Option Contents) (count : D → ℕ) (old new : Shared D C P) (p q : Hand P) (event : ℕ) (fresh : MemberPart P) (failed : Bool) where
-  place : ℕ
+  abbrev pub place : ℕ
   place = length new.group.journal.items
 
   -- what the event leaves of all that is shared
-  pub Rest : Type 0
+  abbrev pub Rest : Type 0
   Rest = new.group ≡ record old.group { disk = new.group.disk; crew = record old.group.crew { facility = new.group.crew.facility; fates = new.group.crew.fates; was_half = new.group.crew.was_half; progress = record old.group.crew.progress { is_idle = new.group.crew.progress.is_idle } }; journal = new.group.journal; lines = new.group.lines; faults = new.group.faults; fault = new.group.fault }
 
-  pub Left : Type 0
+  abbrev pub Left : Type 0
   Left = takes_alone old fresh event ≡ false → (new.group ≡ record old.group { journal = new.group.journal; lines = new.group.lines; faults = new.group.faults }) × (q.part ≡ fresh)
 
-  pub Made : Type 0
+  abbrev pub Made : Type 0
   Made = takes_alone old fresh event ≡ true → ByFault directory alive contents new.group.fault old fresh (event / 64) place new q.part failed
 
   module _ (base : Vec (MemberPart P)) (hands : List (Hand P)) (at : ℕ) (long : length hands ≡ vec_len base) (here : slice_get hands at ≡ Some p) (rest : Rest) where
-    looked_hands : List (Hand P)
+    abbrev looked_hands : List (Hand P)
     looked_hands = slice_set hands at (record p { part = fresh })
 
-    left_hands : List (Hand P)
+    abbrev left_hands : List (Hand P)
     left_hands = slice_set hands at q
 
-    mid : Group D C P
+    abbrev mid : Group D C P
     mid = whole base old looked_hands
 
-    last : Group D C P
+    abbrev last : Group D C P
     last = whole base new left_hands
 
     items_of : (at : ℕ) (x : Hand P) → (with_items base (parts_in (slice_set hands at x))).items ≡ parts_in (slice_set hands at x)

@@ -25,7 +25,7 @@ length-with_part ps zero p = refl
 length-with_part ps (suc k) p = length-set ps k p
 
 module _ {C D P : Type 0} (directory : C → Directory) (alive : D → Bool) (contents : D → Option Contents) (count : D → ℕ) (base : Vec (MemberPart P)) where
-  Leading : Shared D C P → List (Hand P) → List ℕ → Shared D C P → List (Hand P) → Type 0
+  abbrev Leading : Shared D C P → List (Hand P) → List ℕ → Shared D C P → List (Hand P) → Type 0
   Leading old hands events new left = Leads member_in (StepsHand directory alive contents count) old hands events new left
 
   -- the events of members that lead from what is shared and these hands to those, lead from the one whole group to the other
@@ -42,7 +42,7 @@ module _ {C D P : Type 0} (directory : C → Directory) (alive : D → Bool) (co
         chained events leads.0 new next left same leads.3,
       )
 
-  Counts : Shared D C P → Shared D C P → Type 0
+  abbrev Counts : Shared D C P → Shared D C P → Type 0
   Counts old new = Goes (count old.group.disk) old.group.faults.items old.group.fault (count new.group.disk) new.group.faults.items new.group.fault
 
   pub counted : (events : List ℕ) (old new : Shared D C P) (hands left : List (Hand P)) → length hands ≡ vec_len base → Leading old hands events new left → Counts old new

@@ -44,7 +44,7 @@ module _ {C D P : Type 0} where
 
     -- ---- with what the disk has counted
 
-    GoesOn : Group D C P → Group D C P → Type 0
+    abbrev GoesOn : Group D C P → Group D C P → Type 0
     GoesOn a b = Goes (count a.disk) a.faults.items a.fault (count b.disk) b.faults.items b.fault
 
     pub goes_looked : (a b : Group D C P) → IsLooked a b → GoesOn a b

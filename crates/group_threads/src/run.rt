@@ -1,10 +1,9 @@
 //! A run to the end of a script.
 
-ghost use Rattle.std.specs.Prelude.{◌≡◌, ◌≢◌, ◌≤◌, ℕ, List, ◌++◌, Some, Ok, IfOk, OnOk, OnErr};
+ghost use Rattle.std.specs.Prelude.{◌≡◌, ◌≢◌, ◌≤◌, true, false, Some, Ok, IfOk, IfSome, OnOk, OnErr};
 ghost use Rattle.group_core.specs.declared.fault.RunFault.TheVariants as fault;
 ghost use Rattle.group_core.specs.declared.schedule.RunEnd.TheVariants as ends;
 ghost use Rattle.group_core.specs.Ends.{Ends};
-ghost use Rattle.group_core.specs.Goes.{Goes};
 ghost use Rattle.group_threads.specs.Fresh.{RunsFrom};
 
 use crate::gate::Gate;
@@ -18,9 +17,24 @@ use std::alloc::Global;
 use std::sync::Wait;
 use std::thread::Threads;
 
+// Whether memory was wanting.
+fn is_wanting<D, C, P>(group: &Group<D, C, P>) -> bool
+    ensures yes { result ≡ true → group.now.fault ≡ Some fault.NoMemory }
+    ensures no { result ≡ false → group.now.fault ≢ Some fault.NoMemory }
+{
+    match group.fault() {
+        Some(RunFault::NoMemory) => true,
+        _ => false,
+    }
+}
+
 // The end of a run that went on so far. None: it goes on.
-fn end_of<D, C, P>(group: &Group<D, C, P>) -> Option<Result<RunEnd, NoMemory>> {
-    if let Some(RunFault::NoMemory) = group.fault() {
+fn end_of<D, C, P>(group: &Group<D, C, P>) -> Option<Result<RunEnd, NoMemory>>
+    ensures ends { IfSome result (λ r. IfOk r (λ end. Ends end group.now)) }
+    ensures unspent { IfSome result (λ r. r ≢ Ok ends.Spent) }
+    ensures wanting { IfSome result (λ r. OnErr r (group.now.fault ≡ Some fault.NoMemory)) }
+{
+    if is_wanting(group) {
         return Some(Err(NoMemory));
     }
     match group.standing() {
@@ -67,7 +81,7 @@ fn go_on<
     }
     let before = group.journal().len();
     let mut group = play_phase(rt, alloc, group, gate);
-    if let Some(RunFault::NoMemory) = group.fault() {
+    if is_wanting(&group) {
         return (group, Err(NoMemory));
     }
     if group.journal().len() > before {
