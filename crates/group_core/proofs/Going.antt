@@ -1,9 +1,9 @@
 -- How the disk has gone on from one step of a run to the next.
-use Rattle.std.proofs.Common.{◌≡◌, ◌≢◌, ◌⊎◌, inl, inr, ℕ, ◌≤◌, Bool, true, false, List, [], ◌∷◌, ◌++◌, Option, Some, None, refl, sym, ◌∙◌, arith}
+use Rattle.std.proofs.Common.{◌≡◌, ◌≢◌, ◌⊎◌, inl, inr, ℕ, ◌≤◌, Bool, true, false, List, [], ◌∷◌, ◌++◌, Option, Some, refl, sym, ◌∙◌, arith}
 use Rattle.ds_base.specs.Causes.{Rose}
 use Rattle.group_core.specs.declared.fault.RunFault.{RunFault}
 use Rattle.group_core.specs.declared.fault.RunFault.TheVariants as fault
-use Rattle.group_core.specs.Goes.{Goes, HasFailed, IsFailed, noted}
+use Rattle.group_core.specs.Goes.{Goes, IsFailed, noted}
 
 pub stays : (n : ℕ) (faults : List ℕ) (why : Option RunFault) → Goes n faults why n faults why
 stays n faults why = record { later = omega arith; kept = λ has. has; rose = λ has. inl has; ended = λ is. inl is }

@@ -6,7 +6,7 @@ use Rattle.std.proofs.lemmas.List.Elements.{Contains-append_left, Contains-appen
 use Rattle.std.proofs.lemmas.Option.{slice_get-map}
 use Rattle.group_member.specs.declared.part.MemberPart.{MemberPart}
 use Rattle.group_member.specs.Choices.{choices_from, choices_of, has_choice}
-use Rattle.group_crew.specs.Ready.{is_own, is_ready, ready_at, ready_for}
+use Rattle.group_crew.specs.Ready.{is_ready, ready_at, ready_for}
 use Rattle.group_core.specs.Events.{events_from}
 
 -- ---- an item of two lists, of which one follows the other

@@ -1,5 +1,5 @@
 -- What the seeded schedule draws.
-use Rattle.std.proofs.Common.{◌≡◌, ℕ, ◌%◌, ◌<◌, Bool, true, false, not, List, [], length, map, take, Option, Some, None, is_some, slice_get, Contains, IfNone, IfSome, OnSome, refl, sym, ap, ◌∙◌, arith}
+use Rattle.std.proofs.Common.{◌≡◌, ℕ, ◌%◌, ◌<◌, true, false, not, List, [], length, map, take, Option, Some, None, is_some, slice_get, Contains, IfNone, IfSome, OnSome, refl, sym, ap, ◌∙◌, arith}
 use Rattle.std.proofs.lemmas.Bool.{and_from, and_parts, cond-false, false_from_ne_true, or_parts}
 use Rattle.std.proofs.lemmas.List.{take-map}
 use Rattle.draw_generator.specs.Draws.{drawn}

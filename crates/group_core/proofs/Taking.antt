@@ -1,14 +1,12 @@
 -- What an event that is taken comes to.
-use Rattle.std.proofs.Common.{◌≡◌, ◌≢◌, ◌⊎◌, inl, inr, ℕ, zero, suc, ◌-◌, ◌/◌, ◌%◌, ◌≤◌, Bool, true, false, not, ◌&&◌, List, [], ◌∷◌, length, map, Option, Some, None, is_some, slice_get, option_map, refl, sym, ap, subst, ◌∙◌, arith}
+use Rattle.std.proofs.Common.{◌≡◌, ◌≢◌, ◌⊎◌, inl, inr, ℕ, zero, suc, ◌-◌, ◌/◌, ◌%◌, ◌≤◌, Bool, true, false, not, ◌&&◌, List, [], ◌∷◌, length, map, Option, Some, None, is_some, refl, sym, ap, subst, ◌∙◌}
 use Rattle.std.proofs.lemmas.Bool.{cases_Bool, cases_eq}
-use Rattle.ds_base.specs.Causes.{Rose}
 use Rattle.ds_disk.specs.Contents.{Contents}
 use Rattle.cache_structure.specs.Directory.{Directory}
-use Rattle.member_resources.specs.Events.{World, world_of}
+use Rattle.member_resources.specs.Events.{world_of}
 use Rattle.script_fates.specs.Fated.{FatesState}
 use Rattle.group_member.specs.declared.part.MemberPart.{MemberPart}
 use Rattle.group_member.specs.declared.stepped.Stepped.{Stepped}
-use Rattle.group_member.specs.Members.{Member, member_of}
 use Rattle.group_crew.specs.declared.crew.Crew.{Crew}
 use Rattle.group_crew.specs.Crews.{Keeps, Looks, unlooked}
 use Rattle.group_crew.specs.Happening.{ComesAt, member_at}
@@ -16,7 +14,7 @@ use Rattle.group_core.specs.declared.fault.RunFault.{RunFault}
 use Rattle.group_core.specs.declared.fault.RunFault.TheVariants as fault
 use Rattle.group_core.specs.declared.group.Group.{Group}
 use Rattle.group_core.specs.Events.{takes}
-use Rattle.group_core.specs.Goes.{Goes, IsFailed, ends_failed, noted}
+use Rattle.group_core.specs.Goes.{Goes, IsFailed, ends_failed}
 use Rattle.group_core.specs.Moves.{Moves}
 use Rattle.group_core.specs.Takes.{IsMade, StepsAt, Takes, TakesMember, is_read}
 use Rattle.group_core.proofs.Going.{notes}

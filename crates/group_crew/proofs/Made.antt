@@ -1,5 +1,5 @@
 -- A crew that is made, and one that was looked at since.
-use Rattle.std.proofs.Common.{◌≡◌, ℕ, zero, suc, List, [], ◌∷◌, map, Option, None, Some, All, IfSome, refl, sym, ap, subst, ◌∙◌, arith}
+use Rattle.std.proofs.Common.{◌≡◌, ℕ, zero, suc, List, [], ◌∷◌, map, Option, None, All, IfSome, refl, sym, ap, subst, ◌∙◌, arith}
 use Rattle.ds_base.specs.declared.names.Sizes.{Sizes}
 use Rattle.cache_structure.specs.Directory.{Directory}
 use Rattle.facility.specs.States.{IsMade, held}

@@ -1,11 +1,11 @@
 -- The restarts of members begin one by one.
-use Rattle.std.proofs.Common.{◌≡◌, ℕ, zero, suc, ◌+◌, ◌<◌, ◌≤◌, Bool, true, false, Option, None, Some, List, [], ◌∷◌, ◌++◌, length, take, slice_set, slice_index_or, refl, sym, ap, subst, ◌∙◌, if◌then◌else◌, arith}
+use Rattle.std.proofs.Common.{◌≡◌, ℕ, suc, ◌+◌, ◌<◌, ◌≤◌, Bool, true, false, Option, None, Some, List, [], ◌∷◌, ◌++◌, length, take, slice_set, slice_index_or, refl, sym, ap, subst, ◌∙◌, if◌then◌else◌, arith}
 use Rattle.std.proofs.lemmas.List.{get_or-set_other, take_more, take_more_set}
 use Rattle.ds_model.specs.declared.script.Phase.{Phase}
 use Rattle.list_structure.specs.Bells.{CanRing, rung}
 use Rattle.list_structure.specs.States.{ListsState}
 use Rattle.group_member.specs.declared.part.MemberPart.{MemberPart}
-use Rattle.group_crew.specs.Beginning.{AllRestart, CannotBegin, CannotRing, Rang, RestartBegins, Restarts, begins_restart, lists_begun, restarting, rung_times}
+use Rattle.group_crew.specs.Beginning.{AllRestart, CannotBegin, CannotRing, Rang, RestartBegins, Restarts, begins_restart, lists_begun, restarting}
 
 -- the lists are alike from a place on
 abbrev pub SameFrom : {A : Type 0} → ℕ → List A → List A → Type 0

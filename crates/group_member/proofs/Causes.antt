@@ -1,5 +1,5 @@
 -- Why an event is refused, by what refused it, and what a call of the disk that failed leaves as it was.
-use Rattle.std.proofs.Common.{◌≡◌, ℕ, Bool, true, false, Option, Some, None, Result, Ok, Err, IsErrAnd, IsSomeAnd, inl, inr, refl, sym, ap, subst, ◌∙◌}
+use Rattle.std.proofs.Common.{◌≡◌, ℕ, true, false, Option, Some, None, Result, Ok, Err, IsErrAnd, IsSomeAnd, inl, inr, subst}
 use Rattle.member_intents.specs.declared.intent.Intent.{Intent}
 use Rattle.member_intents.specs.declared.outcome.Answered.{Answered}
 use Rattle.member_intents.specs.declared.outcome.Answered.TheVariants as answers
@@ -11,7 +11,7 @@ use Rattle.member_intents.specs.declared.test.StepFault.TheVariants as stepping
 use Rattle.member_needs.specs.declared.plans.Plan.{Plan}
 use Rattle.member_effects.specs.declared.told.Told.{Told}
 use Rattle.member_resources.specs.Held.{Held}
-use Rattle.member_resources.specs.Events.{World, Happens, Runs, IsUnlawful, IsNotExecutable}
+use Rattle.member_resources.specs.Events.{World, Runs, IsUnlawful, IsNotExecutable}
 use Rattle.rebuild_resources.specs.Events as rebuilding
 use Rattle.rebuild_resources.specs.State.{RebuildState}
 use Rattle.rebuild_resources.specs.declared.intent.RebuildFault.{RebuildFault}
@@ -40,7 +40,7 @@ use Rattle.group_member.specs.Faults.{rebuild_fault, restart_fault, step_fault}
 use Rattle.group_member.specs.Happening.{IsInHand, Makes, RestartMakes, as_rebuilding, as_restarting}
 use Rattle.group_member.specs.Members.{Member}
 use Rattle.group_member.specs.Queries.{answers_held}
-use Rattle.group_member.specs.Refusing.{Cause, Own, Restart, Rebuild, Adoption, IsRefused, OwnIsRefused, RestartIsRefused, RestartStepIsRefused, RebuildIsRefused, AdoptionIsRefused}
+use Rattle.group_member.specs.Refusing.{Own, Restart, Rebuild, Adoption, IsRefused, OwnIsRefused, RestartIsRefused, RestartStepIsRefused, RebuildIsRefused}
 use Rattle.group_member.specs.Restarting.{LeftIsRefused, OpenIsRefused}
 use Rattle.group_member.specs.Stepping.{has_failed}
 

@@ -1,5 +1,5 @@
 -- What an event of a member comes to, from its parts.
-use Rattle.std.proofs.Common.{◌≡◌, ℕ, Bool, true, false, ◌||◌, is_some, refl, sym, ap, subst, ◌∙◌}
+use Rattle.std.proofs.Common.{◌≡◌, ℕ, Bool, true, false, ◌||◌, is_some, refl, sym, subst}
 use Rattle.ds_base.specs.declared.names.Sizes.{Sizes}
 use Rattle.ds_model.specs.declared.script.Script.{Script}
 use Rattle.facility.specs.States as facility
@@ -14,7 +14,7 @@ use Rattle.group_member.specs.Failing.{is_in_hand}
 use Rattle.group_member.specs.Happening.{Comes, Makes}
 use Rattle.group_member.specs.Members.{Member, IsDown}
 use Rattle.group_member.specs.Refusing.{Bells, IsRefused}
-use Rattle.group_member.specs.Stepping.{Kind, Own, OfRestart, OfRebuild, has_failed, is_fail, is_of, is_over, kind_for}
+use Rattle.group_member.specs.Stepping.{has_failed, is_fail, is_of, is_over, kind_for}
 use Rattle.group_member.proofs.Causes.{failed_kept}
 
 -- an event that was made is none in which the member was to fail

@@ -1,5 +1,5 @@
 -- The event of a restart or a rebuild, from its parts.
-use Rattle.std.proofs.Common.{◌≡◌, ◌⊎◌, ℕ, Bool, true, false, Option, Some, None, Result, Ok, Err, IfOk, OnOk, IsSomeAnd, inl, inr, refl, sym, ap, subst, ◌∙◌}
+use Rattle.std.proofs.Common.{◌≡◌, ◌⊎◌, ℕ, Bool, true, false, Option, Some, None, Result, Ok, Err, IfOk, OnOk, IsSomeAnd, inr, refl, sym, ap, subst, ◌∙◌}
 use Rattle.member_intents.specs.declared.outcome.Answered.{Answered}
 use Rattle.member_resources.specs.Held.{Held}
 use Rattle.member_resources.specs.Events.{World}
@@ -10,7 +10,7 @@ use Rattle.restart_marks.specs.declared.intent.RestartSent.{RestartSent}
 use Rattle.restart_resources.specs.Held as held
 use Rattle.group_member.specs.declared.rebuilding.Rebuilding.{Rebuilding}
 use Rattle.group_member.specs.declared.restarting.Restarting.{Restarting}
-use Rattle.group_member.specs.Happening.{AdoptsLeft, GoesOn, IsInHand, RebuildEnds, RebuildMakes, Rebuilds, RestartEnds, RestartMakes, Restarts, Takes, Tells, handed_over}
+use Rattle.group_member.specs.Happening.{AdoptsLeft, GoesOn, IsInHand, RebuildEnds, RebuildMakes, Rebuilds, RestartEnds, RestartMakes, Restarts, Takes, Tells}
 use Rattle.group_member.specs.Members.{Member}
 use Rattle.group_member.specs.Restarting.{GoesOnFrom, HandsOverFrom, TakesFrom}
 use Rattle.group_member.specs.Stepping.{is_failure}

@@ -1,4 +1,4 @@
-ghost use Rattle.std.specs.Prelude.{◌≡◌, None, true, false, OnOk};
+ghost use Rattle.std.specs.Prelude.{◌≡◌, ◌<◌, ◌^◌, None, true, false, OnOk};
 ghost use Rattle.group_member.specs.Members.{IsDown, member_of};
 ghost use Rattle.group_member.specs.Queries.{answers_held, asker_in, is_held, query_in};
 
@@ -93,7 +93,9 @@ impl<P: Policy> MemberPart<P> {
     }
 
     /// The choices of a live member that are ready: all of them, where the member is to fail.
-    pub fn live_choices(&self, look: &Look) -> u32 {
+    pub fn live_choices(&self, look: &Look) -> u32
+        ensures { result < 2 ^ 23 }
+    {
         if self.policy.is_fail_due() {
             all_choices()
         } else {
@@ -105,6 +107,7 @@ impl<P: Policy> MemberPart<P> {
     pub fn find_ready(&mut self, look: &Look, is_live: bool)
         ensures fresh { self.old.is_stale ≡ false → self.new ≡ self.old }
         ensures found { self.new.is_stale ≡ false }
+        ensures bits { self.old.is_stale ≡ true → self.new.ready < 2 ^ 23 }
         ensures down { self.old.is_stale ≡ true → is_live ≡ false → self.new.ready ≡ 0 }
         ensures rest { self.new ≡ record self.old { ready = self.new.ready; is_stale = self.new.is_stale } }
     {

@@ -18,7 +18,7 @@ pub const DUTY: u64 = 0;
 pub const REBUILD: u64 = 20;
 
 /// A bit for each choice of a member.
-pub fn all_choices() -> u32
+pub(crate) fn all_choices() -> u32
     ensures { result ≡ 2 ^ 23 - 1 }
 {
     (1 << CHOICES) - 1
@@ -40,34 +40,38 @@ fn is_rebuild_ready(rebuild: &Option<Rebuilding>, look: &Look) -> bool {
     }
 }
 
-fn is_ready<P: Policy>(
-    policy: &P,
-    restart: &Option<Restarting>,
-    rebuild: &Option<Rebuilding>,
-    choice: u64,
-    look: &Look,
-) -> bool {
-    match choice {
-        DUTY => is_duty_ready(policy, restart, look),
-        REBUILD => is_rebuild_ready(rebuild, look),
-        _ => policy.is_ready(choice, look),
+// The bit of a choice, where it is ready.
+fn bit_if(is_ready: bool, choice: u64) -> u32
+    requires { choice < 23 }
+{
+    if is_ready { 1 << choice } else { 0 }
+}
+
+// A bit for each of the choices from the first one on, up to the end, that are ready by the policy.
+fn ready_between<P: Policy>(policy: &P, first: u64, end: u64, look: &Look) -> u32
+    requires { end ≤ 23 }
+{
+    let mut ready = 0u32;
+    for choice in first..end {
+        ready |= bit_if(policy.is_ready(choice, look), choice);
     }
+    ready
 }
 
 /// A bit for each choice of a member that is ready.
-pub fn ready_choices<P: Policy>(
+pub(crate) fn ready_choices<P: Policy>(
     policy: &P,
     restart: &Option<Restarting>,
     rebuild: &Option<Rebuilding>,
     look: &Look,
-) -> u32 {
-    let mut ready = 0u32;
-    for choice in 0..CHOICES {
-        if is_ready(policy, restart, rebuild, choice, look) {
-            ready |= 1 << choice;
-        }
-    }
-    ready
+) -> u32
+    ensures { result < 2 ^ 23 }
+{
+    let before = ready_between(policy, DUTY + 1, REBUILD, look);
+    let behind = ready_between(policy, REBUILD + 1, CHOICES, look);
+    let duty = bit_if(is_duty_ready(policy, restart, look), DUTY);
+    let rebuild = bit_if(is_rebuild_ready(rebuild, look), REBUILD);
+    (before | behind | duty | rebuild) % (1 << CHOICES)
 }
 
 /// Whether the bit of the choice is set.
@@ -78,17 +82,12 @@ pub fn has_choice(ready: u32, choice: u64) -> bool
 }
 
 /// How many choices of a member are ready.
+#[tactic(auto, using(crate::proofs::Choices::counted, crate::proofs::Choices::few_counted))]
 pub fn count_choices(ready: u32) -> u64
     ensures number { result ≡ length (choices_of ready) }
     ensures few { result ≤ 23 }
 {
-    let mut count = 0;
-    for choice in 0..CHOICES {
-        if has_choice(ready, choice) {
-            count += 1;
-        }
-    }
-    count
+    (ready % (1 << CHOICES)).count_ones() as u64
 }
 
 /// The ready choice before which so many others are ready.

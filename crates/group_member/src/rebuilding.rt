@@ -25,7 +25,7 @@ impl Rebuilding {
     }
 
     /// Whether its next event may be taken, where the bell has rung so often.
-    pub fn is_ready(&self, bell: u64) -> bool {
+    pub(crate) fn is_ready(&self, bell: u64) -> bool {
         match self.policy.waits() {
             Some(until) => until < bell,
             None => true,
@@ -33,12 +33,12 @@ impl Rebuilding {
     }
 
     /// Whether the cache isn't lost any more, and the claim is given up.
-    pub fn is_done(&self) -> bool {
+    pub(crate) fn is_done(&self) -> bool {
         matches!(self.policy.ended(), Some(Ended::Done))
     }
 
     /// A byte that it has read and that can't stand there.
-    pub fn damage(&self) -> Option<(Volume, u64)> {
+    pub(crate) fn damage(&self) -> Option<(Volume, u64)> {
         match self.policy.ended() {
             Some(Ended::Damaged { volume, at }) => Some((volume, at)),
             _ => None,

@@ -39,7 +39,7 @@ impl Restarting {
     }
 
     /// Whether its next event may be taken, where the bell has rung so often.
-    pub fn is_ready(&self, bell: u64) -> bool {
+    pub(crate) fn is_ready(&self, bell: u64) -> bool {
         match self.policy.waits() {
             Some(until) => until < bell,
             None => true,
@@ -47,7 +47,7 @@ impl Restarting {
     }
 
     /// Whether it waits for room in the cache.
-    pub fn waits_for_room(&self) -> bool {
+    pub(crate) fn waits_for_room(&self) -> bool {
         self.policy.waits_for_room()
     }
 
@@ -62,7 +62,7 @@ impl Restarting {
     }
 
     /// A byte that it has read and that can't stand there.
-    pub fn damage(&self) -> Option<(Volume, u64)> {
+    pub(crate) fn damage(&self) -> Option<(Volume, u64)> {
         match self.policy.ended() {
             Some(Ended::Damaged { volume, at }) => Some((volume, at)),
             _ => None,

@@ -9,7 +9,7 @@ use Rattle.ds_model.specs.declared.lock.Name.{Name}
 use Rattle.lock_names.specs.declared.mode.Mode.{Mode}
 use Rattle.lock_manager.specs.declared.claim.Claim.{Claim}
 use Rattle.lock_manager.specs.declared.claim.Rollback.{Rollback}
-use Rattle.lock_manager.specs.Areas.{Room}
+use Rattle.record_area.specs.Areas.{Room}
 use Rattle.lock_manager.specs.Claims.{mode_in, without, with_mode, entered, joined}
 use Rattle.lock_manager.specs.Holders.{total}
 use Rattle.lock_manager.specs.Managers.{Book, HasRoom, IsGiven, claims_of, held_by, given, spare_after}

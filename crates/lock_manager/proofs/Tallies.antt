@@ -14,7 +14,7 @@ use Rattle.lock_names.specs.Modes.{class_of}
 use Rattle.lock_manager.specs.declared.claim.Claim.{Claim}
 use Rattle.lock_manager.specs.Claims.{same_class, mode_in, without, needs, one_needs}
 use Rattle.lock_manager.specs.declared.claim.Rollback.{Rollback}
-use Rattle.lock_manager.specs.Areas.{Room}
+use Rattle.record_area.specs.Areas.{Room}
 use Rattle.lock_manager.specs.Holders.{any_needs, total, kept}
 use Rattle.lock_manager.specs.Managers.{HasRoom}
 use Rattle.lock_names.proofs.Names.{same_itself, same_entry}

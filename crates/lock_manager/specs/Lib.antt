@@ -1,7 +1,6 @@
 pub mod Claims
 pub mod Chains
 pub mod Depth
-pub mod Areas
 pub mod Buckets
 pub mod Holds
 pub mod Tallies

@@ -10,7 +10,7 @@ use Rattle.lock_manager.specs.declared.claim.Ask.{Ask}
 use Rattle.lock_manager.specs.declared.claim.Ask.TheVariants as ask
 use Rattle.lock_manager.specs.declared.claim.LockAnswer.{LockAnswer}
 use Rattle.lock_manager.specs.declared.claim.LockAnswer.TheVariants as answer
-use Rattle.lock_manager.specs.Areas.{Room}
+use Rattle.record_area.specs.Areas.{Room}
 use Rattle.lock_manager.specs.Claims.{mode_in, without, joined, is_covered, entered}
 use Rattle.lock_manager.specs.Holders.{first_in_way, mode_of_all, kept, first_freed, left_after, told, total}
 

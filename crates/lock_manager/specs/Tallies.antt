@@ -5,7 +5,7 @@ use Rattle.lock_names.specs.declared.mode.Mode.{Mode}
 use Rattle.lock_names.specs.declared.mode.Class.{Class}
 use Rattle.lock_names.specs.declared.mode.Class.TheVariants.{Share, Exclusive}
 use Rattle.lock_manager.specs.declared.claim.Claim.{Claim}
-use Rattle.lock_manager.specs.Areas.{Room}
+use Rattle.record_area.specs.Areas.{Room}
 use Rattle.lock_manager.specs.Claims.{needs}
 
 pub record Tallied : Type 0 where

@@ -6,6 +6,7 @@ ghost use Rattle.lock_manager.specs.Claims.{mode_in, without, with_mode};
 use crate::claim::Claim;
 use ds_model::Name;
 use lock_names::{Mode, is_same_name};
+use record_area::Cell;
 use std::marker::Model;
 use std::mem;
 
@@ -40,6 +41,12 @@ impl Model for Chain {
     ghost use Rattle.lock_manager.specs.Depth.{depth_le-length-claims_in};
 
     ghost size_decreases = { λ a h. depth_le-length-claims_in a.node };
+}
+
+impl Cell for Chain {
+    fn empty() -> Chain {
+        Chain::new()
+    }
 }
 
 impl Chain {

@@ -7,7 +7,6 @@
 //! 36(2), 1997).
 #![tactic(auto)]
 
-pub mod area;
 pub mod buckets;
 pub mod chain;
 pub mod claim;

@@ -5,7 +5,6 @@ ghost use Rattle.lock_manager.specs.Managers.{ask_of, answer_of, claims_of, held
 ghost use Rattle.lock_manager.specs.Buckets.{AreDistinct};
 ghost use Rattle.lock_manager.specs.Claims.{without, mode_in};
 
-use crate::area::Area;
 use crate::chain::Chain;
 use crate::claim::{Ask, Claim, LockAnswer, Rollback, is_class, is_covered, joined};
 use crate::holds::Holds;
@@ -14,6 +13,7 @@ use crate::tally::Tally;
 use ds_base::{Lrsn, MemberId, NoMemory};
 use ds_model::Name;
 use lock_names::{Class, Interest, Mode, class, entry_of};
+use record_area::Area;
 use std::alloc::Global;
 use std::marker::Model;
 use std::mem;
@@ -27,8 +27,8 @@ pub struct LockManager {
     rollbacks: Vec<Rollback>,
     agents: u8,
     entries: u32,
-    own_cells: Area,
-    cells: Area,
+    own_cells: Area<Chain>,
+    cells: Area<Chain>,
     room: usize,
     tally: Tally,
 }
@@ -80,7 +80,7 @@ fn is_none(interest: &Interest) -> bool
 }
 
 /// Makes room for a claim.
-fn take_cell(owner: usize, own_cells: &mut Area, cells: &mut Area) -> Box<Chain>
+fn take_cell(owner: usize, own_cells: &mut Area<Chain>, cells: &mut Area<Chain>) -> Box<Chain>
     requires { 0 < (if owner == 0 then own_cells.old.free else cells.old.free) }
     ensures own { own_cells.new.free + (if owner == 0 then 1 else 0) ≡ own_cells.old.free }
     ensures others { cells.new.free + (if owner == 0 then 0 else 1) ≡ cells.old.free }
@@ -95,7 +95,7 @@ fn take_cell(owner: usize, own_cells: &mut Area, cells: &mut Area) -> Box<Chain>
 }
 
 /// Gives back the room of a claim.
-fn give_back(owner: usize, cell: Box<Chain>, own_cells: &mut Area, cells: &mut Area)
+fn give_back(owner: usize, cell: Box<Chain>, own_cells: &mut Area<Chain>, cells: &mut Area<Chain>)
     requires own { owner ≡ 0 → own_cells.old.free < own_cells.old.size }
     requires others { owner ≢ 0 → cells.old.free < cells.old.size }
     ensures own { own_cells.new.free ≡ own_cells.old.free + (if owner == 0 then 1 else 0) }

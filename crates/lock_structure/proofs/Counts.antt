@@ -9,7 +9,7 @@ use Rattle.lock_names.specs.Names.{same_name}
 use Rattle.lock_names.proofs.Names.{same_equal}
 use Rattle.lock_structure.specs.declared.chain.Record.{Record}
 use Rattle.lock_structure.specs.declared.chain.Held.{Held}
-use Rattle.lock_structure.specs.Areas.{Room}
+use Rattle.record_area.specs.Areas.{Room}
 use Rattle.lock_structure.specs.Records.{area_of, how_many, record_in, retained_by}
 use Rattle.lock_structure.specs.Buckets.{put_in, without, count_in, no_room, all_free, HasRoom}
 

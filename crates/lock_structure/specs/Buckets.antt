@@ -8,7 +8,7 @@ use Rattle.lock_names.specs.Names.{same_name}
 use Rattle.lock_structure.specs.declared.chain.Record.{Record}
 use Rattle.lock_structure.specs.declared.chain.Held.{Held}
 use Rattle.lock_structure.specs.declared.cursor.Cursor.{Cursor}
-use Rattle.lock_structure.specs.Areas.{Room}
+use Rattle.record_area.specs.Areas.{Room}
 use Rattle.lock_structure.specs.Records.{is_of, record_in, how_many, retained_of, is_retained, joined, retained_by}
 
 -- ---- one chain

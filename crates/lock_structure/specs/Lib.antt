@@ -2,6 +2,5 @@ pub mod Entries
 pub mod Chains
 pub mod Depth
 pub mod Records
-pub mod Areas
 pub mod Buckets
 pub mod Locks

@@ -5,12 +5,12 @@ ghost use Rattle.lock_names.specs.Entries.{entry_number};
 ghost use Rattle.lock_structure.specs.Records.{area_of, record_in, joined, is_retained, retained_by};
 ghost use Rattle.lock_structure.specs.Buckets.{recorded_in, released_in, purged_in, lowest_in, IsPlaced, count_in, room_of, without, all_retained, no_room, all_free};
 
-use crate::area::Area;
 use crate::chain::{Chain, Held, Record};
 use crate::cursor::Cursor;
 use ds_base::{MemberId, NoMemory};
 use ds_model::Name;
 use lock_names::{Mode, entry_of, join, recorded};
+use record_area::Area;
 use std::alloc::Global;
 use std::marker::Model;
 
@@ -18,7 +18,7 @@ use std::marker::Model;
 #[derive(Drop)]
 pub struct Buckets {
     chains: Vec<Chain>,
-    areas: Vec<Area>,
+    areas: Vec<Area<Chain>>,
     records: u32,
     pages: u32,
 }
@@ -264,7 +264,7 @@ fn empty_chains(alloc: Global, count: u32) -> Result<Vec<Chain>, NoMemory>
 }
 
 /// The area of table spaces and rows, and those of the members.
-fn free_areas(alloc: Global, records: u32, pages: u32) -> Result<Vec<Area>, NoMemory>
+fn free_areas(alloc: Global, records: u32, pages: u32) -> Result<Vec<Area<Chain>>, NoMemory>
     ensures count { IfOk result (λ areas. length areas.items ≡ 33) }
     ensures free { IfOk result (λ areas. (k : ℕ) → k < 33 → slice_index_or areas.items k no_room ≡ all_free (if k == 0 then records else pages)) }
 {

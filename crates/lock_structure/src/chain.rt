@@ -8,6 +8,7 @@ ghost use Rattle.lock_structure.specs.Buckets.{put_in, without, is_keeping, lowe
 use ds_base::MemberId;
 use ds_model::Name;
 use lock_names::{Mode, compatible, is_same_name};
+use record_area::Cell;
 use std::marker::Model;
 use std::mem;
 
@@ -89,6 +90,12 @@ fn lower(lowest: Option<MemberId>, member: MemberId) -> Option<MemberId>
     match lowest {
         Some(other) if other.number() <= number => Some(other),
         _ => Some(member),
+    }
+}
+
+impl Cell for Chain {
+    fn empty() -> Chain {
+        Chain::new()
     }
 }
 

@@ -5,7 +5,6 @@
 //! version tells whether their answers still stand.
 #![tactic(auto)]
 
-mod area;
 mod buckets;
 mod chain;
 mod cursor;

@@ -1,4 +1,4 @@
-use Rattle.std.proofs.Common.{◌≡◌, refl, ap, arith}
+use Rattle.std.proofs.Common.{refl, ap, arith}
 use Rattle.member_resources.specs.Events.{World, world_of}
 use Rattle.group_member.specs.Members.{member_of}
 use Rattle.group_member.specs.Stepping.{has_failed}

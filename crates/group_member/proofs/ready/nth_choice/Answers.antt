@@ -1,5 +1,5 @@
 use Rattle.std.proofs.Common.{◌≡◌, ℕ, ◌+◌, ◌-◌, ◌<◌, true, false, List, slice_get, sym, ap, ◌∙◌, arith}
-use Rattle.group_member.specs.Choices.{choices_from, choices_of, has_choice}
+use Rattle.group_member.specs.Choices.{choices_from, has_choice}
 use Rattle.group_member.proofs.Choices.{all_choices, get_later, none_left, ready_next, unready_next}
 use Rattle.group_member.proofs.ready.nth_choice.Goals.{then-has_choice+else-left-eq0, else-has_choice}
 use Rattle.group_member.proofs.ready.nth_choice.Goals as goal

@@ -1,6 +1,6 @@
 use Rattle.std.proofs.Common.{◌≡◌, sym, ap, ◌∙◌}
 use Rattle.member_resources.specs.Events.{World, world_of}
-use Rattle.group_member.specs.Members.{Member, member_of}
+use Rattle.group_member.specs.Members.{member_of}
 use Rattle.group_member.proofs.Restarts.{rebuild_goes_on}
 use Rattle.group_member.proofs.rebuild_step.step_rebuild.Goals as goal
 

@@ -1,4 +1,4 @@
-use Rattle.std.proofs.Common.{◌≡◌, Option, Some, None, sym, ap, subst, refl}
+use Rattle.std.proofs.Common.{◌≡◌, Option, Some, None, sym, ap, subst}
 use Rattle.member_resources.specs.Held.{Held}
 use Rattle.restart_marks.specs.declared.adopt.Adopted.{Adopted}
 use Rattle.group_member.specs.declared.restarting.Restarting.{Restarting}

@@ -1,8 +1,6 @@
-use Rattle.std.proofs.Common.{◌≡◌, Option, Err, sym, ap, ◌∙◌, arith}
+use Rattle.std.proofs.Common.{◌≡◌, sym, ap, ◌∙◌, arith}
 use Rattle.member_resources.specs.Events.{World, world_of}
-use Rattle.group_member.specs.declared.fault.EventFault.TheVariants as faults
-use Rattle.group_member.specs.declared.rebuilding.Rebuilding.{Rebuilding}
-use Rattle.group_member.specs.Members.{Member, member_of}
+use Rattle.group_member.specs.Members.{member_of}
 use Rattle.group_member.proofs.Causes.{adoption_refused}
 use Rattle.group_member.proofs.Restarts.{restart_broken, restart_goes_on}
 use Rattle.group_member.proofs.restart_step.step_restart.Goals as goal

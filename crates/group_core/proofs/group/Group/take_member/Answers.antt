@@ -1,5 +1,4 @@
 use Rattle.std.proofs.Common.{◌/◌, sym, ap, subst}
-use Rattle.group_crew.specs.declared.crew.Crew.{Crew}
 use Rattle.group_core.specs.declared.group.Group.{Group}
 use Rattle.group_core.specs.Takes.{TakesMember}
 use Rattle.group_core.proofs.Taking.{looked, made, stepped_at}

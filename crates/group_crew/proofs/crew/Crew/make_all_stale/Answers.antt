@@ -1,4 +1,4 @@
-use Rattle.std.proofs.Common.{◌≡◌, ℕ, ◌∙◌, List, length, map, sym, ap, arith}
+use Rattle.std.proofs.Common.{◌≡◌, ℕ, ◌∙◌, List, length, map, sym, ap}
 use Rattle.group_member.specs.declared.part.MemberPart.{MemberPart}
 use Rattle.group_crew.specs.Crews.{stale}
 use Rattle.group_crew.specs.Happening.{member_at}

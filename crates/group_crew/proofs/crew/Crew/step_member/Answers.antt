@@ -1,4 +1,4 @@
-use Rattle.std.proofs.Common.{◌≡◌, ℕ, ◌++◌, ◌∙◌, List, length, take, drop, sym, ap, subst, arith}
+use Rattle.std.proofs.Common.{◌≡◌, ℕ, ◌∙◌, List, length, sym, ap, subst, arith}
 use Rattle.member_resources.specs.Events.{World, world_of}
 use Rattle.script_fates.specs.Fated.{FatesState}
 use Rattle.group_member.specs.declared.part.MemberPart.{MemberPart}

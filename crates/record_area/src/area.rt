@@ -1,26 +1,31 @@
-//! Cells for claims, of which nothing but the maker and `grow` take memory.
+//! Cells for records, of which nothing but the maker and `grow` take memory.
 
 ghost use Rattle.std.specs.Prelude.{◌≡◌, ◌+◌, ◌<◌, ◌≤◌, ◌==◌, ◌^◌, IfOk, OnOk, OnErr};
 
-use crate::chain::Chain;
 use ds_base::NoMemory;
 use std::alloc::Global;
 use std::marker::Model;
 
-/// More claims than any memory holds.
+/// More records than any memory holds.
 const MOST: usize = 1 << 62;
 
-/// Room for so many claims, of which some is free.
+/// What has the memory of one record.
+pub trait Cell: Drop {
+    /// A cell without a record.
+    fn empty() -> Self;
+}
+
+/// Room for so many records, of which some is free.
 #[derive(Drop)]
-pub struct Area {
-    cells: Vec<Box<Chain>>,
+pub struct Area<C> {
+    cells: Vec<Box<C>>,
     size: usize,
     alloc: Global,
 }
 
-impl Model for Area {
+impl<C> Model for Area<C> {
     ghost use Rattle.std.specs.Prelude.{◌≤◌, vec_len, vec_capacity};
-    ghost use Rattle.lock_manager.specs.Areas.{Room};
+    ghost use Rattle.record_area.specs.Areas.{Room};
 
     ghost Value = { Room };
 
@@ -29,13 +34,14 @@ impl Model for Area {
     ghost invariant = { λ a. (vec_len a.cells ≤ a.size) × (a.size ≤ vec_capacity a.cells) };
 }
 
-impl Area {
-    pub fn new(alloc: Global, size: u32) -> Result<Area, NoMemory>
+impl<C: Cell> Area<C> {
+    /// Room for so many records, all of whose memory is taken now.
+    pub fn new(alloc: Global, size: u32) -> Result<Area<C>, NoMemory>
         ensures { IfOk result (λ a. (a.free ≡ size) × (a.size ≡ size)) }
     {
         let mut cells = Vec::with_capacity(alloc, size as usize)?;
         for _made in 0..size {
-            cells.push_reserved(Box::new(alloc, Chain::new())?);
+            cells.push_reserved(Box::new(alloc, C::empty())?);
         }
         Ok(Area {
             cells,
@@ -44,27 +50,28 @@ impl Area {
         })
     }
 
-    /// For how many more claims there is room.
+    /// For how many more records there is room.
     pub fn free(&self) -> usize
         ensures { result ≡ self.now.free }
     {
         self.cells.len()
     }
 
-    /// For how many claims there is room in all.
+    /// For how many records there is room in all.
     pub fn size(&self) -> usize
         ensures { result ≡ self.now.size }
     {
         self.size
     }
 
+    /// Whether there is room for no further record.
     pub fn is_full(&self) -> bool
         ensures { result ≡ (self.now.free == 0) }
     {
         self.cells.is_empty()
     }
 
-    /// Makes room for one more claim.
+    /// Makes room for one more record.
     pub fn grow(&mut self) -> Result<(), NoMemory>
         ensures more { OnOk result ((self.new.free ≡ self.old.free + 1) × (self.new.size ≡ self.old.size + 1)) }
         ensures few { OnOk result (self.new.size ≤ 2 ^ 62) }
@@ -75,14 +82,14 @@ impl Area {
         }
         let more = self.size + 1 - self.cells.len();
         self.cells.reserve(more)?;
-        let cell = Box::new(self.alloc, Chain::new())?;
+        let cell = Box::new(self.alloc, C::empty())?;
         self.cells.push_reserved(cell);
         self.size += 1;
         Ok(())
     }
 
-    /// A cell for one claim.
-    pub fn take(&mut self) -> Box<Chain>
+    /// A cell for one record.
+    pub fn take(&mut self) -> Box<C>
         requires { 0 < self.old.free }
         ensures free { self.new.free + 1 ≡ self.old.free }
         ensures size { self.new.size ≡ self.old.size }
@@ -90,7 +97,8 @@ impl Area {
         self.cells.pop().unwrap()
     }
 
-    pub fn give_back(&mut self, cell: Box<Chain>)
+    /// Takes back the cell of one record.
+    pub fn give_back(&mut self, cell: Box<C>)
         requires { self.old.free < self.old.size }
         ensures free { self.new.free ≡ self.old.free + 1 }
         ensures size { self.new.size ≡ self.old.size }

@@ -1,6 +1,0 @@
--- The room for claims.
-use Rattle.std.specs.Prelude.{ℕ}
-
-pub record Room : Type 0 where
-  pub free : ℕ
-  pub size : ℕ

@@ -1,0 +1,6 @@
+//! Room for records, all of whose memory is taken before.
+#![tactic(auto)]
+
+mod area;
+
+pub use area::{Area, Cell};
