@@ -2,4 +2,5 @@ pub mod Going
 mod Runs
 mod Listed
 pub mod Taking
+mod Owning
 mod Taken

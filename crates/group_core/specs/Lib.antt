@@ -1,6 +1,7 @@
 pub mod Goes
 pub mod Events
 pub mod Moves
+pub mod Restarts
 pub mod Takes
 pub mod Runs
 pub mod Ends

@@ -1,23 +1,24 @@
 -- What one event does to a group.
-use Rattle.std.specs.Prelude.{◌≡◌, ◌≢◌, ℕ, ◌-◌, ◌/◌, ◌%◌, Bool, true, false, [], ◌∷◌, ◌++◌, length, Option, Some, None, slice_get}
+use Rattle.std.specs.Prelude.{◌≡◌, ◌≢◌, ℕ, ◌-◌, ◌/◌, ◌%◌, Bool, true, false, [], ◌∷◌, ◌++◌, length, Option, Some, None, IfSome, slice_get}
 use Rattle.ds_base.specs.Causes.{Rose}
 use Rattle.ds_disk.specs.Contents.{Contents}
 use Rattle.cache_structure.specs.Directory.{Directory}
 use Rattle.member_resources.specs.Events.{world_of}
-use Rattle.group_restart.specs.declared.calls.State.{State}
-use Rattle.group_restart.specs.declared.calls.State.TheVariants as state
 use Rattle.group_member.specs.declared.stepped.Stepped.{Stepped}
 use Rattle.group_member.specs.Stepping.{has_failed}
 use Rattle.group_crew.specs.declared.crew.Crew.{Crew}
-use Rattle.group_crew.specs.Beginning.{CannotBegin}
+use Rattle.group_crew.specs.Beginning.{BeginsNext, CannotBegin}
 use Rattle.group_crew.specs.Crews.{Keeps}
+use Rattle.group_crew.specs.Failing.{GroupFails, fail_counted}
 use Rattle.group_crew.specs.Happening.{ComesAt, IsRefusedAt, member_at}
+use Rattle.group_crew.specs.States.{crew_state}
 use Rattle.group_core.specs.declared.fault.RunFault.{RunFault}
 use Rattle.group_core.specs.declared.fault.RunFault.TheVariants as fault
 use Rattle.group_core.specs.declared.group.Group.{Group}
 use Rattle.group_core.specs.Events.{takes}
 use Rattle.group_core.specs.Goes.{ends_failed, noted}
 use Rattle.group_core.specs.Moves.{Moves}
+use Rattle.group_core.specs.Restarts.{RestartSteps}
 
 -- ---- an event of a member
 
@@ -59,24 +60,30 @@ TakesMember {C} {D} {P} directory alive contents (Some fault.NoMemory) old disk 
 
 -- ---- an event of the group itself
 
--- whether a call of the disk has failed in the group restart
-abbrev pub is_stopped : State → Bool
-is_stopped state.Going = false
-is_stopped (state.Done counter) = false
-is_stopped (state.Damaged volume at) = false
-is_stopped state.Failed = true
-
 -- the run ends at this place, since the next phase can't begin
 pub record IsUnbegun {C P : Type 0} (old : Crew C P) (event place : ℕ) (refused : ℕ) : Type 0 where
   pub there : refused ≡ place
   pub begins : event ≡ 0
   pub cause : CannotBegin (slice_get old.script.phases old.progress.begun) old.facility.lists.bells (length old.parts.items)
 
--- A call of the disk fails in a group restart alone, and the run ends with it. What is refused is the begin of a phase.
-pub record TakesOwn {C P : Type 0} (old : Crew C P) (event place : ℕ) (failed : Bool) (why : Option RunFault) : Type 0 where
+-- by the fault that is left: the next phase has begun, or it can't begin
+abbrev pub BeginsOrNot : {C P : Type 0} → (C → Directory) → Option RunFault → Crew C P → ℕ → ℕ → Crew C P → Type 0
+BeginsOrNot {C} {P} directory None old event place new = BeginsNext (crew_state directory old) (crew_state directory new)
+BeginsOrNot {C} {P} directory (Some (fault.Unlawful refused)) old event place new = IsUnbegun old event place refused
+BeginsOrNot {C} {P} directory (Some fault.Failed) old event place new = ⊥
+BeginsOrNot {C} {P} directory (Some (fault.Damaged volume at)) old event place new = ⊥
+BeginsOrNot {C} {P} directory (Some fault.NoMemory) old event place new = ⊥
+
+-- Event 0 begins the next phase, event 64 lets the group fail, and that counts, and event 128 makes the next call of the disk in the group restart
+-- that is in hand. A call of the disk fails in a group restart alone, and the run ends with it. What is refused is the begin of a phase.
+pub record TakesOwn {C D P : Type 0} (directory : C → Directory) (alive : D → Bool) (contents : D → Option Contents) (why : Option RunFault) (old : Crew C P) (disk : D) (event place : ℕ) (failed : Bool) (new : Crew C P) (left : D) : Type 0 where
   pub failure : failed ≡ ends_failed why
   pub restarts : failed ≡ true → event ≡ 128
   pub refused : (at : ℕ) → why ≡ Some (fault.Unlawful at) → IsUnbegun old event place at
+  pub begins : event ≡ 0 → BeginsOrNot directory why old event place new
+  pub fails : event ≡ 64 → (why ≡ None) × GroupFails (fail_counted (crew_state directory old)) (crew_state directory new)
+  pub goes : event ≡ 128 → IfSome old.restart (λ restart. RestartSteps alive contents why (crew_state directory old) restart disk (crew_state directory new) left)
+  pub still : event ≢ 128 → left ≡ disk
 
 -- ---- any event
 
@@ -91,5 +98,5 @@ pub record Takes {C D P : Type 0} (directory : C → Directory) (alive : D → B
   pub left : takes old event ≡ false → new ≡ record old { journal = new.journal; lines = new.lines; faults = new.faults }
   pub missed : takes old event ≡ false → failed ≡ false
   pub moves : takes old event ≡ true → Moves directory event old.crew new.crew new.fault
-  pub own : takes old event ≡ true → event % 64 ≡ 0 → TakesOwn old.crew event (length new.journal.items) failed new.fault
+  pub own : takes old event ≡ true → event % 64 ≡ 0 → TakesOwn directory alive contents new.fault old.crew old.disk event (length new.journal.items) failed new.crew new.disk
   pub member : takes old event ≡ true → event % 64 ≢ 0 → TakesMember directory alive contents new.fault old.crew old.disk (event % 64 - 1) (event / 64) (length new.journal.items) failed new.crew new.disk

@@ -5,7 +5,9 @@ ghost use Rattle.ds_base.specs.Causes.{Rose};
 ghost use Rattle.group_core.specs.declared.fault.RunFault.TheVariants as fault;
 ghost use Rattle.group_core.specs.Goes.{ends_failed};
 ghost use Rattle.group_core.specs.Moves.{Moves};
-ghost use Rattle.group_core.specs.Takes.{TakesOwn, is_stopped};
+ghost use Rattle.group_core.specs.Restarts.{EntersRestart, is_stopped};
+ghost use Rattle.group_core.specs.Takes.{TakesOwn};
+ghost use Rattle.group_crew.specs.States.{crew_state};
 
 use crate::fault::RunFault;
 use crate::group::Group;
@@ -34,7 +36,7 @@ impl<D: Disk, C: CacheFace, P: Policy> Group<D, C, P> {
     fn take_phase(&mut self, alloc: Global, place: u64) -> Result<(), NoMemory>
         requires { self.old.fault ≡ None }
         ensures moves { OnOk result (Moves C.directory 0 self.old.crew self.new.crew self.new.fault) }
-        ensures leads { OnOk result (TakesOwn self.old.crew 0 place false self.new.fault) }
+        ensures leads { OnOk result (TakesOwn C.directory D.alive D.contents self.new.fault self.old.crew self.old.disk 0 place false self.new.crew self.new.disk) }
         ensures rest { self.new ≡ record self.old { crew = self.new.crew; fault = self.new.fault } }
     {
         if !self.crew.begin_phase(alloc)? {
@@ -45,7 +47,9 @@ impl<D: Disk, C: CacheFace, P: Policy> Group<D, C, P> {
 
     // The script lets the group fail.
     fn take_failure(&mut self, alloc: Global) -> Result<(), NoMemory>
+        requires { self.old.fault ≡ None }
         ensures moves { OnOk result (Moves C.directory 64 self.old.crew self.new.crew self.new.fault) }
+        ensures leads { (event place : ℕ) → event ≢ 0 → event ≢ 128 → OnOk result (TakesOwn C.directory D.alive D.contents self.new.fault self.old.crew self.old.disk event place false self.new.crew self.new.disk) }
         ensures rest { self.new ≡ record self.old { crew = self.new.crew } }
     {
         self.crew.progress.count_groupfail();
@@ -56,6 +60,7 @@ impl<D: Disk, C: CacheFace, P: Policy> Group<D, C, P> {
     fn enter_restart(&mut self, alloc: Global, reached: &State) -> Result<(), NoMemory>
         requires { self.old.fault ≡ None }
         ensures moves { OnOk result (Moves C.directory 128 self.old.crew self.new.crew self.new.fault) }
+        ensures enters { OnOk result (EntersRestart reached.now self.new.fault (crew_state C.directory self.old.crew) (crew_state C.directory self.new.crew)) }
         ensures failed { OnOk result (is_stopped reached.now ≡ ends_failed self.new.fault) }
         ensures lawful { (at : ℕ) → self.new.fault ≢ Some (fault.Unlawful at) }
         ensures rest { self.new ≡ record self.old { crew = self.new.crew; fault = self.new.fault } }
@@ -76,7 +81,7 @@ impl<D: Disk, C: CacheFace, P: Policy> Group<D, C, P> {
     fn take_restart(&mut self, alloc: Global, event: u64, place: u64) -> Result<bool, NoMemory>
         requires { self.old.fault ≡ None }
         ensures moves { OnOk result (Moves C.directory 128 self.old.crew self.new.crew self.new.fault) }
-        ensures leads { IfOk result (λ failed. TakesOwn self.old.crew 128 place failed self.new.fault) }
+        ensures leads { IfOk result (λ failed. TakesOwn C.directory D.alive D.contents self.new.fault self.old.crew self.old.disk 128 place failed self.new.crew self.new.disk) }
         ensures later { D.faults self.old.disk ≤ D.faults self.new.disk }
         ensures rose { IfOk result (λ failed. failed ≡ true → Rose (D.faults self.old.disk) (D.faults self.new.disk)) }
         ensures rest { self.new ≡ record self.old { disk = self.new.disk; crew = self.new.crew; lines = self.new.lines; fault = self.new.fault } }
@@ -95,7 +100,7 @@ impl<D: Disk, C: CacheFace, P: Policy> Group<D, C, P> {
     fn take_choice(&mut self, alloc: Global, event: u64, place: u64) -> Result<bool, NoMemory>
         requires { self.old.fault ≡ None }
         ensures moves { OnOk result (Moves C.directory event self.old.crew self.new.crew self.new.fault) }
-        ensures leads { IfOk result (λ failed. TakesOwn self.old.crew event place failed self.new.fault) }
+        ensures leads { IfOk result (λ failed. TakesOwn C.directory D.alive D.contents self.new.fault self.old.crew self.old.disk event place failed self.new.crew self.new.disk) }
         ensures later { D.faults self.old.disk ≤ D.faults self.new.disk }
         ensures rose { IfOk result (λ failed. failed ≡ true → Rose (D.faults self.old.disk) (D.faults self.new.disk)) }
         ensures rest { self.new ≡ record self.old { disk = self.new.disk; crew = self.new.crew; lines = self.new.lines; fault = self.new.fault } }
@@ -121,7 +126,7 @@ impl<D: Disk, C: CacheFace, P: Policy> Group<D, C, P> {
     ) -> Result<bool, NoMemory>
         requires { self.old.fault ≡ None }
         ensures moves { OnOk result (Moves C.directory event self.old.crew self.new.crew self.new.fault) }
-        ensures leads { IfOk result (λ failed. TakesOwn self.old.crew event place failed self.new.fault) }
+        ensures leads { IfOk result (λ failed. TakesOwn C.directory D.alive D.contents self.new.fault self.old.crew self.old.disk event place failed self.new.crew self.new.disk) }
         ensures later { D.faults self.old.disk ≤ D.faults self.new.disk }
         ensures rose { IfOk result (λ failed. failed ≡ true → Rose (D.faults self.old.disk) (D.faults self.new.disk)) }
         ensures rest { self.new ≡ record self.old { disk = self.new.disk; crew = self.new.crew; lines = self.new.lines; fault = self.new.fault } }

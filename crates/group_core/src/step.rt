@@ -84,7 +84,7 @@ impl<D: Disk, C: CacheFace, P: Policy> Group<D, C, P> {
     fn take_ready(&mut self, alloc: Global, event: u64, place: u64) -> Result<bool, NoMemory>
         requires { self.old.fault ≡ None }
         ensures moves { OnOk result (Moves C.directory event self.old.crew self.new.crew self.new.fault) }
-        ensures own { event % 64 ≡ 0 → IfOk result (λ failed. TakesOwn self.old.crew event place failed self.new.fault) }
+        ensures own { event % 64 ≡ 0 → IfOk result (λ failed. TakesOwn C.directory D.alive D.contents self.new.fault self.old.crew self.old.disk event place failed self.new.crew self.new.disk) }
         ensures member { event % 64 ≢ 0 → IfOk result (λ failed. TakesMember C.directory D.alive D.contents self.new.fault self.old.crew self.old.disk (event % 64 - 1) (event / 64) place failed self.new.crew self.new.disk) }
         ensures later { D.faults self.old.disk ≤ D.faults self.new.disk }
         ensures rose { IfOk result (λ failed. failed ≡ true → Rose (D.faults self.old.disk) (D.faults self.new.disk)) }
@@ -102,7 +102,7 @@ impl<D: Disk, C: CacheFace, P: Policy> Group<D, C, P> {
         ensures left { takes self.old event ≡ false → self.new ≡ record self.old { lines = self.new.lines } }
         ensures missed { takes self.old event ≡ false → IfOk result (λ failed. failed ≡ false) }
         ensures moves { takes self.old event ≡ true → OnOk result (Moves C.directory event self.old.crew self.new.crew self.new.fault) }
-        ensures own { takes self.old event ≡ true → event % 64 ≡ 0 → IfOk result (λ failed. TakesOwn self.old.crew event place failed self.new.fault) }
+        ensures own { takes self.old event ≡ true → event % 64 ≡ 0 → IfOk result (λ failed. TakesOwn C.directory D.alive D.contents self.new.fault self.old.crew self.old.disk event place failed self.new.crew self.new.disk) }
         ensures member { takes self.old event ≡ true → event % 64 ≢ 0 → IfOk result (λ failed. TakesMember C.directory D.alive D.contents self.new.fault self.old.crew self.old.disk (event % 64 - 1) (event / 64) place failed self.new.crew self.new.disk) }
         ensures later { D.faults self.old.disk ≤ D.faults self.new.disk }
         ensures rose { IfOk result (λ failed. failed ≡ true → Rose (D.faults self.old.disk) (D.faults self.new.disk)) }

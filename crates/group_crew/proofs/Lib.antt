@@ -1,4 +1,7 @@
 pub mod Parts
 pub mod Restarts
 pub mod Raises
+pub mod Stops
+pub mod Begun
+pub mod Anew
 pub mod Made

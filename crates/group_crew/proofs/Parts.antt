@@ -10,8 +10,8 @@ use Rattle.group_member.specs.declared.stepped.Stepped.{Stepped}
 use Rattle.group_member.specs.Happening.{Comes}
 use Rattle.group_member.specs.Members.{Member, member_of}
 use Rattle.group_member.specs.Refusing.{IsRefused}
-use Rattle.group_crew.specs.Beginning.{kept_by}
-use Rattle.group_crew.specs.Crews.{stale}
+use Rattle.group_crew.specs.Beginning.{Kept, kept_by}
+use Rattle.group_crew.specs.Crews.{stale, unlooked}
 use Rattle.group_crew.specs.Happening.{ComesAt, IsRefusedAt, member_at}
 
 -- what is put in place of an item has the same value
@@ -24,9 +24,33 @@ pub kept_stale : {P : Type 0} (parts : List (MemberPart P)) → map kept_by (map
 kept_stale [] = refl
 kept_stale (part ∷ parts) = ap (λ its. kept_by part ∷ its) (kept_stale parts)
 
+-- ---- what members are and hold
+
+abbrev kept_in : Member → Kept
+kept_in m = record { id = m.id; holds = m.holds }
+
+kept_members : {P : Type 0} (parts : List (MemberPart P)) → map kept_by parts ≡ map kept_in (map member_of parts)
+kept_members [] = refl
+kept_members (part ∷ parts) = ap (λ its. kept_by part ∷ its) (kept_members parts)
+
+pub kept_same : {P : Type 0} (xs ys : List (MemberPart P)) → map member_of xs ≡ map member_of ys → map kept_by xs ≡ map kept_by ys
+kept_same xs ys same = kept_members xs ∙ (ap (map kept_in) same ∙ sym (kept_members ys))
+
+pub members_stale : {P : Type 0} (parts : List (MemberPart P)) → map member_of (map stale parts) ≡ map member_of parts
+members_stale [] = refl
+members_stale (part ∷ parts) = ap (λ its. member_of part ∷ its) (members_stale parts)
+
+members_unlooked : {P : Type 0} (parts : List (MemberPart P)) → map member_of parts ≡ map member_of (map unlooked parts)
+members_unlooked [] = refl
+members_unlooked (part ∷ parts) = ap (λ its. member_of part ∷ its) (members_unlooked parts)
+
+-- a look for ready choices leaves them as they are
+pub members_looked : {P : Type 0} (xs ys : List (MemberPart P)) → map unlooked xs ≡ map unlooked ys → map member_of xs ≡ map member_of ys
+members_looked xs ys same = members_unlooked xs ∙ (ap (map member_of) same ∙ sym (members_unlooked ys))
+
 -- ---- a list that is written back whole
 
-same_length : {A B : Type 0} (f : A → B) (xs ys : List A) → map f xs ≡ map f ys → length xs ≡ length ys
+pub same_length : {A B : Type 0} (f : A → B) (xs ys : List A) → map f xs ≡ map f ys → length xs ≡ length ys
 same_length f xs ys same = simp length-map at (ap length same)
 
 pub whole : {A : Type 0} (n : ℕ) (xs ys : List A) → length xs ≡ n → length ys ≡ n → take n (ys ++ drop (length ys) xs) ≡ ys

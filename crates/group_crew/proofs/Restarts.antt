@@ -1,10 +1,11 @@
 -- The restarts of members begin one by one.
-use Rattle.std.proofs.Common.{◌≡◌, ℕ, suc, ◌+◌, ◌<◌, ◌≤◌, Bool, true, false, Option, None, Some, List, [], ◌∷◌, ◌++◌, length, take, slice_set, slice_index_or, refl, sym, ap, subst, ◌∙◌, if◌then◌else◌, arith}
-use Rattle.std.proofs.lemmas.List.{get_or-set_other, take_more, take_more_set}
+use Rattle.std.proofs.Common.{◌≡◌, ℕ, suc, ◌+◌, ◌<◌, ◌≤◌, Bool, true, false, Option, None, Some, List, [], ◌∷◌, ◌++◌, length, map, take, slice_set, slice_index_or, refl, sym, ap, subst, ◌∙◌, if◌then◌else◌, arith}
+use Rattle.std.proofs.lemmas.List.{get_or-set_other, map_more, map_push, take_more_set}
 use Rattle.ds_model.specs.declared.script.Phase.{Phase}
 use Rattle.list_structure.specs.Bells.{CanRing, rung}
 use Rattle.list_structure.specs.States.{ListsState}
 use Rattle.group_member.specs.declared.part.MemberPart.{MemberPart}
+use Rattle.group_member.specs.Members.{Member, member_of}
 use Rattle.group_crew.specs.Beginning.{AllRestart, CannotBegin, CannotRing, Rang, RestartBegins, Restarts, begins_restart, lists_begun, restarting}
 
 -- the lists are alike from a place on
@@ -15,9 +16,9 @@ pub same_more : {A : Type 0} (i : ℕ) (xs ys : List A) (x : A) → SameFrom i x
 same_more i xs ys x same k d above = get_or-set_other xs i k x d (omega arith) ∙ same k d (omega arith)
 
 pub restart_made : {P : Type 0} (b : Bool) (old new : MemberPart P) (l m : ListsState)
-    → (b ≡ false → (new ≡ old) × (m ≡ l)) → (b ≡ true → RestartBegins old l new m) → Restarts b old new
-restart_made true old new l m same begun = (begun refl).fresh
-restart_made false old new l m same begun = (same refl).0
+    → new ≡ record old { restart = new.restart } → (b ≡ false → (new ≡ old) × (m ≡ l)) → (b ≡ true → RestartBegins old l new m) → Restarts b (member_of old) (member_of new)
+restart_made {P} true old new l m rest same begun = ((begun refl).fresh, ap (member_of {P = P}) rest)
+restart_made {P} false old new l m rest same begun = ap (member_of {P = P}) (same refl).0
 
 pub lists_made : {P : Type 0} (b : Bool) (old new : MemberPart P) (l m : ListsState)
     → (b ≡ false → (new ≡ old) × (m ≡ l)) → (b ≡ true → RestartBegins old l new m) → m ≡ (if b then restarting l old.id else l)
@@ -25,7 +26,7 @@ lists_made true old new l m same begun = (begun refl).lists_are
 lists_made false old new l m same begun = (same refl).1
 
 -- one more behind the others
-behind : {P : Type 0} (phase : Phase) (l m : ListsState) (olds news : List (MemberPart P)) (old new : MemberPart P)
+behind : (phase : Phase) (l m : ListsState) (olds news : List Member) (old new : Member)
     → AllRestart phase l olds news m → Restarts (begins_restart phase m.statuses old.id) old new → AllRestart phase l (olds ++ old ∷ []) (news ++ new ∷ []) (lists_begun phase m old.id)
 behind phase l m [] [] old new all its =
     (subst (λ (n : ListsState). Restarts (begins_restart phase n.statuses old.id) old new) all its, ap (λ (n : ListsState). lists_begun phase n old.id) all)
@@ -34,18 +35,22 @@ behind phase l m (x ∷ xs) [] old new all its = absurd all
 behind phase l m (x ∷ xs) (y ∷ ys) old new all its = (all.0, behind phase (lists_begun phase l x.id) m xs ys old new all.1 its)
 
 pub restarts_more : {P : Type 0} (phase : Phase) (l m n : ListsState) (parts items : List (MemberPart P)) (i : ℕ) (d new : MemberPart P)
-    → i < length parts → i < length items → SameFrom i items parts → AllRestart phase l (take i parts) (take i items) m
-    → Restarts (begins_restart phase m.statuses (slice_index_or items i d).id) (slice_index_or items i d) new → n ≡ lists_begun phase m (slice_index_or items i d).id
-    → AllRestart phase l (take (i + 1) parts) (take (i + 1) (slice_set items i new)) n
+    → i < length parts → i < length items → SameFrom i items parts → AllRestart phase l (map member_of (take i parts)) (map member_of (take i items)) m
+    → Restarts (begins_restart phase m.statuses (slice_index_or items i d).id) (member_of (slice_index_or items i d)) (member_of new) → n ≡ lists_begun phase m (slice_index_or items i d).id
+    → AllRestart phase l (map member_of (take (i + 1) parts)) (map member_of (take (i + 1) (slice_set items i new))) n
 restarts_more {P} phase l m n parts items i d new within there same all its lists =
     let old : MemberPart P = slice_index_or items i d in
     let is : slice_index_or items i d ≡ slice_index_or parts i d = same i d (omega arith) in
-    let next : AllRestart phase l (take i parts ++ old ∷ []) (take i items ++ new ∷ []) (lists_begun phase m old.id) = behind phase l m (take i parts) (take i items) old new all its in
-    let olds : take i parts ++ old ∷ [] ≡ take (i + 1) parts = ap (λ (x : MemberPart P). take i parts ++ x ∷ []) is ∙ sym (take_more parts i d within) in
-    let news : take i items ++ new ∷ [] ≡ take (i + 1) (slice_set items i new) = sym (take_more_set items i new there) in
-    subst (λ (xs : List (MemberPart P)). AllRestart phase l xs (take (i + 1) (slice_set items i new)) n) olds
-    (subst (λ (ys : List (MemberPart P)). AllRestart phase l (take i parts ++ old ∷ []) ys n) news
-    (subst (λ (k : ListsState). AllRestart phase l (take i parts ++ old ∷ []) (take i items ++ new ∷ []) k) (sym lists) next))
+    let before : List Member = map (member_of {P = P}) (take i parts) in
+    let after : List Member = map (member_of {P = P}) (take i items) in
+    let next : AllRestart phase l (before ++ member_of old ∷ []) (after ++ member_of new ∷ []) (lists_begun phase m old.id) = behind phase l m before after (member_of old) (member_of new) all its in
+    let olds : before ++ member_of old ∷ [] ≡ map (member_of {P = P}) (take (i + 1) parts) =
+    ap (λ (x : MemberPart P). before ++ member_of x ∷ []) is ∙ sym (map_more (member_of {P = P}) parts i d within) in
+    let news : after ++ member_of new ∷ [] ≡ map (member_of {P = P}) (take (i + 1) (slice_set items i new)) =
+    sym (ap (map (member_of {P = P})) (take_more_set items i new there) ∙ map_push (member_of {P = P}) (take i items) new) in
+    subst (λ (xs : List Member). AllRestart phase l xs (map member_of (take (i + 1) (slice_set items i new))) n) olds
+    (subst (λ (ys : List Member). AllRestart phase l (before ++ member_of old ∷ []) ys n) news
+    (subst (λ (k : ListsState). AllRestart phase l (before ++ member_of old ∷ []) (after ++ member_of new ∷ []) k) (sym lists) next))
 
 -- ---- the bells
 

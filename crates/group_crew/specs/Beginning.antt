@@ -1,15 +1,22 @@
 -- What the begin of a phase does to the members.
-use Rattle.std.specs.Prelude.{◌≡◌, ℕ, zero, suc, ◌-◌, ◌≤◌, ◌&&◌, Bool, true, false, List, [], ◌∷◌, Option, Some, None, IsSomeAnd, slice_set, if◌then◌else◌}
+use Rattle.std.specs.Prelude.{◌≡◌, ℕ, zero, suc, ◌+◌, ◌-◌, ◌<◌, ◌≤◌, ◌&&◌, Bool, true, false, List, [], ◌∷◌, length, Option, Some, None, IsSomeAnd, slice_get, slice_index_or, slice_set, if◌then◌else◌}
+use Rattle.std.specs.List.{list_any}
+use Rattle.ds_base.specs.declared.names.TranId.{TranId}
+use Rattle.ds_model.specs.declared.script.Part.{Part}
 use Rattle.ds_model.specs.declared.script.Phase.{Phase}
 use Rattle.list_structure.specs.declared.standing.MemberStatus.{MemberStatus}
 use Rattle.list_structure.specs.declared.standing.MemberStatus.TheVariants as statuses
 use Rattle.list_structure.specs.Standings.{status_of}
 use Rattle.list_structure.specs.States.{ListsState}
 use Rattle.list_structure.specs.Bells.{CanRing, rung}
+use Rattle.facility.specs.States.{PhaseBegun}
+use Rattle.script_fates.specs.Fated.{StopsOnly, has_tran}
 use Rattle.member_resources.specs.Held.{Held}
 use Rattle.restart_resources.specs.Held.{IsNew}
 use Rattle.group_member.specs.declared.part.MemberPart.{MemberPart}
-use Rattle.group_crew.specs.Phases.{is_failed, restarts_in}
+use Rattle.group_member.specs.Members.{Member}
+use Rattle.group_crew.specs.Phases.{is_failed, is_left_out, last_raiser, raises_in, restarts_in}
+use Rattle.group_crew.specs.States.{CrewState}
 
 -- a member that has failed begins its restart with the phase
 abbrev pub begins_restart : Phase → List MemberStatus → ℕ → Bool
@@ -61,14 +68,40 @@ restarting lists member = record lists { statuses = slice_set lists.statuses (me
 abbrev pub lists_begun : Phase → ListsState → ℕ → ListsState
 lists_begun phase lists member = if begins_restart phase lists.statuses member then restarting lists member else lists
 
--- the restart of the member begins, or the member stays as it was
-abbrev pub Restarts : {P : Type 0} → Bool → MemberPart P → MemberPart P → Type 0
-Restarts {P} true old new = IsSomeAnd new.restart (λ r. IsNew old.id r.resources)
-Restarts {P} false old new = new ≡ old
+-- the restart of the member begins, with nothing of it done; or the member stays as it was
+abbrev pub Restarts : Bool → Member → Member → Type 0
+Restarts true old new = IsSomeAnd new.restart (λ r. IsNew old.id r.resources) × (new ≡ record old { restart = new.restart })
+Restarts false old new = new ≡ old
 
 -- so it is for each of them, in their order
-abbrev pub AllRestart : {P : Type 0} → Phase → ListsState → List (MemberPart P) → List (MemberPart P) → ListsState → Type 0
-AllRestart {P} phase lists [] [] now = now ≡ lists
-AllRestart {P} phase lists [] (new ∷ news) now = ⊥
-AllRestart {P} phase lists (old ∷ olds) [] now = ⊥
-AllRestart {P} phase lists (old ∷ olds) (new ∷ news) now = Restarts (begins_restart phase lists.statuses old.id) old new × AllRestart phase (lists_begun phase lists old.id) olds news now
+abbrev pub AllRestart : Phase → ListsState → List Member → List Member → ListsState → Type 0
+AllRestart phase lists [] [] now = now ≡ lists
+AllRestart phase lists [] (new ∷ news) now = ⊥
+AllRestart phase lists (old ∷ olds) [] now = ⊥
+AllRestart phase lists (old ∷ olds) (new ∷ news) now = Restarts (begins_restart phase lists.statuses old.id) old new × AllRestart phase (lists_begun phase lists old.id) olds news now
+
+-- ---- the begin of a phase
+
+-- a member that is left out has a transaction of this number in the phase
+abbrev pub is_left_out_in : Phase → List MemberStatus → ℕ → Bool
+is_left_out_in phase statuses n = list_any (λ (p : Part). is_left_out phase statuses p.member && has_tran p.trans n) phase.parts
+
+-- by flag less one: who raises it last in the phase
+pub record AreRaisers (phase : Phase) (statuses : List MemberStatus) (raisers : List (Option TranId)) : Type 0 where
+  pub many : length raisers ≡ 64
+  pub each : (k : ℕ) → k < 64 → slice_index_or raisers k None ≡ last_raiser (k + 1) (raises_in phase statuses)
+
+-- A phase has begun: so have the restarts of members that it brings back. Each flag has who is to raise it, no member is done, and all bells
+-- have rung. Of the transactions those alone are stopped that members have which are left out.
+pub record PhaseBegins (phase : Phase) (old new : CrewState) : Type 0 where
+  pub lists : ListsState
+  pub restarts : AllRestart phase old.facility.lists old.members new.members lists
+  pub raisers : List (Option TranId)
+  pub raised : AreRaisers phase old.facility.lists.statuses raisers
+  pub facility : PhaseBegun (record old.facility { lists = lists }) raisers new.facility
+  pub stopped : StopsOnly (is_left_out_in phase old.facility.lists.statuses) old.fates new.fates
+  pub rest : new ≡ record old { facility = new.facility; members = new.members; begun = old.begun + 1; groupfails = 0; fates = new.fates }
+
+-- it is the next one of the script
+abbrev pub BeginsNext : CrewState → CrewState → Type 0
+BeginsNext old new = IsSomeAnd (slice_get old.script.phases old.begun) (λ phase. PhaseBegins phase old new)

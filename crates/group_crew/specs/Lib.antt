@@ -2,6 +2,8 @@ pub mod Progresses
 pub mod Ready
 pub mod Phases
 pub mod Crews
+pub mod States
 pub mod Beginning
+pub mod Failing
 pub mod Happening
 pub mod Making

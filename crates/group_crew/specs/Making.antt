@@ -1,5 +1,5 @@
 -- What a crew is like when it is made.
-use Rattle.std.specs.Prelude.{◌≡◌, ℕ, Option, None, IfSome}
+use Rattle.std.specs.Prelude.{◌≡◌, ℕ, None, IfSome}
 use Rattle.cache_structure.specs.Directory.{Directory}
 use Rattle.facility.specs.States.{IsMade, held}
 use Rattle.script_fates.specs.Fated.{no_fates}

@@ -2,8 +2,10 @@
 
 ghost use Rattle.std.specs.Prelude.{◌≡◌, ◌+◌, true, false, length, map, slice_get, Ok, IfOk, IfSome};
 ghost use Rattle.list_structure.specs.Bells.{CanRing};
-ghost use Rattle.script_fates.specs.Fated.{StopsOnly, is_in_phase};
-ghost use Rattle.group_crew.specs.Beginning.{AllRestart, CannotBegin, CannotRing, Rang, RestartBegins, begins_restart, kept_by};
+ghost use Rattle.script_fates.specs.Fated.{StopsOnly};
+ghost use Rattle.group_member.specs.Members.{member_of};
+ghost use Rattle.group_crew.specs.Beginning.{AllRestart, BeginsNext, CannotBegin, CannotRing, Rang, RestartBegins, begins_restart, is_left_out_in, kept_by};
+ghost use Rattle.group_crew.specs.States.{crew_state};
 
 use crate::crew::Crew;
 use crate::phase::{is_failed, is_left_out, part_of, raisers_of, restarts_in};
@@ -18,11 +20,11 @@ use std::alloc::Global;
 
 // Stops the transactions of the members that are left out.
 fn stop_left_out(phase: &Phase, lists: &Lists, fates: &mut Fates)
-    ensures { StopsOnly (is_in_phase phase.now) fates.old fates.new }
+    ensures { StopsOnly (is_left_out_in phase.now lists.now.statuses) fates.old fates.new }
 {
-    for at in 0..phase.parts.len() {
-        if is_left_out(phase, lists, phase.parts.as_slice()[at].member) {
-            fates.stop_part(phase, at);
+    for part in phase.parts.as_slice() {
+        if is_left_out(phase, lists, part.member) {
+            fates.stop_member(phase, part.member);
         }
     }
 }
@@ -58,7 +60,7 @@ fn begin_restarts<P>(
     phase: &Phase,
 ) -> Result<bool, NoMemory>
     ensures kept { map kept_by parts.new ≡ map kept_by parts.old }
-    ensures each { IfOk result (λ begun. begun ≡ true → AllRestart phase.now lists.old parts.old parts.new lists.new) }
+    ensures each { IfOk result (λ begun. begun ≡ true → AllRestart phase.now lists.old (map member_of parts.old) (map member_of parts.new) lists.new) }
     ensures rang { IfOk result (λ begun. begun ≡ true → Rang lists.old.bells (length parts.old) lists.new.bells) }
     ensures refused { result ≡ Ok false → CannotRing lists.old.bells (length parts.old) }
 {
@@ -77,7 +79,7 @@ fn begin_in_all<P: Policy>(
     phase: &Phase,
     raisers: &[Option<TranId>],
 ) -> Result<(), NoMemory>
-    ensures { map kept_by parts.new ≡ map kept_by parts.old }
+    ensures { map member_of parts.new ≡ map member_of parts.old }
 {
     for part in parts {
         let (trans, fail) = part_of(alloc, phase, part.id)?;
@@ -90,9 +92,10 @@ impl<C: CacheFace, P: Policy> Crew<C, P> {
     /// The next phase begins. Members that have failed restart, where it says so; the transactions of those that don't are
     /// stopped. Answers whether there is such a phase, and the bells could ring.
     pub fn begin_phase(&mut self, alloc: Global) -> Result<bool, NoMemory>
+        ensures happens { IfOk result (λ begun. begun ≡ true → BeginsNext (crew_state C.directory self.old) (crew_state C.directory self.new)) }
         ensures begun { IfOk result (λ begun. begun ≡ true → self.new.progress ≡ record { begun = self.old.progress.begun + 1; groupfails = 0; is_idle = false }) }
         ensures refused { result ≡ Ok false → CannotBegin (slice_get self.old.script.phases self.old.progress.begun) self.old.facility.lists.bells (length self.old.parts.items) }
-        ensures stopped { IfSome (slice_get self.old.script.phases self.old.progress.begun) (λ phase. StopsOnly (is_in_phase phase) self.old.fates self.new.fates) }
+        ensures stopped { IfSome (slice_get self.old.script.phases self.old.progress.begun) (λ phase. StopsOnly (is_left_out_in phase self.old.facility.lists.statuses) self.old.fates self.new.fates) }
         ensures members { map kept_by self.new.parts.items ≡ map kept_by self.old.parts.items }
         ensures others { self.new ≡ record self.old { facility = self.new.facility; parts = self.new.parts; progress = self.new.progress; fates = self.new.fates; is_own_stale = self.new.is_own_stale; was_half = self.new.was_half } }
     {

@@ -3,6 +3,7 @@ ghost use Rattle.group_crew.specs.Progresses.{is_at_end, own_choice};
 ghost use Rattle.group_crew.specs.Ready.{is_own, ready_at};
 ghost use Rattle.group_crew.specs.Crews.{Looks, is_half, is_ready_in, stale, unlooked};
 ghost use Rattle.group_crew.specs.Happening.{member_at};
+ghost use Rattle.group_crew.specs.States.{crew_state};
 
 use crate::progress::{GROUP_RESTART, Progress};
 use cache_structure::CacheFace;
@@ -184,7 +185,8 @@ impl<C: CacheFace, P> Crew<C, P> {
 impl<C: CacheFace, P: Policy> Crew<C, P> {
     /// Finds again which choices are ready, where that may have changed. While a group restart is in hand no member has any.
     pub fn find_ready(&mut self)
-        ensures { Looks self.old self.new }
+        ensures looks { Looks self.old self.new }
+        ensures same { crew_state C.directory self.new ≡ crew_state C.directory self.old }
     {
         if self.restart.is_some() {
             return;

@@ -1,10 +1,13 @@
 //! The failure of the whole group, and the group restart that follows it.
 
-ghost use Rattle.std.specs.Prelude.{◌≡◌, ◌≤◌, All, None, IfOk, OnOk, is_some, true};
+ghost use Rattle.std.specs.Prelude.{◌≡◌, ◌≤◌, All, None, Ok, IfOk, OnOk, is_some, map, true};
 ghost use Rattle.ds_base.specs.Causes.{Rose};
 ghost use Rattle.facility.specs.States.{held, IsReset};
+ghost use Rattle.group_restart.specs.Steps.{Steps};
 ghost use Rattle.group_restart.specs.declared.calls.State.TheVariants as state;
 ghost use Rattle.group_member.specs.Members.{IsDown, member_of};
+ghost use Rattle.group_crew.specs.Failing.{BeginsAnew, GroupFails, StopsLast, drive_of, last_begun};
+ghost use Rattle.group_crew.specs.States.{crew_state};
 
 use crate::crew::Crew;
 use cache_structure::CacheFace;
@@ -16,7 +19,9 @@ use member_resources::Policy;
 use std::alloc::Global;
 
 // No member has anything ready.
-fn rest<P>(parts: &mut [MemberPart<P>]) {
+fn rest<P>(parts: &mut [MemberPart<P>])
+    ensures { map member_of parts.new ≡ map member_of parts.old }
+{
     for part in parts {
         part.ready = 0;
     }
@@ -27,7 +32,8 @@ fn reset_all<P: Policy>(
     parts: &mut [MemberPart<P>],
     sizes: &GroupSizes,
 ) -> Result<(), NoMemory>
-    ensures { OnOk result (All (λ part. IsDown sizes.now.sizes (member_of part)) parts.new) }
+    ensures down { OnOk result (All (λ part. IsDown sizes.now.sizes (member_of part)) parts.new) }
+    ensures same { map (λ part. part.id) parts.new ≡ map (λ part. part.id) parts.old }
 {
     for part in parts {
         part.reset(alloc, sizes)?;
@@ -41,6 +47,7 @@ pub fn step_restart<D: Disk>(
     restart: &mut GroupRestart,
     disk: &mut D,
 ) -> Result<(Call, State), NoMemory>
+    ensures steps { IfOk result (λ r. Steps (drive_of D.alive D.contents disk.old) restart.old (Ok r.1) (drive_of D.alive D.contents disk.new) restart.new) }
     ensures later { D.faults disk.old ≤ D.faults disk.new }
     ensures failed { IfOk result (λ r. r.1 ≡ state.Failed → Rose (D.faults disk.old) (D.faults disk.new)) }
 {
@@ -52,7 +59,8 @@ pub fn step_restart<D: Disk>(
 impl<C: CacheFace, P: Policy> Crew<C, P> {
     // Stops the transactions of the last phase that has begun, where they have no fate.
     fn stop_phase(&mut self)
-        ensures { self.new ≡ record self.old { fates = self.new.fates } }
+        ensures stopped { StopsLast (last_begun self.old.script self.old.progress.begun) self.old.fates self.new.fates }
+        ensures rest { self.new ≡ record self.old { fates = self.new.fates } }
     {
         let Some(at) = self.progress.begun.checked_sub(1) else {
             return;
@@ -64,6 +72,7 @@ impl<C: CacheFace, P: Policy> Crew<C, P> {
 
     /// The group fails. No member goes on before the group restart, which is in hand from now on, is done.
     pub fn fail(&mut self, alloc: Global) -> Result<(), NoMemory>
+        ensures fails { OnOk result (GroupFails (crew_state C.directory self.old) (crew_state C.directory self.new)) }
         ensures restart { OnOk result (is_some self.new.restart ≡ true) }
         ensures others { self.new ≡ record self.old { restart = self.new.restart; parts = self.new.parts; fates = self.new.fates } }
         ensures held { is_some self.old.restart ≡ true → is_some self.new.restart ≡ true }
@@ -77,6 +86,7 @@ impl<C: CacheFace, P: Policy> Crew<C, P> {
 
     /// The group restart is done, with this counter. All begin anew.
     pub fn reset(&mut self, alloc: Global, counter: Lrsn) -> Result<(), NoMemory>
+        ensures anew { OnOk result (BeginsAnew counter (crew_state C.directory self.old) (crew_state C.directory self.new)) }
         ensures facility { IsReset (held C.directory self.old.facility) counter (held C.directory self.new.facility) }
         ensures members { OnOk result (All (λ part. IsDown self.old.sizes.sizes (member_of part)) self.new.parts.items) }
         ensures restart { self.new.restart ≡ None }

@@ -35,7 +35,7 @@ loop-part-preserved g c =
       same_more c.loop-part.part-index c.loop-part.part-items c.args.parts.now c.begin_restart.new.part c.loop-part.invariant.1,
       restarts_more c.args.phase.now c.args.lists.now c.loop-part.lists c.begin_restart.new.lists c.args.parts.now c.loop-part.part-items c.loop-part.part-index c.part-item.result c.begin_restart.new.part
           within there c.loop-part.invariant.1 c.loop-part.invariant.2
-          (restart_made begins old c.begin_restart.new.part c.loop-part.lists c.begin_restart.new.lists
+          (restart_made begins old c.begin_restart.new.part c.loop-part.lists c.begin_restart.new.lists c.begin_restart.ensures.rest
           (λ no. let same = c.in_ok-begin_restart.ensures.same no in (same.0, same.1)) (λ yes. c.in_ok-begin_restart.ensures.begun yes c.if-not-branch.false))
           lists,
       rang_more begins c.args.lists.now.bells c.loop-part.part-index old.id c.loop-part.lists c.begin_restart.new.lists lists c.loop-part.invariant.3,

@@ -1,4 +1,5 @@
 use Rattle.std.proofs.Common.{◌≡◌, map, take}
+use Rattle.group_member.specs.Members.{member_of}
 use Rattle.group_crew.specs.Beginning.{AllRestart, Rang, kept_by}
 use Rattle.group_crew.proofs.Restarts.{SameFrom}
 use Rattle.group_crew.proofs.begin.begin_restarts.Given as goal
@@ -7,5 +8,5 @@ abbrev pub invariant-loop-part : goal.invariant-loop-part
 invariant-loop-part g l =
     (map kept_by l.part-items ≡ map kept_by l.fn.parts)
     × SameFrom l.part-index l.part-items l.fn.parts
-    × AllRestart l.phase l.fn.lists (take l.part-index l.fn.parts) (take l.part-index l.part-items) l.lists
+    × AllRestart l.phase l.fn.lists (map member_of (take l.part-index l.fn.parts)) (map member_of (take l.part-index l.part-items)) l.lists
     × Rang l.fn.lists.bells l.part-index l.lists.bells

@@ -1,5 +1,6 @@
-use Rattle.script_fates.specs.Fated.{StopsOnly, is_in_phase}
+use Rattle.script_fates.specs.Fated.{StopsOnly}
+use Rattle.group_crew.specs.Beginning.{is_left_out_in}
 use Rattle.group_crew.proofs.begin.stop_left_out.Given as goal
 
-abbrev pub invariant-loop-at : goal.invariant-loop-at
-invariant-loop-at l = StopsOnly (is_in_phase l.phase) l.fn.fates l.fates
+abbrev pub invariant-loop-part : goal.invariant-loop-part
+invariant-loop-part l = StopsOnly (is_left_out_in l.phase l.lists.statuses) l.fn.fates l.fates

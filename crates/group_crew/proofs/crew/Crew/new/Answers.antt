@@ -2,4 +2,4 @@ use Rattle.group_crew.proofs.Made.{looked_new}
 use Rattle.group_crew.proofs.crew.Crew.new.Goals as goal
 
 pub returns-clause-fresh : goal.returns-clause-fresh
-returns-clause-fresh g c = looked_new g.C.CacheFace.directory c.in_ok-crew.crew c.find_ready.new.self c.in_ok-crew.ensures.fresh c.find_ready.ensures
+returns-clause-fresh g c = looked_new g.C.CacheFace.directory c.in_ok-crew.crew c.find_ready.new.self c.in_ok-crew.ensures.fresh c.find_ready.ensures.looks

@@ -1,0 +1,6 @@
+use Rattle.std.proofs.Common.{◌≡◌, map}
+use Rattle.group_member.specs.Members.{member_of}
+use Rattle.group_crew.proofs.failure.rest.Given as goal
+
+abbrev pub invariant-loop-part : goal.invariant-loop-part
+invariant-loop-part g l = map member_of l.part-items ≡ map member_of l.fn.parts
