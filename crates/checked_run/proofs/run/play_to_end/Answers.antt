@@ -1,8 +1,13 @@
 use Rattle.std.proofs.Common.{IfOk, refl, subst}
+use denote.Param.Send.{sendable}
 use Rattle.cache_structure.specs.State.{directory_of}
 use Rattle.group_core.specs.Runs.{RunsOn}
+use Rattle.checked_run.proofs.Crossing.{cache_send}
 use Rattle.checked_run.proofs.Led.{unspent, by_threads, by_seed}
 use Rattle.checked_run.proofs.run.play_to_end.Goals as goal
+
+pub run_threads-requires-send-C : goal.run_threads-requires-send-C
+run_threads-requires-send-C g c κs within = search (sendable, cache_send)
 
 pub returns-in-None-clause-runs : goal.returns-in-None-clause-runs
 returns-in-None-clause-runs g c =
