@@ -42,7 +42,7 @@ rows_sent : (p : Parts frame) → Sent p → (i : the_members) → IsSend (rows 
 rows_sent p s i = record { owned = λ d vs. s i d vs; leaving = λ k d w. tt }
 
 view_sent : (p : Parts frame) → Sent p → IsSend (view-Tree p)
-view_sent p s = 
+view_sent p s =
     let row = rows frame p member-Tree in
     let one = rows_sent p s member-Tree in
     let node : IsSend (at-Node p) = recorded_send (layer-Node row row) _ split-Node (split_one (layer-Node row row) _ split-Node join-Node joins-Node) (node_layer row row one one) in
