@@ -7,7 +7,6 @@ use denote.RattleType.{RattleType}
 use denote.Model.Local.{Parts, rows}
 use denote.Model.Cut.{split_one}
 use denote.Model.Knot.{stage}
-use denote.Hole.{as_row}
 use denote.Struct.Field.{row_field}
 use denote.Param.Send.{IsSend, view_send, recorded_send, sendable}
 use denote.Param.SendFields.{as_row_send, declared_send, variants_send}
