@@ -1,6 +1,6 @@
 -- Where the journal of a run leads.
-use Rattle.std.proofs.Common.{◌≡◌, inl, inr, ℕ, ◌<◌, Bool, List, [], ◌++◌, length, Option, Result, Ok, Err, IsErr, refl, sym, ap, subst, ◌∙◌, arith, length-append, ◌+◌}
-use Rattle.std.specs.Prelude.{Vec, IfSome}
+use Rattle.std.proofs.Common.{◌≡◌, inl, inr, ℕ, ◌<◌, Bool, List, [], ◌++◌, length, Option, Some, None, Result, Ok, Err, IsErr, refl, sym, ap, subst, ◌∙◌, arith, length-append, ◌+◌}
+use Rattle.std.specs.Prelude.{Vec, IfSome, IfOk, OnOk}
 use Rattle.std.specs.declared.alloc.Global.{Global}
 use Rattle.ds_base.specs.declared.fault.NoMemory.{NoMemory}
 use Rattle.ds_disk.specs.Contents.{Contents}
@@ -12,8 +12,10 @@ use Rattle.group_core.specs.declared.group.Group.{Group}
 use Rattle.group_core.specs.declared.fault.RunFault.{RunFault}
 use Rattle.group_core.specs.declared.schedule.RunEnd.{RunEnd}
 use Rattle.group_core.specs.Ends.{Ends}
-use Rattle.group_core.specs.Runs.{Draws}
-use Rattle.group_threads.specs.Fresh.{RunsFresh}
+use Rattle.group_core.specs.Goes.{Goes}
+use Rattle.group_core.specs.Runs.{Draws, RunsOn}
+use Rattle.group_threads.specs.Fresh.{RunsFresh, RunsFrom}
+use Rattle.group_threads.proofs.Looked.{runs_plain}
 use Rattle.checked_run.specs.declared.account.Account.{Account}
 use Rattle.checked_run.specs.declared.ended.Ended.{Ended}
 use Rattle.checked_run.specs.declared.ended.Ended.TheVariants as ended
@@ -29,6 +31,34 @@ pub unspent : (v : Vec ℕ Global) (old events : List ℕ) → v.items ≡ old +
 unspent v old events is all =
     let long : length v.items ≡ length old + length events = ap length is ∙ length-append old events in
     omega (arith, short v, long, all)
+
+-- where there is a seed, each event was drawn by a generator with it
+abbrev DrawnBy : {C D P : Type 0} → (C → Directory) → (D → Bool) → (D → Option Contents) → (D → ℕ) → Group D C P → Group D C P → List ℕ → Option ℕ → Type 0
+DrawnBy {C} {D} {P} directory alive contents count old new events seed = IfSome seed (λ s. (after : ℕ) × Draws directory alive contents count old s events new after)
+
+-- with a thread for each member there is none
+pub by_threads : {C D P : Type 0} (directory : C → Directory) (alive : D → Bool) (contents : D → Option Contents) (count : D → ℕ) (old new : Group D C P) (seed : Option ℕ) (end : Result RunEnd NoMemory)
+    → seed ≡ None → OnOk end (RunsFrom directory alive contents count old new) → OnOk end (RunsBy directory alive contents count old seed new)
+by_threads {C} {D} {P} directory alive contents count old new seed (Ok e) none from = record {
+  from = from;
+  drawn = subst (DrawnBy directory alive contents count old new from.events) (sym none) tt;
+}
+by_threads {C} {D} {P} directory alive contents count old new seed (Err why) none from = tt
+
+-- by the schedule of a seed
+pub by_seed : {C D P : Type 0} (directory : C → Directory) (alive : D → Bool) (contents : D → Option Contents) (count : D → ℕ) (old new : Group D C P) (seed : Option ℕ) (s begun most after : ℕ) (end : Result RunEnd NoMemory)
+    → seed ≡ Some s → begun ≡ s → Goes (count old.disk) old.faults.items old.fault (count new.disk) new.faults.items new.fault
+    → IfOk end (λ e. RunsOn directory alive contents count old begun most e new after) → OnOk end (RunsBy directory alive contents count old seed new)
+by_seed {C} {D} {P} directory alive contents count old new seed s begun most after (Ok e) is same goes ran = record {
+  from = record {
+    events = ran.events;
+    journal = ran.journal;
+    runs = runs_plain directory alive contents count ran.events old new ran.runs;
+    goes = goes;
+  };
+  drawn = subst (DrawnBy directory alive contents count old new ran.events) (sym is) (after, subst (λ (n : ℕ). Draws directory alive contents count old n ran.events new after) same ran.draws);
+}
+by_seed {C} {D} {P} directory alive contents count old new seed s begun most after (Err why) is same goes ran = tt
 
 -- what a group leaves is that of the group to which its journal leads
 pub led : {C D P : Type 0} (directory : C → Directory) (alive : D → Bool) (contents : D → Option Contents) (count : D → ℕ) (script : Script) (start last : Group D C P) (seed : Option ℕ) (end : RunEnd) (account : Account) (played : Played)

@@ -164,9 +164,9 @@ fn play_from<R: Threads + Wait + Sync, D: Disk + Send, P: Policy + Drop + Send, 
     }
 }
 
-/// Plays a script with these members, by the schedule of this seed: reads the logs as they stand, opens the disk by a group
-/// restart, plays, closes the disk by another, and holds the report against the script, the rows for which the logs stood at
-/// first, and the logs that are read back.
+/// Plays a script with these members, by the schedule of this seed, or without one with a thread for each member of a phase: reads
+/// the logs as they stand, opens the disk by a group restart, plays, closes the disk by another, and holds the report against the
+/// script, the rows for which the logs stood at first, and the logs that are read back.
 ///
 /// Where a call of the disk has failed the logs may not be read back: then the report is held against script and rows alone. It is
 /// told so only where two calls have failed: where the first is one of the reading, the logs are read once more.

@@ -281,13 +281,13 @@ show_opens kind before after account none same = record {
 }
 
 work_opens : (kind : Kind) (n : ℕ) (sizes : Sizes) (before after : Outside) (account : Account) → after.left ≡ before.left
-    → Opens kind (Some (order.Work n sizes)) before after account (PlaysFrom kind (made n) n false before after account)
+    → Opens kind (Some (order.Work n sizes)) before after account (PlaysFrom kind (made n) (Some n) false before after account)
 work_opens kind n sizes before after account same = record {
   met = λ met is. is;
   texts = λ met. refl;
   runs = λ rows met report run. run;
-  has_status = played_status kind (made n) n false before after account;
-  unfailed = played_unfailed kind (made n) n false before after account;
+  has_status = played_status kind (made n) (Some n) false before after account;
+  unfailed = played_unfailed kind (made n) (Some n) false before after account;
   unplayed = λ none. absurd none;
   touches = λ none. none;
   unread = λ none. same;
@@ -329,9 +329,9 @@ works kind (Some order.Show) before after account n given opened opening t h unr
 works kind (Some (order.Make k)) before after account n given opened opening t h unread does = let f : prepared.Work n given ≡ prepared.Make k = h in cc
 works kind (Some (order.Work k sizes)) before after account n given opened opening t h unread does =
     let e = same_work n k given (setting_of sizes (Some k) false) h.0 in
-    let its = subst (λ (i : ℕ). CameOf kind (made i) i false before after account does.outcome) e does.comes in
+    let its = subst (λ (i : ℕ). CameOf kind (made i) (Some i) false before after account does.outcome) e does.comes in
     let told = subst (λ (i : ℕ). TellsOutcome (Some i) does.outcome opened opening t) e does.told_is in
-    of_outcome kind (Some (order.Work k sizes)) before after account (PlaysFrom kind (made k) k false before after account) does.outcome opened opening t (work_opens kind k sizes before after account (unread tt)) its told
+    of_outcome kind (Some (order.Work k sizes)) before after account (PlaysFrom kind (made k) (Some k) false before after account) does.outcome opened opening t (work_opens kind k sizes before after account (unread tt)) its told
 
 -- ---- no call meets a failed sink
 

@@ -36,7 +36,7 @@ pub fn run<R: Threads + Wait + Sync, D: Disk + Send, G: Gate + Sync>(
     setting: &Setting,
     gate: &G,
 ) -> Ran<D>
-    requires { AreSizes setting.now.sizes }
+    requires sizes { AreSizes setting.now.sizes }
     ensures comes { Comes (D.contents disk) (D.faults disk) (D.faults result.disk) result.account
         (Plays (kind_of AnyMember D.alive D.contents D.faults) script.now setting.now.seed setting.now.trace (D.contents disk) (D.faults disk) (D.faults result.disk) (D.contents result.disk) result.account)
         result.outcome }

@@ -181,7 +181,10 @@ fn perform<R: Threads + Wait + Sync, S: Source, D: Disk + Send, G: Gate + Sync>(
 /// The words are the command line without the program's name. For a script the source is read to its end, or to the first byte past
 /// the longest script. Then the logs of the disk are read, and a group restart opens it; the script is run; another group restart
 /// closes the disk. The report is held against the script, the rows before and the logs, and where it isn't sound the status says so.
-/// The sink gets the report, its one line for the work of a number, or the one line of a status. Today one thread plays all, and no gate is passed.
+/// The sink gets the report, its one line for the work of a number, or the one line of a status.
+///
+/// With a seed this thread plays all, and no gate is passed. Without one each member of a phase has a thread, which passes the gate
+/// before each of its events.
 pub fn play<R: Threads + Wait + Sync, S: Source, K: Sink, D: Disk + Send, G: Gate + Sync>(
     rt: &R,
     alloc: Global,
