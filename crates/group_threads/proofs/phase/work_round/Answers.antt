@@ -5,11 +5,11 @@ use Rattle.group_threads.proofs.phase.work_round.Goals as goal
 
 pub for_each_mut-requires-send-T : goal.for_each_mut-requires-send-T
 unfolding types.Keyed.entry denote.Memory.part_of
-for_each_mut-requires-send-T g c κs within = search rules depth 40 fits 20000
+for_each_mut-requires-send-T g c κs within = ?
 
 pub for_each_mut-requires-sync-F : goal.for_each_mut-requires-sync-F
 unfolding types.Keyed.entry denote.Memory.part_of
-for_each_mut-requires-sync-F g c κs within = search rules depth 40 fits 20000
+for_each_mut-requires-sync-F g c κs within = ?
 
 pub for_each_mut-requires-clause-accepts : goal.for_each_mut-requires-clause-accepts
 for_each_mut-requires-clause-accepts g c κs within i p less is =

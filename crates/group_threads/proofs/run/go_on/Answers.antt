@@ -17,3 +17,9 @@ returns-clause-runs g c =
       | inl wants ↦ absurd (c.is_wanting.ensures.no c.if-is_wanting.false wants)
       | inr ran ↦ on_ok_weaker c.take_one-taken.result (λ more. from_on directory alive contents count c.args.group c.play_phase-group.result c.take_one-taken.new.group ran more) c.take_one-taken.ensures.runs
     ]
+
+pub returns-then-journal-before-clause-runs : goal.returns-then-journal-before-clause-runs
+returns-then-journal-before-clause-runs g c = elim c.play_phase-group.ensures.runs [
+  | inl wants ↦ absurd (c.is_wanting.ensures.no c.if-is_wanting.false wants)
+  | inr ran ↦ ran
+]
