@@ -25,6 +25,5 @@ written n new old same all =
 
 -- the last of the workers is let go, and its desk put to the others
 pub put_back : {W D : Type 0} (desk : W → D) (all ws rest : List W) (ds : List D) (w : W) → map desk all ≡ ds ++ map desk (reverse ws) → ws ≡ rest ++ w ∷ [] → map desk all ≡ (ds ++ desk w ∷ []) ++ map desk (reverse rest)
-unfolding reverse
 put_back desk all ws rest ds w before is =
     before ∙ (ap (λ l. ds ++ map desk (reverse l)) is ∙ (ap (λ l. ds ++ map desk l) (reverse-append rest (w ∷ [])) ∙ sym (append_assoc ds (desk w ∷ []) (map desk (reverse rest)))))
