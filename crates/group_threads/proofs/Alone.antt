@@ -71,7 +71,7 @@ module _ {P : Type 0} where
   -- the hand of the member with this number
   pub hand_at : (hands : List (Hand P)) (n : ℕ) (p : Hand P) → part_of hands n ≡ Some p → (at : ℕ) × ((n ≡ suc at) × (slice_get hands at ≡ Some p))
   hand_at hands zero p is = cc
-  hand_at hands (suc at) p is = (at, refl, is)
+  hand_at hands (suc at) p is = (at, (refl, is))
 
   pub member_is : (hands : List (Hand P)) (at : ℕ) (p : Hand P) → slice_get hands at ≡ Some p → member_at (parts_in hands) at ≡ Some (member_of p.part)
   member_is hands at p is = ap (option_map member_of) (get_map (λ (h : Hand P). h.part) hands at ∙ ap (option_map (λ (h : Hand P). h.part)) is)
@@ -203,6 +203,7 @@ module _ {C D P : Type 0} (directory : C → Directory) (alive : D → Bool) (co
         → (failed ≡ true → Rose (count old.group.disk) (count new.group.disk)) → Left → (takes_alone old fresh event ≡ false → failed ≡ false) → Made → Takes directory alive contents count mid event last
     takes_whole number journal faults rose left missed made =
         let same = taken_alone (suc at) number refl in
+        let there : at ≡ event % 64 - 1 = omega (arith, number) in
         let other : event % 64 ≢ 0 = λ zero_is. (let never : suc at ≡ 0 = sym number ∙ zero_is in cc) in
         record {
           failed = failed;
@@ -213,7 +214,7 @@ module _ {C D P : Type 0} (directory : C → Directory) (alive : D → Bool) (co
           missed = λ not_taken. missed (sym same ∙ not_taken);
           moves = λ is_taken. member_moves directory event mid.crew last.crew last.fault other keeps;
           own = λ is_taken zero_is. absurd (other zero_is);
-          member = λ is_taken is_other. subst (λ k. TakesMember directory alive contents new.group.fault mid.crew mid.disk (k - 1) (event / 64) place failed last.crew last.disk) (sym number) (by_fault new.group.fault (made (sym same ∙ is_taken)));
+          member = λ is_taken is_other. subst (λ k. TakesMember directory alive contents new.group.fault mid.crew mid.disk k (event / 64) place failed last.crew last.disk) there (by_fault new.group.fault (made (sym same ∙ is_taken)));
         }
 
 -- whatever the others are
@@ -227,9 +228,9 @@ steps_hand {C} {D} {P} directory alive contents count old new p q event fresh fa
   later = later;
   takes = λ base hands long mine.
       let h = hand_at hands (event % 64) p mine in
-      subst (λ k. TakesFresh directory alive contents count (whole base old hands) event (whole base new (with_part hands k q))) (sym h.1) (record {
+      subst (λ k. TakesFresh directory alive contents count (whole base old hands) event (whole base new (with_part hands k q))) (sym h.1.0) (record {
         mid = whole base old (slice_set hands h.0 (record p { part = fresh }));
-        looked = looks directory alive contents count old new p q event fresh failed base hands h.0 long h.2 rest same;
-        takes = takes_whole directory alive contents count old new p q event fresh failed base hands h.0 long h.2 rest h.1 journal faults rose left missed made;
+        looked = looks directory alive contents count old new p q event fresh failed base hands h.0 long h.1.1 rest same;
+        takes = takes_whole directory alive contents count old new p q event fresh failed base hands h.0 long h.1.1 rest h.1.0 journal faults rose left missed made;
       });
 }

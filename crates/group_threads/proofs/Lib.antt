@@ -4,3 +4,4 @@ pub mod Alone
 pub mod Entered
 pub mod Staffed
 pub mod Choosing
+pub mod Crossing

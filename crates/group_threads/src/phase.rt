@@ -54,7 +54,17 @@ fn dismiss<D: Disk, C: CacheFace, P: Policy>(
 {
     workers.reverse();
     while let Some(worker) = workers.pop() {
-        desks.push_reserved(worker.into_desk());
+        let Worker {
+            desk,
+            command_number: _,
+            from: _,
+            has_run: _,
+            burst: _,
+            generator: _,
+            asking: _,
+            takes: _,
+        } = worker;
+        desks.push_reserved(desk);
     }
     workers.destroy_empty();
 }

@@ -36,19 +36,19 @@ const TURNS: u64 = 4;
 pub struct Worker<M: Stepping> {
     pub desk: Desk<M>,
     /// How many events of the phase the member has had.
-    command_number: CachePadded<u64>,
+    pub(crate) command_number: CachePadded<u64>,
     /// From which event on it looks for the next.
-    from: u64,
+    pub(crate) from: u64,
     /// Whether it has had an event in this round.
-    has_run: bool,
+    pub(crate) has_run: bool,
     /// How many more events it takes before it passes the floor on.
-    burst: u64,
+    pub(crate) burst: u64,
     /// What it draws from.
-    generator: Generator,
+    pub(crate) generator: Generator,
     /// The choices, by their bits, that wait for answers of others.
-    asking: u32,
+    pub(crate) asking: u32,
     /// How many queries it has taken in a row and not answered.
-    takes: u32,
+    pub(crate) takes: u32,
 }
 
 impl<M: Stepping> Worker<M> {
@@ -65,22 +65,6 @@ impl<M: Stepping> Worker<M> {
             asking: 0,
             takes: 0,
         }
-    }
-
-    pub fn into_desk(self) -> Desk<M>
-        ensures { result ≡ self.desk }
-    {
-        let Worker {
-            desk,
-            command_number: _,
-            from: _,
-            has_run: _,
-            burst: _,
-            generator: _,
-            asking: _,
-            takes: _,
-        } = self;
-        desk
     }
 
     /// Whether it has had an event in this round.

@@ -20,8 +20,8 @@ work_all-requires-clause-at g c κs within =
     (at_desks member_in phase.id phase.start (λ x. x.desk) (λ d. d.seat) (λ d. d.part) w.items 1
     (subst (λ l. AreMembersAt phase l (λ d. d.seat) (λ d. d.part)) (sym c.staff-workers.ensures.desks) c.requires.at)))
 
-pub dismiss-requires-clause-room : goal.dismiss-requires-clause-room
-dismiss-requires-clause-room g c =
+pub dismiss-requires : goal.dismiss-requires
+dismiss-requires g c =
     let w = c.staff-workers.result in
     let same : length c.work_all.new.workers ≡ length w.items = c.work_all.ensures.count ∙ ap length c.as_mut_slice.ensures.value in
     let len : w.len ≡ length w.items = search rules in
@@ -29,7 +29,7 @@ dismiss-requires-clause-room g c =
     let all : length w.items ≡ length c.args.desks.items = sym (length-map w.items (λ x. x.desk)) ∙ ap length c.staff-workers.ensures.desks in
     let room : vec_capacity c.staff-workers.new.desks ≡ vec_capacity c.args.desks = c.staff-workers.ensures.empty.1 in
     let fits : length c.args.desks.items ≤ vec_capacity c.args.desks = search rules in
-    (c.staff-workers.ensures.empty.0, subst (λ n. n ≤ vec_capacity c.staff-workers.new.desks) (sym (ap length whole ∙ (same ∙ all))) (subst (λ n. length c.args.desks.items ≤ n) (sym room) fits))
+    record { room = (c.staff-workers.ensures.empty.0, subst (λ n. n ≤ vec_capacity c.staff-workers.new.desks) (sym (ap length whole ∙ (same ∙ all))) (subst (λ n. length c.args.desks.items ≤ n) (sym room) fits)) }
 
 pub close-requires-clause-count : goal.close-requires-clause-count
 close-requires-clause-count g c =

@@ -1,0 +1,62 @@
+-- The types of a group may cross threads.
+use denote.RattleType.{RattleType}
+use denote.Param.Send.{IsSend, sendable}
+use Rattle.std.proofs.Crossing.{crosses}
+use Rattle.std.proofs.MapsCrossing.{crosses as maps}
+use Rattle.lock_structure.specs.contracts.structure.LockStructure as LockStructure
+use Rattle.list_structure.specs.contracts.lists.Lists as Lists
+use Rattle.member_marks.specs.contracts.marks.Marks as Marks
+use Rattle.member_resources.specs.contracts.resources.Resources as Resources
+use Rattle.group_member.specs.contracts.restarting.Restarting as Restarting
+use Rattle.group_member.specs.contracts.rebuilding.Rebuilding as Rebuilding
+use Rattle.group_member.specs.contracts.part.MemberPart as MemberPart
+use Rattle.group_restart.specs.contracts.machine.GroupRestart as GroupRestart
+use Rattle.script_fates.specs.contracts.fates.Fates as Fates
+use Rattle.ds_model.specs.contracts.script.Script as Script
+use Rattle.trace_words.specs.contracts.line.Line as Line
+use Rattle.facility.specs.contracts.facility.Facility as Facility
+use Rattle.group_threads.specs.contracts.hand.Hand as Hand
+use Rattle.group_threads.specs.contracts.shared.Shared as Shared
+
+pub lists : IsSend Lists.the_row
+lists = search (sendable, crosses, maps) depth 400 fits 200000
+
+-- a chain of records leads back to itself, so that no search ends
+pub lock_structure : IsSend LockStructure.the_row
+lock_structure = ?lock_structure
+
+pub facility : (C : RattleType) → IsSend C → IsSend (Facility.the_row C)
+facility C c = search (lock_structure, lists, sendable, crosses, maps) depth 400 fits 200000
+
+pub marks : IsSend Marks.the_row
+marks = ?marks
+
+pub resources : IsSend Resources.the_row
+resources = search (marks, sendable, crosses, maps) depth 400 fits 200000
+
+pub restarting : IsSend Restarting.the_row
+restarting = ?restarting
+
+pub rebuilding : IsSend Rebuilding.the_row
+rebuilding = search (sendable, crosses, maps) depth 400 fits 200000
+
+pub group_restart : IsSend GroupRestart.the_row
+group_restart = ?group_restart
+
+pub fates : IsSend Fates.the_row
+fates = search (sendable, crosses, maps) depth 400 fits 200000
+
+pub script : IsSend Script.the_row
+script = search (sendable, crosses, maps) depth 400 fits 200000
+
+pub line : IsSend Line.the_row
+line = search (sendable, crosses, maps) depth 400 fits 200000
+
+pub part : (P : RattleType) → IsSend P → IsSend (MemberPart.the_row P)
+part P p = search (resources, restarting, rebuilding, sendable, crosses, maps) depth 400 fits 200000
+
+pub hand : (P : RattleType) → IsSend P → IsSend (Hand.the_row P)
+hand P p = search (resources, restarting, rebuilding, part, sendable, crosses, maps) depth 400 fits 200000
+
+pub shared : (D C P : RattleType) → IsSend D → IsSend C → IsSend P → IsSend (Shared.the_row D C P)
+shared D C P d c p = search (lock_structure, lists, facility, group_restart, fates, script, line, part, resources, restarting, rebuilding, sendable, crosses, maps) depth 400 fits 200000
