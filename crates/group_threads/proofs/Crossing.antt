@@ -1,6 +1,7 @@
 -- The types of a group may cross threads.
 use denote.RattleType.{RattleType}
 use denote.Param.Send.{IsSend, sendable}
+use denote.Struct.Field
 use Rattle.std.proofs.Crossing.{crosses}
 use Rattle.std.proofs.MapsCrossing.{crosses as maps}
 use Rattle.lock_structure.specs.contracts.structure.LockStructure as LockStructure
@@ -15,6 +16,8 @@ use Rattle.script_fates.specs.contracts.fates.Fates as Fates
 use Rattle.ds_model.specs.contracts.script.Script as Script
 use Rattle.trace_words.specs.contracts.line.Line as Line
 use Rattle.facility.specs.contracts.facility.Facility as Facility
+use Rattle.group_crew.specs.contracts.crew.Crew as Crew
+use Rattle.group_core.specs.contracts.group.Group as Group
 use Rattle.group_threads.specs.contracts.hand.Hand as Hand
 use Rattle.group_threads.specs.contracts.shared.Shared as Shared
 
@@ -58,5 +61,20 @@ part P p = search (resources, restarting, rebuilding, sendable, crosses, maps) d
 pub hand : (P : RattleType) → IsSend P → IsSend (Hand.the_row P)
 hand P p = search (resources, restarting, rebuilding, part, sendable, crosses, maps) depth 400 fits 200000
 
+abbrev pub IsSendField : denote.Struct.Field.Field → Type 0
+IsSendField f = IsSend f.row
+
+pub part_field : (P : RattleType) → IsSend P → IsSendField (MemberPart.the_field P)
+part_field P p = search (resources, restarting, rebuilding, sendable, crosses, maps) depth 400 fits 200000
+
+pub facility_field : (C : RattleType) → IsSend C → IsSendField (Facility.the_field C)
+facility_field C c = search (lock_structure, lists, sendable, crosses, maps) depth 400 fits 200000
+
+pub crew : (C P : RattleType) → IsSend C → IsSend P → IsSendField (Crew.the_field C P)
+crew C P c p = search (facility_field, part_field, part, group_restart, fates, script, sendable, crosses, maps) depth 400 fits 200000
+
+pub group : (D C P : RattleType) → IsSend D → IsSend C → IsSend P → IsSendField (Group.the_field D C P)
+group D C P d c p = search (crew, line, sendable, crosses, maps) depth 400 fits 200000
+
 pub shared : (D C P : RattleType) → IsSend D → IsSend C → IsSend P → IsSend (Shared.the_row D C P)
-shared D C P d c p = search (lock_structure, lists, facility, group_restart, fates, script, line, part, resources, restarting, rebuilding, sendable, crosses, maps) depth 400 fits 200000
+shared D C P d c p = search (group, sendable, crosses, maps) depth 400 fits 200000

@@ -119,9 +119,9 @@ module _ {C D P : Type 0} (directory : C → Directory) (alive : D → Bool) (co
   -- ---- the event with its number
 
   module _ (count : D → ℕ) (old mid after new : Shared D C P) (p q : Hand P) (fresh : MemberPart P) (event place : ℕ) (failed : Bool) (stands : place ≡ length mid.group.journal.items)
-    (begins : mid ≡ record old { group = record old.group { journal = mid.group.journal; lines = mid.group.lines; faults = mid.group.faults }; stale = mid.stale })
-    (takes : TakesAlone directory alive contents mid fresh event place after q.part failed)
-    (ends : new ≡ record after { group = record after.group { faults = new.group.faults } }) where
+      (begins : mid ≡ record old { group = record old.group { journal = mid.group.journal; lines = mid.group.lines; faults = mid.group.faults }; stale = mid.stale })
+      (takes : TakesAlone directory alive contents mid fresh event place after q.part failed)
+      (ends : new ≡ record after { group = record after.group { faults = new.group.faults } }) where
     event_rest : Rest directory alive contents count old new p q event fresh failed
     event_rest = λ i. record new.group {
       crew = record new.group.crew {

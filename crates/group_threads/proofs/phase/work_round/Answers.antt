@@ -2,7 +2,8 @@ use Rattle.std.proofs.Common.{rules, ◌≡◌, ◌+◌, ◌<◌, ◌≤◌, len
 use denote.Param.Send.{sendable}
 use Rattle.std.proofs.Crossing.{crosses}
 use Rattle.std.proofs.MapsCrossing.{crosses as maps}
-use Rattle.group_threads.proofs.Crossing.{part, hand, shared, resources, restarting, rebuilding, facility, lock_structure, lists, group_restart, fates, script, line}
+use Rattle.group_threads.proofs.Crossing.{hand, shared}
+use Rattle.group_threads.proofs.hall.Hall.TheSendSync.{the_sync as hall_sync}
 use Rattle.atomic_table.proofs.shared.Seat.TheSendSync.{the_send as place_send}
 use Rattle.atomic_table.proofs.shared.Shared.TheSendSync.{the_sync as table_sync}
 use Rattle.turn_story.proofs.history.History.TheSendSync.{the_send as history_send}
@@ -16,7 +17,7 @@ for_each_mut-requires-send-T g c κs within =
     let d = c.type_bounds.send-D in
     let e = c.type_bounds.send-C in
     let p = c.type_bounds.send-P in
-    search (shared, hand, part, resources, restarting, rebuilding, facility, lock_structure, lists, group_restart, fates, script, line, sendable, crosses, maps, place_send, history_send) depth 400 fits 200000
+    search (shared, hand, sendable, crosses, maps, place_send, history_send) depth 400 fits 200000
 
 pub for_each_mut-requires-sync-F : goal.for_each_mut-requires-sync-F
 unfolding types.Keyed.entry denote.Memory.part_of
@@ -26,7 +27,7 @@ for_each_mut-requires-sync-F g c κs within =
     let p = c.type_bounds.send-P in
     let r = c.type_bounds.sync-R in
     let h = c.type_bounds.sync-G in
-    search (shared, hand, part, resources, restarting, rebuilding, facility, lock_structure, lists, group_restart, fates, script, line, sendable, crosses, maps, place_send, table_sync, history_send) depth 400 fits 200000
+    search (shared, hand, sendable, crosses, maps, place_send, table_sync, history_send, hall_sync) depth 400 fits 200000
 
 pub for_each_mut-requires-clause-accepts : goal.for_each_mut-requires-clause-accepts
 for_each_mut-requires-clause-accepts g c κs within i p less is =
