@@ -4,14 +4,10 @@ use denote.Param.Send.{IsSend, sendable}
 use denote.Struct.Field
 use Rattle.std.proofs.Crossing.{crosses}
 use Rattle.std.proofs.MapsCrossing.{crosses as maps}
-use Rattle.lock_structure.specs.contracts.structure.LockStructure as LockStructure
 use Rattle.list_structure.specs.contracts.lists.Lists as Lists
-use Rattle.member_marks.specs.contracts.marks.Marks as Marks
 use Rattle.member_resources.specs.contracts.resources.Resources as Resources
-use Rattle.group_member.specs.contracts.restarting.Restarting as Restarting
 use Rattle.group_member.specs.contracts.rebuilding.Rebuilding as Rebuilding
 use Rattle.group_member.specs.contracts.part.MemberPart as MemberPart
-use Rattle.group_restart.specs.contracts.machine.GroupRestart as GroupRestart
 use Rattle.script_fates.specs.contracts.fates.Fates as Fates
 use Rattle.ds_model.specs.contracts.script.Script as Script
 use Rattle.trace_words.specs.contracts.line.Line as Line
@@ -20,31 +16,20 @@ use Rattle.group_crew.specs.contracts.crew.Crew as Crew
 use Rattle.group_core.specs.contracts.group.Group as Group
 use Rattle.group_threads.specs.contracts.hand.Hand as Hand
 use Rattle.group_threads.specs.contracts.shared.Shared as Shared
+use Rattle.group_threads.proofs.Recorded.{structure_send as lock_structure}
+use Rattle.group_threads.proofs.Marked.{marks_send as marks, restarting_send as restarting, group_send as group_restart}
 
 pub lists : IsSend Lists.the_row
 lists = search (sendable, crosses, maps) depth 400 fits 200000
 
--- a chain of records leads back to itself, so that no search ends
-pub lock_structure : IsSend LockStructure.the_row
-lock_structure = ?lock_structure
-
 pub facility : (C : RattleType) → IsSend C → IsSend (Facility.the_row C)
 facility C c = search (lock_structure, lists, sendable, crosses, maps) depth 400 fits 200000
-
-pub marks : IsSend Marks.the_row
-marks = ?marks
 
 pub resources : IsSend Resources.the_row
 resources = search (marks, sendable, crosses, maps) depth 400 fits 200000
 
-pub restarting : IsSend Restarting.the_row
-restarting = ?restarting
-
 pub rebuilding : IsSend Rebuilding.the_row
 rebuilding = search (sendable, crosses, maps) depth 400 fits 200000
-
-pub group_restart : IsSend GroupRestart.the_row
-group_restart = ?group_restart
 
 pub fates : IsSend Fates.the_row
 fates = search (sendable, crosses, maps) depth 400 fits 200000

@@ -6,6 +6,7 @@ use Rattle.group_threads.proofs.Crossing.{hand, shared}
 use Rattle.group_threads.proofs.hall.Hall.TheSendSync.{the_sync as hall_sync}
 use Rattle.atomic_table.proofs.shared.Seat.TheSendSync.{the_send as place_send}
 use Rattle.atomic_table.proofs.shared.Shared.TheSendSync.{the_sync as table_sync}
+use Rattle.atomic_table.proofs.send_lease.SendLease.TheSendSync.{the_sync as lease_sync}
 use Rattle.turn_story.proofs.history.History.TheSendSync.{the_send as history_send}
 use Rattle.turn_story.proofs.Rows.{moved, at_place, from_places}
 use Rattle.group_threads.specs.Desks.{IsMemberAt, member_in}
@@ -27,7 +28,7 @@ for_each_mut-requires-sync-F g c κs within =
     let p = c.type_bounds.send-P in
     let r = c.type_bounds.sync-R in
     let h = c.type_bounds.sync-G in
-    search (shared, hand, sendable, crosses, maps, place_send, table_sync, history_send, hall_sync) depth 400 fits 200000
+    search (shared, hand, sendable, crosses, maps, place_send, table_sync, lease_sync, history_send, hall_sync) depth 400 fits 200000
 
 pub for_each_mut-requires-clause-accepts : goal.for_each_mut-requires-clause-accepts
 for_each_mut-requires-clause-accepts g c κs within i p less is =
