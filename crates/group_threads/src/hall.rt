@@ -80,10 +80,13 @@ impl Hall {
         self.entered.load(Ordering::SeqCst) == self.count
     }
 
-    /// A thread begins. It waits a little for the others.
+    /// A thread begins. It waits a little for the others, and the last one wakes them.
     pub fn enter<R: Wait>(&self, rt: &R) {
-        self.entered.fetch_add(1, Ordering::SeqCst);
-        self.entered.wake_all();
+        let others = self.entered.fetch_add(1, Ordering::SeqCst);
+        if others.wrapping_add(1) == self.count {
+            self.entered.wake_all();
+            return;
+        }
         let patience = self.patience.load(Ordering::SeqCst);
         for _ in 0..patience {
             let entered = self.entered.load(Ordering::SeqCst);
