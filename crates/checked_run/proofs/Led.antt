@@ -1,6 +1,6 @@
 -- Where the journal of a run leads.
-use Rattle.std.proofs.Common.{◌≡◌, inl, inr, ℕ, ◌<◌, Bool, List, [], ◌++◌, length, Option, Result, Ok, Err, IsErr, refl, sym, ap, subst, ◌∙◌, arith, length-append, ◌+◌}
-use Rattle.std.specs.Prelude.{Vec}
+use Rattle.std.proofs.Common.{◌≡◌, inl, inr, ℕ, ◌<◌, Bool, List, [], ◌++◌, length, Option, Some, None, Result, Ok, Err, IsErr, refl, sym, ap, subst, ◌∙◌, arith, length-append, ◌+◌}
+use Rattle.std.specs.Prelude.{Vec, IfSome, IfOk, OnOk}
 use Rattle.std.specs.declared.alloc.Global.{Global}
 use Rattle.ds_base.specs.declared.fault.NoMemory.{NoMemory}
 use Rattle.ds_disk.specs.Contents.{Contents}
@@ -12,12 +12,15 @@ use Rattle.group_core.specs.declared.group.Group.{Group}
 use Rattle.group_core.specs.declared.fault.RunFault.{RunFault}
 use Rattle.group_core.specs.declared.schedule.RunEnd.{RunEnd}
 use Rattle.group_core.specs.Ends.{Ends}
-use Rattle.group_core.specs.Runs.{Draws, Runs, RunsOn}
+use Rattle.group_core.specs.Goes.{Goes}
+use Rattle.group_core.specs.Runs.{Draws, RunsOn}
+use Rattle.group_threads.specs.Fresh.{RunsFresh, RunsFrom}
+use Rattle.group_threads.proofs.Looked.{runs_plain}
 use Rattle.checked_run.specs.declared.account.Account.{Account}
 use Rattle.checked_run.specs.declared.ended.Ended.{Ended}
 use Rattle.checked_run.specs.declared.ended.Ended.TheVariants as ended
 use Rattle.checked_run.specs.Accounts.{account_of}
-use Rattle.checked_run.specs.Leading.{Begins, LeadsFrom, Came, ComesTo}
+use Rattle.checked_run.specs.Leading.{Begins, LeadsFrom, RunsBy, Came, ComesTo}
 
 -- a list in memory has fewer elements than an index can count
 short : (v : Vec ℕ Global) → length v.items < 18446744073709551615
@@ -29,18 +32,45 @@ unspent v old events is all =
     let long : length v.items ≡ length old + length events = ap length is ∙ length-append old events in
     omega (arith, short v, long, all)
 
+-- where there is a seed, each event was drawn by a generator with it
+abbrev DrawnBy : {C D P : Type 0} → (C → Directory) → (D → Bool) → (D → Option Contents) → (D → ℕ) → Group D C P → Group D C P → List ℕ → Option ℕ → Type 0
+DrawnBy {C} {D} {P} directory alive contents count old new events seed = IfSome seed (λ s. (after : ℕ) × Draws directory alive contents count old s events new after)
+
+-- with a thread for each member there is none
+pub by_threads : {C D P : Type 0} (directory : C → Directory) (alive : D → Bool) (contents : D → Option Contents) (count : D → ℕ) (old new : Group D C P) (seed : Option ℕ) (end : Result RunEnd NoMemory)
+    → seed ≡ None → OnOk end (RunsFrom directory alive contents count old new) → OnOk end (RunsBy directory alive contents count old seed new)
+by_threads {C} {D} {P} directory alive contents count old new seed (Ok e) none from = record {
+  from = from;
+  drawn = subst (DrawnBy directory alive contents count old new from.events) (sym none) tt;
+}
+by_threads {C} {D} {P} directory alive contents count old new seed (Err why) none from = tt
+
+-- by the schedule of a seed
+pub by_seed : {C D P : Type 0} (directory : C → Directory) (alive : D → Bool) (contents : D → Option Contents) (count : D → ℕ) (old new : Group D C P) (seed : Option ℕ) (s begun most after : ℕ) (end : Result RunEnd NoMemory)
+    → seed ≡ Some s → begun ≡ s → Goes (count old.disk) old.faults.items old.fault (count new.disk) new.faults.items new.fault
+    → IfOk end (λ e. RunsOn directory alive contents count old begun most e new after) → OnOk end (RunsBy directory alive contents count old seed new)
+by_seed {C} {D} {P} directory alive contents count old new seed s begun most after (Ok e) is same goes ran = record {
+  from = record {
+    events = ran.events;
+    journal = ran.journal;
+    runs = runs_plain directory alive contents count ran.events old new ran.runs;
+    goes = goes;
+  };
+  drawn = subst (DrawnBy directory alive contents count old new ran.events) (sym is) (after, subst (λ (n : ℕ). Draws directory alive contents count old n ran.events new after) same ran.draws);
+}
+by_seed {C} {D} {P} directory alive contents count old new seed s begun most after (Err why) is same goes ran = tt
+
 -- what a group leaves is that of the group to which its journal leads
-pub led : {C D P : Type 0} (directory : C → Directory) (alive : D → Bool) (contents : D → Option Contents) (count : D → ℕ) (script : Script) (start last : Group D C P) (seed most after : ℕ) (end : RunEnd) (account : Account) (played : Played)
-    → Begins directory script start → RunsOn directory alive contents count start seed most end last after → Ends end last → account ≡ account_of played
+pub led : {C D P : Type 0} (directory : C → Directory) (alive : D → Bool) (contents : D → Option Contents) (count : D → ℕ) (script : Script) (start last : Group D C P) (seed : Option ℕ) (end : RunEnd) (account : Account) (played : Played)
+    → Begins directory script start → RunsBy directory alive contents count start seed last → Ends end last → account ≡ account_of played
     → played.journal.items ≡ last.journal.items → played.faults.items ≡ last.faults.items → played.causes.items ≡ last.crew.fates.causes → played.entries.items ≡ last.crew.fates.entries → played.fault ≡ last.fault
     → LeadsFrom directory alive contents count start seed account end played.fault played.entries.items
-led {C} {D} {P} directory alive contents count script start last seed most after end account played begins ran ends same journal faults causes entries why =
-    let events : account.journal ≡ ran.events = ap (λ (a : Account). a.journal) same ∙ (journal ∙ (ran.journal ∙ ap (λ (es : List ℕ). es ++ ran.events) begins.journal)) in
+led {C} {D} {P} directory alive contents count script start last seed end account played begins ran ends same journal faults causes entries why =
+    let events : account.journal ≡ ran.from.events = ap (λ (a : Account). a.journal) same ∙ (journal ∙ (ran.from.journal ∙ ap (λ (es : List ℕ). es ++ ran.from.events) begins.journal)) in
     record {
       last = last;
-      after = after;
-      runs = subst (λ (es : List ℕ). Runs directory alive contents count start es last) (sym events) ran.runs;
-      draws = subst (λ (es : List ℕ). Draws directory alive contents count start seed es last after) (sym events) ran.draws;
+      runs = subst (λ (es : List ℕ). RunsFresh directory alive contents count start es last) (sym events) ran.from.runs;
+      draws = subst (λ (es : List ℕ). IfSome seed (λ s. (after : ℕ) × Draws directory alive contents count start s es last after)) (sym events) ran.drawn;
       ends = ends;
       fault_is = sym why;
       entries_are = sym entries;

@@ -3,3 +3,4 @@ pub mod Settling
 pub mod Going
 pub mod Led
 pub mod Opened
+pub mod Crossing

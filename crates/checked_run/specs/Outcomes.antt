@@ -48,7 +48,7 @@ ComesFrom rows before now account Keeps (outcome.Opened opening ended) = (openin
 
 -- A script was played from these rows, and what came of it is what the end comes to to which its journal leads. `was` is what the disk
 -- told before.
-pub record Plays (kind : Kind) (script : Script) (seed : ℕ) (traced : Bool) (was : Option Contents) (before now : ℕ) (after : Option Contents) (account : Account) (rows : List Row) (ended : Ended) : Type 0 where
+pub record Plays (kind : Kind) (script : Script) (seed : Option ℕ) (traced : Bool) (was : Option Contents) (before now : ℕ) (after : Option Contents) (account : Account) (rows : List Row) (ended : Ended) : Type 0 where
   pub opening : Opening
   pub opens : WhenTold was (λ c. OpensAs c opening)
   pub rows_are : opening.rows ≡ rows

@@ -1,10 +1,12 @@
-ghost use Rattle.std.specs.Prelude.{◌≡◌, ◌≤◌, IfOk, IfErr};
+ghost use Rattle.std.specs.Prelude.{◌≡◌, ◌≢◌, ◌≤◌, Ok, IfOk, OnOk, IfErr};
 ghost use Rattle.cache_structure.specs.State.{directory_of};
 ghost use Rattle.ds_disk.specs.Contents.{Becomes};
 ghost use Rattle.ds_model.specs.Rows.{AreSorted};
 ghost use Rattle.disk_restart.specs.Keeping.{KeepsRecords};
 ghost use Rattle.group_core.specs.declared.fault.RunFault.TheVariants as fault;
-ghost use Rattle.checked_run.specs.Leading.{Begins, ComesTo, Leads, LeadsFrom, kind_of};
+ghost use Rattle.group_core.specs.declared.schedule.RunEnd.TheVariants as ends;
+ghost use Rattle.group_core.specs.Ends.{Ends};
+ghost use Rattle.checked_run.specs.Leading.{Begins, ComesTo, Leads, LeadsFrom, RunsBy, kind_of};
 ghost use Rattle.checked_run.specs.Outcomes.{Comes, ComesFrom, HasCause, IsLeft, Plays};
 ghost use Rattle.checked_run.specs.Settled.{Settles};
 ghost use Rattle.checked_run.specs.Told.{TellsAlways};
@@ -17,13 +19,16 @@ use crate::settle::settle;
 use cache_structure::Cache;
 use disk_restart::keeping_laws;
 use draw_generator::Generator;
-use ds_base::Sizes;
+use ds_base::{NoMemory, Sizes};
 use ds_disk::Disk;
 use ds_model::Script;
-use group_core::{Group, RunFault, StartFault, run_one_thread};
+use group_core::{Group, RunEnd, RunFault, StartFault, run_one_thread};
+use group_threads::{Gate, run_threads};
 use member_resources::Policy;
 use opening_rows::{Opening, read_opening};
 use std::alloc::Global;
+use std::sync::Wait;
+use std::thread::Threads;
 
 fn no_memory<D>(disk: D) -> StartFault<D>
     ensures { result ≡ record { disk = disk; why = fault.NoMemory } }
@@ -64,13 +69,38 @@ fn begin<D: Disk, P: Policy + Drop>(
     Ok(group)
 }
 
-// Plays to the end, closes the disk, and settles what the run came to.
-fn finish<D: Disk, P: Policy + Drop>(
+// Plays to the end: by the schedule of a seed, or with a thread for each member of a phase.
+fn play_to_end<R: Threads + Wait + Sync, D: Disk + Send, P: Policy + Drop + Send, G: Gate + Sync>(
+    rt: &R,
     alloc: Global,
     mut group: Group<D, Cache, P>,
+    seed: Option<u64>,
+    gate: &G,
+) -> (Group<D, Cache, P>, Result<RunEnd, NoMemory>)
+    ensures ends { IfOk result.1 (λ end. Ends end result.0) }
+    ensures unspent { result.1 ≢ Ok ends.Spent }
+    ensures runs { OnOk result.1 (RunsBy directory_of D.alive D.contents D.faults group seed result.0) }
+    ensures later { D.faults group.disk ≤ D.faults result.0.disk }
+{
+    match seed {
+        None => run_threads(rt, alloc, group, gate),
+        Some(seed) => {
+            let mut generator = Generator::new(seed);
+            let end = run_one_thread(alloc, &mut group, &mut generator, u64::MAX);
+            (group, end)
+        }
+    }
+}
+
+// Plays to the end, closes the disk, and settles what the run came to.
+fn finish<R: Threads + Wait + Sync, D: Disk + Send, P: Policy + Drop + Send, G: Gate + Sync>(
+    rt: &R,
+    alloc: Global,
+    group: Group<D, Cache, P>,
     script: &Script,
     opening: &Opening,
-    seed: u64,
+    seed: Option<u64>,
+    gate: &G,
     is_traced: bool,
 ) -> (D, Account, Ended)
     requires begins { Begins directory_of script.now group }
@@ -81,8 +111,7 @@ fn finish<D: Disk, P: Policy + Drop>(
         result.2 }
     ensures later { D.faults group.disk ≤ D.faults result.0 }
 {
-    let mut generator = Generator::new(seed);
-    let end = run_one_thread(alloc, &mut group, &mut generator, u64::MAX);
+    let (group, end) = play_to_end(rt, alloc, group, seed, gate);
     let (mut disk, played, closed) = group.close(alloc);
     let (account, ended) = settle(
         alloc, &mut disk, script, opening, played, end, closed, is_traced,
@@ -91,14 +120,16 @@ fn finish<D: Disk, P: Policy + Drop>(
 }
 
 // Plays a script on a disk whose logs were read.
-fn play_from<D: Disk, P: Policy + Drop>(
+fn play_from<R: Threads + Wait + Sync, D: Disk + Send, P: Policy + Drop + Send, G: Gate + Sync>(
+    rt: &R,
     alloc: Global,
     disk: D,
     opening: Opening,
     script: &Script,
     sizes: &Sizes,
     members: Vec<P>,
-    seed: u64,
+    seed: Option<u64>,
+    gate: &G,
     is_traced: bool,
 ) -> Ran<D>
     requires sizes { (1 ≤ sizes.now.locks) × (1 ≤ sizes.now.pool) }
@@ -113,7 +144,9 @@ fn play_from<D: Disk, P: Policy + Drop>(
 {
     match begin(alloc, disk, script, sizes, members, is_traced) {
         Ok(group) => {
-            let (disk, account, ended) = finish(alloc, group, script, &opening, seed, is_traced);
+            let (disk, account, ended) = finish(
+                rt, alloc, group, script, &opening, seed, gate, is_traced,
+            );
             Ran {
                 disk,
                 outcome: Outcome::Opened {
@@ -131,21 +164,28 @@ fn play_from<D: Disk, P: Policy + Drop>(
     }
 }
 
-/// Plays a script with these members, by the schedule of this seed: reads the logs as they stand, opens the disk by a group
-/// restart, plays, closes the disk by another, and holds the report against the script, the rows for which the logs stood at
-/// first, and the logs that are read back.
+/// Plays a script with these members, by the schedule of this seed, or without one with a thread for each member of a phase: reads
+/// the logs as they stand, opens the disk by a group restart, plays, closes the disk by another, and holds the report against the
+/// script, the rows for which the logs stood at first, and the logs that are read back.
 ///
 /// Where a call of the disk has failed the logs may not be read back: then the report is held against script and rows alone. It is
 /// told so only where two calls have failed: where the first is one of the reading, the logs are read once more.
 ///
 /// The account is that of the group to which its journal leads, and the report tells the fates of that group's transactions.
-pub fn run_script<D: Disk, P: Policy + Drop>(
+pub fn run_script<
+    R: Threads + Wait + Sync,
+    D: Disk + Send,
+    P: Policy + Drop + Send,
+    G: Gate + Sync,
+>(
+    rt: &R,
     alloc: Global,
     mut disk: D,
     script: &Script,
     sizes: &Sizes,
     members: Vec<P>,
-    seed: u64,
+    seed: Option<u64>,
+    gate: &G,
     is_traced: bool,
 ) -> Ran<D>
     requires { (1 ≤ sizes.now.locks) × (1 ≤ sizes.now.pool) }
@@ -163,7 +203,7 @@ pub fn run_script<D: Disk, P: Policy + Drop>(
             account: no_account(alloc),
         },
         Ok(opening) => play_from(
-            alloc, disk, opening, script, sizes, members, seed, is_traced,
+            rt, alloc, disk, opening, script, sizes, members, seed, gate, is_traced,
         ),
     }
 }

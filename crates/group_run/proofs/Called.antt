@@ -26,7 +26,7 @@ use Rattle.group_run.specs.declared.prepare.Setting.{Setting}
 use Rattle.group_run.specs.declared.prepare.Prepared.TheVariants as prepared
 use Rattle.group_run.specs.declared.telling.Telling.{Telling}
 use Rattle.group_run.specs.Outside.{Outside, DiskIsUntouched}
-use Rattle.group_run.specs.Prepares.{IsPrepared, ReadsNothing, seed_of, setting_of}
+use Rattle.group_run.specs.Prepares.{IsPrepared, ReadsNothing, setting_of}
 use Rattle.group_run.specs.Reports.{empty_report}
 use Rattle.group_run.specs.Statuses.{short_text}
 use Rattle.group_run.specs.Read.{IsRead}
@@ -219,13 +219,13 @@ of_outcome kind o before after account Keeps (outcome.Opened rows end) opened op
 
 -- ---- what is known of a report that is told
 
-played_status : (kind : Kind) (script : Script) (seed : ℕ) (trace : Bool) (before after : Outside) (account : Account) (rows : List Row) → HasStatus (PlaysFrom kind script seed trace before after account rows)
+played_status : (kind : Kind) (script : Script) (seed : Option ℕ) (trace : Bool) (before after : Outside) (account : Account) (rows : List Row) → HasStatus (PlaysFrom kind script seed trace before after account rows)
 played_status kind script seed trace before after account rows report plays = elim plays.comes [
   | inl none ↦ (let f : ending.Told report ≡ ending.NoMemory = none in cc)
   | inr came ↦ came.settles.told.status
 ]
 
-played_unfailed : (kind : Kind) (script : Script) (seed : ℕ) (trace : Bool) (before after : Outside) (account : Account) (rows : List Row) → IsUnfailed (PlaysFrom kind script seed trace before after account rows) account
+played_unfailed : (kind : Kind) (script : Script) (seed : Option ℕ) (trace : Bool) (before after : Outside) (account : Account) (rows : List Row) → IsUnfailed (PlaysFrom kind script seed trace before after account rows) account
 played_unfailed kind script seed trace before after account rows report plays zero = elim plays.comes [
   | inl none ↦ (let f : ending.Told report ≡ ending.NoMemory = none in cc)
   | inr came ↦ came.settles.told.unfailed zero
@@ -246,23 +246,23 @@ same_work n k given setting e = cc
 same_setting : (n k : ℕ) (given setting : Setting) → prepared.Work n given ≡ prepared.Work k setting → given ≡ setting
 same_setting n k given setting e = cc
 
-pub work_by : (o : Option Order) (n : ℕ) (given : Setting) (a b : Option (List ℕ)) (f g : ℕ) → IsPrepared o (prepared.Work n given) a b f g → AreSizes given.sizes × ((given.trace ≡ false) × (given.seed ≡ n))
+pub work_by : (o : Option Order) (n : ℕ) (given : Setting) (a b : Option (List ℕ)) (f g : ℕ) → IsPrepared o (prepared.Work n given) a b f g → AreSizes given.sizes × ((given.trace ≡ false) × (given.seed ≡ Some n))
 work_by None n given a b f g h = let f : prepared.Work n given ≡ prepared.Ended status.WordsRefused = h in cc
 work_by (Some (order.Play sizes seed trace)) n given a b f g h = absurd h
 work_by (Some order.Show) n given a b f g h = let f : prepared.Work n given ≡ prepared.Show = h in cc
 work_by (Some (order.Make k)) n given a b f g h = let f : prepared.Work n given ≡ prepared.Make k = h in cc
 work_by (Some (order.Work k sizes)) n given a b f g h =
     let e = same_setting n k given (setting_of sizes (Some k) false) h.0 in
-    (subst (λ (s : Setting). AreSizes s.sizes) (sym e) h.1, (ap (λ (s : Setting). s.trace) e, ap (λ (s : Setting). s.seed) e ∙ sym (same_work n k given (setting_of sizes (Some k) false) h.0)))
+    (subst (λ (s : Setting). AreSizes s.sizes) (sym e) h.1, (ap (λ (s : Setting). s.trace) e, ap (λ (s : Setting). s.seed) e ∙ ap Some (sym (same_work n k given (setting_of sizes (Some k) false) h.0))))
 
 play_opens : (kind : Kind) (sizes : Sizes) (seed : Option ℕ) (trace : Bool) (before after : Outside) (account : Account) (script : Script) → IsRead sizes.members before.left after.left script
-    → Opens kind (Some (order.Play sizes seed trace)) before after account (PlaysFrom kind script (seed_of seed) trace before after account)
+    → Opens kind (Some (order.Play sizes seed trace)) before after account (PlaysFrom kind script seed trace before after account)
 play_opens kind sizes seed trace before after account script ready = record {
   met = λ met is. inr ((script, ready), is);
   texts = λ met. refl;
   runs = λ rows met report run. (script, ready, run);
-  has_status = played_status kind script (seed_of seed) trace before after account;
-  unfailed = played_unfailed kind script (seed_of seed) trace before after account;
+  has_status = played_status kind script seed trace before after account;
+  unfailed = played_unfailed kind script seed trace before after account;
   unplayed = λ none. absurd none;
   touches = λ none. none;
   unread = λ none. absurd none;
@@ -281,20 +281,20 @@ show_opens kind before after account none same = record {
 }
 
 work_opens : (kind : Kind) (n : ℕ) (sizes : Sizes) (before after : Outside) (account : Account) → after.left ≡ before.left
-    → Opens kind (Some (order.Work n sizes)) before after account (PlaysFrom kind (made n) n false before after account)
+    → Opens kind (Some (order.Work n sizes)) before after account (PlaysFrom kind (made n) (Some n) false before after account)
 work_opens kind n sizes before after account same = record {
   met = λ met is. is;
   texts = λ met. refl;
   runs = λ rows met report run. run;
-  has_status = played_status kind (made n) n false before after account;
-  unfailed = played_unfailed kind (made n) n false before after account;
+  has_status = played_status kind (made n) (Some n) false before after account;
+  unfailed = played_unfailed kind (made n) (Some n) false before after account;
   unplayed = λ none. absurd none;
   touches = λ none. none;
   unread = λ none. same;
 }
 
 -- what a script came to that was played, and how the disk has gone on
-abbrev pub CameOf : Kind → Script → ℕ → Bool → Outside → Outside → Account → Outcome → Type 0
+abbrev pub CameOf : Kind → Script → Option ℕ → Bool → Outside → Outside → Account → Outcome → Type 0
 CameOf kind script seed trace before after account out = Comes before.contents before.disk_faults after.disk_faults account (PlaysFrom kind script seed trace before after account) out
 
 pub plays : (kind : Kind) (o : Option Order) (before after : Outside) (account : Account) (script : Script) (given : Setting) (out : Outcome) (opened : Bool) (opening : List Row) (t : Telling)
@@ -304,7 +304,7 @@ pub plays : (kind : Kind) (o : Option Order) (before after : Outside) (account :
 plays kind None before after account script given out opened opening t h comes told = let f : prepared.Play script given ≡ prepared.Ended status.WordsRefused = h in cc
 plays kind (Some (order.Play sizes seed trace)) before after account script given out opened opening t h comes told =
     let its = subst (λ (s : Setting). CameOf kind script s.seed s.trace before after account out) h.1 comes in
-    of_outcome kind (Some (order.Play sizes seed trace)) before after account (PlaysFrom kind script (seed_of seed) trace before after account) out opened opening t (play_opens kind sizes seed trace before after account script h.0) its told
+    of_outcome kind (Some (order.Play sizes seed trace)) before after account (PlaysFrom kind script seed trace before after account) out opened opening t (play_opens kind sizes seed trace before after account script h.0) its told
 plays kind (Some order.Show) before after account script given out opened opening t h comes told = let f : prepared.Play script given ≡ prepared.Show = h in cc
 plays kind (Some (order.Make n)) before after account script given out opened opening t h comes told = let f : prepared.Play script given ≡ prepared.Make n = h in cc
 plays kind (Some (order.Work n sizes)) before after account script given out opened opening t h comes told = let f : prepared.Play script given ≡ prepared.Work n (setting_of sizes (Some n) false) = h.0 in cc
@@ -329,9 +329,9 @@ works kind (Some order.Show) before after account n given opened opening t h unr
 works kind (Some (order.Make k)) before after account n given opened opening t h unread does = let f : prepared.Work n given ≡ prepared.Make k = h in cc
 works kind (Some (order.Work k sizes)) before after account n given opened opening t h unread does =
     let e = same_work n k given (setting_of sizes (Some k) false) h.0 in
-    let its = subst (λ (i : ℕ). CameOf kind (made i) i false before after account does.outcome) e does.comes in
+    let its = subst (λ (i : ℕ). CameOf kind (made i) (Some i) false before after account does.outcome) e does.comes in
     let told = subst (λ (i : ℕ). TellsOutcome (Some i) does.outcome opened opening t) e does.told_is in
-    of_outcome kind (Some (order.Work k sizes)) before after account (PlaysFrom kind (made k) k false before after account) does.outcome opened opening t (work_opens kind k sizes before after account (unread tt)) its told
+    of_outcome kind (Some (order.Work k sizes)) before after account (PlaysFrom kind (made k) (Some k) false before after account) does.outcome opened opening t (work_opens kind k sizes before after account (unread tt)) its told
 
 -- ---- no call meets a failed sink
 

@@ -22,7 +22,7 @@ use Rattle.group_run.specs.declared.status.Status.TheVariants as status
 use Rattle.group_run.specs.Statuses.{short_text}
 use Rattle.group_run.specs.Outside.{Outside, DiskIsUntouched}
 use Rattle.group_run.specs.Read.{IsRead}
-use Rattle.group_run.specs.Prepares.{MetBySource, ReadsNothing, seed_of}
+use Rattle.group_run.specs.Prepares.{MetBySource, ReadsNothing}
 use Rattle.group_run.specs.Reports.{empty_report}
 use Rattle.group_run.specs.Tellings.{told_text, TellsOutcome}
 use Rattle.group_run.specs.declared.telling.Telling.{Telling}
@@ -70,7 +70,7 @@ RunsTo Keeps (status.Damaged volume at) report = Keeps (ending.Damaged volume at
 RunsTo Keeps (status.SelfCheckFailed event) report = Keeps (ending.Unsound event) × (report ≡ empty_report 11)
 
 -- what a script comes to that is played by this seed from these rows
-abbrev pub PlaysFrom : Kind → Script → ℕ → Bool → Outside → Outside → Account → List Row → Ended → Type 0
+abbrev pub PlaysFrom : Kind → Script → Option ℕ → Bool → Outside → Outside → Account → List Row → Ended → Type 0
 PlaysFrom kind script seed trace before after account opening = Plays kind script seed trace before.contents before.disk_faults after.disk_faults after.contents account opening
 
 -- The script that was read, or that of the number, was played: its journal leads to the end of the script, and a report tells the fates to
@@ -79,10 +79,10 @@ PlaysFrom kind script seed trace before after account opening = Plays kind scrip
 abbrev pub RanBy : Kind → Option Order → Status → Outside → Outside → List Row → Account → Report → Type 0
 RanBy kind None met before after opening account report = ⊥
 RanBy kind (Some (order.Play sizes seed trace)) met before after opening account report =
-    (script : Script) × IsRead sizes.members before.left after.left script × RunsTo (PlaysFrom kind script (seed_of seed) trace before after account opening) met report
+    (script : Script) × IsRead sizes.members before.left after.left script × RunsTo (PlaysFrom kind script seed trace before after account opening) met report
 RanBy kind (Some order.Show) met before after opening account report = RunsTo (Shows before.disk_faults after.disk_faults opening) met report
 RanBy kind (Some (order.Make n)) met before after opening account report = ⊥
-RanBy kind (Some (order.Work n sizes)) met before after opening account report = RunsTo (PlaysFrom kind (made n) n false before after account opening) met report
+RanBy kind (Some (order.Work n sizes)) met before after opening account report = RunsTo (PlaysFrom kind (made n) (Some n) false before after account opening) met report
 
 -- ---- what is written
 
@@ -125,7 +125,7 @@ pub record Tells (met ended : Status) (text : List ℕ) (taken taken_now : Optio
 -- what became of a disk that told this and had failed so often, and what is told of it
 pub record Works (kind : Kind) (n : ℕ) (was : Option Contents) (before now : ℕ) (after : Option Contents) (opened : Bool) (opening : List Row) (account : Account) (told : Telling) : Type 0 where
   pub outcome : Outcome
-  pub comes : Comes was before now account (Plays kind (made n) n false was before now after account) outcome
+  pub comes : Comes was before now account (Plays kind (made n) (Some n) false was before now after account) outcome
   pub told_is : TellsOutcome (Some n) outcome opened opening told
 
 -- ---- how a call ends

@@ -20,13 +20,9 @@ use Rattle.group_run.specs.Read.{IsRead}
 abbrev pub ordered : List (String Global) → Option Order
 ordered words = order_of (texts words)
 
--- how a script is to be played; without a seed it is 0
-abbrev pub seed_of : Option ℕ → ℕ
-seed_of None = 0
-seed_of (Some seed) = seed
-
+-- how a script is to be played
 abbrev pub setting_of : Sizes → Option ℕ → Bool → Setting
-setting_of sizes seed trace = record { sizes = sizes; seed = seed_of seed; trace = trace }
+setting_of sizes seed trace = record { sizes = sizes; seed = seed; trace = trace }
 
 -- the bytes that were read make no script for so many members
 abbrev pub ReadsAFault : ℕ → Option (List ℕ) → Option (List ℕ) → ScriptFault → Type 0

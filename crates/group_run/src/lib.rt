@@ -1,7 +1,6 @@
 //! The call that plays a script on a disk and reports what became of it.
 #![tactic(auto)]
 
-mod gate;
 mod input;
 mod output;
 mod prepare;
@@ -12,6 +11,6 @@ mod telling;
 mod top;
 
 pub use checked_run::{Cause, CauseList, FailList, Journal};
-pub use gate::{Gate, OpenGate};
+pub use group_threads::{Gate, OpenGate};
 pub use status::Status;
 pub use top::{Finished, play};

@@ -14,8 +14,8 @@ use std::alloc::Global;
 #[derive(Clone, Copy, Debug, PartialEq, Eq)]
 pub struct Setting {
     pub sizes: Sizes,
-    /// Settles the order of the events.
-    pub seed: u64,
+    /// Settles the order of the events. Without one each member of a phase has a thread.
+    pub seed: Option<u64>,
     pub trace: bool,
 }
 
@@ -31,15 +31,10 @@ pub enum Prepared {
     Ended(Status),
 }
 
-// Without a seed it is 0.
 fn setting_of(sizes: Sizes, seed: Option<u64>, trace: bool) -> Setting
     ensures { result ≡ setting_of sizes seed trace }
 {
-    Setting {
-        sizes,
-        seed: seed.unwrap_or(0),
-        trace,
-    }
+    Setting { sizes, seed, trace }
 }
 
 // Settles the source, and then the script.

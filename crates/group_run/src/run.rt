@@ -12,8 +12,11 @@ use disk_restart::keeping_laws;
 use ds_base::{NoMemory, Sizes};
 use ds_disk::Disk;
 use ds_model::Script;
+use group_threads::Gate;
 use member_core::Member;
 use std::alloc::Global;
+use std::sync::Wait;
+use std::thread::Threads;
 
 // The members of a group.
 fn make_members(alloc: Global, sizes: &Sizes) -> Result<Vec<Member>, NoMemory> {
@@ -25,8 +28,15 @@ fn make_members(alloc: Global, sizes: &Sizes) -> Result<Vec<Member>, NoMemory> {
 }
 
 /// Plays a script in a group of its own.
-pub fn run<D: Disk>(alloc: Global, disk: D, script: &Script, setting: &Setting) -> Ran<D>
-    requires { AreSizes setting.now.sizes }
+pub fn run<R: Threads + Wait + Sync, D: Disk + Send, G: Gate + Sync>(
+    rt: &R,
+    alloc: Global,
+    disk: D,
+    script: &Script,
+    setting: &Setting,
+    gate: &G,
+) -> Ran<D>
+    requires sizes { AreSizes setting.now.sizes }
     ensures comes { Comes (D.contents disk) (D.faults disk) (D.faults result.disk) result.account
         (Plays (kind_of AnyMember D.alive D.contents D.faults) script.now setting.now.seed setting.now.trace (D.contents disk) (D.faults disk) (D.faults result.disk) (D.contents result.disk) result.account)
         result.outcome }
@@ -41,12 +51,14 @@ pub fn run<D: Disk>(alloc: Global, disk: D, script: &Script, setting: &Setting) 
         };
     };
     run_script(
+        rt,
         alloc,
         disk,
         script,
         &setting.sizes,
         members,
         setting.seed,
+        gate,
         setting.trace,
     )
 }

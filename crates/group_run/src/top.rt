@@ -11,7 +11,6 @@ ghost use Rattle.group_run.specs.Tellings.{TellsOutcome};
 ghost use Rattle.group_words.specs.Orders.{AreSizes};
 ghost use Rattle.group_run.specs.Ends.{Tells, Meets, Works, Ends};
 
-use crate::gate::Gate;
 use crate::output::write_all;
 use crate::prepare::{Prepared, Setting, prepare};
 use crate::run::run;
@@ -24,6 +23,7 @@ use disk_restart::keeping_laws;
 use ds_base::{NoMemory, RowList, Sink, Source};
 use ds_disk::Disk;
 use ds_model::Report;
+use group_threads::Gate;
 use std::alloc::Global;
 use std::sync::Wait;
 use std::thread::Threads;
@@ -118,10 +118,17 @@ fn came_of<D>(alloc: Global, work: Option<u64>, ran: Ran<D>) -> Came<D>
 }
 
 // Plays the script of a number.
-fn perform_work<D: Disk>(alloc: Global, disk: D, n: u64, setting: &Setting) -> Came<D>
+fn perform_work<R: Threads + Wait + Sync, D: Disk + Send, G: Gate + Sync>(
+    rt: &R,
+    alloc: Global,
+    disk: D,
+    n: u64,
+    setting: &Setting,
+    gate: &G,
+) -> Came<D>
     requires sizes { AreSizes setting.now.sizes }
     requires untraced { setting.now.trace ≡ false }
-    requires seeded { setting.now.seed ≡ n }
+    requires seeded { setting.now.seed ≡ Some n }
     ensures works { Works (kind_of AnyMember D.alive D.contents D.faults) n
         (D.contents disk) (D.faults disk) (D.faults result.disk) (D.contents result.disk)
         result.opened result.opening result.account result.telling }
@@ -130,12 +137,19 @@ fn perform_work<D: Disk>(alloc: Global, disk: D, n: u64, setting: &Setting) -> C
     keeping_laws();
     match make_script(alloc, n) {
         Err(NoMemory) => unopened(alloc, disk, or_wanting(alloc, Err(NoMemory))),
-        Ok(script) => came_of(alloc, Some(n), run(alloc, disk, &script, setting)),
+        Ok(script) => came_of(alloc, Some(n), run(rt, alloc, disk, &script, setting, gate)),
     }
 }
 
 // All that a call does but tell it.
-fn perform<S: Source, D: Disk>(alloc: Global, words: &[String], source: &mut S, disk: D) -> Came<D>
+fn perform<R: Threads + Wait + Sync, S: Source, D: Disk + Send, G: Gate + Sync>(
+    rt: &R,
+    alloc: Global,
+    words: &[String],
+    source: &mut S,
+    disk: D,
+    gate: &G,
+) -> Came<D>
     ensures meets { Meets (kind_of AnyMember D.alive D.contents D.faults) (ordered words.now)
         (outside (S.left source.old) (S.faults source.old) (D.contents disk) (D.alive disk) (D.faults disk))
         (outside (S.left source.new) (S.faults source.new) (D.contents result.disk) (D.alive result.disk) (D.faults result.disk))
@@ -155,9 +169,9 @@ fn perform<S: Source, D: Disk>(alloc: Global, words: &[String], source: &mut S, 
         }
         Ok(Prepared::Show) => came_of(alloc, None, show_disk(alloc, disk)),
         Ok(Prepared::Play(script, setting)) => {
-            came_of(alloc, None, run(alloc, disk, &script, &setting))
+            came_of(alloc, None, run(rt, alloc, disk, &script, &setting, gate))
         }
-        Ok(Prepared::Work(n, setting)) => perform_work(alloc, disk, n, &setting),
+        Ok(Prepared::Work(n, setting)) => perform_work(rt, alloc, disk, n, &setting, gate),
     }
 }
 
@@ -167,15 +181,18 @@ fn perform<S: Source, D: Disk>(alloc: Global, words: &[String], source: &mut S, 
 /// The words are the command line without the program's name. For a script the source is read to its end, or to the first byte past
 /// the longest script. Then the logs of the disk are read, and a group restart opens it; the script is run; another group restart
 /// closes the disk. The report is held against the script, the rows before and the logs, and where it isn't sound the status says so.
-/// The sink gets the report, its one line for the work of a number, or the one line of a status. Today one thread plays all, and no gate is passed.
+/// The sink gets the report, its one line for the work of a number, or the one line of a status.
+///
+/// With a seed this thread plays all, and no gate is passed. Without one each member of a phase has a thread, which passes the gate
+/// before each of its events.
 pub fn play<R: Threads + Wait + Sync, S: Source, K: Sink, D: Disk + Send, G: Gate + Sync>(
-    _rt: &R,
+    rt: &R,
     alloc: Global,
     words: &[String],
     source: &mut S,
     sink: &mut K,
     disk: D,
-    _gate: &G,
+    gate: &G,
 ) -> Finished<D>
     ensures ends { Ends (kind_of AnyMember D.alive D.contents D.faults) (ordered words.now)
         (outside (S.left source.old) (S.faults source.old) (D.contents disk) (D.alive disk) (D.faults disk))
@@ -193,7 +210,7 @@ pub fn play<R: Threads + Wait + Sync, S: Source, K: Sink, D: Disk + Send, G: Gat
         opening,
         account,
         telling,
-    } = perform(alloc, words, source, disk);
+    } = perform(rt, alloc, words, source, disk, gate);
     let Account {
         journal,
         causes,

@@ -1,4 +1,5 @@
 use super::*;
+use crate::meeting::Meeting;
 use ds_base::{Bytes, MemberId, MemorySink, MemorySource};
 use ds_disk::{DiskFailure, DiskOp, MemoryDisk};
 use group_run::{Finished, OpenGate, Status, play};
@@ -302,5 +303,27 @@ fn a_failure_of_source_or_sink_is_told_whenever_it_comes(rt: HostRuntime) -> Res
     for room in [0, 1, HELLO_REPORT.len().wrapping_sub(1)] {
         sink_fails(&rt, alloc, room)?;
     }
+    Ok(())
+}
+
+/// Two members that work on different tables.
+const APART: &str =
+    "phase\nmember 1\ntran a\nput 1 1 =x\nput 1 2 =x\nend\nmember 2\ntran b\nput 2 1 =y\nput 2 2 =y\nput 2 3 =y\nput 2 4 =y\nput 2 5 =y\nput 2 6 =y\nput 2 7 =y\nput 2 8 =y\nput 2 9 =y\nput 2 10 =y\nend\n";
+
+#[test]
+fn two_members_meet_in_the_gate(rt: HostRuntime) -> Result<(), Fail> {
+    let alloc = rt.alloc();
+    let words = words_of(
+        alloc,
+        "play --members 2 --agents 2 --locks 64 --records 64 --cache 16 --pool 8 --pages 8",
+    )?;
+    let mut source = source_of(alloc, APART)?;
+    let mut sink = MemorySink::new(alloc, 4000, Vec::new(alloc))?;
+    let disk = MemoryDisk::new(alloc, Vec::new(alloc))?;
+    let meeting = Meeting::new();
+    let finished = play(&rt, alloc, &words, &mut source, &mut sink, disk, &meeting);
+    assert!(rt; finished.status == Status::Done);
+    assert!(rt; meeting.is_held());
+    assert!(rt; meeting.missed() == 0);
     Ok(())
 }

@@ -8,7 +8,7 @@ use Rattle.turn_gate.specs.Ruled.{sits, kept_part, given_part}
 use Rattle.turn_gate.specs.Places.{Place}
 use Rattle.turn_gate.specs.Seated.{Sat, sole_seat, sat_of, IsSat, sats, AreOf, HasAll, PartsReach, NoneEnded, knowledge_of}
 use Rattle.turn_gate.proofs.Takes.{My}
-use Rattle.turn_gate.proofs.Reaches.{reaches}
+use Rattle.turn_gate.proofs.Reaches.{not_yet, reaches}
 
 pub are_of_last : {B E : Type 0} (z : TableId) (l : List (Sat B E)) (s : Sat B E) → AreOf z (l ++ s ∷ []) → AreOf z l × (s.turn ≡ z)
 are_of_last z [] s h = (tt, h.0)
@@ -38,6 +38,11 @@ none_ended {B} {E} o l told none = let z = nobody l none in is_false o (omega ar
     is_false : (p : Bool) → when p 1 ≤ 0 → p ≡ false
     is_false true h = absurd (omega arith)
     is_false false h = refl
+
+-- where there was no end, no seat knows of one
+pub none_knows : {B E : Type 0} (caller : E → ℕ) (b : B) (log : List E) (o : Bool) (l : List (Sat B E)) → AllSo caller b log o (map knowledge_of l) → o ≡ false → NoneEnded l
+none_knows caller b log o [] h lasts = tt
+none_knows caller b log o (s ∷ ss) h lasts = (not_yet s.knows.ended o (λ e. (h.0.over e).0) lasts, none_knows caller b log o ss h.1 lasts)
 
 module _ {T B E : Type 0} where
   -- the seat of one caller

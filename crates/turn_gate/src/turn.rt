@@ -155,7 +155,7 @@ impl<M: Machine> Turn<M> {
             unreachable!()
         };
         slots.destroy_empty();
-        let (machine, journal) = kept.into_parts();
+        let (machine, journal, _) = kept.into_parts();
         (NoMemory, machine, journal)
     }
 
@@ -179,14 +179,17 @@ impl<M: Machine> Turn<M> {
         place
     }
 
-    /// Gives the machine back, with the journal that leads to it. It takes all the turn's seats.
-    pub fn close(self, seats: Vec<Seat<M>>) -> (M, Journal)
+    /// Gives the machine back, with the journal that leads to it, and whether a turn was refused for want of memory.
+    /// It takes all the turn's seats.
+    pub fn close(self, seats: Vec<Seat<M>>) -> (M, Journal, bool)
         requires { (length seats.items ≡ self.seats) × AreOf self.id seats.items }
         ensures start { M.start result.0 ≡ self.start }
         ensures stands { result.1 ≡ map M.event_of (M.story result.0) }
         ensures own { HasAll (λ x. M.caller (M.event_of x)) (M.story result.0) seats.items }
         ensures parts { PartsReach M.parted (M.story result.0) seats.items }
-        ensures sound { NoneEnded seats.items → M.sound result.0 }
+        ensures refused { NoneEnded seats.items → result.2 ≡ false }
+        ensures lasts { result.2 ≡ false → NoneEnded seats.items }
+        ensures sound { result.2 ≡ false → M.sound result.0 }
     {
         let place = Turn::gather(&self.table.shared, seats);
         let Turn {

@@ -74,5 +74,6 @@ pub fn run<R: Threads + Wait + Sync>(
         return None;
     };
     work_all(rt, alloc, &turn, seats.as_mut_slice(), count);
-    Some(turn.close(seats))
+    let (recorder, journal, _) = turn.close(seats);
+    Some((recorder, journal))
 }

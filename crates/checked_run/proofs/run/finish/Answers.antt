@@ -1,4 +1,4 @@
-use Rattle.std.proofs.Common.{◌≡◌, inl, inr, ℕ, List, Ok, IfOk, refl, sym, ap, subst, ◌∙◌, arith}
+use Rattle.std.proofs.Common.{◌≡◌, inl, inr, ℕ, List, Ok, IfOk, OnOk, sym, ap, subst, ◌∙◌, arith}
 use Rattle.std.specs.Prelude.{Vec}
 use Rattle.std.specs.declared.alloc.Global.{Global}
 use Rattle.cache_structure.specs.State.{directory_of}
@@ -6,12 +6,11 @@ use Rattle.group_core.specs.declared.schedule.RunEnd.{RunEnd}
 use Rattle.group_core.specs.declared.schedule.RunEnd.TheVariants as ends
 use Rattle.group_core.specs.Ends.{Ends}
 use Rattle.group_core.specs.Goes.{HasFailed}
-use Rattle.group_core.specs.Runs.{RunsOn}
-use Rattle.checked_run.specs.Leading.{LeadsFrom}
+use Rattle.checked_run.specs.Leading.{LeadsFrom, RunsBy}
 use Rattle.checked_run.specs.Settled.{Settles}
 use Rattle.checked_run.specs.Told.{TellsAlways}
 use Rattle.checked_run.proofs.Going.{risen}
-use Rattle.checked_run.proofs.Led.{unspent, led, answered}
+use Rattle.checked_run.proofs.Led.{led, answered}
 use Rattle.checked_run.proofs.Sound.{once, still}
 use Rattle.checked_run.proofs.run.finish.Goals as goal
 
@@ -19,9 +18,7 @@ abbrev items : Vec ℕ Global → List ℕ
 items v = v.items
 
 pub settle-account-requires-clause-unspent : goal.settle-account-requires-clause-unspent
-settle-account-requires-clause-unspent g c spent =
-    let ran = subst (λ r. IfOk r (λ end. RunsOn directory_of g.D.Disk.alive g.D.Disk.contents g.D.Disk.faults c.args.group c.new-generator.result 18446744073709551615 end c.run_one_thread-end.new.group c.run_one_thread-end.new.generator)) spent c.run_one_thread-end.ensures.runs in
-    unspent c.run_one_thread-end.new.group.journal c.args.group.journal.items ran.events ran.journal (ran.spent refl)
+settle-account-requires-clause-unspent g c spent = c.play_to_end-group.ensures.unspent spent
 
 pub returns-clause-comes : goal.returns-clause-comes
 returns-clause-comes g c =
@@ -30,23 +27,23 @@ returns-clause-comes g c =
     let now = g.D.Disk.faults c.settle-account.new.disk in
     let after = g.D.Disk.contents c.settle-account.new.disk in
     let begins = c.requires.begins in
-    let last = c.run_one_thread-end.new.group in
-    let goes = c.run_one_thread-end.ensures.goes in
+    let last = c.play_to_end-group.result.0 in
     let closed = c.close-disk.ensures in
     let played = c.close-disk.result.1 in
     let account = c.settle-account.result.0 in
-    let rose = risen _ _ _ _ _ _ begins.faults begins.fault goes in
-    answered c.run_one_thread-end.result
+    answered c.play_to_end-group.result.1
     (LeadsFrom directory_of g.D.Disk.alive g.D.Disk.contents g.D.Disk.faults c.args.group c.args.seed account)
     (Settles tells c.args.script.now c.args.is_traced c.args.opening.now begun now after account) c.settle-account.result.1
-    (λ (e : RunEnd) is. record {
+    (λ (e : RunEnd) is.
+    let ran = subst (λ r. OnOk r (RunsBy directory_of g.D.Disk.alive g.D.Disk.contents g.D.Disk.faults c.args.group c.args.seed last)) is c.play_to_end-group.ensures.runs in
+    let goes = ran.from.goes in
+    let rose = risen _ _ _ _ _ _ begins.faults begins.fault goes in
+    record {
       end = e;
       why = played.fault;
       entries = played.entries.items;
-      leads = led directory_of g.D.Disk.alive g.D.Disk.contents g.D.Disk.faults c.args.script.now c.args.group last c.args.seed 18446744073709551615 c.run_one_thread-end.new.generator e account played begins
-          (subst (λ (seed : ℕ). RunsOn directory_of g.D.Disk.alive g.D.Disk.contents g.D.Disk.faults c.args.group seed 18446744073709551615 e last c.run_one_thread-end.new.generator) c.new-generator.ensures
-          (subst (λ r. IfOk r (λ end. RunsOn directory_of g.D.Disk.alive g.D.Disk.contents g.D.Disk.faults c.args.group c.new-generator.result 18446744073709551615 end last c.run_one_thread-end.new.generator)) is c.run_one_thread-end.ensures.runs))
-          (subst (λ r. IfOk r (λ end. Ends end last)) is c.run_one_thread-end.ensures.ends)
+      leads = led directory_of g.D.Disk.alive g.D.Disk.contents g.D.Disk.faults c.args.script.now c.args.group last c.args.seed e account played begins ran
+          (subst (λ r. IfOk r (λ end. Ends end last)) is c.play_to_end-group.ensures.ends)
           c.settle-account.ensures.account (ap items closed.journal) (ap items closed.faults) closed.causes closed.entries closed.fault;
       settles = c.settle-account.ensures.settles begun e (omega (arith, goes.later, closed.later)) (λ why. elim why [
         | inl failed ↦ still _ _ _ (rose (inl (subst (λ (v : Vec ℕ Global). HasFailed v.items) closed.faults failed))) closed.later
@@ -59,4 +56,4 @@ returns-clause-comes g c =
     c.settle-account.ensures.wanting
 
 pub returns-clause-later : goal.returns-clause-later
-returns-clause-later g c = omega (arith, c.run_one_thread-end.ensures.goes.later, c.close-disk.ensures.later, c.settle-account.ensures.later)
+returns-clause-later g c = omega (arith, c.play_to_end-group.ensures.later, c.close-disk.ensures.later, c.settle-account.ensures.later)

@@ -13,8 +13,8 @@ use Rattle.ds_disk.specs.Contents.{Becomes}
 use Rattle.disk_restart.specs.Keeping.{KeepsRecords}
 use Rattle.group_run.proofs.top.perform.Goals as goal
 
-pub run-requires : goal.run-requires
-run-requires g c = sizes_by (ordered c.args.words.now) c.in-Ok-Play.script c.in-Ok-Play.setting _ _ _ _ (rw c.in-Ok-Play.field-0-is at c.in-Ok-Play.ensures.prepared)
+pub run-requires-clause-sizes : goal.run-requires-clause-sizes
+run-requires-clause-sizes g c κs within = sizes_by (ordered c.args.words.now) c.in-Ok-Play.script c.in-Ok-Play.setting _ _ _ _ (rw c.in-Ok-Play.field-0-is at c.in-Ok-Play.ensures.prepared)
 
 pub returns-in-Err-clause-meets : goal.returns-in-Err-clause-meets
 returns-in-Err-clause-meets g c =
@@ -72,13 +72,13 @@ returns-in-Ok-Play-clause-meets g c =
     (subst (λ (a : Account). CameOf kind c.in-Ok-Play.script c.in-Ok-Play.setting.seed c.in-Ok-Play.setting.trace before after a c.run.result.outcome) (sym c.came_of-in-Ok-Play.ensures.account) c.run.ensures.comes) c.came_of-in-Ok-Play.ensures.tells)
 
 pub perform_work-requires-clause-sizes : goal.perform_work-requires-clause-sizes
-perform_work-requires-clause-sizes g c = (work_by (ordered c.args.words.now) c.in-Ok-Work.n c.in-Ok-Work.setting _ _ _ _ (rw c.in-Ok-Work.field-0-is at c.in-Ok-Work.ensures.prepared)).0
+perform_work-requires-clause-sizes g c κs within = (work_by (ordered c.args.words.now) c.in-Ok-Work.n c.in-Ok-Work.setting _ _ _ _ (rw c.in-Ok-Work.field-0-is at c.in-Ok-Work.ensures.prepared)).0
 
 pub perform_work-requires-clause-untraced : goal.perform_work-requires-clause-untraced
-perform_work-requires-clause-untraced g c = (work_by (ordered c.args.words.now) c.in-Ok-Work.n c.in-Ok-Work.setting _ _ _ _ (rw c.in-Ok-Work.field-0-is at c.in-Ok-Work.ensures.prepared)).1.0
+perform_work-requires-clause-untraced g c κs within = (work_by (ordered c.args.words.now) c.in-Ok-Work.n c.in-Ok-Work.setting _ _ _ _ (rw c.in-Ok-Work.field-0-is at c.in-Ok-Work.ensures.prepared)).1.0
 
 pub perform_work-requires-clause-seeded : goal.perform_work-requires-clause-seeded
-perform_work-requires-clause-seeded g c = (work_by (ordered c.args.words.now) c.in-Ok-Work.n c.in-Ok-Work.setting _ _ _ _ (rw c.in-Ok-Work.field-0-is at c.in-Ok-Work.ensures.prepared)).1.1
+perform_work-requires-clause-seeded g c κs within = (work_by (ordered c.args.words.now) c.in-Ok-Work.n c.in-Ok-Work.setting _ _ _ _ (rw c.in-Ok-Work.field-0-is at c.in-Ok-Work.ensures.prepared)).1.1
 
 pub returns-in-Ok-Work-clause-meets : goal.returns-in-Ok-Work-clause-meets
 returns-in-Ok-Work-clause-meets g c =

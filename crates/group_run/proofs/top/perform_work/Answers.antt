@@ -1,4 +1,4 @@
-use Rattle.std.proofs.Common.{◌≡◌, ℕ, Bool, false, refl, sym, subst}
+use Rattle.std.proofs.Common.{◌≡◌, ℕ, Bool, false, Option, Some, refl, sym, subst}
 use Rattle.member_core.specs.declared.member.Member.{Member}
 use Rattle.ds_model.specs.declared.script.Script.{Script}
 use Rattle.group_core.specs.declared.fault.RunFault.TheVariants as fault
@@ -38,8 +38,8 @@ returns-in-Ok-clause-works g c =
     let account = c.run.result.account in
     let came = c.came_of.result in
     let untraced = subst (λ (b : Bool). Comes was before now account (Plays kind c.in-Ok.script c.args.setting.now.seed b was before now after account) c.run.result.outcome) c.requires.untraced c.run.ensures.comes in
-    let seeded = subst (λ (n : ℕ). Comes was before now account (Plays kind c.in-Ok.script n false was before now after account) c.run.result.outcome) c.requires.seeded untraced in
-    let its = subst (λ (s : Script). Comes was before now account (Plays kind s c.args.n false was before now after account) c.run.result.outcome) c.in-Ok.ensures seeded in
+    let seeded = subst (λ (s : Option ℕ). Comes was before now account (Plays kind c.in-Ok.script s false was before now after account) c.run.result.outcome) c.requires.seeded untraced in
+    let its = subst (λ (s : Script). Comes was before now account (Plays kind s (Some c.args.n) false was before now after account) c.run.result.outcome) c.in-Ok.ensures seeded in
     subst (λ (a : Account). Works kind c.args.n was before (g.D.Disk.faults came.disk) (g.D.Disk.contents came.disk) came.opened came.opening a came.telling) (sym c.came_of.ensures.account)
     (subst (λ d. Works kind c.args.n was before (g.D.Disk.faults d) (g.D.Disk.contents d) came.opened came.opening account came.telling) (sym c.came_of.ensures.disk)
     (record { outcome = c.run.result.outcome; comes = its; told_is = c.came_of.ensures.tells }))

@@ -22,8 +22,8 @@ work_all-requires-clause-fresh g c κs within =
     let count : length c.as_slice.result.now ≡ length c.as_mut_slice.result.now = sym (ap length made ∙ length-first_seats caller_of 0 _ c.in-Ok.turn.id 1 (length c.as_slice.result.now)) in
     made ∙ (λ i. first_seats caller_of c.in-Ok.turn.id 0 (none i) (count i))
 
-pub close-requires : goal.close-requires
-close-requires g c =
+pub close-recorder-requires : goal.close-recorder-requires
+close-recorder-requires g c =
     let done = c.work_all.ensures in
     let made = c.in-Ok.ensures.seats in
     let parts : length c.in-Ok.seats.items ≡ length c.as_slice.result.now = ap length made ∙ length-first_seats caller_of 0 _ c.in-Ok.turn.id 1 (length c.as_slice.result.now) in

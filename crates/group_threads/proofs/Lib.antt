@@ -1,0 +1,10 @@
+pub mod Looked
+pub mod Chained
+pub mod Alone
+pub mod Entered
+pub mod Staffed
+pub mod Choosing
+pub mod Recorded
+pub mod Claimed
+pub mod Marked
+pub mod Crossing

@@ -1,0 +1,7 @@
+use Rattle.std.proofs.Common.{◌≡◌, inl, inr, length, sym, ap, ◌∙◌, refl, arith}
+use lib.ListN.{length-map}
+use Rattle.group_threads.proofs.Looked.{from_looked, looked_same}
+use Rattle.group_threads.proofs.phase.play_phase.Goals as goal
+
+pub returns-in-Ok-clause-runs : goal.returns-in-Ok-clause-runs
+returns-in-Ok-clause-runs g c = c.play_apart.ensures.runs c.args.group c.in-Ok.ensures.shared c.in-Ok.ensures.hands

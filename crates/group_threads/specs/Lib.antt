@@ -1,0 +1,4 @@
+pub mod Fresh
+pub mod Wholes
+pub mod Happening
+pub mod Desks

@@ -1,0 +1,126 @@
+//! A run to the end of a script.
+
+ghost use Rattle.std.specs.Prelude.{◌≡◌, ◌≢◌, ◌≤◌, true, false, Some, Ok, IfOk, IfSome, OnOk, OnErr};
+ghost use Rattle.group_core.specs.declared.fault.RunFault.TheVariants as fault;
+ghost use Rattle.group_core.specs.declared.schedule.RunEnd.TheVariants as ends;
+ghost use Rattle.group_core.specs.Ends.{Ends};
+ghost use Rattle.group_threads.specs.Fresh.{RunsFrom};
+
+use crate::gate::Gate;
+use crate::phase::play_phase;
+use cache_structure::CacheFace;
+use ds_base::NoMemory;
+use ds_disk::Disk;
+use group_core::{Group, RunEnd, RunFault};
+use member_resources::Policy;
+use std::alloc::Global;
+use std::sync::Wait;
+use std::thread::Threads;
+
+// Whether memory was wanting.
+fn is_wanting<D, C, P>(group: &Group<D, C, P>) -> bool
+    ensures yes { result ≡ true → group.now.fault ≡ Some fault.NoMemory }
+    ensures no { result ≡ false → group.now.fault ≢ Some fault.NoMemory }
+{
+    match group.fault() {
+        Some(RunFault::NoMemory) => true,
+        _ => false,
+    }
+}
+
+// The end of a run that went on so far. None: it goes on.
+fn end_of<D, C, P>(group: &Group<D, C, P>) -> Option<Result<RunEnd, NoMemory>>
+    ensures ends { IfSome result (λ r. IfOk r (λ end. Ends end group.now)) }
+    ensures unspent { IfSome result (λ r. r ≢ Ok ends.Spent) }
+    ensures wanting { IfSome result (λ r. OnErr r (group.now.fault ≡ Some fault.NoMemory)) }
+{
+    if is_wanting(group) {
+        return Some(Err(NoMemory));
+    }
+    match group.standing() {
+        RunEnd::Spent => None,
+        end => Some(Ok(end)),
+    }
+}
+
+// Takes the least event that is ready.
+fn take_one<D: Disk, C: CacheFace, P: Policy>(
+    alloc: Global,
+    group: &mut Group<D, C, P>,
+) -> Result<(), NoMemory>
+    ensures runs { OnOk result (RunsFrom C.directory D.alive D.contents D.faults group.old group.new) }
+    ensures later { D.faults group.old.disk ≤ D.faults group.new.disk }
+    ensures wanting { OnErr result (group.new.fault ≡ Some fault.NoMemory) }
+{
+    match group.ready(0) {
+        Some(event) => group.step(alloc, event),
+        None => Ok(()),
+    }
+}
+
+// The group's own event that is ready, or else a phase.
+fn go_on<
+    R: Threads + Wait + Sync,
+    D: Disk + Send,
+    C: CacheFace + Send,
+    P: Policy + Drop + Send,
+    G: Gate + Sync,
+>(
+    rt: &R,
+    alloc: Global,
+    mut group: Group<D, C, P>,
+    gate: &G,
+) -> (Group<D, C, P>, Result<(), NoMemory>)
+    ensures runs { OnOk result.1 (RunsFrom C.directory D.alive D.contents D.faults group result.0) }
+    ensures later { D.faults group.disk ≤ D.faults result.0.disk }
+    ensures wanting { OnErr result.1 (result.0.fault ≡ Some fault.NoMemory) }
+{
+    if let Some(event) = group.own_event() {
+        let taken = group.step(alloc, event);
+        return (group, taken);
+    }
+    let before = group.journal().len();
+    let mut group = play_phase(rt, alloc, group, gate);
+    if is_wanting(&group) {
+        return (group, Err(NoMemory));
+    }
+    if group.journal().len() > before {
+        return (group, Ok(()));
+    }
+    let taken = take_one(alloc, &mut group);
+    (group, taken)
+}
+
+/// Plays the script of a group to its end: each member of a phase in a thread of its own, and between the phases the events of the
+/// group itself.
+pub fn run_threads<
+    R: Threads + Wait + Sync,
+    D: Disk + Send,
+    C: CacheFace + Send,
+    P: Policy + Drop + Send,
+    G: Gate + Sync,
+>(
+    rt: &R,
+    alloc: Global,
+    group: Group<D, C, P>,
+    gate: &G,
+) -> (Group<D, C, P>, Result<RunEnd, NoMemory>)
+    ensures ends { IfOk result.1 (λ end. Ends end result.0) }
+    ensures unspent { result.1 ≢ Ok ends.Spent }
+    ensures runs { OnOk result.1 (RunsFrom C.directory D.alive D.contents D.faults group result.0) }
+    ensures later { D.faults group.disk ≤ D.faults result.0.disk }
+    ensures wanting { OnErr result.1 (result.0.fault ≡ Some fault.NoMemory) }
+{
+    let mut group = group;
+    for _ in rt.forever() {
+        if let Some(end) = end_of(&group) {
+            return (group, end);
+        }
+        let (next, taken) = go_on(rt, alloc, group, gate);
+        group = next;
+        if let Err(NoMemory) = taken {
+            return (group, Err(NoMemory));
+        }
+    }
+    unreachable!()
+}

@@ -1,0 +1,4 @@
+pub mod Made
+pub mod Telling
+pub mod Rows
+pub mod Closing
