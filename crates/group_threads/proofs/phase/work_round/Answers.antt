@@ -28,7 +28,7 @@ for_each_mut-requires-sync-F g c κs within =
     let p = c.type_bounds.send-P in
     let r = c.type_bounds.sync-R in
     let h = c.type_bounds.sync-G in
-    search (shared, hand, sendable, crosses, maps, place_send, table_sync, lease_sync, history_send, hall_sync) depth 400 fits 200000
+    search (shared, sendable, crosses, table_sync, lease_sync, history_send, hall_sync) depth 400 fits 200000
 
 pub for_each_mut-requires-clause-accepts : goal.for_each_mut-requires-clause-accepts
 for_each_mut-requires-clause-accepts g c κs within i p less is =
