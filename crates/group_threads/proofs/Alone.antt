@@ -1,5 +1,5 @@
 -- One event of one member, as one of the whole group.
-use Rattle.std.proofs.Common.{◌≡◌, ◌≢◌, inl, inr, ℕ, zero, suc, ◌-◌, ◌/◌, ◌%◌, ◌≤◌, Bool, true, false, not, ◌&&◌, List, [], ◌∷◌, ◌++◌, length, map, Option, Some, None, is_some, slice_get, slice_set, option_map, refl, sym, ap, subst, ◌∙◌, arith}
+use Rattle.std.proofs.Common.{◌≡◌, ◌≢◌, ℕ, zero, suc, ◌-◌, ◌/◌, ◌%◌, ◌≤◌, Bool, true, false, not, ◌&&◌, List, [], ◌∷◌, ◌++◌, length, map, Option, Some, None, is_some, slice_get, slice_set, option_map, refl, sym, ap, subst, ◌∙◌, arith}
 use Rattle.std.specs.Prelude.{vec_len}
 use Rattle.std.specs.Global.{Vec}
 use Rattle.std.specs.Vec.{with_items}
@@ -8,14 +8,12 @@ use lib.ListN.{length-set, length-map}
 use Rattle.ds_base.specs.Causes.{Rose}
 use Rattle.ds_disk.specs.Contents.{Contents}
 use Rattle.cache_structure.specs.Directory.{Directory}
-use Rattle.member_resources.specs.Events.{World, world_of}
+use Rattle.member_resources.specs.Events.{world_of}
 use Rattle.group_member.specs.declared.part.MemberPart.{MemberPart}
 use Rattle.group_member.specs.declared.stepped.Stepped.{Stepped}
-use Rattle.group_member.specs.Choices.{has_choice}
 use Rattle.group_member.specs.Happening.{Comes}
 use Rattle.group_member.specs.Members.{Member, member_of}
-use Rattle.group_crew.specs.declared.crew.Crew.{Crew}
-use Rattle.group_crew.specs.Crews.{Keeps, is_ready_in, unlooked}
+use Rattle.group_crew.specs.Crews.{Keeps, unlooked}
 use Rattle.group_crew.specs.Happening.{ComesAt, IsRefusedAt, member_at}
 use Rattle.group_crew.specs.Progresses.{own_choice}
 use Rattle.group_crew.specs.Ready.{ready_at, ready_for}
@@ -24,12 +22,12 @@ use Rattle.group_core.specs.declared.fault.RunFault.TheVariants as fault
 use Rattle.group_core.specs.declared.group.Group.{Group}
 use Rattle.group_core.specs.Events.{takes}
 use Rattle.group_core.specs.Goes.{noted}
-use Rattle.group_core.specs.Takes.{IsMade, IsRefusedIn, StepsAt, Takes, TakesMember}
+use Rattle.group_core.specs.Takes.{IsMade, StepsAt, Takes, TakesMember}
 use Rattle.group_core.proofs.Taking.{member_moves}
 use Rattle.turn_story.specs.Chains.{part_of, with_part}
 use Rattle.group_threads.specs.declared.hand.Hand.{Hand}
 use Rattle.group_threads.specs.declared.shared.Shared.{Shared}
-use Rattle.group_threads.specs.Happening.{ByFault, MadeAlone, RefusedAlone, takes_alone}
+use Rattle.group_threads.specs.Happening.{ByFault, MadeAlone, takes_alone}
 use Rattle.group_threads.specs.Fresh.{IsLooked, TakesFresh}
 use Rattle.group_threads.specs.Wholes.{parts_in, whole, StepsHand}
 

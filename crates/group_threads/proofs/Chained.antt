@@ -1,8 +1,7 @@
 -- What the events of members come to for the whole group.
-use Rattle.std.proofs.Common.{◌≡◌, ℕ, zero, suc, ◌%◌, ◌≤◌, Bool, List, [], ◌∷◌, ◌++◌, length, map, Option, refl, sym, ap, subst, ◌∙◌, append_assoc, arith}
+use Rattle.std.proofs.Common.{◌≡◌, ℕ, zero, suc, Bool, List, [], ◌∷◌, ◌++◌, length, map, Option, refl, sym, ap, subst, ◌∙◌, append_assoc}
 use Rattle.std.specs.Prelude.{vec_len}
 use Rattle.std.specs.Global.{Vec}
-use Rattle.std.specs.Vec.{with_items}
 use Rattle.std.proofs.lemmas.List.{append-nil, with_items_is}
 use lib.ListN.{length-set, length-map}
 use Rattle.ds_disk.specs.Contents.{Contents}
@@ -18,7 +17,7 @@ use Rattle.group_threads.specs.declared.shared.Shared.{Shared}
 use Rattle.group_threads.specs.Desks.{member_in}
 use Rattle.group_threads.specs.Fresh.{IsLooked, TakesFresh, RunsFresh, RunsFrom}
 use Rattle.group_threads.specs.Wholes.{parts_in, whole, StepsHand}
-use Rattle.group_threads.proofs.Looked.{looked_same, looked_twice, goes_fresh, goes_looked, runs_looked, runs_on}
+use Rattle.group_threads.proofs.Looked.{looked_same, goes_fresh, goes_looked, runs_looked, runs_on}
 
 length-with_part : {P : Type 0} (ps : List P) (c : ℕ) (p : P) → length (with_part ps c p) ≡ length ps
 length-with_part ps zero p = refl

@@ -1,5 +1,5 @@
 -- Which choice is the least that is ready.
-use Rattle.std.proofs.Common.{◌≡◌, ℕ, ◌+◌, ◌*◌, ◌-◌, ◌≤◌, ◌<◌, Bool, true, false, ◌&&◌, ap, arith}
+use Rattle.std.proofs.Common.{◌≡◌, ℕ, ◌≤◌, Bool, false, ◌&&◌, ap, arith}
 use Rattle.std.specs.Prelude.{nat_lt, ◌/◌, ◌%◌, ◌^◌, ◌==◌}
 use Rattle.group_member.specs.Choices.{has_choice}
 

@@ -1,10 +1,9 @@
 -- What an event of one member comes to, step by step.
-use Rattle.std.proofs.Common.{◌≡◌, ℕ, ◌/◌, ◌≤◌, Bool, true, false, List, [], ◌∷◌, ◌++◌, length, Option, Some, None, refl, sym, ap, subst, ◌∙◌, arith}
-use Rattle.std.specs.Global.{Vec}
+use Rattle.std.proofs.Common.{◌≡◌, ℕ, ◌/◌, ◌≤◌, Bool, true, false, [], ◌∷◌, ◌++◌, length, Option, Some, None, refl, sym, ap, subst, ◌∙◌}
 use Rattle.ds_base.specs.Causes.{Rose}
 use Rattle.ds_disk.specs.Contents.{Contents}
 use Rattle.cache_structure.specs.Directory.{Directory}
-use Rattle.member_resources.specs.Events.{World, world_of}
+use Rattle.member_resources.specs.Events.{world_of}
 use Rattle.group_member.specs.declared.part.MemberPart.{MemberPart}
 use Rattle.group_member.specs.declared.stepped.Stepped.{Stepped}
 use Rattle.group_member.specs.Happening.{Comes}
@@ -14,7 +13,6 @@ use Rattle.group_member.specs.Stepping.{has_failed}
 use Rattle.group_crew.specs.Crews.{unlooked}
 use Rattle.group_core.specs.declared.fault.RunFault.{RunFault}
 use Rattle.group_core.specs.declared.fault.RunFault.TheVariants as fault
-use Rattle.group_core.specs.declared.group.Group.{Group}
 use Rattle.group_core.specs.Goes.{noted}
 use Rattle.group_core.specs.Takes.{is_read}
 use Rattle.group_threads.specs.declared.hand.Hand.{Hand}

@@ -10,7 +10,7 @@ use denote.Model.Knot.{stage}
 use denote.Struct.Field.{row_field}
 use denote.Param.Send.{IsSend, view_send, recorded_send, sendable}
 use denote.Param.SendFields.{as_row_send, declared_send, variants_send}
-use Rattle.std.proofs.Crossing.{Box-send, Vec-send, crosses}
+use Rattle.std.proofs.Crossing.{Box-send, crosses}
 use Rattle.lock_structure.proofs.chain.Held.TheSendSync as element
 use Rattle.lock_structure.specs.declared.chain.Chain.TheDeep.{the_members, member-Chain, split-Node, join-Node, joins-Node, split-Chain, join-Chain, joins-Chain}
 use Rattle.lock_structure.specs.contracts.chain.Chain.{the_row}

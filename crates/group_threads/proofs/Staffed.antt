@@ -1,11 +1,11 @@
 -- Workers and their desks.
-use Rattle.std.proofs.Common.{◌≡◌, ℕ, ◌≤◌, ◌<◌, zero, suc, List, [], ◌∷◌, ◌++◌, length, take, drop, map, refl, sym, ap, ◌∙◌, arith}
+use Rattle.std.proofs.Common.{◌≡◌, ℕ, suc, List, [], ◌∷◌, ◌++◌, length, take, drop, map, sym, ap, ◌∙◌, arith}
 use mathlib.Core.List.{reverse}
 use Rattle.std.proofs.lemmas.List.{append-nil, append_assoc, reverse-append, take_all, drop_all}
 use Rattle.turn_gate.specs.Seated.{TurnId, Sat}
 use Rattle.turn_story.specs.declared.step.Start.{Start}
 use Rattle.turn_story.specs.declared.step.Step.{Step}
-use Rattle.turn_story.specs.Desks.{IsAt, AllAt}
+use Rattle.turn_story.specs.Desks.{AllAt}
 
 module _ {M P W D : Type 0} (caller : ℕ → ℕ) (z : TurnId) (start : Start M P) (desk : W → D) (seat : D → Sat (Start M P) (Step M P)) (part : D → P) where
   -- where the desks are right, the workers are

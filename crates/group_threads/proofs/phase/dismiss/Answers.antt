@@ -1,4 +1,4 @@
-use Rattle.std.proofs.Common.{◌≡◌, ◌+◌, ◌≤◌, ◌∷◌, ◌++◌, [], length, map, vec_capacity, sym, ap, ◌∙◌, arith}
+use Rattle.std.proofs.Common.{◌≡◌, ◌+◌, ◌≤◌, ◌++◌, length, map, vec_capacity, sym, ap, ◌∙◌, arith}
 use mathlib.Core.List.{reverse}
 use Rattle.std.proofs.lemmas.List.{length_push}
 use Rattle.group_threads.proofs.Staffed.{put_back}

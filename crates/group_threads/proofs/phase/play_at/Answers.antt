@@ -1,4 +1,4 @@
-use Rattle.std.proofs.Common.{rules, ◌≡◌, ℕ, ◌≤◌, [], length, map, vec_capacity, sym, ap, ◌∙◌, subst, arith}
+use Rattle.std.proofs.Common.{rules, ◌≡◌, ℕ, ◌≤◌, length, vec_capacity, sym, ap, ◌∙◌, subst}
 use lib.ListN.{length-map}
 use Rattle.group_threads.specs.Desks.{AreMembersAt, member_in}
 use Rattle.group_threads.proofs.Staffed.{at_desks, at_workers, written}

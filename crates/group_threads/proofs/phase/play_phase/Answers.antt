@@ -1,6 +1,3 @@
-use Rattle.std.proofs.Common.{◌≡◌, inl, inr, length, sym, ap, ◌∙◌, refl, arith}
-use lib.ListN.{length-map}
-use Rattle.group_threads.proofs.Looked.{from_looked, looked_same}
 use Rattle.group_threads.proofs.phase.play_phase.Goals as goal
 
 pub returns-in-Ok-clause-runs : goal.returns-in-Ok-clause-runs

@@ -1,4 +1,4 @@
-use Rattle.std.proofs.Common.{rules, ◌≡◌, ℕ, ◌≤◌, length, List, sym, ap, ◌∙◌, subst, arith}
+use Rattle.std.proofs.Common.{subst}
 use Rattle.turn_story.specs.Chains.{Leads}
 use Rattle.group_threads.specs.Desks.{member_in}
 use Rattle.group_threads.specs.Wholes.{StepsHand}

@@ -1,4 +1,4 @@
-use Rattle.std.proofs.Common.{◌≡◌, ◌⊎◌, OnOk, inl, inr}
+use Rattle.std.proofs.Common.{inl, inr}
 use Rattle.std.proofs.lemmas.Result.{on_ok_weaker}
 use Rattle.group_threads.proofs.Looked.{from_on, from_one}
 use Rattle.group_threads.proofs.run.go_on.Goals as goal

@@ -1,4 +1,3 @@
-use Rattle.std.proofs.Common.{◌≡◌, OnOk}
 use Rattle.std.proofs.lemmas.Result.{on_ok_weaker}
 use Rattle.group_threads.proofs.Looked.{from_looked, from_one, looked_same}
 use Rattle.group_threads.proofs.run.take_one.Goals as goal

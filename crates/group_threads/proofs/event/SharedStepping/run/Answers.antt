@@ -1,5 +1,4 @@
-use Rattle.std.proofs.Common.{◌≡◌, ℕ, ◌∷◌, ◌++◌, [], List, length, refl, sym, ap, subst, ◌∙◌, arith}
-use Rattle.std.proofs.lemmas.Grind.{common_steps}
+use Rattle.std.proofs.Common.{◌≡◌, ℕ, ◌∷◌, ◌++◌, [], List, length, refl, sym, ap, subst, ◌∙◌}
 use Rattle.group_threads.specs.declared.shared.Shared.{Shared}
 use Rattle.group_threads.proofs.Entered.{event_steps}
 use Rattle.group_threads.proofs.event.SharedStepping.run.Goals as goal
