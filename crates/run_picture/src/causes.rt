@@ -11,6 +11,7 @@ use picture_text::{Kind, Shape, ShapeList, Spot};
 use std::alloc::Global;
 
 // All that causes are drawn from.
+#[derive(Drop)]
 struct Sight<'a> {
     scale: &'a Scale,
     lanes: &'a Lanes,

@@ -45,15 +45,15 @@ struct Mark {
     text: &'static [u8],
 }
 
-fn mark(kind: Kind, text: &'static [u8]) -> Option<Mark> {
+fn make_mark(kind: Kind, text: &'static [u8]) -> Option<Mark> {
     Some(Mark { kind, text })
 }
 
 // What an event of the group marks. A phase begins, or the group fails.
 fn group_mark(choice: u64) -> Option<Mark> {
     match choice {
-        0 => mark(Kind::Phase, b"phase "),
-        1 => mark(Kind::Failure, b"group fails"),
+        0 => make_mark(Kind::Phase, b"phase "),
+        1 => make_mark(Kind::Failure, b"group fails"),
         _ => None,
     }
 }
@@ -61,12 +61,12 @@ fn group_mark(choice: u64) -> Option<Mark> {
 // What an event of a member marks.
 fn member_mark(event: &EventLine) -> Option<Mark> {
     match (event.command.as_slice(), event.reply.as_slice()) {
-        (b"fail", _) => mark(Kind::Failure, b"fails"),
-        (b"lose", b"done") => mark(Kind::Failure, b"cache lost"),
-        (b"log-length", _) if event.choice == 0 => mark(Kind::Mended, b"restarts"),
-        (b"set-status", b"done") => mark(Kind::Mended, b"is up"),
-        (b"rebuilt", b"done") => mark(Kind::Mended, b"cache rebuilt"),
-        (_, b"failed") => mark(Kind::Failure, b"disk fails"),
+        (b"fail", _) => make_mark(Kind::Failure, b"fails"),
+        (b"lose", b"done") => make_mark(Kind::Failure, b"cache lost"),
+        (b"log-length", _) if event.choice == 0 => make_mark(Kind::Mended, b"restarts"),
+        (b"set-status", b"done") => make_mark(Kind::Mended, b"is up"),
+        (b"rebuilt", b"done") => make_mark(Kind::Mended, b"cache rebuilt"),
+        (_, b"failed") => make_mark(Kind::Failure, b"disk fails"),
         _ => None,
     }
 }
@@ -80,6 +80,7 @@ fn mark_of(event: &EventLine) -> Option<Mark> {
 }
 
 // The lanes over which a mark goes, and where its texts end so far.
+#[derive(Clone, Copy)]
 struct Board {
     ends: [u64; 33],
     phases: u64,

@@ -81,6 +81,7 @@ fn rows_by_span(
 }
 
 // What a picture is drawn from, beside the report.
+#[derive(Drop)]
 struct Layout {
     scale: Scale,
     lanes: Lanes,
