@@ -1,0 +1,83 @@
+//! What is written for an order over the bytes of a report.
+
+ghost use Rattle.std.specs.Prelude.{◌≡◌, ℕ, ◌<◌, length, Ok, Err, IfOk};
+ghost use Rattle.ds_model.specs.declared.report.Report.{Report as AnyReport};
+ghost use Rattle.report_text.specs.Steps.{report_of};
+ghost use Rattle.picture_call.specs.Statuses as spec;
+ghost use Rattle.picture_call.specs.declared.status.Status.TheVariants as status;
+
+use crate::status::{Status, status_text};
+use crate::style::style;
+use crate::words::Order;
+use ds_base::{Bytes, NoMemory};
+use ds_model::Report;
+use picture_text::write_picture;
+use report_text::{ReportError, read_report};
+use run_picture::picture_of;
+use run_story::story_of;
+use std::alloc::Global;
+
+/// A status, and the text that is written for it.
+#[derive(Debug, Drop)]
+pub struct Telling {
+    pub status: Status,
+    pub text: Bytes,
+}
+
+/// A status without a picture.
+pub fn short_telling(alloc: Global, status: Status) -> Result<Telling, NoMemory>
+    ensures { IfOk result (λ t. (t.status ≡ status) × (t.text ≡ spec.status_text status)) }
+{
+    Ok(Telling {
+        status,
+        text: status_text(alloc, status)?,
+    })
+}
+
+fn told(text: Bytes) -> Telling
+    ensures { (result.status ≡ status.Done) × (result.text ≡ text) }
+{
+    Telling {
+        status: Status::Done,
+        text,
+    }
+}
+
+fn tell_story(alloc: Global, report: &Report, name: &[u8]) -> Result<Telling, NoMemory> {
+    match story_of(alloc, report, name)? {
+        Some(text) => Ok(told(text)),
+        None => short_telling(alloc, Status::NoTransaction),
+    }
+}
+
+fn tell_report(
+    alloc: Global,
+    order: Order,
+    name: &[u8],
+    report: &Report,
+) -> Result<Telling, NoMemory>
+    ensures untraced { length report.now.trace.events ≡ 0 → IfOk result (λ t. t.status ≡ status.NoTrace) }
+{
+    if report.trace.events.is_empty() {
+        return short_telling(alloc, Status::NoTrace);
+    }
+    match order {
+        Order::Draw(cut) => {
+            let picture = picture_of(alloc, report, &cut)?;
+            Ok(told(write_picture(alloc, style(), &picture)?))
+        }
+        Order::Why => tell_story(alloc, report, name),
+    }
+}
+
+/// What is written for an order over these bytes.
+pub fn answer(alloc: Global, order: Order, name: &[u8], bytes: &[u8]) -> Result<Telling, NoMemory>
+    ensures refused { (at : ℕ) → report_of bytes.now ≡ Err at → IfOk result (λ t. (t.status ≡ status.ReportRefused at) × (t.text ≡ spec.refused_text at)) }
+    ensures untraced { (r : AnyReport) → report_of bytes.now ≡ Ok r → length r.trace.events ≡ 0 → IfOk result (λ t. t.status ≡ status.NoTrace) }
+{
+    match read_report(alloc, bytes) {
+        Err(ReportError::NoMemory) => Err(NoMemory),
+        Err(ReportError::Bad { line }) => short_telling(alloc, Status::ReportRefused { line }),
+        Ok(report) => tell_report(alloc, order, name, &report),
+    }
+}

@@ -1,0 +1,14 @@
+//! The call that reads a report with its trace, and writes its picture, or what the trace tells of one transaction.
+#![tactic(auto)]
+
+mod answer;
+mod input;
+mod output;
+mod status;
+mod style;
+mod top;
+mod words;
+
+pub use status::Status;
+pub use top::call;
+pub use words::{Order, read_words};
