@@ -1,6 +1,10 @@
 //! The bars of transactions.
 
-use crate::lanes::{BAR, Lanes};
+ghost use Rattle.std.specs.Prelude.{◌≡◌, ℕ, ◌≤◌, true, map, IfOk};
+ghost use Rattle.run_picture.specs.Places.{kind_of, lane_of, IsWithin};
+
+use crate::lane::Lane;
+use crate::lanes::{BAR, lane_of, row_of};
 use crate::rows::{Row, take_room};
 use crate::scale::Scale;
 use crate::titles::{bar_title, text_of};
@@ -57,7 +61,9 @@ pub fn stand_of(
     })
 }
 
-fn kind_of(told: &Told) -> Kind {
+fn kind_of(told: &Told) -> Kind
+    ensures { result ≡ kind_of told.now }
+{
     match told {
         Told::Committed { answered: true, .. } => Kind::Answered,
         Told::Committed { .. } => Kind::Unanswered,
@@ -82,12 +88,16 @@ pub fn stand_at(stands: &[Stand], number: usize) -> Stand {
 fn bar_of(
     alloc: Global,
     scale: &Scale,
-    lanes: &Lanes,
+    lanes: &[Lane],
     entry: &ReportEntry,
     stand: Stand,
-) -> Result<Shape, NoMemory> {
+) -> Result<Shape, NoMemory>
+    ensures named { IfOk result (λ bar. bar.label ≡ entry.now.name) }
+    ensures kind { IfOk result (λ bar. bar.kind ≡ kind_of entry.now.told) }
+    ensures within { IfOk result (λ bar. IsWithin bar (lane_of lanes.now entry.now.member)) }
+{
     let (from, to) = sides(scale, stand.first, stand.last);
-    let down = lanes.row(entry.member.number() as u8, stand.row);
+    let down = row_of(lane_of(lanes, entry.member.number() as u8), stand.row);
     Ok(Shape {
         kind: kind_of(&entry.told),
         from: Spot { across: from, down },
@@ -104,10 +114,12 @@ fn bar_of(
 pub fn bars_of(
     alloc: Global,
     scale: &Scale,
-    lanes: &Lanes,
+    lanes: &[Lane],
     entries: &[ReportEntry],
     stands: &[Stand],
-) -> Result<ShapeList, NoMemory> {
+) -> Result<ShapeList, NoMemory>
+    ensures { IfOk result (λ bars. scale.now.is_whole ≡ true → map (λ b. b.label) bars ≡ map (λ e. e.name) entries.now) }
+{
     let mut bars = ShapeList::new(alloc);
     let mut number: usize = 0;
     for entry in entries {

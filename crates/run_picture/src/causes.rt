@@ -1,7 +1,8 @@
 //! What was in the way of a refused transaction: a line from its bar to that of the other, or to a member's lane.
 
 use crate::bars::{Stand, stand_at};
-use crate::lanes::{BAR, Lanes};
+use crate::lane::Lane;
+use crate::lanes::{BAR, lane_of, line_of, row_of};
 use crate::matching::place_of_cause;
 use crate::scale::Scale;
 use crate::titles::put_fate;
@@ -14,7 +15,7 @@ use std::alloc::Global;
 #[derive(Drop)]
 struct Sight<'a> {
     scale: &'a Scale,
-    lanes: &'a Lanes,
+    lanes: &'a [Lane],
     entries: &'a [ReportEntry],
     stands: &'a [Stand],
 }
@@ -24,12 +25,21 @@ fn middle_of(sight: &Sight<'_>, number: usize) -> u64 {
     match sight.entries.get(number) {
         Some(entry) => {
             let row = stand_at(sight.stands, number).row;
-            sight
-                .lanes
-                .row(entry.member.number() as u8, row)
-                .saturating_add(BAR / 2)
+            let lane = lane_of(sight.lanes, entry.member.number() as u8);
+            row_of(lane, row).saturating_add(BAR / 2)
         }
         None => 0,
+    }
+}
+
+// The side of a bar that faces a line's end.
+fn edge_of(middle: u64, end: u64) -> u64 {
+    if end < middle {
+        middle.saturating_sub(BAR / 2)
+    } else if middle.saturating_add(BAR / 2) < end {
+        middle.saturating_add(BAR / 2)
+    } else {
+        middle
     }
 }
 
@@ -65,7 +75,7 @@ fn line_to(
 fn end_of(sight: &Sight<'_>, refusal: &ToldRefusal, own: u64) -> u64 {
     match refusal {
         ToldRefusal::Held { by, .. } => middle_of(sight, number_of(sight.entries, by)),
-        ToldRefusal::Retained { by, .. } => sight.lanes.line(by.number() as u8),
+        ToldRefusal::Retained { by, .. } => line_of(lane_of(sight.lanes, by.number() as u8)),
         ToldRefusal::Deadlock { cycle } => match cycle.as_slice().get(1) {
             Some(next) => middle_of(sight, number_of(sight.entries, next)),
             None => own,
@@ -78,7 +88,7 @@ fn end_of(sight: &Sight<'_>, refusal: &ToldRefusal, own: u64) -> u64 {
 pub fn causes_of(
     alloc: Global,
     scale: &Scale,
-    lanes: &Lanes,
+    lanes: &[Lane],
     entries: &[ReportEntry],
     causes: &[CauseLine],
     stands: &[Stand],
@@ -99,7 +109,8 @@ pub fn causes_of(
         if sight.scale.has(place) {
             let own = middle_of(&sight, number);
             let end = end_of(&sight, refusal, own);
-            shapes.push(line_to(alloc, entry, sight.scale.across(place), own, end)?)?;
+            let edge = edge_of(own, end);
+            shapes.push(line_to(alloc, entry, sight.scale.across(place), edge, end)?)?;
         }
     }
     Ok(shapes)

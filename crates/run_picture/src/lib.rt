@@ -3,8 +3,11 @@
 
 mod bars;
 mod causes;
+mod cut;
 mod events;
+mod lane;
 mod lanes;
+mod laws;
 mod lines;
 mod marks;
 mod matching;
@@ -13,6 +16,8 @@ mod rows;
 mod scale;
 mod titles;
 
+pub use cut::Cut;
+pub use laws::order_law;
 pub use matching::{match_spans, place_of_cause};
-pub use picture::{Cut, picture_of};
+pub use picture::picture_of;
 pub use titles::put_fate;

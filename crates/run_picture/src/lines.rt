@@ -1,7 +1,8 @@
 //! Waits, and lines between lanes: what came before the end of a wait, and pages that went to another member.
 
 use crate::bars::{Stand, stand_at};
-use crate::lanes::{BAR, Lanes};
+use crate::lane::Lane;
+use crate::lanes::{BAR, lane_of, line_of, row_of};
 use crate::scale::Scale;
 use crate::titles::counted_twice;
 use ds_base::{Bytes, NoMemory};
@@ -10,21 +11,21 @@ use run_spans::{At, Passage, Wait};
 use std::alloc::Global;
 
 // Where the stroke of an event ends.
-fn spot_of(scale: &Scale, lanes: &Lanes, at: &At) -> Spot {
+fn spot_of(scale: &Scale, lanes: &[Lane], at: &At) -> Spot {
     Spot {
         across: scale.across(at.place),
-        down: lanes.line(at.member),
+        down: line_of(lane_of(lanes, at.member)),
     }
 }
 
 fn hatched(
     alloc: Global,
     scale: &Scale,
-    lanes: &Lanes,
+    lanes: &[Lane],
     wait: &Wait,
     row: u64,
 ) -> Result<Shape, NoMemory> {
-    let down = lanes.row(wait.member, row);
+    let down = row_of(lane_of(lanes, wait.member), row);
     Ok(Shape {
         kind: Kind::Wait,
         from: Spot {
@@ -44,11 +45,11 @@ fn hatched(
 fn rung_by(
     alloc: Global,
     scale: &Scale,
-    lanes: &Lanes,
+    lanes: &[Lane],
     wait: &Wait,
     row: u64,
 ) -> Result<Shape, NoMemory> {
-    let down = lanes.row(wait.member, row);
+    let down = row_of(lane_of(lanes, wait.member), row);
     Ok(Shape {
         kind: Kind::Rung,
         from: spot_of(scale, lanes, &wait.rung),
@@ -71,7 +72,7 @@ fn rung_by(
 pub fn waits_of(
     alloc: Global,
     scale: &Scale,
-    lanes: &Lanes,
+    lanes: &[Lane],
     waits: &[Wait],
     rows: &[Stand],
 ) -> Result<ShapeList, NoMemory> {
@@ -88,7 +89,7 @@ pub fn waits_of(
     Ok(shapes)
 }
 
-fn arrow(alloc: Global, scale: &Scale, lanes: &Lanes, page: &Passage) -> Result<Shape, NoMemory> {
+fn arrow(alloc: Global, scale: &Scale, lanes: &[Lane], page: &Passage) -> Result<Shape, NoMemory> {
     Ok(Shape {
         kind: Kind::Page,
         from: spot_of(scale, lanes, &page.write),
@@ -108,12 +109,12 @@ fn arrow(alloc: Global, scale: &Scale, lanes: &Lanes, page: &Passage) -> Result<
 pub fn pages_of(
     alloc: Global,
     scale: &Scale,
-    lanes: &Lanes,
+    lanes: &[Lane],
     pages: &[Passage],
 ) -> Result<ShapeList, NoMemory> {
     let mut shapes = ShapeList::new(alloc);
     for page in pages {
-        if scale.has(page.write.place) && scale.has(page.read.place) {
+        if scale.has(page.write.place) && scale.draws(page.read.place) {
             shapes.push(arrow(alloc, scale, lanes, page)?)?;
         }
     }

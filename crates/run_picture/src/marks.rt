@@ -1,6 +1,7 @@
 //! Lanes, phases, failures and what mends them.
 
-use crate::lanes::Lanes;
+use crate::lane::Lane;
+use crate::lanes::{height_of, lane_of};
 use crate::scale::{EDGE, RIGHT, Scale};
 use crate::titles::{counted, event_title, text_of};
 use ds_base::{Bytes, NoMemory};
@@ -8,7 +9,7 @@ use ds_model::EventLine;
 use picture_text::{Kind, Shape, ShapeList, Spot};
 use std::alloc::Global;
 
-fn lane_of(alloc: Global, lanes: &Lanes, member: u8) -> Result<Shape, NoMemory> {
+fn draw_lane(alloc: Global, lanes: &[Lane], member: u8) -> Result<Shape, NoMemory> {
     let label = if member == 0 {
         text_of(alloc, b"group")?
     } else {
@@ -18,11 +19,11 @@ fn lane_of(alloc: Global, lanes: &Lanes, member: u8) -> Result<Shape, NoMemory> 
         kind: Kind::Lane,
         from: Spot {
             across: EDGE,
-            down: lanes.top(member),
+            down: lane_of(lanes, member).top,
         },
         to: Spot {
             across: RIGHT,
-            down: lanes.bottom(member),
+            down: lane_of(lanes, member).bottom,
         },
         title: counted(alloc, b"member ", u64::from(member))?,
         label,
@@ -30,10 +31,10 @@ fn lane_of(alloc: Global, lanes: &Lanes, member: u8) -> Result<Shape, NoMemory> 
 }
 
 /// The lanes of the group and of its members.
-pub fn lanes_of(alloc: Global, lanes: &Lanes, members: u8) -> Result<ShapeList, NoMemory> {
+pub fn lanes_of(alloc: Global, lanes: &[Lane], members: u8) -> Result<ShapeList, NoMemory> {
     let mut shapes = ShapeList::new(alloc);
     for member in 0..u64::from(members) + 1 {
-        shapes.push(lane_of(alloc, lanes, member as u8)?)?;
+        shapes.push(draw_lane(alloc, lanes, member as u8)?)?;
     }
     Ok(shapes)
 }
@@ -118,7 +119,7 @@ fn label_for(
 fn put_mark(
     alloc: Global,
     scale: &Scale,
-    lanes: &Lanes,
+    lanes: &[Lane],
     board: &mut Board,
     event: &EventLine,
     mark: &Mark,
@@ -126,15 +127,15 @@ fn put_mark(
     let across = scale.across(event.place);
     let text = text_for(alloc, mark, board.phases)?;
     let bottom = if event.member == 0 {
-        lanes.height()
+        height_of(lanes)
     } else {
-        lanes.bottom(event.member)
+        lane_of(lanes, event.member).bottom
     };
     Ok(Shape {
         kind: mark.kind,
         from: Spot {
             across,
-            down: lanes.top(event.member),
+            down: lane_of(lanes, event.member).top,
         },
         to: Spot {
             across,
@@ -149,7 +150,7 @@ fn put_mark(
 pub fn marks_of(
     alloc: Global,
     scale: &Scale,
-    lanes: &Lanes,
+    lanes: &[Lane],
     events: &[EventLine],
     of_phases: bool,
 ) -> Result<ShapeList, NoMemory> {

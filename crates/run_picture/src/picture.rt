@@ -1,9 +1,15 @@
 //! The picture of a report with its trace.
 
+ghost use Rattle.std.specs.Prelude.{◌≡◌, true, length, map, IfOk};
+ghost use Rattle.std.specs.List.{flat_map};
+ghost use Rattle.run_picture.specs.Places.{is_whole, pixels_of, scale_of};
+
 use crate::bars::{Stand, bars_of, stand_at, stands_of};
 use crate::causes::causes_of;
+use crate::cut::Cut;
 use crate::events::strokes_of;
-use crate::lanes::Lanes;
+use crate::lane::Lane;
+use crate::lanes::{height_of, make_lanes};
 use crate::lines::{pages_of, waits_of};
 use crate::marks::{lanes_of, marks_of};
 use crate::matching::match_spans;
@@ -15,20 +21,16 @@ use picture_text::Picture;
 use run_spans::{Spans, read_spans};
 use std::alloc::Global;
 
-/// Which events are drawn, by the places of the first and the last; where one isn't given, from the first on, or to the last.
-#[derive(Clone, Copy, Debug, PartialEq, Eq)]
-pub struct Cut {
-    pub from: Option<u64>,
-    pub to: Option<u64>,
-}
-
-fn scale_of(cut: &Cut, events: u64) -> Scale {
-    let is_whole = cut.from.is_none() && cut.to.is_none();
-    Scale::new(
-        cut.from.unwrap_or(1),
-        cut.to.unwrap_or(events).min(events),
-        is_whole,
-    )
+fn scale_of(cut: &Cut, events: u64) -> Scale
+    ensures { result ≡ scale_of cut.now events }
+{
+    let from = cut.from.unwrap_or(1);
+    let to = cut.to.unwrap_or(events).min(events);
+    Scale {
+        from,
+        count: to.saturating_sub(from).saturating_add(1),
+        is_whole: cut.from.is_none() && cut.to.is_none(),
+    }
 }
 
 // The greatest number of a member that has an event or a transaction.
@@ -84,18 +86,15 @@ fn rows_by_span(
 #[derive(Drop)]
 struct Layout {
     scale: Scale,
-    lanes: Lanes,
+    lanes: Vec<Lane>,
     members: u8,
     stands: Vec<Stand>,
     rows: Vec<Stand>,
 }
 
-fn layout_of(
-    alloc: Global,
-    report: &Report,
-    scale: Scale,
-    read: &Spans,
-) -> Result<Layout, NoMemory> {
+fn layout_of(alloc: Global, report: &Report, scale: Scale, read: &Spans) -> Result<Layout, NoMemory>
+    ensures { IfOk result (λ layout. layout.scale ≡ scale) }
+{
     let entries = report.entries.as_slice();
     let events = report.trace.events.as_slice();
     let numbers = match_spans(alloc, entries, report.trace.causes.as_slice(), &read.spans)?;
@@ -113,26 +112,24 @@ fn layout_of(
     let members = members_of(entries, events);
     Ok(Layout {
         scale,
-        lanes: Lanes::new(alloc, &taken, members)?,
+        lanes: make_lanes(alloc, &taken, members)?,
         members,
         rows: rows_by_span(alloc, &numbers, &stands, read.spans.len())?,
         stands,
     })
 }
 
-fn drawn(
-    alloc: Global,
-    report: &Report,
-    read: &Spans,
-    layout: &Layout,
-) -> Result<Picture, NoMemory> {
+fn drawn(alloc: Global, report: &Report, read: &Spans, layout: &Layout) -> Result<Picture, NoMemory>
+    ensures bars { IfOk result (λ p. layout.now.scale.is_whole ≡ true → map (λ b. b.label) p.bars ≡ map (λ e. e.name) report.now.entries) }
+    ensures events { IfOk result (λ p. map (λ s. s.from.across) p.events ≡ flat_map (pixels_of layout.now.scale) report.now.trace.events) }
+{
     let entries = report.entries.as_slice();
     let events = report.trace.events.as_slice();
     let causes = report.trace.causes.as_slice();
     let scale = &layout.scale;
-    let lanes = &layout.lanes;
+    let lanes = layout.lanes.as_slice();
     Ok(Picture {
-        height: lanes.height(),
+        height: height_of(lanes),
         lanes: lanes_of(alloc, lanes, layout.members)?,
         phases: marks_of(alloc, scale, lanes, events, true)?,
         bars: bars_of(alloc, scale, lanes, entries, &layout.stands)?,
@@ -145,7 +142,10 @@ fn drawn(
 }
 
 /// The picture of a report with its trace, or of those events of it that are asked for.
-pub fn picture_of(alloc: Global, report: &Report, cut: &Cut) -> Result<Picture, NoMemory> {
+pub fn picture_of(alloc: Global, report: &Report, cut: &Cut) -> Result<Picture, NoMemory>
+    ensures bars { IfOk result (λ p. is_whole cut.now ≡ true → map (λ b. b.label) p.bars ≡ map (λ e. e.name) report.now.entries) }
+    ensures events { IfOk result (λ p. map (λ s. s.from.across) p.events ≡ flat_map (pixels_of (scale_of cut.now (length report.now.trace.events))) report.now.trace.events) }
+{
     let events = report.trace.events.as_slice();
     let read = read_spans(alloc, events)?;
     let scale = scale_of(cut, events.len() as u64);

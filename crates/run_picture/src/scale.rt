@@ -1,5 +1,7 @@
 //! Where an event lies between the left and the right side.
 
+ghost use Rattle.std.specs.Prelude.{◌≡◌, true};
+
 /// The first pixel of events, and how many pixels they have.
 pub const LEFT: u64 = 76;
 
@@ -22,34 +24,36 @@ pub struct Scale {
 }
 
 impl Scale {
-    /// Of the places from one to the other.
-    pub fn new(from: u64, to: u64, is_whole: bool) -> Scale {
-        Scale {
-            from,
-            count: to.saturating_sub(from).saturating_add(1),
-            is_whole,
-        }
-    }
+    ghost use Rattle.run_picture.specs.Places as spec;
 
     /// Whether a place is one of those.
-    pub fn has(&self, place: u64) -> bool {
+    pub fn has(&self, place: u64) -> bool
+        ensures { result ≡ spec.has self.now place }
+    {
         self.from <= place && place - self.from < self.count
     }
 
     /// Whether something that goes from one place to another is in the picture.
-    pub fn meets(&self, first: u64, last: u64) -> bool {
+    pub fn meets(&self, first: u64, last: u64) -> bool
+        ensures whole { self.now.is_whole ≡ true → result ≡ true }
+    {
         self.is_whole || (self.from <= last && (first <= self.from || self.has(first)))
     }
 
     /// The pixel of a place. What lies before the first place is at the left side, and what lies behind the last at the right one.
-    pub fn across(&self, place: u64) -> u64 {
+    #[tactic(auto, unfolding(crate::specs::Places::across_of))]
+    pub fn across(&self, place: u64) -> u64
+        ensures { result ≡ spec.across_of self.now place }
+    {
         let behind = place.saturating_sub(self.from).min(self.count);
         let pixels = behind.saturating_mul(BREADTH) / self.count.max(1);
         LEFT + pixels.min(BREADTH)
     }
 
     /// Whether the event at a place is drawn: each of a short run, and each so many-th of a long one.
-    pub fn draws(&self, place: u64) -> bool {
-        self.has(place) && place.is_multiple_of(self.count / MOST_EVENTS + 1)
+    pub fn draws(&self, place: u64) -> bool
+        ensures { result ≡ spec.draws self.now place }
+    {
+        self.has(place) && place % (self.count / MOST_EVENTS + 1) == 0
     }
 }

@@ -1,5 +1,7 @@
 //! What is said of a shape where one points at it.
 
+ghost use Rattle.std.specs.Prelude.{◌≡◌, IfOk};
+
 use ds_base::{Bytes, NoMemory};
 use ds_model::{EventLine, ReportEntry, Told};
 use report_line::{put_committed, put_event, put_refused, put_stopped};
@@ -16,7 +18,9 @@ pub fn put_number(
 }
 
 /// A text by itself.
-pub fn text_of(alloc: Global, text: &[u8]) -> Result<Bytes, NoMemory> {
+pub fn text_of(alloc: Global, text: &[u8]) -> Result<Bytes, NoMemory>
+    ensures { IfOk result (λ out. out ≡ text.now) }
+{
     let mut out = Bytes::new(alloc);
     out.extend(text)?;
     Ok(out)

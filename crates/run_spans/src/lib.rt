@@ -9,8 +9,10 @@ mod deed;
 mod latest;
 mod reader;
 mod span;
+mod spans;
 
 pub use deed::{Deed, deed_of};
 pub use latest::{At, Latest};
-pub use reader::{Spans, read_spans};
+pub use reader::read_spans;
 pub use span::{End, Passage, Span, Wait};
+pub use spans::Spans;

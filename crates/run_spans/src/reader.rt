@@ -1,23 +1,18 @@
 //! The reading of a trace, event by event.
 
+ghost use Rattle.std.specs.Prelude.{◌≤◌, ◌≡◌, IfOk};
+ghost use Rattle.run_spans.specs.Reaches.{IsReach, IsWaiting, AreReaches};
+
 use crate::deed::{Deed, deed_of};
 use crate::latest::{At, Latest};
 use crate::span::{End, Passage, Span, Wait};
+use crate::spans::Spans;
 use ds_base::NoMemory;
 use ds_model::EventLine;
 use std::alloc::Global;
 
 // The members of a group, and the group itself.
 const MEMBERS: usize = 33;
-
-/// What has been read.
-#[derive(Drop)]
-pub struct Spans {
-    /// In the order of their first events.
-    pub spans: Vec<Span>,
-    pub waits: Vec<Wait>,
-    pub pages: Vec<Passage>,
-}
 
 // What is known of the group behind the events so far.
 #[derive(Clone, Copy)]
@@ -68,7 +63,9 @@ fn open_at(spans: &[Span], at: &At) -> Option<usize> {
     None
 }
 
-fn begun(at: &At) -> Span {
+fn begun(at: &At) -> Span
+    ensures { IsReach result }
+{
     Span {
         member: at.member,
         choice: at.choice,
@@ -81,12 +78,14 @@ fn begun(at: &At) -> Span {
     }
 }
 
-fn wait_of(number: usize, span: &Span, to: u64) -> Wait {
+fn wait_of(number: usize, span: &Span, to: u64) -> Wait
+    ensures { IsWaiting result }
+{
     Wait {
         span: number,
         member: span.member,
         from: span.waits_from,
-        to,
+        to: to.max(span.waits_from),
         rung: span.rung,
     }
 }
@@ -101,9 +100,13 @@ fn end_of(span: &Span) -> End {
 }
 
 // A transaction behind one more event of its own.
-fn behind(span: Span, at: &At, deed: Deed, rung: At) -> Span {
+fn behind(span: Span, at: &At, deed: Deed, rung: At) -> Span
+    requires { IsReach span }
+    ensures reach { IsReach result }
+    ensures first { result.first ≡ span.first }
+{
     let mut next = span;
-    next.last = at.place;
+    next.last = span.last.max(at.place);
     match deed {
         Deed::Draw => next.commit = at.place,
         Deed::Wait if span.waits_from == 0 => next.waits_from = at.place,
@@ -122,7 +125,10 @@ fn ends_wait(span: &Span, deed: Deed) -> bool {
 }
 
 // One more event of a seat.
-fn step_seat(read: &mut Spans, at: &At, deed: Deed, rung: At) -> Result<(), NoMemory> {
+fn step_seat(read: &mut Spans, at: &At, deed: Deed, rung: At) -> Result<(), NoMemory>
+    requires { AreReaches read.old }
+    ensures { IfOk result (λ _. AreReaches read.new) }
+{
     let Some(number) = open_at(&read.spans, at) else {
         if deed == Deed::Nothing {
             read.spans.push(begun(at))?;
@@ -140,9 +146,13 @@ fn step_seat(read: &mut Spans, at: &At, deed: Deed, rung: At) -> Result<(), NoMe
 }
 
 // A transaction whose member fails.
-fn failed(span: Span, place: u64, appended: u64) -> Span {
+fn failed(span: Span, place: u64, appended: u64) -> Span
+    requires { IsReach span }
+    ensures reach { IsReach result }
+    ensures first { result.first ≡ span.first }
+{
     let mut next = span;
-    next.last = place;
+    next.last = span.last.max(place);
     next.waits_from = 0;
     next.end = if span.commit > 0 && span.commit < appended {
         End::Committed
@@ -152,24 +162,40 @@ fn failed(span: Span, place: u64, appended: u64) -> Span {
     next
 }
 
+// One transaction where a member fails.
+fn fail_one(read: &mut Spans, number: usize, at: &At, appended: u64) -> Result<(), NoMemory>
+    requires { AreReaches read.old }
+    ensures { IfOk result (λ _. AreReaches read.new) }
+{
+    let Some(span) = read.spans.get(number).copied() else {
+        return Ok(());
+    };
+    if span.member != at.member || span.end != End::Open {
+        return Ok(());
+    }
+    if span.waits_from > 0 {
+        read.waits.push(wait_of(number, &span, at.place))?;
+    }
+    read.spans[number] = failed(span, at.place, appended);
+    Ok(())
+}
+
 // All that a member has open ends with its failure.
-fn step_fail(read: &mut Spans, at: &At, appended: u64) -> Result<(), NoMemory> {
+fn step_fail(read: &mut Spans, at: &At, appended: u64) -> Result<(), NoMemory>
+    requires { AreReaches read.old }
+    ensures { IfOk result (λ _. AreReaches read.new) }
+{
     for number in 0..read.spans.len() {
-        let Some(span) = read.spans.get(number).copied() else {
-            return Ok(());
-        };
-        if span.member == at.member && span.end == End::Open {
-            if span.waits_from > 0 {
-                read.waits.push(wait_of(number, &span, at.place))?;
-            }
-            read.spans[number] = failed(span, at.place, appended);
-        }
+        fail_one(read, number, at, appended)?;
     }
     Ok(())
 }
 
 // A page that is found in the cache may be what another member wrote last.
-fn step_read(read: &mut Spans, marks: &mut Marks, at: At) -> Result<(), NoMemory> {
+fn step_read(read: &mut Spans, marks: &mut Marks, at: At) -> Result<(), NoMemory>
+    requires { AreReaches read.old }
+    ensures { IfOk result (λ _. AreReaches read.new) }
+{
     let reader = At { choice: 0, ..at };
     let write = marks.written.by_others(&reader);
     let member = usize::from(at.member).min(MEMBERS - 1);
@@ -191,7 +217,10 @@ fn note(marks: &mut Marks, at: At, deed: Deed) {
     }
 }
 
-fn step(read: &mut Spans, marks: &mut Marks, event: &EventLine) -> Result<(), NoMemory> {
+fn step(read: &mut Spans, marks: &mut Marks, event: &EventLine) -> Result<(), NoMemory>
+    requires { AreReaches read.old }
+    ensures { IfOk result (λ _. AreReaches read.new) }
+{
     let at = at_of(event);
     let deed = deed_of(event);
     if deed == Deed::Fail {
@@ -208,7 +237,9 @@ fn step(read: &mut Spans, marks: &mut Marks, event: &EventLine) -> Result<(), No
 }
 
 /// The transactions of a trace, with their waits, and the pages that may have come from another member.
-pub fn read_spans(alloc: Global, events: &[EventLine]) -> Result<Spans, NoMemory> {
+pub fn read_spans(alloc: Global, events: &[EventLine]) -> Result<Spans, NoMemory>
+    ensures { IfOk result AreReaches }
+{
     let mut read = Spans {
         spans: Vec::new(alloc),
         waits: Vec::new(alloc),
