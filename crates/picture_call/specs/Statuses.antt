@@ -1,5 +1,5 @@
 -- The number of each status, and the text of one without a picture.
-use Rattle.std.specs.Prelude.{ℕ, List, [], ◌∷◌, ◌++◌, codes, decimal}
+use Rattle.std.specs.Prelude.{ℕ, List, [], ◌++◌, codes, decimal}
 use Rattle.ds_model.specs.ScriptText.{line}
 use Rattle.picture_call.specs.declared.status.Status.{Status}
 use Rattle.picture_call.specs.declared.status.Status.TheVariants as status

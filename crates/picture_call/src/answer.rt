@@ -1,9 +1,13 @@
 //! What is written for an order over the bytes of a report.
 
-ghost use Rattle.std.specs.Prelude.{◌≡◌, ℕ, ◌<◌, length, Ok, Err, IfOk};
+ghost use Rattle.std.specs.Prelude.{◌≡◌, ℕ, ◌<◌, true, length, Ok, Err, IfOk};
 ghost use Rattle.ds_model.specs.declared.report.Report.{Report as AnyReport};
 ghost use Rattle.report_text.specs.Steps.{report_of};
+ghost use Rattle.run_picture.specs.Places.{is_whole};
+ghost use Rattle.run_picture.specs.declared.cut.Cut.{Cut as AnyCut};
+ghost use Rattle.picture_call.specs.Calls.{IsDrawn, IsNamed, IsUnhindered};
 ghost use Rattle.picture_call.specs.Statuses as spec;
+ghost use Rattle.picture_call.specs.declared.words.Order.TheVariants as orders;
 ghost use Rattle.picture_call.specs.declared.status.Status.TheVariants as status;
 
 use crate::status::{Status, status_text};
@@ -13,7 +17,7 @@ use ds_base::{Bytes, NoMemory};
 use ds_model::Report;
 use picture_text::write_picture;
 use report_text::{ReportError, read_report};
-use run_picture::picture_of;
+use run_picture::{Cut, picture_of};
 use run_story::story_of;
 use std::alloc::Global;
 
@@ -26,7 +30,8 @@ pub struct Telling {
 
 /// A status without a picture.
 pub fn short_telling(alloc: Global, status: Status) -> Result<Telling, NoMemory>
-    ensures { IfOk result (λ t. (t.status ≡ status) × (t.text ≡ spec.status_text status)) }
+    ensures exact { IfOk result (λ t. (t.status ≡ status) × (t.text ≡ spec.status_text status)) }
+    ensures named { IfOk result (λ t. IsNamed t.status t.text) }
 {
     Ok(Telling {
         status,
@@ -43,7 +48,17 @@ fn told(text: Bytes) -> Telling
     }
 }
 
-fn tell_story(alloc: Global, report: &Report, name: &[u8]) -> Result<Telling, NoMemory> {
+fn draw(alloc: Global, report: &Report, cut: &Cut) -> Result<Bytes, NoMemory>
+    ensures { is_whole cut.now ≡ true → IfOk result (λ text. IsDrawn report.now text) }
+{
+    let picture = picture_of(alloc, report, cut)?;
+    write_picture(alloc, style(), &picture)
+}
+
+fn tell_story(alloc: Global, report: &Report, name: &[u8]) -> Result<Telling, NoMemory>
+    ensures named { IfOk result (λ t. IsNamed t.status t.text) }
+    ensures unhindered { IfOk result (λ t. IsUnhindered t.status) }
+{
     match story_of(alloc, report, name)? {
         Some(text) => Ok(told(text)),
         None => short_telling(alloc, Status::NoTransaction),
@@ -57,15 +72,15 @@ fn tell_report(
     report: &Report,
 ) -> Result<Telling, NoMemory>
     ensures untraced { length report.now.trace.events ≡ 0 → IfOk result (λ t. t.status ≡ status.NoTrace) }
+    ensures drawn { (cut : AnyCut) → order ≡ orders.Draw cut → is_whole cut ≡ true → 0 < length report.now.trace.events → IfOk result (λ t. IsDrawn report.now t.text) }
+    ensures named { IfOk result (λ t. IsNamed t.status t.text) }
+    ensures unhindered { IfOk result (λ t. IsUnhindered t.status) }
 {
     if report.trace.events.is_empty() {
         return short_telling(alloc, Status::NoTrace);
     }
     match order {
-        Order::Draw(cut) => {
-            let picture = picture_of(alloc, report, &cut)?;
-            Ok(told(write_picture(alloc, style(), &picture)?))
-        }
+        Order::Draw(cut) => Ok(told(draw(alloc, report, &cut)?)),
         Order::Why => tell_story(alloc, report, name),
     }
 }
@@ -74,6 +89,9 @@ fn tell_report(
 pub fn answer(alloc: Global, order: Order, name: &[u8], bytes: &[u8]) -> Result<Telling, NoMemory>
     ensures refused { (at : ℕ) → report_of bytes.now ≡ Err at → IfOk result (λ t. (t.status ≡ status.ReportRefused at) × (t.text ≡ spec.refused_text at)) }
     ensures untraced { (r : AnyReport) → report_of bytes.now ≡ Ok r → length r.trace.events ≡ 0 → IfOk result (λ t. t.status ≡ status.NoTrace) }
+    ensures drawn { (r : AnyReport) (cut : AnyCut) → report_of bytes.now ≡ Ok r → order ≡ orders.Draw cut → is_whole cut ≡ true → 0 < length r.trace.events → IfOk result (λ t. IsDrawn r t.text) }
+    ensures named { IfOk result (λ t. IsNamed t.status t.text) }
+    ensures unhindered { IfOk result (λ t. IsUnhindered t.status) }
 {
     match read_report(alloc, bytes) {
         Err(ReportError::NoMemory) => Err(NoMemory),

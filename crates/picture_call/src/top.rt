@@ -1,5 +1,9 @@
 //! The call as a whole.
 
+ghost use Rattle.std.specs.Prelude.{ℕ, List, IfOk};
+ghost use Rattle.picture_call.specs.Calls.{IsCaused, IsNamed, IsWritable, Tells};
+ghost use Rattle.picture_call.specs.declared.status.Status.{Status as AnyStatus};
+
 use crate::answer::{Telling, answer, short_telling};
 use crate::input::{ReadError, read_all};
 use crate::output::write_all;
@@ -21,7 +25,11 @@ fn tell_source<S: Source>(
     order: Order,
     name: &[u8],
     source: &mut S,
-) -> Result<Telling, NoMemory> {
+) -> Result<Telling, NoMemory>
+    ensures named { IfOk result (λ t. IsNamed t.status t.text) }
+    ensures writable { IfOk result (λ t. IsWritable t.status) }
+    ensures caused { IfOk result (λ t. IsCaused t.status (S.faults source.old) (S.faults source.new)) }
+{
     match read_all(alloc, source) {
         Err(ReadError::NoMemory) => Err(NoMemory),
         Err(ReadError::Failed) => short_telling(alloc, Status::SourceFailed),
@@ -29,10 +37,40 @@ fn tell_source<S: Source>(
     }
 }
 
-fn tell<S: Source>(alloc: Global, words: &[String], source: &mut S) -> Result<Telling, NoMemory> {
+fn tell<S: Source>(alloc: Global, words: &[String], source: &mut S) -> Result<Telling, NoMemory>
+    ensures named { IfOk result (λ t. IsNamed t.status t.text) }
+    ensures writable { IfOk result (λ t. IsWritable t.status) }
+    ensures caused { IfOk result (λ t. IsCaused t.status (S.faults source.old) (S.faults source.new)) }
+{
     match read_words(words) {
         None => short_telling(alloc, Status::WordsRefused),
         Some(order) => tell_source(alloc, order, name_in(words), source),
+    }
+}
+
+// What is told, also where memory is wanting.
+fn tell_all<S: Source>(alloc: Global, words: &[String], source: &mut S) -> Telling
+    ensures named { IsNamed result.status result.text }
+    ensures writable { IsWritable result.status }
+    ensures caused { IsCaused result.status (S.faults source.old) (S.faults source.new) }
+{
+    match tell(alloc, words, source) {
+        Ok(telling) => telling,
+        Err(NoMemory) => Telling {
+            status: Status::NoMemory,
+            text: Bytes::new(alloc),
+        },
+    }
+}
+
+// Writes what is told, and answers the status that stands in the end.
+fn write_telling<K: Sink>(sink: &mut K, telling: &Telling) -> Status
+    requires { IsWritable telling.now.status }
+    ensures { Tells telling.now.status result telling.now.text (K.taken sink.old) (K.taken sink.new) (K.faults sink.old) (K.faults sink.new) }
+{
+    match write_all(sink, telling.text.as_slice()) {
+        Ok(()) => telling.status,
+        Err(_) => Status::SinkFailed,
     }
 }
 
@@ -42,16 +80,10 @@ pub fn call<S: Source, K: Sink>(
     words: &[String],
     source: &mut S,
     sink: &mut K,
-) -> Status {
-    let telling = match tell(alloc, words, source) {
-        Ok(telling) => telling,
-        Err(NoMemory) => Telling {
-            status: Status::NoMemory,
-            text: Bytes::new(alloc),
-        },
-    };
-    match write_all(sink, telling.text.as_slice()) {
-        Ok(()) => telling.status,
-        Err(_) => Status::SinkFailed,
-    }
+) -> Status
+    ensures { (met : AnyStatus) × (text : List ℕ) × IsNamed met text × IsCaused met (S.faults source.old) (S.faults source.new)
+        × Tells met result text (K.taken sink.old) (K.taken sink.new) (K.faults sink.old) (K.faults sink.new) }
+{
+    let telling = tell_all(alloc, words, source);
+    write_telling(sink, &telling)
 }

@@ -1,0 +1,38 @@
+-- How a call ends, and what it writes.
+use Rattle.std.specs.Prelude.{◌≡◌, ℕ, ◌<◌, List, length, map, take, Option}
+use Rattle.std.specs.Io.KnownBytes.{Appends}
+use Rattle.ds_base.specs.Causes.{Rose}
+use Rattle.ds_model.specs.declared.report.Report.{Report}
+use Rattle.picture_text.specs.declared.picture.Picture.{Picture}
+use Rattle.picture_text.specs.Svg.{picture_text}
+use Rattle.picture_call.specs.declared.status.Status.{Status}
+use Rattle.picture_call.specs.declared.status.Status.TheVariants as status
+use Rattle.picture_call.specs.Statuses.{status_text}
+
+-- a text is the spelling of a picture with one bar for each transaction of a report
+pub record IsDrawn (report : Report) (text : List ℕ) : Type 0 where
+  pub style : List ℕ
+  pub picture : Picture
+  pub spelling : text ≡ picture_text style picture
+  pub bars : map (λ b. b.label) picture.bars ≡ map (λ e. e.name) report.entries
+
+-- a status that names what is wrong is written as its text
+abbrev pub IsNamed : Status → List ℕ → Type 0
+IsNamed met text = (met ≡ status.Done → ⊥) → text ≡ status_text met
+
+-- neither source nor sink have failed
+abbrev pub IsUnhindered : Status → Type 0
+IsUnhindered met = (met ≡ status.SourceFailed → ⊥) × (met ≡ status.SinkFailed → ⊥)
+
+-- the sink hasn't failed
+abbrev pub IsWritable : Status → Type 0
+IsWritable met = met ≡ status.SinkFailed → ⊥
+
+-- the source failed only where it counted
+abbrev pub IsCaused : Status → ℕ → ℕ → Type 0
+IsCaused met faults faults_now = met ≡ status.SourceFailed → Rose faults faults_now
+
+-- the sink took the whole text; or it failed, as it counted, and took a front of it
+pub record Tells (met ended : Status) (text : List ℕ) (taken taken_now : Option (List ℕ)) (faults faults_now : ℕ) : Type 0 where
+  pub whole : (ended ≡ status.SinkFailed → ⊥) → (ended ≡ met) × Appends taken taken_now text
+  pub front : ended ≡ status.SinkFailed → Rose faults faults_now × ((n : ℕ) × (n < length text) × Appends taken taken_now (take n text))
