@@ -7,12 +7,12 @@ ghost use Rattle.run_picture.specs.Places.{is_whole};
 ghost use Rattle.run_picture.specs.declared.cut.Cut.{Cut as AnyCut};
 ghost use Rattle.picture_call.specs.Calls.{IsDrawn, IsNamed, IsUnhindered};
 ghost use Rattle.picture_call.specs.Statuses as spec;
-ghost use Rattle.picture_call.specs.declared.words.Order.TheVariants as orders;
+ghost use Rattle.picture_call.specs.declared.order.Order.TheVariants as orders;
 ghost use Rattle.picture_call.specs.declared.status.Status.TheVariants as status;
 
+use crate::order::Order;
 use crate::status::{Status, status_text};
 use crate::style::style;
-use crate::words::Order;
 use ds_base::{Bytes, NoMemory};
 use ds_model::Report;
 use picture_text::write_picture;

@@ -3,12 +3,14 @@
 
 mod answer;
 mod input;
+mod order;
 mod output;
 mod status;
 mod style;
 mod top;
 mod words;
 
+pub use order::Order;
 pub use status::Status;
 pub use top::call;
-pub use words::{Order, read_words};
+pub use words::read_words;

@@ -6,9 +6,10 @@ ghost use Rattle.picture_call.specs.declared.status.Status.{Status as AnyStatus}
 
 use crate::answer::{Telling, answer, short_telling};
 use crate::input::{ReadError, read_all};
+use crate::order::Order;
 use crate::output::write_all;
 use crate::status::Status;
-use crate::words::{Order, read_words};
+use crate::words::read_words;
 use ds_base::{Bytes, NoMemory, Sink, Source};
 use std::alloc::Global;
 
