@@ -39,3 +39,8 @@ draw_order _ = None
 abbrev pub order_of : List (List ℕ) → Option Order
 order_of (first ∷ name ∷ []) = if bytes_eq first (codes "why") then Some orders.Why else draw_order (first ∷ name ∷ [])
 order_of words = draw_order words
+
+-- the name behind `why`
+abbrev pub name_in : List (List ℕ) → List ℕ
+name_in (first ∷ name ∷ []) = name
+name_in _ = []

@@ -1,11 +1,12 @@
 //! What is written for an order over the bytes of a report.
 
-ghost use Rattle.std.specs.Prelude.{◌≡◌, ℕ, ◌<◌, true, length, Ok, Err, IfOk};
+ghost use Rattle.std.specs.Prelude.{◌≡◌, ℕ, ◌<◌, true, false, length, Ok, Err, IfOk};
 ghost use Rattle.ds_model.specs.declared.report.Report.{Report as AnyReport};
 ghost use Rattle.report_text.specs.Steps.{report_of};
 ghost use Rattle.run_picture.specs.Places.{is_whole};
 ghost use Rattle.run_picture.specs.declared.cut.Cut.{Cut as AnyCut};
-ghost use Rattle.picture_call.specs.Calls.{IsDrawn, IsNamed, IsUnhindered};
+ghost use Rattle.run_story.specs.Names.{has_name};
+ghost use Rattle.picture_call.specs.Calls.{Answered, IsDrawn, IsNamed, IsUnhindered};
 ghost use Rattle.picture_call.specs.Statuses as spec;
 ghost use Rattle.picture_call.specs.declared.order.Order.TheVariants as orders;
 ghost use Rattle.picture_call.specs.declared.status.Status.TheVariants as status;
@@ -56,6 +57,7 @@ fn draw(alloc: Global, report: &Report, cut: &Cut) -> Result<Bytes, NoMemory>
 }
 
 fn tell_story(alloc: Global, report: &Report, name: &[u8]) -> Result<Telling, NoMemory>
+    ensures unknown { IfOk result (λ t. has_name name.now report.now.entries ≡ false → t.status ≡ status.NoTransaction) }
     ensures named { IfOk result (λ t. IsNamed t.status t.text) }
     ensures unhindered { IfOk result (λ t. IsUnhindered t.status) }
 {
@@ -72,6 +74,7 @@ fn tell_report(
     report: &Report,
 ) -> Result<Telling, NoMemory>
     ensures untraced { length report.now.trace.events ≡ 0 → IfOk result (λ t. t.status ≡ status.NoTrace) }
+    ensures unknown { IfOk result (λ t. order ≡ orders.Why → 0 < length report.now.trace.events → has_name name.now report.now.entries ≡ false → t.status ≡ status.NoTransaction) }
     ensures drawn { (cut : AnyCut) → order ≡ orders.Draw cut → is_whole cut ≡ true → 0 < length report.now.trace.events → IfOk result (λ t. IsDrawn report.now t.text) }
     ensures named { IfOk result (λ t. IsNamed t.status t.text) }
     ensures unhindered { IfOk result (λ t. IsUnhindered t.status) }
@@ -87,9 +90,7 @@ fn tell_report(
 
 /// What is written for an order over these bytes.
 pub fn answer(alloc: Global, order: Order, name: &[u8], bytes: &[u8]) -> Result<Telling, NoMemory>
-    ensures refused { (at : ℕ) → report_of bytes.now ≡ Err at → IfOk result (λ t. (t.status ≡ status.ReportRefused at) × (t.text ≡ spec.refused_text at)) }
-    ensures untraced { (r : AnyReport) → report_of bytes.now ≡ Ok r → length r.trace.events ≡ 0 → IfOk result (λ t. t.status ≡ status.NoTrace) }
-    ensures drawn { (r : AnyReport) (cut : AnyCut) → report_of bytes.now ≡ Ok r → order ≡ orders.Draw cut → is_whole cut ≡ true → 0 < length r.trace.events → IfOk result (λ t. IsDrawn r t.text) }
+    ensures answered { IfOk result (λ t. Answered order name.now bytes.now t.status t.text) }
     ensures named { IfOk result (λ t. IsNamed t.status t.text) }
     ensures unhindered { IfOk result (λ t. IsUnhindered t.status) }
 {

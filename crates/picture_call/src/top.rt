@@ -1,8 +1,10 @@
 //! The call as a whole.
 
-ghost use Rattle.std.specs.Prelude.{ℕ, List, IfOk};
-ghost use Rattle.picture_call.specs.Calls.{IsCaused, IsNamed, IsWritable, Tells};
+ghost use Rattle.std.specs.Prelude.{◌≡◌, ℕ, List, IfOk};
+ghost use Rattle.picture_call.specs.Calls.{IsCaused, IsNamed, IsWritable, Meets, Reads, Tells};
+ghost use Rattle.picture_call.specs.Orders.{name_in, texts};
 ghost use Rattle.picture_call.specs.declared.status.Status.{Status as AnyStatus};
+ghost use Rattle.picture_call.specs.declared.status.Status.TheVariants as status;
 
 use crate::answer::{Telling, answer, short_telling};
 use crate::input::{ReadError, read_all};
@@ -14,7 +16,9 @@ use ds_base::{Bytes, NoMemory, Sink, Source};
 use std::alloc::Global;
 
 // The name behind `why`.
-fn name_in(words: &[String]) -> &[u8] {
+fn name_in(words: &[String]) -> &[u8]
+    ensures { result.now ≡ name_in (texts words.now) }
+{
     match words {
         [_, name] => name.as_bytes(),
         _ => b"",
@@ -29,6 +33,7 @@ fn tell_source<S: Source>(
 ) -> Result<Telling, NoMemory>
     ensures named { IfOk result (λ t. IsNamed t.status t.text) }
     ensures writable { IfOk result (λ t. IsWritable t.status) }
+    ensures read { IfOk result (λ t. (t.status ≡ status.SourceFailed → ⊥) → Reads order name.now (S.left source.old) (S.left source.new) t.status t.text) }
     ensures caused { IfOk result (λ t. IsCaused t.status (S.faults source.old) (S.faults source.new)) }
 {
     match read_all(alloc, source) {
@@ -41,6 +46,7 @@ fn tell_source<S: Source>(
 fn tell<S: Source>(alloc: Global, words: &[String], source: &mut S) -> Result<Telling, NoMemory>
     ensures named { IfOk result (λ t. IsNamed t.status t.text) }
     ensures writable { IfOk result (λ t. IsWritable t.status) }
+    ensures meets { IfOk result (λ t. Meets (texts words.now) (S.left source.old) (S.left source.new) t.status t.text) }
     ensures caused { IfOk result (λ t. IsCaused t.status (S.faults source.old) (S.faults source.new)) }
 {
     match read_words(words) {
@@ -53,6 +59,7 @@ fn tell<S: Source>(alloc: Global, words: &[String], source: &mut S) -> Result<Te
 fn tell_all<S: Source>(alloc: Global, words: &[String], source: &mut S) -> Telling
     ensures named { IsNamed result.status result.text }
     ensures writable { IsWritable result.status }
+    ensures meets { (result.status ≡ status.NoMemory → ⊥) → Meets (texts words.now) (S.left source.old) (S.left source.new) result.status result.text }
     ensures caused { IsCaused result.status (S.faults source.old) (S.faults source.new) }
 {
     match tell(alloc, words, source) {
@@ -82,7 +89,8 @@ pub fn call<S: Source, K: Sink>(
     source: &mut S,
     sink: &mut K,
 ) -> Status
-    ensures { (met : AnyStatus) × (text : List ℕ) × IsNamed met text × IsCaused met (S.faults source.old) (S.faults source.new)
+    ensures { (met : AnyStatus) × (text : List ℕ) × IsNamed met text
+        × ((met ≡ status.NoMemory → ⊥) → Meets (texts words.now) (S.left source.old) (S.left source.new) met text) × IsCaused met (S.faults source.old) (S.faults source.new)
         × Tells met result text (K.taken sink.old) (K.taken sink.new) (K.faults sink.old) (K.faults sink.new) }
 {
     let telling = tell_all(alloc, words, source);

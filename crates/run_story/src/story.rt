@@ -1,6 +1,7 @@
 //! The story of one transaction.
 
-ghost use Rattle.std.specs.Prelude.{◌<◌, length, IfSome};
+ghost use Rattle.std.specs.Prelude.{◌≡◌, ◌<◌, length, is_some, IfSome, IfOk};
+ghost use Rattle.run_story.specs.Names.{has_name, is_named};
 
 use crate::phrases::phrase_of;
 use ds_base::{Bytes, NoMemory};
@@ -23,13 +24,22 @@ fn put_number(alloc: Global, out: &mut Bytes, text: &[u8], number: u64) -> Resul
     out.extend_number(alloc, number)
 }
 
-fn number_named(entries: &[ReportEntry], name: &[u8]) -> Option<usize>
-    ensures { IfSome result (λ number. number < length entries.now) }
+fn is_named(name: &[u8], entry: &ReportEntry) -> bool
+    ensures { result ≡ is_named name.now entry.now }
 {
-    for number in 0..entries.len() {
-        if entries[number].name.as_slice() == name {
+    entry.name.as_slice() == name
+}
+
+fn number_named(entries: &[ReportEntry], name: &[u8]) -> Option<usize>
+    ensures bound { IfSome result (λ number. number < length entries.now) }
+    ensures found { is_some result ≡ has_name name.now entries.now }
+{
+    let mut number: usize = 0;
+    for entry in entries {
+        if is_named(name, entry) {
             return Some(number);
         }
+        number += 1;
     }
     None
 }
@@ -222,7 +232,9 @@ fn put_story(
 
 /// What a report with its trace tells of the transaction of this name: its line of the report, from which event to which it went on,
 /// those that a refusal names, its events that matter, and its waits. `None` where the report has no such transaction.
-pub fn story_of(alloc: Global, report: &Report, name: &[u8]) -> Result<Option<Bytes>, NoMemory> {
+pub fn story_of(alloc: Global, report: &Report, name: &[u8]) -> Result<Option<Bytes>, NoMemory>
+    ensures { IfOk result (λ story. is_some story ≡ has_name name.now report.now.entries) }
+{
     let entries = report.entries.as_slice();
     let events = report.trace.events.as_slice();
     let causes = report.trace.causes.as_slice();
