@@ -1,0 +1,4 @@
+pub mod Calls
+pub mod Input
+pub mod Orders
+pub mod Statuses

@@ -1,0 +1,16 @@
+-- What begins doesn't end before.
+use Rattle.std.specs.Prelude.{◌≤◌}
+use Rattle.std.specs.List.{All}
+use Rattle.run_spans.specs.declared.span.Span.{Span}
+use Rattle.run_spans.specs.declared.span.Wait.{Wait}
+use Rattle.run_spans.specs.declared.spans.Spans.{Spans}
+
+abbrev pub IsReach : Span → Type 0
+IsReach s = s.first ≤ s.last
+
+abbrev pub IsWaiting : Wait → Type 0
+IsWaiting w = w.from ≤ w.to
+
+pub record AreReaches (read : Spans) : Type 0 where
+  pub spans : All IsReach read.spans.items
+  pub waits : All IsWaiting read.waits.items

@@ -1,0 +1,11 @@
+-- Whether a report has a transaction of a name.
+use Rattle.std.specs.Prelude.{ℕ, Bool, List}
+use Rattle.std.specs.List.{list_any}
+use Rattle.std.specs.Str.{bytes_eq}
+use Rattle.ds_model.specs.declared.report.ReportEntry.{ReportEntry}
+
+abbrev pub is_named : List ℕ → ReportEntry → Bool
+is_named name e = bytes_eq e.name name
+
+abbrev pub has_name : List ℕ → List ReportEntry → Bool
+has_name name entries = list_any (is_named name) entries

@@ -1,0 +1,2 @@
+" Files of scripts for dsgroup.
+autocmd BufRead,BufNewFile *.script setfiletype dsgroup
