@@ -14,9 +14,9 @@ rises k a b some le =
 capped : (a b c : ℕ) → a ≤ b → 76 + min a c ≤ 76 + min b c
 capped a b c le = omega (arith, le)
 
-scaled : (p q f c m : ℕ) → p ≤ q → min (min (p - f) c * 1300) m ≤ min (min (q - f) c * 1300) m
+scaled : (p q f c m : ℕ) → p ≤ q → min (min (p - f) c * 1190) m ≤ min (min (q - f) c * 1190) m
 scaled p q f c m le = omega (arith, le)
 
 pub in_order : (s : Scale) (p q : ℕ) → p ≤ q → across_of s p ≤ across_of s q
 unfolding across_of
-in_order s p q le = (capped _ _ 1300 (rises (max s.count 1) _ _ (omega arith) (scaled p q s.from s.count (2 ^ 64 - 1) le)))
+in_order s p q le = (capped _ _ 1190 (rises (max s.count 1) _ _ (omega arith) (scaled p q s.from s.count (2 ^ 64 - 1) le)))

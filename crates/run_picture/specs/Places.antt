@@ -18,7 +18,7 @@ has s place = nat_le s.from place && nat_lt (place - s.from) s.count
 
 -- what lies outside is at one of the sides
 unfoldable pub across_of : Scale → ℕ → ℕ
-across_of s place = 76 + min (min (min (place - s.from) s.count * 1300) (2 ^ 64 - 1) / max s.count 1) 1300
+across_of s place = 76 + min (min (min (place - s.from) s.count * 1190) (2 ^ 64 - 1) / max s.count 1) 1190
 
 -- each event of a short run, and each so many-th of a long one
 abbrev pub draws : Scale → ℕ → Bool

@@ -2,10 +2,10 @@
 
 ghost use Rattle.std.specs.Prelude.{◌≡◌, true};
 
-/// The first pixel of events, and how many pixels they have.
+/// The first pixel of events, and how many pixels they have. Right of them there is room for the longest name.
 pub const LEFT: u64 = 76;
 
-pub const BREADTH: u64 = 1_300;
+pub const BREADTH: u64 = 1_190;
 
 /// The left and the right side of lanes.
 pub const EDGE: u64 = 8;
