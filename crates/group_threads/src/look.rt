@@ -1,6 +1,6 @@
 //! What a member's thread can take.
 
-ghost use Rattle.std.specs.Prelude.{◌≡◌, ◌||◌, is_some};
+ghost use Rattle.std.specs.Prelude.{◌≡◌, ◌||◌, true, is_some};
 ghost use Rattle.group_crew.specs.Crews.{unlooked};
 ghost use Rattle.group_threads.specs.Wholes.{LooksHand};
 
@@ -70,12 +70,15 @@ impl<D, C: CacheFace, P: Policy> Shared<D, C, P> {
         }
     }
 
-    /// Finds again what is ready of the member, where that may have changed.
+    /// Finds again what is ready of the member, where that may have changed. Where the run has a fault nothing is.
     pub fn refresh(&mut self, part: &mut MemberPart<P>)
         ensures shared { self.new ≡ record self.old { stale = self.new.stale } }
         ensures part { unlooked part.new ≡ unlooked part.old }
+        ensures over { is_some self.old.group.fault ≡ true → part.new.ready ≡ 0 }
     {
-        if self.is_stale(part) {
+        if self.group.fault.is_some() {
+            part.ready = 0;
+        } else if self.is_stale(part) {
             part.ready = self.find(part);
             part.is_stale = false;
             self.stale.remove(part.id);
