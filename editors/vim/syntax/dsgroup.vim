@@ -14,7 +14,7 @@ syn match dsgroupPhase "^ *member \+\d\{1,20} *\r\=$" contains=dsgroupNumber
 syn match dsgroupFail  "^ *fail \+\(command\|commit\|committed\|raise\) \+\d\{1,20} *\r\=$" contains=dsgroupNumber
 syn match dsgroupTran  "^ *tran \+[A-Za-z0-9_-]\{1,16}\( \+nowait\)\= *\r\=$" contains=dsgroupName,dsgroupNoWait
 syn match dsgroupTran  "^ *\(end\|abort\) *\r\=$"
-syn match dsgroupRead  "^ *get\( \+\d\{1,20}\)\{2} *\r\=$" contains=dsgroupNumber
+syn match dsgroupRead  "^ *\(get\|getu\)\( \+\d\{1,20}\)\{2} *\r\=$" contains=dsgroupNumber
 syn match dsgroupRead  "^ *scan\( \+\d\{1,20}\)\{3} *\r\=$" contains=dsgroupNumber
 syn match dsgroupWrite "^ *put\( \+\d\{1,20}\)\{2} \+=[!-~]\{0,100} *\r\=$" contains=dsgroupNumber,dsgroupValue
 syn match dsgroupWrite "^ *del\( \+\d\{1,20}\)\{2} *\r\=$" contains=dsgroupNumber
