@@ -6,7 +6,7 @@ use Rattle.draw_generator.specs.Draws.{drawn}
 use Rattle.group_member.specs.declared.part.MemberPart.{MemberPart}
 use Rattle.group_crew.specs.declared.crew.Crew.{Crew}
 use Rattle.group_crew.specs.Crews.{is_ready_in}
-use Rattle.group_crew.specs.Progresses.{is_at_end, own_choice}
+use Rattle.script_phases.specs.Progresses.{is_at_end, own_choice}
 use Rattle.group_core.specs.declared.fault.RunFault.{RunFault}
 use Rattle.group_core.specs.declared.group.Group.{Group}
 use Rattle.group_core.specs.Events.{TakesNone, events_from, is_over, member_events, ready_events, takes}

@@ -2,7 +2,7 @@
 use Rattle.std.specs.Prelude.{◌≡◌, ℕ, ◌+◌, ◌*◌, ◌&&◌, ◌||◌, Bool, true, false, not, List, [], ◌∷◌, ◌++◌, map, take, Option, is_some, option_map, option_to_list, if◌then◌else◌}
 use Rattle.group_crew.specs.declared.crew.Crew.{Crew}
 use Rattle.group_crew.specs.Crews.{is_ready_in}
-use Rattle.group_crew.specs.Progresses.{is_at_end, own_choice}
+use Rattle.script_phases.specs.Progresses.{is_at_end, own_choice}
 use Rattle.group_member.specs.Choices.{choices_of}
 use Rattle.group_core.specs.declared.fault.RunFault.{RunFault}
 use Rattle.group_core.specs.declared.group.Group.{Group}

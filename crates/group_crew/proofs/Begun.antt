@@ -10,7 +10,7 @@ use Rattle.script_fates.specs.Fated.{FatesState, StopsOnly}
 use Rattle.group_member.specs.declared.part.MemberPart.{MemberPart}
 use Rattle.group_member.specs.Members.{Member, member_of}
 use Rattle.group_crew.specs.declared.crew.Crew.{Crew}
-use Rattle.group_crew.specs.declared.progress.Progress.{Progress}
+use Rattle.script_phases.specs.declared.progress.Progress.{Progress}
 use Rattle.group_crew.specs.Beginning.{AllRestart, AreRaisers, BeginsNext, PhaseBegins, is_left_out_in, kept_by}
 use Rattle.group_crew.specs.Crews.{Looks, stale}
 use Rattle.group_crew.specs.States.{CrewState, crew_state}

@@ -1,6 +1,5 @@
 pub mod Parts
 pub mod Restarts
-pub mod Raises
 pub mod Stops
 pub mod Begun
 pub mod Anew

@@ -9,7 +9,7 @@ use Rattle.ds_model.specs.declared.script.Phase.{Phase}
 use Rattle.list_structure.specs.declared.standing.MemberStatus.{MemberStatus}
 use Rattle.script_fates.specs.Fated.{FatesState, StopsOnly, has_tran, is_in_part}
 use Rattle.group_crew.specs.Beginning.{is_left_out_in}
-use Rattle.group_crew.specs.Phases.{is_left_out}
+use Rattle.script_phases.specs.Phases.{is_left_out}
 
 -- a transaction of a member that is left out
 left_out_has : (phase : Phase) (statuses : List MemberStatus) (member n : ℕ) (parts : List Part) → is_left_out phase statuses member ≡ true

@@ -15,7 +15,7 @@ use Rattle.member_resources.specs.Held.{Held}
 use Rattle.restart_resources.specs.Held.{IsNew}
 use Rattle.group_member.specs.declared.part.MemberPart.{MemberPart}
 use Rattle.group_member.specs.Members.{Member}
-use Rattle.group_crew.specs.Phases.{is_failed, is_left_out, last_raiser, raises_in, restarts_in}
+use Rattle.script_phases.specs.Phases.{is_failed, is_left_out, last_raiser, raises_in, restarts_in}
 use Rattle.group_crew.specs.States.{CrewState}
 
 -- a member that has failed begins its restart with the phase

@@ -4,7 +4,7 @@ use Rattle.ds_base.specs.declared.names.Sizes.{Sizes}
 use Rattle.cache_structure.specs.Directory.{Directory}
 use Rattle.group_crew.specs.declared.crew.Crew.{Crew}
 use Rattle.group_member.specs.declared.part.MemberPart.{MemberPart}
-use Rattle.group_crew.specs.Progresses.{own_choice}
+use Rattle.script_phases.specs.Progresses.{own_choice}
 use Rattle.group_crew.specs.Ready.{is_ready}
 
 -- whether the choice of the event is ready

@@ -1,6 +1,4 @@
-pub mod Progresses
 pub mod Ready
-pub mod Phases
 pub mod Crews
 pub mod States
 pub mod Beginning

@@ -8,7 +8,6 @@ ghost use Rattle.group_crew.specs.Beginning.{AllRestart, BeginsNext, CannotBegin
 ghost use Rattle.group_crew.specs.States.{crew_state};
 
 use crate::crew::Crew;
-use crate::phase::{is_failed, is_left_out, part_of, raisers_of, restarts_in};
 use cache_structure::CacheFace;
 use ds_base::{NoMemory, TranId};
 use ds_model::Phase;
@@ -16,6 +15,7 @@ use group_member::{MemberPart, Restarting};
 use list_structure::{Lists, MemberStatus};
 use member_resources::Policy;
 use script_fates::Fates;
+use script_phases::{is_failed, is_left_out, part_of, raisers_of, restarts_in};
 use std::alloc::Global;
 
 // Stops the transactions of the members that are left out.

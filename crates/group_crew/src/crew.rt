@@ -2,13 +2,12 @@ ghost use Rattle.std.specs.Prelude.{◌≡◌, ◌↔◌, ℕ, None, true, false
 ghost use Rattle.list_structure.specs.Bells.{bell_of};
 ghost use Rattle.list_structure.specs.Cells.{NoneAsked};
 ghost use Rattle.list_structure.specs.Standings.{done_of};
-ghost use Rattle.group_crew.specs.Progresses.{is_at_end, own_choice};
+ghost use Rattle.script_phases.specs.Progresses.{is_at_end, own_choice};
 ghost use Rattle.group_crew.specs.Ready.{is_own, ready_at};
 ghost use Rattle.group_crew.specs.Crews.{Looks, is_half, is_ready_in, stale, unlooked};
 ghost use Rattle.group_crew.specs.Happening.{member_at};
 ghost use Rattle.group_crew.specs.States.{crew_state};
 
-use crate::progress::{GROUP_RESTART, Progress};
 use cache_structure::CacheFace;
 use ds_base::Volume;
 use ds_model::Script;
@@ -18,6 +17,7 @@ use group_restart::GroupRestart;
 use member_intents::Look;
 use member_resources::Policy;
 use script_fates::Fates;
+use script_phases::{GROUP_RESTART, Progress};
 
 /// The members of a group with their facility, the script that they play, and its fates.
 #[derive(Drop)]

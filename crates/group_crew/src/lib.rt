@@ -7,8 +7,6 @@ mod crew;
 mod failure;
 mod make;
 mod member_step;
-mod phase;
-mod progress;
 
 pub use crew::{Crew, look_for};
 pub use failure::step_restart;
@@ -17,4 +15,4 @@ pub use group_member::{
     has_choice, nth_choice,
 };
 pub use member_step::command_of;
-pub use progress::{GROUP_FAILURE, GROUP_RESTART, NEXT_PHASE, Progress};
+pub use script_phases::{GROUP_FAILURE, GROUP_RESTART, NEXT_PHASE, Progress};

@@ -4,7 +4,6 @@ ghost use Rattle.group_member.specs.Members.{IsDown, member_of};
 ghost use Rattle.group_crew.specs.Making.{IsNewCrew};
 
 use crate::crew::Crew;
-use crate::progress::Progress;
 use cache_structure::CacheFace;
 use ds_base::{Lrsn, MemberId, NoMemory, Sizes};
 use ds_model::Script;
@@ -12,6 +11,7 @@ use facility::Facility;
 use group_member::{GroupSizes, MemberPart};
 use member_resources::{Policy, Resources};
 use script_fates::Fates;
+use script_phases::Progress;
 use std::alloc::Global;
 
 fn make_parts<P: Policy + Drop>(

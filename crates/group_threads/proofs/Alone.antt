@@ -15,7 +15,7 @@ use Rattle.group_member.specs.Happening.{Comes}
 use Rattle.group_member.specs.Members.{Member, member_of}
 use Rattle.group_crew.specs.Crews.{Keeps, unlooked}
 use Rattle.group_crew.specs.Happening.{ComesAt, IsRefusedAt, member_at}
-use Rattle.group_crew.specs.Progresses.{own_choice}
+use Rattle.script_phases.specs.Progresses.{own_choice}
 use Rattle.group_crew.specs.Ready.{ready_at, ready_for}
 use Rattle.group_core.specs.declared.fault.RunFault.{RunFault}
 use Rattle.group_core.specs.declared.fault.RunFault.TheVariants as fault

@@ -1,5 +1,5 @@
 use Rattle.std.proofs.Common.{refl, ap}
-use Rattle.group_crew.specs.declared.progress.Progress.{Progress}
+use Rattle.script_phases.specs.declared.progress.Progress.{Progress}
 use Rattle.group_crew.proofs.Made.{made_crew}
 use Rattle.group_crew.proofs.make.make_crew.Goals as goal
 

@@ -4,7 +4,7 @@ use Rattle.std.specs.List.{flat_map}
 use Rattle.std.proofs.lemmas.List.{append-nil, take_all, take_more}
 use Rattle.std.proofs.lemmas.List.Concat.{flat_map-append}
 use Rattle.ds_base.specs.declared.names.TranId.{TranId}
-use Rattle.group_crew.specs.Phases.{Noted, last_raiser, later_of}
+use Rattle.script_phases.specs.Phases.{Noted, last_raiser, later_of}
 
 none_before : (o : Option TranId) → later_of None o ≡ o
 none_before None = refl

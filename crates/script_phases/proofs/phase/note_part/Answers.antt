@@ -1,7 +1,7 @@
 use Rattle.std.proofs.Common.{◌≡◌, ◌<◌, length, slice_index_or, arith}
-use Rattle.group_crew.specs.Phases.{raises_of_tran}
-use Rattle.group_crew.proofs.Raises.{noted_more}
-use Rattle.group_crew.proofs.phase.note_part.Goals as goal
+use Rattle.script_phases.specs.Phases.{raises_of_tran}
+use Rattle.script_phases.proofs.Raises.{noted_more}
+use Rattle.script_phases.proofs.phase.note_part.Goals as goal
 
 -- src/phase.rt:40:5
 pub loop-tran-preserved : goal.loop-tran-preserved

@@ -1,8 +1,8 @@
 use Rattle.std.proofs.Common.{◌≡◌, ◌<◌, length, slice_index_or, arith}
 use Rattle.ds_base.specs.declared.names.TranId.{TranId}
-use Rattle.group_crew.specs.Phases.{raise_in}
-use Rattle.group_crew.proofs.Raises.{noted_more}
-use Rattle.group_crew.proofs.phase.note_tran.Goals as goal
+use Rattle.script_phases.specs.Phases.{raise_in}
+use Rattle.script_phases.proofs.Raises.{noted_more}
+use Rattle.script_phases.proofs.phase.note_tran.Goals as goal
 
 -- src/phase.rt:32:5
 pub loop-op-preserved : goal.loop-op-preserved

@@ -1,7 +1,7 @@
 //! How far a script is played, and what the group itself may do next.
 
 ghost use Rattle.std.specs.Prelude.{◌≡◌, ◌+◌, ◌-◌, ◌^◌, ◌<◌, min, false};
-ghost use Rattle.group_crew.specs.Progresses.{choice_next, groupfails_wanted, has_groupfail, has_phase, is_played};
+ghost use Rattle.script_phases.specs.Progresses.{choice_next, groupfails_wanted, has_groupfail, has_phase, is_played};
 
 use ds_model::Script;
 

@@ -1,7 +1,7 @@
 use Rattle.std.proofs.Common.{◌≡◌, ◌<◌, ◌≤◌, length, replicate, slice_index_or, arith}
-use Rattle.group_crew.specs.Phases.{raises_counted}
-use Rattle.group_crew.proofs.Raises.{noted_all, noted_more, nobody, none_was}
-use Rattle.group_crew.proofs.phase.raisers_of.Goals as goal
+use Rattle.script_phases.specs.Phases.{raises_counted}
+use Rattle.script_phases.proofs.Raises.{noted_all, noted_more, nobody, none_was}
+use Rattle.script_phases.proofs.phase.raisers_of.Goals as goal
 
 -- src/phase.rt:83:5
 pub loop-part-preserved : goal.loop-part-preserved

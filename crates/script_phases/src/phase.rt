@@ -1,7 +1,7 @@
 //! What a phase gives to the members.
 
 ghost use Rattle.std.specs.Prelude.{◌≡◌, ◌+◌, ◌<◌, ℕ, None, Some, IfOk, MatchOption, slice_index_or};
-ghost use Rattle.group_crew.specs.Phases.{Noted, fail_in, is_failed, is_left_out, last_raiser, part_in, raise_in, raises_counted, raises_in, raises_of_part, raises_of_tran, restarts_in, trans_in};
+ghost use Rattle.script_phases.specs.Phases.{Noted, fail_in, is_failed, is_left_out, last_raiser, part_in, raise_in, raises_counted, raises_in, raises_of_part, raises_of_tran, restarts_in, trans_in};
 
 use ds_base::{MemberId, NoMemory, TranId};
 use ds_model::{FailAt, Op, Part, Phase, Tran, TranList};

@@ -2,7 +2,7 @@
 use Rattle.std.specs.Prelude.{ℕ, ◌&&◌, Bool, true, false, not, nat_lt, length, Option, Some, None, slice_get, if◌then◌else◌}
 use Rattle.ds_model.specs.declared.script.Phase.{Phase}
 use Rattle.ds_model.specs.declared.script.Script.{Script}
-use Rattle.group_crew.specs.declared.progress.Progress.{Progress}
+use Rattle.script_phases.specs.declared.progress.Progress.{Progress}
 
 abbrev pub groupfails_at : ℕ → Option Phase → ℕ
 groupfails_at last None = last
