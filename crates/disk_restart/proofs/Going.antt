@@ -15,7 +15,7 @@ use Rattle.group_restart.specs.declared.stage.Stage.{Stage}
 use Rattle.group_restart.specs.declared.stage.Stage.TheVariants as stage
 use Rattle.group_restart.specs.Machine.{Restart}
 use Rattle.group_restart.specs.Records.{restart_end}
-use Rattle.group_restart.specs.Redo.{with_page_number}
+use Rattle.group_restart.specs.PageNumbers.{with_page_number}
 use Rattle.group_restart.specs.Undo.{undo_fault}
 use Rattle.group_restart.specs.Course.{with_plan, with_added, rest_tails, rest_pages, rest_closings, rest_undo, rest_endings, with_greatest, ending_or, next_ending, begin_end, undo_or, next_undo, closing_or, next_closing, too_few_numbers, has_numbers, numbered, counted, begin_undo, page_or, next_redo, tail_or, next_tail, raised, take_raised, forwarded, page_brought, take_page, undone, undo_at, undo_unless, undo_one, undo_first, take_undone, take_done, found_damage, planned, take_logs}
 use Rattle.disk_restart.proofs.Whole.{ReadsSound}

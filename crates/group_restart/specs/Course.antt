@@ -28,7 +28,8 @@ use Rattle.group_restart.specs.declared.stage.Stage.{Stage}
 use Rattle.group_restart.specs.declared.stage.Stage.TheVariants as stage
 use Rattle.group_restart.specs.Machine.{Restart}
 use Rattle.group_restart.specs.Records.{ended, restart_end}
-use Rattle.group_restart.specs.Redo.{brought, with_page_number}
+use Rattle.places_redo.specs.Picked.{brought_at}
+use Rattle.group_restart.specs.PageNumbers.{with_page_number}
 use Rattle.group_restart.specs.Undo.{undo_fault, undone_page, undoing}
 
 -- where the restart stands afterwards, and what it tells
@@ -152,7 +153,7 @@ forwarded h id (Ok is_raised) = take_raised h id is_raised
 
 -- the page at hand, brought forward by its records
 abbrev pub page_brought : Restart → PageId → Forward
-page_brought h id = brought id h.page h.plan.merged h.places
+page_brought h id = brought_at id h.page h.plan.merged h.places
 
 unfoldable pub take_page : Restart → PageId → Next
 take_page h id = forwarded (record h { page = (page_brought h id).page }) id (page_brought h id).outcome

@@ -1,7 +1,7 @@
 pub mod Records
 pub mod Machine
 pub mod Calls
-pub mod Redo
+pub mod PageNumbers
 pub mod Undo
 pub mod Disk
 pub mod Going

@@ -13,8 +13,8 @@ ghost use Rattle.group_restart.specs.Course.{found_damage, counted, has_numbers,
 use crate::append::Append;
 use crate::calls::State;
 use crate::machine::{GroupRestart, no_records};
+use crate::page_number::with_page_number;
 use crate::records::{ended, restart_end};
-use crate::redo::{bring_page, with_page_number};
 use crate::reply::Reply;
 use crate::stage::Stage;
 use crate::undo::{page_undone, undo_fault, undo_page, undoing};
@@ -23,6 +23,7 @@ use log_reader::{LogRead, LogReader, LogReply};
 use log_record::Log;
 use log_trans::{Damaged, find_log_damage, has_numbers};
 use page_records::PageRecords;
+use places_redo::bring_places;
 use restart_plan::{Logs, Undo, plan_of};
 use std::alloc::Global;
 
@@ -248,7 +249,7 @@ impl GroupRestart {
         ensures goes_on { IsGoingOn result }
     {
         let merged = self.plan.merged.records();
-        match bring_page(&mut self.page, id, merged, self.places.as_slice()) {
+        match bring_places(&mut self.page, id, merged, self.places.as_slice()) {
             Err(fault) => Ok(damaged_page(id, fault.at)),
             Ok(is_raised) => self.take_raised(alloc, id, is_raised),
         }

@@ -14,7 +14,6 @@ mod disk_calls;
 mod machine;
 mod page_number;
 mod records;
-mod redo;
 mod reply;
 mod stage;
 mod undo;

@@ -1,3 +1,2 @@
 pub mod Fitting
 pub mod Lasts
-pub mod Maps

@@ -3,11 +3,11 @@ ghost use Rattle.ds_model.specs.RecordBytes.{Fits};
 ghost use Rattle.log_trans.specs.Damage.{unless, body_fault, is_home, tran_fault, was_drawn, record_fault, nothing_known, known_with};
 
 use crate::course::{Course, is_next};
-use crate::map::NumberMap;
 use crate::opened::enter_record;
 use ds_base::{Lrsn, MemberId, NoMemory};
 use ds_model::{Body, LogRecord};
 use log_record::{is_drawn, record_length};
+use number_map::NumberMap;
 use std::alloc::Global;
 
 // Where the number and the transaction of a record begin.

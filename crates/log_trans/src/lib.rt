@@ -8,7 +8,6 @@
 mod course;
 mod damage;
 mod known;
-mod map;
 mod numbers;
 mod opened;
 

@@ -3,10 +3,10 @@ ghost use Rattle.std.specs.FinMap as finite;
 ghost use Rattle.log_trans.specs.Courses.{with_record, courses_of, open_among, open_trans};
 
 use crate::course::Course;
-use crate::map::NumberMap;
 use ds_base::{Lrsn, NoMemory, Sequence};
 use ds_model::{LogRecord, RecordList};
 use log_record::Log;
+use number_map::NumberMap;
 use std::alloc::Global;
 
 /// A transaction that has neither a Commit nor an Ended record.
@@ -22,7 +22,7 @@ pub struct OpenTran {
 }
 
 /// Takes a record into account for its transaction, if it has one.
-#[tactic(auto, using(crate::proofs::Maps::put_back))]
+#[tactic(auto, using(number_map::proofs::Maps::put_back))]
 pub fn enter_record(
     alloc: Global,
     courses: &mut NumberMap<Course>,

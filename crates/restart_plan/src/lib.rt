@@ -5,9 +5,9 @@
 //! Systems Journal 36(2), 1997).
 #![tactic(auto)]
 
+mod falling;
 mod greatest;
 mod logs;
-mod map;
 mod opened;
 mod plan;
 mod queue;

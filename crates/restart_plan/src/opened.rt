@@ -2,13 +2,13 @@ ghost use Rattle.std.specs.Prelude.{◌≡◌, true, OnOk, IfOk};
 ghost use Rattle.std.specs.FinMap as finite;
 ghost use Rattle.restart_plan.specs.Opened.{with_change, with_changes, with_tran, with_trans, with_log, with_logs, nothing_open, is_restart_end};
 
-use crate::map::NumberMap;
 use crate::queue::Queue;
 use crate::tran::TranNumber;
 use ds_base::{Lrsn, MemberId, NoMemory, Sequence};
 use ds_model::{Body, LogRecord, RowChange};
 use log_record::Log;
 use log_trans::{OpenTran, open_trans};
+use number_map::NumberMap;
 use std::alloc::Global;
 
 /// An open transaction of which nothing is to be undone. Its Ended record repeats this number.

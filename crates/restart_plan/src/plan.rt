@@ -1,6 +1,7 @@
 ghost use Rattle.std.specs.Prelude.{◌≡◌, IfOk};
 ghost use Rattle.restart_plan.specs.Plans.{plan_of};
 
+use crate::falling::falling;
 use crate::greatest::{Greatest, greatest_at};
 use crate::logs::Logs;
 use crate::opened::{Closing, Opened, Undo, opened_of};
@@ -50,7 +51,7 @@ pub fn plan_of(alloc: Global, logs: &Logs) -> Result<Plan, NoMemory>
         merged,
         pages: Queue::of(alloc, pages)?,
         closings,
-        undo: undo.into_falling(alloc)?,
+        undo: falling(alloc, undo)?,
         endings,
         greatest,
     })

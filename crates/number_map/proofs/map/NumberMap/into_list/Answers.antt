@@ -4,8 +4,8 @@ use Rattle.std.specs.FinMap as finite
 use Rattle.std.proofs.lemmas.Result.{IfOk-at_ok}
 use Rattle.std.proofs.lemmas.Iterator.{items_from_collect}
 use Rattle.std.proofs.lemmas.Iterator.Consumers.{YieldsList-from_rest}
-use Rattle.log_trans.proofs.Maps.{kept}
-use Rattle.log_trans.proofs.map.NumberMap.into_list.Goals as goal
+use Rattle.number_map.proofs.Maps.{kept}
+use Rattle.number_map.proofs.map.NumberMap.into_list.Goals as goal
 
 pub returns : goal.returns
 returns g c =

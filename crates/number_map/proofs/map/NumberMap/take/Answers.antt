@@ -1,7 +1,7 @@
 use Rattle.std.proofs.Common.{◌∙◌, sym, ap}
 use Rattle.std.specs.FinMap as finite
-use Rattle.log_trans.proofs.Maps.{get_number, one_gone}
-use Rattle.log_trans.proofs.map.NumberMap.take.Goals as goal
+use Rattle.number_map.proofs.Maps.{get_number, one_gone}
+use Rattle.number_map.proofs.map.NumberMap.take.Goals as goal
 
 pub returns-clause-value : goal.returns-clause-value
 returns-clause-value g c = c.remove.ensures.value ∙ sym (get_number c.self.inside.numbers.entries c.args.number) ∙ ap (λ m. finite.get m c.args.number) c.self.view_is

@@ -1,6 +1,0 @@
-use Rattle.std.proofs.Common.{◌≡◌, false, drop}
-use Rattle.restart_resources.specs.Forward.{forward_at}
-use Rattle.restart_resources.proofs.forward.bring_each.Given as goal
-
-abbrev pub invariant-loop-place : goal.invariant-loop-place
-invariant-loop-place l = forward_at l.id l.records l.page l.is_raised (drop l.place-index l.places) ≡ forward_at l.id l.records l.fn.page false l.places
