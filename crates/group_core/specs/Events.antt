@@ -3,7 +3,7 @@ use Rattle.std.specs.Prelude.{◌≡◌, ℕ, ◌+◌, ◌*◌, ◌&&◌, ◌||�
 use Rattle.group_crew.specs.declared.crew.Crew.{Crew}
 use Rattle.group_crew.specs.Crews.{is_ready_in}
 use Rattle.script_phases.specs.Progresses.{is_at_end, own_choice}
-use Rattle.group_member.specs.Choices.{choices_of}
+use Rattle.choice_bits.specs.Choices.{choices_of}
 use Rattle.group_core.specs.declared.fault.RunFault.{RunFault}
 use Rattle.group_core.specs.declared.group.Group.{Group}
 use Rattle.group_core.specs.declared.schedule.RunEnd.{RunEnd}

@@ -1,6 +1,6 @@
 -- Which events are ready.
 use Rattle.std.specs.Prelude.{ℕ, zero, suc, ◌/◌, ◌%◌, ◌==◌, ◌&&◌, Bool, false, not, List, Option, Some, None, slice_get}
-use Rattle.group_member.specs.Choices.{has_choice}
+use Rattle.choice_bits.specs.Choices.{has_choice}
 
 abbrev pub ready_at : Option ℕ → ℕ → Bool
 ready_at None choice = false

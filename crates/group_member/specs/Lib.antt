@@ -1,5 +1,4 @@
 pub mod Faults
-pub mod Choices
 pub mod Stepping
 pub mod Queries
 pub mod Adopting

@@ -17,10 +17,10 @@ mod sizes;
 mod stepped;
 mod tell;
 
+pub use choice_bits::{CHOICES, count_choices, has_choice, nth_choice};
 pub use event::step_one;
 pub use fault::EventFault;
 pub use part::MemberPart;
-pub use ready::{CHOICES, count_choices, has_choice, nth_choice};
 pub use rebuilding::Rebuilding;
 pub use restarting::Restarting;
 pub use sizes::GroupSizes;

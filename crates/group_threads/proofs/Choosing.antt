@@ -1,7 +1,7 @@
 -- Which choice is the least that is ready.
 use Rattle.std.proofs.Common.{◌≡◌, ℕ, ◌≤◌, Bool, false, ◌&&◌, ap, arith}
 use Rattle.std.specs.Prelude.{nat_lt, ◌/◌, ◌%◌, ◌^◌, ◌==◌}
-use Rattle.group_member.specs.Choices.{has_choice}
+use Rattle.choice_bits.specs.Choices.{has_choice}
 
 not_below : (k : ℕ) → 23 ≤ k → nat_lt k 23 ≡ false
 not_below k past = grind arith

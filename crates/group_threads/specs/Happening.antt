@@ -5,7 +5,7 @@ use Rattle.cache_structure.specs.Directory.{Directory}
 use Rattle.member_resources.specs.Events.{world_of}
 use Rattle.group_member.specs.declared.part.MemberPart.{MemberPart}
 use Rattle.group_member.specs.declared.stepped.Stepped.{Stepped}
-use Rattle.group_member.specs.Choices.{has_choice}
+use Rattle.choice_bits.specs.Choices.{has_choice}
 use Rattle.group_member.specs.Happening.{Comes}
 use Rattle.group_member.specs.Members.{member_of}
 use Rattle.group_member.specs.Refusing.{IsRefused}

@@ -6,7 +6,7 @@ ghost use Rattle.member_resources.specs.Events.{world_of};
 ghost use Rattle.group_member.specs.declared.fault.EventFault.TheVariants as faults;
 ghost use Rattle.group_crew.specs.Crews.{unlooked};
 ghost use Rattle.group_core.specs.Takes.{is_read};
-ghost use Rattle.group_member.specs.Choices.{has_choice};
+ghost use Rattle.choice_bits.specs.Choices.{has_choice};
 ghost use Rattle.group_member.specs.Happening.{Comes};
 ghost use Rattle.group_member.specs.Members.{member_of};
 ghost use Rattle.group_member.specs.Refusing.{IsRefused};

@@ -1,5 +1,5 @@
 ghost use Rattle.std.specs.Prelude.{◌≡◌, ℕ, ◌+◌, ◌*◌, ◌/◌, ◌%◌, ◌<◌, ◌≤◌, true, false, IfSome, IfNone};
-ghost use Rattle.group_member.specs.Choices.{has_choice};
+ghost use Rattle.choice_bits.specs.Choices.{has_choice};
 
 use crate::members::Members;
 use group_member::{CHOICES, MemberPart, has_choice};

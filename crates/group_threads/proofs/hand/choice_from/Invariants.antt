@@ -1,5 +1,5 @@
 use Rattle.std.proofs.Common.{◌≡◌, ℕ, ◌≤◌, ◌<◌, false}
-use Rattle.group_member.specs.Choices.{has_choice}
+use Rattle.choice_bits.specs.Choices.{has_choice}
 use Rattle.group_threads.proofs.hand.choice_from.Given as goal
 
 abbrev pub invariant-loop-choice : goal.invariant-loop-choice

@@ -3,7 +3,7 @@ use Rattle.std.proofs.Common.{◌≡◌, ◌≢◌, ℕ, zero, suc, ◌+◌, ◌
 use Rattle.std.proofs.lemmas.Nat.{mod-pow-add, shr-shr, ones-le, ones_cat}
 use lib.Count.{ones}
 use Rattle.std.specs.Prelude.{count_ones}
-use Rattle.group_member.specs.Choices.{choices_from, choices_of, has_choice}
+use Rattle.choice_bits.specs.Choices.{choices_from, choices_of, has_choice}
 
 pub all_choices : (ready : ℕ) → choices_from 23 0 ready ≡ choices_of ready
 unfolding choices_of

@@ -1,8 +1,8 @@
 use Rattle.std.proofs.Common.{◌≡◌, ℕ, ◌+◌, ◌-◌, ◌<◌, true, false, List, slice_get, sym, ap, ◌∙◌, arith}
-use Rattle.group_member.specs.Choices.{choices_from, has_choice}
-use Rattle.group_member.proofs.Choices.{all_choices, get_later, none_left, ready_next, unready_next}
-use Rattle.group_member.proofs.ready.nth_choice.Goals.{then-has_choice+else-left-eq0, else-has_choice}
-use Rattle.group_member.proofs.ready.nth_choice.Goals as goal
+use Rattle.choice_bits.specs.Choices.{choices_from, has_choice}
+use Rattle.choice_bits.proofs.Choices.{all_choices, get_later, none_left, ready_next, unready_next}
+use Rattle.choice_bits.proofs.bits.nth_choice.Goals.{then-has_choice+else-left-eq0, else-has_choice}
+use Rattle.choice_bits.proofs.bits.nth_choice.Goals as goal
 
 pub loop-choice-init : goal.loop-choice-init
 loop-choice-init c = ap (λ (xs : List ℕ). slice_get xs c.args.n) (all_choices c.args.ready)
