@@ -1,5 +1,5 @@
 -- Where pages show that they can't be those that were looked for.
-use Rattle.std.specs.Prelude.{ℕ, ◌+◌, ◌≤◌, ◌==◌, nat_lt, Bool, if◌then◌else◌, List, [], ◌∷◌, Option, None, Some, Result, Ok, Err}
+use Rattle.std.specs.Prelude.{ℕ, ◌≤◌, ◌==◌, nat_lt, Bool, if◌then◌else◌, List, Option, None, Some, Result, Ok, Err}
 use Rattle.ds_base.specs.declared.names.PageId.{PageId}
 use Rattle.page_format.specs.Fields.{kind_at, count_at}
 use Rattle.page_format.specs.Header.{header_of}
@@ -7,9 +7,9 @@ use Rattle.page_format.specs.declared.header.Header.{Header}
 use Rattle.page_format.specs.declared.header.NotAPage.{NotAPage}
 use Rattle.page_format.specs.declared.header.PageKind.{PageKind}
 use Rattle.page_format.specs.declared.header.PageKind.TheVariants as kind
-use Rattle.index_leaf.specs.declared.layout.Entry.{Entry}
-use Rattle.index_leaf.specs.Entries.{low_at, first_entry_at, entry_width, low_of, entries_of}
+use Rattle.index_leaf.specs.Entries.{low_at, low_of, entries_of}
 use Rattle.page_redo.specs.Rows.{or_fault}
+use Rattle.rising_keys.specs.Falls.{fall_of}
 
 -- ---- kinds
 
@@ -54,16 +54,6 @@ abbrev pub new_page_fault : PageId → ℕ → List ℕ → Option ℕ
 new_page_fault id slot page = if slot == 0 then page_fault kind.Empty id page else counted_fault slot (header_of page id)
 
 -- ---- pages of the index
-
--- the keys from this offset on don't rise above this one
-abbrev pub fall_from : ℕ → ℕ → List Entry → Option ℕ
-fall_from offset key [] = None
-fall_from offset key (e ∷ es) = if nat_lt key e.key then fall_from (offset + entry_width) e.key es else Some offset
-
--- the offset of the first key that isn't above the one before it
-abbrev pub fall_of : List Entry → Option ℕ
-fall_of [] = None
-fall_of (e ∷ es) = fall_from (first_entry_at + entry_width) e.key es
 
 -- of a branch or a leaf
 abbrev pub IsNodeKind : PageKind → Type 0

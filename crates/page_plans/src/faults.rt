@@ -3,21 +3,18 @@ ghost use Rattle.std.specs.Prelude.{◌≡◌, ◌≤◌, None};
 ghost use Rattle.page_format.specs.Header.{entries_per_page};
 ghost use Rattle.index_leaf.specs.Entries.{count_of, entries_of, IsRising};
 ghost use Rattle.index_leaf.specs.Changes.{id_of};
-ghost use Rattle.page_plans.specs.Faults.{number_of, is_kind, kind_fault, page_fault, node_fault, new_page_fault, fall_of, search_fault, IsNodeKind};
+ghost use Rattle.page_plans.specs.Faults.{number_of, is_kind, kind_fault, page_fault, node_fault, new_page_fault, search_fault, IsNodeKind};
 
 use ds_base::{Key, PageId};
-use index_leaf::{count, entry, low_key};
+use index_leaf::low_key;
 use page_format::{Page, PageKind};
+use rising_keys::first_fall;
 
 const KIND_AT: u16 = 4;
 
 const COUNT_AT: u16 = 26;
 
 const LOW_AT: u16 = 32;
-
-const FIRST_ENTRY_AT: u16 = 64;
-
-const ENTRY_WIDTH: u16 = 16;
 
 // The number that the header of a page of the kind has, and 0 for an empty page.
 fn number_of(kind: PageKind) -> u8
@@ -98,28 +95,6 @@ pub fn new_page_fault(id: PageId, slot: u16, page: &Page) -> Option<u16>
     }
 }
 
-// The offset of the first key that isn't above the one before it.
-#[tactic(auto, using(crate::proofs::Nodes::fall_none, crate::proofs::Nodes::fall_some, crate::proofs::Nodes::fall_next, crate::proofs::Nodes::fall_last, crate::proofs::Nodes::fall_past, crate::proofs::Nodes::rising_of))]
-fn find_fall(page: &Page) -> Option<u16>
-    requires { count_of page.now ≤ entries_per_page }
-    ensures exact { result ≡ fall_of (entries_of page.now) }
-    ensures rising { result ≡ None → IsRising (entries_of page.now) }
-{
-    let Some((mut last, _)) = entry(page, 0) else {
-        return None;
-    };
-    for at in 1..count(page) {
-        let Some((key, _)) = entry(page, at) else {
-            return None;
-        };
-        if key <= last {
-            return Some(FIRST_ENTRY_AT + ENTRY_WIDTH * at);
-        }
-        last = key;
-    }
-    None
-}
-
 /// Where the page of this name, a leaf or a branch as wanted, shows that the key can't be looked for in it or to its
 /// right.
 #[tactic(auto, using(crate::proofs::Nodes::room_of))]
@@ -136,5 +111,5 @@ pub fn search_fault(wanted: PageKind, id: PageId, key: Key, page: &Page) -> Opti
     if key < low_key(page) {
         return Some(LOW_AT);
     }
-    find_fall(page)
+    first_fall(page)
 }

@@ -18,7 +18,8 @@ use Rattle.index_leaf.specs.declared.layout.Entry.{Entry}
 use Rattle.index_leaf.specs.Entries.{count_of, entries_of}
 use Rattle.index_leaf.specs.Search.{pair_of}
 use Rattle.tran_core.specs.Looks.{is_between, kept, between, is_heap, kind_fault}
-use Rattle.tran_core.proofs.Looks.{passed_at, drop_past, drop_nil, length_entries, le_of}
+use Rattle.rising_keys.proofs.Falls.{drop_past, drop_nil, length_entries}
+use Rattle.tran_core.proofs.Looks.{passed_at, le_of}
 
 value_bytes : (xs : List ℕ) → list_all is_value_byte xs ≡ true → All IsValueByte xs
 value_bytes [] h = All-nil IsValueByte

@@ -14,6 +14,7 @@ use Rattle.index_leaf.specs.declared.step.Look.{Look}
 use Rattle.index_leaf.specs.declared.step.Look.TheVariants as look
 use Rattle.index_leaf.specs.Entries.{count_of, low_of, high_of, right_of, entries_of}
 use Rattle.index_leaf.specs.Search.{look_of}
+use Rattle.rising_keys.specs.Falls.{fall_of}
 use Rattle.tran_core.specs.declared.stage.Aim.{Aim}
 use Rattle.tran_core.specs.declared.stage.Aim.TheVariants as aim
 use Rattle.tran_core.specs.declared.stage.Level.{Level}
@@ -72,16 +73,6 @@ abbrev pub kind_fault : Bool → PageKind → Option ℕ
 kind_fault fits k = if fits then None else Some (if is_empty k then 0 else 4)
 
 -- ---- pages of the index
-
--- the keys from this offset on don't rise above this one
-abbrev pub fall_from : ℕ → ℕ → List Entry → Option ℕ
-fall_from offset key [] = None
-fall_from offset key (e ∷ es) = if nat_lt key e.key then fall_from (offset + 16) e.key es else Some offset
-
--- the offset of the first key that isn't above the one before it
-abbrev pub fall_of : List Entry → Option ℕ
-fall_of [] = None
-fall_of (e ∷ es) = fall_from 80 e.key es
 
 abbrev pub or_fault : Option ℕ → Option ℕ → Option ℕ
 or_fault (Some at) other = Some at

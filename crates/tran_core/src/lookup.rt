@@ -3,14 +3,15 @@ ghost use Rattle.std.specs.Prelude.{◌≡◌, ◌≤◌, true, None, false};
 ghost use Rattle.page_format.specs.Header.{entries_per_page};
 ghost use Rattle.index_leaf.specs.Entries.{count_of, high_of, right_of, entries_of, IsRising};
 ghost use Rattle.index_leaf.specs.Search.{look_of};
-ghost use Rattle.tran_core.specs.Looks.{collects, is_of, kind_fault, fall_of, index_fault, no_index, found, absent, branch_of, looked, is_root, search_outcome, halves_outcome, header_outcome, entered, absent_in, read_index, make};
+ghost use Rattle.tran_core.specs.Looks.{collects, is_of, kind_fault, index_fault, no_index, found, absent, branch_of, looked, is_root, search_outcome, halves_outcome, header_outcome, entered, absent_in, read_index, make};
 
 use crate::asks::{heap_set, index_set};
 use crate::outcome::Outcome;
 use crate::stage::{Aim, Level, Reading, Step, Task, Update};
 use ds_base::{Key, PageId, Place};
-use index_leaf::{Look, count, entry, high_key, look, low_key, right};
+use index_leaf::{Look, count, high_key, look, low_key, right};
 use page_format::{ENTRIES_PER_PAGE, Page, PageKind};
+use rising_keys::first_fall;
 
 // The offset of the kind, of the count and of the right page in a page, and of the low key and the first entry.
 const KIND_AT: u16 = 4;
@@ -23,8 +24,6 @@ pub const RIGHT_AT: u16 = 52;
 
 const FIRST_ENTRY_AT: u16 = 64;
 
-const ENTRY_WIDTH: u16 = 16;
-
 // Where a page shows that it isn't of the kind that it should be.
 pub fn kind_fault(fits: bool, kind: PageKind) -> Option<u16>
     ensures { result ≡ kind_fault fits kind }
@@ -36,28 +35,6 @@ pub fn kind_fault(fits: bool, kind: PageKind) -> Option<u16>
     } else {
         Some(KIND_AT)
     }
-}
-
-// The offset of the first key that isn't above the one before it.
-#[tactic(auto, using(crate::proofs::Looks::fall_none, crate::proofs::Looks::fall_some, crate::proofs::Looks::fall_next, crate::proofs::Looks::fall_last, crate::proofs::Looks::fall_past, crate::proofs::Looks::rising_of))]
-fn find_fall(page: &Page) -> Option<u16>
-    requires { count_of page.now ≤ entries_per_page }
-    ensures exact { result ≡ fall_of (entries_of page.now) }
-    ensures rising { result ≡ None → IsRising (entries_of page.now) }
-{
-    let Some((mut last, _)) = entry(page, 0) else {
-        return None;
-    };
-    for at in 1..count(page) {
-        let Some((key, _)) = entry(page, at) else {
-            return None;
-        };
-        if key <= last {
-            return Some(FIRST_ENTRY_AT + ENTRY_WIDTH * at);
-        }
-        last = key;
-    }
-    None
 }
 
 fn is_of(level: Level, kind: PageKind) -> bool
@@ -81,7 +58,7 @@ fn index_fault(page: &Page, level: Level, key: Key, kind: PageKind) -> Option<u1
     if key < low_key(page) {
         return Some(LOW_AT);
     }
-    find_fall(page)
+    first_fall(page)
 }
 
 fn read_index(level: Level, page: u32, branch: u32, key: Key) -> Outcome

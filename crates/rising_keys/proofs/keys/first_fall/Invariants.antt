@@ -1,7 +1,7 @@
 use Rattle.std.proofs.Common.{◌≡◌, ◌+◌, ◌*◌, drop}
 use Rattle.index_leaf.specs.Entries.{entries_of}
-use Rattle.page_plans.specs.Faults.{fall_from, fall_of}
-use Rattle.page_plans.proofs.faults.find_fall.Given as goal
+use Rattle.rising_keys.specs.Falls.{fall_from, fall_of}
+use Rattle.rising_keys.proofs.keys.first_fall.Given as goal
 
 -- the keys up to here rise
 abbrev pub invariant-loop-at : goal.invariant-loop-at
