@@ -1,48 +1,13 @@
--- The types of a group may cross threads.
+-- What a thread of a phase holds, and what the threads share, may cross threads.
 use denote.RattleType.{RattleType}
 use denote.Param.Send.{IsSend, sendable}
-use denote.Struct.Field
 use Rattle.std.proofs.Crossing.{crosses}
-use Rattle.std.proofs.MapsCrossing.{crosses as maps}
-use Rattle.list_structure.proofs.lists.Lists.TheSendSync.{the_send as lists}
-use Rattle.script_fates.proofs.fates.Fates.TheSendSync.{the_send as fates}
-use Rattle.ds_model.proofs.script.Script.TheSendSync.{the_field_send as script_field}
-use Rattle.trace_words.proofs.line.Line.TheSendSync.{the_send as line}
-use Rattle.group_member.proofs.rebuilding.Rebuilding.TheSendSync.{the_send as rebuilding}
-use Rattle.group_member.proofs.restarting.Restarting.TheSendSync.{the_send as restarting}
-use Rattle.group_member.proofs.sizes.GroupSizes.TheSendSync.{the_field_send as sizes_field}
-use Rattle.group_restart.proofs.machine.GroupRestart.TheSendSync.{the_send as group_restart}
-use Rattle.group_crew.proofs.progress.Progress.TheSendSync.{the_field_send as progress_field}
-use Rattle.member_resources.specs.contracts.resources.Resources as Resources
-use Rattle.group_member.specs.contracts.part.MemberPart as MemberPart
-use Rattle.facility.specs.contracts.facility.Facility as Facility
-use Rattle.group_crew.specs.contracts.crew.Crew as Crew
-use Rattle.group_core.specs.contracts.group.Group as Group
+use Rattle.group_crossing.proofs.Crossing.{group, part_field}
 use Rattle.group_threads.specs.contracts.hand.Hand as Hand
 use Rattle.group_threads.specs.contracts.shared.Shared as Shared
-use Rattle.group_threads.proofs.Recorded.{structure_send as lock_structure}
-use Rattle.group_threads.proofs.Marked.{marks_send as marks}
-
-pub resources : IsSend Resources.the_row
-resources = search (marks, sendable, crosses, maps) depth 400 fits 200000
 
 pub hand : (P : RattleType) → IsSend P → IsSend (Hand.the_row P)
-hand P p = search (resources, restarting, rebuilding, sendable, crosses) depth 400 fits 200000
-
-abbrev pub IsSendField : denote.Struct.Field.Field → Type 0
-IsSendField f = IsSend f.row
-
-pub part_field : (P : RattleType) → IsSend P → IsSendField (MemberPart.the_field P)
-part_field P p = search (resources, restarting, rebuilding, sendable, crosses) depth 400 fits 200000
-
-pub facility_field : (C : RattleType) → IsSend C → IsSendField (Facility.the_field C)
-facility_field C c = search (lock_structure, lists, sendable, crosses) depth 400 fits 200000
-
-pub crew : (C P : RattleType) → IsSend C → IsSend P → IsSendField (Crew.the_field C P)
-crew C P c p = search (facility_field, part_field, script_field, progress_field, group_restart, fates, sizes_field, sendable, crosses) depth 400 fits 200000
-
-pub group : (D C P : RattleType) → IsSend D → IsSend C → IsSend P → IsSendField (Group.the_field D C P)
-group D C P d c p = search (crew, line, sendable, crosses) depth 400 fits 200000
+hand P p = search (part_field, sendable, crosses) depth 400 fits 200000
 
 pub shared : (D C P : RattleType) → IsSend D → IsSend C → IsSend P → IsSend (Shared.the_row D C P)
 shared D C P d c p = search (group, sendable, crosses) depth 400 fits 200000

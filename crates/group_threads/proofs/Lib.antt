@@ -4,7 +4,4 @@ pub mod Alone
 pub mod Entered
 pub mod Staffed
 pub mod Choosing
-pub mod Recorded
-pub mod Claimed
-pub mod Marked
 pub mod Crossing

@@ -1,0 +1,4 @@
+pub mod Recorded
+pub mod Claimed
+pub mod Marked
+pub mod Crossing
