@@ -2,7 +2,7 @@
 use Rattle.std.proofs.Common.{◌≡◌, ℕ, refl, sym, ap, ◌∙◌, subst, arith, Bool, true, false, inl, inr, Option, Some, None}
 use Rattle.std.specs.Prelude.{◌≢◌, ◌==◌, ◌&&◌, if◌then◌else◌}
 use Rattle.std.proofs.lemmas.Bool.{cases_eq, cases_Bool, both_ways, eq-eqb, cond-true, cond-false}
-use Rattle.page_protocol.specs.Frames.{Frames, is_page, is_set, bit_at, bit_of, ArePlaced, put2, placed_in, taken_out, registered, unregistered, found_clear, without, dropped, emptied, TestTells, Places, TakesOut, Registers, Unregisters, FindsClear, Drops, Empties}
+use Rattle.page_protocol.specs.Frames.{Frames, is_page, is_set, bit_at, bit_of, ArePlaced, put2, placed_in, taken_out, registered, unregistered, without, dropped, emptied, TestTells, Places, TakesOut, Registers, Unregisters, FindsClear, Drops, Empties}
 
 tells : (m n i : ℕ) (f : Frames) (o : Option ℕ) → ArePlaced f → f.at m n ≡ Some i → f.noted m i ≡ true → f.bound m i ≡ o → is_set o ≡ (f.noted m i && is_page o n)
 tells m n i f None s at noted e = grind (arith, noted)
