@@ -59,9 +59,9 @@ outlives : (entry : ℕ → ℕ) (w : World) (k o n : ℕ) (a : Mode) → Sound 
 outlives entry w k o n a s e r =
     let same : (k == k) ≡ true = eq-eqb k k refl in
     let c = cond-true (k == k) (retained_claim (w.claims k o n)) (w.claims k o n) same in
-    let d = cond-true (k == k) (retained_record (w.records k n)) (w.records k n) same in
-    ( subst (λ x. x ≡ Some a) (sym c) (claim_stays (w.claims k o n) a e r)
-    , subst (λ x. RetainedCovers x a) (sym d) (record_stays (w.records k n) a (record_of (w.claims k o n) (w.records k n) a (s.recorded k o n) e r))
+    let d = cond-true (k == k) (retained_record (w.records k n)) (w.records k n) same in (
+      subst (λ x. x ≡ Some a) (sym c) (claim_stays (w.claims k o n) a e r),
+      subst (λ x. RetainedCovers x a) (sym d) (record_stays (w.records k n) a (record_of (w.claims k o n) (w.records k n) a (s.recorded k o n) e r)),
     )
 
 pub gives : SoundGives
