@@ -8,4 +8,5 @@ pub mod Search
 pub mod Later
 pub mod Whole_search
 pub mod Order
+pub mod Opening
 pub mod Needed

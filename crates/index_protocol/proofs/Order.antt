@@ -81,23 +81,27 @@ failure w logs m stable c s one cut seen one_kept two_kept n = record {
         let here = (s.shape n).made made in
         let a = (cut n).gone_author 0 (omega (arith, none)) here in
         let p = (cut n).gone_place 0 (omega (arith, none)) here in
-        let e = one.split_author n i.0 made i.1 in
-        let f = one.split_place n i.0 made i.1 in
+        let hid : w.rest.shown n ≡ 0 = let q = seen n in omega (arith, q, none) in
+        let e = one.split_author n i.0 made i.1 (inl hid) in
+        let f = one.split_place n i.0 made i.1 (inl hid) in
         let k : i.0 < c (w.rest.split_of n) → logs.place (w.rest.split_of n) i.0 < stable = λ lt. (cut (w.rest.split_of n)).kept i.0 lt (e ∙ a) in
         let b = i.1 in grind (arith, p, f, k, b)
 
-    plain : (d born i x y st : ℕ) → y ≡ x → born ≡ suc i → (d ≤ i → x < st) → (d ≤ i → st ≤ y) → born ≤ d
-    plain d born i x y st f b k q = grind arith
+    lost : w.rest.kind n ≢ Unmade → 1 ≤ c n → (i : ℕ) → w.rest.parted_at n (w.rest.split_of n) ≡ suc i → c (w.rest.split_of n) ≤ i → ⊥
+    lost made some i b le =
+        let hid : w.rest.shown (w.rest.split_of n) ≤ i = let q = seen (w.rest.split_of n) in omega (arith, q, le) in
+        let e = one.split_author n i made b (inr hid) in
+        let f = one.split_place n i made b (inr hid) in
+        let top : i < (w.pages (w.rest.split_of n)).last = let l = s.paths.made n (w.rest.split_of n) made in omega (arith, l, b) in
+        let k = (cut n).kept 0 (omega (arith, some)) (sym e ∙ (cut (w.rest.split_of n)).gone_author i le top) in
+        let q = (cut (w.rest.split_of n)).gone_place i le top in
+        omega (arith, f, k, q)
 
     stays_at : w.rest.kind n ≢ Unmade → 1 ≤ c n → (i : ℕ) × (w.rest.parted_at n (w.rest.split_of n) ≡ suc i) → w.rest.parted_at n (w.rest.split_of n) ≤ c (w.rest.split_of n)
-    stays_at made some i =
-        let e = one.split_author n i.0 made i.1 in
-        let f = one.split_place n i.0 made i.1 in
-        let b = i.1 in
-        let top : i.0 < (w.pages (w.rest.split_of n)).last = let l = s.paths.made n (w.rest.split_of n) made in omega (arith, l, b) in
-        let k : c (w.rest.split_of n) ≤ i.0 → logs.place n 0 < stable = λ le. (cut n).kept 0 (omega (arith, some)) (sym e ∙ (cut (w.rest.split_of n)).gone_author i.0 le top) in
-        let q : c (w.rest.split_of n) ≤ i.0 → stable ≤ logs.place (w.rest.split_of n) i.0 = λ le. (cut (w.rest.split_of n)).gone_place i.0 le top in
-        plain (c (w.rest.split_of n)) (w.rest.parted_at n (w.rest.split_of n)) i.0 (logs.place n 0) (logs.place (w.rest.split_of n) i.0) stable f b k q
+    stays_at made some i = elim (cases_lt i.0 (c (w.rest.split_of n))) [
+      | inl lt ↦ (let b = i.1 in omega (arith, b, lt))
+      | inr le ↦ absurd (lost made some i.0 i.1 le)
+    ]
 
     child_at : (i k r : ℕ) → w.rest.kind n ≡ Branch → suc i ≤ c n → (w.pages n).entry (suc i) k ≡ Some r → w.rest.shown r ≡ 0 → c r ≡ 0 → ⊥
     child_at i k r branch le is hid none =

@@ -245,7 +245,7 @@ kept_step w v GroupRestart s st = subst WholeIndex (sym st) (kept_restart w s)
 pub kept_start : (m : ℕ) → WholeIndex (start m)
 kept_start m = record { roots = roots_start m; paths = paths_start m; shape = shape_start m; leaves = leaves_start m; apart = apart_start m }
 
-run_from : (moves : List Move) (w v : World) → WholeIndex w → Run w moves v → WholeIndex v
+pub run_from : (moves : List Move) (w v : World) → WholeIndex w → Run w moves v → WholeIndex v
 run_from [] w v s r = subst WholeIndex (sym r) s
 run_from (e ∷ es) w v s r = run_from es r.0 v (kept_step w r.0 e s r.1) r.2
 

@@ -4,4 +4,5 @@ pub mod Partition
 pub mod Search
 pub mod Whole_search
 pub mod Order
+pub mod Opening
 pub mod Needed

@@ -1,5 +1,5 @@
 -- What a member does and what its log holds, and that these give the guards of its moves and of its failure.
-use Rattle.std.specs.Prelude.{◌≡◌, ◌≢◌, ℕ, suc, ◌<◌, ◌≤◌, false, None, Some}
+use Rattle.std.specs.Prelude.{◌≡◌, ◌≢◌, ◌⊎◌, ℕ, suc, ◌<◌, ◌≤◌, false, None, Some}
 use Rattle.index_protocol.specs.Index.{Page, World, Unmade, Leaf, Branch, beyond, IsOpen, IsThere, MayGive, MayEnterBranch, MayWrite, MayFail}
 use Rattle.index_protocol.specs.Whole.{WholeIndex}
 use Rattle.index_protocol.specs.Search.{Reached}
@@ -37,9 +37,9 @@ pub record IsCut (logs : Logs) (m stable n : ℕ) (p : Page) (d : ℕ) : Type 0 
 pub record InLogs (w : World) (logs : Logs) : Type 0 where
   -- changes that are not shown are of the page's one writer
   pub writer : (n i : ℕ) → w.rest.shown n ≤ i → i < (w.pages n).last → logs.author n i ≡ w.rest.writer n
-  -- a split is one record, on both of its pages
-  pub split_author : (r i : ℕ) → w.rest.kind r ≢ Unmade → w.rest.parted_at r (w.rest.split_of r) ≡ suc i → logs.author (w.rest.split_of r) i ≡ logs.author r 0
-  pub split_place : (r i : ℕ) → w.rest.kind r ≢ Unmade → w.rest.parted_at r (w.rest.split_of r) ≡ suc i → logs.place (w.rest.split_of r) i ≡ logs.place r 0
+  -- a split that is not shown on both of its pages is one record of both
+  pub split_author : (r i : ℕ) → w.rest.kind r ≢ Unmade → w.rest.parted_at r (w.rest.split_of r) ≡ suc i → (w.rest.shown r ≡ 0) ⊎ (w.rest.shown (w.rest.split_of r) ≤ i) → logs.author (w.rest.split_of r) i ≡ logs.author r 0
+  pub split_place : (r i : ℕ) → w.rest.kind r ≢ Unmade → w.rest.parted_at r (w.rest.split_of r) ≡ suc i → (w.rest.shown r ≡ 0) ⊎ (w.rest.shown (w.rest.split_of r) ≤ i) → logs.place (w.rest.split_of r) i ≡ logs.place r 0
   -- a branch has the entry of a child that is not shown in changes that stand behind the child's split in the same log
   pub child_author : (n i k r : ℕ) → w.rest.kind n ≡ Branch → i < (w.pages n).last → (w.pages n).entry (suc i) k ≡ Some r → w.rest.shown r ≡ 0 → logs.author n i ≡ logs.author r 0
   pub child_place : (n i k r : ℕ) → w.rest.kind n ≡ Branch → i < (w.pages n).last → (w.pages n).entry (suc i) k ≡ Some r → w.rest.shown r ≡ 0 → logs.place r 0 < logs.place n i

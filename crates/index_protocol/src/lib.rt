@@ -6,6 +6,7 @@
 #![tactic(auto)]
 
 ghost use Rattle.index_protocol.specs.Needed.{BothSidesIsNeeded, ChildFirstIsNeeded, FailureIsPossible, LeftBeforeBranchIsNeeded, OneWriterIsNeeded, ReachedIsNeeded, RightFirstIsNeeded, SplitterGoesOn, WrittenBeforeEndIsNeeded};
+ghost use Rattle.index_protocol.specs.Opening.{AlwaysFromOpening, LeavesSound, OpensWhole};
 ghost use Rattle.index_protocol.specs.Order.{FailureIsCut, OrderGives, SearchMayEnter, SearchMayGive};
 ghost use Rattle.index_protocol.specs.Partition.{Partitions};
 ghost use Rattle.index_protocol.specs.Search.{CopyAnswers, KnownBegins, MovesKeep, SearchBegins, SearchLeads};
@@ -17,6 +18,14 @@ pub fn whole_index()
     ensures start { StartsWhole }
     ensures step { KeepsWhole }
     ensures always { AlwaysWhole }
+{}
+
+/// A run may open with an index that earlier runs left on the disk: it is whole, and all that is said of runs from a new
+/// index holds of runs from there. What a run leaves may be opened with, and has each key's place.
+pub fn opens_on_sound_disk()
+    ensures opens { OpensWhole }
+    ensures always { AlwaysFromOpening }
+    ensures leaves { LeavesSound }
 {}
 
 /// In the last versions the links from the first leaf lead to every key that was ever given, with its one place, and to

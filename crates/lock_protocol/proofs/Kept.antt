@@ -1,10 +1,11 @@
 -- What each change keeps.
 use Rattle.std.proofs.Common.{◌≡◌, ℕ, refl, sym, ◌∙◌, arith, Bool, true, false, inl, inr, ◌⊎◌, Option, Some, None}
-use Rattle.std.specs.Prelude.{◌≢◌}
+use Rattle.std.specs.Prelude.{◌≢◌, ◌==◌, ◌&&◌, if◌then◌else◌}
 use Rattle.lock_names.specs.declared.mode.Mode.{Mode}
-use Rattle.lock_names.specs.Modes.{class_of, are_compatible}
+use Rattle.lock_names.specs.declared.mode.Interest.{Interest}
+use Rattle.lock_names.specs.Modes.{class_of}
 use Rattle.lock_protocol.specs.Functions.{put3}
-use Rattle.lock_protocol.specs.Machine.{World, Record, Interest, Clean, Asked, Conflict, granted, entered, cleared, told, backs, blocks, with_class, recorded_as, allows, both_allowed, RetainedAllows, released, given_up, handed_on, failed, restarted, purged, Covers, start}
+use Rattle.lock_protocol.specs.Machine.{World, Record, Clean, Asked, Conflict, granted, entered, cleared, told, backs, blocks, with_class, recorded_as, allows, both_allowed, RetainedCovers, RetainedAllows, IsClear, released, given_up, handed_on, failed, restarted, purged, Covers, start}
 use Rattle.lock_protocol.specs.Moves.{NoLocalConflict, NotRetained}
 use Rattle.lock_protocol.specs.Sound.{Sound, IsCovered, IsRecorded}
 use Rattle.lock_protocol.proofs.Modes.{compatible-sym, compatible-below, unblocked, join-keeps, join-covers, join-self, backs-with_class, backs_own, backs-below, recorded-below, join-through}
@@ -16,7 +17,7 @@ kept_ask entry w m owner k name mode s = grind arith
 pub kept_conflict : (entry : ℕ → ℕ) (w : World) (m owner k name : ℕ) (mode : Mode) → Sound entry w → Sound entry (told w m owner k (Conflict name mode))
 kept_conflict entry w m owner k name mode s = grind arith
 
-pub kept_clean : (entry : ℕ → ℕ) (w : World) (m owner k name : ℕ) (mode : Mode) → Sound entry w → ((q : ℕ) → allows (w.claims k q name) mode ≡ true) → Sound entry (told w m owner k (Clean name mode (w.version (entry name))))
+pub kept_clean : (entry : ℕ → ℕ) (w : World) (m owner k name : ℕ) (mode : Mode) → Sound entry w → ((q : ℕ) → IsClear (w.claims k q name) (w.records k name) mode) → Sound entry (told w m owner k (Clean name mode (w.version (entry name))))
 kept_clean entry w m owner k name mode s ok = grind arith
 
 pub kept_cleared : (entry : ℕ → ℕ) (w : World) (m owner : ℕ) → Sound entry w → Sound entry (cleared w m owner)
@@ -31,11 +32,28 @@ kept_restart entry w m s = grind arith
 pub kept_purge : (entry : ℕ → ℕ) (w : World) (m name : ℕ) → Sound entry w → ((q : ℕ) → w.claims m q name ≡ None) → Sound entry (purged w m name)
 kept_purge entry w m name s unused = grind arith
 
-pub kept_give_up : (entry : ℕ → ℕ) (w : World) (m owner name : ℕ) → Sound entry w → Sound entry (given_up w m owner name)
-kept_give_up entry w m owner name s = grind arith
+gone_both : (b c : Bool) (x y : Option Mode) → both_allowed x y ≡ true → both_allowed (if b then None else x) (if c then None else y) ≡ true
+gone_both b true x y h = refl
+gone_both true false x None h = refl
+gone_both true false x (Some m) h = refl
+gone_both false false x y h = h
+
+gone : (b : Bool) (x : Option Mode) (P : Option Mode → Type 0) → P None → P x → P (if b then None else x)
+gone true x P none h = none
+gone false x P none h = h
+
+pub kept_give_up : (entry : ℕ → ℕ) (w : World) (m : ℕ) (which : ℕ → ℕ → Bool) → Sound entry w → Sound entry (given_up w m which)
+kept_give_up entry w m which s = record {
+  across = λ k l o q n ne. gone_both ((k == m) && which o n) ((l == m) && which q n) (w.claims k o n) (w.claims l q n) (s.across k l o q n ne);
+  within = λ k o q n ne. gone_both ((k == m) && which o n) ((k == m) && which q n) (w.claims k o n) (w.claims k q n) (s.within k o q n ne);
+  covered = λ k o n. gone ((k == m) && which o n) (w.claims k o n) (λ c. IsCovered c (w.live k) (w.interest k (entry n)) (w.records k n)) tt (s.covered k o n);
+  recorded = λ k o n. gone ((k == m) && which o n) (w.claims k o n) (λ c. IsRecorded c (w.records k n)) tt (s.recorded k o n);
+  stamped = s.stamped;
+  fresh = λ a o k q n v mode ne is now. gone ((k == m) && which q n) (w.claims k q n) (λ c. IsClear c (w.records k n) mode) tt (s.fresh a o k q n v mode ne is now);
+}
 
 pub kept_released : (entry : ℕ → ℕ) (w : World) (m owner name : ℕ) (keeps : Interest) → Sound entry w → ((q : ℕ) → q ≢ owner → w.claims m q name ≡ None)
-    → ((q n : ℕ) (x : Mode) → n ≢ name → entry n ≡ entry name → w.claims m q n ≡ Some x → backs (class_of x) keeps ≡ true)
+    → ((q n : ℕ) (x : Mode) → n ≢ name → entry n ≡ entry name → w.claims m q n ≡ Some x → (backs (class_of x) keeps ≡ true) ⊎ RetainedCovers (w.records m n) x)
     → Sound entry (released entry w m owner name keeps)
 kept_released entry w m owner name keeps s last kept = grind arith
 
@@ -91,10 +109,10 @@ own_recorded entry w m name mode = grind (arith, own_record)
 abbrev pub Apart : World → ℕ → ℕ → Mode → Type 0
 Apart w m name mode = (k q : ℕ) → k ≢ m → allows (w.claims k q name) mode ≡ true
 
-apart_at : (c : Option Mode) (r : Option Record) (up : Bool) (i : Interest) (mode : Mode) → IsCovered c up i r → RetainedAllows r mode → (up ≡ true → (blocks (class_of mode) i ≡ false) ⊎ (allows c mode ≡ true)) → allows c mode ≡ true
+apart_at : (c : Option Mode) (r : Option Record) (up : Bool) (i : Interest) (mode : Mode) → IsCovered c up i r → RetainedAllows r mode → (up ≡ true → (blocks (class_of mode) i ≡ false) ⊎ IsClear c r mode) → allows c mode ≡ true
 apart_at None r up i mode cov free clean = refl
-apart_at (Some c) None up i mode cov free clean = elim cov [ inl b ↦ elim (clean b.0) [ inl h ↦ unblocked c mode i b.1 h | inr h ↦ h ] | inr q ↦ absurd q ]
-apart_at (Some c) (Some r) up i mode cov free clean = elim cov [ inl b ↦ elim (clean b.0) [ inl h ↦ unblocked c mode i b.1 h | inr h ↦ h ] | inr q ↦ compatible-below r.mode c mode q.1 (free q.0) ]
+apart_at (Some c) None up i mode cov free clean = elim cov [ inl b ↦ elim (clean b.0) [ inl h ↦ unblocked c mode i b.1 h | inr h ↦ elim h [ inl a ↦ a | inr q ↦ absurd q ] ] | inr q ↦ absurd q ]
+apart_at (Some c) (Some r) up i mode cov free clean = elim cov [ inl b ↦ elim (clean b.0) [ inl h ↦ unblocked c mode i b.1 h | inr h ↦ elim h [ inl a ↦ a | inr q ↦ compatible-below r.mode c mode q.1 (free q.0) ] ] | inr q ↦ compatible-below r.mode c mode q.1 (free q.0) ]
 
 pub apart : (entry : ℕ → ℕ) (w : World) (m owner name : ℕ) (mode : Mode) → Sound entry w → NotRetained w m name mode
     → ((k : ℕ) → k ≢ m → w.live k ≡ true → (blocks (class_of mode) (w.interest k (entry name)) ≡ false) ⊎ (w.cells m owner k ≡ Clean name mode (w.version (entry name))))
@@ -111,9 +129,9 @@ e_within : (claims : ℕ → ℕ → ℕ → Option Mode) (m owner name : ℕ) (
     → (k o q n : ℕ) → o ≢ q → both_allowed (put3 claims m owner name (Some mode) k o n) (put3 claims m owner name (Some mode) k q n) ≡ true
 e_within claims m owner name mode s near k o q n ne = grind (arith, compatible-sym)
 
-e_fresh : (entry : ℕ → ℕ) (w : World) (m owner name : ℕ) (mode : Mode) → ((a o k q n v : ℕ) (x : Mode) → a ≢ k → w.cells a o k ≡ Clean n x v → v ≡ w.version (entry n) → allows (w.claims k q n) x ≡ true)
-    → ((a o v : ℕ) (x : Mode) → a ≢ m → w.cells a o m ≡ Clean name x v → v ≡ w.version (entry name) → are_compatible mode x ≡ true)
-    → (a o k q n v : ℕ) (x : Mode) → a ≢ k → w.cells a o k ≡ Clean n x v → v ≡ w.version (entry n) → allows (put3 w.claims m owner name (Some mode) k q n) x ≡ true
+e_fresh : (entry : ℕ → ℕ) (w : World) (m owner name : ℕ) (mode : Mode) → ((a o k q n v : ℕ) (x : Mode) → a ≢ k → w.cells a o k ≡ Clean n x v → v ≡ w.version (entry n) → IsClear (w.claims k q n) (w.records k n) x)
+    → ((a o v : ℕ) (x : Mode) → a ≢ m → w.cells a o m ≡ Clean name x v → v ≡ w.version (entry name) → IsClear (Some mode) (w.records m name) x)
+    → (a o k q n v : ℕ) (x : Mode) → a ≢ k → w.cells a o k ≡ Clean n x v → v ≡ w.version (entry n) → IsClear (put3 w.claims m owner name (Some mode) k q n) (w.records k n) x
 e_fresh entry w m owner name mode s still a o k q n v x = grind arith
 
 e_covered : (entry : ℕ → ℕ) (w : World) (m owner name : ℕ) (mode : Mode) → ((k o n : ℕ) → IsCovered (w.claims k o n) (w.live k) (w.interest k (entry n)) (w.records k n)) → IsCovered (Some mode) (w.live m) (w.interest m (entry name)) (w.records m name)
@@ -126,7 +144,7 @@ e_recorded w m owner name mode s new k o n = grind arith
 
 pub kept_enter : (entry : ℕ → ℕ) (w : World) (m owner name : ℕ) (mode : Mode) → Sound entry w → Apart w m name mode → NoLocalConflict w m owner name mode
     → IsCovered (Some mode) (w.live m) (w.interest m (entry name)) (w.records m name) → IsRecorded (Some mode) (w.records m name)
-    → ((a o v : ℕ) (x : Mode) → a ≢ m → w.cells a o m ≡ Clean name x v → v ≡ w.version (entry name) → are_compatible mode x ≡ true)
+    → ((a o v : ℕ) (x : Mode) → a ≢ m → w.cells a o m ≡ Clean name x v → v ≡ w.version (entry name) → IsClear (Some mode) (w.records m name) x)
     → Sound entry (entered w m owner name mode)
 kept_enter entry w m owner name mode s far near cover record_of still = record {
   across = e_across w.claims m owner name mode s.across far;
@@ -137,13 +155,14 @@ kept_enter entry w m owner name mode s far near cover record_of still = record {
   fresh = e_fresh entry w m owner name mode s.fresh still;
 }
 
-pub still_clean : (entry : ℕ → ℕ) (w : World) (m name : ℕ) (mode : Mode) → Sound entry w → (a o v : ℕ) (x : Mode) → a ≢ m → w.cells a o m ≡ Clean name x v → v ≡ (granted entry w m name mode).version (entry name) → are_compatible mode x ≡ true
+pub still_clean : (entry : ℕ → ℕ) (w : World) (m name : ℕ) (mode : Mode) → Sound entry w → (a o v : ℕ) (x : Mode) → a ≢ m → w.cells a o m ≡ Clean name x v → v ≡ (granted entry w m name mode).version (entry name) → IsClear (Some mode) ((granted entry w m name mode).records m name) x
 still_clean entry w m name mode s = grind arith
 
 -- ---- a claim that the member's own cover
-allows_below : (d : Option Mode) (c x : Mode) → Covers d c → allows d x ≡ true → are_compatible c x ≡ true
-allows_below None c x h a = absurd h
-allows_below (Some d) c x h a = compatible-below d c x h a
+clear_below : (d : Option Mode) (c x : Mode) (r : Option Record) → Covers d c → IsClear d r x → IsClear (Some c) r x
+clear_below None c x r h a = absurd h
+clear_below (Some d) c x None h a = elim a [ inl b ↦ inl (compatible-below d c x h b) | inr q ↦ absurd q ]
+clear_below (Some d) c x (Some r) h a = elim a [ inl b ↦ inl (compatible-below d c x h b) | inr q ↦ inr (q.0, join-through r.mode d c q.1 h) ]
 
 both_below : (d e : Option Mode) (c : Mode) → Covers d c → both_allowed e d ≡ true → allows e c ≡ true
 both_below None e c h a = absurd h
@@ -165,4 +184,8 @@ kept_local entry w m q owner name mode s h local = kept_enter entry w m owner na
     (λ k o ne. both_below (w.claims m q name) (w.claims k o name) mode h (s.across k m o q name ne)) local
     (cover_below (w.claims m q name) mode _ _ (w.records m name) h (s.covered m q name))
     (record_below (w.claims m q name) mode (w.records m name) h (s.recorded m q name))
-    (λ a o v x ne is e. allows_below (w.claims m q name) mode x h (s.fresh a o m q name v x ne is e))
+    (λ a o v x ne is e. clear_below (w.claims m q name) mode x (w.records m name) h (s.fresh a o m q name v x ne is e))
+
+-- ---- an owner's claim becomes a lesser one
+pub kept_demote : (entry : ℕ → ℕ) (w : World) (m owner name : ℕ) (mode : Mode) → Sound entry w → Covers (w.claims m owner name) mode → Sound entry (entered w m owner name mode)
+kept_demote entry w m owner name mode s h = kept_local entry w m owner owner name mode s h (λ q ne. both_below (w.claims m owner name) (w.claims m q name) mode h (s.within m q owner name ne))

@@ -2,3 +2,4 @@ pub mod Modes
 pub mod Kept
 pub mod Runs
 pub mod Needed
+pub mod Words

@@ -2,8 +2,9 @@
 use Rattle.std.proofs.Common.{◌≡◌, arith, true, false}
 use Rattle.lock_names.specs.declared.mode.Mode.{Mode}
 use Rattle.lock_names.specs.declared.mode.Class.{Class}
+use Rattle.lock_names.specs.declared.mode.Interest.{Interest}
 use Rattle.lock_names.specs.Modes.{are_compatible, join_of, class_of, is_recorded}
-use Rattle.lock_protocol.specs.Machine.{Interest, blocks, backs, with_class}
+use Rattle.lock_protocol.specs.Machine.{blocks, backs, with_class}
 
 pub compatible-sym : (a b : Mode) → are_compatible a b ≡ are_compatible b a
 unfolding are_compatible

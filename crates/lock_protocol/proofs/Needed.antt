@@ -7,7 +7,7 @@ use Rattle.lock_protocol.specs.Sound.{Sound}
 use Rattle.lock_protocol.specs.Needed.{one_entry, held, answered_early, AnsweredClean, held_two, StampIsNeeded, RetainedIsNeeded, KeptInterestIsNeeded, NoClaimIsNeeded}
 use Rattle.lock_protocol.proofs.Kept.{kept_failed}
 
-held_sound : Sound one_entry held
+pub held_sound : Sound one_entry held
 unfolding are_compatible join_of class_of is_recorded backs
 held_sound = record { across = grind arith; within = grind arith; covered = grind arith; recorded = grind arith; stamped = grind arith; fresh = grind arith }
 

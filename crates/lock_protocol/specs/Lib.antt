@@ -3,3 +3,5 @@ pub mod Machine
 pub mod Moves
 pub mod Sound
 pub mod Needed
+pub mod Words
+pub mod Example

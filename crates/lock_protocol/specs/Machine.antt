@@ -2,19 +2,15 @@
 --
 -- Members, owners, names and entries are numbers; a function gives the entry of each name, and is any function. An
 -- owner of a member is an agent with its transaction, the member itself with its page locks, or a postponed rollback.
-use Rattle.std.specs.Prelude.{◌≡◌, ℕ, ◌+◌, Bool, true, false, ◌&&◌, ◌||◌, Option, Some, None, if◌then◌else◌, ◌==◌}
+use Rattle.std.specs.Prelude.{◌≡◌, ◌⊎◌, ℕ, ◌+◌, Bool, true, false, ◌&&◌, ◌||◌, Option, Some, None, if◌then◌else◌, ◌==◌}
 use Rattle.lock_names.specs.declared.mode.Mode.{Mode}
 use Rattle.lock_names.specs.declared.mode.Class.{Class}
 use Rattle.lock_names.specs.declared.mode.Class.TheVariants.{Share, Exclusive}
+use Rattle.lock_names.specs.declared.mode.Interest.{Interest}
 use Rattle.lock_names.specs.Modes.{are_compatible, join_of, class_of, is_recorded}
 use Rattle.lock_protocol.specs.Functions.{alter, alter2, put, put2, put3}
 
 -- ---- what there is
-
--- what a member has in an entry of the lock table
-pub record Interest : Type 0 where
-  pub share : Bool
-  pub exclusive : Bool
 
 -- a modify lock as the facility records it, so that it outlives its member
 pub record Record : Type 0 where
@@ -80,6 +76,11 @@ abbrev pub RetainedAllows : Option Record → Mode → Type 0
 RetainedAllows None m = Unit {0}
 RetainedAllows (Some r) m = r.retained ≡ true → are_compatible r.mode m ≡ true
 
+-- the claim isn't in the way of this mode, or a retained record that covers it stands for it
+abbrev pub IsClear : Option Mode → Option Record → Mode → Type 0
+IsClear None r m = Unit {0}
+IsClear (Some c) r m = (are_compatible c m ≡ true) ⊎ RetainedCovers r c
+
 -- a claim that needs one more mode asks for the join of both
 abbrev pub wanted : Option Mode → Mode → Mode
 wanted None need = need
@@ -142,9 +143,9 @@ released entry w m owner name keeps = record w {
   claims = put3 w.claims m owner name None;
 }
 
--- an owner has given up its claim on a name; the member's interest and record stay
-abbrev pub given_up : World → ℕ → ℕ → ℕ → World
-given_up w m owner name = record w { claims = put3 w.claims m owner name None }
+-- owners of the member have given up these claims; its interest and records stay
+abbrev pub given_up : World → ℕ → (ℕ → ℕ → Bool) → World
+given_up w m which = record w { claims = λ k o n. if (k == m) && which o n then None else w.claims k o n }
 
 -- the claims of one owner are another's, which had none
 abbrev pub handed_on : World → ℕ → ℕ → ℕ → World

@@ -1,11 +1,13 @@
 -- The moves of the locks, each with what must hold before it.
 use Rattle.std.specs.Prelude.{◌≡◌, ◌≢◌, ◌⊎◌, ℕ, Bool, true, false, if◌then◌else◌, List, [], ◌∷◌, Some, None}
 use Rattle.lock_names.specs.declared.mode.Mode.{Mode}
+use Rattle.lock_names.specs.declared.mode.Interest.{Interest}
 use Rattle.lock_names.specs.Modes.{class_of}
-use Rattle.lock_protocol.specs.Machine.{World, Interest, Clean, Asked, Conflict, blocks, backs, allows, Covers, RetainedAllows, wanted, granted, entered, cleared, told, released, given_up, handed_on, failed, restarted, purged, start}
+use Rattle.lock_protocol.specs.Machine.{World, Clean, Asked, Conflict, blocks, backs, allows, Covers, RetainedCovers, RetainedAllows, IsClear, wanted, granted, entered, cleared, told, released, given_up, handed_on, failed, restarted, purged, start}
 
 -- The first numbers of a move are a member and one of its owners, then a name and the mode that is needed. A grant
--- says whether the claim was entered too, or only the facility granted the name.
+-- says whether the claim was entered too, or only the facility granted the name. What is given up is told by owner and
+-- name.
 pub data Move : Type 0 where
   Obtain : ℕ → ℕ → ℕ → Mode → Bool → Move
   Grant : ℕ → ℕ → ℕ → Mode → Bool → Move
@@ -15,7 +17,8 @@ pub data Move : Type 0 where
   AnswerClean : ℕ → ℕ → ℕ → ℕ → Mode → Move
   AnswerConflict : ℕ → ℕ → ℕ → ℕ → Mode → Move
   Release : ℕ → ℕ → ℕ → Interest → Move
-  GiveUp : ℕ → ℕ → ℕ → Move
+  GiveUp : ℕ → (ℕ → ℕ → Bool) → Move
+  Demote : ℕ → ℕ → ℕ → Mode → Move
   Postpone : ℕ → ℕ → ℕ → Move
   Fail : ℕ → Move
   Restart : ℕ → Move
@@ -43,9 +46,10 @@ AllClean entry w m owner name mode = (k : ℕ) → k ≢ m → w.live k ≡ true
 abbrev pub NoLocalConflict : World → ℕ → ℕ → ℕ → Mode → Type 0
 NoLocalConflict w m owner name mode = (q : ℕ) → q ≢ owner → allows (w.claims m q name) mode ≡ true
 
--- the interest that is kept stands for all other claims of the member in the entry
+-- each claim of the member on another name of the entry has the interest that is kept, or a retained record, behind it
 abbrev pub KeepsInterest : (ℕ → ℕ) → World → ℕ → ℕ → Interest → Type 0
-KeepsInterest entry w m name keeps = (q n : ℕ) (x : Mode) → n ≢ name → entry n ≡ entry name → w.claims m q n ≡ Some x → backs (class_of x) keeps ≡ true
+KeepsInterest entry w m name keeps = (q n : ℕ) (x : Mode) → n ≢ name → entry n ≡ entry name → w.claims m q n ≡ Some x
+    → (backs (class_of x) keeps ≡ true) ⊎ RetainedCovers (w.records m n) x
 
 -- no owner of the member has a claim on the name
 abbrev pub NoClaim : World → ℕ → ℕ → Type 0
@@ -72,12 +76,13 @@ Step entry w (Local m owner name need) v =
     × (v ≡ entered w m owner name mode)
 Step entry w (Ask m owner k name mode) v = v ≡ told w m owner k (Asked name mode)
 Step entry w (AnswerClean k m owner name mode) v =
-    ((q : ℕ) → allows (w.claims k q name) mode ≡ true) × (v ≡ told w m owner k (Clean name mode (w.version (entry name))))
+    ((q : ℕ) → IsClear (w.claims k q name) (w.records k name) mode) × (v ≡ told w m owner k (Clean name mode (w.version (entry name))))
 Step entry w (AnswerConflict k m owner name mode) v = v ≡ told w m owner k (Conflict name mode)
 Step entry w (Release m owner name keeps) v =
     ((q : ℕ) → q ≢ owner → w.claims m q name ≡ None) × KeepsInterest entry w m name keeps
     × (v ≡ released entry w m owner name keeps)
-Step entry w (GiveUp m owner name) v = v ≡ given_up w m owner name
+Step entry w (GiveUp m which) v = v ≡ given_up w m which
+Step entry w (Demote m owner name mode) v = Covers (w.claims m owner name) mode × (v ≡ entered w m owner name mode)
 Step entry w (Postpone m owner to) v = (owner ≢ to) × ((n : ℕ) → w.claims m to n ≡ None) × (v ≡ handed_on w m owner to)
 Step entry w (Fail m) v = v ≡ failed w m
 Step entry w (Restart m) v = v ≡ restarted w m

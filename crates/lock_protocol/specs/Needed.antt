@@ -2,9 +2,10 @@
 use Rattle.std.specs.Prelude.{◌≡◌, ◌≢◌, ◌⊎◌, ℕ, true, false, if◌then◌else◌, ◌==◌, Option, Some, None}
 use Rattle.lock_names.specs.declared.mode.Mode.{Mode}
 use Rattle.lock_names.specs.declared.mode.Mode.TheVariants.{X}
+use Rattle.lock_names.specs.declared.mode.Interest.{Interest}
 use Rattle.lock_names.specs.Modes.{class_of}
 use Rattle.lock_protocol.specs.Functions.{put, put2, put3}
-use Rattle.lock_protocol.specs.Machine.{World, Interest, Record, Empty, Clean, no_interest, blocks, granted, entered, cleared, released, failed, purged, start}
+use Rattle.lock_protocol.specs.Machine.{World, Record, Empty, Clean, no_interest, blocks, granted, entered, cleared, released, failed, purged, start}
 use Rattle.lock_protocol.specs.Moves.{NotRetained, NoLocalConflict}
 use Rattle.lock_protocol.specs.Sound.{Sound}
 

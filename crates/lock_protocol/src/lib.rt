@@ -5,7 +5,9 @@
 //! The crate has definitions and proofs alone. Its functions do nothing: their contracts are the theorems.
 #![tactic(auto)]
 
-ghost use Rattle.lock_protocol.specs.Sound.{AlwaysSound, KeepsSound, StartsSound};
+ghost use Rattle.lock_protocol.specs.Sound.{AlwaysSound, KeepsSound, RunKeepsSound, StartsSound};
+ghost use Rattle.lock_protocol.specs.Words.{JoinIsOne, SoundGives};
+ghost use Rattle.lock_protocol.specs.Example.{RecordStands};
 ghost use Rattle.lock_protocol.specs.Needed.{StampIsNeeded, RetainedIsNeeded, KeptInterestIsNeeded, NoClaimIsNeeded};
 
 /// In every state that moves lead to from the start no two claims conflict, each claim is covered by the interest of
@@ -14,10 +16,26 @@ pub fn sound_claims()
     ensures { AlwaysSound }
 {}
 
-/// The start is sound, and each move keeps what is.
+/// The start is sound, each move keeps what is, and so does every list of moves.
 pub fn keeps_sound()
     ensures start { StartsSound }
     ensures step { KeepsSound }
+    ensures run { RunKeepsSound }
+{}
+
+/// What soundness gives: no two claims conflict; who has a name in X, as a page's owner has the page, has it alone; each
+/// claim has interest or a retained record behind it; each claim of a failed member is retained, and each recorded one
+/// outlives a failure. And of claims that don't conflict the join is one of them, so that a claim covered by all of a
+/// member's claims is covered by one.
+pub fn claims_give()
+    ensures gives { SoundGives }
+    ensures join { JoinIsOne }
+{}
+
+/// A restarting member may answer a query as clean, and keep no interest, for names that its open transactions have
+/// locked: their retained records keep others away.
+pub fn records_stand()
+    ensures { RecordStands }
 {}
 
 /// Four guards of the moves without which claims come to conflict: a stale clean answer is refused, a failure

@@ -5,11 +5,11 @@ use Rattle.page_protocol.specs.Moves.{IsWholeCut, all_failed, longer, all_up}
 use Rattle.page_protocol.specs.Coherent.{Coherent}
 use Rattle.page_protocol.specs.Down.{Grounded}
 
-pub falls : (g : Group) (p : Page) (n : ℕ) → Coherent g p → IsWholeCut g p n → Grounded (all_failed g) (all_fail p n)
-falls g p n s cut = grind arith
+pub falls : (g : Group) (p : Page) (n counter : ℕ) → Coherent g p → IsWholeCut g p n → Grounded (all_failed g counter) (all_fail p n)
+falls g p n counter s cut = grind arith
 
-pub falls_again : (g : Group) (p : Page) (n : ℕ) → Grounded g p → IsWholeCut g p n → Grounded (all_failed g) (all_fail p n)
-falls_again g p n s cut = grind arith
+pub falls_again : (g : Group) (p : Page) (n counter : ℕ) → Grounded g p → IsWholeCut g p n → Grounded (all_failed g counter) (all_fail p n)
+falls_again g p n counter s cut = grind arith
 
 pub forwards : (g : Group) (p : Page) (v : ℕ) → Grounded g p → p.disk ≤ v → v ≤ p.last → Grounded g (brought_forward p v)
 forwards g p v s low high = grind arith

@@ -5,6 +5,7 @@ pub mod Order
 pub mod Runs
 pub mod Words
 pub mod Later
+pub mod Recovered
 pub mod Possible
 pub mod Redo
 pub mod Needed

@@ -221,7 +221,7 @@ linked_step set w v links makes (Fail m cut) s k st g = λ n i l is. subst (λ (
     (cut_link w.down w.group.lost w.group (w.pages n) (w.pages l.page) m (cut n) (cut l.page) i l.change (all_running w st.0 s l.page) (st.1 n) (st.1 l.page) (k n i l is)))
 linked_step set w v links makes (Restart m) s k st g = unchanged w v links k (ap (λ (x : World). x.down) st.2 ∙ sym st.0) (ap (λ (x : World). x.group.lost) st.2) (ap (λ (x : World). x.pages) st.2)
 linked_step set w v links makes (Open m) s k st g = unchanged w v links k (ap (λ (x : World). x.down) st.3 ∙ sym st.0) (ap (λ (x : World). x.group.lost) st.3) (ap (λ (x : World). x.pages) st.3)
-linked_step set w v links makes (GroupFail cut) s k st g = λ n i l is. subst (λ (x : World). LinksAt links x n i l) (sym st.1)
+linked_step set w v links makes (GroupFail cut counter) s k st g = λ n i l is. subst (λ (x : World). LinksAt links x n i l) (sym st.2)
     (whole_cut_link w.down w.group.lost true true w.group (w.pages n) (w.pages l.page) (cut n) (cut l.page) i l.change refl (stable_shared w.down w.group (w.pages l.page) (s.stands l.page)) (st.0 n) (st.0 l.page) (k n i l is))
 linked_step set w v links makes (Forward p a) s k st g = quiet w v links k (ap (λ (x : World). x.down) st.3 ∙ sym st.0) (ap (λ (x : World). x.group.lost) st.3)
     (λ n. subst (λ (x : World). IsNoLess (w.pages n) (x.pages n)) (sym st.3) (less_at w.pages p (brought_forward (w.pages p) a) (no_less _ _ refl refl refl refl refl) n))

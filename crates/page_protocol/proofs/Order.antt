@@ -1,7 +1,7 @@
 -- Each move keeps the order of a page's changes in each log.
 use Rattle.std.proofs.Common.{◌≡◌, ℕ, ◌+◌, ◌<◌, ◌≤◌, sym, subst, arith}
 use Rattle.page_protocol.specs.Page.{Page, Group, change, fail, all_fail, compensate}
-use Rattle.page_protocol.specs.Moves.{drawn, longer}
+use Rattle.page_protocol.specs.Moves.{AreDrawnBy, drawn, longer, all_failed}
 use Rattle.page_protocol.specs.Always.{Ordered, Numbered}
 
 pub ordered_change : (p : Page) (m at number : ℕ) → ((i : ℕ) → i < p.last → p.author i ≡ m → p.place i < at) → Ordered p → Ordered (change p m at number)
@@ -27,6 +27,16 @@ numbered_compensate g p m at o = grind arith
 
 pub numbered_longer : (g : Group) (p : Page) (m : ℕ) → Numbered g p → Numbered (longer g m) p
 numbered_longer g p m o = grind arith
+
+pub numbered_all_fail : (g : Group) (p : Page) (n counter : ℕ) → n ≤ p.last → AreDrawnBy p n counter → Numbered g p → Numbered (all_failed g counter) (all_fail p n)
+numbered_all_fail g p n counter short by o = record {
+  rise = λ i j lt below. o.rise i j lt (less j below);
+  drawn = by;
+  positive = λ i below. o.positive i (less i below);
+}
+  where
+    less : (j : ℕ) → j < n → j < p.last
+    less j below = omega (arith, below, short)
 
 -- a move that leaves the numbers as they are, and a chain that is no longer
 pub numbered_same : (g h : Group) (p q : Page) → h.counter ≡ g.counter → q.last ≤ p.last → q.lrsn ≡ p.lrsn → Numbered g p → Numbered h q

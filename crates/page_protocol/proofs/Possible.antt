@@ -2,9 +2,9 @@
 use Rattle.std.proofs.Common.{◌≡◌, ℕ, zero, suc, ◌+◌, ◌-◌, ◌<◌, ◌≤◌, refl, sym, subst, arith, Bool, true, false, inl, inr}
 use Rattle.std.proofs.lemmas.Bool.{cases_eq, cases_lt}
 use Rattle.page_protocol.specs.Page.{Page, Group, put}
-use Rattle.page_protocol.specs.Moves.{IsCut, IsWholeCut}
+use Rattle.page_protocol.specs.Moves.{IsCut, IsWholeCut, AreDrawnBy}
 use Rattle.page_protocol.specs.Coherent.{Coherent}
-use Rattle.page_protocol.specs.Always.{Stands, Ordered}
+use Rattle.page_protocol.specs.Always.{Stands, Ordered, Numbered}
 use Rattle.page_protocol.specs.Words.{FailureIsPossible, RebuildIsPossible, GroupFailureIsPossible}
 use Rattle.page_protocol.proofs.Runs.{all_running}
 
@@ -73,8 +73,11 @@ whole true g p s o = (p.last, record { short = omega arith; kept = s.all_stable;
     none i a b = omega (arith, a, b)
 whole false g p s o = let r = prefix g p g.stable s o s.stable in (r.0, record { short = r.1.short; kept = r.1.has; gone = r.1.no_more })
 
+drawn_cut : (g : Group) (p : Page) (k : ℕ) → Numbered g p → IsWholeCut g p k → AreDrawnBy p k g.counter
+drawn_cut g p k s cut i lt = let short = cut.short in s.drawn i (omega (arith, lt, short))
+
 pub group_failure : GroupFailureIsPossible
-group_failure w s n = whole w.down w.group (w.pages n) (s.stands n) (s.ordered n)
+group_failure w s n = let r = whole w.down w.group (w.pages n) (s.stands n) (s.ordered n) in (r.0, r.1, drawn_cut w.group (w.pages n) r.0 (s.numbered n) r.1)
 
 -- the lengths of the logs after a failure of one member
 abbrev cut_lengths : Group → ℕ → ℕ → ℕ

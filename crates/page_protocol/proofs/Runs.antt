@@ -11,7 +11,7 @@ use Rattle.page_protocol.specs.Always.{Stands, Ordered, Numbered, Good, AlwaysGo
 use Rattle.page_protocol.proofs.Steps.{kept_read_none, kept_read_some, kept_read_disk, kept_write, kept_write_direct, kept_castout_read, kept_castout_write, kept_castout_done, kept_reclaim, kept_drop_frame, kept_lock, kept_unlock, kept_redo, kept_purge, no_earlier, kept_rebuild, kept_lose, kept_take_set, kept_yield_set, kept_purge_set}
 use Rattle.page_protocol.proofs.Whole.{kept_force, kept_log_read, all_read, kept_rebuilt, kept_restart, kept_open, kept_change, kept_drawn, kept_fail, kept_start}
 use Rattle.page_protocol.proofs.Down.{falls, falls_again, forwards, compensates, waits, rises}
-use Rattle.page_protocol.proofs.Order.{ordered_change, ordered_compensate, ordered_fail, ordered_all_fail, numbered_change, numbered_drawn, numbered_compensate, numbered_longer, numbered_same}
+use Rattle.page_protocol.proofs.Order.{ordered_change, ordered_compensate, ordered_fail, ordered_all_fail, numbered_change, numbered_drawn, numbered_compensate, numbered_longer, numbered_same, numbered_all_fail}
 
 kept_read : (g : Group) (p : Page) (m : ℕ) (d : Bool) (o : Option ℕ) → p.bytes ≡ o → Coherent g p → g.lost ≡ false → g.status m ≢ Failed → MayUse p m → MayBeDirect g p m d → Coherent g (read p m d)
 kept_read g p m d None e s there up may direct = kept_read_none g p m d s there up may direct e
@@ -79,9 +79,9 @@ running b g p e s = subst (λ x. Stands x g p) e s
 fallen : (b : Bool) (g : Group) (p : Page) → b ≡ true → Stands b g p → Grounded g p
 fallen b g p e s = subst (λ x. Stands x g p) e s
 
-fall : (b : Bool) (g : Group) (p : Page) (n : ℕ) → Stands b g p → IsWholeCut g p n → Grounded (all_failed g) (all_fail p n)
-fall true g p n s cut = falls_again g p n s cut
-fall false g p n s cut = falls g p n s cut
+fall : (b : Bool) (g : Group) (p : Page) (n counter : ℕ) → Stands b g p → IsWholeCut g p n → Grounded (all_failed g counter) (all_fail p n)
+fall true g p n counter s cut = falls_again g p n counter s cut
+fall false g p n counter s cut = falls g p n counter s cut
 
 pub all_running : (w : World) → w.down ≡ false → Good w → (n : ℕ) → Coherent w.group (w.pages n)
 all_running w up s n = running w.down w.group (w.pages n) up (s.stands n)
@@ -137,10 +137,10 @@ kept_step set w v (Fail m cut) s st = subst Good (sym st.2) (record {
 })
 kept_step set w v (Restart m) s st = subst Good (sym st.2) (record { stands = λ n. kept_restart w.group (w.pages n) m (all_running w st.0 s n) st.1; ordered = s.ordered; numbered = λ n. numbered_same w.group _ (w.pages n) _ refl (omega arith) refl (s.numbered n) })
 kept_step set w v (Open m) s st = subst Good (sym st.3) (record { stands = λ n. kept_open w.group (w.pages n) m (all_running w st.0 s n) st.1 (st.2 n); ordered = s.ordered; numbered = λ n. numbered_same w.group _ (w.pages n) _ refl (omega arith) refl (s.numbered n) })
-kept_step set w v (GroupFail cut) s st = subst Good (sym st.1) (record {
-  stands = λ n. fall w.down w.group (w.pages n) (cut n) (s.stands n) (st.0 n);
+kept_step set w v (GroupFail cut counter) s st = subst Good (sym st.2) (record {
+  stands = λ n. fall w.down w.group (w.pages n) (cut n) counter (s.stands n) (st.0 n);
   ordered = λ n. ordered_all_fail (w.pages n) (cut n) (st.0 n).short (s.ordered n);
-  numbered = λ n. numbered_same w.group _ (w.pages n) _ refl (st.0 n).short refl (s.numbered n);
+  numbered = λ n. numbered_all_fail w.group (w.pages n) (cut n) counter (st.0 n).short (st.1 n) (s.numbered n);
 })
 kept_step set w v (Forward n k) s st = subst Good (sym st.3) (record {
   stands = at_page (Grounded w.group) w.pages n _ (forwards w.group (w.pages n) k (all_fallen w st.0 s n) st.1 st.2) (all_fallen w st.0 s);

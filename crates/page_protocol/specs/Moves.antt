@@ -38,7 +38,7 @@ pub data Move : Type 0 where
   Fail : ℕ → (ℕ → ℕ) → Move
   Restart : ℕ → Move
   Open : ℕ → Move
-  GroupFail : (ℕ → ℕ) → Move
+  GroupFail : (ℕ → ℕ) → ℕ → Move
   Forward : ℕ → ℕ → Move
   Compensate : ℕ → ℕ → Move
   Append : ℕ → Move
@@ -112,6 +112,10 @@ pub record IsCut (g : Group) (m : ℕ) (p : Page) (n : ℕ) : Type 0 where
   pub kept : (i : ℕ) → i < n → p.author i ≡ m → p.place i < g.stable m
   pub gone : (i : ℕ) → n ≤ i → i < p.last → (p.author i ≡ m) × (g.stable m ≤ p.place i)
 
+-- no change that is left has a greater number
+abbrev pub AreDrawnBy : Page → ℕ → ℕ → Type 0
+AreDrawnBy p n counter = (i : ℕ) → i < n → p.lrsn i ≤ counter
+
 -- every log keeps what it has on disk
 pub record IsWholeCut (g : Group) (p : Page) (n : ℕ) : Type 0 where
   pub short : n ≤ p.last
@@ -164,8 +168,8 @@ restarting g m = record g { status = put g.status m Restarting }
 abbrev pub opened : Group → ℕ → Group
 opened g m = record g { status = put g.status m Up }
 
-abbrev pub all_failed : Group → Group
-all_failed g = record g { written = g.stable; status = λ m. Failed; lost = true }
+abbrev pub all_failed : Group → ℕ → Group
+all_failed g counter = record g { written = g.stable; status = λ m. Failed; counter = counter; lost = true }
 
 -- a record of the log of m, stable at once
 abbrev pub longer : Group → ℕ → Group
@@ -213,8 +217,11 @@ Step set w (Restart m) v = (w.down ≡ false) × (w.group.status m ≡ Failed) �
 Step set w (Open m) v =
     (w.down ≡ false) × (w.group.status m ≡ Restarting) × ((n : ℕ) → (w.pages n).owner ≢ Some m)
     × (v ≡ record { down = false; group = opened w.group m; pages = w.pages })
--- all members and the cache fail, also inside a rebuild, a restart or a group restart
-Step set w (GroupFail cut) v = ((n : ℕ) → IsWholeCut w.group (w.pages n) (cut n)) × (v ≡ record { down = true; group = all_failed w.group; pages = λ n. all_fail (w.pages n) (cut n) })
+-- all members and the cache fail, also inside a rebuild, a restart or a group restart; the numbers of records that are lost
+-- are drawn once more: group restart reads the greatest one of the logs on disk
+Step set w (GroupFail cut counter) v =
+    ((n : ℕ) → IsWholeCut w.group (w.pages n) (cut n)) × ((n : ℕ) → AreDrawnBy (w.pages n) (cut n) counter)
+    × (v ≡ record { down = true; group = all_failed w.group counter; pages = λ n. all_fail (w.pages n) (cut n) })
 -- group restart alone runs: it brings a page forward by the merged records, and by each compensation that it appended
 Step set w (Forward n k) v =
     (w.down ≡ true) × ((w.pages n).disk ≤ k) × (k ≤ (w.pages n).last)

@@ -1,7 +1,7 @@
 -- What coherence gives to the layers above, each fact by its name.
-use Rattle.std.specs.Prelude.{◌≡◌, ℕ, ◌<◌, ◌≤◌, ◌⊎◌, true, false, List, Some}
+use Rattle.std.specs.Prelude.{◌≡◌, ℕ, ◌<◌, ◌≤◌, ◌⊎◌, true, false, List, Some, None}
 use Rattle.page_protocol.specs.Page.{Page, Group, Up, Failed, AllStable, group_copy, copy_before}
-use Rattle.page_protocol.specs.Moves.{World, Move, Run, IsRead, IsCut, IsWholeCut}
+use Rattle.page_protocol.specs.Moves.{World, Move, Rebuilt, Rise, Step, Run, IsRead, IsCut, IsWholeCut, AreDrawnBy}
 use Rattle.page_protocol.specs.Coherent.{Coherent}
 use Rattle.page_protocol.specs.Down.{Grounded}
 use Rattle.page_protocol.specs.Always.{Good}
@@ -89,6 +89,25 @@ IsWhole w = (w.down ≡ false) × (w.group.lost ≡ false)
 abbrev pub NoEarlierCopy : Type 0
 NoEarlierCopy = (set : ℕ → ℕ) (moves : List Move) (w v : World) → Good w → Run set w moves v → IsWhole w → IsWhole v → (n : ℕ) → group_copy (w.pages n) ≤ group_copy (v.pages n)
 
+-- ---- after a recovery
+
+-- a rebuild leaves each page on disk alone, no earlier than it was in the cache before the loss; changes beyond it are the
+-- owner's, as ever
+abbrev pub AfterRebuild : Type 0
+AfterRebuild = (set : ℕ → ℕ) (w v : World) → Good w → Step set w Rebuilt v → IsWhole v × ((n : ℕ) → ((w.pages n).at_loss ≤ group_copy (v.pages n)) × (group_copy (v.pages n) ≡ (v.pages n).disk))
+
+-- the page's one copy is its last version, on disk; all its changes are stable, and nobody has a lock, a frame or a registration
+pub record IsRecovered (g : Group) (p : Page) : Type 0 where
+  pub disk : p.disk ≡ p.last
+  pub copy : group_copy p ≡ p.last
+  pub stable : AllStable g p p.last
+  pub free : p.owner ≡ None
+  pub no_frames : (m : ℕ) → (p.frame m).filled ≡ false
+  pub no_bits : (m : ℕ) → p.bit m ≡ false
+
+abbrev pub AfterGroupRestart : Type 0
+AfterGroupRestart = (set : ℕ → ℕ) (w v : World) → Good w → Step set w Rise v → IsWhole v × ((m : ℕ) → v.group.status m ≡ Up) × ((n : ℕ) → IsRecovered v.group (v.pages n))
+
 -- ---- what can always happen
 
 -- a failure leaves a prefix of each chain
@@ -99,6 +118,6 @@ FailureIsPossible = (w : World) (m : ℕ) → Good w → w.down ≡ false → (n
 abbrev pub RebuildIsPossible : Type 0
 RebuildIsPossible = (w : World) → Good w → w.down ≡ false → w.group.lost ≡ true → (n : ℕ) → (k : ℕ) × ((w.pages n).shared ≤ k) × IsRead w.group (w.pages n) k
 
--- a group failure leaves a prefix of each chain
+-- a group failure leaves a prefix of each chain, and no number above those that were drawn
 abbrev pub GroupFailureIsPossible : Type 0
-GroupFailureIsPossible = (w : World) → Good w → (n : ℕ) → (k : ℕ) × IsWholeCut w.group (w.pages n) k
+GroupFailureIsPossible = (w : World) → Good w → (n : ℕ) → (k : ℕ) × IsWholeCut w.group (w.pages n) k × AreDrawnBy (w.pages n) k w.group.counter

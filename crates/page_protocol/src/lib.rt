@@ -8,10 +8,10 @@
 
 ghost use Rattle.page_protocol.specs.Always.{StartsGood, KeepsGood, AlwaysGood};
 ghost use Rattle.page_protocol.specs.Opening.{OpensGood};
-ghost use Rattle.page_protocol.specs.Words.{CoherentGives, FallenGives, NeverGoesBack, NoEarlierCopy, FailureIsPossible, RebuildIsPossible, GroupFailureIsPossible};
+ghost use Rattle.page_protocol.specs.Words.{AfterGroupRestart, AfterRebuild, CoherentGives, FallenGives, NeverGoesBack, NoEarlierCopy, FailureIsPossible, RebuildIsPossible, GroupFailureIsPossible};
 ghost use Rattle.page_protocol.specs.Rows.{ReadsLastValue, KeepsClaimed};
 ghost use Rattle.page_protocol.specs.Sets.{AlwaysAgree};
-ghost use Rattle.page_protocol.specs.Frames.{TestTells, Places, TakesOut, Registers, Unregisters, Drops, Empties};
+ghost use Rattle.page_protocol.specs.Frames.{TestTells, Places, TakesOut, Registers, Unregisters, FindsClear, Drops, Empties};
 ghost use Rattle.page_protocol.specs.Links.{AlwaysLinked, LinksLead};
 ghost use Rattle.page_protocol.specs.Bytes.{RestartReachesLast, RebuildReachesRead, GroupRestartReachesLast};
 ghost use Rattle.page_protocol.specs.Needed.{InvalidationIsNeeded, StableIsNeeded, WrittenIsNeeded, BitIsNeeded, CastoutLockIsNeeded, AllLogsAreNeeded, CacheIsNeeded, ComparisonIsNeeded, OrderIsNeeded, UnusedIsNeeded, RecoveryIsNeeded};
@@ -26,12 +26,15 @@ pub fn coherent_pages()
     ensures run { AlwaysGood }
 {}
 
-/// What coherence gives of each page, and what no list of moves takes back.
+/// What coherence gives of each page, what no list of moves takes back, and what a rebuild of the cache and a restart of the
+/// group leave.
 pub fn newest_copies()
     ensures gives { CoherentGives }
     ensures fallen { FallenGives }
     ensures never_back { NeverGoesBack }
     ensures no_earlier_copy { NoEarlierCopy }
+    ensures rebuild { AfterRebuild }
+    ensures group_restart { AfterGroupRestart }
 {}
 
 /// What stands in the logs is a prefix of each page's chain, so that a failure, a rebuild and a group failure are always
@@ -84,14 +87,16 @@ pub fn pointers_lead()
     ensures lead { LinksLead }
 {}
 
-/// Frames and registrations by index: a test of the frame that has a page tells the page's bit, and what is done to
-/// frames and registrations does to the bits by page exactly what the moves of pages say.
+/// Frames and registrations by index: a test of a frame that its member has registered for the page that it has tells
+/// the page's bit, and what is done to frames and registrations does to the bits by page exactly what the moves of pages
+/// say. A frame may stay registered for a page that has left it.
 pub fn bits_by_frame()
     ensures test { TestTells }
     ensures places { Places }
     ensures takes_out { TakesOut }
     ensures registers { Registers }
     ensures unregisters { Unregisters }
+    ensures finds_clear { FindsClear }
     ensures drops { Drops }
     ensures empties { Empties }
 {}

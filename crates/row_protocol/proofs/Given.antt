@@ -3,7 +3,7 @@ use Rattle.std.proofs.Common.{◌≡◌, ℕ, refl, sym, ◌∙◌, ap, subst, a
 use Rattle.std.specs.Prelude.{◌==◌}
 use Rattle.row_protocol.specs.Rows.{Committed, replay}
 use Rattle.row_protocol.specs.Machine.{World, is_committed, committed}
-use Rattle.row_protocol.specs.Moves.{Move, Begin, Get, Put, Decide, Force, Commit, Stop, Undo, End, Claims, Fail, GroupFail, Reopen, Step, Run}
+use Rattle.row_protocol.specs.Moves.{Move, Begin, Get, Put, Skip, Decide, Force, Commit, Stop, Undo, End, Claims, Fail, GroupFail, Reopen, Step, Run}
 use Rattle.row_protocol.specs.Legal.{Legal}
 use Rattle.row_protocol.specs.Given.{HistoryIsLegal, LogsAreReplay, CommitsStay, HistoryGrows, UndoneFirst, IsAppend, appended, AppendsStand}
 use Rattle.row_protocol.proofs.Kept.{decide_same, force_same, Commits, commit_same, commit_now}
@@ -27,6 +27,7 @@ stays_step : (home : ℕ → ℕ) (opening : ℕ → Option ℕ) (w v : World) (
 stays_step home opening w v (Begin t) s st = subst (Stays home w) (sym st.2) (λ u h. h)
 stays_step home opening w v (Get t r) s st = subst (Stays home w) (sym st.4) (λ u h. h)
 stays_step home opening w v (Put t r x) s st = subst (Stays home w) (sym st.4) (λ u h. h)
+stays_step home opening w v Skip s st = subst (Stays home w) (sym st) (λ u h. h)
 stays_step home opening w v (Decide t) s st = subst (Stays home w) (sym st.2) (λ u h. decide_same home opening w t s st.1 u ∙ h)
 stays_step home opening w v (Force m l) s st = subst (Stays home w) (sym st.3) (λ u h. force_same home w m l st.0 st.2 u ∙ h)
 stays_step home opening w v (Commit t l) s st = subst (Stays home w) (sym st.3) (λ u h. stays_commit home w t l u (record { record_at = st.0; above = st.1; alone = st.2 }) h)
@@ -49,6 +50,7 @@ grows_step : (home : ℕ → ℕ) (opening : ℕ → Option ℕ) (w v : World) (
 grows_step home opening w v (Begin t) st = subst (Grows w) (sym st.2) ([], refl)
 grows_step home opening w v (Get t r) st = subst (Grows w) (sym st.4) ([], refl)
 grows_step home opening w v (Put t r x) st = subst (Grows w) (sym st.4) ([], refl)
+grows_step home opening w v Skip st = subst (Grows w) (sym st) ([], refl)
 grows_step home opening w v (Decide t) st = subst (Grows w) (sym st.2) ([], refl)
 grows_step home opening w v (Force m l) st = subst (Grows w) (sym st.3) ([], refl)
 grows_step home opening w v (Commit t l) st = subst (Grows w) (sym st.3) (record { tran = t; ops = w.active t } ∷ [], refl)
@@ -85,6 +87,7 @@ append_history home opening m (Commit t l ∷ es) w v is run = append_history ho
 append_history home opening m (Begin t ∷ es) w v is run = absurd is.0
 append_history home opening m (Get t r ∷ es) w v is run = absurd is.0
 append_history home opening m (Put t r x ∷ es) w v is run = absurd is.0
+append_history home opening m (Skip ∷ es) w v is run = absurd is.0
 append_history home opening m (Decide t ∷ es) w v is run = absurd is.0
 append_history home opening m (Stop t ∷ es) w v is run = absurd is.0
 append_history home opening m (Undo t r ∷ es) w v is run = absurd is.0

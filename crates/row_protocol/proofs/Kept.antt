@@ -5,7 +5,7 @@ use Rattle.std.proofs.lemmas.Bool.{cases_eq, cases_Bool, cond-true, cond-false, 
 use Rattle.row_protocol.specs.Functions.{put}
 use Rattle.row_protocol.specs.Rows.{rows_after, IsLegal, writes, touches, replay, is_listed}
 use Rattle.row_protocol.specs.Log.{Change, has, is_top, all_stand, drawn_by, all_undone_by}
-use Rattle.row_protocol.specs.Machine.{World, Mode, X, Waiting, Forward, Undoing, Ended, is_committed, is_stable, is_done, row_now, rows_of_logs, begun, got, changed, decided, forced, committed, stopped, undone, ended, reopened, start}
+use Rattle.row_protocol.specs.Machine.{World, Mode, X, Waiting, Forward, Undoing, Ended, is_committed, is_stable, is_done, row_now, rows_of_logs, begun, got, changed, skipped, decided, forced, committed, stopped, undone, ended, reopened, start}
 use Rattle.row_protocol.specs.Moves.{IsAlone, NoCommit, NoOtherCommit, KeepsClaims}
 use Rattle.row_protocol.specs.Legal.{Legal}
 use Rattle.row_protocol.proofs.Frames.{after_unwritten, writes_touches, after_agree, legal_agree}
@@ -104,6 +104,32 @@ kept_put home opening w t r x s alone up go bare mine = record {
   legal = grind (arith, s.legal);
   history = s.history;
   stands = put_stands home opening w t r x s;
+}
+
+-- ---- an LRSN is drawn for another record
+pub kept_skip : (home : ℕ → ℕ) (opening : ℕ → Option ℕ) (w : World) → Legal home opening w → Legal home opening (skipped w)
+kept_skip home opening w s = record {
+  flushed = grind (arith, s.flushed);
+  drawn = λ t r. drawn_more (w.changes r) t w.counter (w.counter + 1) (omega arith) (s.drawn t r);
+  decided = grind (arith, s.decided);
+  covered = s.covered;
+  deciding = s.deciding;
+  fresh = s.fresh;
+  running = s.running;
+  unanswered = s.unanswered;
+  touched = s.touched;
+  written = s.written;
+  held = s.held;
+  standing = s.standing;
+  only = s.only;
+  last = s.last;
+  own = s.own;
+  ended = s.ended;
+  listed = s.listed;
+  once = s.once;
+  legal = s.legal;
+  history = s.history;
+  stands = s.stands;
 }
 
 -- ---- the commit record is written

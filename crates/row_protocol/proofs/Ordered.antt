@@ -3,8 +3,8 @@ use Rattle.std.proofs.Common.{◌≡◌, ℕ, ◌+◌, ◌≤◌, ◌<◌, refl,
 use Rattle.std.specs.Prelude.{◌≢◌, not, ◌&&◌, ◌==◌}
 use Rattle.std.proofs.lemmas.Bool.{cases_Bool}
 use Rattle.row_protocol.specs.Log.{Change, value, logged, has, drawn_by, compensated, without}
-use Rattle.row_protocol.specs.Machine.{World, X, Forward, Undoing, is_committed, is_done, on_disk, row_now, changed, decided, forced, committed, undone, cut_off, group_failed, start}
-use Rattle.row_protocol.specs.Moves.{Move, Begin, Get, Put, Decide, Force, Commit, Stop, Undo, End, Claims, Fail, GroupFail, Reopen, Step, Run, IsAlone}
+use Rattle.row_protocol.specs.Machine.{World, X, Forward, Undoing, is_committed, is_done, on_disk, row_now, changed, skipped, decided, forced, committed, undone, cut_off, group_failed, start}
+use Rattle.row_protocol.specs.Moves.{Move, Begin, Get, Put, Skip, Decide, Force, Commit, Stop, Undo, End, Claims, Fail, GroupFail, Reopen, Step, Run, IsAlone}
 use Rattle.row_protocol.specs.Legal.{Legal}
 use Rattle.row_protocol.specs.Ordered.{is_after_commits, IsChained, marks_by, all_below, is_ordered, Ordered, AlwaysOrdered, OneIsOpen, UndoSetsBack, IsIn, LogsByLrsn}
 use Rattle.row_protocol.proofs.Kept.{kept_start, decide_same, force_same, Commits, commit_same, commit_now, covered_now}
@@ -50,6 +50,9 @@ commit_done home w t l g u = let e = commit_now home w t l g in let n = commit_s
 
 forward_open : (home : ℕ → ℕ) (w : World) (t : ℕ) → w.stage t ≡ Forward → w.commit t ≡ None → is_done home w t ≡ false
 forward_open home w t go bare = grind (arith, go, bare)
+
+keeps_skip : (home : ℕ → ℕ) (opening : ℕ → Option ℕ) (w : World) → Ordered home opening w → Ordered home opening (skipped w)
+keeps_skip home opening w o = record { ordered = o.ordered; after_commits = o.after_commits; marked = λ r. marks_more (w.changes r) w.counter (w.counter + 1) (omega arith) (o.marked r); chained = o.chained }
 
 pub keeps_decide : (home : ℕ → ℕ) (opening : ℕ → Option ℕ) (w : World) (t : ℕ) → Legal home opening w → Ordered home opening w → w.stage t ≡ Forward → w.commit t ≡ None → Ordered home opening (decided w t)
 keeps_decide home opening w t s o go bare = record { ordered = λ r. ordered_more (w.changes r) _ _ (decide_done home opening w t s bare) (o.ordered r); after_commits = λ r. after_decided (w.changes r) (λ u. is_done home w u) w.commit t (w.counter + 1) (forward_open home w t go bare) (o.ordered r) (o.after_commits r); marked = λ r. marks_more (w.changes r) w.counter (w.counter + 1) (omega arith) (o.marked r); chained = o.chained }
@@ -128,6 +131,7 @@ pub keeps_step : (home : ℕ → ℕ) (opening : ℕ → Option ℕ) (w v : Worl
 keeps_step home opening w v (Begin t) s o alone st = subst (Ordered home opening) (sym st.2) (keeps_stages home opening w _ o (let wait = st.1 in grind (arith, wait)) refl refl refl)
 keeps_step home opening w v (Get t r) s o alone st = subst (Ordered home opening) (sym st.4) (record { ordered = o.ordered; after_commits = o.after_commits; marked = o.marked; chained = o.chained })
 keeps_step home opening w v (Put t r x) s o alone st = subst (Ordered home opening) (sym st.4) (keeps_put home opening w t r x s o alone st.0 st.3)
+keeps_step home opening w v Skip s o alone st = subst (Ordered home opening) (sym st) (keeps_skip home opening w o)
 keeps_step home opening w v (Decide t) s o alone st = subst (Ordered home opening) (sym st.2) (keeps_decide home opening w t s o st.0 st.1)
 keeps_step home opening w v (Force m l) s o alone st = subst (Ordered home opening) (sym st.3) (keeps_force home opening w m l o (force_same home w m l st.0 st.2))
 keeps_step home opening w v (Commit t l) s o alone st = subst (Ordered home opening) (sym st.3) (keeps_commit home opening w t l o (record { record_at = st.0; above = st.1; alone = st.2 }))

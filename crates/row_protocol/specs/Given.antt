@@ -4,7 +4,7 @@ use Rattle.row_protocol.specs.Functions.{put}
 use Rattle.row_protocol.specs.Rows.{Op, Committed, replay, IsLegalHistory}
 use Rattle.row_protocol.specs.Log.{has}
 use Rattle.row_protocol.specs.Machine.{World, is_committed, is_done, rows_of_logs, start}
-use Rattle.row_protocol.specs.Moves.{Move, Begin, Get, Put, Decide, Force, Commit, Stop, Undo, End, Claims, Fail, GroupFail, Reopen, Step, Run, IsAlone}
+use Rattle.row_protocol.specs.Moves.{Move, Begin, Get, Put, Skip, Decide, Force, Commit, Stop, Undo, End, Claims, Fail, GroupFail, Reopen, Step, Run, IsAlone}
 use Rattle.row_protocol.specs.Legal.{Legal}
 
 -- one thread that runs the committed transactions in the order of their commits, from the opening rows, gets every read
@@ -40,6 +40,7 @@ abbrev pub is_append : (ℕ → ℕ) → ℕ → Move → Type 0
 is_append home m (Begin t) = ⊥
 is_append home m (Get t r) = ⊥
 is_append home m (Put t r x) = ⊥
+is_append home m Skip = ⊥
 is_append home m (Decide t) = ⊥
 is_append home m (Force k l) = k ≡ m
 is_append home m (Commit t l) = home t ≡ m
@@ -61,6 +62,7 @@ appended [] active history = history
 appended (Begin t ∷ es) active history = appended es active history
 appended (Get t r ∷ es) active history = appended es active history
 appended (Put t r x ∷ es) active history = appended es active history
+appended (Skip ∷ es) active history = appended es active history
 appended (Decide t ∷ es) active history = appended es active history
 appended (Force k l ∷ es) active history = appended es active history
 appended (Commit t l ∷ es) active history = appended es (put active t []) (record { tran = t; ops = active t } ∷ history)

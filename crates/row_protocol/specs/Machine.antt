@@ -78,6 +78,10 @@ changed opening w t r x = record w {
   active = put w.active t (Wrote r x ∷ w.active t);
 }
 
+-- an LRSN was drawn for a record that changes no row
+abbrev pub skipped : World → World
+skipped w = record w { counter = w.counter + 1 }
+
 -- its commit record is in the buffer
 abbrev pub decided : World → ℕ → World
 decided w t = record w { commit = put w.commit t (Some (w.counter + 1)); counter = w.counter + 1 }

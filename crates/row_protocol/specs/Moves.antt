@@ -2,12 +2,13 @@
 use Rattle.std.specs.Prelude.{◌≡◌, ◌≢◌, ℕ, ◌<◌, ◌≤◌, true, false, List, [], ◌∷◌, Option, Some, None}
 use Rattle.row_protocol.specs.Rows.{touches}
 use Rattle.row_protocol.specs.Log.{has, all_undone_by}
-use Rattle.row_protocol.specs.Machine.{World, Mode, X, Waiting, Forward, Undoing, is_done, begun, got, changed, decided, forced, committed, stopped, undone, ended, failed, group_failed, reopened}
+use Rattle.row_protocol.specs.Machine.{World, Mode, X, Waiting, Forward, Undoing, is_done, begun, got, changed, skipped, decided, forced, committed, stopped, undone, ended, failed, group_failed, reopened}
 
 pub data Move : Type 0 where
   Begin : ℕ → Move  -- a transaction
   Get : ℕ → ℕ → Move  -- a transaction and a row
   Put : ℕ → ℕ → Option ℕ → Move  -- a transaction, a row and its value
+  Skip : Move  -- a record that changes no row draws its LRSN
   Decide : ℕ → Move  -- a transaction puts its commit record into the buffer
   Force : ℕ → ℕ → Move  -- a member's log is on disk up to an LRSN, with no commit record among the new ones
   Commit : ℕ → ℕ → Move  -- the log is on disk up to the transaction's commit record, which has this LRSN
@@ -42,6 +43,8 @@ Step home opening w (Begin t) v = (w.down ≡ false) × (w.stage t ≡ Waiting) 
 -- the agent has the row's lock, or its table space's, and no commit record yet
 Step home opening w (Get t r) v = (w.down ≡ false) × (w.stage t ≡ Forward) × (w.commit t ≡ None) × (w.claim t r ≢ None) × (v ≡ got opening w t r)
 Step home opening w (Put t r x) v = (w.down ≡ false) × (w.stage t ≡ Forward) × (w.commit t ≡ None) × (w.claim t r ≡ Some X) × (v ≡ changed opening w t r x)
+-- a record that formats, splits or enters pages
+Step home opening w Skip v = v ≡ skipped w
 Step home opening w (Decide t) v = (w.stage t ≡ Forward) × (w.commit t ≡ None) × (v ≡ decided w t)
 -- an append writes the buffer from its oldest record on: it is a list of these two moves, and so is each part of it
 Step home opening w (Force m l) v = (w.flushed m ≤ l) × (l ≤ w.counter) × NoCommit home w m l × (v ≡ forced w m l)
