@@ -8,7 +8,8 @@ use Rattle.page_index.specs.Places.{Index}
 use Rattle.page_index.proofs.CallerLemmas.{same_name, found_at, apart_by}
 use Rattle.ds_base.specs.declared.names.PageId.{PageId}
 use Rattle.cache_structure.specs.declared.slot.Slot.{Slot}
-use Rattle.cache_structure.specs.Entries.{Entry, same_page}
+use Rattle.ds_base.specs.Pages.{same_page}
+use Rattle.cache_structure.specs.Entries.{Entry}
 use Rattle.cache_structure.specs.Slots.{Table, page_of as page_of_slot, holds, slot_at, find_slot, entry_in, entry_at, entries_in, changed_page}
 use Rattle.cache_structure.specs.Order.{changed_in}
 use Rattle.cache_structure.specs.Kept.{IsKept}

@@ -11,7 +11,8 @@ use Rattle.page_index.specs.Places.{Index}
 use Rattle.page_index.specs.Uses.{without as all_but, newest as used_last, is_in}
 use Rattle.page_index.proofs.CallerLemmas.{same_name, own}
 use Rattle.ds_base.specs.declared.names.PageId.{PageId}
-use Rattle.page_tree.specs.Order.{same_page, IsNextAmong, is_past}
+use Rattle.ds_base.specs.Pages.{same_page}
+use Rattle.page_tree.specs.Order.{IsNextAmong, is_past}
 use Rattle.page_tree.specs.Pages.{Pages, has, is_in as is_among}
 use Rattle.cache_structure.specs.declared.slot.Slot.{Slot}
 use Rattle.cache_structure.specs.Entries.{Entry}

@@ -5,7 +5,8 @@ use Rattle.std.specs.List.{IsDistinct, AllByRecursion}
 use Rattle.std.specs.Option.{option_map, option_map_or}
 use Rattle.std.proofs.lemmas.List.{length-append, length-map}
 use Rattle.ds_base.specs.declared.names.PageId.{PageId}
-use Rattle.cache_structure.specs.Entries.{Entry, fresh, same_page, is_of, is_idle, entry_of, without, newest, at_entry, written_with, locked_by, cast_out, is_locked_by, freed_of}
+use Rattle.ds_base.specs.Pages.{same_page}
+use Rattle.cache_structure.specs.Entries.{Entry, fresh, is_of, is_idle, entry_of, without, newest, at_entry, written_with, locked_by, cast_out, is_locked_by, freed_of}
 use Rattle.cache_structure.specs.Directory.{Directory, empty_directory, has_free_place, reclaimable, reclaimed, with_newest, made, with_entry, registers, written_by, is_taken, holds_castout, after_read, after_write, after_unregister, after_castout_read, after_castout_done, after_fail, after_lose, after_rebuilt}
 use Rattle.cache_structure.specs.Sound.{IsSound, are_of_one_page}
 use Rattle.page_index.proofs.CallerLemmas.{own}

@@ -2,7 +2,7 @@
 use Rattle.std.specs.Prelude.{ℕ, ◌==◌, Bool, true, false, not, ◌&&◌, ◌||◌, List, ◌∷◌, [], ◌++◌, map, filter, find, Option, Some, None, is_some, cond}
 use Rattle.std.specs.Option.{option_map_or}
 use Rattle.ds_base.specs.declared.names.PageId.{PageId}
-pub use Rattle.page_tree.specs.Order.{same_page}
+use Rattle.ds_base.specs.Pages.{same_page}
 
 -- a page, its bytes if any, whether they were changed since the page was last cast out, the member that holds
 -- the castout lock, and whether the page was written since that lock was taken

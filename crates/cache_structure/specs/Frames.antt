@@ -2,7 +2,7 @@
 use Rattle.std.specs.Prelude.{ℕ, ◌==◌, Bool, false, ◌&&◌, Option, None, cond}
 use Rattle.std.specs.Option.{option_map_or}
 use Rattle.ds_base.specs.declared.names.PageId.{PageId}
-use Rattle.cache_structure.specs.Entries.{same_page}
+use Rattle.ds_base.specs.Pages.{same_page}
 
 -- the page of each frame, by member and frame index: None where the frame is not registered
 abbrev pub Registered : Type 0

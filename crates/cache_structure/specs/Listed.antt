@@ -2,7 +2,7 @@
 use Rattle.std.specs.Prelude.{ℕ, ◌≡◌, ◌+◌, Bool, false, List, length, filter_map, Option}
 use Rattle.std.specs.Option.{option_map_or}
 use Rattle.ds_base.specs.declared.names.PageId.{PageId}
-use Rattle.page_tree.specs.Order.{same_page}
+use Rattle.ds_base.specs.Pages.{same_page}
 use Rattle.page_tree.specs.Pages.{Pages, has, is_in as is_among}
 use Rattle.cache_structure.specs.declared.slot.Slot.{Slot}
 use Rattle.cache_structure.specs.Slots.{slot_at, changed_page}

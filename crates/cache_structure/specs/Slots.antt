@@ -4,7 +4,7 @@ use Rattle.std.specs.Option.{option_map_or, option_map}
 use Rattle.ds_base.specs.declared.names.PageId.{PageId}
 use Rattle.cache_structure.specs.declared.slot.Slot.{Slot}
 use Rattle.cache_structure.specs.Entries.{Entry}
-pub use Rattle.cache_structure.specs.Entries.{same_page}
+use Rattle.ds_base.specs.Pages.{same_page}
 
 -- a slot that holds no entry
 abbrev pub free_slot : Slot

@@ -1,7 +1,8 @@
 -- What a directory keeps through every command.
 use Rattle.std.specs.Prelude.{◌≤◌, Bool, length}
 use Rattle.std.specs.List.{IsDistinct}
-use Rattle.cache_structure.specs.Entries.{Entry, same_page}
+use Rattle.ds_base.specs.Pages.{same_page}
+use Rattle.cache_structure.specs.Entries.{Entry}
 use Rattle.cache_structure.specs.Directory.{Directory}
 
 abbrev pub are_of_one_page : Entry → Entry → Bool

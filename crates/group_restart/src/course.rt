@@ -17,12 +17,13 @@ use crate::page_number::with_page_number;
 use crate::records::{ended, restart_end};
 use crate::reply::Reply;
 use crate::stage::Stage;
-use crate::undo::{page_undone, undo_fault, undo_page, undoing};
+use crate::undo::{undo_fault, undo_page, undoing};
 use ds_base::{Lrsn, MemberId, NoMemory, PageId, Volume};
 use log_reader::{LogRead, LogReader, LogReply};
 use log_record::Log;
 use log_trans::{Damaged, find_log_damage, has_numbers};
 use page_records::PageRecords;
+use page_redo::page_changed;
 use places_redo::bring_places;
 use restart_plan::{Logs, Undo, plan_of};
 use std::alloc::Global;
@@ -148,7 +149,7 @@ impl GroupRestart {
         ensures some { IfSome result (λ page. undo_or self.now (slice_get self.now.plan.undo 0) ≡ go self.now (stage.UndoRead page)) }
     {
         let undo = self.plan.undo.first()?;
-        Some(page_undone(&undo.change))
+        Some(page_changed(&undo.change))
     }
 
     #[tactic(auto, unfolding(crate::specs::Course::next_undo))]
@@ -285,7 +286,7 @@ impl GroupRestart {
         ensures exact { IfOk result (λ s. undo_one self.old undo.now ≡ (self.new, s)) }
         ensures goes_on { IsGoingOn result }
     {
-        let id = page_undone(&undo.change);
+        let id = page_changed(&undo.change);
         if let Some(at) = undo_fault(&self.page, &undo.change) {
             return Ok(damaged_page(id, at));
         }
@@ -302,7 +303,7 @@ impl GroupRestart {
         ensures exact { IfOk result (λ s. undone self.old undo.now lrsn ≡ (self.new, s)) }
         ensures goes_on { IsGoingOn result }
     {
-        let id = page_undone(&undo.change);
+        let id = page_changed(&undo.change);
         self.added = undoing(alloc, undo, lrsn)?;
         self.counter = lrsn;
         undo_page(&mut self.page, &undo.change, lrsn);

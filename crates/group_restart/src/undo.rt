@@ -1,29 +1,18 @@
 ghost use Rattle.std.specs.Prelude.{◌≡◌, None, IfOk};
 ghost use Rattle.ds_model.specs.RecordBytes.{ChangeFits};
-ghost use Rattle.page_chain.specs.Chains.{row_patch};
 ghost use Rattle.group_restart.specs.Undo.{undo_fault, undone_page, undoing};
 
 use crate::append::Append;
 use crate::records::{compensation, ended};
-use ds_base::{Lrsn, NoMemory, PageId};
+use ds_base::{Lrsn, NoMemory};
 use ds_model::RowChange;
 use page_format::Page;
-use page_redo::{row_fault, undo_row};
+use page_redo::{page_changed, row_fault, undo_row};
 use restart_plan::Undo;
 use std::alloc::Global;
 
 // Where the kind of a page stands.
 const KIND_AT: u16 = 4;
-
-/// The page whose row the change is of.
-pub fn page_undone(change: &RowChange) -> PageId
-    ensures { result ≡ (row_patch change.now).page }
-{
-    PageId {
-        set: 2 * change.table.number() as u16 - 1,
-        number: change.place.page,
-    }
-}
 
 /// Where a page shows that the row of the change isn't there. A header page has no rows.
 #[tactic(auto, unfolding(crate::specs::Undo::undo_fault))]
@@ -31,7 +20,7 @@ pub fn undo_fault(page: &Page, change: &RowChange) -> Option<u16>
     ensures exact { result ≡ undo_fault change.now page.now }
     ensures fits { result ≡ None → ChangeFits change.now }
 {
-    if let Some(at) = row_fault(page, page_undone(change), change.place.slot, change.key) {
+    if let Some(at) = row_fault(page, page_changed(change), change.place.slot, change.key) {
         return Some(at);
     }
     if change.place.page == 0 {
@@ -46,7 +35,7 @@ pub fn undo_page(page: &mut Page, change: &RowChange, lrsn: Lrsn)
     requires { undo_fault change.now page.old ≡ None }
     ensures { page.new ≡ undone_page change.now lrsn page.old }
 {
-    let Ok(()) = undo_row(page, page_undone(change), change, lrsn) else {
+    let Ok(()) = undo_row(page, page_changed(change), change, lrsn) else {
         unreachable!()
     };
 }

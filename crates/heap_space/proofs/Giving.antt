@@ -11,8 +11,9 @@ use Rattle.page_format.specs.declared.patch.Patch.{Patch}
 use Rattle.heap_space.specs.Layout.{slot_at}
 use Rattle.heap_space.specs.Slots.{image, slot_in}
 use Rattle.heap_space.specs.Next.{last_page_of, given_of}
-use Rattle.heap_space.specs.Changes.{heap_page, front_patch, front_patches, last_patch, count_patch, slot_patch, give_patches}
-use Rattle.heap_space.specs.Written.{same_page, after_patch, written}
+use Rattle.ds_base.specs.Pages.{same_page, heap_page}
+use Rattle.heap_space.specs.Changes.{front_patch, front_patches, last_patch, count_patch, slot_patch, give_patches}
+use Rattle.heap_space.specs.Written.{after_patch, written}
 use Rattle.heap_space.proofs.Parts.{part, Lies, number_of_part, step_length, step_kept, step_put}
 
 -- ---- which patches belong to a page

@@ -1,6 +1,7 @@
 -- The patches that format a heap and give its slots.
-use Rattle.std.specs.Prelude.{ℕ, ◌+◌, ◌-◌, ◌*◌, ◌==◌, if◌then◌else◌, List, [], ◌∷◌, ◌++◌, None}
+use Rattle.std.specs.Prelude.{ℕ, ◌+◌, ◌-◌, ◌==◌, if◌then◌else◌, List, [], ◌∷◌, ◌++◌, None}
 use Rattle.byteorder.specs.Endian.{big_bytes}
+use Rattle.ds_base.specs.Pages.{heap_page}
 use Rattle.ds_base.specs.declared.names.PageId.{PageId}
 use Rattle.ds_base.specs.declared.names.Place.{Place}
 use Rattle.page_format.specs.Fields.{mark_at, count_at}
@@ -8,10 +9,6 @@ use Rattle.page_format.specs.Header.{mark}
 use Rattle.page_format.specs.declared.patch.Patch.{Patch}
 use Rattle.heap_space.specs.Layout.{last_page_at, slot_at}
 use Rattle.heap_space.specs.Slots.{image}
-
--- a page of the heap of a table
-abbrev pub heap_page : ℕ → ℕ → PageId
-heap_page table number = record { set = 2 * table - 1; number = number }
 
 -- the mark, the kind, version 1, and the page's name
 abbrev pub front : ℕ → PageId → List ℕ

@@ -1,11 +1,9 @@
 -- A page after patches, those of other pages left out.
-use Rattle.std.specs.Prelude.{ℕ, ◌==◌, Bool, ◌&&◌, if◌then◌else◌, List, [], ◌∷◌}
+use Rattle.std.specs.Prelude.{ℕ, if◌then◌else◌, List, [], ◌∷◌}
+use Rattle.ds_base.specs.Pages.{same_page}
 use Rattle.ds_base.specs.declared.names.PageId.{PageId}
 use Rattle.page_format.specs.Fields.{patched, set_lrsn}
 use Rattle.page_format.specs.declared.patch.Patch.{Patch}
-
-abbrev pub same_page : PageId → PageId → Bool
-same_page a b = a.set == b.set && a.number == b.number
 
 -- the page after one patch of a change with this LRSN
 abbrev pub after_patch : ℕ → List ℕ → Patch → List ℕ

@@ -1,7 +1,8 @@
 ghost use Rattle.std.specs.Prelude.{◌≡◌, ◌+◌, ◌-◌, ◌^◌, ◌≤◌, ◌<◌, ◌++◌, OnOk, IfOk};
 ghost use Rattle.byteorder.specs.Endian.{big_bytes};
 ghost use Rattle.page_format.specs.Header.{slots_per_page};
-ghost use Rattle.heap_space.specs.Changes.{heap_page, front, front_patch, front_patches, last_patch, count_patch, slot_patch, format_patches, give_patches};
+ghost use Rattle.ds_base.specs.Pages.{heap_page};
+ghost use Rattle.heap_space.specs.Changes.{front, front_patch, front_patches, last_patch, count_patch, slot_patch, format_patches, give_patches};
 
 use crate::image::slot_image;
 use crate::layout::{COUNT_AT, LAST_PAGE_AT};
@@ -15,15 +16,6 @@ const HEAP_HEADER: u8 = 1;
 
 /// The kind of a page of rows.
 const HEAP: u8 = 2;
-
-fn heap_page(table: TableId, number: u32) -> PageId
-    ensures { result ≡ heap_page table number }
-{
-    PageId {
-        set: 2 * table.number() as u16 - 1,
-        number,
-    }
-}
 
 fn patch_of(alloc: Global, page: PageId, offset: u16, bytes: &[u8]) -> Result<Patch, NoMemory>
     ensures { IfOk result (λ patch. patch ≡ record { page = page; offset = offset; bytes = bytes.now }) }
@@ -60,7 +52,7 @@ pub fn format_heap(alloc: Global, table: TableId) -> Result<Patches, NoMemory>
     ensures { IfOk result (λ patches. patches ≡ format_patches table) }
 {
     let mut patches = Patches::new(alloc);
-    patches.push(front_patch(alloc, HEAP_HEADER, heap_page(table, 0))?)?;
+    patches.push(front_patch(alloc, HEAP_HEADER, table.heap_page(0))?)?;
     Ok(patches)
 }
 
@@ -78,7 +70,7 @@ fn last_patch(alloc: Global, table: TableId, place: Place) -> Result<Patch, NoMe
     requires { place.slot < slots_per_page }
     ensures { IfOk result (λ patch. patch ≡ last_patch table place) }
 {
-    patch_of(alloc, heap_page(table, 0), LAST_PAGE_AT, &last_bytes(place))
+    patch_of(alloc, table.heap_page(0), LAST_PAGE_AT, &last_bytes(place))
 }
 
 fn count_patch(alloc: Global, table: TableId, place: Place) -> Result<Patch, NoMemory>
@@ -86,14 +78,14 @@ fn count_patch(alloc: Global, table: TableId, place: Place) -> Result<Patch, NoM
     ensures { IfOk result (λ patch. patch ≡ count_patch table place) }
 {
     let count = (place.slot + 1).to_be_bytes();
-    patch_of(alloc, heap_page(table, place.page), COUNT_AT, &count)
+    patch_of(alloc, table.heap_page(place.page), COUNT_AT, &count)
 }
 
 fn slot_patch(alloc: Global, table: TableId, place: Place, key: Key) -> Result<Patch, NoMemory>
     requires { place.slot < slots_per_page }
     ensures { IfOk result (λ patch. patch ≡ slot_patch table place key) }
 {
-    let page = heap_page(table, place.page);
+    let page = table.heap_page(place.page);
     patch_of(
         alloc,
         page,
@@ -112,7 +104,7 @@ fn push_front(
     ensures { OnOk result (patches.new ≡ patches.old ++ front_patches table place) }
 {
     if place.slot == 0 {
-        patches.push(front_patch(alloc, HEAP, heap_page(table, place.page))?)?;
+        patches.push(front_patch(alloc, HEAP, table.heap_page(place.page))?)?;
     }
     Ok(())
 }

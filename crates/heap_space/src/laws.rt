@@ -5,7 +5,8 @@ ghost use Rattle.std.specs.Prelude.{◌≡◌, ◌≤◌, ◌<◌, ◌+◌, ◌^
 ghost use Rattle.ds_base.specs.Values.{IsValue};
 ghost use Rattle.ds_base.specs.declared.names.Place.{Place};
 ghost use Rattle.page_format.specs.Fields.{page_size, count_at, number_in};
-ghost use Rattle.heap_space.specs.Changes.{heap_page, give_patches};
+ghost use Rattle.ds_base.specs.Pages.{heap_page};
+ghost use Rattle.heap_space.specs.Changes.{give_patches};
 ghost use Rattle.heap_space.specs.Next.{last_page_of, given_of};
 ghost use Rattle.heap_space.specs.Written.{written};
 ghost use Rattle.heap_space.specs.Slots.{image, slot_in, content, fault_in};

@@ -9,7 +9,8 @@ use Rattle.index_leaf.specs.declared.layout.Entry.{Entry}
 use Rattle.index_leaf.specs.declared.step.Look.TheVariants.{Down, Absent}
 use Rattle.index_leaf.specs.Entries.{count_of, low_of, high_of, high_field, right_field, entry_in, entries_from, entries_of, IsRising}
 use Rattle.index_leaf.specs.Search.{is_beyond, floor, find, look_of}
-use Rattle.index_leaf.specs.Changes.{all_patched, spelt, entry_bytes, front_of, front_patch, count_patch, patch_of, zeros, branch, leaf, page_of, first_entry, format_patches}
+use Rattle.ds_base.specs.Pages.{index_page}
+use Rattle.index_leaf.specs.Changes.{all_patched, spelt, entry_bytes, front_of, front_patch, count_patch, patch_of, zeros, branch, leaf, first_entry, format_patches}
 use Rattle.index_leaf.specs.Nodes.{IsNode, ReadsAs, LeavesStamp, AllLeaveStamp, all_stamped, patches_for, IsFirst}
 use Rattle.index_leaf.proofs.Writes.{length_patched, byte_before, byte_inside, byte_behind, same_number, length_spelt, length_entry, same_entry, count_read, count_kept, entry_read}
 use Rattle.index_leaf.proofs.Parts.{length_front, front_kind}
@@ -96,35 +97,35 @@ branch_after fresh front bytes kind e l z f is b spells =
 
 abbrev pub root_patches : ℕ → List Patch
 root_patches table =
-    front_patch branch (page_of table 1)
-    ∷ count_patch (page_of table 1) 1
-    ∷ patch_of (page_of table 1) 64 (entry_bytes first_entry)
+    front_patch branch (index_page table 1)
+    ∷ count_patch (index_page table 1) 1
+    ∷ patch_of (index_page table 1) 64 (entry_bytes first_entry)
     ∷ []
 
 abbrev pub leaf_patches : ℕ → List Patch
-leaf_patches table = front_patch leaf (page_of table 2) ∷ []
+leaf_patches table = front_patch leaf (index_page table 2) ∷ []
 
-for_root : (table : ℕ) → patches_for (page_of table 1) (format_patches table) ≡ root_patches table
+for_root : (table : ℕ) → patches_for (index_page table 1) (format_patches table) ≡ root_patches table
 for_root table = let same = eq-eqb (2 * table) (2 * table) refl in rw same refl
 
-for_leaf : (table : ℕ) → patches_for (page_of table 2) (format_patches table) ≡ leaf_patches table
+for_leaf : (table : ℕ) → patches_for (index_page table 2) (format_patches table) ≡ leaf_patches table
 for_leaf table = let same = eq-eqb (2 * table) (2 * table) refl in rw same refl
 
 root_after : (table : ℕ) → IsFirst (all_patched (zeros 4096) (root_patches table)) branch (first_entry ∷ [])
 root_after table =
     let spells : entry_in (entry_bytes first_entry) 0 ≡ first_entry =
     ap (λ (ys : List ℕ). entry_in ys 0) (sym (append-nil (entry_bytes first_entry))) ∙ entry_read first_entry [] (omega arith) (omega arith) (omega arith) in
-    branch_after (zeros 4096) (front_of branch (page_of table 1)) (entry_bytes first_entry) branch first_entry
-    (length_zero 4096) (λ k. zero_byte 4096 k) (length_front branch (page_of table 1)) (front_kind branch (page_of table 1)) (length_entry first_entry) spells
+    branch_after (zeros 4096) (front_of branch (index_page table 1)) (entry_bytes first_entry) branch first_entry
+    (length_zero 4096) (λ k. zero_byte 4096 k) (length_front branch (index_page table 1)) (front_kind branch (index_page table 1)) (length_entry first_entry) spells
 
 first_leaf_after : (table : ℕ) → IsFirst (all_patched (zeros 4096) (leaf_patches table)) leaf []
 first_leaf_after table =
-    leaf_after (zeros 4096) (front_of leaf (page_of table 2)) leaf (length_zero 4096) (λ k. zero_byte 4096 k) (length_front leaf (page_of table 2)) (front_kind leaf (page_of table 2))
+    leaf_after (zeros 4096) (front_of leaf (index_page table 2)) leaf (length_zero 4096) (λ k. zero_byte 4096 k) (length_front leaf (index_page table 2)) (front_kind leaf (index_page table 2))
 
-pub root_first : (table : ℕ) → IsFirst (all_patched (zeros 4096) (patches_for (page_of table 1) (format_patches table))) branch (first_entry ∷ [])
+pub root_first : (table : ℕ) → IsFirst (all_patched (zeros 4096) (patches_for (index_page table 1) (format_patches table))) branch (first_entry ∷ [])
 root_first table = subst (λ (ps : List Patch). IsFirst (all_patched (zeros 4096) ps) branch (first_entry ∷ [])) (sym (for_root table)) (root_after table)
 
-pub leaf_first : (table : ℕ) → IsFirst (all_patched (zeros 4096) (patches_for (page_of table 2) (format_patches table))) leaf []
+pub leaf_first : (table : ℕ) → IsFirst (all_patched (zeros 4096) (patches_for (index_page table 2) (format_patches table))) leaf []
 leaf_first table = subst (λ (ps : List Patch). IsFirst (all_patched (zeros 4096) ps) leaf []) (sym (for_leaf table)) (first_leaf_after table)
 
 first_reads : (page new : List ℕ) (kind : ℕ) (es : List Entry) → IsFirst page kind es → length new ≡ 4096 → ReadsAs page new → IsFirst new kind es
@@ -143,8 +144,8 @@ first_stamped lrsn p ps kind es clear h =
     subst (λ (page : List ℕ). IsFirst page kind es) (sym (stamped_once lrsn (zeros 4096) p ps (length_zero 4096) clear))
     (first_reads new (set_lrsn new lrsn) kind es h (length_stamp new lrsn h.whole) (stamp_reads new lrsn h.whole))
 
-front_clear : (kind table number : ℕ) → LeavesStamp (front_patch kind (page_of table number))
-front_clear kind table number = let n = length_front kind (page_of table number) in record { within = omega (arith, n); apart = inl (omega (arith, n)) }
+front_clear : (kind table number : ℕ) → LeavesStamp (front_patch kind (index_page table number))
+front_clear kind table number = let n = length_front kind (index_page table number) in record { within = omega (arith, n); apart = inl (omega (arith, n)) }
 
 root_clear : (table : ℕ) → AllLeaveStamp (root_patches table)
 root_clear table =
@@ -152,16 +153,16 @@ root_clear table =
     let b = length_entry first_entry in
     (front_clear branch table 1, (record { within = omega (arith, c); apart = inr (omega arith) }, (record { within = omega (arith, b); apart = inr (omega arith) }, tt)))
 
-pub root_stamped : (table lrsn : ℕ) → IsFirst (all_stamped lrsn (zeros 4096) (patches_for (page_of table 1) (format_patches table))) branch (first_entry ∷ [])
+pub root_stamped : (table lrsn : ℕ) → IsFirst (all_stamped lrsn (zeros 4096) (patches_for (index_page table 1) (format_patches table))) branch (first_entry ∷ [])
 root_stamped table lrsn =
-    let entry : Patch = patch_of (page_of table 1) 64 (entry_bytes first_entry) in
+    let entry : Patch = patch_of (index_page table 1) 64 (entry_bytes first_entry) in
     subst (λ (ps : List Patch). IsFirst (all_stamped lrsn (zeros 4096) ps) branch (first_entry ∷ [])) (sym (for_root table))
-    (first_stamped lrsn (front_patch branch (page_of table 1)) (count_patch (page_of table 1) 1 ∷ entry ∷ []) branch (first_entry ∷ []) (root_clear table) (root_after table))
+    (first_stamped lrsn (front_patch branch (index_page table 1)) (count_patch (index_page table 1) 1 ∷ entry ∷ []) branch (first_entry ∷ []) (root_clear table) (root_after table))
 
-pub leaf_stamped : (table lrsn : ℕ) → IsFirst (all_stamped lrsn (zeros 4096) (patches_for (page_of table 2) (format_patches table))) leaf []
+pub leaf_stamped : (table lrsn : ℕ) → IsFirst (all_stamped lrsn (zeros 4096) (patches_for (index_page table 2) (format_patches table))) leaf []
 leaf_stamped table lrsn =
     subst (λ (ps : List Patch). IsFirst (all_stamped lrsn (zeros 4096) ps) leaf []) (sym (for_leaf table))
-    (first_stamped lrsn (front_patch leaf (page_of table 2)) [] leaf [] (front_clear leaf table 2, tt) (first_leaf_after table))
+    (first_stamped lrsn (front_patch leaf (index_page table 2)) [] leaf [] (front_clear leaf table 2, tt) (first_leaf_after table))
 
 -- ---- their answers
 

@@ -1,5 +1,6 @@
 -- What changes of the index write.
 use Rattle.std.specs.Prelude.{◌≡◌, ℕ, ◌+◌, ◌*◌, leb, ◌==◌, if◌then◌else◌, List, [], ◌∷◌, ◌++◌, take, drop, length, replicate, Some, slice_range, slice_index}
+use Rattle.ds_base.specs.Pages.{index_page}
 use Rattle.ds_base.specs.declared.names.PageId.{PageId}
 use Rattle.byteorder.specs.Endian.{big_bytes}
 use Rattle.page_format.specs.Fields.{page_size, kind_at, set_at, number_at, count_at, number_in, patched}
@@ -99,9 +100,6 @@ front_of kind id = mark ++ kind ∷ version ∷ [] ++ spelt 2 id.set ++ spelt 4 
 abbrev pub front_patch : ℕ → PageId → Patch
 front_patch kind id = patch_of id 0 (front_of kind id)
 
-abbrev pub page_of : ℕ → ℕ → PageId
-page_of table number = record { set = 2 * table; number = number }
-
 -- the entry that leads every key to page 2
 abbrev pub first_entry : Entry
 first_entry = record { key = 0; place = record { page = 2; slot = 0 } }
@@ -109,12 +107,12 @@ first_entry = record { key = 0; place = record { page = 2; slot = 0 } }
 -- page 0 says that page 3 is the next free one; page 1 is a branch that leads all keys to page 2, a leaf without entries
 abbrev pub format_patches : ℕ → List Patch
 format_patches table =
-    front_patch index_header (page_of table 0)
-    ∷ next_patch (page_of table 0) 3
-    ∷ front_patch branch (page_of table 1)
-    ∷ count_patch (page_of table 1) 1
-    ∷ patch_of (page_of table 1) first_entry_at (entry_bytes first_entry)
-    ∷ front_patch leaf (page_of table 2)
+    front_patch index_header (index_page table 0)
+    ∷ next_patch (index_page table 0) 3
+    ∷ front_patch branch (index_page table 1)
+    ∷ count_patch (index_page table 1) 1
+    ∷ patch_of (index_page table 1) first_entry_at (entry_bytes first_entry)
+    ∷ front_patch leaf (index_page table 2)
     ∷ []
 
 -- ---- the split of a full page

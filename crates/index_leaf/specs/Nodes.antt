@@ -1,5 +1,6 @@
 -- Branches and leaves: what each keeps to, and what they are after an insertion, a split and the stamp of a change.
-use Rattle.std.specs.Prelude.{◌≡◌, ℕ, ◌+◌, ◌^◌, ◌<◌, ◌≤◌, ◌⊎◌, leb, ◌==◌, ◌&&◌, Bool, true, false, if◌then◌else◌, List, [], ◌∷◌, length, slice_index, Contains, None}
+use Rattle.std.specs.Prelude.{◌≡◌, ℕ, ◌+◌, ◌^◌, ◌<◌, ◌≤◌, ◌⊎◌, leb, Bool, true, false, if◌then◌else◌, List, [], ◌∷◌, length, slice_index, Contains, None}
+use Rattle.ds_base.specs.Pages.{same_page}
 use Rattle.ds_base.specs.declared.names.PageId.{PageId}
 use Rattle.ds_base.specs.Ids.{lrsn_width}
 use Rattle.page_format.specs.Fields.{page_size, kind_at, lrsn_at, patched, set_lrsn}
@@ -79,13 +80,10 @@ pub record CanSplit (left : List ℕ) : Type 0 where
 
 -- ---- a new index
 
-abbrev pub is_same : PageId → PageId → Bool
-is_same a b = a.number == b.number && a.set == b.set
-
 -- those of the patches that are for this page
 abbrev pub patches_for : PageId → List Patch → List Patch
 patches_for id [] = []
-patches_for id (p ∷ ps) = if is_same p.page id then p ∷ patches_for id ps else patches_for id ps
+patches_for id (p ∷ ps) = if same_page p.page id then p ∷ patches_for id ps else patches_for id ps
 
 -- a page of this kind with these entries, whose low key is 0 and which has no high key and no page to its right
 pub record IsFirst (page : List ℕ) (kind : ℕ) (es : List Entry) : Type 0 where

@@ -2,7 +2,8 @@ ghost use Rattle.std.specs.Prelude.{◌≡◌, ℕ, ◌+◌, ◌*◌, ◌-◌, �
 ghost use Rattle.page_format.specs.Fields.{page_size};
 ghost use Rattle.page_format.specs.Header.{entries_per_page};
 ghost use Rattle.index_leaf.specs.Entries.{first_entry_at, count_of, entries_of, IsRising};
-ghost use Rattle.index_leaf.specs.Changes.{id_of, patch_of, spelt, next_page_of, next_patch, count_patch, entry_bytes, front_of, front_patch, page_of, first_entry, index_header, branch, leaf, format_patches};
+ghost use Rattle.ds_base.specs.Pages.{index_page};
+ghost use Rattle.index_leaf.specs.Changes.{id_of, patch_of, spelt, next_page_of, next_patch, count_patch, entry_bytes, front_of, front_patch, first_entry, index_header, branch, leaf, format_patches};
 
 use crate::fields::{bytes_of, read_u16, read_u32};
 use crate::layout::{
@@ -151,12 +152,9 @@ fn format_branch(alloc: Global, page: PageId, patches: &mut Patches) -> Result<(
 pub fn format_index(alloc: Global, table: TableId) -> Result<Patches, NoMemory>
     ensures { IfOk result (λ patches. patches ≡ format_patches table) }
 {
-    let set = 2 * table.number() as u16;
     let mut patches = Patches::new(alloc);
-    format_header(alloc, PageId { set, number: 0 }, &mut patches)?;
-    let root = PageId { set, number: ROOT };
-    format_branch(alloc, root, &mut patches)?;
-    let number = FIRST_LEAF;
-    patches.push(front_patch(alloc, 5, PageId { set, number })?)?;
+    format_header(alloc, table.index_page(0), &mut patches)?;
+    format_branch(alloc, table.index_page(ROOT), &mut patches)?;
+    patches.push(front_patch(alloc, 5, table.index_page(FIRST_LEAF))?)?;
     Ok(patches)
 }

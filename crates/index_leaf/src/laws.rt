@@ -10,7 +10,8 @@ ghost use Rattle.index_leaf.specs.declared.layout.Entry.{Entry};
 ghost use Rattle.index_leaf.specs.declared.step.Look.TheVariants.{Right, Down, Found, Absent};
 ghost use Rattle.index_leaf.specs.Entries.{count_of, low_of, high_of, right_field, entries_of, IsRising};
 ghost use Rattle.index_leaf.specs.Search.{is_branch, is_beyond, floor, find, look_of, IsFloor};
-ghost use Rattle.index_leaf.specs.Changes.{all_patched, insert_patches, low_of_split, left_patches, right_patches, IsLeftOf, IsRightOf, zeros, branch, leaf, page_of, first_entry, format_patches};
+ghost use Rattle.ds_base.specs.Pages.{index_page};
+ghost use Rattle.index_leaf.specs.Changes.{all_patched, insert_patches, low_of_split, left_patches, right_patches, IsLeftOf, IsRightOf, zeros, branch, leaf, first_entry, format_patches};
 ghost use Rattle.index_leaf.specs.Nodes.{IsNode, ReadsAs, CanTake, HasTaken, CanSplit, AllLeaveStamp, all_stamped, none_within, patches_for, IsFirst};
 
 /// A search goes right exactly where the key is not below the high key, down exactly by the greatest entry that is not
@@ -67,10 +68,10 @@ pub fn split_laws()
 
 /// In a new index every search goes down to page 2, and finds nothing there.
 pub fn format_laws()
-    ensures root { (table : ℕ) → IsFirst (all_patched (zeros page_size) (patches_for (page_of table 1) (format_patches table))) branch (first_entry ∷ []) }
-    ensures root_stamped { (table lrsn : ℕ) → IsFirst (all_stamped lrsn (zeros page_size) (patches_for (page_of table 1) (format_patches table))) branch (first_entry ∷ []) }
-    ensures leaf { (table : ℕ) → IsFirst (all_patched (zeros page_size) (patches_for (page_of table 2) (format_patches table))) leaf [] }
-    ensures leaf_stamped { (table lrsn : ℕ) → IsFirst (all_stamped lrsn (zeros page_size) (patches_for (page_of table 2) (format_patches table))) leaf [] }
+    ensures root { (table : ℕ) → IsFirst (all_patched (zeros page_size) (patches_for (index_page table 1) (format_patches table))) branch (first_entry ∷ []) }
+    ensures root_stamped { (table lrsn : ℕ) → IsFirst (all_stamped lrsn (zeros page_size) (patches_for (index_page table 1) (format_patches table))) branch (first_entry ∷ []) }
+    ensures leaf { (table : ℕ) → IsFirst (all_patched (zeros page_size) (patches_for (index_page table 2) (format_patches table))) leaf [] }
+    ensures leaf_stamped { (table lrsn : ℕ) → IsFirst (all_stamped lrsn (zeros page_size) (patches_for (index_page table 2) (format_patches table))) leaf [] }
     ensures root_search { (page : List ℕ) (key : ℕ) → IsFirst page branch (first_entry ∷ []) → look_of page key ≡ Down 2 }
     ensures leaf_search { (page : List ℕ) (key : ℕ) → IsFirst page leaf [] → look_of page key ≡ Absent }
     ensures root_node { (page : List ℕ) → IsFirst page branch (first_entry ∷ []) → IsNode page }

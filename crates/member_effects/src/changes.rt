@@ -4,7 +4,8 @@ ghost use Rattle.std.specs.Prelude.{◌≡◌, ◌<◌, if◌then◌else◌, len
 ghost use Rattle.std.specs.List.{AllByRecursion};
 ghost use Rattle.ds_model.specs.RecordBytes.{PatchIsAllowed, PatchesAreAllowed};
 ghost use Rattle.page_plans.specs.Rows.{after_row};
-ghost use Rattle.heap_space.specs.Written.{same_page, after_patch, written};
+ghost use Rattle.ds_base.specs.Pages.{same_page};
+ghost use Rattle.heap_space.specs.Written.{after_patch, written};
 ghost use Rattle.write_order.specs.Ranks.{rank_of as full_rank};
 ghost use Rattle.member_marks.specs.Frames.{after_marked};
 ghost use Rattle.member_marks.specs.Records.{after_system};

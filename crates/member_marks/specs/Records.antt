@@ -1,5 +1,6 @@
 -- The records of the log buffer, and what they say of the transactions.
-use Rattle.std.specs.Prelude.{ℕ, ◌+◌, ◌-◌, ◌*◌, Bool, false, not, ◌&&◌, ◌==◌, nat_le, nat_lt, if◌then◌else◌, Option, Some, None, length, List, [], ◌∷◌}
+use Rattle.std.specs.Prelude.{ℕ, ◌+◌, ◌-◌, Bool, false, not, ◌&&◌, ◌==◌, nat_le, nat_lt, if◌then◌else◌, Option, Some, None, length, List, [], ◌∷◌}
+use Rattle.ds_base.specs.Pages.{heap_set, heap_page}
 use Rattle.ds_base.specs.declared.names.PageId.{PageId}
 use Rattle.ds_model.specs.declared.log.LogRecord.{LogRecord}
 use Rattle.ds_model.specs.declared.log.RowChange.{RowChange}
@@ -26,13 +27,9 @@ logged b r = if fits_in b r then after_put b r else b
 abbrev pub is_at_row : RowChange → Bool
 is_at_row c = not (c.place.page == 0) && nat_lt c.place.slot 31
 
--- the page set of the row's heap
-abbrev pub row_set : RowChange → ℕ
-row_set c = 2 * c.table - 1
-
 abbrev pub page_undone : Option Change → Option PageId
 page_undone None = None
-page_undone (Some it) = Some (record { set = row_set it.change; number = it.change.place.page })
+page_undone (Some it) = Some (heap_page it.change.table it.change.place.page)
 
 abbrev pub undo_page : MarksState → Owner → Option PageId
 undo_page s o = page_undone (newest_of (tran_of s o))
@@ -49,7 +46,7 @@ abbrev pub set_noted : TransState → ℕ → ℕ → TransState
 set_noted t slot set = with_set_of t (owner.Slot slot) set
 
 abbrev pub row_noted : TransState → ℕ → ℕ → RowChange → TransState
-row_noted t slot lrsn c = set_noted (with_tran t slot (changed (tran_at t slot) lrsn c)) slot (row_set c)
+row_noted t slot lrsn c = set_noted (with_tran t slot (changed (tran_at t slot) lrsn c)) slot (heap_set c.table)
 
 abbrev pub after_change : MarksState → ℕ → ℕ → RowChange → MarksState
 after_change s slot lrsn c =
@@ -108,7 +105,7 @@ may_back t it = not (t.first == 0) && is_at_row it.change
 abbrev pub undone_of : MarksState → Owner → ℕ → Change → MarksState
 undone_of s o lrsn it =
     if may_back (tran_of s o) it
-    then after_back s o lrsn (row_set it.change) (back_record (tran_of s o) lrsn it) (ended_record (tran_of s o) lrsn)
+    then after_back s o lrsn (heap_set it.change.table) (back_record (tran_of s o) lrsn it) (ended_record (tran_of s o) lrsn)
     else s
 
 abbrev pub undone_as : MarksState → Owner → ℕ → Option Change → MarksState

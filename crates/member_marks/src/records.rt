@@ -1,4 +1,5 @@
 ghost use Rattle.std.specs.Prelude.{◌≡◌, ◌==◌, ◌+◌, ◌≤◌, length, true, OnOk, OnErr};
+ghost use Rattle.ds_base.specs.Pages.{heap_set};
 ghost use Rattle.ds_model.specs.RecordBytes.{Fits, record_bytes};
 ghost use Rattle.member_log.specs.Buffers.{room_of, is_above};
 ghost use Rattle.member_trans.specs.Trans.{with_tran, with_room, first_with, newest_of};
@@ -8,7 +9,6 @@ ghost use Rattle.member_marks.specs.Records.{
   fits_in,
   logged,
   is_at_row,
-  row_set,
   undo_page,
   may_change,
   after_change,
@@ -48,9 +48,9 @@ fn number_or(first: Lrsn, lrsn: Lrsn) -> Lrsn
 }
 
 fn row_set(change: &RowChange) -> u16
-    ensures { result ≡ row_set change.now }
+    ensures { result ≡ heap_set change.now.table }
 {
-    2 * change.table.number() as u16 - 1
+    change.table.heap_set()
 }
 
 // Notes the page sets of the patches for the slot's transaction.

@@ -2,8 +2,7 @@
 use Rattle.std.specs.Prelude.{ℕ, ◌==◌, nat_le, nat_lt, Bool, false, not, ◌&&◌, List, length, slice_get, Option, Some, None, Result, Ok, Err}
 use Rattle.ds_base.specs.declared.names.PageId.{PageId}
 use Rattle.page_format.specs.Fields.{lrsn_of}
-use Rattle.heap_space.specs.Changes.{heap_page}
-use Rattle.heap_space.specs.Written.{same_page}
+use Rattle.ds_base.specs.Pages.{same_page, heap_page}
 use Rattle.facility.specs.declared.command.Command.TheVariants as command
 use Rattle.member_intents.specs.declared.outcome.Sent.{Sent}
 use Rattle.member_intents.specs.declared.outcome.Sent.TheVariants as sent

@@ -6,7 +6,7 @@ use Rattle.ds_model.specs.declared.log.RowChange.{RowChange}
 use Rattle.ds_model.specs.declared.log.Body.TheVariants as body
 use Rattle.ds_model.specs.RecordBytes.{length_of, PatchesAreAllowed, ChangeFits}
 use Rattle.page_format.specs.declared.patch.Patch.{Patch}
-use Rattle.heap_space.specs.Changes.{heap_page}
+use Rattle.ds_base.specs.Pages.{heap_page}
 use Rattle.page_plans.specs.declared.action.Action.{Action}
 use Rattle.page_plans.specs.declared.action.Action.TheVariants as action
 use Rattle.page_plans.specs.declared.action.RowPlan.{RowPlan}

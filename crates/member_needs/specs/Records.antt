@@ -6,8 +6,7 @@ use Rattle.ds_model.specs.declared.lock.Name.TheVariants as name
 use Rattle.ds_model.specs.declared.log.RowChange.{RowChange}
 use Rattle.lock_names.specs.declared.mode.Mode.{Mode}
 use Rattle.lock_names.specs.declared.mode.Mode.TheVariants.{IS, IX, S, U, SIX, X}
-use Rattle.heap_space.specs.Changes.{heap_page}
-use Rattle.heap_space.specs.Written.{same_page}
+use Rattle.ds_base.specs.Pages.{same_page, heap_page}
 use Rattle.facility.specs.Counting.{limit}
 use Rattle.facility.specs.declared.command.Indexes.{Indexes}
 use Rattle.facility.specs.declared.command.Command.TheVariants as command

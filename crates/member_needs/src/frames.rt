@@ -9,7 +9,6 @@ use facility::Command;
 use member_intents::{Sent, Test};
 use member_marks::{Frame, Marks};
 use page_format::Page;
-use page_plans::heap_page;
 
 // Where the number of the last change stands in a page.
 const LRSN_AT: usize = 16;
@@ -76,7 +75,7 @@ fn test_header(marks: &Marks, page: PageId, slot: u8, table: TableId) -> Result<
     if !marks.is_forward(slot) {
         return Err(Test::NotForward);
     }
-    if page != heap_page(table, 0) {
+    if page != table.heap_page(0) {
         return Err(Test::OtherPage);
     }
     if !marks.has_page(page) {

@@ -12,7 +12,7 @@ use ds_model::RowChange;
 use member_intents::{Frames, Intent, StepFault, Test};
 use member_marks::{Marks, Owner};
 use page_format::{Page, Patches};
-use page_plans::{Action, RowPlan, heap_page, patches_length, plan, row_change, undo_change};
+use page_plans::{Action, RowPlan, patches_length, plan, row_change, undo_change};
 use std::alloc::Global;
 
 /// What is made where a number was drawn.
@@ -81,7 +81,7 @@ fn plan_row(
         return Err(StepFault::Unlawful(Test::NoRoom));
     }
     let found = row_change(alloc, table, key, place, after, page);
-    Ok(row_or_fault(found, heap_page(table, place.page)))
+    Ok(row_or_fault(found, table.heap_page(place.page)))
 }
 
 fn plan_change(
@@ -142,7 +142,7 @@ fn plan_undo(marks: &Marks, pages: &[Page], owner: &Owner, at: u16) -> Plan
     let change = &newest.change;
     back_or_fault(
         undo_change(change, page),
-        heap_page(change.table, change.place.page),
+        change.table.heap_page(change.place.page),
     )
 }
 

@@ -13,7 +13,7 @@ use lock_names::{Mode, Name};
 use member_intents::{Frames, Sent, Test};
 use member_marks::{Marks, Owner, Stage};
 use page_format::Page;
-use page_plans::{Action, action_page, heap_page, place_of};
+use page_plans::{Action, action_page, place_of};
 
 /// The most bytes of the record of a row change.
 pub const ROW_CHANGE_BYTES: u32 = 22 + 15 + 2 * 102;
@@ -208,7 +208,7 @@ pub fn undo_need(marks: &Marks, owner: &Owner, at: u16) -> Result<Sent, Test>
         return Err(Test::NoneStands);
     };
     let change = &newest.change;
-    test_frame(marks, at, heap_page(change.table, change.place.page))?;
+    test_frame(marks, at, change.table.heap_page(change.place.page))?;
     test_row(marks, owner, change.table, change.key)?;
     if marks.must_append() {
         return Err(Test::AboveLimit);

@@ -14,7 +14,8 @@ use Rattle.page_index.proofs.CallerLemmas.{index_less}
 use Rattle.write_order.specs.declared.key.WriteKey.{WriteKey}
 use Rattle.write_order.specs.declared.rank.Rank.{Rank}
 use Rattle.member_pool.specs.declared.frame.Frame.{Frame}
-use Rattle.member_pool.specs.Frames.{holds, same_page, holding, free_frame, frame_at, is_free, is_unpinned, find_page, page_of}
+use Rattle.ds_base.specs.Pages.{same_page}
+use Rattle.member_pool.specs.Frames.{holds, holding, free_frame, frame_at, is_free, is_unpinned, find_page, page_of}
 use Rattle.member_pool.specs.Marks.{entry_of, entry_with}
 use Rattle.member_pool.specs.Heads.{HeadState, head_of, with_head, marked}
 use Rattle.member_pool.specs.Sound.{come_first}

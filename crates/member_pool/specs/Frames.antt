@@ -1,6 +1,7 @@
 -- What a frame of the pool holds.
-use Rattle.std.specs.Prelude.{ℕ, ◌==◌, Bool, false, ◌&&◌, List, slice_get, position, Option, Some, None, is_none, unwrap_or}
+use Rattle.std.specs.Prelude.{ℕ, ◌==◌, Bool, false, List, slice_get, position, Option, Some, None, is_none, unwrap_or}
 use Rattle.std.specs.Option.{option_map_or}
+use Rattle.ds_base.specs.Pages.{same_page}
 use Rattle.ds_base.specs.declared.names.PageId.{PageId}
 use Rattle.write_order.specs.declared.rank.Rank.TheVariants.{HeapPage}
 use Rattle.member_pool.specs.declared.frame.Frame.{Frame}
@@ -12,9 +13,6 @@ free_frame = record { page = None; changed = false; rank = HeapPage; filled = fa
 -- a frame in which the page was just placed: all marks are clear
 abbrev pub holding : PageId → Frame
 holding id = record { page = Some id; changed = false; rank = HeapPage; filled = false; registered = false; pins = 0 }
-
-abbrev pub same_page : PageId → PageId → Bool
-same_page a b = (a.set == b.set) && (a.number == b.number)
 
 abbrev pub page_of : Frame → Option PageId
 page_of frame = frame.page

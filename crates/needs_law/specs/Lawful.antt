@@ -6,8 +6,7 @@ use Rattle.ds_model.specs.declared.lock.Name.{Name}
 use Rattle.ds_model.specs.declared.lock.Name.TheVariants as name
 use Rattle.lock_names.specs.declared.mode.Mode.{Mode}
 use Rattle.lock_names.specs.declared.mode.Interest.{Interest}
-use Rattle.heap_space.specs.Changes.{heap_page}
-use Rattle.heap_space.specs.Written.{same_page}
+use Rattle.ds_base.specs.Pages.{same_page, heap_page}
 use Rattle.page_plans.specs.declared.action.Action.{Action}
 use Rattle.page_plans.specs.declared.action.Action.TheVariants as action
 use Rattle.page_plans.specs.Names.{action_page}

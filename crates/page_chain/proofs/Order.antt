@@ -6,7 +6,7 @@ use Rattle.ds_model.specs.declared.log.LogRecord.{LogRecord}
 use Rattle.ds_model.specs.RecordBytes.{IsAllowed}
 use Rattle.page_format.specs.Fields.{lrsn_of}
 use Rattle.page_format.specs.declared.patch.Patch.{Patch}
-use Rattle.index_leaf.specs.Nodes.{is_same}
+use Rattle.ds_base.specs.Pages.{same_page}
 use Rattle.page_chain.specs.Chains.{changes_of, touches, after_record, version_from, Follows, AreInOrder}
 use Rattle.page_chain.proofs.Others.{Stamping, others_stay, record_whole, record_stamps}
 
@@ -14,7 +14,7 @@ pub no_less : (low : ℕ) (r : LogRecord) (ps : List Patch) → Follows low r ps
 no_less low r [] h = h
 no_less low r (p ∷ ps) h = omega (arith, h)
 
-pub greater : (low : ℕ) (r : LogRecord) (ps : List Patch) (id : PageId) → Follows low r ps → list_any (λ (p : Patch). is_same p.page id) ps ≡ true → low < r.lrsn
+pub greater : (low : ℕ) (r : LogRecord) (ps : List Patch) (id : PageId) → Follows low r ps → list_any (λ (p : Patch). same_page p.page id) ps ≡ true → low < r.lrsn
 greater low r [] id h e = cc
 greater low r (p ∷ ps) id h e = h
 

@@ -12,7 +12,8 @@ use Rattle.page_format.specs.Fields.{lrsn_of}
 use Rattle.page_format.specs.declared.patch.Patch.{Patch}
 use Rattle.heap_space.specs.Slots.{head, image}
 use Rattle.heap_space.specs.Written.{written}
-use Rattle.index_leaf.specs.Nodes.{is_same, patches_for, all_stamped}
+use Rattle.ds_base.specs.Pages.{same_page}
+use Rattle.index_leaf.specs.Nodes.{patches_for, all_stamped}
 use Rattle.page_images.specs.Images.{zeros, IsFree}
 use Rattle.page_images.specs.Parts.{AreWithin}
 use Rattle.page_chain.specs.Chains.{row_patch, changes_of, touches, after_record}
@@ -55,7 +56,7 @@ within_when false p ps h k = k
 
 within_for : (id : PageId) (ps : List Patch) → AreWithin ps → AreWithin (patches_for id ps)
 within_for id [] h = tt
-within_for id (p ∷ ps) h = within_when (is_same p.page id) p (patches_for id ps) (h.0, tt) (within_for id ps h.1)
+within_for id (p ∷ ps) h = within_when (same_page p.page id) p (patches_for id ps) (h.0, tt) (within_for id ps h.1)
 
 -- ---- pages that the record doesn't change
 
@@ -67,10 +68,10 @@ or_second : (a b : Bool) → (a || b) ≡ false → b ≡ false
 or_second true b e = cc
 or_second false b e = e
 
-free_of : (id : PageId) (ps : List Patch) → list_any (λ (p : Patch). is_same p.page id) ps ≡ false → IsFree id ps
+free_of : (id : PageId) (ps : List Patch) → list_any (λ (p : Patch). same_page p.page id) ps ≡ false → IsFree id ps
 free_of id [] e = tt
 free_of id (p ∷ ps) e =
-    (or_first (is_same p.page id) (list_any (λ (q : Patch). is_same q.page id) ps) e, free_of id ps (or_second (is_same p.page id) (list_any (λ (q : Patch). is_same q.page id) ps) e))
+    (or_first (same_page p.page id) (list_any (λ (q : Patch). same_page q.page id) ps) e, free_of id ps (or_second (same_page p.page id) (list_any (λ (q : Patch). same_page q.page id) ps) e))
 
 abbrev pub FreeStays : Type 0
 FreeStays = (id : PageId) (lrsn : ℕ) (ps : List Patch) (page : List ℕ) → IsFree id ps → written id lrsn ps page ≡ page
@@ -98,9 +99,9 @@ some_when true c p ps qs e f = (p, qs, refl)
 some_when false true p ps qs e f = f refl
 some_when false false p ps qs e f = cc
 
-some_for : (id : PageId) (ps : List Patch) → list_any (λ (p : Patch). is_same p.page id) ps ≡ true → (q : Patch) × (rest : List Patch) × (patches_for id ps ≡ q ∷ rest)
+some_for : (id : PageId) (ps : List Patch) → list_any (λ (p : Patch). same_page p.page id) ps ≡ true → (q : Patch) × (rest : List Patch) × (patches_for id ps ≡ q ∷ rest)
 some_for id [] e = cc
-some_for id (p ∷ ps) e = some_when (is_same p.page id) (list_any (λ (q : Patch). is_same q.page id) ps) p ps (patches_for id ps) e (some_for id ps)
+some_for id (p ∷ ps) e = some_when (same_page p.page id) (list_any (λ (q : Patch). same_page q.page id) ps) p ps (patches_for id ps) e (some_for id ps)
 
 pub record_stamps : Stamping → (r : LogRecord) (id : PageId) (page : List ℕ) → IsAllowed r → length page ≡ 4096 → touches id r ≡ true → lrsn_of (after_record id page r) ≡ r.lrsn
 record_stamps s r id page allowed whole e =

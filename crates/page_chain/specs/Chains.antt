@@ -9,11 +9,10 @@ use Rattle.ds_model.specs.declared.log.Body.TheVariants as body
 use Rattle.ds_model.specs.RecordBytes.{IsAllowed}
 use Rattle.page_format.specs.Fields.{lrsn_of}
 use Rattle.page_format.specs.declared.patch.Patch.{Patch}
-use Rattle.heap_space.specs.Changes.{heap_page}
+use Rattle.ds_base.specs.Pages.{same_page, heap_page}
 use Rattle.heap_space.specs.Layout.{slot_at}
 use Rattle.heap_space.specs.Slots.{image}
 use Rattle.heap_space.specs.Written.{written}
-use Rattle.index_leaf.specs.Nodes.{is_same}
 use Rattle.page_images.specs.Images.{Images, zeros, after_change}
 
 -- ---- records as changes of pages
@@ -33,7 +32,7 @@ changes_of body.RestartEnd = []
 
 -- whether the record changes the page
 abbrev pub touches : PageId → LogRecord → Bool
-touches id r = list_any (λ (p : Patch). is_same p.page id) (changes_of r.body)
+touches id r = list_any (λ (p : Patch). same_page p.page id) (changes_of r.body)
 
 abbrev pub after_record : PageId → List ℕ → LogRecord → List ℕ
 after_record id page r = written id r.lrsn (changes_of r.body) page

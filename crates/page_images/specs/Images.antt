@@ -4,9 +4,9 @@ use Rattle.ds_base.specs.declared.names.PageId.{PageId}
 use Rattle.page_format.specs.Fields.{page_size, lrsn_of}
 use Rattle.page_format.specs.declared.patch.Patch.{Patch}
 use Rattle.heap_space.specs.Written.{written}
-use Rattle.index_leaf.specs.Changes.{front_of, page_of}
+use Rattle.ds_base.specs.Pages.{same_page}
+use Rattle.index_leaf.specs.Changes.{front_of}
 use Rattle.index_leaf.specs.Changes.{zeros as zero_bytes}
-use Rattle.index_leaf.specs.Nodes.{is_same}
 
 -- the bytes of each page
 abbrev pub Images : Type 0
@@ -15,10 +15,6 @@ Images = PageId → List ℕ
 -- the bytes of a page that was never written
 abbrev pub zeros : List ℕ
 zeros = zero_bytes page_size
-
--- a page of the index of a table
-abbrev pub index_page : ℕ → ℕ → PageId
-index_page table number = page_of table number
 
 -- the pages after the patches of a change with this LRSN, in their order
 abbrev pub after_change : ℕ → List Patch → Images → Images
@@ -40,4 +36,4 @@ IsStamped page = (lrsn_of page == 0) ≡ false
 -- no patch is for this page
 abbrev pub IsFree : PageId → List Patch → Type 0
 IsFree id [] = Unit {0}
-IsFree id (p ∷ ps) = (is_same p.page id ≡ false) × IsFree id ps
+IsFree id (p ∷ ps) = (same_page p.page id ≡ false) × IsFree id ps

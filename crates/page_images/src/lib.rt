@@ -9,21 +9,22 @@ ghost use Rattle.byteorder.specs.Endian.{big_number};
 ghost use Rattle.page_format.specs.Fields.{page_size, mark_at, kind_at, count_at, patched, number_in, lrsn_of, set_lrsn};
 ghost use Rattle.page_format.specs.Header.{kind_of, may_have, most, is_zeros, empty_header, header_of};
 ghost use Rattle.page_format.specs.declared.patch.Patch.{Patch};
-ghost use Rattle.heap_space.specs.Changes.{front, heap_page};
+ghost use Rattle.ds_base.specs.Pages.{same_page, heap_page, index_page};
+ghost use Rattle.heap_space.specs.Changes.{front};
 ghost use Rattle.heap_space.specs.Written.{after_patch, written};
 ghost use Rattle.index_leaf.specs.Changes.{front_of, id_of};
-ghost use Rattle.index_leaf.specs.Nodes.{is_same, all_stamped, patches_for};
-ghost use Rattle.page_images.specs.Images.{zeros, index_page, front_width, HasFront, IsStamped, IsFree};
+ghost use Rattle.index_leaf.specs.Nodes.{all_stamped, patches_for};
+ghost use Rattle.page_images.specs.Images.{zeros, front_width, HasFront, IsStamped, IsFree};
 ghost use Rattle.page_images.specs.Parts.{part, AreApart, IsOffStamp, Lies, AreBehindFront, AreWithin};
 
 /// Pages of different tables, of the heap and of the index, and of different numbers have different names.
 pub fn name_laws()
-    ensures heaps { (t u m n : ℕ) → 1 ≤ t → 1 ≤ u → (t ≡ u → ⊥) → is_same (heap_page t m) (heap_page u n) ≡ false }
-    ensures indexes { (t u m n : ℕ) → (t ≡ u → ⊥) → is_same (index_page t m) (index_page u n) ≡ false }
-    ensures heap_or_index { (t u m n : ℕ) → 1 ≤ t → is_same (heap_page t m) (index_page u n) ≡ false }
-    ensures index_or_heap { (t u m n : ℕ) → 1 ≤ t → is_same (index_page u n) (heap_page t m) ≡ false }
-    ensures heap_numbers { (t m n : ℕ) → is_same (heap_page t m) (heap_page t n) ≡ (m == n) }
-    ensures index_numbers { (t m n : ℕ) → is_same (index_page t m) (index_page t n) ≡ (m == n) }
+    ensures heaps { (t u m n : ℕ) → 1 ≤ t → 1 ≤ u → (t ≡ u → ⊥) → same_page (heap_page t m) (heap_page u n) ≡ false }
+    ensures indexes { (t u m n : ℕ) → (t ≡ u → ⊥) → same_page (index_page t m) (index_page u n) ≡ false }
+    ensures heap_or_index { (t u m n : ℕ) → 1 ≤ t → same_page (heap_page t m) (index_page u n) ≡ false }
+    ensures index_or_heap { (t u m n : ℕ) → 1 ≤ t → same_page (index_page u n) (heap_page t m) ≡ false }
+    ensures heap_numbers { (t m n : ℕ) → same_page (heap_page t m) (heap_page t n) ≡ (m == n) }
+    ensures index_numbers { (t m n : ℕ) → same_page (index_page t m) (index_page t n) ≡ (m == n) }
 {}
 
 /// A change writes to a page the patches that are for it, in their order, each with its stamp. A page that has none stays

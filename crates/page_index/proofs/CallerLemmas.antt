@@ -10,7 +10,8 @@ use Rattle.std.proofs.lemmas.List.Quantifiers.{position-Some}
 use Rattle.std.proofs.lemmas.List.Sums.{fails_before_first}
 use Rattle.std.proofs.lemmas.Option.{slice_get-get_or, slice_get_within, get_or_from_slice_get, none-some, same_Some}
 use Rattle.ds_base.specs.declared.names.PageId.{PageId}
-use Rattle.page_index.specs.Places.{same_page, is_page, page_at, find_place, AreApart, Index, IsIndexOf}
+use Rattle.ds_base.specs.Pages.{same_page}
+use Rattle.page_index.specs.Places.{is_page, page_at, find_place, AreApart, Index, IsIndexOf}
 
 -- ---- pages
 

@@ -7,7 +7,8 @@ use Rattle.std.proofs.lemmas.List.{length-set}
 use Rattle.std.proofs.lemmas.Option.{none-some, same_Some, slice_get_read, slice_get_within}
 use Rattle.ds_base.specs.declared.names.PageId.{PageId}
 use Rattle.indexmap.specs.IndexMap.{IndexMap, Updates}
-use Rattle.page_index.specs.Places.{same_page, is_page, same_key, key_of, page_at, find_place, AreApart, LeadsTo, IsIndexOf, Index, confirmed}
+use Rattle.ds_base.specs.Pages.{same_page}
+use Rattle.page_index.specs.Places.{is_page, same_key, key_of, page_at, find_place, AreApart, LeadsTo, IsIndexOf, Index, confirmed}
 use Rattle.page_index.proofs.CallerLemmas.{same_name, own, is_page_so, so_is_page, page_was, finds, misses, found_at}
 
 abbrev Names : Type 0

@@ -2,10 +2,8 @@
 use Rattle.std.specs.Prelude.{ℕ, ◌≡◌, ◌≤◌, ◌==◌, ◌&&◌, Bool, false, List, length, slice_get, position, Option, Some, None, if◌then◌else◌}
 use Rattle.std.specs.Option.{option_map_or}
 use Rattle.std.specs.Map.{lookup}
+use Rattle.ds_base.specs.Pages.{same_page}
 use Rattle.ds_base.specs.declared.names.PageId.{PageId}
-
-abbrev pub same_page : PageId → PageId → Bool
-same_page a b = (a.set == b.set) && (a.number == b.number)
 
 -- whether it is this page
 abbrev pub is_page : PageId → Option PageId → Bool

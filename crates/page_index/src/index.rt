@@ -97,7 +97,7 @@ fn is_same(id: PageId, page: Option<PageId>) -> bool
     ensures { result ≡ is_page id page }
 {
     match page {
-        Some(page) => id == page,
+        Some(page) => id.is_same(page),
         None => false,
     }
 }

@@ -6,21 +6,21 @@ use Rattle.ds_base.specs.declared.names.Place.{Place}
 use Rattle.page_format.specs.Fields.{kind_at}
 use Rattle.page_format.specs.declared.patch.Patch.{Patch}
 use Rattle.ds_model.specs.RecordBytes.{PatchIsAllowed, PatchesAreAllowed}
-use Rattle.heap_space.specs.Changes.{heap_page, front_patch, last_patch, count_patch, slot_patch, give_patches}
+use Rattle.ds_base.specs.Pages.{heap_page, index_page}
+use Rattle.heap_space.specs.Changes.{front_patch, last_patch, count_patch, slot_patch, give_patches}
 use Rattle.heap_space.specs.Changes as heap
 use Rattle.index_leaf.specs.declared.layout.Entry.{Entry}
 use Rattle.index_leaf.specs.Entries.{count_of, entries_of}
 use Rattle.index_leaf.specs.Search.{how_many}
-use Rattle.index_leaf.specs.Changes.{id_of, page_of, first_entry, low_of_split, moved_patch, insert_patches, right_id}
+use Rattle.index_leaf.specs.Changes.{id_of, first_entry, low_of_split, moved_patch, insert_patches, right_id}
 use Rattle.index_leaf.specs.Changes as index
-use Rattle.page_plans.specs.Names.{index_page}
 use Rattle.page_plans.specs.Looks.{MayGive}
 use Rattle.page_plans.specs.Plans.{IsName, entry_of, slot_patches, split_patches}
 use Rattle.page_plans.proofs.Patch_sizes.{allowed_by, patch_in, length_two, length_four, length_entry, length_front, length_link, length_zeros, length_fields, length_half, length_moved, place_upto, length_heap_front, length_last, length_count, length_slot}
 
 -- ---- names
 
-pub index_name : (table number : ℕ) → IsTable table → number < 2 ^ 32 → IsName (page_of table number)
+pub index_name : (table number : ℕ) → IsTable table → number < 2 ^ 32 → IsName (index_page table number)
 index_name table number is fits = record { from = omega (arith, is); upto = omega (arith, is); fits = fits }
 
 heap_name : (table number : ℕ) → IsTable table → number < 2 ^ 32 → IsName (heap_page table number)
@@ -34,27 +34,27 @@ named_index page table number is fits name = subst IsName (sym name) (index_name
 
 pub index_format_is_allowed : (table : ℕ) → IsTable table → PatchesAreAllowed (index.format_patches table)
 index_format_is_allowed table is =
-    let a = length_front 3 (page_of table 0) in
+    let a = length_front 3 (index_page table 0) in
     let b = length_four 3 in
-    let c = length_front 4 (page_of table 1) in
+    let c = length_front 4 (index_page table 1) in
     let d = length_two 1 in
     let e = length_entry first_entry in
-    let f = length_front 5 (page_of table 2) in
+    let f = length_front 5 (index_page table 2) in
     let zeroth = index_name table 0 is (omega arith) in
     let first = index_name table 1 is (omega arith) in
     let second = index_name table 2 is (omega arith) in
     allowed_by (index.format_patches table) (omega arith) (omega arith) (
-      patch_in (index.front_patch 3 (page_of table 0)) 12 a zeroth (omega arith) (omega arith) (omega arith),
+      patch_in (index.front_patch 3 (index_page table 0)) 12 a zeroth (omega arith) (omega arith) (omega arith),
       (
-        patch_in (index.next_patch (page_of table 0) 3) 4 b zeroth (omega arith) (omega arith) (omega arith),
+        patch_in (index.next_patch (index_page table 0) 3) 4 b zeroth (omega arith) (omega arith) (omega arith),
         (
-          patch_in (index.front_patch 4 (page_of table 1)) 12 c first (omega arith) (omega arith) (omega arith),
+          patch_in (index.front_patch 4 (index_page table 1)) 12 c first (omega arith) (omega arith) (omega arith),
           (
-            patch_in (index.count_patch (page_of table 1) 1) 2 d first (omega arith) (omega arith) (omega arith),
+            patch_in (index.count_patch (index_page table 1) 1) 2 d first (omega arith) (omega arith) (omega arith),
             (
-              patch_in (index.patch_of (page_of table 1) 64 (index.entry_bytes first_entry)) 16 e first (omega arith) (omega arith) (omega arith),
+              patch_in (index.patch_of (index_page table 1) 64 (index.entry_bytes first_entry)) 16 e first (omega arith) (omega arith) (omega arith),
               (
-                patch_in (index.front_patch 5 (page_of table 2)) 12 f second (omega arith) (omega arith) (omega arith),
+                patch_in (index.front_patch 5 (index_page table 2)) 12 f second (omega arith) (omega arith) (omega arith),
                 tt,
               ),
             ),

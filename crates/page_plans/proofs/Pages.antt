@@ -10,13 +10,13 @@ use Rattle.page_format.specs.declared.header.Header.{Header}
 use Rattle.page_format.specs.declared.header.NotAPage.{NotAPage}
 use Rattle.page_format.specs.declared.header.PageKind.TheVariants as kind
 use Rattle.page_format.specs.declared.patch.Patch.{Patch}
-use Rattle.heap_space.specs.Changes.{heap_page, give_patches, front_patches}
+use Rattle.ds_base.specs.Pages.{same_page, heap_page, index_page}
+use Rattle.heap_space.specs.Changes.{give_patches, front_patches}
 use Rattle.heap_space.specs.Changes as heap
 use Rattle.heap_space.specs.Next.{last_page_of, given_of, next_place}
 use Rattle.heap_space.specs.declared.next.SpaceFull.{SpaceFull}
 use Rattle.index_leaf.specs.declared.step.Look.{Look as Found}
 use Rattle.index_leaf.specs.Search.{look_of as look_in}
-use Rattle.index_leaf.specs.Nodes.{is_same}
 use Rattle.index_leaf.specs.Changes.{id_of, next_page_of, insert_patches, left_patches, right_patches, right_id, moved_patch}
 use Rattle.index_leaf.specs.Changes as index
 use Rattle.index_leaf.specs.Entries.{count_of}
@@ -26,7 +26,7 @@ use Rattle.page_plans.specs.declared.action.Action.{Action}
 use Rattle.page_plans.specs.declared.action.Action.TheVariants as action
 use Rattle.page_plans.specs.declared.action.Look.{Look}
 use Rattle.page_plans.specs.declared.action.Look.TheVariants as look
-use Rattle.page_plans.specs.Names.{index_page, three_pages as first_three, action_page}
+use Rattle.page_plans.specs.Names.{three_pages as first_three, action_page}
 use Rattle.page_plans.specs.Faults.{page_fault, unless_one, search_fault}
 use Rattle.page_plans.specs.Looks.{unless_fault, limited, slot_from, slot_by, branch_found, draws, goes_on, place_in, look_of, leaf_look, leaf_found, branch_look, header_look, index_header_look, full_page_look, split_page_look, heap_page_look, split_off}
 use Rattle.page_plans.specs.Plans.{one_plan, three_plan, slot_at, slot_patches, split_at, split_patches, branch_plan, entry_of}
@@ -35,7 +35,7 @@ use Rattle.page_plans.proofs.Nodes.{name_of, eq_of}
 
 -- ---- one of three
 
-same_self : (p : PageId) → is_same p p ≡ true
+same_self : (p : PageId) → same_page p p ≡ true
 same_self p = grind (arith, nat_tests)
 
 or_left : (a b : Bool) → a ≡ true → (a || b) ≡ true

@@ -11,7 +11,7 @@ use Rattle.std.proofs.lemmas.Bool.Decides.{nat_tests}
 use Rattle.page_format.specs.Fields.{number_in}
 use Rattle.page_format.specs.declared.header.Header.{Header}
 use Rattle.page_format.specs.declared.header.PageKind.{PageKind}
-use Rattle.heap_space.specs.Changes.{heap_page}
+use Rattle.ds_base.specs.Pages.{heap_page}
 use Rattle.heap_space.specs.Layout.{slot_at}
 use Rattle.heap_space.specs.Slots.{Content, fault_in, content, slot_in, value_in, is_value_byte, may_be_length}
 use Rattle.heap_space.specs.Slots as slots

@@ -6,7 +6,7 @@ use Rattle.page_format.specs.Header.{header_of, slots_per_page, entries_per_page
 use Rattle.page_format.specs.declared.header.Header.{Header}
 use Rattle.page_format.specs.declared.header.NotAPage.{NotAPage}
 use Rattle.page_format.specs.declared.header.PageKind.TheVariants as kind
-use Rattle.heap_space.specs.Changes.{heap_page}
+use Rattle.ds_base.specs.Pages.{heap_page, index_page}
 use Rattle.heap_space.specs.Next.{last_page_of, given_of, header_allowed, next_place}
 use Rattle.heap_space.specs.declared.next.SpaceFull.{SpaceFull}
 use Rattle.index_leaf.specs.declared.step.Look.{Look as Found}
@@ -19,7 +19,6 @@ use Rattle.page_plans.specs.declared.action.Action.{Action}
 use Rattle.page_plans.specs.declared.action.Action.TheVariants as action
 use Rattle.page_plans.specs.declared.action.Look.{Look}
 use Rattle.page_plans.specs.declared.action.Look.TheVariants as look
-use Rattle.page_plans.specs.Names.{index_page}
 use Rattle.page_plans.specs.Faults.{is_kind, page_fault, node_fault, new_page_fault, search_fault}
 
 -- a fault, or what is said where there is none

@@ -1,14 +1,10 @@
 -- The pages of a table, and those of an action.
-use Rattle.std.specs.Prelude.{ℕ, ◌+◌, ◌*◌, ◌/◌, ◌==◌, nat_le, nat_lt, ◌&&◌, if◌then◌else◌, Option, None, Some}
+use Rattle.std.specs.Prelude.{ℕ, ◌+◌, ◌/◌, ◌==◌, nat_le, nat_lt, ◌&&◌, if◌then◌else◌, Option, None, Some}
 use Rattle.ds_base.specs.declared.names.PageId.{PageId}
 use Rattle.ds_base.specs.declared.names.Place.{Place}
-use Rattle.heap_space.specs.Changes.{heap_page}
+use Rattle.ds_base.specs.Pages.{heap_page, index_page}
 use Rattle.page_plans.specs.declared.action.Action.{Action}
 use Rattle.page_plans.specs.declared.action.Action.TheVariants as action
-
--- a page of the index of a table
-abbrev pub index_page : ℕ → ℕ → PageId
-index_page table number = record { set = 2 * table; number = number }
 
 -- table t has the page sets 2t - 1 and 2t
 abbrev pub table_of : ℕ → Option ℕ

@@ -4,7 +4,7 @@ use Rattle.std.specs.List.{AllByRecursion}
 use Rattle.ds_base.specs.declared.names.PageId.{PageId}
 use Rattle.ds_base.specs.declared.names.Place.{Place}
 use Rattle.page_format.specs.declared.patch.Patch.{Patch}
-use Rattle.index_leaf.specs.Nodes.{is_same}
+use Rattle.ds_base.specs.Pages.{same_page}
 use Rattle.page_plans.specs.declared.action.Action.{Action}
 use Rattle.page_plans.specs.declared.action.Look.TheVariants as look
 use Rattle.page_plans.specs.Names.{action_page}
@@ -13,7 +13,7 @@ use Rattle.page_plans.specs.Plans.{plan_of}
 
 abbrev pub is_the : PageId → Option PageId → Bool
 is_the id None = false
-is_the id (Some page) = is_same page id
+is_the id (Some page) = same_page page id
 
 -- one of the pages of the action
 abbrev pub is_page_of : Action → Option Place → PageId → Bool

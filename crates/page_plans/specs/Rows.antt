@@ -4,7 +4,7 @@ use Rattle.ds_base.specs.declared.names.Place.{Place}
 use Rattle.ds_model.specs.declared.log.RowChange.{RowChange}
 use Rattle.ds_model.specs.RecordBytes.{ChangeFits}
 use Rattle.page_format.specs.Header.{slots_per_page}
-use Rattle.heap_space.specs.Changes.{heap_page}
+use Rattle.ds_base.specs.Pages.{heap_page}
 use Rattle.heap_space.specs.Slots.{Content, content, slot_in}
 use Rattle.heap_space.specs.Written.{after_patch}
 use Rattle.log_record.specs.Changes.{inverse}

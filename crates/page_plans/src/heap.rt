@@ -4,7 +4,6 @@ ghost use Rattle.page_plans.specs.Looks.{limited, is_new, heap_format_look, slot
 
 use crate::action::Look;
 use crate::faults::{is_kind, new_page_fault};
-use crate::names::{heap_page, index_page};
 use ds_base::{PageId, Place, TableId};
 use heap_space::{SpaceFull, header_is_allowed, last_page, next_slot};
 use page_format::{Page, PageKind};
@@ -38,7 +37,7 @@ pub fn is_new(id: PageId, page: &Page) -> bool
 pub fn heap_format_look(table: TableId, nth: usize, page: &Page) -> Look
     ensures { result ≡ heap_format_look table nth page.now }
 {
-    if nth == 0 && is_new(heap_page(table, 0), page) {
+    if nth == 0 && is_new(table.heap_page(0), page) {
         Look::Draw
     } else {
         Look::Done
@@ -72,7 +71,7 @@ fn slot_behind(table: TableId, limit: u32, header: &Page) -> Look
     }
     match next_slot(header, limited(limit)) {
         Ok(place) => Look::Next {
-            page: heap_page(table, place.page),
+            page: table.heap_page(place.page),
             place: Some(place),
         },
         Err(SpaceFull { pages }) => Look::Full { pages },
@@ -84,7 +83,7 @@ pub fn header_look(table: TableId, limit: u32, header: &Page) -> Look
     ensures exact { result ≡ header_look table limit header.now }
     ensures range { MayGive (place_in result) }
 {
-    match header.read_header(heap_page(table, 0)) {
+    match header.read_header(table.heap_page(0)) {
         Err(fault) => Look::Damaged {
             at: fault.at as u32,
         },
@@ -100,9 +99,9 @@ pub fn heap_page_look(table: TableId, leaf: u32, place: Option<Place>, page: &Pa
     let Some(at) = place else {
         return Look::Done;
     };
-    let fault = new_page_fault(heap_page(table, at.page), at.slot, page);
+    let fault = new_page_fault(table.heap_page(at.page), at.slot, page);
     let next = Look::Next {
-        page: index_page(table, leaf),
+        page: table.index_page(leaf),
         place,
     };
     unless_fault(fault, next)

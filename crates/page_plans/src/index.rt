@@ -3,13 +3,12 @@ ghost use Rattle.std.specs.Prelude.{◌≡◌, ◌<◌, ◌^◌, ◌-◌, true, 
 ghost use Rattle.page_format.specs.Header.{entries_per_page};
 ghost use Rattle.index_leaf.specs.Entries.{count_of, entries_of, IsRising};
 ghost use Rattle.index_leaf.specs.Changes.{id_of, next_page_of};
-ghost use Rattle.page_plans.specs.Names.{index_page};
+ghost use Rattle.ds_base.specs.Pages.{index_page};
 ghost use Rattle.page_plans.specs.Looks.{new_look, index_format_look, leaf_found, leaf_look, index_header_look, full_page_look, split_page_look, room_in, branch_found, branch_look, draws, goes_on, place_in};
 
 use crate::action::{Action, Look};
 use crate::faults::{node_fault, page_fault, search_fault};
 use crate::heap::{is_new, unless_fault};
-use crate::names::index_page;
 use ds_base::{Key, PageId, Place, TableId};
 use index_leaf::{Look as Found, count, look, next_page};
 use page_format::{ENTRIES_PER_PAGE, Page, PageKind};
@@ -29,18 +28,18 @@ pub fn index_format_look(table: TableId, nth: usize, page: &Page) -> Look
     ensures { result ≡ index_format_look table nth page.now }
 {
     let next = Look::Next {
-        page: index_page(table, 1),
+        page: table.index_page(1),
         place: None,
     };
     let last = Look::Next {
-        page: index_page(table, 2),
+        page: table.index_page(2),
         place: None,
     };
     match nth {
-        0 if is_new(index_page(table, 0), page) => next,
+        0 if is_new(table.index_page(0), page) => next,
         0 => Look::Done,
-        1 => new_look(index_page(table, 1), page, last),
-        2 => new_look(index_page(table, 2), page, Look::Draw),
+        1 => new_look(table.index_page(1), page, last),
+        2 => new_look(table.index_page(2), page, Look::Draw),
         _ => Look::Done,
     }
 }
@@ -64,7 +63,7 @@ pub fn leaf_look(table: TableId, key: Key, leaf: u32, page: &Page) -> Look
     ensures rising { draws result ≡ true → IsRising (entries_of page.now) }
     ensures room { draws result ≡ true → count_of page.now < entries_per_page }
 {
-    if let Some(at) = search_fault(PageKind::Leaf, index_page(table, leaf), key, page) {
+    if let Some(at) = search_fault(PageKind::Leaf, table.index_page(leaf), key, page) {
         return Look::Damaged { at: at as u32 };
     }
     leaf_found(table, key, look(page, key), count(page))
@@ -76,7 +75,7 @@ pub fn index_header_look(table: TableId, left: u32, header: &Page) -> Look
     ensures next { IfSome (place_in result) (λ place. next_page_of header.now < 2 ^ 32 - 1) }
     ensures name { IfSome (place_in result) (λ place. id_of header.now ≡ index_page table 0) }
 {
-    if let Some(at) = page_fault(PageKind::IndexHeader, index_page(table, 0), header) {
+    if let Some(at) = page_fault(PageKind::IndexHeader, table.index_page(0), header) {
         return Look::Damaged { at: at as u32 };
     }
     let next = next_page(header);
@@ -84,7 +83,7 @@ pub fn index_header_look(table: TableId, left: u32, header: &Page) -> Look
         return Look::Damaged { at: NEXT_AT };
     }
     Look::Next {
-        page: index_page(table, left),
+        page: table.index_page(left),
         place: Some(Place {
             page: next,
             slot: 0,
@@ -101,14 +100,14 @@ pub fn full_page_look(table: TableId, left: u32, place: Option<Place>, page: &Pa
     let Some(at) = place else {
         return Look::Done;
     };
-    if let Some(at) = node_fault(index_page(table, left), page) {
+    if let Some(at) = node_fault(table.index_page(left), page) {
         return Look::Damaged { at: at as u32 };
     }
     if count(page) != ENTRIES_PER_PAGE {
         return Look::Done;
     }
     Look::Next {
-        page: index_page(table, at.page),
+        page: table.index_page(at.page),
         place,
     }
 }
@@ -120,7 +119,7 @@ pub fn split_page_look(table: TableId, place: Option<Place>, page: &Page) -> Loo
     let Some(at) = place else {
         return Look::Done;
     };
-    new_look(index_page(table, at.page), page, Look::Draw)
+    new_look(table.index_page(at.page), page, Look::Draw)
 }
 
 // A branch that doesn't lead to the leaf yet.
@@ -161,7 +160,7 @@ pub fn branch_look(table: TableId, branch: u32, low: Key, child: u32, page: &Pag
     ensures rising { draws result ≡ true → IsRising (entries_of page.now) }
     ensures room { draws result ≡ true → count_of page.now < entries_per_page }
 {
-    if let Some(at) = search_fault(PageKind::Branch, index_page(table, branch), low, page) {
+    if let Some(at) = search_fault(PageKind::Branch, table.index_page(branch), low, page) {
         return Look::Damaged { at: at as u32 };
     }
     branch_found(table, branch, low, child, look(page, low), count(page))

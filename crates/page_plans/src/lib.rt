@@ -20,7 +20,7 @@ mod systems;
 pub use action::{Action, Look, RowPlan};
 pub use laws::page_laws;
 pub use looks::{look, place_of};
-pub use names::{action_page, first_page, heap_page, index_page, table_of};
+pub use names::{action_page, first_page, table_of};
 pub use patches::patches_length;
 pub use plans::plan;
 pub use rows::{put_row, row_change, undo_change};

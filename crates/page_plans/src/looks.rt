@@ -7,7 +7,6 @@ use crate::heap::{header_look, heap_format_look, heap_page_look, unless_fault};
 use crate::index::{
     branch_look, full_page_look, index_format_look, index_header_look, leaf_look, split_page_look,
 };
-use crate::names::heap_page;
 use ds_base::{Key, Place, TableId};
 use page_format::Page;
 use page_redo::row_fault;
@@ -66,7 +65,7 @@ fn row_look(table: TableId, key: Key, place: Place, nth: usize, page: &Page) -> 
     if nth != 0 {
         return Look::Done;
     }
-    let fault = row_fault(page, heap_page(table, place.page), place.slot, key);
+    let fault = row_fault(page, table.heap_page(place.page), place.slot, key);
     unless_fault(fault, Look::Draw)
 }
 

@@ -1,30 +1,10 @@
 //! The pages of a table, and those of an action.
 ghost use Rattle.std.specs.Prelude.{◌≡◌};
-ghost use Rattle.heap_space.specs.Changes.{heap_page};
-ghost use Rattle.page_plans.specs.Names.{index_page, table_of, first_page, three_pages, slot_pages, split_pages, one_page, action_page};
+ghost use Rattle.ds_base.specs.Pages.{heap_page, index_page};
+ghost use Rattle.page_plans.specs.Names.{table_of, first_page, three_pages, slot_pages, split_pages, one_page, action_page};
 
 use crate::action::Action;
 use ds_base::{PageId, Place, TableId};
-
-/// A page of the heap of a table.
-pub fn heap_page(table: TableId, number: u32) -> PageId
-    ensures { result ≡ heap_page table number }
-{
-    PageId {
-        set: 2 * table.number() as u16 - 1,
-        number,
-    }
-}
-
-/// A page of the index of a table.
-pub fn index_page(table: TableId, number: u32) -> PageId
-    ensures { result ≡ index_page table number }
-{
-    PageId {
-        set: 2 * table.number() as u16,
-        number,
-    }
-}
 
 /// The table that has this page set.
 pub fn table_of(set: u16) -> Option<TableId>
@@ -38,10 +18,10 @@ pub fn first_page(action: &Action) -> PageId
     ensures { result ≡ first_page action.now }
 {
     match action {
-        Action::FormatIndex { table } | Action::Split { table, .. } => index_page(*table, 0),
-        Action::FormatHeap { table } | Action::GiveSlot { table, .. } => heap_page(*table, 0),
-        Action::BranchEntry { table, branch, .. } => index_page(*table, *branch),
-        Action::RowChange { table, place, .. } => heap_page(*table, place.page),
+        Action::FormatIndex { table } | Action::Split { table, .. } => table.index_page(0),
+        Action::FormatHeap { table } | Action::GiveSlot { table, .. } => table.heap_page(0),
+        Action::BranchEntry { table, branch, .. } => table.index_page(*branch),
+        Action::RowChange { table, place, .. } => table.heap_page(place.page),
     }
 }
 
@@ -50,7 +30,7 @@ fn three_pages(table: TableId, nth: usize) -> Option<PageId>
     ensures { result ≡ three_pages table nth }
 {
     if nth < 3 {
-        Some(index_page(table, nth as u32))
+        Some(table.index_page(nth as u32))
     } else {
         None
     }
@@ -63,9 +43,9 @@ fn slot_pages(table: TableId, leaf: u32, nth: usize, place: Option<Place>) -> Op
         return None;
     };
     match nth {
-        0 => Some(heap_page(table, 0)),
-        1 => Some(heap_page(table, place.page)),
-        2 => Some(index_page(table, leaf)),
+        0 => Some(table.heap_page(0)),
+        1 => Some(table.heap_page(place.page)),
+        2 => Some(table.index_page(leaf)),
         _ => None,
     }
 }
@@ -77,9 +57,9 @@ fn split_pages(table: TableId, left: u32, nth: usize, place: Option<Place>) -> O
         return None;
     };
     match nth {
-        0 => Some(index_page(table, 0)),
-        1 => Some(index_page(table, left)),
-        2 => Some(index_page(table, place.page)),
+        0 => Some(table.index_page(0)),
+        1 => Some(table.index_page(left)),
+        2 => Some(table.index_page(place.page)),
         _ => None,
     }
 }

@@ -6,7 +6,6 @@ ghost use Rattle.heap_space.specs.Slots.{fault_in, content, slot_in};
 ghost use Rattle.page_plans.specs.Rows.{row_in, row_plan, undo_plan, after_row, Fits};
 
 use crate::action::RowPlan;
-use crate::names::heap_page;
 use ds_base::{Key, Lrsn, Place, TableId, Value};
 use ds_model::RowChange;
 use heap_space::{Slot, row};
@@ -51,7 +50,7 @@ pub fn row_change(
     ensures exact { result ≡ row_plan table key place after page.now }
     ensures fits { Fits result }
 {
-    if let Some(at) = row_fault(page, heap_page(table, place.page), place.slot, key) {
+    if let Some(at) = row_fault(page, table.heap_page(place.page), place.slot, key) {
         return RowPlan::Fault { at: at as u32 };
     }
     RowPlan::Change(RowChange {
@@ -68,7 +67,7 @@ pub fn undo_change(change: &RowChange, page: &Page) -> RowPlan
     ensures exact { result ≡ undo_plan change.now page.now }
     ensures fits { Fits result }
 {
-    let id = heap_page(change.table, change.place.page);
+    let id = change.table.heap_page(change.place.page);
     match row_fault(page, id, change.place.slot, change.key) {
         Some(at) => RowPlan::Fault { at: at as u32 },
         None => RowPlan::Change(inverse(change)),

@@ -13,7 +13,7 @@ use Rattle.page_format.specs.declared.header.Header.{Header}
 use Rattle.page_format.specs.declared.header.NotAPage.{NotAPage}
 use Rattle.page_format.specs.declared.patch.Patch.{Patch}
 use Rattle.heap_space.specs.Written.{written}
-use Rattle.index_leaf.specs.Nodes.{is_same}
+use Rattle.ds_base.specs.Pages.{same_page}
 use Rattle.page_chain.specs.Chains.{changes_of, touches, after_record, version_of, redo, AreRecords, LeavesOthers, RedoReaches}
 use Rattle.page_redo.specs.declared.fault.FieldFault.{FieldFault}
 use Rattle.page_redo.specs.Forward.{lies_in_page, patches_of, has_patch, body_fault, Forward, unless, after_one, go_on, forward_from, headed, brought_forward, IsRedo, ReachesLast, NeedsItsOwn}
@@ -98,7 +98,7 @@ reaches_last others reaches id first rest b are ok = is_redo others id (version_
 
 -- ---- records of other pages
 
-kept_any : (b : Bool) (id : PageId) (p : Patch) (qs ps : List Patch) → (is_same p.page id || has_patch id ps) ≡ false → (has_patch id ps ≡ false → has_patch id qs ≡ false) → has_patch id (cond b (p ∷ qs) qs) ≡ false
+kept_any : (b : Bool) (id : PageId) (p : Patch) (qs ps : List Patch) → (same_page p.page id || has_patch id ps) ≡ false → (has_patch id ps ≡ false → has_patch id qs ≡ false) → has_patch id (cond b (p ∷ qs) qs) ≡ false
 kept_any true id p qs ps e more = grind (arith, more)
 kept_any false id p qs ps e more = grind (arith, more)
 

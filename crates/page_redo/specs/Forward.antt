@@ -12,7 +12,7 @@ use Rattle.page_format.specs.declared.header.Header.{Header}
 use Rattle.page_format.specs.declared.header.NotAPage.{NotAPage}
 use Rattle.page_format.specs.declared.patch.Patch.{Patch}
 use Rattle.heap_space.specs.Written.{written}
-use Rattle.index_leaf.specs.Nodes.{is_same}
+use Rattle.ds_base.specs.Pages.{same_page}
 use Rattle.page_chain.specs.Chains.{row_patch, touches, version_of, redo, AreRecords}
 use Rattle.page_redo.specs.declared.fault.FieldFault.{FieldFault}
 use Rattle.page_redo.specs.Rows.{change_fault}
@@ -34,7 +34,7 @@ patches_of (body.Checkpoint offset) = []
 patches_of body.RestartEnd = []
 
 abbrev pub has_patch : PageId → List Patch → Bool
-has_patch id patches = list_any (λ (p : Patch). is_same p.page id) patches
+has_patch id patches = list_any (λ (p : Patch). same_page p.page id) patches
 
 -- where the page shows that it can't be the one that was changed: a changed row has its slot there already
 abbrev pub body_fault : PageId → List ℕ → Body → Option ℕ

@@ -4,11 +4,11 @@ use Rattle.std.specs.List.{list_any}
 use Rattle.ds_base.specs.declared.names.PageId.{PageId}
 use Rattle.ds_model.specs.declared.log.LogRecord.{LogRecord}
 use Rattle.page_format.specs.declared.patch.Patch.{Patch}
-use Rattle.index_leaf.specs.Nodes.{is_same}
+use Rattle.ds_base.specs.Pages.{same_page}
 use Rattle.page_chain.specs.Chains.{changes_of}
 
 abbrev pub has_page : List PageId → PageId → Bool
-has_page pages id = list_any (λ (p : PageId). is_same p id) pages
+has_page pages id = list_any (λ (p : PageId). same_page p id) pages
 
 -- the page behind these, unless it is one of them
 abbrev pub with_page : List PageId → PageId → List PageId

@@ -3,13 +3,13 @@
 ghost use Rattle.std.specs.Prelude.{◌≡◌, ◌+◌, ◌≤◌, true, false, if◌then◌else◌, length, filter, Ok};
 ghost use Rattle.page_format.specs.Fields.{page_size, lrsn_of};
 ghost use Rattle.heap_space.specs.Written.{written, after_patch};
-ghost use Rattle.index_leaf.specs.Nodes.{is_same};
+ghost use Rattle.ds_base.specs.Pages.{same_page};
 ghost use Rattle.page_chain.specs.Chains.{row_patch};
 ghost use Rattle.page_redo.specs.Rows.{change_fault};
 ghost use Rattle.page_redo.specs.Forward.{lies_in_page, has_patch, outcome_of, after_one, forward_from, brought_forward};
 
 use crate::fault::FieldFault;
-use crate::pages::{is_same, page_changed};
+use crate::pages::page_changed;
 use crate::rows::change_row;
 use ds_base::{Lrsn, PageId};
 use ds_model::{Body, LogRecord, RowChange};
@@ -52,7 +52,7 @@ fn apply_patches(page: &mut Page, id: PageId, patches: &[Patch], lrsn: Lrsn) -> 
 {
     let mut has_one = false;
     for patch in patches {
-        if lies_in_page(patch) && is_same(patch.page, id) {
+        if lies_in_page(patch) && patch.page.is_same(id) {
             page.apply(patch, lrsn);
             has_one = true;
         }
@@ -67,11 +67,11 @@ fn bring_change(
     change: &RowChange,
     lrsn: Lrsn,
 ) -> Result<bool, FieldFault>
-    ensures outcome { result ≡ (if is_same (row_patch change.now).page id then outcome_of (change_fault id change.now page.old) else Ok false) }
+    ensures outcome { result ≡ (if same_page (row_patch change.now).page id then outcome_of (change_fault id change.now page.old) else Ok false) }
     ensures page { result ≡ Ok true → page.new ≡ after_patch lrsn page.old (row_patch change.now) }
     ensures kept { (result ≡ Ok true → ⊥) → page.new ≡ page.old }
 {
-    if !is_same(page_changed(change), id) {
+    if !page_changed(change).is_same(id) {
         return Ok(false);
     }
     change_row(page, id, change, lrsn)?;

@@ -14,7 +14,7 @@ mod rows;
 pub use fault::FieldFault;
 pub use forward::{bring_forward, bring_record};
 pub use laws::forward_laws;
-pub use pages::pages_of;
+pub use pages::{page_changed, pages_of};
 pub use rows::{put_row, row_fault, undo_row};
 
 #[cfg(test)]

@@ -1,8 +1,6 @@
 //! The pages that records change.
 
 ghost use Rattle.std.specs.Prelude.{◌≡◌, [], ◌∷◌, IfOk, OnOk};
-ghost use Rattle.heap_space.specs.Written.{same_page};
-ghost use Rattle.index_leaf.specs.Nodes.{is_same};
 ghost use Rattle.page_chain.specs.Chains.{row_patch};
 ghost use Rattle.page_redo.specs.Pages.{has_page, with_page, pages_from, pages_of};
 
@@ -11,28 +9,17 @@ use ds_model::{Body, LogRecord, RowChange};
 use page_format::Patch;
 use std::alloc::Global;
 
-/// Whether both are the same page.
-pub fn is_same(page: PageId, other: PageId) -> bool
-    ensures exact { result ≡ is_same page other }
-    ensures in_order { result ≡ same_page page other }
-{
-    page.number == other.number && page.set == other.set
-}
-
 /// The page whose row the change is of.
 pub fn page_changed(change: &RowChange) -> PageId
     ensures { result ≡ (row_patch change.now).page }
 {
-    PageId {
-        set: 2 * change.table.number() as u16 - 1,
-        number: change.place.page,
-    }
+    change.table.heap_page(change.place.page)
 }
 
 fn has_page(pages: &[PageId], id: PageId) -> bool
     ensures { result ≡ has_page pages.now id }
 {
-    pages.iter().any(|page| is_same(*page, id))
+    pages.iter().any(|page| page.is_same(id))
 }
 
 fn add_page(pages: &mut Sequence<PageId>, id: PageId) -> Result<(), NoMemory>

@@ -7,7 +7,8 @@ use Rattle.ds_base.specs.declared.names.PageId.{PageId}
 use Rattle.page_tree.specs.declared.tree.Tree.{Tree}
 use Rattle.page_tree.specs.declared.tree.Node.{Node}
 use Rattle.page_tree.specs.declared.tree.Node.TheVariants.{Fork}
-use Rattle.page_tree.specs.Order.{same_page, comes_before, is_past, IsNextAmong}
+use Rattle.ds_base.specs.Pages.{same_page}
+use Rattle.page_tree.specs.Order.{comes_before, is_past, IsNextAmong}
 use Rattle.page_tree.specs.Pages.{is_in}
 use Rattle.page_tree.specs.Nodes.{pages_in, IsSplit, IsOrdered}
 

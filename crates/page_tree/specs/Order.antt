@@ -3,9 +3,6 @@ use Rattle.std.specs.Prelude.{◌≡◌, ◌==◌, ◌&&◌, ◌||◌, nat_lt, B
 use Rattle.std.specs.Option.{option_map_or}
 use Rattle.ds_base.specs.declared.names.PageId.{PageId}
 
-abbrev pub same_page : PageId → PageId → Bool
-same_page a b = (a.set == b.set) && (a.number == b.number)
-
 abbrev pub comes_before : PageId → PageId → Bool
 comes_before a b = nat_lt a.set b.set || ((a.set == b.set) && nat_lt a.number b.number)
 

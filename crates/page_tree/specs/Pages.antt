@@ -1,7 +1,7 @@
 -- A set of pages, and how many more it has room for.
 use Rattle.std.specs.Prelude.{ℕ, Bool, false, ◌||◌, List, [], ◌∷◌}
 use Rattle.ds_base.specs.declared.names.PageId.{PageId}
-use Rattle.page_tree.specs.Order.{same_page}
+use Rattle.ds_base.specs.Pages.{same_page}
 
 abbrev pub is_in : PageId → List PageId → Bool
 is_in q [] = false

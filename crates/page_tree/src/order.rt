@@ -1,6 +1,6 @@
 //! The order of pages.
 ghost use Rattle.std.specs.Prelude.{◌≡◌, ◌<◌, cond};
-ghost use Rattle.page_tree.specs.Order.{same_page, comes_before as is_before, is_past};
+ghost use Rattle.page_tree.specs.Order.{comes_before as is_before, is_past};
 
 use ds_base::PageId;
 
@@ -9,13 +9,6 @@ pub fn comes_before(a: PageId, b: PageId) -> bool
     ensures { result ≡ is_before a b }
 {
     a.set < b.set || (a.set == b.set && a.number < b.number)
-}
-
-/// Whether both are the same page.
-pub(crate) fn is_same(a: PageId, b: PageId) -> bool
-    ensures { result ≡ same_page a b }
-{
-    a.set == b.set && a.number == b.number
 }
 
 /// Whether the page is past the given one, if one is given.

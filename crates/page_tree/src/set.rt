@@ -1,6 +1,7 @@
 //! A set of pages that takes no memory once it is made.
 ghost use Rattle.std.specs.Prelude.{◌≡◌, ℕ, ◌+◌, ◌≤◌, ◌||◌, ◌&&◌, [], true, false, not, drop, length, IfOk};
-ghost use Rattle.page_tree.specs.Order.{same_page, IsNextAmong};
+ghost use Rattle.ds_base.specs.Pages.{same_page};
+ghost use Rattle.page_tree.specs.Order.{IsNextAmong};
 ghost use Rattle.page_tree.specs.Pages.{has};
 
 use crate::tree::{Cells, Tree};

@@ -1,11 +1,12 @@
 //! A tree of pages. The least page of each subtree stands at its top, and the others on two sides of a middle.
 ghost use Rattle.std.specs.Prelude.{◌≡◌, ◌≢◌, ◌<◌, ◌+◌, ◌||◌, ◌&&◌, ◌∷◌, ◌++◌, [], true, false, not, length, drop, slice_get, IfSome, None, Some};
 ghost use Rattle.std.specs.Option.{option_map_or};
-ghost use Rattle.page_tree.specs.Order.{same_page, comes_before as is_before, IsNextAmong};
+ghost use Rattle.ds_base.specs.Pages.{same_page};
+ghost use Rattle.page_tree.specs.Order.{comes_before as is_before, IsNextAmong};
 ghost use Rattle.page_tree.specs.Pages.{is_in};
 ghost use Rattle.page_tree.specs.Nodes.{pages_in, IsOrdered};
 
-use crate::order::{comes_before, in_order, is_past, is_same, middle_at};
+use crate::order::{comes_before, in_order, is_past, middle_at};
 use ds_base::PageId;
 use std::marker::Model;
 use std::mem;
@@ -75,7 +76,7 @@ impl Tree {
         ensures gone { result ≡ true → (q : PageId) → is_in q (drop 1 self.now) ≡ (not (same_page q id) && is_in q self.now) }
     {
         match self.first() {
-            Some(first) => is_same(id, first),
+            Some(first) => id.is_same(first),
             None => false,
         }
     }

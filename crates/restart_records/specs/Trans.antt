@@ -1,5 +1,6 @@
 -- The transactions that the own log leaves open.
-use Rattle.std.specs.Prelude.{ℕ, ◌+◌, ◌-◌, ◌*◌, ◌^◌, min, ◌==◌, nat_lt, Bool, true, false, not, ◌&&◌, if◌then◌else◌, List, [], ◌∷◌, ◌++◌, length, take, drop, map, filter, slice_get, slice_set, Option, Some, None, is_some}
+use Rattle.std.specs.Prelude.{ℕ, ◌+◌, ◌-◌, ◌^◌, min, ◌==◌, nat_lt, Bool, true, false, not, ◌&&◌, if◌then◌else◌, List, [], ◌∷◌, ◌++◌, length, take, drop, map, filter, slice_get, slice_set, Option, Some, None, is_some}
+use Rattle.ds_base.specs.Pages.{heap_page}
 use Rattle.ds_base.specs.declared.names.PageId.{PageId}
 use Rattle.ds_model.specs.declared.log.LogRecord.{LogRecord}
 use Rattle.ds_model.specs.declared.log.RowChange.{RowChange}
@@ -28,12 +29,8 @@ no_trans = record { places = []; list = []; left = 0; ending = None }
 abbrev pub is_at_row : RowChange → Bool
 is_at_row c = not (c.place.page == 0) && nat_lt c.place.slot 31
 
--- the page set of the row's heap
-abbrev pub row_set : RowChange → ℕ
-row_set c = 2 * c.table - 1
-
 abbrev pub page_of : RowChange → PageId
-page_of c = record { set = row_set c; number = c.place.page }
+page_of c = heap_page c.table c.place.page
 
 -- ---- one transaction
 

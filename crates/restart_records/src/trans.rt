@@ -1,5 +1,5 @@
 ghost use Rattle.std.specs.Prelude.{◌≡◌, IfOk, OnOk, is_some, option_copied};
-ghost use Rattle.restart_records.specs.Trans.{no_trans, tran_in, is_open, row_set, is_at_row, newest_in, newest_of, newest, is_undone, is_last, page_of, added, all_added, open_of, opened_among, taken_back, ended_at, after_back, after_end, over_at, after_finish, ending_in};
+ghost use Rattle.restart_records.specs.Trans.{no_trans, tran_in, is_open, is_at_row, newest_in, newest_of, newest, is_undone, is_last, page_of, added, all_added, open_of, opened_among, taken_back, ended_at, after_back, after_end, over_at, after_finish, ending_in};
 
 use crate::map::NumberMap;
 use ds_base::{Lrsn, NoMemory, PageId, Sequence};
@@ -65,12 +65,6 @@ fn is_at_row(change: &RowChange) -> bool
     change.place.page != 0 && change.place.slot < SLOTS
 }
 
-fn row_set(change: &RowChange) -> u16
-    ensures { result ≡ row_set change.now }
-{
-    2 * change.table.number() as u16 - 1
-}
-
 fn newest_in(it: &LogRecord) -> Option<Newest>
     ensures { result ≡ newest_in it.now.lrsn it.now.body }
 {
@@ -87,10 +81,7 @@ fn newest_in(it: &LogRecord) -> Option<Newest>
 pub fn page_of(change: &RowChange) -> PageId
     ensures { result ≡ page_of change.now }
 {
-    PageId {
-        set: row_set(change),
-        number: change.place.page,
-    }
+    change.table.heap_page(change.place.page)
 }
 
 impl RestartTran {

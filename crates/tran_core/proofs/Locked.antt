@@ -28,7 +28,8 @@ use Rattle.tran_core.specs.declared.outcome.Outcome.TheVariants as outcome
 use Rattle.tran_core.specs.declared.stage.Undone.{Undone}
 use Rattle.tran_core.specs.declared.want.Met.{Met}
 use Rattle.tran_core.specs.declared.want.Met.TheVariants as met
-use Rattle.tran_core.specs.Wants.{Content, space_mode, row_mode, want_undo, heap_page, index_page}
+use Rattle.ds_base.specs.Pages.{heap_page, index_page}
+use Rattle.tran_core.specs.Wants.{Content, space_mode, row_mode, want_undo}
 use Rattle.tran_core.specs.States.{State, want_at, want_of, advanced, next_op, at_step, search, scan_read, without_row, space_locked, changed, done_at, refused_at, newest}
 use Rattle.tran_core.specs.Looks.{between, next_leaf, search_outcome, halves_outcome, header_outcome, row_read}
 use Rattle.tran_core.specs.Pages.{leaf_on, scan_from, collected, entry_met, row_met, slot_met, followed, read_met, page_met, after_met}

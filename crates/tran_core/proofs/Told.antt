@@ -22,7 +22,8 @@ use Rattle.tran_core.specs.declared.stage.Stage.{Stage}
 use Rattle.tran_core.specs.declared.stage.Stage.TheVariants as stage
 use Rattle.tran_core.specs.declared.outcome.Outcome.{Outcome}
 use Rattle.tran_core.specs.declared.outcome.Outcome.TheVariants as outcome
-use Rattle.tran_core.specs.Wants.{Content, heap_page, index_page}
+use Rattle.ds_base.specs.Pages.{heap_page, index_page}
+use Rattle.tran_core.specs.Wants.{Content}
 use Rattle.tran_core.specs.States.{State, opened, advanced, next_op, search, scan_read, without_row, space_locked, changed, done_at, after_done}
 use Rattle.tran_core.specs.Looks.{between, next_leaf, search_outcome, halves_outcome, header_outcome, row_read}
 use Rattle.tran_core.specs.Pages.{leaf_on, scan_from, collected, entry_met, row_met, slot_met, followed, read_met, page_met, after_page}

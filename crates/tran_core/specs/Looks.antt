@@ -27,7 +27,8 @@ use Rattle.tran_core.specs.declared.stage.Update.TheVariants as update
 use Rattle.tran_core.specs.declared.stage.Step.TheVariants as step
 use Rattle.tran_core.specs.declared.outcome.Outcome.{Outcome}
 use Rattle.tran_core.specs.declared.outcome.Outcome.TheVariants as outcome
-use Rattle.tran_core.specs.Wants.{Content, heap_page, index_page}
+use Rattle.ds_base.specs.Pages.{heap_page, index_page}
+use Rattle.tran_core.specs.Wants.{Content}
 use Rattle.tran_core.specs.States.{root}
 
 -- ---- kinds

@@ -18,7 +18,8 @@ use Rattle.tran_core.specs.declared.stage.Stage.{Stage}
 use Rattle.tran_core.specs.declared.stage.Stage.TheVariants as stage
 use Rattle.tran_core.specs.declared.outcome.Outcome.{Outcome}
 use Rattle.tran_core.specs.declared.outcome.Outcome.TheVariants as outcome
-use Rattle.tran_core.specs.Wants.{Content, heap_page, index_page}
+use Rattle.ds_base.specs.Pages.{heap_page, index_page}
+use Rattle.tran_core.specs.Wants.{Content}
 use Rattle.tran_core.specs.States.{State, after_done, after_refusal, at_step, next_op, get_read, without_row}
 use Rattle.tran_core.specs.declared.want.Met.{Met}
 use Rattle.tran_core.specs.declared.want.Met.TheVariants as met

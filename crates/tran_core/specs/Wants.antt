@@ -1,5 +1,6 @@
 -- What a transaction wants next.
-use Rattle.std.specs.Prelude.{ℕ, ◌*◌, ◌-◌, List, Option, None, Some, option_copied}
+use Rattle.std.specs.Prelude.{ℕ, ◌-◌, List, Option, None, Some, option_copied}
+use Rattle.ds_base.specs.Pages.{heap_page, index_page}
 use Rattle.ds_base.specs.declared.names.PageId.{PageId}
 use Rattle.ds_base.specs.declared.names.Place.{Place}
 use Rattle.ds_model.specs.declared.lock.Name.{Name}
@@ -84,20 +85,6 @@ row_mode aim.Del = mode.X
 row_mode (aim.Scan high) = mode.S
 
 -- ---- pages
-
--- the page set of a table's heap
-abbrev pub heap_set : ℕ → ℕ
-heap_set table = 2 * table - 1
-
--- the page set of a table's index
-abbrev pub index_set : ℕ → ℕ
-index_set table = 2 * table
-
-abbrev pub heap_page : ℕ → ℕ → PageId
-heap_page table number = record { set = heap_set table; number = number }
-
-abbrev pub index_page : ℕ → ℕ → PageId
-index_page table number = record { set = index_set table; number = number }
 
 abbrev pub page_read : ℕ → Reading → PageId
 page_read table (reading.Index level page branch key) = index_page table page

@@ -1,6 +1,6 @@
 //! What a transaction wants at each stage.
 ghost use Rattle.std.specs.Prelude.{◌≡◌, option_copied};
-ghost use Rattle.tran_core.specs.Wants.{said, did, space_mode, row_mode, row_after, heap_set, index_set, page_read, want_undo, want_step, update_of};
+ghost use Rattle.tran_core.specs.Wants.{said, did, space_mode, row_mode, row_after, page_read, want_undo, want_step, update_of};
 
 use crate::stage::{Aim, Reading, Step, Task, Undone, Update};
 use crate::{Action, Want};
@@ -30,47 +30,16 @@ pub fn row_mode(aim: &Aim) -> Mode
     }
 }
 
-// The page set of a table's heap.
-pub fn heap_set(table: TableId) -> u16
-    ensures { result ≡ heap_set table }
-{
-    2 * table.number() as u16 - 1
-}
-
-// The page set of a table's index.
-pub fn index_set(table: TableId) -> u16
-    ensures { result ≡ index_set table }
-{
-    2 * table.number() as u16
-}
-
 // The page that is read.
 pub fn page_read(table: TableId, reading: &Reading) -> PageId
     ensures { result ≡ page_read table reading.now }
 {
-    let heap = heap_set(table);
-    let index = index_set(table);
     match reading {
-        Reading::Index { page, .. } => PageId {
-            set: index,
-            number: *page,
-        },
-        Reading::Slot { place } => PageId {
-            set: heap,
-            number: place.page,
-        },
-        Reading::Header { .. } => PageId {
-            set: heap,
-            number: 0,
-        },
-        Reading::Halves { left, .. } => PageId {
-            set: index,
-            number: *left,
-        },
-        Reading::Entry { entry, .. } => PageId {
-            set: heap,
-            number: entry.place.page,
-        },
+        Reading::Index { page, .. } => table.index_page(*page),
+        Reading::Slot { place } => table.heap_page(place.page),
+        Reading::Header { .. } => table.heap_page(0),
+        Reading::Halves { left, .. } => table.index_page(*left),
+        Reading::Entry { entry, .. } => table.heap_page(entry.place.page),
     }
 }
 

@@ -5,10 +5,9 @@ ghost use Rattle.index_leaf.specs.Entries.{count_of, high_of, right_of, entries_
 ghost use Rattle.index_leaf.specs.Search.{look_of};
 ghost use Rattle.tran_core.specs.Looks.{collects, is_of, kind_fault, index_fault, no_index, found, absent, branch_of, looked, is_root, search_outcome, halves_outcome, header_outcome, entered, absent_in, read_index, make};
 
-use crate::asks::{heap_set, index_set};
 use crate::outcome::Outcome;
 use crate::stage::{Aim, Level, Reading, Step, Task, Update};
-use ds_base::{Key, PageId, Place};
+use ds_base::{Key, Place};
 use index_leaf::{Look, count, high_key, look, low_key, right};
 use page_format::{ENTRIES_PER_PAGE, Page, PageKind};
 use rising_keys::first_fall;
@@ -182,10 +181,7 @@ pub fn search_outcome(
     ensures exact { result ≡ search_outcome task.now level number branch key page.now }
     ensures room { collects result ≡ true → count_of page.now ≤ entries_per_page }
 {
-    let id = PageId {
-        set: index_set(task.table),
-        number,
-    };
+    let id = task.table.index_page(number);
     let kind = match page.read_header(id) {
         Ok(header) => header.kind,
         Err(fault) => return Outcome::Damaged { at: fault.at },
@@ -216,10 +212,7 @@ pub fn halves_outcome(task: &Task, left: u32, branch: u32, page: &Page) -> Outco
     ensures exact { result ≡ halves_outcome task.now left branch page.now }
     ensures alone { collects result ≡ false }
 {
-    let id = PageId {
-        set: index_set(task.table),
-        number: left,
-    };
+    let id = task.table.index_page(left);
     let kind = match page.read_header(id) {
         Ok(header) => header.kind,
         Err(fault) => return Outcome::Damaged { at: fault.at },
@@ -235,10 +228,7 @@ pub fn header_outcome(task: &Task, leaf: u32, page: &Page) -> Outcome
     ensures exact { result ≡ header_outcome task.now leaf page.now }
     ensures alone { collects result ≡ false }
 {
-    let id = PageId {
-        set: heap_set(task.table),
-        number: 0,
-    };
+    let id = task.table.heap_page(0);
     match page.read_header(id) {
         Err(fault) => Outcome::Damaged { at: fault.at },
         Ok(header) if matches!(header.kind, PageKind::Empty) => make(Update::FormatHeap),

@@ -4,7 +4,7 @@ ghost use Rattle.page_format.specs.Header.{entries_per_page};
 ghost use Rattle.index_leaf.specs.Entries.{count_of};
 ghost use Rattle.tran_core.specs.Pages.{damaged, leaf_on, scan_on, collected, entry_met, change_row, delete, row_met, slot_met, followed, read_met, step_met, after_page};
 ghost use Rattle.tran_core.specs.Looks.{next_leaf, collects};
-ghost use Rattle.tran_core.specs.Wants.{heap_page};
+ghost use Rattle.ds_base.specs.Pages.{heap_page};
 ghost use Rattle.tran_core.specs.Courses.{state_of, HasRoom, CanUndo};
 ghost use Rattle.tran_core.specs.Stages.{reads_page};
 

@@ -1,5 +1,5 @@
 use Rattle.std.proofs.Common.{◌||◌, sym, ap, ◌∙◌, rules, arith}
-use Rattle.page_tree.specs.Order.{same_page}
+use Rattle.ds_base.specs.Pages.{same_page}
 use Rattle.page_tree.specs.Pages.{is_in}
 use Rattle.page_tree.proofs.Trees.{at_Fork, absent_lower, absent_upper, split_lower, split_upper, added_lower, added_upper}
 use Rattle.page_tree.proofs.tree.Tree.+insert.Goals as goal

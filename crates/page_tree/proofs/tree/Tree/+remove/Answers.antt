@@ -1,5 +1,5 @@
 use Rattle.std.proofs.Common.{◌≡◌, false, not, ◌&&◌, ◌++◌, sym, ap, ◌∙◌, rules}
-use Rattle.page_tree.specs.Order.{same_page}
+use Rattle.ds_base.specs.Pages.{same_page}
 use Rattle.page_tree.specs.Pages.{is_in}
 use Rattle.page_tree.proofs.Trees.{at_Fork, starts, in_lower, in_upper, split_without_lower, split_without_upper, gone_lower, gone_upper}
 use Rattle.page_tree.proofs.tree.Tree.+remove.Goals as goal
