@@ -1,101 +1,62 @@
 //! Where the threads of a phase wait for each other's events.
 
-use crate::floor::Floor;
+use crate::floor::{Floor, asleep, change, go, is_wish, stand_up};
 use crate::members::Members;
-use crossbeam_utils::CachePadded;
 use ds_base::{MemberId, NoMemory};
 use std::alloc::Global;
+use std::hint;
 use std::sync::Wait;
 use std::sync::atomic::{AtomicU64, Ordering};
 use std::time::Duration;
 
-/// A thread is at work and has no news.
-const CALM: u64 = 0;
-
-/// A thread has news: something may be ready of its member that wasn't when it looked last.
-const NEWS: u64 = 1;
-
-/// A thread waits for news.
-const WAITS: u64 = 2;
-
 /// The round goes on.
 const OPEN: u64 = 0;
 
-/// Each thread returns behind its next event: all wait for news, or not all have begun.
+/// Each thread returns: none has anything to do, or not all have begun.
 const QUIET: u64 = 1;
 
 /// Nothing is taken any more in this phase.
 const CLOSED: u64 = 2;
 
-/// How often a thread waits for the others at first, a millisecond each time.
-const PATIENCE: u64 = 2000;
+/// How often a thread looks for the floor before it sleeps.
+const LOOKS: u64 = 4000;
+
+/// How long a thread sleeps at most before it looks again.
+const SLEEP_MILLIS: u64 = 20;
+
+/// How often it sleeps so long before it takes the floor from one that doesn't go on.
+const SLEEPS: u64 = 2;
+
+/// How often a thread sleeps so long, or has a burst of events, before none waits any more for others to begin.
+const PATIENCE: u64 = 25;
 
 /// Where the threads of a phase wait. Nothing that it says is relied on but for when a round ends.
 #[derive(Drop)]
 pub struct Hall {
-    count: u64,
-    /// How many threads of this round have begun.
-    entered: AtomicU64,
-    /// How many of them wait for news.
-    waiting: AtomicU64,
     state: AtomicU64,
+    /// How often a thread waits yet for others to begin.
     patience: AtomicU64,
+    /// 1 where there was an event since all threads were told to look last.
+    has_run: AtomicU64,
     /// Whose thread takes events.
-    pub floor: Floor,
-    /// By member, from the first one: calm, news or waiting.
-    seats: Vec<CachePadded<AtomicU64>>,
+    floor: Floor,
 }
 
 impl Hall {
     pub fn new(alloc: Global, count: usize) -> Result<Hall, NoMemory> {
-        let floor = Floor::new(alloc, count)?;
-        let mut seats = Vec::with_capacity(alloc, count)?;
-        for _ in 0..count {
-            seats.push_reserved(CachePadded::new(AtomicU64::new(CALM)));
-        }
         Ok(Hall {
-            count: count as u64,
-            entered: AtomicU64::new(0),
-            waiting: AtomicU64::new(0),
             state: AtomicU64::new(OPEN),
             patience: AtomicU64::new(PATIENCE),
-            floor,
-            seats,
+            has_run: AtomicU64::new(0),
+            floor: Floor::new(alloc, count)?,
         })
     }
 
     /// A round begins. No thread is in.
     pub fn begin(&self) {
-        self.entered.store(0, Ordering::SeqCst);
-        self.waiting.store(0, Ordering::SeqCst);
         self.state.store(OPEN, Ordering::SeqCst);
+        self.has_run.store(0, Ordering::SeqCst);
         self.floor.clear();
-        for seat in self.seats.iter() {
-            seat.store(CALM, Ordering::SeqCst);
-        }
-    }
-
-    /// Whether the threads of all members have begun this round. Where a thread can't be started, they never have.
-    pub fn are_all_in(&self) -> bool {
-        self.entered.load(Ordering::SeqCst) == self.count
-    }
-
-    /// A thread begins. It waits a little for the others, and the last one wakes them.
-    pub fn enter<R: Wait>(&self, rt: &R) {
-        let others = self.entered.fetch_add(1, Ordering::SeqCst);
-        if others.wrapping_add(1) == self.count {
-            self.entered.wake_all();
-            return;
-        }
-        let patience = self.patience.load(Ordering::SeqCst);
-        for _ in 0..patience {
-            let entered = self.entered.load(Ordering::SeqCst);
-            if entered == self.count || self.is_over() {
-                return;
-            }
-            self.entered.park_timeout(rt, (entered % 4294967296) as u32, Duration::from_millis(1));
-        }
-        self.patience.store(patience / 2, Ordering::SeqCst);
     }
 
     // Whether the round has ended.
@@ -103,50 +64,25 @@ impl Hall {
         self.state.load(Ordering::SeqCst) != OPEN
     }
 
-    /// Whether a thread goes on in this round. One that finds that not all have begun ends the round: the others may have to
-    /// wait until it returns.
-    pub fn goes_on(&self) -> bool {
-        if self.is_over() {
-            return false;
-        }
-        if !self.are_all_in() {
-            self.end_round();
-            return false;
-        }
-        true
-    }
-
     /// Whether nothing is taken any more in this phase.
     pub fn is_closed(&self) -> bool {
         self.state.load(Ordering::SeqCst) == CLOSED
     }
 
-    // Gives a thread news. Where it has some that it hasn't heard it looks behind this too.
-    fn post(&self, seat: &AtomicU64) {
-        if seat.load(Ordering::SeqCst) == NEWS {
-            return;
-        }
-        if seat.swap(NEWS, Ordering::SeqCst) == WAITS {
-            self.waiting.fetch_sub(1, Ordering::SeqCst);
-            seat.wake_all();
-        }
-    }
-
-    fn post_all(&self) {
-        for seat in self.seats.iter() {
-            self.post(seat);
-        }
-    }
-
-    /// Gives the threads of these members news.
+    /// The thread of the member with this number has had an event, which concerns these members: something may be ready of them that
+    /// wasn't before.
     pub fn tell(&self, members: Members) {
+        if self.has_run.load(Ordering::SeqCst) == 0 {
+            self.has_run.store(1, Ordering::SeqCst);
+        }
         if members.is_empty() {
             return;
         }
-        for (at, seat) in self.seats.iter().enumerate() {
-            if let Some(member) = MemberId::new((at as u64).wrapping_add(1)) {
+        for at in 0..self.floor.count() {
+            let number = at.wrapping_add(1);
+            if let Some(member) = MemberId::new(number) {
                 if members.has(member) {
-                    self.post(seat);
+                    self.floor.want(number);
                 }
             }
         }
@@ -154,62 +90,141 @@ impl Hall {
 
     // Ends the round, unless the phase has ended.
     fn end_round(&self) {
-        let _ = self
-            .state
-            .compare_exchange(OPEN, QUIET, Ordering::SeqCst, Ordering::SeqCst);
-        self.floor.open();
-        self.post_all();
+        change(&self.state, OPEN, QUIET);
+        self.floor.wake_all();
     }
 
     /// Nothing is taken any more in this phase.
     pub fn close(&self) {
         self.state.store(CLOSED, Ordering::SeqCst);
-        self.floor.open();
-        self.post_all();
+        self.floor.wake_all();
     }
 
-    fn seat_of(&self, number: u64) -> Option<&CachePadded<AtomicU64>> {
-        self.seats.get((number as usize).wrapping_sub(1))
+    // Whether no thread waits any more for others to begin, and not all have.
+    fn is_impatient(&self) -> bool {
+        self.patience.load(Ordering::SeqCst) == 0 && self.floor.has_absent()
     }
 
-    /// Takes the news of the member with this number: what came before isn't news any more. Answers whether there was any.
-    pub fn hear(&self, number: u64) -> bool {
-        match self.seat_of(number) {
-            Some(seat) => seat.swap(CALM, Ordering::SeqCst) == NEWS,
-            None => false,
-        }
-    }
-
-    // Whether the thread may wait, as there is no news.
-    fn is_calm(&self, seat: &AtomicU64) -> bool {
-        self.waiting.fetch_add(1, Ordering::SeqCst);
-        let was_calm = seat
-            .compare_exchange(CALM, WAITS, Ordering::SeqCst, Ordering::SeqCst)
-            .is_ok();
-        if !was_calm {
-            self.waiting.fetch_sub(1, Ordering::SeqCst);
-        }
-        was_calm
-    }
-
-    /// The thread of the member with this number waits for news, or for the end of the round. Where all wait, it ends the round.
-    pub fn wait<R: Wait>(&self, rt: &R, number: u64) {
-        let Some(seat) = self.seat_of(number) else {
-            return;
-        };
-        if !self.is_calm(seat) {
-            return;
-        }
-        if self.waiting.load(Ordering::SeqCst) == self.count {
+    // A thread has waited a while for others to begin.
+    fn lose_patience(&self) {
+        let patience = self.patience.load(Ordering::SeqCst);
+        self.patience
+            .store(patience.saturating_sub(1), Ordering::SeqCst);
+        if patience <= 1 {
             self.end_round();
         }
+    }
+
+    /// Whether a thread goes on in this round. Where none waits any more for others to begin it doesn't: they may have to wait until it
+    /// returns.
+    pub fn goes_on(&self) -> bool {
+        if self.is_impatient() {
+            self.end_round();
+        }
+        !self.is_over()
+    }
+
+    /// The member's thread has had events for a while: another one that wants the floor has it next.
+    pub fn offer(&self, number: u64) {
+        if !self.floor.offer(number) && self.floor.has_absent() {
+            self.lose_patience();
+        }
+    }
+
+    /// Passes the floor on, if the member has it.
+    pub fn pass(&self, number: u64) {
+        self.floor.pass(number);
+    }
+
+    /// The member's thread has nothing to do, and the member may be done with the phase. Where no thread has anything to do, all look
+    /// once more; where there was no event since they did, the round ends.
+    pub fn rest(&self, number: u64, is_done: bool) {
+        self.floor.lay_down(number);
+        if self.floor.is_quiet() {
+            if self.has_run.swap(0, Ordering::SeqCst) == 0 {
+                self.end_round();
+            }
+            self.floor.want_all();
+        }
+        self.floor.pass(number);
+        if is_done {
+            self.floor.replace(number);
+        }
+    }
+
+    // Whether a thread waits no more: its member has the floor, or the round has ended.
+    fn is_due(&self, number: u64, word: &AtomicU64) -> bool {
+        self.floor.takes(number, word) || self.is_over()
+    }
+
+    // Looks for a while, unless it wasn't called and others look.
+    fn look(&self, number: u64, word: &AtomicU64, was_called: bool) -> bool {
+        if !was_called && self.floor.are_enough_awake(number) {
+            return self.is_due(number, word);
+        }
+        for _ in 0..LOOKS {
+            if self.is_due(number, word) {
+                return true;
+            }
+            hint::spin_loop();
+        }
+        false
+    }
+
+    // Sleeps until it is woken, and not for ever. Answers whether it wasn't, and the floor wasn't passed on meanwhile.
+    fn sleep<R: Wait>(&self, rt: &R, number: u64, word: &AtomicU64, is_fresh: bool) -> bool {
+        let before = self.floor.passed();
+        let state = word.load(Ordering::SeqCst);
+        let bed = asleep(state, is_fresh);
+        if !change(word, state, bed) || self.is_due(number, word) {
+            return false;
+        }
+        word.park_timeout(
+            rt,
+            (bed % 4294967296) as u32,
+            Duration::from_millis(SLEEP_MILLIS),
+        );
+        word.load(Ordering::SeqCst) == bed && self.floor.passed() == before
+    }
+
+    // Waits no longer for one that doesn't go on: the member takes the floor, where it wants it.
+    fn tire(&self, number: u64, word: &AtomicU64, slept: u64) {
+        if is_wish(word) {
+            if slept >= SLEEPS {
+                self.floor.seize(number);
+            }
+        } else if self.floor.is_free() && self.floor.has_absent() {
+            self.lose_patience();
+        }
+    }
+
+    // Waits until the member has the floor, or the round has ended.
+    fn wait<R: Wait>(&self, rt: &R, number: u64, word: &AtomicU64, has_run: bool) {
+        let is_fresh = !has_run;
+        let mut slept = 0u64;
         for _ in rt.forever() {
-            // Who ends the round says so first, and then gives news.
-            if self.is_over() || seat.load(Ordering::SeqCst) != WAITS {
+            let was_called = stand_up(word, is_fresh);
+            if self.look(number, word, was_called) {
                 return;
             }
-            seat.park(rt, WAITS as u32);
+            if self.sleep(rt, number, word, is_fresh) {
+                slept = slept.saturating_add(1);
+                self.tire(number, word, slept);
+            } else {
+                slept = 0;
+            }
         }
         unreachable!()
+    }
+
+    /// Waits until the member with this number has the floor, or the round has ended. `has_run` says whether it has had events in this
+    /// round.
+    pub fn come<R: Wait>(&self, rt: &R, number: u64, has_run: bool) {
+        if let Some(word) = self.floor.word_of(number) {
+            if !self.floor.is_had_by(number) {
+                self.wait(rt, number, word, has_run);
+            }
+            go(word);
+        }
     }
 }

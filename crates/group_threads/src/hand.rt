@@ -54,6 +54,11 @@ pub fn wants_others<P: Policy>(part: &MemberPart<P>, choice: u64) -> bool {
     )
 }
 
+/// Whether the choice wants to end a transaction.
+pub fn ends_one<P: Policy>(part: &MemberPart<P>, choice: u64) -> bool {
+    matches!(part.intent(choice), Intent::End { .. })
+}
+
 /// Of these choices, by their bits, those that still want nothing else.
 pub fn still_asking<P: Policy>(part: &MemberPart<P>, asking: u32) -> u32 {
     if asking == 0 {

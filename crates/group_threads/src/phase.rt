@@ -63,6 +63,7 @@ fn dismiss<D: Disk, C: CacheFace, P: Policy>(
             generator: _,
             asking: _,
             takes: _,
+            is_done: _,
         } = worker;
         desks.push_reserved(desk);
     }

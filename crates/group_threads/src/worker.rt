@@ -6,7 +6,7 @@ ghost use Rattle.group_threads.specs.Desks.{IsMemberAt, IfReady};
 
 use crate::gate::Gate;
 use crate::hall::Hall;
-use crate::hand::{next_event, still_asking, wants_others};
+use crate::hand::{ends_one, next_event, still_asking, wants_others};
 use crate::shared::Shared;
 use cache_structure::CacheFace;
 use crossbeam_utils::CachePadded;
@@ -19,8 +19,12 @@ use std::sync::Wait;
 use turn_gate::{Look, Turn, Turned};
 use turn_story::{Desk, Stepping, Told};
 
-/// How many events a thread takes in a row before it lets another one, at least, and how many more it may.
-const BURST: u64 = 32;
+/// How many events a thread takes in a row, while none of its member's transactions ends, before it lets another one, at least, and how
+/// many more it may.
+const BURST: u64 = 1024;
+
+/// The choice of a member's own duty, which is the last one that it has in a phase.
+const DUTY: u64 = 0;
 
 /// The choice that takes and answers queries.
 const QUERIES: u64 = 17;
@@ -49,6 +53,8 @@ pub struct Worker<M: Stepping> {
     pub(crate) asking: u32,
     /// How many queries it has taken in a row and not answered.
     pub(crate) takes: u32,
+    /// Whether its last event was its own duty.
+    pub(crate) is_done: bool,
 }
 
 impl<M: Stepping> Worker<M> {
@@ -64,6 +70,7 @@ impl<M: Stepping> Worker<M> {
             generator: Generator::new(0),
             asking: 0,
             takes: 0,
+            is_done: false,
         }
     }
 
@@ -96,7 +103,6 @@ impl<D: Disk, C: CacheFace, P: Policy> Worker<Shared<D, C, P>> {
         &mut self,
         rt: &R,
         turn: &Turn<Told<Shared<D, C, P>>>,
-        hall: &Hall,
         number: u64,
     ) -> Look
         requires number { number < 64 }
@@ -104,14 +110,12 @@ impl<D: Disk, C: CacheFace, P: Policy> Worker<Shared<D, C, P>> {
         ensures at { IsMemberAt turn.now number self.new.desk.seat self.new.desk.part }
         ensures mine { IfReady result (λ event. event % 64 ≡ number) }
     {
-        self.hear(hall, number);
         if let Some(event) = self.own_event(number) {
             return Look::Ready(event);
         }
         if self.is_asking() {
             return Look::NotYet;
         }
-        hall.hear(number);
         let from = self.from;
         match self.desk.look(rt, turn, from) {
             Look::Ready(event) => Look::Ready(event / 64 * 64 + number),
@@ -147,31 +151,11 @@ impl<D: Disk, C: CacheFace, P: Policy> Worker<Shared<D, C, P>> {
     {
         let command_number = self.command_number.wrapping_add(1);
         self.command_number = CachePadded::new(command_number);
+        self.note_end(event);
         self.from = self.next_from(event);
         self.has_run = true;
         gate.pass(self.desk.part.part.id, command_number);
         self.desk.take_turn(rt, alloc, turn, event) != Turned::NoMemory
-    }
-
-    // Waits for news. What has waited for an answer asks again behind it.
-    fn rest<R: Wait>(&mut self, rt: &R, hall: &Hall, number: u64)
-        ensures { self.new.desk ≡ self.old.desk }
-    {
-        hall.floor.pass(number);
-        if hall.are_all_in() {
-            hall.wait(rt, number);
-        }
-        hall.hear(number);
-        self.asking = 0;
-    }
-
-    // Where there is news, what has waited for an answer asks again.
-    fn hear(&mut self, hall: &Hall, number: u64)
-        ensures { self.new.desk ≡ self.old.desk }
-    {
-        if self.asking != 0 && hall.hear(number) {
-            self.asking = 0;
-        }
     }
 
     // Notes which choices wait for answers behind an event. It may have given one that did something else to do, as a page to yield.
@@ -179,11 +163,21 @@ impl<D: Disk, C: CacheFace, P: Policy> Worker<Shared<D, C, P>> {
         ensures { self.new.desk ≡ self.old.desk }
     {
         self.note_take(event);
+        self.is_done = event / 64 == DUTY;
         let mut asking = self.asking | self.desk.part.asks;
         if self.takes >= TAKES {
             asking |= 1 << QUERIES;
         }
         self.asking = still_asking(&self.desk.part.part, asking);
+    }
+
+    // A transaction that ends is what the floor was had for: the member may go on as long again.
+    fn note_end(&mut self, event: u64)
+        ensures { self.new.desk ≡ self.old.desk }
+    {
+        if ends_one(&self.desk.part.part, event / 64) {
+            self.burst = BURST;
+        }
     }
 
     // Counts an event that took a query which can't be answered yet.
@@ -198,6 +192,14 @@ impl<D: Disk, C: CacheFace, P: Policy> Worker<Shared<D, C, P>> {
         };
     }
 
+    // Passes the floor on, where the member has nothing to do. What waits for an answer asks again behind it.
+    fn rest(&mut self, hall: &Hall, number: u64)
+        ensures { self.new.desk ≡ self.old.desk }
+    {
+        self.asking = 0;
+        hall.rest(number, self.is_done);
+    }
+
     // Passes the floor on, where the member has had it long enough. What waits for an answer asks again behind it.
     fn yield_floor(&mut self, hall: &Hall, number: u64)
         ensures { self.new.desk ≡ self.old.desk }
@@ -206,11 +208,11 @@ impl<D: Disk, C: CacheFace, P: Policy> Worker<Shared<D, C, P>> {
         if self.burst == 0 {
             self.burst = BURST + self.generator.draw_below(BURST);
             self.asking = 0;
-            hall.floor.pass(number);
+            hall.offer(number);
         }
     }
 
-    // Takes the next event, if there is one, and tells whom it concerns; or waits for news. Answers whether anything may follow in
+    // Takes the next event, if there is one, and tells whom it concerns; or passes the floor on. Answers whether anything may follow in
     // this phase.
     fn work_once<R: Wait, G: Gate>(
         &mut self,
@@ -225,9 +227,8 @@ impl<D: Disk, C: CacheFace, P: Policy> Worker<Shared<D, C, P>> {
         requires at { IsMemberAt turn.now number self.old.desk.seat self.old.desk.part }
         ensures at { IsMemberAt turn.now number self.new.desk.seat self.new.desk.part }
     {
-        match self.find_event(rt, turn, hall, number) {
+        match self.find_event(rt, turn, number) {
             Look::Ready(event) => {
-                hall.floor.take(rt, number);
                 if hall.is_closed() || !self.take_event(rt, alloc, turn, gate, number, event) {
                     hall.close();
                     return false;
@@ -238,7 +239,7 @@ impl<D: Disk, C: CacheFace, P: Policy> Worker<Shared<D, C, P>> {
                 true
             }
             Look::NotYet => {
-                self.rest(rt, hall, number);
+                self.rest(hall, number);
                 true
             }
             Look::Over => {
@@ -267,13 +268,13 @@ impl<D: Disk, C: CacheFace, P: Policy> Worker<Shared<D, C, P>> {
         if self.generator.state() == 0 {
             self.generator = Generator::new(number);
         }
-        hall.enter(rt);
         for _ in rt.forever() {
+            hall.come(rt, number, self.has_run);
             if hall.is_closed() || !self.work_once(rt, alloc, turn, hall, gate, number) {
                 return;
             }
             if !hall.goes_on() {
-                hall.floor.pass(number);
+                hall.pass(number);
                 return;
             }
         }
