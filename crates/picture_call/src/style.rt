@@ -2,7 +2,8 @@
 
 /// The rest of the opening word of a picture, the colours and strokes of each class of shapes, and the legend.
 ///
-/// The four fates differ in lightness and in their borders too, for readers who don't tell all colours apart.
+/// The colours of fates, and those of lines of one form, stay apart for readers with any of the three kinds of colour blindness (`checks/pictures`
+/// computes how they see them); the borders of fates differ too.
 pub fn style() -> &'static [u8] {
     b"xmlns='http://www.w3.org/2000/svg' font-family='DejaVu Sans,Verdana,sans-serif' font-size='12'>
 <defs>
@@ -17,12 +18,12 @@ svg{background:#fff}
 .answered path{fill:#8fd9c4;stroke:#00604a}
 .unanswered path{fill:#b5def7;stroke:#0072b2;stroke-width:2;stroke-dasharray:7 3}
 .refused path{fill:#f3ad6c;stroke:#7a2e00;stroke-width:2.5}
-.stopped path{fill:#c4c4c4;stroke:#222;stroke-dasharray:2 2}
+.stopped path{fill:#a0a0a0;stroke:#222;stroke-dasharray:2 2}
 .wait path{fill:url(#hatch);opacity:.4}
 .rung path{stroke:#444;stroke-width:1.3;stroke-dasharray:1 3}
 .event path{stroke:#222}
 .page path{stroke:#0072b2;stroke-width:1.5;marker-end:url(#tip)}
-.failure path{stroke:#b00000;stroke-width:3}.failure text{fill:#b00000;font-weight:bold}
+.failure path{stroke:#d40000;stroke-width:3}.failure text{fill:#b00000;font-weight:bold}
 .mended path{stroke:#0072b2;stroke-width:2}.mended text{fill:#00507d}
 .cause path{stroke:#7a2e00;stroke-width:2;stroke-dasharray:6 3;marker-end:url(#end)}
 </style>

@@ -1,27 +1,28 @@
 //! The bars of transactions.
 
-ghost use Rattle.std.specs.Prelude.{◌≡◌, ℕ, ◌≤◌, true, map, IfOk};
+ghost use Rattle.std.specs.Prelude.{◌≡◌, ◌<◌, ◌++◌, [], ◌∷◌, true, length, map, vec_len, slice_index, slice_index_or, IfOk, OnOk};
+ghost use Rattle.std.specs.List.{flat_map, zip};
+ghost use Rattle.run_spans.specs.Places.{place_in};
 ghost use Rattle.run_picture.specs.Places.{kind_of, lane_of, IsWithin};
+ghost use Rattle.run_picture.specs.Reaching as reaching;
+ghost use Rattle.run_picture.specs.Seen as spec;
 
 use crate::lane::Lane;
 use crate::lanes::{BAR, lane_of, row_of};
-use crate::rows::{Row, take_room};
+use crate::rows::Rows;
 use crate::scale::Scale;
 use crate::titles::{bar_title, text_of};
 use ds_base::NoMemory;
 use ds_model::{ReportEntry, Told};
 use picture_text::{Kind, Shape, ShapeList, Spot};
-use run_spans::Span;
+use run_spans::{MemberPlaces, Span};
 use std::alloc::Global;
 
-/// Where a bar stands: in which row of its member's lane, and from which event to which. It isn't drawn where its transaction
-/// has no event of those that are drawn.
+/// From which event to which a transaction went on.
 #[derive(Clone, Copy, Debug, PartialEq, Eq)]
-pub struct Stand {
-    pub row: u64,
+pub struct Reach {
     pub first: u64,
     pub last: u64,
-    pub is_drawn: bool,
 }
 
 // The room of a letter, and that beside the letters of a name.
@@ -29,36 +30,118 @@ const LETTER: u64 = 8;
 
 const MARGIN: u64 = 14;
 
-/// Where a bar begins and where it ends. It is never too narrow to be seen.
-fn sides(scale: &Scale, first: u64, last: u64) -> (u64, u64) {
-    let from = scale.across(first);
-    let to = scale.across(last.saturating_add(1));
-    (from, to.max(from.saturating_add(3)))
+fn span_at(spans: &[Span], number: Option<usize>) -> Option<Span>
+    ensures { result ≡ reaching.span_at spans.now number }
+{
+    match number {
+        Some(number) => spans.get(number).copied(),
+        None => None,
+    }
 }
 
-/// Gives a transaction its row. One that never began stands where its member failed last.
-pub fn stand_of(
-    rows: &mut Vec<Row>,
+fn reach_by(span: Option<Span>, place: u64) -> Reach
+    ensures { result ≡ reaching.reach_by span place }
+{
+    match span {
+        Some(span) => Reach {
+            first: span.first,
+            last: span.last,
+        },
+        None => Reach {
+            first: place,
+            last: place,
+        },
+    }
+}
+
+#[tactic(auto, unfolding(crate::specs::Reaching::reach_of))]
+fn reach_of(
+    spans: &[Span],
+    failed: &MemberPlaces,
+    entry: &ReportEntry,
+    number: Option<usize>,
+) -> Reach
+    ensures { result ≡ reaching.reach_of spans.now (place_in failed.now) (entry.now, number) }
+{
+    let place = failed.get(entry.member.number() as u8);
+    reach_by(span_at(spans, number), place)
+}
+
+#[tactic(auto, using(crate::proofs::Zips::read_again))]
+fn number_at(numbers: &[Option<usize>], at: usize) -> Option<usize>
+    requires { at < length numbers.now }
+    ensures { result ≡ slice_index_or numbers.now at result }
+{
+    numbers[at]
+}
+
+#[tactic(auto, using(crate::proofs::Zips::read_again))]
+fn reach_at(reaches: &[Reach], at: usize) -> Reach
+    requires { at < length reaches.now }
+    ensures { result ≡ slice_index_or reaches.now at result }
+{
+    reaches[at]
+}
+
+/// From which event to which each transaction went on, by the numbers of their spans and the place of each member's last failure.
+#[tactic(auto, using(crate::proofs::Zips::mapped_more, crate::proofs::Zips::zip_whole))]
+pub fn reaches_of(
+    alloc: Global,
+    spans: &[Span],
+    failed: &MemberPlaces,
+    entries: &[ReportEntry],
+    numbers: &[Option<usize>],
+) -> Result<Vec<Reach>, NoMemory>
+    requires { length numbers.now ≡ length entries.now }
+    ensures exact { IfOk result (λ reaches. reaches.items ≡ map (reaching.reach_of spans.now (place_in failed.now)) (zip entries.now numbers.now)) }
+    ensures count { IfOk result (λ reaches. vec_len reaches ≡ length entries.now) }
+{
+    let mut reaches = Vec::new(alloc);
+    for at in 0..entries.len() {
+        reaches.push(reach_of(spans, failed, &entries[at], number_at(numbers, at)))?;
+    }
+    Ok(reaches)
+}
+
+// Where a bar ends: where the event behind its last one would stand. It is never too narrow to be seen.
+fn end_of(scale: &Scale, reach: Reach) -> u64
+    ensures { result ≡ spec.bar_end scale.now reach }
+{
+    let from = scale.across(reach.first);
+    let to = scale.across(reach.last.saturating_add(1));
+    to.max(from + 3)
+}
+
+// The room that a bar takes with its name.
+fn take_room(
+    rows: &mut Rows,
     scale: &Scale,
     entry: &ReportEntry,
-    first: u64,
-    last: u64,
-) -> Result<Stand, NoMemory> {
-    let is_drawn = scale.meets(first, last);
-    let mut row = 0;
-    if is_drawn {
-        let (from, to) = sides(scale, first, last);
-        let letters = (entry.name.len() as u64).saturating_mul(LETTER);
-        let named = from.saturating_add(letters).saturating_add(MARGIN);
-        let member = entry.member.number() as u8;
-        row = take_room(rows, member, from, to.saturating_add(3).max(named))?;
+    reach: Reach,
+) -> Result<u64, NoMemory> {
+    let from = scale.across(reach.first);
+    let to = end_of(scale, reach);
+    let letters = (entry.name.len() as u64).saturating_mul(LETTER);
+    let named = from.saturating_add(letters).saturating_add(MARGIN);
+    let member = entry.member.number() as u8;
+    let row = rows.take_room(member, from, to.saturating_add(3).max(named))?;
+    Ok(row as u64)
+}
+
+fn give_row(
+    given: &mut [u64],
+    rows: &mut Rows,
+    scale: &Scale,
+    entry: &ReportEntry,
+    reach: Reach,
+    at: usize,
+) -> Result<(), NoMemory>
+    ensures { length given.new ≡ length given.old }
+{
+    if at < given.len() && scale.meets(reach.first, reach.last) {
+        given[at] = take_room(rows, scale, entry, reach)?;
     }
-    Ok(Stand {
-        row,
-        first,
-        last,
-        is_drawn,
-    })
+    Ok(())
 }
 
 fn kind_of(told: &Told) -> Kind
@@ -72,16 +155,13 @@ fn kind_of(told: &Told) -> Kind
     }
 }
 
-/// The stand of the entry with a number.
-pub fn stand_at(stands: &[Stand], number: usize) -> Stand {
-    match stands.get(number) {
-        Some(stand) => *stand,
-        None => Stand {
-            row: 0,
-            first: 0,
-            last: 0,
-            is_drawn: false,
-        },
+/// The row of a number, 0 where it has none.
+pub fn row_at(rows: &[u64], number: usize) -> u64
+    ensures { result ≡ slice_index rows.now number }
+{
+    match rows.get(number) {
+        Some(row) => *row,
+        None => 0,
     }
 }
 
@@ -90,82 +170,93 @@ fn bar_of(
     scale: &Scale,
     lanes: &[Lane],
     entry: &ReportEntry,
-    stand: Stand,
+    reach: Reach,
+    row: u64,
 ) -> Result<Shape, NoMemory>
     ensures named { IfOk result (λ bar. bar.label ≡ entry.now.name) }
-    ensures kind { IfOk result (λ bar. bar.kind ≡ kind_of entry.now.told) }
+    ensures seen { IfOk result (λ bar. spec.seen_of bar ≡ spec.bar_seen scale.now entry.now reach) }
     ensures within { IfOk result (λ bar. IsWithin bar (lane_of lanes.now entry.now.member)) }
 {
-    let (from, to) = sides(scale, stand.first, stand.last);
-    let down = row_of(lane_of(lanes, entry.member.number() as u8), stand.row);
+    let down = row_of(lane_of(lanes, entry.member.number() as u8), row);
     Ok(Shape {
         kind: kind_of(&entry.told),
-        from: Spot { across: from, down },
+        from: Spot {
+            across: scale.across(reach.first),
+            down,
+        },
         to: Spot {
-            across: to,
+            across: end_of(scale, reach),
             down: down.saturating_add(BAR),
         },
-        title: bar_title(alloc, entry, stand.first, stand.last)?,
+        title: bar_title(alloc, entry, reach.first, reach.last)?,
         label: text_of(alloc, entry.name.as_slice())?,
     })
 }
 
+// Adds the bar of a transaction that has events in the picture.
+fn put_bar(
+    alloc: Global,
+    bars: &mut ShapeList,
+    scale: &Scale,
+    lanes: &[Lane],
+    entry: &ReportEntry,
+    reach: Reach,
+    row: u64,
+) -> Result<(), NoMemory>
+    ensures names { OnOk result (scale.now.is_whole ≡ true → map (λ b. b.label) bars.new ≡ map (λ b. b.label) bars.old ++ entry.now.name ∷ []) }
+    ensures seen { OnOk result (map spec.seen_of bars.new ≡ map spec.seen_of bars.old ++ spec.bars_seen scale.now (entry.now, reach)) }
+{
+    if scale.meets(reach.first, reach.last) {
+        bars.push(bar_of(alloc, scale, lanes, entry, reach, row)?)?;
+    }
+    Ok(())
+}
+
 /// The bars of all transactions that have events in the picture, in the order of the report.
+#[tactic(auto, using(crate::proofs::Zips::joined_more, crate::proofs::Zips::zip_whole))]
 pub fn bars_of(
     alloc: Global,
     scale: &Scale,
     lanes: &[Lane],
     entries: &[ReportEntry],
-    stands: &[Stand],
+    reaches: &[Reach],
+    rows: &[u64],
 ) -> Result<ShapeList, NoMemory>
-    ensures { IfOk result (λ bars. scale.now.is_whole ≡ true → map (λ b. b.label) bars ≡ map (λ e. e.name) entries.now) }
+    requires { length reaches.now ≡ length entries.now }
+    ensures names { IfOk result (λ bars. scale.now.is_whole ≡ true → map (λ b. b.label) bars ≡ map (λ e. e.name) entries.now) }
+    ensures seen { IfOk result (λ bars. map spec.seen_of bars ≡ flat_map (spec.bars_seen scale.now) (zip entries.now reaches.now)) }
 {
     let mut bars = ShapeList::new(alloc);
-    let mut number: usize = 0;
-    for entry in entries {
-        let stand = stand_at(stands, number);
-        if scale.is_whole || stand.is_drawn {
-            bars.push(bar_of(alloc, scale, lanes, entry, stand)?)?;
-        }
-        number = number.saturating_add(1);
+    for at in 0..entries.len() {
+        put_bar(
+            alloc,
+            &mut bars,
+            scale,
+            lanes,
+            &entries[at],
+            reach_at(reaches, at),
+            row_at(rows, at),
+        )?;
     }
     Ok(bars)
 }
 
-/// The stands of all transactions: in the order of their first events, so that few rows are wanted, and then of those that never began.
-pub fn stands_of(
-    alloc: Global,
-    rows: &mut Vec<Row>,
-    scale: &Scale,
-    entries: &[ReportEntry],
-    numbers: &[Option<usize>],
-    spans: &[Span],
-    failed: &[u64],
-) -> Result<Vec<Stand>, NoMemory> {
-    let mut stands = Vec::new(alloc);
-    for _ in 0..entries.len() {
-        stands.push(stand_at(&[], 0))?;
+fn zeros(alloc: Global, count: usize) -> Result<Vec<u64>, NoMemory>
+    ensures { IfOk result (λ zeros. vec_len zeros ≡ count) }
+{
+    let mut zeros = Vec::new(alloc);
+    for _at in 0..count {
+        zeros.push(0)?;
     }
-    let owners = owners_of(alloc, numbers, spans.len())?;
-    for number in 0..spans.len().min(owners.len()) {
-        let owner = owners[number];
-        let span = spans[number];
-        if let (Some(entry), Some(slot)) = (entries.get(owner), stands.get_mut(owner)) {
-            *slot = stand_of(rows, scale, entry, span.first, span.last)?;
-        }
-    }
-    stand_unbegun(rows, scale, entries, numbers, failed, &mut stands)?;
-    Ok(stands)
+    Ok(zeros)
 }
 
 // For each span the number of its entry; a number that no entry has where it belongs to none.
-fn owners_of(
-    alloc: Global,
-    numbers: &[Option<usize>],
-    spans: usize,
-) -> Result<Vec<usize>, NoMemory> {
+fn owners_of(alloc: Global, numbers: &[Option<usize>], spans: usize) -> Result<Vec<usize>, NoMemory>
+    ensures { IfOk result (λ owners. vec_len owners ≡ spans) }
+{
     let mut owners = Vec::new(alloc);
-    for _ in 0..spans {
+    for _span in 0..spans {
         owners.push(usize::MAX)?;
     }
     for entry in 0..numbers.len() {
@@ -178,23 +269,84 @@ fn owners_of(
     Ok(owners)
 }
 
-fn stand_unbegun(
-    rows: &mut Vec<Row>,
+// In the order of first events.
+fn give_rows(
+    given: &mut [u64],
+    rows: &mut Rows,
     scale: &Scale,
     entries: &[ReportEntry],
-    numbers: &[Option<usize>],
-    failed: &[u64],
-    stands: &mut [Stand],
-) -> Result<(), NoMemory> {
-    for at in 0..entries.len().min(numbers.len()).min(stands.len()) {
-        if numbers[at].is_none() {
-            let entry = &entries[at];
-            let place = match failed.get(entry.member.number() as usize) {
-                Some(place) => *place,
-                None => 0,
-            };
-            stands[at] = stand_of(rows, scale, entry, place, place)?;
+    reaches: &[Reach],
+    owners: &[usize],
+) -> Result<(), NoMemory>
+    requires { length reaches.now ≡ length entries.now }
+    ensures { length given.new ≡ length given.old }
+{
+    for owner in owners {
+        let at = *owner;
+        if at < entries.len() {
+            give_row(given, rows, scale, &entries[at], reaches[at], at)?;
         }
     }
     Ok(())
+}
+
+// Those of transactions that never began.
+fn give_others(
+    given: &mut [u64],
+    rows: &mut Rows,
+    scale: &Scale,
+    entries: &[ReportEntry],
+    reaches: &[Reach],
+    numbers: &[Option<usize>],
+) -> Result<(), NoMemory>
+    requires { length reaches.now ≡ length entries.now }
+    ensures { length given.new ≡ length given.old }
+{
+    for at in 0..entries.len().min(numbers.len()) {
+        if numbers[at].is_none() {
+            give_row(given, rows, scale, &entries[at], reaches[at], at)?;
+        }
+    }
+    Ok(())
+}
+
+/// The rows of all transactions in their members' lanes: in the order of their first events, so that few rows are wanted, and then of
+/// those that never began.
+pub fn rows_of(
+    alloc: Global,
+    rows: &mut Rows,
+    scale: &Scale,
+    entries: &[ReportEntry],
+    reaches: &[Reach],
+    numbers: &[Option<usize>],
+    spans: usize,
+) -> Result<Vec<u64>, NoMemory>
+    requires { length reaches.now ≡ length entries.now }
+    ensures { IfOk result (λ given. vec_len given ≡ length entries.now) }
+{
+    let mut given = zeros(alloc, entries.len())?;
+    let owners = owners_of(alloc, numbers, spans)?;
+    give_rows(&mut given, rows, scale, entries, reaches, &owners)?;
+    give_others(&mut given, rows, scale, entries, reaches, numbers)?;
+    Ok(given)
+}
+
+/// For each span the row of its transaction.
+pub fn rows_by_span(
+    alloc: Global,
+    rows: &[u64],
+    numbers: &[Option<usize>],
+    spans: usize,
+) -> Result<Vec<u64>, NoMemory>
+    ensures { IfOk result (λ given. vec_len given ≡ spans) }
+{
+    let mut given = zeros(alloc, spans)?;
+    for entry in 0..numbers.len() {
+        if let Some(number) = numbers[entry] {
+            if let Some(slot) = given.get_mut(number) {
+                *slot = row_at(rows, entry);
+            }
+        }
+    }
+    Ok(given)
 }

@@ -1,11 +1,11 @@
 //! The lanes, one below the other: that of the group, and one a member.
 
-ghost use Rattle.std.specs.Prelude.{◌≡◌, ◌+◌, ◌*◌, ◌≤◌, ℕ, length, IfOk};
+ghost use Rattle.std.specs.Prelude.{◌≡◌, ◌+◌, ◌*◌, ◌≤◌, vec_len, IfOk};
 ghost use Rattle.std.specs.List.{All};
-ghost use Rattle.run_picture.specs.Places.{IsTall, tall, lane_of};
+ghost use Rattle.run_picture.specs.Places.{IsTall, height_of, lane_of, tall};
 
 use crate::lane::Lane;
-use crate::rows::Row;
+use crate::rows::Rows;
 use ds_base::NoMemory;
 use std::alloc::Global;
 
@@ -24,16 +24,10 @@ pub const BAR: u64 = 18;
 // The most rows for which a lane has room.
 const MOST_ROWS: u64 = 1_000_000;
 
-fn rows_of(rows: &[Row], member: u64) -> u64
+fn rows_of(rows: &Rows, member: u64) -> u64
     ensures { result ≤ 1000000 }
 {
-    let mut count: u64 = 0;
-    for row in rows {
-        if u64::from(row.member) == member {
-            count = count.saturating_add(1);
-        }
-    }
-    count.min(MOST_ROWS)
+    rows.count(member).min(MOST_ROWS)
 }
 
 // A lane that begins here, with so many rows.
@@ -55,6 +49,7 @@ fn put_lane(lanes: &mut Vec<Lane>, top: u64, rows: u64) -> Result<u64, NoMemory>
     requires few { rows ≤ 1000000 }
     requires old { All IsTall lanes.old.items }
     ensures tall { IfOk result (λ _. All IsTall lanes.new.items) }
+    ensures count { IfOk result (λ _. vec_len lanes.new ≡ vec_len lanes.old + 1) }
     ensures next { IfOk result (λ n. n ≤ top + 22000044) }
 {
     let lane = lane_at(top, rows);
@@ -63,8 +58,9 @@ fn put_lane(lanes: &mut Vec<Lane>, top: u64, rows: u64) -> Result<u64, NoMemory>
 }
 
 /// The lanes of the group and of members from 1 to the last one.
-pub fn make_lanes(alloc: Global, rows: &[Row], members: u8) -> Result<Vec<Lane>, NoMemory>
-    ensures { IfOk result (λ lanes. All IsTall lanes.items) }
+pub fn make_lanes(alloc: Global, rows: &Rows, members: u8) -> Result<Vec<Lane>, NoMemory>
+    ensures tall { IfOk result (λ lanes. All IsTall lanes.items) }
+    ensures count { IfOk result (λ lanes. vec_len lanes ≡ members + 1) }
 {
     let mut lanes = Vec::new(alloc);
     let mut top = ABOVE;
@@ -122,8 +118,10 @@ pub fn row_of(lane: Lane, row: u64) -> u64
 }
 
 /// The height of all lanes, with some space below.
-pub fn height_of(lanes: &[Lane]) -> u64 {
-    match lanes.last() {
+pub fn height_of(lanes: &[Lane]) -> u64
+    ensures { result ≡ height_of lanes.now }
+{
+    match lanes.get(lanes.len().saturating_sub(1)) {
         Some(lane) => lane.bottom.saturating_add(2 * GAP),
         None => ABOVE,
     }

@@ -1,6 +1,11 @@
 //! Waits, and lines between lanes: what came before the end of a wait, and pages that went to another member.
 
-use crate::bars::{Stand, stand_at};
+ghost use Rattle.std.specs.Prelude.{◌≡◌, ◌++◌, map, IfOk, OnOk};
+ghost use Rattle.std.specs.List.{flat_map};
+ghost use Rattle.run_picture.specs.Places as places;
+ghost use Rattle.run_picture.specs.Seen as spec;
+
+use crate::bars::row_at;
 use crate::lane::Lane;
 use crate::lanes::{BAR, lane_of, line_of, row_of};
 use crate::scale::Scale;
@@ -11,7 +16,9 @@ use run_spans::{At, Passage, Wait};
 use std::alloc::Global;
 
 // Where the stroke of an event ends.
-fn spot_of(scale: &Scale, lanes: &[Lane], at: &At) -> Spot {
+fn spot_of(scale: &Scale, lanes: &[Lane], at: &At) -> Spot
+    ensures { result.across ≡ places.across_of scale.now at.now.place }
+{
     Spot {
         across: scale.across(at.place),
         down: line_of(lane_of(lanes, at.member)),
@@ -24,7 +31,9 @@ fn hatched(
     lanes: &[Lane],
     wait: &Wait,
     row: u64,
-) -> Result<Shape, NoMemory> {
+) -> Result<Shape, NoMemory>
+    ensures { IfOk result (λ shape. spec.seen_of shape ≡ spec.wait_seen scale.now wait.now) }
+{
     let down = row_of(lane_of(lanes, wait.member), row);
     Ok(Shape {
         kind: Kind::Wait,
@@ -48,7 +57,9 @@ fn rung_by(
     lanes: &[Lane],
     wait: &Wait,
     row: u64,
-) -> Result<Shape, NoMemory> {
+) -> Result<Shape, NoMemory>
+    ensures { IfOk result (λ shape. spec.seen_of shape ≡ spec.rung_seen scale.now wait.now) }
+{
     let down = row_of(lane_of(lanes, wait.member), row);
     Ok(Shape {
         kind: Kind::Rung,
@@ -68,28 +79,61 @@ fn rung_by(
     })
 }
 
+fn put_rung(
+    alloc: Global,
+    shapes: &mut ShapeList,
+    scale: &Scale,
+    lanes: &[Lane],
+    wait: &Wait,
+    row: u64,
+) -> Result<(), NoMemory>
+    ensures { OnOk result (map spec.seen_of shapes.new ≡ map spec.seen_of shapes.old ++ spec.rungs_seen scale.now wait.now) }
+{
+    if wait.from < wait.rung.place && scale.has(wait.rung.place) {
+        shapes.push(rung_by(alloc, scale, lanes, wait, row)?)?;
+    }
+    Ok(())
+}
+
+#[tactic(auto, unfolding(crate::specs::Seen::waits_seen))]
+fn put_wait(
+    alloc: Global,
+    shapes: &mut ShapeList,
+    scale: &Scale,
+    lanes: &[Lane],
+    wait: &Wait,
+    row: u64,
+) -> Result<(), NoMemory>
+    ensures { OnOk result (map spec.seen_of shapes.new ≡ map spec.seen_of shapes.old ++ spec.waits_seen scale.now wait.now) }
+{
+    if scale.meets(wait.from, wait.to) {
+        shapes.push(hatched(alloc, scale, lanes, wait, row)?)?;
+        put_rung(alloc, shapes, scale, lanes, wait, row)?;
+    }
+    Ok(())
+}
+
 /// The waits that are in the picture, each with a line from what it ended behind, where that came in the wait.
 pub fn waits_of(
     alloc: Global,
     scale: &Scale,
     lanes: &[Lane],
     waits: &[Wait],
-    rows: &[Stand],
-) -> Result<ShapeList, NoMemory> {
+    rows: &[u64],
+) -> Result<ShapeList, NoMemory>
+    ensures { IfOk result (λ shapes. map spec.seen_of shapes ≡ flat_map (spec.waits_seen scale.now) waits.now) }
+{
     let mut shapes = ShapeList::new(alloc);
     for wait in waits {
-        if scale.meets(wait.from, wait.to) {
-            let row = stand_at(rows, wait.span).row;
-            shapes.push(hatched(alloc, scale, lanes, wait, row)?)?;
-            if wait.from < wait.rung.place && scale.has(wait.rung.place) {
-                shapes.push(rung_by(alloc, scale, lanes, wait, row)?)?;
-            }
-        }
+        let row = row_at(rows, wait.span);
+        put_wait(alloc, &mut shapes, scale, lanes, wait, row)?;
     }
     Ok(shapes)
 }
 
-fn arrow(alloc: Global, scale: &Scale, lanes: &[Lane], page: &Passage) -> Result<Shape, NoMemory> {
+fn arrow(alloc: Global, scale: &Scale, lanes: &[Lane], page: &Passage) -> Result<Shape, NoMemory>
+    ensures { IfOk result (λ shape. spec.seen_of shape ≡ spec.page_seen scale.now page.now) }
+{
     Ok(Shape {
         kind: Kind::Page,
         from: spot_of(scale, lanes, &page.write),
@@ -111,7 +155,9 @@ pub fn pages_of(
     scale: &Scale,
     lanes: &[Lane],
     pages: &[Passage],
-) -> Result<ShapeList, NoMemory> {
+) -> Result<ShapeList, NoMemory>
+    ensures { IfOk result (λ shapes. map spec.seen_of shapes ≡ flat_map (spec.pages_seen scale.now) pages.now) }
+{
     let mut shapes = ShapeList::new(alloc);
     for page in pages {
         if scale.has(page.write.place) && scale.draws(page.read.place) {

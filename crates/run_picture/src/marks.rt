@@ -1,7 +1,13 @@
 //! Lanes, phases, failures and what mends them.
 
+ghost use Rattle.std.specs.Prelude.{◌≡◌, ◌++◌, map, IfOk, OnOk};
+ghost use Rattle.std.specs.List.{flat_map};
+ghost use Rattle.run_picture.specs.Marking.{mark_kind};
+ghost use Rattle.run_picture.specs.Seen as spec;
+
 use crate::lane::Lane;
 use crate::lanes::{height_of, lane_of};
+use crate::mark::{Mark, mark_of};
 use crate::scale::{EDGE, RIGHT, Scale};
 use crate::titles::{counted, event_title, text_of};
 use ds_base::{Bytes, NoMemory};
@@ -9,75 +15,43 @@ use ds_model::EventLine;
 use picture_text::{Kind, Shape, ShapeList, Spot};
 use std::alloc::Global;
 
-fn draw_lane(alloc: Global, lanes: &[Lane], member: u8) -> Result<Shape, NoMemory> {
-    let label = if member == 0 {
-        text_of(alloc, b"group")?
+fn label_of(alloc: Global, member: u64) -> Result<Bytes, NoMemory> {
+    if member == 0 {
+        text_of(alloc, b"group")
     } else {
-        counted(alloc, b"M", u64::from(member))?
-    };
+        counted(alloc, b"M", member)
+    }
+}
+
+fn draw_lane(alloc: Global, lane: Lane, member: u64) -> Result<Shape, NoMemory>
+    ensures { IfOk result (λ shape. spec.lane_seen shape ≡ lane) }
+{
     Ok(Shape {
         kind: Kind::Lane,
         from: Spot {
             across: EDGE,
-            down: lane_of(lanes, member).top,
+            down: lane.top,
         },
         to: Spot {
             across: RIGHT,
-            down: lane_of(lanes, member).bottom,
+            down: lane.bottom,
         },
-        title: counted(alloc, b"member ", u64::from(member))?,
-        label,
+        title: counted(alloc, b"member ", member)?,
+        label: label_of(alloc, member)?,
     })
 }
 
 /// The lanes of the group and of its members.
-pub fn lanes_of(alloc: Global, lanes: &[Lane], members: u8) -> Result<ShapeList, NoMemory> {
+pub fn lanes_of(alloc: Global, lanes: &[Lane]) -> Result<ShapeList, NoMemory>
+    ensures { IfOk result (λ shapes. map spec.lane_seen shapes ≡ lanes.now) }
+{
     let mut shapes = ShapeList::new(alloc);
-    for member in 0..u64::from(members) + 1 {
-        shapes.push(draw_lane(alloc, lanes, member as u8)?)?;
+    let mut member: u64 = 0;
+    for lane in lanes {
+        shapes.push(draw_lane(alloc, *lane, member)?)?;
+        member = member.saturating_add(1);
     }
     Ok(shapes)
-}
-
-/// A mark: what it is, and its text.
-#[derive(Clone, Copy)]
-struct Mark {
-    kind: Kind,
-    text: &'static [u8],
-}
-
-fn make_mark(kind: Kind, text: &'static [u8]) -> Option<Mark> {
-    Some(Mark { kind, text })
-}
-
-// What an event of the group marks. A phase begins, or the group fails.
-fn group_mark(choice: u64) -> Option<Mark> {
-    match choice {
-        0 => make_mark(Kind::Phase, b"phase "),
-        1 => make_mark(Kind::Failure, b"group fails"),
-        _ => None,
-    }
-}
-
-// What an event of a member marks.
-fn member_mark(event: &EventLine) -> Option<Mark> {
-    match (event.command.as_slice(), event.reply.as_slice()) {
-        (b"fail", _) => make_mark(Kind::Failure, b"fails"),
-        (b"lose", b"done") => make_mark(Kind::Failure, b"cache lost"),
-        (b"log-length", _) if event.choice == 0 => make_mark(Kind::Mended, b"restarts"),
-        (b"set-status", b"done") => make_mark(Kind::Mended, b"is up"),
-        (b"rebuilt", b"done") => make_mark(Kind::Mended, b"cache rebuilt"),
-        (_, b"failed") => make_mark(Kind::Failure, b"disk fails"),
-        _ => None,
-    }
-}
-
-fn mark_of(event: &EventLine) -> Option<Mark> {
-    if event.member == 0 {
-        group_mark(event.choice)
-    } else {
-        member_mark(event)
-    }
 }
 
 // The lanes over which a mark goes, and where its texts end so far.
@@ -88,11 +62,11 @@ struct Board {
 }
 
 // A phase's text has its number.
-fn text_for(alloc: Global, mark: &Mark, phases: u64) -> Result<Bytes, NoMemory> {
-    if mark.kind == Kind::Phase {
-        counted(alloc, mark.text, phases)
+fn text_for(alloc: Global, mark: Mark, phases: u64) -> Result<Bytes, NoMemory> {
+    if mark.is_phase() {
+        counted(alloc, mark.words(), phases)
     } else {
-        text_of(alloc, mark.text)
+        text_of(alloc, mark.words())
     }
 }
 
@@ -116,14 +90,16 @@ fn label_for(
 }
 
 // From the top of its lane to the bottom; one of the group goes over all lanes.
-fn put_mark(
+fn draw_mark(
     alloc: Global,
     scale: &Scale,
     lanes: &[Lane],
     board: &mut Board,
     event: &EventLine,
-    mark: &Mark,
-) -> Result<Shape, NoMemory> {
+    mark: Mark,
+) -> Result<Shape, NoMemory>
+    ensures { IfOk result (λ shape. spec.seen_of shape ≡ spec.event_seen (mark_kind mark) scale.now event.now) }
+{
     let across = scale.across(event.place);
     let text = text_for(alloc, mark, board.phases)?;
     let bottom = if event.member == 0 {
@@ -132,7 +108,7 @@ fn put_mark(
         lane_of(lanes, event.member).bottom
     };
     Ok(Shape {
-        kind: mark.kind,
+        kind: mark.kind(),
         from: Spot {
             across,
             down: lane_of(lanes, event.member).top,
@@ -146,6 +122,30 @@ fn put_mark(
     })
 }
 
+#[tactic(auto, unfolding(crate::specs::Seen::marks_seen))]
+fn put_mark(
+    alloc: Global,
+    shapes: &mut ShapeList,
+    scale: &Scale,
+    lanes: &[Lane],
+    board: &mut Board,
+    event: &EventLine,
+    of_phases: bool,
+) -> Result<(), NoMemory>
+    ensures { OnOk result (map spec.seen_of shapes.new ≡ map spec.seen_of shapes.old ++ spec.marks_seen scale.now of_phases event.now) }
+{
+    let Some(mark) = mark_of(event) else {
+        return Ok(());
+    };
+    if mark.is_phase() {
+        board.phases = board.phases.saturating_add(1);
+    }
+    if mark.is_of(of_phases) && scale.has(event.place) {
+        shapes.push(draw_mark(alloc, scale, lanes, board, event, mark)?)?;
+    }
+    Ok(())
+}
+
 /// The marks of a kind: those of phases, or all others.
 pub fn marks_of(
     alloc: Global,
@@ -153,23 +153,24 @@ pub fn marks_of(
     lanes: &[Lane],
     events: &[EventLine],
     of_phases: bool,
-) -> Result<ShapeList, NoMemory> {
+) -> Result<ShapeList, NoMemory>
+    ensures { IfOk result (λ shapes. map spec.seen_of shapes ≡ flat_map (spec.marks_seen scale.now of_phases) events.now) }
+{
     let mut shapes = ShapeList::new(alloc);
     let mut board = Board {
         ends: [0; 33],
         phases: 0,
     };
     for event in events {
-        let Some(mark) = mark_of(event) else {
-            continue;
-        };
-        let is_phase = mark.kind == Kind::Phase;
-        if is_phase {
-            board.phases = board.phases.saturating_add(1);
-        }
-        if is_phase == of_phases && scale.has(event.place) {
-            shapes.push(put_mark(alloc, scale, lanes, &mut board, event, &mark)?)?;
-        }
+        put_mark(
+            alloc,
+            &mut shapes,
+            scale,
+            lanes,
+            &mut board,
+            event,
+            of_phases,
+        )?;
     }
     Ok(shapes)
 }

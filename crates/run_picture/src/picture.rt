@@ -1,10 +1,16 @@
 //! The picture of a report with its trace.
 
-ghost use Rattle.std.specs.Prelude.{◌≡◌, true, length, map, IfOk};
-ghost use Rattle.std.specs.List.{flat_map};
-ghost use Rattle.run_picture.specs.Places.{is_whole, pixels_of, scale_of};
+ghost use Rattle.std.specs.Prelude.{◌≡◌, ◌+◌, true, length, map, vec_len, IfOk};
+ghost use Rattle.std.specs.List.{flat_map, fold};
+ghost use Rattle.run_spans.specs.Places.{place_in};
+ghost use Rattle.run_spans.specs.Reaches.{IsRead};
+ghost use Rattle.run_spans.specs.Runs.{known_by};
+ghost use Rattle.run_picture.specs.Matches.{matched};
+ghost use Rattle.run_picture.specs.Places.{is_whole, members_in, pixels_of, scale_of, with_event};
+ghost use Rattle.run_picture.specs.Reaching.{failed_by, failures_in};
+ghost use Rattle.run_picture.specs.Seen.{IsSeen, reaches_in};
 
-use crate::bars::{Stand, bars_of, stand_at, stands_of};
+use crate::bars::{Reach, bars_of, reaches_of, rows_by_span, rows_of};
 use crate::causes::causes_of;
 use crate::cut::Cut;
 use crate::events::strokes_of;
@@ -13,12 +19,12 @@ use crate::lanes::{height_of, make_lanes};
 use crate::lines::{pages_of, waits_of};
 use crate::marks::{lanes_of, marks_of};
 use crate::matching::match_spans;
-use crate::rows::Row;
+use crate::rows::Rows;
 use crate::scale::Scale;
 use ds_base::NoMemory;
 use ds_model::{EventLine, Report, ReportEntry};
 use picture_text::Picture;
-use run_spans::{Spans, read_spans};
+use run_spans::{MemberPlaces, Spans, deed_of, read_spans};
 use std::alloc::Global;
 
 fn scale_of(cut: &Cut, events: u64) -> Scale
@@ -33,53 +39,46 @@ fn scale_of(cut: &Cut, events: u64) -> Scale
     }
 }
 
-// The greatest number of a member that has an event or a transaction.
-fn members_of(entries: &[ReportEntry], events: &[EventLine]) -> u8 {
+fn members_in_events(events: &[EventLine]) -> u8
+    ensures { result ≡ fold with_event 0 events.now }
+{
     let mut members: u8 = 0;
     for event in events {
         members = members.max(event.member);
     }
+    members
+}
+
+// The greatest number of a member that has an event or a transaction.
+#[tactic(auto, unfolding(crate::specs::Places::members_in))]
+fn members_in(entries: &[ReportEntry], events: &[EventLine]) -> u8
+    ensures { result ≡ members_in entries.now events.now }
+{
+    let mut members = members_in_events(events);
     for entry in entries {
         members = members.max(entry.member.number() as u8);
     }
     members
 }
 
-// For each member the place where it failed last.
-fn failures_of(alloc: Global, events: &[EventLine]) -> Result<Vec<u64>, NoMemory> {
-    let mut places = Vec::new(alloc);
-    for _ in 0..33u64 {
-        places.push(0)?;
+fn note_failure(failed: &mut MemberPlaces, event: &EventLine)
+    ensures { place_in failed.new ≡ failed_by (place_in failed.old) event.now }
+{
+    if deed_of(event).is_fail() {
+        failed.put(event.member, event.place);
     }
-    for event in events {
-        if event.command.as_slice() == b"fail".as_slice() {
-            if let Some(place) = places.get_mut(usize::from(event.member)) {
-                *place = event.place;
-            }
-        }
-    }
-    Ok(places)
 }
 
-// For each span the stand of its transaction.
-fn rows_by_span(
-    alloc: Global,
-    numbers: &[Option<usize>],
-    stands: &[Stand],
-    spans: usize,
-) -> Result<Vec<Stand>, NoMemory> {
-    let mut rows = Vec::new(alloc);
-    for _ in 0..spans {
-        rows.push(stand_at(&[], 0))?;
+// For each member the place where it failed last.
+#[tactic(auto, unfolding(crate::specs::Reaching::failures_in))]
+fn failures_of(alloc: Global, events: &[EventLine]) -> Result<MemberPlaces, NoMemory>
+    ensures { IfOk result (λ failed. place_in failed ≡ failures_in events.now) }
+{
+    let mut failed = MemberPlaces::new(alloc)?;
+    for event in events {
+        note_failure(&mut failed, event);
     }
-    for entry in 0..numbers.len() {
-        if let Some(number) = numbers[entry] {
-            if let Some(slot) = rows.get_mut(number) {
-                *slot = stand_at(stands, entry);
-            }
-        }
-    }
-    Ok(rows)
+    Ok(failed)
 }
 
 // What a picture is drawn from, beside the report.
@@ -87,41 +86,68 @@ fn rows_by_span(
 struct Layout {
     scale: Scale,
     lanes: Vec<Lane>,
-    members: u8,
-    stands: Vec<Stand>,
-    rows: Vec<Stand>,
+    reaches: Vec<Reach>,
+    // by the numbers of entries, and by those of spans
+    rows: Vec<u64>,
+    span_rows: Vec<u64>,
+}
+
+#[tactic(auto, unfolding(crate::specs::Reaching::reaches_of))]
+fn reaches_in(
+    alloc: Global,
+    report: &Report,
+    read: &Spans,
+    numbers: &[Option<usize>],
+) -> Result<Vec<Reach>, NoMemory>
+    requires read { IsRead read.now (known_by report.now.trace.events) }
+    requires numbers { numbers.now ≡ matched read.now.spans.items read.now.commits.items report.now.trace.causes report.now.entries }
+    requires count { length numbers.now ≡ length report.now.entries }
+    ensures exact { IfOk result (λ reaches. reaches.items ≡ reaches_in report.now) }
+    ensures count { IfOk result (λ reaches. vec_len reaches ≡ length report.now.entries) }
+{
+    let failed = failures_of(alloc, report.trace.events.as_slice())?;
+    reaches_of(
+        alloc,
+        &read.spans,
+        &failed,
+        report.entries.as_slice(),
+        numbers,
+    )
 }
 
 fn layout_of(alloc: Global, report: &Report, scale: Scale, read: &Spans) -> Result<Layout, NoMemory>
-    ensures { IfOk result (λ layout. layout.scale ≡ scale) }
+    requires { IsRead read.now (known_by report.now.trace.events) }
+    ensures scale { IfOk result (λ layout. layout.scale ≡ scale) }
+    ensures reaches { IfOk result (λ layout. layout.reaches.items ≡ reaches_in report.now) }
+    ensures count { IfOk result (λ layout. vec_len layout.reaches ≡ length report.now.entries) }
+    ensures lanes { IfOk result (λ layout. vec_len layout.lanes ≡ members_in report.now.entries report.now.trace.events + 1) }
 {
     let entries = report.entries.as_slice();
     let events = report.trace.events.as_slice();
-    let numbers = match_spans(alloc, entries, report.trace.causes.as_slice(), &read.spans)?;
-    let failed = failures_of(alloc, events)?;
-    let mut taken: Vec<Row> = Vec::new(alloc);
-    let stands = stands_of(
-        alloc,
-        &mut taken,
-        &scale,
-        entries,
-        &numbers,
-        &read.spans,
-        &failed,
+    let numbers = match_spans(alloc, entries, report.trace.causes.as_slice(), read)?;
+    let reaches = reaches_in(alloc, report, read, &numbers)?;
+    let spans = read.spans.len();
+    let mut taken = Rows::new(alloc)?;
+    let rows = rows_of(
+        alloc, &mut taken, &scale, entries, &reaches, &numbers, spans,
     )?;
-    let members = members_of(entries, events);
     Ok(Layout {
         scale,
-        lanes: make_lanes(alloc, &taken, members)?,
-        members,
-        rows: rows_by_span(alloc, &numbers, &stands, read.spans.len())?,
-        stands,
+        lanes: make_lanes(alloc, &taken, members_in(entries, events))?,
+        reaches,
+        span_rows: rows_by_span(alloc, &rows, &numbers, spans)?,
+        rows,
     })
 }
 
 fn drawn(alloc: Global, report: &Report, read: &Spans, layout: &Layout) -> Result<Picture, NoMemory>
+    requires read { IsRead read.now (known_by report.now.trace.events) }
+    requires reaches { layout.now.reaches.items ≡ reaches_in report.now }
+    requires count { vec_len layout.now.reaches ≡ length report.now.entries }
     ensures bars { IfOk result (λ p. layout.now.scale.is_whole ≡ true → map (λ b. b.label) p.bars ≡ map (λ e. e.name) report.now.entries) }
     ensures events { IfOk result (λ p. map (λ s. s.from.across) p.events ≡ flat_map (pixels_of layout.now.scale) report.now.trace.events) }
+    ensures lanes { IfOk result (λ p. length p.lanes ≡ vec_len layout.now.lanes) }
+    ensures seen { IfOk result (IsSeen layout.now.scale report.now) }
 {
     let entries = report.entries.as_slice();
     let events = report.trace.events.as_slice();
@@ -130,14 +156,14 @@ fn drawn(alloc: Global, report: &Report, read: &Spans, layout: &Layout) -> Resul
     let lanes = layout.lanes.as_slice();
     Ok(Picture {
         height: height_of(lanes),
-        lanes: lanes_of(alloc, lanes, layout.members)?,
+        lanes: lanes_of(alloc, lanes)?,
         phases: marks_of(alloc, scale, lanes, events, true)?,
-        bars: bars_of(alloc, scale, lanes, entries, &layout.stands)?,
-        waits: waits_of(alloc, scale, lanes, &read.waits, &layout.rows)?,
+        bars: bars_of(alloc, scale, lanes, entries, &layout.reaches, &layout.rows)?,
+        waits: waits_of(alloc, scale, lanes, &read.waits, &layout.span_rows)?,
         events: strokes_of(alloc, scale, lanes, events)?,
         pages: pages_of(alloc, scale, lanes, &read.pages)?,
         marks: marks_of(alloc, scale, lanes, events, false)?,
-        causes: causes_of(alloc, scale, lanes, entries, causes, &layout.stands)?,
+        causes: causes_of(alloc, scale, lanes, entries, causes, &layout.rows)?,
     })
 }
 
@@ -145,6 +171,8 @@ fn drawn(alloc: Global, report: &Report, read: &Spans, layout: &Layout) -> Resul
 pub fn picture_of(alloc: Global, report: &Report, cut: &Cut) -> Result<Picture, NoMemory>
     ensures bars { IfOk result (λ p. is_whole cut.now ≡ true → map (λ b. b.label) p.bars ≡ map (λ e. e.name) report.now.entries) }
     ensures events { IfOk result (λ p. map (λ s. s.from.across) p.events ≡ flat_map (pixels_of (scale_of cut.now (length report.now.trace.events))) report.now.trace.events) }
+    ensures lanes { IfOk result (λ p. length p.lanes ≡ members_in report.now.entries report.now.trace.events + 1) }
+    ensures seen { IfOk result (IsSeen (scale_of cut.now (length report.now.trace.events)) report.now) }
 {
     let events = report.trace.events.as_slice();
     let read = read_spans(alloc, events)?;

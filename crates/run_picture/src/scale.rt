@@ -1,6 +1,6 @@
 //! Where an event lies between the left and the right side.
 
-ghost use Rattle.std.specs.Prelude.{◌≡◌, true};
+ghost use Rattle.std.specs.Prelude.{◌≡◌, ◌≤◌};
 
 /// The first pixel of events, and how many pixels they have. Right of them there is room for the longest name.
 pub const LEFT: u64 = 76;
@@ -35,7 +35,7 @@ impl Scale {
 
     /// Whether something that goes from one place to another is in the picture.
     pub fn meets(&self, first: u64, last: u64) -> bool
-        ensures whole { self.now.is_whole ≡ true → result ≡ true }
+        ensures { result ≡ spec.meets self.now first last }
     {
         self.is_whole || (self.from <= last && (first <= self.from || self.has(first)))
     }
@@ -43,7 +43,8 @@ impl Scale {
     /// The pixel of a place. What lies before the first place is at the left side, and what lies behind the last at the right one.
     #[tactic(auto, unfolding(crate::specs::Places::across_of))]
     pub fn across(&self, place: u64) -> u64
-        ensures { result ≡ spec.across_of self.now place }
+        ensures exact { result ≡ spec.across_of self.now place }
+        ensures within { result ≤ 1266 }
     {
         let behind = place.saturating_sub(self.from).min(self.count);
         let pixels = behind.saturating_mul(BREADTH) / self.count.max(1);

@@ -1,0 +1,4 @@
+pub mod Failing
+pub mod LatestNoted
+pub mod Reached
+pub mod Tables

@@ -1,3 +1,6 @@
+ghost use Rattle.std.specs.Prelude.{◌≡◌, ◌==◌, ◌&&◌};
+ghost use Rattle.run_spans.specs.LatestEvents as spec;
+
 /// An event: its place, its member and its choice. Place 0 is none.
 #[derive(Clone, Copy, Debug, PartialEq, Eq)]
 pub struct At {
@@ -7,7 +10,9 @@ pub struct At {
 }
 
 impl At {
-    pub fn none() -> At {
+    pub fn none() -> At
+        ensures { result ≡ spec.none }
+    {
         At {
             place: 0,
             member: 0,
@@ -15,8 +20,11 @@ impl At {
         }
     }
 
-    fn is_by(&self, other: &At) -> bool {
-        self.member == other.member && self.choice == other.choice
+    /// Whether it is this member's, and of this choice.
+    pub fn is_by(&self, member: u8, choice: u64) -> bool
+        ensures { result ≡ spec.is_by self.now member choice }
+    {
+        self.member == member && self.choice == choice
     }
 }
 
@@ -28,23 +36,31 @@ pub struct Latest {
 }
 
 impl Latest {
-    pub fn new() -> Latest {
+    #[tactic(auto, using(crate::proofs::LatestNoted::none_noted))]
+    pub fn new() -> Latest
+        ensures { spec.by_others result ≡ spec.never }
+    {
         Latest {
             last: At::none(),
             other: At::none(),
         }
     }
 
-    pub fn note(&mut self, at: At) {
-        if !self.last.is_by(&at) {
-            self.other = self.last;
-        }
+    /// One more event of the kind.
+    #[tactic(auto, using(crate::proofs::LatestNoted::noted))]
+    pub fn note(&mut self, at: At)
+        ensures { spec.by_others self.new ≡ spec.with_event at (spec.by_others self.old) }
+    {
+        self.other = self.by_others(at.member, at.choice);
         self.last = at;
     }
 
-    /// The latest that isn't by the one of this event.
-    pub fn by_others(&self, at: &At) -> At {
-        if self.last.is_by(at) {
+    /// The latest that isn't by this member and choice.
+    #[tactic(auto, unfolding(crate::specs::LatestEvents::by_others))]
+    pub fn by_others(&self, member: u8, choice: u64) -> At
+        ensures { result ≡ spec.by_others self.now member choice }
+    {
+        if self.last.is_by(member, choice) {
             self.other
         } else {
             self.last

@@ -7,12 +7,17 @@
 
 mod deed;
 mod latest;
+mod member_places;
 mod reader;
+mod reading;
+mod seat_moves;
+mod seats;
 mod span;
 mod spans;
 
 pub use deed::{Deed, deed_of};
-pub use latest::{At, Latest};
+pub use latest::At;
+pub use member_places::MemberPlaces;
 pub use reader::read_spans;
 pub use span::{End, Passage, Span, Wait};
 pub use spans::Spans;

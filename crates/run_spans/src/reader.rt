@@ -1,41 +1,26 @@
 //! The reading of a trace, event by event.
 
-ghost use Rattle.std.specs.Prelude.{◌≤◌, ◌≡◌, IfOk};
-ghost use Rattle.run_spans.specs.Reaches.{IsReach, IsWaiting, AreReaches};
+ghost use Rattle.std.specs.Prelude.{◌≡◌, ◌≤◌, true, IfOk};
+ghost use Rattle.run_spans.specs.LatestEvents.{by_others};
+ghost use Rattle.run_spans.specs.Places.{place_in};
+ghost use Rattle.run_spans.specs.Reaches.{AreReaches, IsRead};
+ghost use Rattle.run_spans.specs.Readings.{known_of};
+ghost use Rattle.run_spans.specs.Runs as spec;
 
 use crate::deed::{Deed, deed_of};
 use crate::latest::{At, Latest};
-use crate::span::{End, Passage, Span, Wait};
+use crate::member_places::MemberPlaces;
+use crate::reading::{Reading, start_reading};
+use crate::seat_moves::{fail_seats, move_seat};
+use crate::span::Passage;
 use crate::spans::Spans;
 use ds_base::NoMemory;
 use ds_model::EventLine;
 use std::alloc::Global;
 
-// The members of a group, and the group itself.
-const MEMBERS: usize = 33;
-
-// What is known of the group behind the events so far.
-#[derive(Clone, Copy)]
-struct Marks {
-    rung: Latest,
-    written: Latest,
-    // For each member the place of its latest append, and of the latest write that was told to have reached it.
-    appended: [u64; 33],
-    seen: [u64; 33],
-}
-
-impl Marks {
-    fn new() -> Marks {
-        Marks {
-            rung: Latest::new(),
-            written: Latest::new(),
-            appended: [0; 33],
-            seen: [0; 33],
-        }
-    }
-}
-
-fn at_of(event: &EventLine) -> At {
+fn at_of(event: &EventLine) -> At
+    ensures { result ≡ spec.at_of event.now }
+{
     At {
         place: event.place,
         member: event.member,
@@ -43,211 +28,142 @@ fn at_of(event: &EventLine) -> At {
     }
 }
 
-fn is_seat(at: &At) -> bool {
+fn is_seat(at: &At) -> bool
+    ensures exact { result ≡ spec.is_seat at.now }
+    ensures choice { result ≡ true → at.now.choice ≤ 16 }
+{
     at.member > 0 && 1 <= at.choice && at.choice <= 16
 }
 
-// The transaction that a seat has.
-fn open_at(spans: &[Span], at: &At) -> Option<usize> {
-    for back in 0..spans.len() {
-        let number = spans.len() - 1 - back;
-        let span = &spans[number];
-        if span.member == at.member && span.choice == at.choice {
-            return if span.end == End::Open {
-                Some(number)
-            } else {
-                None
-            };
-        }
-    }
-    None
-}
-
-fn begun(at: &At) -> Span
-    ensures { IsReach result }
+// What an event does to transactions.
+#[tactic(auto, unfolding(crate::specs::Runs::moved))]
+fn move_on(reading: &mut Reading, deed: Deed, at: &At) -> Result<(), NoMemory>
+    ensures { IfOk result (λ _. known_of reading.new ≡ spec.moved deed at.now (known_of reading.old)) }
 {
-    Span {
-        member: at.member,
-        choice: at.choice,
-        first: at.place,
-        last: at.place,
-        commit: 0,
-        end: End::Open,
-        waits_from: 0,
-        rung: At::none(),
-    }
-}
-
-fn wait_of(number: usize, span: &Span, to: u64) -> Wait
-    ensures { IsWaiting result }
-{
-    Wait {
-        span: number,
-        member: span.member,
-        from: span.waits_from,
-        to: to.max(span.waits_from),
-        rung: span.rung,
-    }
-}
-
-// How a transaction ends that comes to its end by itself.
-fn end_of(span: &Span) -> End {
-    if span.commit > 0 {
-        End::Committed
+    if deed.is_fail() {
+        fail_seats(reading, at)
+    } else if is_seat(at) {
+        move_seat(reading, deed, at)
     } else {
-        End::Ended
+        Ok(())
     }
-}
-
-// A transaction behind one more event of its own.
-fn behind(span: Span, at: &At, deed: Deed, rung: At) -> Span
-    requires { IsReach span }
-    ensures reach { IsReach result }
-    ensures first { result.first ≡ span.first }
-{
-    let mut next = span;
-    next.last = span.last.max(at.place);
-    match deed {
-        Deed::Draw => next.commit = at.place,
-        Deed::Wait if span.waits_from == 0 => next.waits_from = at.place,
-        Deed::Unwait => next.waits_from = 0,
-        Deed::End => {
-            next.waits_from = 0;
-            next.end = end_of(&span);
-        }
-        _ => next.rung = rung,
-    }
-    next
-}
-
-fn ends_wait(span: &Span, deed: Deed) -> bool {
-    span.waits_from > 0 && (deed == Deed::Unwait || deed == Deed::End)
-}
-
-// One more event of a seat.
-fn step_seat(read: &mut Spans, at: &At, deed: Deed, rung: At) -> Result<(), NoMemory>
-    requires { AreReaches read.old }
-    ensures { IfOk result (λ _. AreReaches read.new) }
-{
-    let Some(number) = open_at(&read.spans, at) else {
-        if deed == Deed::Nothing {
-            read.spans.push(begun(at))?;
-        }
-        return Ok(());
-    };
-    let Some(span) = read.spans.get(number).copied() else {
-        return Ok(());
-    };
-    if ends_wait(&span, deed) {
-        read.waits.push(wait_of(number, &span, at.place))?;
-    }
-    read.spans[number] = behind(span, at, deed, rung);
-    Ok(())
-}
-
-// A transaction whose member fails.
-fn failed(span: Span, place: u64, appended: u64) -> Span
-    requires { IsReach span }
-    ensures reach { IsReach result }
-    ensures first { result.first ≡ span.first }
-{
-    let mut next = span;
-    next.last = span.last.max(place);
-    next.waits_from = 0;
-    next.end = if span.commit > 0 && span.commit < appended {
-        End::Committed
-    } else {
-        End::Failed
-    };
-    next
-}
-
-// One transaction where a member fails.
-fn fail_one(read: &mut Spans, number: usize, at: &At, appended: u64) -> Result<(), NoMemory>
-    requires { AreReaches read.old }
-    ensures { IfOk result (λ _. AreReaches read.new) }
-{
-    let Some(span) = read.spans.get(number).copied() else {
-        return Ok(());
-    };
-    if span.member != at.member || span.end != End::Open {
-        return Ok(());
-    }
-    if span.waits_from > 0 {
-        read.waits.push(wait_of(number, &span, at.place))?;
-    }
-    read.spans[number] = failed(span, at.place, appended);
-    Ok(())
-}
-
-// All that a member has open ends with its failure.
-fn step_fail(read: &mut Spans, at: &At, appended: u64) -> Result<(), NoMemory>
-    requires { AreReaches read.old }
-    ensures { IfOk result (λ _. AreReaches read.new) }
-{
-    for number in 0..read.spans.len() {
-        fail_one(read, number, at, appended)?;
-    }
-    Ok(())
 }
 
 // A page that is found in the cache may be what another member wrote last.
-fn step_read(read: &mut Spans, marks: &mut Marks, at: At) -> Result<(), NoMemory>
-    requires { AreReaches read.old }
-    ensures { IfOk result (λ _. AreReaches read.new) }
+#[tactic(auto, unfolding(crate::specs::Runs::found, crate::specs::Readings::known_of))]
+fn find_page(reading: &mut Reading, at: &At) -> Result<(), NoMemory>
+    ensures { IfOk result (λ _. known_of reading.new ≡ spec.found at.now (known_of reading.old)) }
 {
-    let reader = At { choice: 0, ..at };
-    let write = marks.written.by_others(&reader);
-    let member = usize::from(at.member).min(MEMBERS - 1);
-    if write.place > marks.seen[member] {
-        marks.seen[member] = write.place;
-        read.pages.push(Passage { write, read: at })?;
+    let write = reading.written.by_others(at.member, 0);
+    if write.place <= reading.reached.get(at.member) {
+        return Ok(());
     }
+    reading.pages.push(Passage { write, read: *at })?;
+    reading.reached.put(at.member, write.place);
     Ok(())
 }
 
-fn note(marks: &mut Marks, at: At, deed: Deed) {
-    match deed {
-        Deed::Append => marks.appended[usize::from(at.member).min(MEMBERS - 1)] = at.place,
-        Deed::Write => marks.written.note(At { choice: 0, ..at }),
-        Deed::End | Deed::Raise | Deed::Fail => marks.rung.note(at),
-        // A page's lock holds up no transaction.
-        Deed::Release if at.choice != 18 => marks.rung.note(at),
-        _ => {}
+fn find_if(reading: &mut Reading, deed: Deed, at: &At) -> Result<(), NoMemory>
+    ensures { IfOk result (λ _. known_of reading.new ≡ spec.found_if deed at.now (known_of reading.old)) }
+{
+    if deed.is_read() {
+        find_page(reading, at)
+    } else {
+        Ok(())
     }
 }
 
-fn step(read: &mut Spans, marks: &mut Marks, event: &EventLine) -> Result<(), NoMemory>
-    requires { AreReaches read.old }
-    ensures { IfOk result (λ _. AreReaches read.new) }
+// A write is its member's, by whichever choice.
+fn of_member(at: At) -> At
+    ensures { result ≡ spec.of_member at }
+{
+    At { choice: 0, ..at }
+}
+
+fn note_append(appended: &mut MemberPlaces, deed: Deed, at: &At)
+    ensures { place_in appended.new ≡ spec.appended_by deed at.now (place_in appended.old) }
+{
+    if deed.is_append() {
+        appended.put(at.member, at.place);
+    }
+}
+
+fn note_write(written: &mut Latest, deed: Deed, at: &At)
+    ensures { by_others written.new ≡ spec.written_by deed at.now (by_others written.old) }
+{
+    if deed.is_write() {
+        written.note(of_member(*at));
+    }
+}
+
+fn note_ring(rung: &mut Latest, deed: Deed, at: &At)
+    ensures { by_others rung.new ≡ spec.rung_by deed at.now (by_others rung.old) }
+{
+    if deed.rings(at.choice) {
+        rung.note(*at);
+    }
+}
+
+// What later events need of this one.
+#[tactic(auto, unfolding(crate::specs::Runs::noted, crate::specs::Readings::known_of))]
+fn note(reading: &mut Reading, deed: Deed, at: &At)
+    ensures { known_of reading.new ≡ spec.noted deed at.now (known_of reading.old) }
+{
+    note_append(&mut reading.appended, deed, at);
+    note_write(&mut reading.written, deed, at);
+    note_ring(&mut reading.rung, deed, at);
+}
+
+#[tactic(auto, unfolding(crate::specs::Runs::step))]
+fn step(reading: &mut Reading, event: &EventLine) -> Result<(), NoMemory>
+    ensures { IfOk result (λ _. known_of reading.new ≡ spec.step (known_of reading.old) event.now) }
 {
     let at = at_of(event);
     let deed = deed_of(event);
-    if deed == Deed::Fail {
-        let appended = marks.appended[usize::from(at.member).min(MEMBERS - 1)];
-        step_fail(read, &at, appended)?;
-    } else if is_seat(&at) {
-        step_seat(read, &at, deed, marks.rung.by_others(&at))?;
-    }
-    if deed == Deed::Read {
-        step_read(read, marks, at)?;
-    }
-    note(marks, at, deed);
+    move_on(reading, deed, &at)?;
+    find_if(reading, deed, &at)?;
+    note(reading, deed, &at);
     Ok(())
+}
+
+#[tactic(auto, unfolding(crate::specs::Runs::known_by))]
+fn read_all(alloc: Global, events: &[EventLine]) -> Result<Reading, NoMemory>
+    ensures { IfOk result (λ reading. known_of reading ≡ spec.known_by events.now) }
+{
+    let mut reading = start_reading(alloc)?;
+    for event in events {
+        step(&mut reading, event)?;
+    }
+    Ok(reading)
+}
+
+#[tactic(auto, unfolding(crate::specs::Readings::known_of))]
+fn into_spans(reading: Reading) -> Spans
+    ensures { IsRead result (known_of reading) }
+{
+    let Reading {
+        spans,
+        commits,
+        waits,
+        pages,
+        seats: _seats,
+        rung: _rung,
+        written: _written,
+        appended: _appended,
+        reached: _reached,
+    } = reading;
+    Spans {
+        spans,
+        commits,
+        waits,
+        pages,
+    }
 }
 
 /// The transactions of a trace, with their waits, and the pages that may have come from another member.
 pub fn read_spans(alloc: Global, events: &[EventLine]) -> Result<Spans, NoMemory>
-    ensures { IfOk result AreReaches }
+    ensures exact { IfOk result (λ read. IsRead read (spec.known_by events.now)) }
+    ensures reaches { IfOk result AreReaches }
 {
-    let mut read = Spans {
-        spans: Vec::new(alloc),
-        waits: Vec::new(alloc),
-        pages: Vec::new(alloc),
-    };
-    let mut marks = Marks::new();
-    for event in events {
-        step(&mut read, &mut marks, event)?;
-    }
-    Ok(read)
+    Ok(into_spans(read_all(alloc, events)?))
 }

@@ -5,6 +5,8 @@ use crate::span::{Passage, Span, Wait};
 pub struct Spans {
     /// In the order of their first events.
     pub spans: Vec<Span>,
+    /// The numbers of those that drew a commit, in the order in which they did.
+    pub commits: Vec<usize>,
     pub waits: Vec<Wait>,
     pub pages: Vec<Passage>,
 }

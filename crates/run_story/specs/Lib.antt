@@ -1,1 +1,4 @@
+pub mod Facts
 pub mod Names
+pub mod Phrases
+pub mod Stories
