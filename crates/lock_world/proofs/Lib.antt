@@ -1,0 +1,17 @@
+pub mod Numbers
+pub mod Cells
+pub mod Records
+pub mod Answers
+pub mod Names
+pub mod Grants
+pub mod Claims
+pub mod Statuses
+pub mod Standing
+pub mod Failing
+pub mod Rollbacks
+pub mod Distinct
+pub mod Owners
+pub mod Books
+pub mod Places
+pub mod Home
+pub mod Postponed

@@ -1,0 +1,12 @@
+pub mod Numbers
+pub mod Views
+pub mod Tied
+pub mod Cells
+pub mod Answers
+pub mod Names
+pub mod Grants
+pub mod Claims
+pub mod Standing
+pub mod Failing
+pub mod Rollbacks
+pub mod Books
