@@ -10,6 +10,7 @@ use Rattle.ds_model.specs.Rows.{Rows, scanned}
 -- the rows after one operation
 abbrev pub after_op : Rows → Op → Rows
 after_op rows (op.Get table key) = rows
+after_op rows (op.Getu table key) = rows
 after_op rows (op.Put table key value) = finite.insert rows (table, key) value
 after_op rows (op.Del table key) = finite.remove rows (table, key)
 after_op rows (op.Scan table low high) = rows
@@ -21,6 +22,7 @@ after_op rows op.Abort = rows
 -- what one operation reads: a value or none, the rows in order, or nothing
 abbrev pub answer_of : Rows → Op → List Answer
 answer_of rows (op.Get table key) = answer.Value (finite.get rows (table, key)) ∷ []
+answer_of rows (op.Getu table key) = answer.Value (finite.get rows (table, key)) ∷ []
 answer_of rows (op.Put table key value) = []
 answer_of rows (op.Del table key) = []
 answer_of rows (op.Scan table low high) = answer.Rows (scanned rows table low high) ∷ []
@@ -41,6 +43,7 @@ reads_of rows (o ∷ ops) = answer_of rows o ++ reads_of (after_op rows o) ops
 
 abbrev pub is_abort : Op → Bool
 is_abort (op.Get table key) = false
+is_abort (op.Getu table key) = false
 is_abort (op.Put table key value) = false
 is_abort (op.Del table key) = false
 is_abort (op.Scan table low high) = false

@@ -19,6 +19,7 @@ spot_text word table key = word ++ codes " " ++ decimal table ++ codes " " ++ de
 
 abbrev pub op_text : Op → List ℕ
 op_text (op.Get table key) = line (spot_text (codes "get") table key)
+op_text (op.Getu table key) = line (spot_text (codes "getu") table key)
 op_text (op.Put table key value) = line (spot_text (codes "put") table key ++ codes " =" ++ value)
 op_text (op.Del table key) = line (spot_text (codes "del") table key)
 op_text (op.Scan table low high) = line (spot_text (codes "scan") table low ++ codes " " ++ decimal high)

@@ -43,6 +43,7 @@ IsKey key = key < 2 ^ 64
 
 abbrev pub IsOp : Op → Type 0
 IsOp (op.Get table key) = IsTable table × IsKey key
+IsOp (op.Getu table key) = IsTable table × IsKey key
 IsOp (op.Put table key value) = IsTable table × IsKey key × IsValue value
 IsOp (op.Del table key) = IsTable table × IsKey key
 IsOp (op.Scan table low high) = IsTable table × IsKey low × IsKey high
@@ -61,6 +62,7 @@ pub record IsTran (t : Tran) : Type 0 where
 -- the operation neither raises nor awaits a flag
 abbrev pub LeavesFlags : Op → Type 0
 LeavesFlags (op.Get table key) = Unit {0}
+LeavesFlags (op.Getu table key) = Unit {0}
 LeavesFlags (op.Put table key value) = Unit {0}
 LeavesFlags (op.Del table key) = Unit {0}
 LeavesFlags (op.Scan table low high) = Unit {0}
@@ -74,6 +76,7 @@ TranLeavesFlags t = AllByRecursion LeavesFlags t.ops
 
 abbrev pub flag_raised : Op → List ℕ
 flag_raised (op.Get table key) = []
+flag_raised (op.Getu table key) = []
 flag_raised (op.Put table key value) = []
 flag_raised (op.Del table key) = []
 flag_raised (op.Scan table low high) = []

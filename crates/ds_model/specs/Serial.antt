@@ -12,6 +12,7 @@ use Rattle.ds_model.specs.Scripts.{counted}
 
 abbrev pub IsSerialOp : Op → Type 0
 IsSerialOp (op.Get table key) = Unit {0}
+IsSerialOp (op.Getu table key) = Unit {0}
 IsSerialOp (op.Put table key value) = Unit {0}
 IsSerialOp (op.Del table key) = Unit {0}
 IsSerialOp (op.Scan table low high) = Unit {0}

@@ -20,12 +20,15 @@ use Rattle.ds_model.specs.declared.report.ReportEntry.{ReportEntry}
 use Rattle.ds_model.specs.Transactions.{name_of}
 use Rattle.ds_model.specs.declared.history.Entry.{Entry}
 
--- each answer behind what was asked: a get's value, a scan's rows
+-- each answer behind what was asked: the value of a get or getu, a scan's rows
 abbrev pub told_reads : List Op → List Answer → List ToldRead
 told_reads [] answers = []
 told_reads (op.Get table key ∷ ops) [] = []
 told_reads (op.Get table key ∷ ops) (answer.Value value ∷ answers) = read.Get table key value ∷ told_reads ops answers
 told_reads (op.Get table key ∷ ops) (answer.Rows rows ∷ answers) = told_reads ops answers
+told_reads (op.Getu table key ∷ ops) [] = []
+told_reads (op.Getu table key ∷ ops) (answer.Value value ∷ answers) = read.Get table key value ∷ told_reads ops answers
+told_reads (op.Getu table key ∷ ops) (answer.Rows rows ∷ answers) = told_reads ops answers
 told_reads (op.Put table key value ∷ ops) answers = told_reads ops answers
 told_reads (op.Del table key ∷ ops) answers = told_reads ops answers
 told_reads (op.Scan table low high ∷ ops) [] = []

@@ -1,14 +1,14 @@
 use crate::Name;
 use ds_base::{Lrsn, MemberId, RowList, Sequence, TableId, TranId, Value};
 
-/// What a `get` or a `scan` has read.
+/// What a `get`, a `getu` or a `scan` has read.
 #[derive(Debug, Drop)]
 pub enum Answer {
     Value(Option<Value>),
     Rows(RowList),
 }
 
-/// The answers of a transaction's `get`s and `scan`s, in their order.
+/// The answers of a transaction's `get`s, `getu`s and `scan`s, in their order.
 pub type Reads = Sequence<Answer>;
 
 /// Transactions of which each waits for the next, and the last for the first.

@@ -8,6 +8,11 @@ pub enum Op {
         table: TableId,
         key: Key,
     },
+    /// Reads a row for update: as `Get`, but no other transaction that means to change the row reads it meanwhile.
+    Getu {
+        table: TableId,
+        key: Key,
+    },
     /// Sets a row.
     Put {
         table: TableId,

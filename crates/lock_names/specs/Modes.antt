@@ -1,7 +1,7 @@
 -- The tables of the lock modes.
 use Rattle.std.specs.Prelude.{Bool, true, false}
 use Rattle.lock_names.specs.declared.mode.Mode.{Mode}
-use Rattle.lock_names.specs.declared.mode.Mode.TheVariants.{IS, IX, S, SIX, X}
+use Rattle.lock_names.specs.declared.mode.Mode.TheVariants.{IS, IX, S, U, SIX, X}
 use Rattle.lock_names.specs.declared.mode.Class.{Class}
 use Rattle.lock_names.specs.declared.mode.Class.TheVariants.{Share, Exclusive}
 
@@ -10,26 +10,37 @@ unfoldable pub are_compatible : Mode → Mode → Bool
 are_compatible IS IS = true
 are_compatible IS IX = true
 are_compatible IS S = true
+are_compatible IS U = true
 are_compatible IS SIX = true
 are_compatible IS X = false
 are_compatible IX IS = true
 are_compatible IX IX = true
 are_compatible IX S = false
+are_compatible IX U = false
 are_compatible IX SIX = false
 are_compatible IX X = false
 are_compatible S IS = true
 are_compatible S IX = false
 are_compatible S S = true
+are_compatible S U = true
 are_compatible S SIX = false
 are_compatible S X = false
+are_compatible U IS = true
+are_compatible U IX = false
+are_compatible U S = true
+are_compatible U U = false
+are_compatible U SIX = false
+are_compatible U X = false
 are_compatible SIX IS = true
 are_compatible SIX IX = false
 are_compatible SIX S = false
+are_compatible SIX U = false
 are_compatible SIX SIX = false
 are_compatible SIX X = false
 are_compatible X IS = false
 are_compatible X IX = false
 are_compatible X S = false
+are_compatible X U = false
 are_compatible X SIX = false
 are_compatible X X = false
 
@@ -39,16 +50,25 @@ join_of IS asked = asked
 join_of IX IS = IX
 join_of IX IX = IX
 join_of IX S = SIX
+join_of IX U = SIX
 join_of IX SIX = SIX
 join_of IX X = X
 join_of S IS = S
 join_of S IX = SIX
 join_of S S = S
+join_of S U = U
 join_of S SIX = SIX
 join_of S X = X
+join_of U IS = U
+join_of U IX = SIX
+join_of U S = U
+join_of U U = U
+join_of U SIX = SIX
+join_of U X = X
 join_of SIX IS = SIX
 join_of SIX IX = SIX
 join_of SIX S = SIX
+join_of SIX U = SIX
 join_of SIX SIX = SIX
 join_of SIX X = X
 join_of X asked = X
@@ -58,6 +78,7 @@ unfoldable pub class_of : Mode → Class
 class_of IS = Share
 class_of IX = Exclusive
 class_of S = Share
+class_of U = Exclusive
 class_of SIX = Exclusive
 class_of X = Exclusive
 
@@ -66,6 +87,7 @@ unfoldable pub is_recorded : Mode → Bool
 is_recorded IS = false
 is_recorded IX = true
 is_recorded S = false
+is_recorded U = false
 is_recorded SIX = true
 is_recorded X = true
 
@@ -73,6 +95,7 @@ unfoldable pub is_same : Mode → Mode → Bool
 is_same IS IS = true
 is_same IX IX = true
 is_same S S = true
+is_same U U = true
 is_same SIX SIX = true
 is_same X X = true
 is_same a b = false

@@ -9,6 +9,9 @@ pub enum Mode {
     IX,
     /// Share: to read the whole.
     S,
+    /// Update: to read the whole, and to change it later. Others may read it meanwhile, but none of them may have it in
+    /// this mode: of two that mean to change what they read, the second waits before it reads.
+    U,
     /// Share with intent exclusive: to read the whole, and to change parts that are locked one by one.
     SIX,
     /// Exclusive: to change the whole.

@@ -9,9 +9,10 @@ pub fn compatible(a: Mode, b: Mode) -> bool
     ensures table { result ≡ are_compatible a b }
 {
     match a {
-        Mode::IS => matches!(b, Mode::IS | Mode::IX | Mode::S | Mode::SIX),
+        Mode::IS => matches!(b, Mode::IS | Mode::IX | Mode::S | Mode::U | Mode::SIX),
         Mode::IX => matches!(b, Mode::IS | Mode::IX),
-        Mode::S => matches!(b, Mode::IS | Mode::S),
+        Mode::S => matches!(b, Mode::IS | Mode::S | Mode::U),
+        Mode::U => matches!(b, Mode::IS | Mode::S),
         Mode::SIX => matches!(b, Mode::IS),
         Mode::X => false,
     }
@@ -27,6 +28,7 @@ pub fn join(a: Mode, b: Mode) -> Mode
         (Mode::X, _) | (_, Mode::X) => Mode::X,
         (Mode::IX, Mode::IX) => Mode::IX,
         (Mode::S, Mode::S) => Mode::S,
+        (Mode::S | Mode::U, Mode::S | Mode::U) => Mode::U,
         _ => Mode::SIX,
     }
 }
@@ -38,7 +40,7 @@ pub fn class(m: Mode) -> Class
 {
     match m {
         Mode::IS | Mode::S => Class::Share,
-        Mode::IX | Mode::SIX | Mode::X => Class::Exclusive,
+        Mode::IX | Mode::U | Mode::SIX | Mode::X => Class::Exclusive,
     }
 }
 

@@ -3,7 +3,7 @@ use Rattle.std.specs.Prelude.{ℕ, Bool, true, false, not, ◌||◌, if◌then�
 use Rattle.ds_model.specs.declared.lock.Name.{Name}
 use Rattle.ds_model.specs.declared.lock.Name.TheVariants as name
 use Rattle.lock_names.specs.declared.mode.Mode.{Mode}
-use Rattle.lock_names.specs.declared.mode.Mode.TheVariants.{IS, IX, S, SIX, X}
+use Rattle.lock_names.specs.declared.mode.Mode.TheVariants.{IS, IX, S, U, SIX, X}
 use Rattle.lock_names.specs.Modes.{is_covering}
 use Rattle.list_structure.specs.declared.query.Asker.{Asker}
 use Rattle.facility.specs.declared.command.Command.TheVariants as command
@@ -23,6 +23,7 @@ abbrev pub is_x : Mode → Bool
 is_x IS = false
 is_x IX = false
 is_x S = false
+is_x U = false
 is_x SIX = false
 is_x X = true
 

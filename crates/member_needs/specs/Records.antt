@@ -5,7 +5,7 @@ use Rattle.ds_base.specs.declared.names.Place.{Place}
 use Rattle.ds_model.specs.declared.lock.Name.TheVariants as name
 use Rattle.ds_model.specs.declared.log.RowChange.{RowChange}
 use Rattle.lock_names.specs.declared.mode.Mode.{Mode}
-use Rattle.lock_names.specs.declared.mode.Mode.TheVariants.{IS, IX, S, SIX, X}
+use Rattle.lock_names.specs.declared.mode.Mode.TheVariants.{IS, IX, S, U, SIX, X}
 use Rattle.heap_space.specs.Changes.{heap_page}
 use Rattle.heap_space.specs.Written.{same_page}
 use Rattle.facility.specs.Counting.{limit}
@@ -38,6 +38,7 @@ allows_row None = false
 allows_row (Some IS) = false
 allows_row (Some IX) = false
 allows_row (Some S) = false
+allows_row (Some U) = false
 allows_row (Some SIX) = false
 allows_row (Some X) = true
 
@@ -46,6 +47,7 @@ allows_space None = false
 allows_space (Some IS) = false
 allows_space (Some IX) = true
 allows_space (Some S) = false
+allows_space (Some U) = false
 allows_space (Some SIX) = true
 allows_space (Some X) = true
 

@@ -27,6 +27,7 @@ is_spot q s e = exact_spots q s ((Equal-is (spot_cmp q s)).0 e)
 -- whether the operation changes this row
 op_touches : Spot → Op → Bool
 op_touches q (op.Get table key) = false
+op_touches q (op.Getu table key) = false
 op_touches q (op.Put table key value) = same_spot q (table, key)
 op_touches q (op.Del table key) = same_spot q (table, key)
 op_touches q (op.Scan table low high) = false
@@ -53,6 +54,7 @@ unremoved rows q s e = get-remove spot_cmp_total rows s q ∙ ap (λ b. cond b N
 op_leaves : (rows : Rows) (q : Spot) (o : Op) → op_touches q o ≡ false → finite.get (after_op rows o) q ≡ finite.get rows q
 unfolding op_touches
 op_leaves rows q (op.Get table key) e = refl
+op_leaves rows q (op.Getu table key) e = refl
 op_leaves rows q (op.Put table key value) e = unset rows q (table, key) value e
 op_leaves rows q (op.Del table key) e = unremoved rows q (table, key) e
 op_leaves rows q (op.Scan table low high) e = refl
@@ -111,6 +113,7 @@ module _ (a b : Rows) where
   at_op : (q : Spot) (o : Op) → op_touches q o ≡ true → AgreeAtOp a b o → finite.get a q ≡ finite.get b q
   unfolding op_touches
   at_op q (op.Get table key) e h = absurd (true≢false (sym e))
+  at_op q (op.Getu table key) e h = absurd (true≢false (sym e))
   at_op q (op.Put table key value) e h = at_spot q table key e h
   at_op q (op.Del table key) e h = at_spot q table key e h
   at_op q (op.Scan table low high) e h = absurd (true≢false (sym e))
@@ -160,6 +163,7 @@ module _ (a b : Rows) where
 
   agree_op : a ≡ b → (o : Op) → AgreeAtOp a b o
   agree_op e (op.Get table key) = tt
+  agree_op e (op.Getu table key) = tt
   agree_op e (op.Put table key value) = ap (λ (m : Rows). finite.get m (table, key)) e
   agree_op e (op.Del table key) = ap (λ (m : Rows). finite.get m (table, key)) e
   agree_op e (op.Scan table low high) = tt

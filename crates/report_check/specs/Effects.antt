@@ -14,6 +14,7 @@ AgreeAt a b table key = finite.get a (table, key) ≡ finite.get b (table, key)
 -- at the row that an operation changes
 abbrev pub AgreeAtOp : Rows → Rows → Op → Type 0
 AgreeAtOp a b (op.Get table key) = Unit {0}
+AgreeAtOp a b (op.Getu table key) = Unit {0}
 AgreeAtOp a b (op.Put table key value) = AgreeAt a b table key
 AgreeAtOp a b (op.Del table key) = AgreeAt a b table key
 AgreeAtOp a b (op.Scan table low high) = Unit {0}

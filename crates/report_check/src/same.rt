@@ -15,6 +15,15 @@ fn is_get(it: &Op, table: TableId, key: Key) -> bool
     }
 }
 
+fn is_getu(it: &Op, table: TableId, key: Key) -> bool
+    ensures { Decides result (it.now ≡ op.Getu table key) }
+{
+    match *it {
+        Op::Getu { table: t, key: k } => t == table && k == key,
+        _ => false,
+    }
+}
+
 fn is_put(it: &Op, table: TableId, key: Key, value: &Value) -> bool
     ensures { Decides result (it.now ≡ op.Put table key value.now) }
 {
@@ -91,6 +100,7 @@ fn same_op(a: &Op, b: &Op) -> bool
 {
     match a {
         Op::Get { table, key } => is_get(b, *table, *key),
+        Op::Getu { table, key } => is_getu(b, *table, *key),
         Op::Put { table, key, value } => is_put(b, *table, *key, value),
         Op::Del { table, key } => is_del(b, *table, *key),
         Op::Scan { table, low, high } => is_scan(b, *table, *low, *high),

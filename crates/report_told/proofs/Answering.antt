@@ -8,6 +8,7 @@ use Rattle.ds_model.specs.Told.{told_reads}
 pub none_told : (ops : List Op) → told_reads ops [] ≡ []
 none_told [] = refl
 none_told (op.Get table key ∷ ops) = refl
+none_told (op.Getu table key ∷ ops) = refl
 none_told (op.Put table key value ∷ ops) = none_told ops
 none_told (op.Del table key ∷ ops) = none_told ops
 none_told (op.Scan table low high ∷ ops) = refl

@@ -10,9 +10,10 @@ use ds_model::{Answer, Op, Reads, ToldRead, ToldReads};
 use std::alloc::Global;
 use std::collections::VecDeque;
 
-// What is told of the answer to a get, if it can be one.
+// What is told of the answer to a get or getu, if it can be one.
 fn told_get(table: TableId, key: Key, answer: Answer) -> Option<ToldRead>
-    ensures { option_to_list result ≡ told_reads (op.Get table key ∷ []) (answer ∷ []) }
+    ensures get { option_to_list result ≡ told_reads (op.Get table key ∷ []) (answer ∷ []) }
+    ensures getu { option_to_list result ≡ told_reads (op.Getu table key ∷ []) (answer ∷ []) }
 {
     match &answer {
         Answer::Value(value) => Some(ToldRead::Get {
@@ -45,7 +46,9 @@ fn next_read(answers: &mut VecDeque<Answer>, op: &Op) -> Option<ToldRead>
     ensures { (ops : List AnyOp) → option_to_list result ++ told_reads ops answers.new.items ≡ told_reads (op.now ∷ ops) answers.old.items }
 {
     match *op {
-        Op::Get { table, key } => told_get(table, key, answers.pop_front()?),
+        Op::Get { table, key } | Op::Getu { table, key } => {
+            told_get(table, key, answers.pop_front()?)
+        }
         Op::Scan { table, low, high } => told_scan(table, low, high, answers.pop_front()?),
         _ => None,
     }

@@ -13,10 +13,12 @@ row_alone (Some m) None h e = refl
 row_alone (Some lock.IS) (Some n) h e = cc
 row_alone (Some lock.IX) (Some n) h e = cc
 row_alone (Some lock.S) (Some n) h e = cc
+row_alone (Some lock.U) (Some n) h e = cc
 row_alone (Some lock.SIX) (Some n) h e = cc
 row_alone (Some lock.X) (Some lock.IS) h e = cc
 row_alone (Some lock.X) (Some lock.IX) h e = cc
 row_alone (Some lock.X) (Some lock.S) h e = cc
+row_alone (Some lock.X) (Some lock.U) h e = cc
 row_alone (Some lock.X) (Some lock.SIX) h e = cc
 row_alone (Some lock.X) (Some lock.X) h e = cc
 
@@ -27,6 +29,7 @@ alone_at (Some m) None a b h k e = refl
 alone_at (Some lock.IS) (Some n) a b h k e = grind arith
 alone_at (Some lock.IX) (Some n) a b h k e = let r = row_alone a b k in grind (arith, r)
 alone_at (Some lock.S) (Some n) a b h k e = cc
+alone_at (Some lock.U) (Some n) a b h k e = cc
 alone_at (Some lock.SIX) (Some n) a b h k e = let r = row_alone a b k in grind (arith, r)
 alone_at (Some lock.X) (Some n) a b h k e = grind arith
 

@@ -32,6 +32,7 @@ effective None row = None
 effective (Some lock.IS) row = at_most_read (by_row row)
 effective (Some lock.IX) row = by_row row
 effective (Some lock.S) row = Some S
+effective (Some lock.U) row = Some S
 effective (Some lock.SIX) row = at_least_read (by_row row)
 effective (Some lock.X) row = Some X
 

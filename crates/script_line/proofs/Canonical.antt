@@ -23,6 +23,7 @@ use Rattle.script_line.proofs.Texts.{is_seen_word, is_printed, spaced, words_of_
 
 abbrev op_first : Op → List ℕ
 op_first (op.Get table key) = codes "get"
+op_first (op.Getu table key) = codes "getu"
 op_first (op.Put table key value) = codes "put"
 op_first (op.Del table key) = codes "del"
 op_first (op.Scan table low high) = codes "scan"
@@ -33,6 +34,7 @@ op_first op.Abort = codes "abort"
 
 abbrev op_rest : Op → List (List ℕ)
 op_rest (op.Get table key) = decimal table ∷ decimal key ∷ []
+op_rest (op.Getu table key) = decimal table ∷ decimal key ∷ []
 op_rest (op.Put table key value) = decimal table ∷ decimal key ∷ (61 ∷ value) ∷ []
 op_rest (op.Del table key) = decimal table ∷ decimal key ∷ []
 op_rest (op.Scan table low high) = decimal table ∷ decimal low ∷ decimal high ∷ []
@@ -77,6 +79,7 @@ four_put a b c d = simp append_assoc
 
 text_of_op : (o : Op) → op_line_text o ≡ spaced (op_first o ∷ op_rest o)
 text_of_op (op.Get table key) = three (codes "get") (decimal table) (decimal key)
+text_of_op (op.Getu table key) = three (codes "getu") (decimal table) (decimal key)
 text_of_op (op.Put table key value) = four_put (codes "put") (decimal table) (decimal key) value
 text_of_op (op.Del table key) = three (codes "del") (decimal table) (decimal key)
 text_of_op (op.Scan table low high) = four (codes "scan") (decimal table) (decimal low) (decimal high)
@@ -106,6 +109,7 @@ text_is line.End = refl
 
 seen_op : (o : Op) → IsOp o → list_all is_seen_word (op_first o ∷ op_rest o) ≡ true
 seen_op (op.Get table key) h = rw (seen_number table (omega arith), seen_number key h.1) refl
+seen_op (op.Getu table key) h = rw (seen_number table (omega arith), seen_number key h.1) refl
 seen_op (op.Put table key value) h = rw (seen_number table (omega arith), seen_number key h.1, seen_value value h.2) refl
 seen_op (op.Del table key) h = rw (seen_number table (omega arith), seen_number key h.1) refl
 seen_op (op.Scan table low high) h = rw (seen_number table (omega arith), seen_number low h.1, seen_number high h.2) refl
@@ -144,6 +148,7 @@ scan_said w v u t l k e f g = ap (and_then (λ n. and_then (λ m. mapped (op.Sca
 
 op_said : (o : Op) → IsOp o → op_line (op_first o) (op_rest o) ≡ Ok o
 op_said (op.Get table key) h = spot_said op.Get (decimal table) (decimal key) table key (table_is table h.0) (key_is key h.1)
+op_said (op.Getu table key) h = spot_said op.Getu (decimal table) (decimal key) table key (table_is table h.0) (key_is key h.1)
 op_said (op.Put table key value) h = put_said (decimal table) (decimal key) (61 ∷ value) value table key (table_is table h.0) (key_is key h.1) (value_is value h.2)
 op_said (op.Del table key) h = spot_said op.Del (decimal table) (decimal key) table key (table_is table h.0) (key_is key h.1)
 op_said (op.Scan table low high) h = scan_said (decimal table) (decimal low) (decimal high) table low high (table_is table h.0) (key_is low h.1) (key_is high h.2)
@@ -160,6 +165,7 @@ fail_said (fail_at.Raise flag) h = ap (λ r. mapped line.Fail (mapped fail_at.Ra
 
 operation_as : (members : ℕ) (o : Op) → line_of_words members (op_first o ∷ op_rest o) ≡ mapped line.Operation (op_line (op_first o) (op_rest o))
 operation_as members (op.Get table key) = refl
+operation_as members (op.Getu table key) = refl
 operation_as members (op.Put table key value) = refl
 operation_as members (op.Del table key) = refl
 operation_as members (op.Scan table low high) = refl
@@ -187,6 +193,7 @@ keyword_said line.Restart = refl
 keyword_said (line.Fail at) = refl
 keyword_said (line.Tran name wait) = refl
 keyword_said (line.Operation (op.Get table key)) = refl
+keyword_said (line.Operation (op.Getu table key)) = refl
 keyword_said (line.Operation (op.Put table key value)) = refl
 keyword_said (line.Operation (op.Del table key)) = refl
 keyword_said (line.Operation (op.Scan table low high)) = refl

@@ -110,12 +110,13 @@ bare_op_said o h (a ∷ words) = tt
 op_said : (first : List ℕ) (words : List (List ℕ)) → Said IsOp (op_line first words)
 op_said first words =
     one_of IsOp (bytes_eq first (codes "get")) _ _ (spot_said op.Get (λ t k h i. (h, i)) words)
+    (one_of IsOp (bytes_eq first (codes "getu")) _ _ (spot_said op.Getu (λ t k h i. (h, i)) words)
     (one_of IsOp (bytes_eq first (codes "put")) _ _ (put_said words)
     (one_of IsOp (bytes_eq first (codes "del")) _ _ (spot_said op.Del (λ t k h i. (h, i)) words)
     (one_of IsOp (bytes_eq first (codes "scan")) _ _ (scan_said words)
     (one_of IsOp (bytes_eq first (codes "raise")) _ _ (flagged_said op.Raise (λ flag h. h) words)
     (one_of IsOp (bytes_eq first (codes "await")) _ _ (flagged_said op.Await (λ flag h. h) words)
-    (one_of IsOp (bytes_eq first (codes "losecache")) _ _ (bare_op_said op.LoseCache tt words) (bare_op_said op.Abort tt words)))))))
+    (one_of IsOp (bytes_eq first (codes "losecache")) _ _ (bare_op_said op.LoseCache tt words) (bare_op_said op.Abort tt words))))))))
 
 -- ---- lines of a kind
 

@@ -37,6 +37,7 @@ keyword_for line.End = keyword.End
 
 abbrev pub op_line_text : Op → List ℕ
 op_line_text (op.Get table key) = spot_text (codes "get") table key
+op_line_text (op.Getu table key) = spot_text (codes "getu") table key
 op_line_text (op.Put table key value) = spot_text (codes "put") table key ++ codes " =" ++ value
 op_line_text (op.Del table key) = spot_text (codes "del") table key
 op_line_text (op.Scan table low high) = spot_text (codes "scan") table low ++ codes " " ++ decimal high

@@ -20,6 +20,7 @@ use Rattle.script_line.specs.Words.{words_of, are_skipped, is_ascii, and_then, m
 abbrev pub is_operation : List ℕ → Bool
 is_operation word =
     if bytes_eq word (codes "get") then true
+    else if bytes_eq word (codes "getu") then true
     else if bytes_eq word (codes "put") then true
     else if bytes_eq word (codes "del") then true
     else if bytes_eq word (codes "scan") then true
@@ -106,6 +107,7 @@ bare_op o (word ∷ words) = Err fault.Word
 abbrev pub op_line : List ℕ → List (List ℕ) → Result Op FaultKind
 op_line first words =
     if bytes_eq first (codes "get") then spot_op op.Get words
+    else if bytes_eq first (codes "getu") then spot_op op.Getu words
     else if bytes_eq first (codes "put") then put_op words
     else if bytes_eq first (codes "del") then spot_op op.Del words
     else if bytes_eq first (codes "scan") then scan_op words

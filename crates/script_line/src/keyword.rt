@@ -10,6 +10,7 @@ fn is_operation(word: &[u8]) -> bool
     ensures { result ≡ spec.is_operation word.now }
 {
     word == b"get".as_slice()
+        || word == b"getu".as_slice()
         || word == b"put".as_slice()
         || word == b"del".as_slice()
         || word == b"scan".as_slice()

@@ -13,7 +13,7 @@ pub enum Keyword {
     Restart,
     Fail,
     Tran,
-    /// One of the words of operations: `get`, `put`, `del`, `scan`, `raise`, `await`, `losecache`, `abort`.
+    /// One of the words of operations: `get`, `getu`, `put`, `del`, `scan`, `raise`, `await`, `losecache`, `abort`.
     Operation,
     End,
 }

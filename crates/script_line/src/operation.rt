@@ -31,6 +31,13 @@ fn get_op(rest: &[u8]) -> Result<Op, FaultKind>
     Ok(Op::Get { table, key })
 }
 
+fn getu_op(rest: &[u8]) -> Result<Op, FaultKind>
+    ensures { result ≡ spec.spot_op op.Getu (words_of rest.now) }
+{
+    let (table, key) = spot(rest)?;
+    Ok(Op::Getu { table, key })
+}
+
 fn del_op(rest: &[u8]) -> Result<Op, FaultKind>
     ensures { result ≡ spec.spot_op op.Del (words_of rest.now) }
 {
@@ -100,6 +107,8 @@ pub fn op_line(alloc: Global, first: &[u8], rest: &[u8]) -> Result<Op, FaultKind
 {
     if first == b"get".as_slice() {
         get_op(rest)
+    } else if first == b"getu".as_slice() {
+        getu_op(rest)
     } else if first == b"put".as_slice() {
         put_op(alloc, rest)
     } else if first == b"del".as_slice() {

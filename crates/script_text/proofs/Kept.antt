@@ -244,6 +244,7 @@ none_of (t ∷ ts) h = absurd (omega (arith, eqb-true (length (t ∷ ts)) 0 h))
 
 op_leaves : (d : Draft) (parts : List Part) (part : Part) (name : List ℕ) (wait : Bool) (ops : List Op) (o : Op) → d.place ≡ place.Tran parts part name wait ops → may_use_flags d o ≡ true → (part.trans ≡ [] → ⊥) → LeavesFlags o
 op_leaves d parts part name wait ops (op.Get table key) e h k = tt
+op_leaves d parts part name wait ops (op.Getu table key) e h k = tt
 op_leaves d parts part name wait ops (op.Put table key value) e h k = tt
 op_leaves d parts part name wait ops (op.Del table key) e h k = tt
 op_leaves d parts part name wait ops (op.Scan table low high) e h k = tt
@@ -254,6 +255,7 @@ op_leaves d parts part name wait ops op.Abort e h k = tt
 
 op_raises : (phases : List Phase) (g c : ℕ) (parts : List Part) (part : Part) (name : List ℕ) (wait : Bool) (ops : List Op) (o : Op) → may_use_flags (draft_at phases g c (place.Tran parts part name wait ops)) o ≡ true → AllByRecursion (Lacks (flat_map part_raises parts)) (flag_raised o)
 op_raises phases g c parts part name wait ops (op.Get table key) h = tt
+op_raises phases g c parts part name wait ops (op.Getu table key) h = tt
 op_raises phases g c parts part name wait ops (op.Put table key value) h = tt
 op_raises phases g c parts part name wait ops (op.Del table key) h = tt
 op_raises phases g c parts part name wait ops (op.Scan table low high) h = tt

@@ -84,6 +84,7 @@ raises_of_first qs x h =
 
 op_fits : (phases : List Phase) (g c : ℕ) (qs : List Part) (x : Part) (name : List ℕ) (wait : Bool) (done : List Op) (o : Op) (os : List Op) → FlagsFit qs x (o ∷ os) → may_use_flags (draft_at phases g c (place.Tran qs x name wait done)) o ≡ true
 op_fits phases g c qs x name wait done (op.Get table key) os h = refl
+op_fits phases g c qs x name wait done (op.Getu table key) os h = refl
 op_fits phases g c qs x name wait done (op.Put table key value) os h = refl
 op_fits phases g c qs x name wait done (op.Del table key) os h = refl
 op_fits phases g c qs x name wait done (op.Scan table low high) os h = refl

@@ -179,6 +179,7 @@ is_first (place.Tran parts part name wait ops) = length part.trans == 0
 -- flags are used in the first transaction of a part alone, and raised by one transaction of a phase
 abbrev pub may_use_flags : Draft → Op → Bool
 may_use_flags d (op.Get table key) = true
+may_use_flags d (op.Getu table key) = true
 may_use_flags d (op.Put table key value) = true
 may_use_flags d (op.Del table key) = true
 may_use_flags d (op.Scan table low high) = true

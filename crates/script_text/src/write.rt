@@ -40,6 +40,10 @@ fn put_op(alloc: Global, out: &mut Bytes, op: &Op) -> Result<(), NoMemory>
             put_spot(alloc, out, b"get", table.number(), *key)?;
             out.extend(b"\n")
         }
+        Op::Getu { table, key } => {
+            put_spot(alloc, out, b"getu", table.number(), *key)?;
+            out.extend(b"\n")
+        }
         Op::Put { table, key, value } => {
             put_spot(alloc, out, b"put", table.number(), *key)?;
             out.extend(b" =")?;

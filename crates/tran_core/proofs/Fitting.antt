@@ -42,6 +42,7 @@ use Rattle.tran_core.specs.Runs.{Kind, asked_by_change, asked_with_change, IsFit
 next_fit : (s : State) (ops : List Op) → IsFitting (advanced s ops)
 next_fit s [] = refl
 next_fit s (op.Get table key ∷ ops) = refl
+next_fit s (op.Getu table key ∷ ops) = refl
 next_fit s (op.Put table key value ∷ ops) = refl
 next_fit s (op.Del table key ∷ ops) = refl
 next_fit s (op.Scan table low high ∷ ops) = refl
@@ -55,6 +56,7 @@ next_any s = next_fit s s.rest
 
 without_fit : (s : State) (a : Aim) → IsFitting (without_row s a)
 without_fit s aim.Get = next_any (record s { reads = s.reads ++ answer.Value None ∷ [] })
+without_fit s aim.Getu = next_any (record s { reads = s.reads ++ answer.Value None ∷ [] })
 without_fit s (aim.Put value) = next_any s
 without_fit s aim.Del = next_any s
 without_fit s (aim.Scan high) = next_any (record s { reads = s.reads ++ answer.Rows s.rows ∷ []; rows = [] })
@@ -76,18 +78,21 @@ choice_calm task false x y hx hy = hy
 
 no_index_calm : (task : Task) (a : Aim) → Calm task (no_index a)
 no_index_calm task aim.Get = refl
+no_index_calm task aim.Getu = refl
 no_index_calm task (aim.Put value) = refl
 no_index_calm task aim.Del = refl
 no_index_calm task (aim.Scan high) = refl
 
 found_calm : (task : Task) (a : Aim) (place : Place) → Calm task (found a place)
 found_calm task aim.Get place = refl
+found_calm task aim.Getu place = refl
 found_calm task (aim.Put value) place = refl
 found_calm task aim.Del place = refl
 found_calm task (aim.Scan high) place = refl
 
 absent_in_calm : (task : Task) (a : Aim) (page branch count : ℕ) → Calm task (absent_in a page branch count)
 absent_in_calm task aim.Get page branch count = refl
+absent_in_calm task aim.Getu page branch count = refl
 absent_in_calm task (aim.Put value) page branch count = choice_calm task (count == 252) (outcome.Go (step.Change (update.Split page branch))) (outcome.Go (step.Read (reading.Header page))) refl refl
 absent_in_calm task aim.Del page branch count = refl
 absent_in_calm task (aim.Scan high) page branch count = refl
@@ -154,6 +159,7 @@ entry_fit s task e next (Ok (Some value)) k = from_fit (record s { rows = s.rows
 
 row_fit : (s : State) (table key : ℕ) (place : Place) (back : Content) (a : Aim) → IsFitting s → IsFitting (row_met s (record { table = table; key = key; aim = a }) place back a)
 row_fit s table key place back aim.Get k = next_any (record s { reads = s.reads ++ answer.Value back ∷ [] })
+row_fit s table key place back aim.Getu k = next_any (record s { reads = s.reads ++ answer.Value back ∷ [] })
 row_fit s table key place back (aim.Put value) k = refl
 row_fit s table key place None aim.Del k = next_any s
 row_fit s table key place (Some value) aim.Del k = refl
@@ -186,6 +192,7 @@ page_fit s bytes stage.Ended k = k
 
 space_fit : (s : State) (task : Task) (a : Aim) → IsFitting (space_locked s task a)
 space_fit s task aim.Get = refl
+space_fit s task aim.Getu = refl
 space_fit s task (aim.Put value) = refl
 space_fit s task aim.Del = refl
 space_fit s task (aim.Scan high) = scan_fit (nat_lt high task.key)

@@ -37,6 +37,7 @@ use Rattle.tran_core.specs.Runs.{Locks, HasSpace, HasRow, StageIsLocked, IsLocke
 next_ok : (locks : Locks) (s : State) (ops : List Op) → IsLocked locks (advanced s ops)
 next_ok locks s [] = tt
 next_ok locks s (op.Get table key ∷ ops) = tt
+next_ok locks s (op.Getu table key ∷ ops) = tt
 next_ok locks s (op.Put table key value ∷ ops) = tt
 next_ok locks s (op.Del table key ∷ ops) = tt
 next_ok locks s (op.Scan table low high ∷ ops) = tt
@@ -50,6 +51,7 @@ next_any locks s = next_ok locks s s.rest
 
 without_ok : (locks : Locks) (s : State) (a : Aim) → IsLocked locks (without_row s a)
 without_ok locks s aim.Get = next_any locks (record s { reads = s.reads ++ answer.Value None ∷ [] })
+without_ok locks s aim.Getu = next_any locks (record s { reads = s.reads ++ answer.Value None ∷ [] })
 without_ok locks s (aim.Put value) = next_any locks s
 without_ok locks s aim.Del = next_any locks s
 without_ok locks s (aim.Scan high) = next_any locks (record s { reads = s.reads ++ answer.Rows s.rows ∷ []; rows = [] })
@@ -90,6 +92,7 @@ entry_ok locks s task e next (Ok (Some value)) b kept = from_ok locks (record s 
 
 row_ok : (locks : Locks) (s : State) (task : Task) (place : Place) (back : Content) (a : Aim) → Both locks task → IsLocked locks s → IsLocked locks (row_met s task place back a)
 row_ok locks s task place back aim.Get b kept = next_any locks (record s { reads = s.reads ++ answer.Value back ∷ [] })
+row_ok locks s task place back aim.Getu b kept = next_any locks (record s { reads = s.reads ++ answer.Value back ∷ [] })
 row_ok locks s task place back (aim.Put value) b kept = (b.space, b.row)
 row_ok locks s task place None aim.Del b kept = next_any locks s
 row_ok locks s task place (Some value) aim.Del b kept = (b.space, b.row)
@@ -125,6 +128,7 @@ lock n m = (n, m)
 
 space_ok : (locks : Locks) (s : State) (table key : ℕ) (a : Aim) → IsLocked (locks ++ lock (name.Space table) (space_mode a) ∷ []) (space_locked s (record { table = table; key = key; aim = a }) a)
 space_ok locks s table key aim.Get = Contains-push locks (lock (name.Space table) (space_mode aim.Get))
+space_ok locks s table key aim.Getu = Contains-push locks (lock (name.Space table) (space_mode aim.Getu))
 space_ok locks s table key (aim.Put value) = Contains-push locks (lock (name.Space table) (space_mode (aim.Put value)))
 space_ok locks s table key aim.Del = Contains-push locks (lock (name.Space table) (space_mode aim.Del))
 space_ok locks s table key (aim.Scan high) = scan_ok (nat_lt high key)
@@ -135,6 +139,7 @@ space_ok locks s table key (aim.Scan high) = scan_ok (nat_lt high key)
 
 row_there : (locks : Locks) (task : Task) (a : Aim) → HasRow (locks ++ lock (name.Row task.table task.key) (row_mode a) ∷ []) task a
 row_there locks task aim.Get = Contains-push locks (lock (name.Row task.table task.key) (row_mode aim.Get))
+row_there locks task aim.Getu = Contains-push locks (lock (name.Row task.table task.key) (row_mode aim.Getu))
 row_there locks task (aim.Put value) = Contains-push locks (lock (name.Row task.table task.key) (row_mode (aim.Put value)))
 row_there locks task aim.Del = Contains-push locks (lock (name.Row task.table task.key) (row_mode aim.Del))
 row_there locks task (aim.Scan high) = tt

@@ -35,6 +35,7 @@ with_ops s ops = map kind_of s.reads ++ all_asked ops
 next_told : (s : State) (ops : List Op) → s.rest ≡ ops → course_of_reads (advanced s ops) ≡ with_ops s ops
 next_told s [] e = ap (λ (ops : List Op). map kind_of s.reads ++ all_asked ops) e
 next_told s (op.Get table key ∷ ops) e = refl
+next_told s (op.Getu table key ∷ ops) e = refl
 next_told s (op.Put table key value ∷ ops) e = refl
 next_told s (op.Del table key ∷ ops) e = refl
 next_told s (op.Scan table low high ∷ ops) e = refl
@@ -56,6 +57,7 @@ told_by s a = map kind_of s.reads ++ (asked_by a ++ all_asked s.rest)
 
 without_told : (s : State) (a : Aim) → course_of_reads (without_row s a) ≡ told_by s a
 without_told s aim.Get = next_any (record s { reads = s.reads ++ answer.Value None ∷ [] }) ∙ one_more s.reads (answer.Value None) (all_asked s.rest)
+without_told s aim.Getu = next_any (record s { reads = s.reads ++ answer.Value None ∷ [] }) ∙ one_more s.reads (answer.Value None) (all_asked s.rest)
 without_told s (aim.Put value) = next_any s
 without_told s aim.Del = next_any s
 without_told s (aim.Scan high) = next_any (record s { reads = s.reads ++ answer.Rows s.rows ∷ []; rows = [] }) ∙ one_more s.reads (answer.Rows s.rows) (all_asked s.rest)
@@ -89,6 +91,7 @@ entry_told s task e next (Ok (Some value)) k = from_told (record s { rows = s.ro
 
 row_told : (s : State) (table key : ℕ) (place : Place) (back : Content) (a : Aim) → AtAim s a → course_of_reads (row_met s (record { table = table; key = key; aim = a }) place back a) ≡ told_by s a
 row_told s table key place back aim.Get k = next_any (record s { reads = s.reads ++ answer.Value back ∷ [] }) ∙ one_more s.reads (answer.Value back) (all_asked s.rest)
+row_told s table key place back aim.Getu k = next_any (record s { reads = s.reads ++ answer.Value back ∷ [] }) ∙ one_more s.reads (answer.Value back) (all_asked s.rest)
 row_told s table key place back (aim.Put value) k = refl
 row_told s table key place None aim.Del k = next_any s
 row_told s table key place (Some value) aim.Del k = refl
@@ -126,6 +129,7 @@ keeps_page s bytes = page_told s bytes s.stage refl
 
 space_told : (s : State) (table key : ℕ) (a : Aim) → course_of_reads (space_locked s (record { table = table; key = key; aim = a }) a) ≡ told_by s a
 space_told s table key aim.Get = refl
+space_told s table key aim.Getu = refl
 space_told s table key (aim.Put value) = refl
 space_told s table key aim.Del = refl
 space_told s table key (aim.Scan high) = scan_told (nat_lt high key)
@@ -162,6 +166,7 @@ keeps_done s h = done_told s s.stage h refl
 pub opened_told : (ops : List Op) → IsFitting (opened ops) × (course_of_reads (opened ops) ≡ all_asked ops)
 opened_told [] = (refl, refl)
 opened_told (op.Get table key ∷ ops) = (refl, refl)
+opened_told (op.Getu table key ∷ ops) = (refl, refl)
 opened_told (op.Put table key value ∷ ops) = (refl, refl)
 opened_told (op.Del table key ∷ ops) = (refl, refl)
 opened_told (op.Scan table low high ∷ ops) = (refl, refl)

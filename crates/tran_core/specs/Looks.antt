@@ -103,6 +103,7 @@ make it = outcome.Go (step.Change it)
 -- a table without an index has no rows, and only a `put` makes one
 abbrev pub no_index : Aim → Outcome
 no_index aim.Get = outcome.Nothing
+no_index aim.Getu = outcome.Nothing
 no_index (aim.Put value) = make update.FormatIndex
 no_index aim.Del = outcome.Nothing
 no_index (aim.Scan high) = outcome.Nothing
@@ -110,6 +111,7 @@ no_index (aim.Scan high) = outcome.Nothing
 -- the key's place is found, and with it where a scan begins
 abbrev pub found : Aim → Place → Outcome
 found aim.Get place = outcome.Go (step.Read (reading.Slot place))
+found aim.Getu place = outcome.Go (step.Read (reading.Slot place))
 found (aim.Put value) place = outcome.Go (step.Read (reading.Slot place))
 found aim.Del place = outcome.Go (step.Read (reading.Slot place))
 found (aim.Scan high) place = outcome.Collect high
@@ -117,6 +119,7 @@ found (aim.Scan high) place = outcome.Collect high
 -- the leaf has no entry of the key: a `put` goes on to the heap for a slot, and splits a full leaf first
 abbrev pub absent_in : Aim → ℕ → ℕ → ℕ → Outcome
 absent_in aim.Get page branch count = outcome.Nothing
+absent_in aim.Getu page branch count = outcome.Nothing
 absent_in (aim.Put value) page branch count = if count == 252 then make (update.Split page branch) else outcome.Go (step.Read (reading.Header page))
 absent_in aim.Del page branch count = outcome.Nothing
 absent_in (aim.Scan high) page branch count = outcome.Collect high

@@ -66,6 +66,7 @@ delete s task place (Some value) = change_row s task place (Some value)
 -- the row is read, set, or removed where it is present
 abbrev pub row_met : State → Task → Place → Content → Aim → State
 row_met s task place back aim.Get = get_read s back
+row_met s task place back aim.Getu = get_read s back
 row_met s task place back (aim.Put value) = change_row s task place back
 row_met s task place back aim.Del = delete s task place back
 row_met s task place back (aim.Scan high) = s

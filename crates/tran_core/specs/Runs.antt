@@ -49,6 +49,7 @@ locks_after locks s (met.Refused cause) = locks
 
 abbrev pub HasRow : Locks → Task → Aim → Type 0
 HasRow locks task aim.Get = HasLock locks (name.Row task.table task.key) (row_mode aim.Get)
+HasRow locks task aim.Getu = HasLock locks (name.Row task.table task.key) (row_mode aim.Getu)
 HasRow locks task (aim.Put value) = HasLock locks (name.Row task.table task.key) (row_mode (aim.Put value))
 HasRow locks task aim.Del = HasLock locks (name.Row task.table task.key) (row_mode aim.Del)
 HasRow locks task (aim.Scan high) = Unit {0}
@@ -95,6 +96,7 @@ kind_of (answer.Rows rows) = Many
 
 abbrev pub asked : Op → List Kind
 asked (op.Get table key) = One ∷ []
+asked (op.Getu table key) = One ∷ []
 asked (op.Put table key value) = []
 asked (op.Del table key) = []
 asked (op.Scan table low high) = Many ∷ []
@@ -109,6 +111,7 @@ all_asked (o ∷ ops) = asked o ++ all_asked ops
 
 abbrev pub asked_by : Aim → List Kind
 asked_by aim.Get = One ∷ []
+asked_by aim.Getu = One ∷ []
 asked_by (aim.Put value) = []
 asked_by aim.Del = []
 asked_by (aim.Scan high) = Many ∷ []

@@ -59,6 +59,7 @@ task_of table key a = stage.Work (record { table = table; key = key; aim = a }) 
 -- how an operation begins
 abbrev pub begin : Op → Stage
 begin (op.Get table key) = task_of table key aim.Get
+begin (op.Getu table key) = task_of table key aim.Getu
 begin (op.Put table key value) = task_of table key (aim.Put value)
 begin (op.Del table key) = task_of table key aim.Del
 begin (op.Scan table low high) = task_of table low (aim.Scan high)
@@ -91,6 +92,7 @@ get_read s value = next_op (record s { reads = s.reads ++ answer.Value value ∷
 -- the operation meets no row, and a scan no more of them
 abbrev pub without_row : State → Aim → State
 without_row s aim.Get = get_read s None
+without_row s aim.Getu = get_read s None
 without_row s (aim.Put value) = next_op s
 without_row s aim.Del = next_op s
 without_row s (aim.Scan high) = scan_read s
@@ -112,6 +114,7 @@ search s task = at_step s task (step.Read (root task.key))
 -- behind the table space comes the row, but a scan locks no rows
 abbrev pub space_locked : State → Task → Aim → State
 space_locked s task aim.Get = at_step s task step.Row
+space_locked s task aim.Getu = at_step s task step.Row
 space_locked s task (aim.Put value) = at_step s task step.Row
 space_locked s task aim.Del = at_step s task step.Row
 space_locked s task (aim.Scan high) = if nat_lt high task.key then scan_read s else search s task

@@ -70,6 +70,7 @@ said want.Ended = Ended
 -- the mode in which an operation locks its table space
 abbrev pub space_mode : Aim → Mode
 space_mode aim.Get = mode.IS
+space_mode aim.Getu = mode.IX
 space_mode (aim.Put value) = mode.IX
 space_mode aim.Del = mode.IX
 space_mode (aim.Scan high) = mode.S
@@ -77,6 +78,7 @@ space_mode (aim.Scan high) = mode.S
 -- the mode in which it then locks its row
 abbrev pub row_mode : Aim → Mode
 row_mode aim.Get = mode.S
+row_mode aim.Getu = mode.U
 row_mode (aim.Put value) = mode.X
 row_mode aim.Del = mode.X
 row_mode (aim.Scan high) = mode.S
@@ -109,6 +111,7 @@ page_read table (reading.Entry entry next) = heap_page table entry.place.page
 -- the row that an operation leaves
 abbrev pub row_after : Aim → Content
 row_after aim.Get = None
+row_after aim.Getu = None
 row_after (aim.Put value) = Some value
 row_after aim.Del = None
 row_after (aim.Scan high) = None

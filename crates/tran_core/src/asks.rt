@@ -14,7 +14,7 @@ pub fn space_mode(aim: &Aim) -> Mode
 {
     match aim {
         Aim::Get => Mode::IS,
-        Aim::Put { .. } | Aim::Del => Mode::IX,
+        Aim::Getu | Aim::Put { .. } | Aim::Del => Mode::IX,
         Aim::Scan { .. } => Mode::S,
     }
 }
@@ -25,6 +25,7 @@ pub fn row_mode(aim: &Aim) -> Mode
 {
     match aim {
         Aim::Get | Aim::Scan { .. } => Mode::S,
+        Aim::Getu => Mode::U,
         Aim::Put { .. } | Aim::Del => Mode::X,
     }
 }
@@ -79,7 +80,7 @@ fn row_after(aim: &Aim) -> Option<&Value>
 {
     match aim {
         Aim::Put { value } => Some(value),
-        Aim::Get | Aim::Del | Aim::Scan { .. } => None,
+        Aim::Get | Aim::Getu | Aim::Del | Aim::Scan { .. } => None,
     }
 }
 

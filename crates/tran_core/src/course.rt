@@ -47,6 +47,7 @@ fn begin(op: Op) -> Stage
 {
     match op {
         Op::Get { table, key } => task_of(table, key, Aim::Get),
+        Op::Getu { table, key } => task_of(table, key, Aim::Getu),
         Op::Put { table, key, value } => task_of(table, key, Aim::Put { value }),
         Op::Del { table, key } => task_of(table, key, Aim::Del),
         Op::Scan { table, low, high } => task_of(table, low, Aim::Scan { high }),
@@ -116,7 +117,7 @@ impl Course {
         Ok(())
     }
 
-    // A `get` has read its row.
+    // A `get` or `getu` has read its row.
     pub fn get_read(&mut self, value: Option<Value>)
         requires { vec_len self.old.reads < vec_capacity self.old.reads }
         ensures undo { self.new.undo ≡ self.old.undo }

@@ -119,7 +119,7 @@ fn no_index(aim: &Aim) -> Outcome
     ensures { result ≡ no_index aim.now }
 {
     match aim {
-        Aim::Get | Aim::Del | Aim::Scan { .. } => Outcome::Nothing,
+        Aim::Get | Aim::Getu | Aim::Del | Aim::Scan { .. } => Outcome::Nothing,
         Aim::Put { .. } => make(Update::FormatIndex),
     }
 }
@@ -129,7 +129,7 @@ fn found(aim: &Aim, place: Place) -> Outcome
     ensures { result ≡ found aim.now place }
 {
     match aim {
-        Aim::Get | Aim::Put { .. } | Aim::Del => read(Reading::Slot { place }),
+        Aim::Get | Aim::Getu | Aim::Put { .. } | Aim::Del => read(Reading::Slot { place }),
         Aim::Scan { high } => Outcome::Collect { high: *high },
     }
 }
@@ -139,7 +139,7 @@ fn absent_in(aim: &Aim, page: u32, branch: u32, count: u16) -> Outcome
     ensures { result ≡ absent_in aim.now page branch count }
 {
     match aim {
-        Aim::Get | Aim::Del => Outcome::Nothing,
+        Aim::Get | Aim::Getu | Aim::Del => Outcome::Nothing,
         Aim::Put { .. } if count == ENTRIES_PER_PAGE => make(Update::Split { left: page, branch }),
         Aim::Put { .. } => read(Reading::Header { leaf: page }),
         Aim::Scan { high } => Outcome::Collect { high: *high },

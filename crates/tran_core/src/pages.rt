@@ -85,7 +85,7 @@ impl Course {
         ensures state { state_of self.new ≡ row_met (state_of self.old) task place back task.aim }
     {
         match task.aim {
-            Aim::Get => self.get_read(back),
+            Aim::Get | Aim::Getu => self.get_read(back),
             Aim::Put { .. } => self.change_row(task, place, back),
             Aim::Del => self.delete(task, place, back),
             Aim::Scan { .. } => {}

@@ -7,6 +7,8 @@ use index_leaf::Entry;
 #[derive(Clone, Copy)]
 pub enum Aim {
     Get,
+    /// Reads a row that the transaction may change later.
+    Getu,
     Put { value: Value },
     Del,
     /// Reads all rows up to the key `high`.

@@ -40,7 +40,7 @@ impl Course {
         ensures state { state_of self.new ≡ without_row (state_of self.old) aim.now }
     {
         match aim {
-            Aim::Get => self.get_read(None),
+            Aim::Get | Aim::Getu => self.get_read(None),
             Aim::Put { .. } | Aim::Del => self.next_op(),
             Aim::Scan { .. } => self.scan_read(),
         }
@@ -52,7 +52,7 @@ impl Course {
         ensures state { state_of self.new ≡ space_locked (state_of self.old) task task.aim }
     {
         match task.aim {
-            Aim::Get | Aim::Put { .. } | Aim::Del => self.go(task, Step::Row),
+            Aim::Get | Aim::Getu | Aim::Put { .. } | Aim::Del => self.go(task, Step::Row),
             Aim::Scan { high } => {
                 if high < task.key {
                     self.scan_read();

@@ -15,7 +15,9 @@ fn read(alloc: Global, rows: &SpotMap<Value>, reads: &mut Reads, op: &Op) -> Res
     ensures { OnOk result (reads.new ≡ reads.old ++ answer_of rows.now op.now) }
 {
     match *op {
-        Op::Get { table, key } => reads.push(Answer::Value(rows.get(table, key))),
+        Op::Get { table, key } | Op::Getu { table, key } => {
+            reads.push(Answer::Value(rows.get(table, key)))
+        }
         Op::Scan { table, low, high } => {
             reads.push(Answer::Rows(rows.scan(alloc, table, low, high)?))
         }
