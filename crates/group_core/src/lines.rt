@@ -56,6 +56,13 @@ pub fn stepped_line(place: u64, event: u64, stepped: &Stepped) -> Line {
     }
 }
 
+/// Keeps the line of an event of a member, where lines are kept.
+pub fn note_step(lines: &mut Option<Vec<Line>>, place: u64, event: u64, stepped: &Stepped) {
+    if lines.is_some() {
+        note(lines, stepped_line(place, event, stepped));
+    }
+}
+
 /// Keeps the line of an event in which nothing is sent.
 pub fn note_silent(lines: &mut Option<Vec<Line>>, place: u64, event: u64) {
     note(lines, line_of(place, event, &Sent::None, &Answered::None));

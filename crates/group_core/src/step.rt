@@ -9,7 +9,7 @@ ghost use Rattle.group_core.specs.Takes.{Takes, TakesMember, TakesOwn, is_read};
 
 use crate::fault::RunFault;
 use crate::group::Group;
-use crate::lines::{note, note_failure, note_silent, reserve, stepped_line};
+use crate::lines::{note_failure, note_silent, note_step, reserve};
 use cache_structure::CacheFace;
 use ds_base::{NoMemory, Volume};
 use ds_disk::Disk;
@@ -34,7 +34,7 @@ impl<D: Disk, C: CacheFace, P: Policy> Group<D, C, P> {
         ensures looks { Looks self.old.crew self.new.crew }
         ensures rest { self.new ≡ record self.old { crew = self.new.crew; lines = self.new.lines; fault = self.new.fault } }
     {
-        note(&mut self.lines, stepped_line(place, event, stepped));
+        note_step(&mut self.lines, place, event, stepped);
         self.fault = fault_of(self.crew.damage_at(at));
         self.crew.find_ready();
     }

@@ -6,4 +6,5 @@ pub mod States
 pub mod Beginning
 pub mod Failing
 pub mod Happening
+pub mod Sendings
 pub mod Making

@@ -1,4 +1,7 @@
-ghost use Rattle.std.specs.Prelude.{◌≡◌, ℕ, None, true, false, is_some, map, slice_get};
+ghost use Rattle.std.specs.Prelude.{◌≡◌, ◌↔◌, ℕ, None, true, false, is_some, map, slice_get};
+ghost use Rattle.list_structure.specs.Bells.{bell_of};
+ghost use Rattle.list_structure.specs.Cells.{NoneAsked};
+ghost use Rattle.list_structure.specs.Standings.{done_of};
 ghost use Rattle.group_crew.specs.Progresses.{is_at_end, own_choice};
 ghost use Rattle.group_crew.specs.Ready.{is_own, ready_at};
 ghost use Rattle.group_crew.specs.Crews.{Looks, is_half, is_ready_in, stale, unlooked};
@@ -58,7 +61,13 @@ pub fn look_for<C: CacheFace, P>(
     facility: &Facility<C>,
     is_half: bool,
     part: &MemberPart<P>,
-) -> Look {
+) -> Look
+    ensures bell { result.bell ≡ bell_of facility.now.lists.bells part.now.id }
+    ensures asked { (result.asked ≡ false) ↔ NoneAsked facility.now.lists.cells part.now.id }
+    ensures half { is_half ≡ true → result.is_half ≡ true }
+    ensures lost { result.is_lost ≡ (C.directory facility.now.cache).lost }
+    ensures done { result.is_done ≡ done_of facility.now.lists.done part.now.id }
+{
     Look {
         bell: facility.bell(part.id),
         asked: facility.asked(part.id),

@@ -1,9 +1,10 @@
 //! One event of a member of the group.
 
-ghost use Rattle.std.specs.Prelude.{◌≡◌, ◌≢◌, ◌≤◌, ℕ, true, Err, IfOk};
+ghost use Rattle.std.specs.Prelude.{◌≡◌, ◌≢◌, ◌≤◌, ℕ, true, Err, IfOk, option_copied};
 ghost use Rattle.ds_base.specs.Causes.{Rose};
 ghost use Rattle.member_resources.specs.Events.{world_of};
 ghost use Rattle.group_crew.specs.Crews.{Keeps};
+ghost use Rattle.group_crew.specs.Sendings.{command_of};
 ghost use Rattle.group_crew.specs.Happening.{ComesAt, IsRefusedAt, member_at};
 ghost use Rattle.group_member.specs.declared.fault.EventFault.TheVariants as faults;
 ghost use Rattle.group_member.specs.Stepping.{has_failed};
@@ -61,7 +62,9 @@ fn make_stale_at<P>(parts: &mut [MemberPart<P>], member: MemberId)
 }
 
 /// The command that was sent.
-pub fn command_of(stepped: &Stepped) -> Option<&Command> {
+pub fn command_of(stepped: &Stepped) -> Option<&Command>
+    ensures { option_copied result ≡ command_of stepped.now }
+{
     match stepped {
         Stepped::Sent(Sent::Command(command), _)
         | Stepped::Restart(RestartSent::Command(command), _)
