@@ -1,5 +1,4 @@
 pub mod Statuses
-pub mod Input
 pub mod Read
 pub mod Prepares
 pub mod Reports

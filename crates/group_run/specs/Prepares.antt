@@ -13,8 +13,8 @@ use Rattle.group_run.specs.declared.status.Status.TheVariants as status
 use Rattle.group_run.specs.declared.prepare.Setting.{Setting}
 use Rattle.group_run.specs.declared.prepare.Prepared.{Prepared}
 use Rattle.group_run.specs.declared.prepare.Prepared.TheVariants as prepared
-use Rattle.group_run.specs.Input.{WasRead}
-use Rattle.group_run.specs.Read.{IsRead}
+use Rattle.whole_streams.specs.Input.{WasRead}
+use Rattle.group_run.specs.Read.{IsRead, script_limit}
 
 -- what the words order, if they order anything
 abbrev pub ordered : List (String Global) → Option Order
@@ -26,7 +26,7 @@ setting_of sizes seed trace = record { sizes = sizes; seed = seed; trace = trace
 
 -- the bytes that were read make no script for so many members
 abbrev pub ReadsAFault : ℕ → Option (List ℕ) → Option (List ℕ) → ScriptFault → Type 0
-ReadsAFault members left left_now fault = (bytes : List ℕ) × WasRead left left_now bytes × (script_of members bytes ≡ Err fault)
+ReadsAFault members left left_now fault = (bytes : List ℕ) × WasRead script_limit left left_now bytes × (script_of members bytes ≡ Err fault)
 
 -- what holds where a source, by what was and is left of it and by how often it has failed, gives no script that is ready
 abbrev pub MetBySource : ℕ → Status → Option (List ℕ) → Option (List ℕ) → ℕ → ℕ → Type 0

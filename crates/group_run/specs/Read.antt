@@ -4,7 +4,10 @@ use Rattle.std.specs.Io.KnownBytes.{Consumes, IsAtEnd}
 use Rattle.ds_model.specs.declared.script.Script.{Script}
 use Rattle.ds_model.specs.Scripts.{IsScript}
 use Rattle.script_text.specs.Reading.{script_of}
-use Rattle.group_run.specs.Input.{script_limit}
+
+-- the bytes of the longest script
+abbrev pub script_limit : ℕ
+script_limit = 4194304
 
 -- the bytes are this script for so many members
 pub record Spells (members : ℕ) (bytes : List ℕ) (script : Script) : Type 0 where

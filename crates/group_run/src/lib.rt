@@ -1,8 +1,6 @@
 //! The call that plays a script on a disk and reports what became of it.
 #![tactic(auto)]
 
-mod input;
-mod output;
 mod prepare;
 mod run;
 mod status;

@@ -2,13 +2,16 @@ ghost use Rattle.std.specs.Prelude.{◌≡◌, IfOk};
 ghost use Rattle.group_words.specs.Orders.{AreSizes};
 ghost use Rattle.group_run.specs.Prepares.{ordered, setting_of, IsPrepared, IsPreparedToPlay, ReadsNothing};
 
-use crate::input::{ReadError, read_all};
 use crate::status::Status;
 use ds_base::{NoMemory, Sizes, Source};
 use ds_model::Script;
 use group_words::{Order, WordsFault, read_words, size_laws};
 use script_text::{ScriptError, read_script};
 use std::alloc::Global;
+use whole_streams::{ReadError, read_all};
+
+/// The bytes of the longest script.
+const SCRIPT_LIMIT: usize = 4_194_304;
 
 /// How a script is to be played.
 #[derive(Clone, Copy, Debug, PartialEq, Eq)]
@@ -46,7 +49,7 @@ fn prepare_to_play<S: Source>(
     requires { AreSizes setting.sizes }
     ensures { IfOk result (λ p. IsPreparedToPlay setting p (S.left source.old) (S.left source.new) (S.faults source.old) (S.faults source.new)) }
 {
-    let bytes = match read_all(alloc, source) {
+    let bytes = match read_all(alloc, source, SCRIPT_LIMIT) {
         Err(ReadError::NoMemory) => return Err(NoMemory),
         Err(ReadError::Failed) => return Ok(Prepared::Ended(Status::SourceFailed)),
         Ok(bytes) => bytes,

@@ -11,7 +11,6 @@ ghost use Rattle.group_run.specs.Tellings.{TellsOutcome};
 ghost use Rattle.group_words.specs.Orders.{AreSizes};
 ghost use Rattle.group_run.specs.Ends.{Tells, Meets, Works, Ends};
 
-use crate::output::write_all;
 use crate::prepare::{Prepared, Setting, prepare};
 use crate::run::run;
 use crate::status::Status;
@@ -27,6 +26,7 @@ use group_threads::Gate;
 use std::alloc::Global;
 use std::sync::Wait;
 use std::thread::Threads;
+use whole_streams::write_all;
 use work_maker::make_script;
 
 /// What a call leaves.

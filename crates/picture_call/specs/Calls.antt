@@ -8,14 +8,18 @@ use Rattle.picture_text.specs.Svg.{picture_text}
 use Rattle.report_text.specs.Steps.{report_of}
 use Rattle.run_picture.specs.Places.{is_whole}
 use Rattle.run_story.specs.Names.{has_name}
+use Rattle.whole_streams.specs.Input.{WasRead}
 use Rattle.run_picture.specs.declared.cut.Cut.{Cut}
 use Rattle.picture_call.specs.declared.order.Order.{Order}
 use Rattle.picture_call.specs.declared.order.Order.TheVariants as orders
-use Rattle.picture_call.specs.Input.{WasRead}
 use Rattle.picture_call.specs.Orders.{name_in, order_of}
 use Rattle.picture_call.specs.declared.status.Status.{Status}
 use Rattle.picture_call.specs.declared.status.Status.TheVariants as status
 use Rattle.picture_call.specs.Statuses.{status_text}
+
+-- the bytes of the longest report that is read
+abbrev pub report_limit : ℕ
+report_limit = 1073741824
 
 -- a text is the spelling of a picture with one bar for each transaction of a report
 pub record IsDrawn (report : Report) (text : List ℕ) : Type 0 where
@@ -55,7 +59,7 @@ pub record Answered (order : Order) (name bytes : List ℕ) (met : Status) (text
 -- the source's bytes were answered
 pub record Reads (order : Order) (name : List ℕ) (left left_now : Option (List ℕ)) (met : Status) (text : List ℕ) : Type 0 where
   pub bytes : List ℕ
-  pub was : WasRead left left_now bytes
+  pub was : WasRead report_limit left left_now bytes
   pub answered : Answered order name bytes met text
 
 -- how words, and the source where they are an order, are answered, but for want of memory

@@ -1,4 +1,3 @@
 pub mod Calls
-pub mod Input
 pub mod Orders
 pub mod Statuses

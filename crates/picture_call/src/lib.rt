@@ -2,9 +2,7 @@
 #![tactic(auto)]
 
 mod answer;
-mod input;
 mod order;
-mod output;
 mod status;
 mod style;
 mod top;

@@ -7,13 +7,15 @@ ghost use Rattle.picture_call.specs.declared.status.Status.{Status as AnyStatus}
 ghost use Rattle.picture_call.specs.declared.status.Status.TheVariants as status;
 
 use crate::answer::{Telling, answer, short_telling};
-use crate::input::{ReadError, read_all};
 use crate::order::Order;
-use crate::output::write_all;
 use crate::status::Status;
 use crate::words::read_words;
 use ds_base::{Bytes, NoMemory, Sink, Source};
 use std::alloc::Global;
+use whole_streams::{ReadError, read_all, write_all};
+
+/// The bytes of the longest report that is read.
+const REPORT_LIMIT: usize = 1_073_741_824;
 
 // The name behind `why`.
 fn name_in(words: &[String]) -> &[u8]
@@ -36,7 +38,7 @@ fn tell_source<S: Source>(
     ensures read { IfOk result (λ t. (t.status ≡ status.SourceFailed → ⊥) → Reads order name.now (S.left source.old) (S.left source.new) t.status t.text) }
     ensures caused { IfOk result (λ t. IsCaused t.status (S.faults source.old) (S.faults source.new)) }
 {
-    match read_all(alloc, source) {
+    match read_all(alloc, source, REPORT_LIMIT) {
         Err(ReadError::NoMemory) => Err(NoMemory),
         Err(ReadError::Failed) => short_telling(alloc, Status::SourceFailed),
         Ok(bytes) => answer(alloc, order, name, &bytes),

@@ -1,6 +1,0 @@
-use Rattle.std.proofs.Common.{◌≤◌, length}
-use Rattle.std.specs.Io.KnownBytes.{Consumes}
-use Rattle.picture_call.proofs.input.read_all.Given as goal
-
-abbrev pub invariant-loop : goal.invariant-loop
-invariant-loop g l = Consumes (g.S.Source.left l.fn.source) (g.S.Source.left l.source) l.out.items × (l.counter ≤ length l.out.items) × (length l.out.items ≤ 1073741824) × (g.S.Source.faults l.fn.source ≤ g.S.Source.faults l.source)
