@@ -12,7 +12,6 @@ mod calls;
 mod course;
 mod disk_calls;
 mod machine;
-mod page_number;
 mod records;
 mod redo;
 mod reply;

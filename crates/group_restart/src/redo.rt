@@ -1,12 +1,14 @@
 ghost use Rattle.std.specs.Prelude.{◌≡◌, false, option_copied, slice_get};
 ghost use Rattle.group_restart.specs.Redo.{after_place, places_from, brought, with_page_number};
 
-use crate::page_number::{LRSN_AT, lrsn_of};
 use ds_base::{PageId, Volume};
 use ds_model::LogRecord;
 use page_format::Page;
 use page_redo::{FieldFault, bring_record};
 use restart_plan::Greatest;
+
+// Where the number of the last change stands in a page.
+const LRSN_AT: u64 = 16;
 
 #[tactic(auto, unfolding(crate::specs::Redo::after_place))]
 fn bring_place(page: &mut Page, id: PageId, it: Option<&LogRecord>) -> Result<bool, FieldFault>
@@ -71,13 +73,13 @@ pub fn bring_page(
 pub fn with_page_number(greatest: Greatest, id: PageId, page: &Page) -> Greatest
     ensures { result ≡ with_page_number greatest id page.now }
 {
-    let lrsn = lrsn_of(page);
+    let lrsn = page.lrsn();
     if lrsn.number() <= greatest.lrsn.number() {
         return greatest;
     }
     Greatest {
         lrsn,
         volume: Volume::Page(id),
-        at: LRSN_AT as u64,
+        at: LRSN_AT,
     }
 }

@@ -4,7 +4,7 @@ ghost use Rattle.ds_model.specs.RecordBytes.{Fits};
 
 use crate::{MemberLog, MustForce};
 use ds_base::Lrsn;
-use log_record::{Body, LogRecord};
+use log_record::{Body, LogRecord, Version};
 use std::test::Fail;
 
 fn lrsn(number: u64) -> Lrsn
@@ -18,6 +18,7 @@ fn commit() -> LogRecord
     ensures { Fits result }
 {
     LogRecord {
+        version: Version::Two,
         lrsn: lrsn(5),
         tran: lrsn(5),
         body: Body::Commit,
