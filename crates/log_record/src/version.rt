@@ -1,9 +1,9 @@
 //! The versions of records: how wide their numbers (LRSNs) are.
 
-ghost use Rattle.std.specs.Prelude.{◌≡◌, ◌≤◌, ◌<◌, ◌^◌, length};
+ghost use Rattle.std.specs.Prelude.{◌≡◌, ◌≤◌, ◌^◌, length};
 ghost use Rattle.byteorder.specs.Endian.{big_number};
 ghost use Rattle.ds_base.specs.Ids.{IsLrsn, lrsn_width, old_lrsn_width};
-ghost use Rattle.ds_model.specs.RecordBytes.{version_byte, width_of, frame_of};
+ghost use Rattle.ds_model.specs.RecordBytes.{width_of, frame_of};
 ghost use Rattle.log_record.specs.Fields.{version_of_number};
 
 use ds_base::{LRSN_END, LRSN_WIDTH, OLD_LRSN_WIDTH};
@@ -22,7 +22,8 @@ pub fn version_of_number(number: u8) -> Option<Version>
 
 /// How many bytes a number has in a record of the version.
 pub fn width_of(version: Version) -> usize
-    ensures { result ≡ width_of version }
+    ensures value { result ≡ width_of version }
+    ensures range { (6 ≤ result) × (result ≤ 10) }
 {
     match version {
         Version::One => OLD_LRSN_WIDTH as usize,
@@ -32,7 +33,8 @@ pub fn width_of(version: Version) -> usize
 
 /// How many bytes a record of the version has without its body.
 pub fn frame_of(version: Version) -> usize
-    ensures { result ≡ frame_of version }
+    ensures value { result ≡ frame_of version }
+    ensures small { result ≤ 30 }
 {
     10 + 2 * width_of(version)
 }

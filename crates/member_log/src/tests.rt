@@ -7,7 +7,7 @@ use ds_base::Lrsn;
 use log_record::{Body, LogRecord, Version};
 use std::test::Fail;
 
-fn lrsn(number: u64) -> Lrsn
+fn lrsn(number: u128) -> Lrsn
     requires { IsLrsn number }
     ensures { result ≡ number }
 {
@@ -26,17 +26,17 @@ fn commit() -> LogRecord
 }
 
 #[test]
-fn two_commits_fill_a_buffer_of_45_bytes(rt: HostRuntime) -> Result<(), Fail> {
-    let mut log = MemberLog::new(rt.alloc(), 45)?;
+fn two_commits_fill_a_buffer_of_61_bytes(rt: HostRuntime) -> Result<(), Fail> {
+    let mut log = MemberLog::new(rt.alloc(), 61)?;
     assert_eq!(rt; log.put(&commit()), Ok(()));
-    assert_eq!(rt; log.room(), 23);
+    assert_eq!(rt; log.room(), 31);
     assert_eq!(rt; log.stable(), lrsn(0));
     assert_eq!(rt; log.last(), lrsn(5));
     assert_eq!(rt; log.put(&commit()), Ok(()));
     assert_eq!(rt; log.put(&commit()), Err(MustForce { room: 1 }));
-    assert_eq!(rt; log.pending().len(), 44);
+    assert_eq!(rt; log.pending().len(), 60);
     log.forced();
     assert_eq!(rt; log.stable(), lrsn(5));
-    assert_eq!(rt; log.room(), 45);
+    assert_eq!(rt; log.room(), 61);
     Ok(())
 }

@@ -12,7 +12,7 @@ behind : (n : ℕ) (page rest : List ℕ) → n ≤ length page → drop n (take
 behind n page rest le =
     ap (λ (k : ℕ). drop k (take n page ++ rest)) (sym (length-take-le n page le)) ∙ drop-append_seam (take n page) rest
 
-length_patched : (page bytes : List ℕ) (at : ℕ) → at + length bytes ≤ length page → length (patched page at bytes) ≡ length page
+pub length_patched : (page bytes : List ℕ) (at : ℕ) → at + length bytes ≤ length page → length (patched page at bytes) ≡ length page
 unfolding patched
 length_patched page bytes at h =
     omega (arith, length-append (take at page ++ bytes) (drop (at + length bytes) page), length-append (take at page) bytes, length-take-le at page (omega arith), length-drop (at + length bytes) page)

@@ -1,5 +1,5 @@
 ghost use Rattle.std.specs.Prelude.{◌≡◌, ◌≤◌, length};
-ghost use Rattle.ds_base.specs.Ids.{lrsn_width, old_lrsn_width};
+ghost use Rattle.ds_base.specs.Ids.{IsLrsn, lrsn_width, old_lrsn_width};
 ghost use Rattle.page_format.specs.Fields.{page_size, lrsn_at, number_in, lrsn_of};
 ghost use Rattle.page_format.specs.Header.{kind_of, is_version, may_have, most, fields, first_fault, is_zeros, empty_header, header_in, header_of};
 
@@ -88,10 +88,11 @@ impl PageKind {
     }
 }
 
-// A number of 10 bytes.
-fn read_number(page: &[u8]) -> u128
+// The LRSN of a page, in 10 bytes.
+fn new_number(page: &[u8]) -> u128
     requires { page_size ≤ length page.now }
-    ensures { result ≡ number_in page.now lrsn_at lrsn_width }
+    ensures value { result ≡ number_in page.now lrsn_at lrsn_width }
+    ensures range { IsLrsn result }
 {
     let b = &page[LRSN_AT as usize..];
     u128::from_be_bytes([
@@ -99,25 +100,33 @@ fn read_number(page: &[u8]) -> u128
     ])
 }
 
-// A number of 6 bytes, as pages of version 1 have it.
-fn read_old_number(page: &[u8]) -> u128
+// That of a page of version 1, in 6 bytes.
+fn old_number(page: &[u8]) -> u128
     requires { page_size ≤ length page.now }
-    ensures { result ≡ number_in page.now lrsn_at old_lrsn_width }
+    ensures value { result ≡ number_in page.now lrsn_at old_lrsn_width }
+    ensures range { IsLrsn result }
 {
     let b = &page[LRSN_AT as usize..];
     u64::from_be_bytes([0, 0, b[0], b[1], b[2], b[3], b[4], b[5]]) as u128
+}
+
+fn read_number(page: &[u8]) -> u128
+    requires { page_size ≤ length page.now }
+    ensures value { result ≡ lrsn_of page.now }
+    ensures range { IsLrsn result }
+{
+    if page[VERSION_AT as usize] == VERSION {
+        new_number(page)
+    } else {
+        old_number(page)
+    }
 }
 
 fn read_lrsn(page: &[u8]) -> Lrsn
     requires { page_size ≤ length page.now }
     ensures { result ≡ lrsn_of page.now }
 {
-    let number = if page[VERSION_AT as usize] == VERSION {
-        read_number(page)
-    } else {
-        read_old_number(page)
-    };
-    let Some(lrsn) = Lrsn::new(number) else {
+    let Some(lrsn) = Lrsn::new(read_number(page)) else {
         unreachable!()
     };
     lrsn

@@ -27,7 +27,7 @@ pub fn overwrite(page: &mut [u8], offset: usize, bytes: &[u8])
 }
 
 // Writes the version.
-#[tactic(auto, unfolding(crate::specs::Fields::set_version))]
+#[tactic(auto, using(crate::proofs::Stamps::length_patched), unfolding(crate::specs::Fields::set_version))]
 fn set_version(page: &mut [u8])
     requires { page_size ≤ length page.old }
     ensures bytes { page.new ≡ set_version page.old }

@@ -68,7 +68,7 @@ fn script(alloc: Global) -> Result<Script, Fail> {
 }
 
 // The log of a member that has committed one transaction, with one change.
-fn log(alloc: Global, number: u64, (lrsn, commit): (u64, u64), key: u64) -> Result<Log, Fail> {
+fn log(alloc: Global, number: u64, (lrsn, commit): (u128, u128), key: u64) -> Result<Log, Fail> {
     let first = Lrsn::new(lrsn).ok_or("a number")?;
     let change = RowChange {
         table: table(),
