@@ -51,7 +51,7 @@ unfolding undone
 undone_good o d h u lrsn s = λ e. s
 
 undo_at_good : (o d : Logs) (h : Restart) (u : Undo) (lrsn : ℕ) → Stands o d → Good o d (undo_at h u lrsn)
-undo_at_good o d h u lrsn s = cond_both (nat_lt lrsn (2 ^ 48)) (undone h u lrsn) (too_few_numbers h) (Good o d) (λ _. undone_good o d h u lrsn s) (λ _. λ e. absurd cc)
+undo_at_good o d h u lrsn s = cond_both (nat_lt lrsn (2 ^ 80)) (undone h u lrsn) (too_few_numbers h) (Good o d) (λ _. undone_good o d h u lrsn s) (λ _. λ e. absurd cc)
 
 undo_unless_good : (o d : Logs) (h : Restart) (u : Undo) (fault : Option ℕ) → Stands o d → Good o d (undo_unless h u fault)
 undo_unless_good o d h u (Some at) s = λ e. absurd cc

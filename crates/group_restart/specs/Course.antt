@@ -108,7 +108,7 @@ abbrev pub too_few_numbers : Restart → Next
 too_few_numbers h = (h, state.Damaged h.plan.greatest.volume h.plan.greatest.at)
 
 abbrev pub has_numbers : Restart → Bool
-has_numbers h = nat_lt (h.counter + length h.plan.undo) (2 ^ 48)
+has_numbers h = nat_lt (h.counter + length h.plan.undo) (2 ^ 80)
 
 abbrev pub numbered : Restart → Next
 numbered h = if has_numbers h then next_closing h else too_few_numbers h
@@ -167,7 +167,7 @@ undone h u lrsn =
     (stage.UndoAppend u.member (row_patch u.change).page)
 
 abbrev pub undo_at : Restart → Undo → ℕ → Next
-undo_at h u lrsn = if nat_lt lrsn (2 ^ 48) then undone h u lrsn else too_few_numbers h
+undo_at h u lrsn = if nat_lt lrsn (2 ^ 80) then undone h u lrsn else too_few_numbers h
 
 abbrev pub undo_unless : Restart → Undo → Option ℕ → Next
 undo_unless h u (Some at) = damaged_page h (row_patch u.change).page at

@@ -42,7 +42,7 @@ pub fn part_laws()
     ensures put { (lrsn : ℕ) (page : List ℕ) (p : Patch) → Lies page p → IsOffStamp p.offset (length p.bytes) → part p.offset (length p.bytes) (after_patch lrsn page p) ≡ p.bytes }
     ensures kept { (lrsn : ℕ) (page : List ℕ) (p : Patch) (at width : ℕ) → Lies page p → IsOffStamp at width → AreApart at width p.offset (length p.bytes) → part at width (after_patch lrsn page p) ≡ part at width page }
     ensures number { (page : List ℕ) (at width : ℕ) → number_in page at width ≡ big_number width (part at width page) }
-    ensures stamp { (lrsn : ℕ) (page : List ℕ) → length page ≡ page_size → lrsn < 2 ^ 48 → lrsn_of (set_lrsn page lrsn) ≡ lrsn }
+    ensures stamp { (lrsn : ℕ) (page : List ℕ) → length page ≡ page_size → lrsn < 2 ^ 80 → lrsn_of (set_lrsn page lrsn) ≡ lrsn }
 {}
 
 /// A page that begins with its front and was stamped has the header that its kind, its LRSN and its count say, and bears
@@ -64,8 +64,8 @@ pub fn front_laws()
     ensures made_by_heap { (lrsn : ℕ) (page : List ℕ) (id : PageId) (kind : ℕ) → length page ≡ page_size → HasFront (set_lrsn (patched page mark_at (front kind id)) lrsn) id kind }
     ensures patch { (lrsn : ℕ) (page : List ℕ) (id : PageId) (kind : ℕ) (p : Patch) → HasFront page id kind → front_width ≤ p.offset → p.offset + length p.bytes ≤ page_size → HasFront (after_patch lrsn page p) id kind }
     ensures patches { (lrsn : ℕ) (page : List ℕ) (id : PageId) (kind : ℕ) (ps : List Patch) → HasFront page id kind → AreBehindFront ps → HasFront (all_stamped lrsn page ps) id kind }
-    ensures stamped { (lrsn : ℕ) (page : List ℕ) → length page ≡ page_size → 1 ≤ lrsn → lrsn < 2 ^ 48 → IsStamped (set_lrsn page lrsn) }
+    ensures stamped { (lrsn : ℕ) (page : List ℕ) → length page ≡ page_size → 1 ≤ lrsn → lrsn < 2 ^ 80 → IsStamped (set_lrsn page lrsn) }
     ensures all_whole { (lrsn : ℕ) (page : List ℕ) (ps : List Patch) → length page ≡ page_size → AreWithin ps → length (all_stamped lrsn page ps) ≡ page_size }
-    ensures all_lrsn { (lrsn : ℕ) (page : List ℕ) (p : Patch) (ps : List Patch) → length page ≡ page_size → AreWithin (p ∷ ps) → lrsn < 2 ^ 48 → lrsn_of (all_stamped lrsn page (p ∷ ps)) ≡ lrsn }
-    ensures all_stamped { (lrsn : ℕ) (page : List ℕ) (p : Patch) (ps : List Patch) → length page ≡ page_size → AreWithin (p ∷ ps) → 1 ≤ lrsn → lrsn < 2 ^ 48 → IsStamped (all_stamped lrsn page (p ∷ ps)) }
+    ensures all_lrsn { (lrsn : ℕ) (page : List ℕ) (p : Patch) (ps : List Patch) → length page ≡ page_size → AreWithin (p ∷ ps) → lrsn < 2 ^ 80 → lrsn_of (all_stamped lrsn page (p ∷ ps)) ≡ lrsn }
+    ensures all_stamped { (lrsn : ℕ) (page : List ℕ) (p : Patch) (ps : List Patch) → length page ≡ page_size → AreWithin (p ∷ ps) → 1 ≤ lrsn → lrsn < 2 ^ 80 → IsStamped (all_stamped lrsn page (p ∷ ps)) }
 {}
