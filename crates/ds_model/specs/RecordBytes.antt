@@ -18,6 +18,11 @@ abbrev pub version_byte : Version → ℕ
 version_byte version.One = 1
 version_byte version.Two = 2
 
+-- whether records are written in the version, or are read in it alone
+abbrev pub is_written : Version → Bool
+is_written version.One = false
+is_written version.Two = true
+
 -- how many bytes a number has in a record of the version
 abbrev pub width_of : Version → ℕ
 width_of version.One = old_lrsn_width

@@ -1,5 +1,5 @@
 -- Where the fields of a page's header stand, and how a page is patched.
-use Rattle.std.specs.Prelude.{ℕ, ◌+◌, ◌==◌, if◌then◌else◌, List, [], ◌∷◌, ◌++◌, length, take, drop, slice_index}
+use Rattle.std.specs.Prelude.{ℕ, ◌+◌, ◌==◌, Bool, if◌then◌else◌, List, [], ◌∷◌, ◌++◌, length, take, drop, slice_index}
 use Rattle.ds_base.specs.Ids.{lrsn_width, old_lrsn_width}
 use Rattle.byteorder.specs.Endian.{big_bytes, big_number}
 
@@ -45,6 +45,9 @@ version = 2
 abbrev pub old_version : ℕ
 old_version = 1
 
+abbrev pub is_old : List ℕ → Bool
+is_old page = slice_index page version_at == old_version
+
 -- how many bytes the LRSN of the page has
 abbrev pub width_in : List ℕ → ℕ
 width_in page = if slice_index page version_at == version then lrsn_width else old_lrsn_width
@@ -66,3 +69,7 @@ set_version page = patched page version_at (version ∷ [])
 -- the page in that version, with this number as the LRSN of its last change
 unfoldable pub set_lrsn : List ℕ → ℕ → List ℕ
 set_lrsn page lrsn = patched (set_version page) lrsn_at (big_bytes lrsn_width lrsn)
+
+-- the page in that version, with the same LRSN
+unfoldable pub renewed : List ℕ → List ℕ
+renewed page = set_lrsn page (lrsn_of page)

@@ -1,9 +1,9 @@
 ghost use Rattle.std.specs.Prelude.{◌≡◌, ◌+◌, ◌≤◌, length};
 ghost use Rattle.ds_base.specs.Ids.{IsLrsn};
-ghost use Rattle.page_format.specs.Fields.{page_size, lrsn_at, patched, set_version, set_lrsn, lrsn_of};
+ghost use Rattle.page_format.specs.Fields.{page_size, patched, set_version, set_lrsn, lrsn_of, is_old, renewed};
 
 use crate::Page;
-use crate::layout::{LRSN_AT, VERSION, VERSION_AT};
+use crate::layout::{LRSN_AT, OLD_VERSION, VERSION, VERSION_AT};
 use ds_base::{Bytes, LRSN_WIDTH, Lrsn, PageId, Sequence};
 
 /// New bytes for a part of a page, from an offset on.
@@ -72,5 +72,22 @@ impl Page {
         ensures number { lrsn_of self.new ≡ lrsn }
     {
         self.write(patch.offset as usize, patch.bytes.as_slice(), lrsn);
+    }
+
+    /// Whether the page is of version 1. One of zeros is of none.
+    pub fn is_old(&self) -> bool
+        ensures { result ≡ is_old self.now }
+    {
+        self.bytes()[VERSION_AT as usize] == OLD_VERSION
+    }
+
+    /// Writes the version 2, and the LRSN of the last change in its width. Nothing else that the page says is changed.
+    #[tactic(auto, unfolding(crate::specs::Fields::renewed))]
+    pub fn renew(&mut self)
+        ensures bytes { self.new ≡ renewed self.old }
+        ensures number { lrsn_of self.new ≡ lrsn_of self.old }
+    {
+        let lrsn = self.lrsn();
+        stamp(self.bytes_mut(), lrsn);
     }
 }
