@@ -288,3 +288,4 @@ pub record IsBegun (h : Restart) : Type 0 where
   pub stage_is : h.stage ≡ stage.ReadLog
   pub reader_is : IsNew 1 h.reader
   pub no_logs : h.logs ≡ []
+  pub no_old_pages : h.old_pages ≡ []
