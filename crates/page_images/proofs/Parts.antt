@@ -108,15 +108,18 @@ version_there : (page : List ℕ) → length page ≡ 4096 → part 5 1 (set_ver
 unfolding set_version
 version_there page whole = put page 5 (2 ∷ []) (omega (arith, whole))
 
-byte_of_part : (page : List ℕ) (at : ℕ) → get_or page at 0 ≡ get_or (part at 1 page) 0 0
+pub byte_of_part : (page : List ℕ) (at : ℕ) → get_or page at 0 ≡ get_or (part at 1 page) 0 0
 byte_of_part page at =
     let here : at ≡ at + 0 = omega arith in
     ap (λ (k : ℕ). get_or page k 0) here ∙ sym (get_or-drop at page 0 0) ∙ sym (get_or-take 1 (drop at page) 0 0 (omega arith))
 
-width_is : (lrsn : ℕ) (page : List ℕ) → length page ≡ 4096 → width_in (set_lrsn page lrsn) ≡ 10
-width_is lrsn page whole =
+pub stamp_version : (lrsn : ℕ) (page : List ℕ) → length page ≡ 4096 → get_or (set_lrsn page lrsn) 5 0 ≡ 2
+stamp_version lrsn page whole =
     let there : part 5 1 (set_lrsn page lrsn) ≡ 2 ∷ [] = number_kept lrsn page 5 1 whole (inl (omega arith)) ∙ version_there page whole in
-    ap (λ (n : ℕ). if n == 2 then 10 else 6) (byte_of_part (set_lrsn page lrsn) 5 ∙ ap (λ (l : List ℕ). get_or l 0 0) there)
+    byte_of_part (set_lrsn page lrsn) 5 ∙ ap (λ (l : List ℕ). get_or l 0 0) there
+
+width_is : (lrsn : ℕ) (page : List ℕ) → length page ≡ 4096 → width_in (set_lrsn page lrsn) ≡ 10
+width_is lrsn page whole = ap (λ (n : ℕ). if n == 2 then 10 else 6) (stamp_version lrsn page whole)
 
 number_there : (lrsn : ℕ) (page : List ℕ) → length page ≡ 4096 → lrsn < 2 ^ 80 → number_in (set_lrsn page lrsn) 16 10 ≡ lrsn
 unfolding set_lrsn
