@@ -82,7 +82,7 @@ impl Page {
     }
 
     /// Writes the version 2, and the LRSN of the last change in its width. Nothing else that the page says is changed.
-    #[tactic(auto, using(crate::proofs::Stamps::stamped), unfolding(crate::specs::Fields::renewed))]
+    #[tactic(auto, unfolding(crate::specs::Fields::renewed))]
     pub fn renew(&mut self)
         ensures bytes { self.new ≡ renewed self.old }
         ensures number { lrsn_of self.new ≡ lrsn_of self.old }
