@@ -77,5 +77,7 @@ module _ (sound : ReadsSound) (o : Logs) (h k : Restart) (w v : Drive) (made : M
   kept (stage.UndoRead page) i calls = page_left w v made c (KeepsLogs o) page k.page is calls.0 i.keeps
   kept (stage.UndoAppend member page) i calls = adds_kept member i calls.0 calls.1 calls.2
   kept (stage.UndoWrite page) i calls = written_left w v made c (KeepsLogs o) page h.page is calls.0 i.keeps i.keeps
+  kept (stage.RenewRead page) i calls = page_left w v made c (KeepsLogs o) page k.page is calls.0 i.keeps
+  kept (stage.RenewWrite page) i calls = written_left w v made c (KeepsLogs o) page h.page is calls.0 i.keeps i.keeps
   kept (stage.EndAppend member) i calls = adds_kept member i calls.0 calls.1 calls.2
   kept stage.End i calls = length_left w v made c (KeepsLogs o) h.reader.member is calls.0 i.keeps

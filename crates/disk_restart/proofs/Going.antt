@@ -15,9 +15,9 @@ use Rattle.group_restart.specs.declared.stage.Stage.{Stage}
 use Rattle.group_restart.specs.declared.stage.Stage.TheVariants as stage
 use Rattle.group_restart.specs.Machine.{Restart}
 use Rattle.group_restart.specs.Records.{restart_end}
-use Rattle.group_restart.specs.PageNumbers.{with_page_number}
 use Rattle.group_restart.specs.Undo.{undo_fault}
-use Rattle.group_restart.specs.Course.{with_plan, with_added, rest_tails, rest_pages, rest_closings, rest_undo, rest_endings, with_greatest, ending_or, next_ending, begin_end, undo_or, next_undo, closing_or, next_closing, too_few_numbers, has_numbers, numbered, counted, begin_undo, page_or, next_redo, tail_or, next_tail, raised, take_raised, forwarded, page_brought, take_page, undone, undo_at, undo_unless, undo_one, undo_first, take_undone, take_done, found_damage, planned, take_logs}
+use Rattle.page_format.specs.Fields.{is_old, renewed}
+use Rattle.group_restart.specs.Course.{go, with_plan, with_added, rest_tails, rest_pages, rest_closings, rest_undo, rest_endings, ending_or, next_ending, begin_end, rest_old, renewal_or, next_renewal, undo_or, next_undo, closing_or, next_closing, too_few_numbers, has_numbers, numbered, counted, begin_undo, page_or, next_redo, tail_or, next_tail, raised, numbered_by, noted, take_raised, forwarded, page_brought, take_page, undone, undo_at, undo_unless, undo_one, undo_first, take_undone, take_old, take_done, found_damage, planned, take_logs}
 use Rattle.disk_restart.proofs.Whole.{ReadsSound}
 use Rattle.disk_restart.proofs.Cutting.{Logs, CutsDue, AreFrom, due_all}
 use Rattle.disk_restart.proofs.Stages.{Cuts, Stands, AfterCall, Good}
@@ -36,10 +36,24 @@ begin_end_good : (o d : Logs) (h : Restart) → Stands o d → Good o d (begin_e
 unfolding begin_end
 begin_end_good o d h s = next_ending_good o d (with_added h (restart_end h.counter ∷ [])) s
 
+-- ---- renewal
+
+renewal_good : (o d : Logs) (h : Restart) (next : Option PageId) → Stands o d → Good o d (renewal_or h next)
+renewal_good o d h None s = begin_end_good o d h s
+renewal_good o d h (Some page) s = λ e. s
+
+next_renewal_good : (o d : Logs) (h : Restart) → Stands o d → Good o d (next_renewal h)
+unfolding next_renewal
+next_renewal_good o d h s = renewal_good o d (rest_old h) (slice_get h.old_pages 0) s
+
+take_old_good : (o d : Logs) (h : Restart) (id : PageId) → Stands o d → Good o d (take_old h id)
+unfolding take_old
+take_old_good o d h id s = cond_both (is_old h.page) (go (record h { page = renewed h.page }) (stage.RenewWrite id)) (next_renewal h) (Good o d) (λ _. λ e. s) (λ _. next_renewal_good o d h s)
+
 -- ---- undo
 
 undo_good : (o d : Logs) (h : Restart) (next : Option Undo) → Stands o d → Good o d (undo_or h next)
-undo_good o d h None s = begin_end_good o d h s
+undo_good o d h None s = next_renewal_good o d h s
 undo_good o d h (Some u) s = λ e. s
 
 next_undo_good : (o d : Logs) (h : Restart) → Stands o d → Good o d (next_undo h)
@@ -51,7 +65,7 @@ unfolding undone
 undone_good o d h u lrsn s = λ e. s
 
 undo_at_good : (o d : Logs) (h : Restart) (u : Undo) (lrsn : ℕ) → Stands o d → Good o d (undo_at h u lrsn)
-undo_at_good o d h u lrsn s = cond_both (nat_lt lrsn (2 ^ 48)) (undone h u lrsn) (too_few_numbers h) (Good o d) (λ _. undone_good o d h u lrsn s) (λ _. λ e. absurd cc)
+undo_at_good o d h u lrsn s = cond_both (nat_lt lrsn (2 ^ 80)) (undone h u lrsn) (too_few_numbers h) (Good o d) (λ _. undone_good o d h u lrsn s) (λ _. λ e. absurd cc)
 
 undo_unless_good : (o d : Logs) (h : Restart) (u : Undo) (fault : Option ℕ) → Stands o d → Good o d (undo_unless h u fault)
 undo_unless_good o d h u (Some at) s = λ e. absurd cc
@@ -62,7 +76,7 @@ unfolding undo_one
 undo_one_good o d h u s = undo_unless_good o d h u (undo_fault u.change h.page) s
 
 undo_first_good : (o d : Logs) (h : Restart) (next : Option Undo) → Stands o d → Good o d (undo_first h next)
-undo_first_good o d h None s = begin_end_good o d h s
+undo_first_good o d h None s = next_renewal_good o d h s
 undo_first_good o d h (Some u) s = undo_one_good o d h u s
 
 take_undone_good : (o d : Logs) (h : Restart) → Stands o d → Good o d (take_undone h)
@@ -102,7 +116,7 @@ raised_good o d h id false s = next_redo_good o d h s
 
 take_raised_good : (o d : Logs) (h : Restart) (id : PageId) (is_raised : Bool) → Stands o d → Good o d (take_raised h id is_raised)
 unfolding take_raised
-take_raised_good o d h id is_raised s = raised_good o d (with_plan h (with_greatest h.plan (with_page_number h.plan.greatest id h.page))) id is_raised s
+take_raised_good o d h id is_raised s = raised_good o d (noted (numbered_by h id) id) id is_raised s
 
 forwarded_good : (o d : Logs) (h : Restart) (id : PageId) (outcome : Result Bool FieldFault) → Stands o d → Good o d (forwarded h id outcome)
 forwarded_good o d h id (Err fault) s = λ e. absurd cc
@@ -155,5 +169,7 @@ done_good (stage.CloseAppend member) o d h after = next_closing_good o d h after
 done_good (stage.UndoRead page) o d h after = take_undone_good o d h after
 done_good (stage.UndoAppend member page) o d h after = λ e. after
 done_good (stage.UndoWrite page) o d h after = next_undo_good o d h after
+done_good (stage.RenewRead page) o d h after = take_old_good o d h page after
+done_good (stage.RenewWrite page) o d h after = next_renewal_good o d h after
 done_good (stage.EndAppend member) o d h after = next_ending_good o d h after
 done_good stage.End o d h after = λ e. absurd cc

@@ -37,6 +37,8 @@ InStage (stage.CloseAppend member) o h c = Stands o c
 InStage (stage.UndoRead page) o h c = Stands o c
 InStage (stage.UndoAppend member page) o h c = Stands o c
 InStage (stage.UndoWrite page) o h c = Stands o c
+InStage (stage.RenewRead page) o h c = Stands o c
+InStage (stage.RenewWrite page) o h c = Stands o c
 InStage (stage.EndAppend member) o h c = Stands o c
 InStage stage.End o h c = Stands o c
 
@@ -53,6 +55,8 @@ AfterCall (stage.CloseAppend member) o h d = Stands o d
 AfterCall (stage.UndoRead page) o h d = Stands o d
 AfterCall (stage.UndoAppend member page) o h d = Stands o d
 AfterCall (stage.UndoWrite page) o h d = Stands o d
+AfterCall (stage.RenewRead page) o h d = Stands o d
+AfterCall (stage.RenewWrite page) o h d = Stands o d
 AfterCall (stage.EndAppend member) o h d = Stands o d
 AfterCall stage.End o h d = Stands o d
 

@@ -101,6 +101,8 @@ module _ (sound : ReadsSound) (o : Logs) (h k x : Restart) (w v : Drive) (r : Re
   goes (stage.UndoRead page) at i calls = page_goes (stage.UndoRead page) page at i calls.0 calls.1
   goes (stage.UndoAppend member page) at i calls = append_goes (stage.UndoAppend member page) member at (after_append member i calls.1 calls.2) calls.0 calls.3
   goes (stage.UndoWrite page) at i calls = written_goes (stage.UndoWrite page) page at i calls.0 calls.1
+  goes (stage.RenewRead page) at i calls = page_goes (stage.RenewRead page) page at i calls.0 calls.1
+  goes (stage.RenewWrite page) at i calls = written_goes (stage.RenewWrite page) page at i calls.0 calls.1
   goes (stage.EndAppend member) at i calls = append_goes (stage.EndAppend member) member at (after_append member i calls.1 calls.2) calls.0 calls.3
   goes stage.End at i calls = end_goes at calls.0 calls.1
 
@@ -150,6 +152,8 @@ stage_keeps (stage.CloseAppend member) o h c i = i.keeps
 stage_keeps (stage.UndoRead page) o h c i = i.keeps
 stage_keeps (stage.UndoAppend member page) o h c i = i.keeps
 stage_keeps (stage.UndoWrite page) o h c i = i.keeps
+stage_keeps (stage.RenewRead page) o h c i = i.keeps
+stage_keeps (stage.RenewWrite page) o h c i = i.keeps
 stage_keeps (stage.EndAppend member) o h c i = i.keeps
 stage_keeps stage.End o h c i = i.keeps
 

@@ -5,13 +5,16 @@ ghost use Rattle.ds_base.specs.Ids.{IsMember, IsTable, IsLrsn};
 use std::marker::Model;
 
 /// How many bytes a log record sequence number has.
-pub const LRSN_WIDTH: u32 = 6;
+pub const LRSN_WIDTH: u32 = 10;
+
+/// How many bytes it has in log records and pages of version 1.
+pub const OLD_LRSN_WIDTH: u32 = 6;
 
 /// The least number that is no log record sequence number.
-pub const LRSN_END: u64 = 1 << (8 * LRSN_WIDTH);
+pub const LRSN_END: u128 = 1 << (8 * LRSN_WIDTH);
 
 /// The last number that new work draws. The numbers above it are for compensations alone.
-pub const LRSN_LIMIT: u64 = LRSN_END - (1 << 24);
+pub const LRSN_LIMIT: u128 = LRSN_END - (1 << 24);
 
 /// A member of the group, 1 to 32.
 #[derive(Clone, Copy, Debug, PartialEq, Eq, PartialOrd, Ord)]
@@ -83,10 +86,10 @@ impl TableId {
     }
 }
 
-/// A log record sequence number (LRSN), below 2^48. The numbers are common to the group and order the merged logs.
+/// A log record sequence number (LRSN), below 2^80. The numbers are common to the group and order the merged logs.
 #[derive(Clone, Copy, Debug, PartialEq, Eq, PartialOrd, Ord)]
 pub struct Lrsn {
-    number: u64,
+    number: u128,
 }
 
 impl Model for Lrsn {
@@ -100,7 +103,7 @@ impl Model for Lrsn {
 }
 
 impl Lrsn {
-    pub fn new(n: u64) -> Option<Lrsn>
+    pub fn new(n: u128) -> Option<Lrsn>
         ensures { SomeIff result (IsLrsn n) n }
     {
         if n < LRSN_END {
@@ -110,7 +113,7 @@ impl Lrsn {
         }
     }
 
-    pub fn number(&self) -> u64
+    pub fn number(&self) -> u128
         ensures value { result ≡ self.now }
         ensures range { IsLrsn self.now }
     {

@@ -13,7 +13,7 @@ mod value;
 
 pub use bytes::Bytes;
 pub use fault::{Failed, NoMemory};
-pub use ids::{LRSN_END, LRSN_LIMIT, LRSN_WIDTH, Lrsn, MemberId, TableId};
+pub use ids::{LRSN_END, LRSN_LIMIT, LRSN_WIDTH, Lrsn, MemberId, OLD_LRSN_WIDTH, TableId};
 pub use memory::{MemorySink, MemorySource};
 pub use names::{PageId, Place, Sizes, TranId, Volume};
 pub use row::{Key, Row, RowList};

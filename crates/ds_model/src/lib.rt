@@ -14,7 +14,7 @@ mod script;
 pub use fate::{Answer, Cycle, Fate, Reads, Refusal};
 pub use history::Entry;
 pub use lock::Name;
-pub use log::{Body, LogRecord, RecordList, RowChange};
+pub use log::{Body, LogRecord, RecordList, RowChange, Version};
 pub use report::{
     CauseLine, CauseLineList, EventLine, EventLineList, NameList, Report, ReportEntry,
     ReportEntryList, Told, ToldRead, ToldReads, ToldRefusal, Trace,

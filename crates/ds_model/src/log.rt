@@ -30,9 +30,20 @@ pub enum Body {
     RestartEnd,
 }
 
-/// A record of a log. `tran` is the number of its transaction's first record, and 0 where it belongs to none.
+/// The layout of a record's bytes: numbers (LRSNs) have 6 bytes in version 1, and 10 in version 2.
+#[derive(Clone, Copy, Debug, PartialEq, Eq)]
+pub enum Version {
+    /// Version 1, in which records are read alone.
+    One,
+    /// Version 2, in which they are written too.
+    Two,
+}
+
+/// A record of a log. `tran` is the number of its transaction's first record, and 0 where it belongs to none. The version
+/// says nothing but how the record is spelled.
 #[derive(Debug, Drop)]
 pub struct LogRecord {
+    pub version: Version,
     pub lrsn: Lrsn,
     pub tran: Lrsn,
     pub body: Body,

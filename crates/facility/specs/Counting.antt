@@ -8,7 +8,7 @@ use Rattle.facility.specs.States.{Held}
 
 -- the last number that new work draws
 abbrev pub limit : ℕ
-limit = 2 ^ 48 - 2 ^ 24
+limit = 2 ^ 80 - 2 ^ 24
 
 -- the frames of the indexes
 abbrev pub given : Indexes → List ℕ

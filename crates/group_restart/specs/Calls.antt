@@ -22,6 +22,8 @@ call_in (stage.CloseAppend member) h = call.AppendLog member
 call_in (stage.UndoRead page) h = call.ReadPage page
 call_in (stage.UndoAppend member page) h = call.AppendLog member
 call_in (stage.UndoWrite page) h = call.WritePage page
+call_in (stage.RenewRead page) h = call.ReadPage page
+call_in (stage.RenewWrite page) h = call.WritePage page
 call_in (stage.EndAppend member) h = call.AppendLog member
 call_in stage.End h = call.LogLength h.reader.member
 

@@ -1,8 +1,9 @@
 -- What a group restart makes of an answer.
-use Rattle.std.specs.Prelude.{◌≡◌, ℕ, ◌+◌, ◌^◌, nat_lt, Bool, true, false, if◌then◌else◌, List, [], ◌∷◌, ◌++◌, length, drop, slice_get, Option, Some, None, Result, Ok, Err}
+use Rattle.std.specs.Prelude.{◌≡◌, ℕ, ◌+◌, ◌^◌, nat_lt, Bool, true, false, ◌&&◌, if◌then◌else◌, List, [], ◌∷◌, ◌++◌, length, drop, slice_get, Option, Some, None, Result, Ok, Err}
 use Rattle.ds_base.specs.declared.names.PageId.{PageId}
 use Rattle.ds_base.specs.declared.names.Volume.TheVariants as volume
 use Rattle.ds_model.specs.declared.log.LogRecord.{LogRecord}
+use Rattle.page_format.specs.Fields.{is_old, renewed}
 use Rattle.page_chain.specs.Chains.{row_patch}
 use Rattle.log_record.specs.declared.log.Log.{Log}
 use Rattle.log_reader.specs.declared.calls.LogReply.{LogReply}
@@ -89,8 +90,19 @@ next_ending h = ending_or (with_plan h (rest_endings h.plan)) (slice_get h.plan.
 unfoldable pub begin_end : Restart → Next
 begin_end h = next_ending (with_added h (restart_end h.counter ∷ []))
 
+-- pages that are still of version 1 are written in version 2
+abbrev pub rest_old : Restart → Restart
+rest_old h = record h { old_pages = drop 1 h.old_pages }
+
+abbrev pub renewal_or : Restart → Option PageId → Next
+renewal_or h None = begin_end h
+renewal_or h (Some page) = go h (stage.RenewRead page)
+
+unfoldable pub next_renewal : Restart → Next
+next_renewal h = renewal_or (rest_old h) (slice_get h.old_pages 0)
+
 abbrev pub undo_or : Restart → Option Undo → Next
-undo_or h None = begin_end h
+undo_or h None = next_renewal h
 undo_or h (Some u) = go h (stage.UndoRead (row_patch u.change).page)
 
 unfoldable pub next_undo : Restart → Next
@@ -108,7 +120,7 @@ abbrev pub too_few_numbers : Restart → Next
 too_few_numbers h = (h, state.Damaged h.plan.greatest.volume h.plan.greatest.at)
 
 abbrev pub has_numbers : Restart → Bool
-has_numbers h = nat_lt (h.counter + length h.plan.undo) (2 ^ 48)
+has_numbers h = nat_lt (h.counter + length h.plan.undo) (2 ^ 80)
 
 abbrev pub numbered : Restart → Next
 numbered h = if has_numbers h then next_closing h else too_few_numbers h
@@ -144,8 +156,15 @@ abbrev pub raised : Restart → PageId → Bool → Next
 raised h id true = go h (stage.RedoWrite id)
 raised h id false = next_redo h
 
+abbrev pub numbered_by : Restart → PageId → Restart
+numbered_by h id = with_plan h (with_greatest h.plan (with_page_number h.plan.greatest id h.page))
+
+-- no record was applied to a page that is of version 1 still; it is written anew behind all undo
+abbrev pub noted : Restart → PageId → Restart
+noted h id = if h.plan.renews && is_old h.page then record h { old_pages = h.old_pages ++ id ∷ [] } else h
+
 unfoldable pub take_raised : Restart → PageId → Bool → Next
-take_raised h id is_raised = raised (with_plan h (with_greatest h.plan (with_page_number h.plan.greatest id h.page))) id is_raised
+take_raised h id is_raised = raised (noted (numbered_by h id) id) id is_raised
 
 abbrev pub forwarded : Restart → PageId → Result Bool FieldFault → Next
 forwarded h id (Err fault) = damaged_page h id fault.at
@@ -167,7 +186,7 @@ undone h u lrsn =
     (stage.UndoAppend u.member (row_patch u.change).page)
 
 abbrev pub undo_at : Restart → Undo → ℕ → Next
-undo_at h u lrsn = if nat_lt lrsn (2 ^ 48) then undone h u lrsn else too_few_numbers h
+undo_at h u lrsn = if nat_lt lrsn (2 ^ 80) then undone h u lrsn else too_few_numbers h
 
 abbrev pub undo_unless : Restart → Undo → Option ℕ → Next
 undo_unless h u (Some at) = damaged_page h (row_patch u.change).page at
@@ -177,11 +196,17 @@ unfoldable pub undo_one : Restart → Undo → Next
 undo_one h u = undo_unless h u (undo_fault u.change h.page)
 
 abbrev pub undo_first : Restart → Option Undo → Next
-undo_first h None = begin_end h
+undo_first h None = next_renewal h
 undo_first h (Some u) = undo_one h u
 
 unfoldable pub take_undone : Restart → Next
 take_undone h = undo_first (with_plan h (rest_undo h.plan)) (slice_get h.plan.undo 0)
+
+-- ---- renewal
+
+-- the undo of a change may have made it a page of version 2
+unfoldable pub take_old : Restart → PageId → Next
+take_old h id = if is_old h.page then go (record h { page = renewed h.page }) (stage.RenewWrite id) else next_renewal h
 
 -- ---- what was done
 
@@ -194,6 +219,8 @@ take_done h (stage.CloseAppend member) = next_closing h
 take_done h (stage.UndoRead page) = take_undone h
 take_done h (stage.UndoAppend member page) = go h (stage.UndoWrite page)
 take_done h (stage.UndoWrite page) = next_undo h
+take_done h (stage.RenewRead page) = take_old h page
+take_done h (stage.RenewWrite page) = next_renewal h
 take_done h (stage.EndAppend member) = next_ending h
 take_done h stage.End = done h
 
@@ -245,6 +272,8 @@ TakesTold (stage.CloseAppend member) h told s k = done h ≡ (k, s)
 TakesTold (stage.UndoRead page) h told s k = done h ≡ (k, s)
 TakesTold (stage.UndoAppend member page) h told s k = done h ≡ (k, s)
 TakesTold (stage.UndoWrite page) h told s k = done h ≡ (k, s)
+TakesTold (stage.RenewRead page) h told s k = done h ≡ (k, s)
+TakesTold (stage.RenewWrite page) h told s k = done h ≡ (k, s)
 TakesTold (stage.EndAppend member) h told s k = done h ≡ (k, s)
 TakesTold stage.End h told s k = done h ≡ (k, s)
 
@@ -259,3 +288,4 @@ pub record IsBegun (h : Restart) : Type 0 where
   pub stage_is : h.stage ≡ stage.ReadLog
   pub reader_is : IsNew 1 h.reader
   pub no_logs : h.logs ≡ []
+  pub no_old_pages : h.old_pages ≡ []

@@ -4,6 +4,7 @@ use Rattle.std.specs.List.{AllByRecursion}
 use Rattle.ds_model.specs.declared.log.LogRecord.{LogRecord}
 use Rattle.ds_model.specs.declared.log.Body.{Body}
 use Rattle.ds_model.specs.declared.log.Body.TheVariants as body
+use Rattle.ds_model.specs.declared.log.Version.TheVariants as version
 use Rattle.ds_model.specs.RecordBytes.{Fits, IsAllowed, log_bytes}
 use Rattle.log_record.specs.Changes.{inverse}
 use Rattle.restart_plan.specs.declared.opened.Undo.{Undo}
@@ -29,10 +30,10 @@ pub record AreSpelled (records : List LogRecord) (bytes : List ℕ) : Type 0 whe
   pub allowed : AllByRecursion IsAllowed records
 
 abbrev pub ended : ℕ → ℕ → LogRecord
-ended lrsn tran = record { lrsn = lrsn; tran = tran; body = body.Ended }
+ended lrsn tran = record { version = version.Two; lrsn = lrsn; tran = tran; body = body.Ended }
 
 abbrev pub restart_end : ℕ → LogRecord
-restart_end lrsn = record { lrsn = lrsn; tran = 0; body = body.RestartEnd }
+restart_end lrsn = record { version = version.Two; lrsn = lrsn; tran = 0; body = body.RestartEnd }
 
 abbrev pub compensation : Undo → ℕ → LogRecord
-compensation u lrsn = record { lrsn = lrsn; tran = u.tran; body = body.Compensation (inverse u.change) u.lrsn }
+compensation u lrsn = record { version = version.Two; lrsn = lrsn; tran = u.tran; body = body.Compensation (inverse u.change) u.lrsn }

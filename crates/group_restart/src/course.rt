@@ -8,7 +8,7 @@ ghost use Rattle.group_restart.specs.declared.calls.State.TheVariants as state;
 ghost use Rattle.group_restart.specs.declared.stage.Stage.TheVariants as stage;
 ghost use Rattle.group_restart.specs.Going.{GoesOn, IsGoingOn};
 ghost use Rattle.group_restart.specs.Undo.{undo_fault};
-ghost use Rattle.group_restart.specs.Course.{found_damage, counted, has_numbers, next_tail, next_redo, begin_undo, next_closing, undo_or, next_undo, begin_end, next_ending, done, too_few_numbers, go, TakesLog, TakesWhole, take_logs, take_page, take_raised, take_undone, undo_one, undone, take_done, TakesTold, TakesReply};
+ghost use Rattle.group_restart.specs.Course.{found_damage, counted, has_numbers, next_tail, next_redo, begin_undo, next_closing, undo_or, next_undo, next_renewal, begin_end, next_ending, done, too_few_numbers, go, TakesLog, TakesWhole, take_logs, take_page, noted, take_raised, take_undone, take_old, undo_one, undone, take_done, TakesTold, TakesReply};
 
 use crate::append::Append;
 use crate::calls::State;
@@ -159,6 +159,17 @@ impl GroupRestart {
     {
         match self.next_page_undone() {
             Some(page) => Ok(self.go(Stage::UndoRead(page))),
+            None => self.next_renewal(alloc),
+        }
+    }
+
+    #[tactic(auto, unfolding(crate::specs::Course::next_renewal))]
+    fn next_renewal(&mut self, alloc: Global) -> Result<State, NoMemory>
+        ensures exact { IfOk result (λ s. next_renewal self.old ≡ (self.new, s)) }
+        ensures goes_on { IsGoingOn result }
+    {
+        match self.old_pages.next() {
+            Some(page) => Ok(self.go(Stage::RenewRead(page))),
             None => self.begin_end(alloc),
         }
     }
@@ -256,12 +267,23 @@ impl GroupRestart {
         }
     }
 
+    // The page is of version 1, and is to be written anew.
+    fn note(&mut self, id: PageId) -> Result<(), NoMemory>
+        ensures { OnOk result (self.new ≡ noted self.old id) }
+    {
+        if self.plan.renews && self.page.is_old() {
+            self.old_pages.push(id)?;
+        }
+        Ok(())
+    }
+
     #[tactic(auto, unfolding(crate::specs::Course::take_raised))]
     fn take_raised(&mut self, alloc: Global, id: PageId, is_raised: bool) -> Result<State, NoMemory>
         ensures exact { IfOk result (λ s. take_raised self.old id is_raised ≡ (self.new, s)) }
         ensures goes_on { IsGoingOn result }
     {
         self.plan.greatest = with_page_number(self.plan.greatest, id, &self.page);
+        self.note(id)?;
         if is_raised {
             Ok(self.go(Stage::RedoWrite(id)))
         } else {
@@ -277,7 +299,7 @@ impl GroupRestart {
     {
         match self.plan.undo.next() {
             Some(undo) => self.undo_one(alloc, &undo),
-            None => self.begin_end(alloc),
+            None => self.next_renewal(alloc),
         }
     }
 
@@ -311,6 +333,19 @@ impl GroupRestart {
         Ok(self.go(Stage::UndoAppend { member, page: id }))
     }
 
+    // A page that was of version 1 is written in version 2, unless an undo has changed it since.
+    #[tactic(auto, unfolding(crate::specs::Course::take_old))]
+    fn take_old(&mut self, alloc: Global, id: PageId) -> Result<State, NoMemory>
+        ensures exact { IfOk result (λ s. take_old self.old id ≡ (self.new, s)) }
+        ensures goes_on { IsGoingOn result }
+    {
+        if !self.page.is_old() {
+            return self.next_renewal(alloc);
+        }
+        self.page.renew();
+        Ok(self.go(Stage::RenewWrite(id)))
+    }
+
     // ---- replies
 
     fn take_done(&mut self, alloc: Global) -> Result<State, NoMemory>
@@ -326,6 +361,8 @@ impl GroupRestart {
             Stage::UndoRead(_) => self.take_undone(alloc),
             Stage::UndoAppend { page, .. } => Ok(self.go(Stage::UndoWrite(page))),
             Stage::UndoWrite(_) => self.next_undo(alloc),
+            Stage::RenewRead(page) => self.take_old(alloc, page),
+            Stage::RenewWrite(_) => self.next_renewal(alloc),
             Stage::EndAppend(_) => Ok(self.next_ending()),
             Stage::End => Ok(self.done()),
         }

@@ -11,12 +11,12 @@ use crate::append::Append;
 use crate::calls::{Call, State};
 use crate::reply::Reply;
 use crate::stage::Stage;
-use ds_base::{Lrsn, MemberId, NoMemory, Sequence};
+use ds_base::{Lrsn, MemberId, NoMemory, PageId, Sequence};
 use ds_disk::{Disk, DiskError};
 use log_merge::Merged;
 use log_reader::{LogCall, LogReader};
 use page_format::Page;
-use restart_plan::{Logs, Plan, plan_of};
+use restart_plan::{Logs, Plan, Queue, plan_of};
 use std::alloc::Global;
 use std::marker::Model;
 
@@ -32,6 +32,8 @@ pub struct GroupRestart {
     pub(crate) plan: Plan,
     /// Where in the merged records those of the page stand that is brought forward.
     pub(crate) places: Sequence<usize>,
+    /// Pages of version 1, which are to be written in version 2.
+    pub(crate) old_pages: Queue<PageId>,
     /// The greatest number so far, once all pages are brought forward.
     pub(crate) counter: Lrsn,
     pub(crate) page: Page,
@@ -44,7 +46,7 @@ impl Model for GroupRestart {
 
     ghost Value = { Restart };
 
-    ghost view = { λ g. record { stage = g.stage; reader = g.reader; logs = g.logs; plan = g.plan; places = g.places; counter = g.counter; page = g.page; added = g.added } };
+    ghost view = { λ g. record { stage = g.stage; reader = g.reader; logs = g.logs; plan = g.plan; places = g.places; old_pages = g.old_pages; counter = g.counter; page = g.page; added = g.added } };
 }
 
 fn no_plan(alloc: Global) -> Result<Plan, NoMemory>
@@ -85,6 +87,7 @@ impl GroupRestart {
             logs: Logs::new(alloc),
             plan: no_plan(alloc)?,
             places: Sequence::new(alloc),
+            old_pages: Queue::new(alloc),
             counter,
             page: Page::zero(alloc)?,
             added: Append::new(alloc),
@@ -101,8 +104,12 @@ impl GroupRestart {
                 member: tail.member,
                 length: tail.length,
             },
-            Stage::RedoRead(page) | Stage::UndoRead(page) => Call::ReadPage(*page),
-            Stage::RedoWrite(page) | Stage::UndoWrite(page) => Call::WritePage(*page),
+            Stage::RedoRead(page) | Stage::UndoRead(page) | Stage::RenewRead(page) => {
+                Call::ReadPage(*page)
+            }
+            Stage::RedoWrite(page) | Stage::UndoWrite(page) | Stage::RenewWrite(page) => {
+                Call::WritePage(*page)
+            }
             Stage::CloseAppend(member) | Stage::EndAppend(member) => Call::AppendLog(*member),
             Stage::UndoAppend { member, .. } => Call::AppendLog(*member),
             Stage::End => Call::LogLength(self.reader.member()),

@@ -3,7 +3,7 @@ ghost use Rattle.ds_model.specs.RecordBytes.{ChangeFits};
 ghost use Rattle.group_restart.specs.Records.{IsOfRestart, ended, restart_end, compensation};
 
 use ds_base::Lrsn;
-use ds_model::{Body, LogRecord};
+use ds_model::{Body, LogRecord, Version};
 use log_record::compensation_of;
 use restart_plan::{TranNumber, Undo};
 
@@ -12,6 +12,7 @@ pub fn ended(lrsn: Lrsn, tran: TranNumber) -> LogRecord
     ensures kind { IsOfRestart result }
 {
     LogRecord {
+        version: Version::Two,
         lrsn,
         tran: tran.lrsn(),
         body: Body::Ended,
@@ -26,6 +27,7 @@ pub fn restart_end(lrsn: Lrsn) -> LogRecord
         unreachable!()
     };
     LogRecord {
+        version: Version::Two,
         lrsn,
         tran,
         body: Body::RestartEnd,
@@ -38,6 +40,7 @@ pub fn compensation(undo: &Undo, lrsn: Lrsn) -> LogRecord
     ensures kind { IsOfRestart result }
 {
     LogRecord {
+        version: Version::Two,
         lrsn,
         tran: undo.tran.lrsn(),
         body: compensation_of(&undo.change, undo.lrsn),

@@ -18,6 +18,9 @@ pub enum Stage {
     /// The compensation, and the Ended record where it was the transaction's last one.
     UndoAppend { member: MemberId, page: PageId },
     UndoWrite(PageId),
+    /// A page that was of version 1 when it had been brought forward.
+    RenewRead(PageId),
+    RenewWrite(PageId),
     /// The RestartEnd of a log.
     EndAppend(MemberId),
     /// All is done.

@@ -61,7 +61,7 @@ last_bytes : (table : ℕ) (place : Place) (key lrsn : ℕ) (header : List ℕ) 
 last_bytes table place key lrsn header h whole =
     let patch = last_patch table place in
     ap (λ (page : List ℕ). part 32 6 page) (header_after table place key lrsn header h)
-    ∙ step_put lrsn header patch (record { whole = whole; within = omega arith }) (inr (omega arith))
+    ∙ step_put lrsn header patch (record { whole = whole; within = omega arith }) (omega arith)
 
 pub last_back : (table : ℕ) (place : Place) (key lrsn : ℕ) (header : List ℕ) → 1 ≤ place.page → place.page < 2 ^ 32 → length header ≡ 4096 → last_page_of (written (heap_page table 0) lrsn (give_patches table place key) header) ≡ place.page
 last_back table place key lrsn header h lt whole =
@@ -88,8 +88,8 @@ front_length : (b : Bool) (lrsn : ℕ) (page : List ℕ) (patch : Patch) → Lie
 front_length true lrsn page patch h = step_length lrsn page patch h
 front_length false lrsn page patch h = h.whole
 
-front_kept : (b : Bool) (lrsn : ℕ) (page : List ℕ) (patch : Patch) (at width : ℕ) → Lies page patch → 22 ≤ at → patch.offset + length patch.bytes ≤ at → part at width (if b then after_patch lrsn page patch else page) ≡ part at width page
-front_kept true lrsn page patch at width h free past = step_kept lrsn page patch at width h (inr free) (inr past)
+front_kept : (b : Bool) (lrsn : ℕ) (page : List ℕ) (patch : Patch) (at width : ℕ) → Lies page patch → 26 ≤ at → patch.offset + length patch.bytes ≤ at → part at width (if b then after_patch lrsn page patch else page) ≡ part at width page
+front_kept true lrsn page patch at width h free past = step_kept lrsn page patch at width h free (inr past)
 front_kept false lrsn page patch at width h free past = refl
 
 -- the page with its front, where the slot is the first
@@ -128,14 +128,14 @@ slot_lies table place key lrsn page lt whole = record {
 pub slot_back : (table : ℕ) (place : Place) (key lrsn : ℕ) (page : List ℕ) → 1 ≤ place.page → place.slot < 31 → length page ≡ 4096 → slot_in (written (heap_page table place.page) lrsn (give_patches table place key) page) place.slot ≡ image key None
 slot_back table place key lrsn page h lt whole =
     ap (λ (after : List ℕ). slot_in after place.slot) (rows_after table place key lrsn page h)
-    ∙ step_put lrsn (counted table place lrsn page) (slot_patch table place key) (slot_lies table place key lrsn page lt whole) (inr (omega arith))
+    ∙ step_put lrsn (counted table place lrsn page) (slot_patch table place key) (slot_lies table place key lrsn page lt whole) (omega arith)
 
 pub count_back : (table : ℕ) (place : Place) (key lrsn : ℕ) (page : List ℕ) → 1 ≤ place.page → place.slot < 31 → length page ≡ 4096 → number_in (written (heap_page table place.page) lrsn (give_patches table place key) page) count_at 2 ≡ place.slot + 1
 count_back table place key lrsn page h lt whole =
     ap (λ (after : List ℕ). number_in after count_at 2) (rows_after table place key lrsn page h)
     ∙ number_of_part (after_patch lrsn (counted table place lrsn page) (slot_patch table place key)) count_at 2
-    ∙ ap (big_number 2) (step_kept lrsn (counted table place lrsn page) (slot_patch table place key) count_at 2 (slot_lies table place key lrsn page lt whole) (inr (omega arith)) (inl (omega arith))
-    ∙ step_put lrsn (fronted table place lrsn page) (count_patch table place) (count_lies table place lrsn page whole) (inr (omega arith)))
+    ∙ ap (big_number 2) (step_kept lrsn (counted table place lrsn page) (slot_patch table place key) count_at 2 (slot_lies table place key lrsn page lt whole) (omega arith) (inl (omega arith))
+    ∙ step_put lrsn (fronted table place lrsn page) (count_patch table place) (count_lies table place lrsn page whole) (omega arith))
     ∙ big_number-reads_back 2 (place.slot + 1) [] (omega (arith, lt))
 
 slots_apart : (s other : ℕ) → (other < s) ⊎ (s < other) → (slot_at other + 128 ≤ slot_at s) ⊎ (slot_at s + 128 ≤ slot_at other)
@@ -145,6 +145,6 @@ slots_apart s other (inr lt) = inr (omega (arith, lt))
 pub others_kept : (table : ℕ) (place : Place) (key lrsn : ℕ) (page : List ℕ) (other : ℕ) → 1 ≤ place.page → place.slot < 31 → length page ≡ 4096 → (other < place.slot) ⊎ (place.slot < other) → slot_in (written (heap_page table place.page) lrsn (give_patches table place key) page) other ≡ slot_in page other
 others_kept table place key lrsn page other h lt whole ne =
     ap (λ (after : List ℕ). slot_in after other) (rows_after table place key lrsn page h)
-    ∙ step_kept lrsn (counted table place lrsn page) (slot_patch table place key) (slot_at other) 128 (slot_lies table place key lrsn page lt whole) (inr (omega arith)) (slots_apart place.slot other ne)
-    ∙ step_kept lrsn (fronted table place lrsn page) (count_patch table place) (slot_at other) 128 (count_lies table place lrsn page whole) (inr (omega arith)) (inr (omega arith))
+    ∙ step_kept lrsn (counted table place lrsn page) (slot_patch table place key) (slot_at other) 128 (slot_lies table place key lrsn page lt whole) (omega arith) (slots_apart place.slot other ne)
+    ∙ step_kept lrsn (fronted table place lrsn page) (count_patch table place) (slot_at other) 128 (count_lies table place lrsn page whole) (omega arith) (inr (omega arith))
     ∙ front_kept (place.slot == 0) lrsn page (front_patch 2 (heap_page table place.page)) (slot_at other) 128 (front_lies table place page whole) (omega arith) (omega arith)

@@ -1,11 +1,11 @@
 -- What is read of a page after a patch: its bytes at its place, and elsewhere what stood there.
-use Rattle.std.proofs.Common.{◌≡◌, ◌≤◌, ℕ, ◌+◌, ◌⊎◌, inl, inr, List, ◌++◌, length, take, drop, refl, sym, ap, ◌∙◌, arith, append_assoc}
+use Rattle.std.proofs.Common.{◌≡◌, ◌≤◌, ℕ, ◌+◌, ◌⊎◌, inl, inr, List, [], ◌∷◌, ◌++◌, length, take, drop, refl, sym, ap, ◌∙◌, arith, append_assoc}
 use Rattle.std.proofs.lemmas.List.{drop-drop, drop-take, drop_at, length-take-le, length-append, length-drop}
 use Rattle.std.proofs.lemmas.Slice.{take-put_mid_below, take-put_mid, drop-put_mid}
 use borrow.Rule.Slice.PartMut.{put_mid}
 use Rattle.byteorder.specs.Endian.{big_bytes, big_number}
 use Rattle.byteorder.specs.Numbers.{big_from-take}
-use Rattle.page_format.specs.Fields.{patched, set_lrsn, number_in}
+use Rattle.page_format.specs.Fields.{version, version_at, patched, set_version, set_lrsn, number_in}
 use Rattle.page_format.specs.declared.patch.Patch.{Patch}
 use Rattle.heap_space.specs.Written.{after_patch}
 
@@ -57,25 +57,40 @@ unfolding patched
 length_kept page off bytes fits =
     omega (arith, length-append (take off page ++ bytes) (drop (off + length bytes) page), length-append (take off page) bytes, length-take-le off page (omega arith), length-drop (off + length bytes) page)
 
-pub step_length : (lrsn : ℕ) (page : List ℕ) (patch : Patch) → Lies page patch → length (after_patch lrsn page patch) ≡ 4096
+version_length : (page : List ℕ) → length page ≡ 4096 → length (set_version page) ≡ 4096
+unfolding set_version
+version_length page whole = length_kept page version_at (version ∷ []) (omega (arith, whole)) ∙ whole
+
+stamp_length : (lrsn : ℕ) (page : List ℕ) → length page ≡ 4096 → length (set_lrsn page lrsn) ≡ 4096
 unfolding set_lrsn
+stamp_length lrsn page whole =
+    let first = version_length page whole in
+    length_kept (set_version page) 16 (big_bytes 10 lrsn) (omega (arith, first)) ∙ first
+
+pub step_length : (lrsn : ℕ) (page : List ℕ) (patch : Patch) → Lies page patch → length (after_patch lrsn page patch) ≡ 4096
 step_length lrsn page patch h =
     let first = length_kept page patch.offset patch.bytes (omega (arith, h.whole, h.within)) in
-    let second = length_kept (patched page patch.offset patch.bytes) 16 (big_bytes 6 lrsn) (omega (arith, first, h.whole)) in
-    omega (arith, first, second, h.whole)
+    stamp_length lrsn (patched page patch.offset patch.bytes) (omega (arith, first, h.whole))
 
-stamp_kept : (lrsn : ℕ) (page : List ℕ) (at width : ℕ) → length page ≡ 4096 → (at + width ≤ 16) ⊎ (22 ≤ at) → part at width (set_lrsn page lrsn) ≡ part at width page
+version_kept : (page : List ℕ) (at width : ℕ) → length page ≡ 4096 → 6 ≤ at → part at width (set_version page) ≡ part at width page
+unfolding set_version
+version_kept page at width whole behind = kept page version_at (version ∷ []) at width (omega (arith, whole)) (inr behind)
+
+-- what lies behind the number
+stamp_kept : (lrsn : ℕ) (page : List ℕ) (at width : ℕ) → length page ≡ 4096 → 26 ≤ at → part at width (set_lrsn page lrsn) ≡ part at width page
 unfolding set_lrsn
-stamp_kept lrsn page at width whole apart = kept page 16 (big_bytes 6 lrsn) at width (omega (arith, whole)) apart
+stamp_kept lrsn page at width whole behind =
+    let first = version_length page whole in
+    kept (set_version page) 16 (big_bytes 10 lrsn) at width (omega (arith, first)) (inr behind) ∙ version_kept page at width whole (omega arith)
 
-pub step_kept : (lrsn : ℕ) (page : List ℕ) (patch : Patch) (at width : ℕ) → Lies page patch → (at + width ≤ 16) ⊎ (22 ≤ at) → (at + width ≤ patch.offset) ⊎ (patch.offset + length patch.bytes ≤ at) → part at width (after_patch lrsn page patch) ≡ part at width page
-step_kept lrsn page patch at width h free apart =
+pub step_kept : (lrsn : ℕ) (page : List ℕ) (patch : Patch) (at width : ℕ) → Lies page patch → 26 ≤ at → (at + width ≤ patch.offset) ⊎ (patch.offset + length patch.bytes ≤ at) → part at width (after_patch lrsn page patch) ≡ part at width page
+step_kept lrsn page patch at width h behind apart =
     let first = length_kept page patch.offset patch.bytes (omega (arith, h.whole, h.within)) in
-    stamp_kept lrsn (patched page patch.offset patch.bytes) at width (omega (arith, first, h.whole)) free
+    stamp_kept lrsn (patched page patch.offset patch.bytes) at width (omega (arith, first, h.whole)) behind
     ∙ kept page patch.offset patch.bytes at width (omega (arith, h.whole, h.within)) apart
 
-pub step_put : (lrsn : ℕ) (page : List ℕ) (patch : Patch) → Lies page patch → (patch.offset + length patch.bytes ≤ 16) ⊎ (22 ≤ patch.offset) → part patch.offset (length patch.bytes) (after_patch lrsn page patch) ≡ patch.bytes
-step_put lrsn page patch h free =
+pub step_put : (lrsn : ℕ) (page : List ℕ) (patch : Patch) → Lies page patch → 26 ≤ patch.offset → part patch.offset (length patch.bytes) (after_patch lrsn page patch) ≡ patch.bytes
+step_put lrsn page patch h behind =
     let first = length_kept page patch.offset patch.bytes (omega (arith, h.whole, h.within)) in
-    stamp_kept lrsn (patched page patch.offset patch.bytes) patch.offset (length patch.bytes) (omega (arith, first, h.whole)) free
+    stamp_kept lrsn (patched page patch.offset patch.bytes) patch.offset (length patch.bytes) (omega (arith, first, h.whole)) behind
     ∙ put page patch.offset patch.bytes (omega (arith, h.whole, h.within))

@@ -4,15 +4,15 @@ use Rattle.byteorder.specs.Endian.{big_bytes}
 use Rattle.ds_base.specs.Pages.{heap_page}
 use Rattle.ds_base.specs.declared.names.PageId.{PageId}
 use Rattle.ds_base.specs.declared.names.Place.{Place}
-use Rattle.page_format.specs.Fields.{mark_at, count_at}
+use Rattle.page_format.specs.Fields.{mark_at, count_at, version}
 use Rattle.page_format.specs.Header.{mark}
 use Rattle.page_format.specs.declared.patch.Patch.{Patch}
 use Rattle.heap_space.specs.Layout.{last_page_at, slot_at}
 use Rattle.heap_space.specs.Slots.{image}
 
--- the mark, the kind, version 1, and the page's name
+-- the mark, the kind, the version, and the page's name
 abbrev pub front : ℕ → PageId → List ℕ
-front kind id = mark ++ (kind ∷ 1 ∷ []) ++ big_bytes 2 id.set ++ big_bytes 4 id.number
+front kind id = mark ++ (kind ∷ version ∷ []) ++ big_bytes 2 id.set ++ big_bytes 4 id.number
 
 abbrev pub front_patch : ℕ → PageId → Patch
 front_patch kind id = record { page = id; offset = mark_at; bytes = front kind id }

@@ -8,7 +8,7 @@ use crate::image::slot_image;
 use crate::layout::{COUNT_AT, LAST_PAGE_AT};
 use crate::slot::slot_at;
 use ds_base::{Bytes, Key, NoMemory, PageId, Place, TableId};
-use page_format::{Patch, Patches};
+use page_format::{Patch, Patches, VERSION};
 use std::alloc::Global;
 
 /// The kind of a heap's header page.
@@ -36,7 +36,8 @@ fn front(kind: u8, id: PageId) -> [u8; 12]
     let set = id.set.to_be_bytes();
     let number = id.number.to_be_bytes();
     [
-        b'D', b'S', b'G', b'1', kind, 1, set[0], set[1], number[0], number[1], number[2], number[3],
+        b'D', b'S', b'G', b'1', kind, VERSION, set[0], set[1], number[0], number[1], number[2],
+        number[3],
     ]
 }
 

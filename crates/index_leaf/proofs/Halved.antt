@@ -12,7 +12,7 @@ use Rattle.index_leaf.specs.declared.step.Look.TheVariants.{Right}
 use Rattle.index_leaf.specs.Entries.{count_of, low_of, high_of, right_field, entry_in, entries_from, entries_of, IsRising}
 use Rattle.index_leaf.specs.Search.{is_branch, is_beyond, floor, find, look_of}
 use Rattle.index_leaf.specs.Changes.{all_patched, id_of, half, low_of_split, zeros, link_bytes, fields_bytes, half_bytes, front_of, front_patch, count_patch, patch_of, right_id, left_patches, right_patches, IsLeftOf, IsRightOf}
-use Rattle.index_leaf.specs.Nodes.{IsNode, ReadsAs, CanSplit, AllLeaveStamp, all_stamped}
+use Rattle.index_leaf.specs.Nodes.{IsNode, ReadsAs, CanSplit, AllLieInPage, all_stamped}
 use Rattle.index_leaf.proofs.Writes.{length_spelt}
 use Rattle.index_leaf.proofs.Enlarged.{drop_entries}
 use Rattle.index_leaf.proofs.Parts.{length_link, length_zeros, length_half, length_fields, length_front, left_is, right_is, front_kind}
@@ -49,20 +49,20 @@ pub right_halved : (left fresh : List ℕ) (number : ℕ) → CanSplit left → 
 right_halved left fresh number h f =
     right_is left fresh (front_of (slice_index left 4) (right_id left number)) h.whole f (length_front (slice_index left 4) (right_id left number)) (front_kind (slice_index left 4) (right_id left number)) h.full h.low
 
-left_clear : (left : List ℕ) (number : ℕ) → AllLeaveStamp (left_patches left number)
+left_clear : (left : List ℕ) (number : ℕ) → AllLieInPage (left_patches left number)
 left_clear left number =
     let c = length_spelt 2 126 in
     let k = length_link (low_of_split left) number in
     let z = length_zeros 2016 in
-    (record { within = omega (arith, c); apart = inr (omega arith) }, (record { within = omega (arith, k); apart = inr (omega arith) }, (record { within = omega (arith, z); apart = inr (omega arith) }, tt)))
+    (omega (arith, c), (omega (arith, k), (omega (arith, z), tt)))
 
-right_clear : (left : List ℕ) (number : ℕ) → length left ≡ 4096 → AllLeaveStamp (right_patches left number)
+right_clear : (left : List ℕ) (number : ℕ) → length left ≡ 4096 → AllLieInPage (right_patches left number)
 right_clear left number l =
     let n = length_front (slice_index left 4) (right_id left number) in
     let c = length_spelt 2 126 in
     let k = length_fields left l in
     let z = length_half left l in
-    (record { within = omega (arith, n); apart = inl (omega (arith, n)) }, (record { within = omega (arith, c); apart = inr (omega arith) }, (record { within = omega (arith, k); apart = inr (omega arith) }, (record { within = omega (arith, z); apart = inr (omega arith) }, tt))))
+    (omega (arith, n), (omega (arith, c), (omega (arith, k), (omega (arith, z), tt))))
 
 left_reads : (left new last : List ℕ) (low number : ℕ) → IsLeftOf left new low number → length last ≡ 4096 → ReadsAs new last → IsLeftOf left last low number
 left_reads left new last low number h l r = record {

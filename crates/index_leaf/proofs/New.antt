@@ -11,7 +11,7 @@ use Rattle.index_leaf.specs.Entries.{count_of, low_of, high_of, high_field, righ
 use Rattle.index_leaf.specs.Search.{is_beyond, floor, find, look_of}
 use Rattle.ds_base.specs.Pages.{index_page}
 use Rattle.index_leaf.specs.Changes.{all_patched, spelt, entry_bytes, front_of, front_patch, count_patch, patch_of, zeros, branch, leaf, first_entry, format_patches}
-use Rattle.index_leaf.specs.Nodes.{IsNode, ReadsAs, LeavesStamp, AllLeaveStamp, all_stamped, patches_for, IsFirst}
+use Rattle.index_leaf.specs.Nodes.{IsNode, ReadsAs, LiesInPage, AllLieInPage, all_stamped, patches_for, IsFirst}
 use Rattle.index_leaf.proofs.Writes.{length_patched, byte_before, byte_inside, byte_behind, same_number, length_spelt, length_entry, same_entry, count_read, count_kept, entry_read}
 use Rattle.index_leaf.proofs.Parts.{length_front, front_kind}
 use Rattle.index_leaf.proofs.Stamps.{length_stamp, stamp_reads, stamped_once}
@@ -138,20 +138,20 @@ first_reads page new kind es h l r = record {
   right_page = r.right_page ∙ h.right_page;
 }
 
-first_stamped : (lrsn : ℕ) (p : Patch) (ps : List Patch) (kind : ℕ) (es : List Entry) → AllLeaveStamp (p ∷ ps) → IsFirst (all_patched (zeros 4096) (p ∷ ps)) kind es → IsFirst (all_stamped lrsn (zeros 4096) (p ∷ ps)) kind es
+first_stamped : (lrsn : ℕ) (p : Patch) (ps : List Patch) (kind : ℕ) (es : List Entry) → AllLieInPage (p ∷ ps) → IsFirst (all_patched (zeros 4096) (p ∷ ps)) kind es → IsFirst (all_stamped lrsn (zeros 4096) (p ∷ ps)) kind es
 first_stamped lrsn p ps kind es clear h =
     let new = all_patched (zeros 4096) (p ∷ ps) in
     subst (λ (page : List ℕ). IsFirst page kind es) (sym (stamped_once lrsn (zeros 4096) p ps (length_zero 4096) clear))
     (first_reads new (set_lrsn new lrsn) kind es h (length_stamp new lrsn h.whole) (stamp_reads new lrsn h.whole))
 
-front_clear : (kind table number : ℕ) → LeavesStamp (front_patch kind (index_page table number))
-front_clear kind table number = let n = length_front kind (index_page table number) in record { within = omega (arith, n); apart = inl (omega (arith, n)) }
+front_clear : (kind table number : ℕ) → LiesInPage (front_patch kind (index_page table number))
+front_clear kind table number = let n = length_front kind (index_page table number) in omega (arith, n)
 
-root_clear : (table : ℕ) → AllLeaveStamp (root_patches table)
+root_clear : (table : ℕ) → AllLieInPage (root_patches table)
 root_clear table =
     let c = length_spelt 2 1 in
     let b = length_entry first_entry in
-    (front_clear branch table 1, (record { within = omega (arith, c); apart = inr (omega arith) }, (record { within = omega (arith, b); apart = inr (omega arith) }, tt)))
+    (front_clear branch table 1, (omega (arith, c), (omega (arith, b), tt)))
 
 pub root_stamped : (table lrsn : ℕ) → IsFirst (all_stamped lrsn (zeros 4096) (patches_for (index_page table 1) (format_patches table))) branch (first_entry ∷ [])
 root_stamped table lrsn =

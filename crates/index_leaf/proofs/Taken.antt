@@ -10,7 +10,7 @@ use Rattle.index_leaf.specs.declared.step.Look.TheVariants.{Down, Found}
 use Rattle.index_leaf.specs.Entries.{count_of, low_of, high_of, right_field, entries_of, IsRising}
 use Rattle.index_leaf.specs.Search.{is_branch, is_beyond, floor, find, down_to, how_many, look_of}
 use Rattle.index_leaf.specs.Changes.{spelt, entry_bytes, moved_patch, insert_patches, all_patched, entered, id_of, count_patch}
-use Rattle.index_leaf.specs.Nodes.{IsNode, ReadsAs, CanTake, HasTaken, AllLeaveStamp, all_stamped, none_within}
+use Rattle.index_leaf.specs.Nodes.{IsNode, ReadsAs, CanTake, HasTaken, AllLieInPage, all_stamped, none_within}
 use Rattle.index_leaf.proofs.Places.{length_entries, page_end}
 use Rattle.index_leaf.proofs.Writes.{length_patched, byte_before, byte_behind, length_spelt, length_entry}
 use Rattle.index_leaf.proofs.Enlarged.{placed, enters}
@@ -99,7 +99,7 @@ taken_reads page new last e h l r = record {
   right_page = r.right_page ∙ h.right_page;
 }
 
-insert_clear : (page : List ℕ) (e : Entry) → CanTake page e → AllLeaveStamp (insert_patches page e)
+insert_clear : (page : List ℕ) (e : Entry) → CanTake page e → AllLieInPage (insert_patches page e)
 unfolding moved_patch
 insert_clear page e h =
     let p = how_many (entries_of page) e.key in
@@ -109,7 +109,7 @@ insert_clear page e h =
     let up : p ≤ n = page_end page 64 n e.key in
     let c = length_spelt 2 (n + 1) in
     let m = moved_length page e p n l up lt in
-    (record { within = omega (arith, c); apart = inr (omega arith) }, (record { within = omega (arith, m, up, lt); apart = inr (omega arith) }, tt))
+    (omega (arith, c), (omega (arith, m, up, lt), tt))
 
 stamped_all : (page : List ℕ) (e : Entry) (lrsn : ℕ) → CanTake page e → all_stamped lrsn page (insert_patches page e) ≡ set_lrsn (all_patched page (insert_patches page e)) lrsn
 stamped_all page e lrsn h =

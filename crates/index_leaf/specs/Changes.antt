@@ -3,7 +3,7 @@ use Rattle.std.specs.Prelude.{◌≡◌, ℕ, ◌+◌, ◌*◌, leb, ◌==◌, i
 use Rattle.ds_base.specs.Pages.{index_page}
 use Rattle.ds_base.specs.declared.names.PageId.{PageId}
 use Rattle.byteorder.specs.Endian.{big_bytes}
-use Rattle.page_format.specs.Fields.{page_size, kind_at, set_at, number_at, count_at, number_in, patched}
+use Rattle.page_format.specs.Fields.{page_size, kind_at, set_at, number_at, count_at, version, number_in, patched}
 use Rattle.page_format.specs.Header.{mark, entries_per_page}
 use Rattle.page_format.specs.declared.patch.Patch.{Patch}
 use Rattle.index_leaf.specs.declared.layout.Entry.{Entry}
@@ -89,9 +89,6 @@ branch = 4
 
 abbrev pub leaf : ℕ
 leaf = 5
-
-abbrev pub version : ℕ
-version = 1
 
 -- the header of a page of this kind
 unfoldable pub front_of : ℕ → PageId → List ℕ

@@ -1,9 +1,8 @@
 -- Branches and leaves: what each keeps to, and what they are after an insertion, a split and the stamp of a change.
-use Rattle.std.specs.Prelude.{◌≡◌, ℕ, ◌+◌, ◌^◌, ◌<◌, ◌≤◌, ◌⊎◌, leb, Bool, true, false, if◌then◌else◌, List, [], ◌∷◌, length, slice_index, Contains, None}
+use Rattle.std.specs.Prelude.{◌≡◌, ℕ, ◌+◌, ◌^◌, ◌<◌, ◌≤◌, leb, Bool, true, false, if◌then◌else◌, List, [], ◌∷◌, length, slice_index, Contains, None}
 use Rattle.ds_base.specs.Pages.{same_page}
 use Rattle.ds_base.specs.declared.names.PageId.{PageId}
-use Rattle.ds_base.specs.Ids.{lrsn_width}
-use Rattle.page_format.specs.Fields.{page_size, kind_at, lrsn_at, patched, set_lrsn}
+use Rattle.page_format.specs.Fields.{page_size, kind_at, patched, set_lrsn}
 use Rattle.page_format.specs.Header.{entries_per_page}
 use Rattle.page_format.specs.declared.patch.Patch.{Patch}
 use Rattle.index_leaf.specs.declared.layout.Entry.{Entry}
@@ -26,14 +25,13 @@ abbrev pub all_stamped : ℕ → List ℕ → List Patch → List ℕ
 all_stamped lrsn page [] = page
 all_stamped lrsn page (p ∷ ps) = all_stamped lrsn (set_lrsn (patched page p.offset p.bytes) lrsn) ps
 
--- the patch lies in the page, and off the stamp
-pub record LeavesStamp (p : Patch) : Type 0 where
-  pub within : p.offset + length p.bytes ≤ page_size
-  pub apart : (p.offset + length p.bytes ≤ lrsn_at) ⊎ (lrsn_at + lrsn_width ≤ p.offset)
+-- the patch lies in the page
+abbrev pub LiesInPage : Patch → Type 0
+LiesInPage p = p.offset + length p.bytes ≤ page_size
 
-abbrev pub AllLeaveStamp : List Patch → Type 0
-AllLeaveStamp [] = Unit {0}
-AllLeaveStamp (p ∷ ps) = LeavesStamp p × AllLeaveStamp ps
+abbrev pub AllLieInPage : List Patch → Type 0
+AllLieInPage [] = Unit {0}
+AllLieInPage (p ∷ ps) = LiesInPage p × AllLieInPage ps
 
 -- all that a search reads of the page is as it was
 pub record ReadsAs (page new : List ℕ) : Type 0 where

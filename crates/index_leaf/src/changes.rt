@@ -7,10 +7,10 @@ ghost use Rattle.index_leaf.specs.Changes.{id_of, patch_of, spelt, next_page_of,
 
 use crate::fields::{bytes_of, read_u16, read_u32};
 use crate::layout::{
-    COUNT_AT, Entry, FIRST_ENTRY_AT, FIRST_LEAF, NEXT_AT, NUMBER_AT, ROOT, SET_AT, VERSION,
+    COUNT_AT, Entry, FIRST_ENTRY_AT, FIRST_LEAF, NEXT_AT, NUMBER_AT, ROOT, SET_AT,
 };
 use ds_base::{Bytes, NoMemory, PageId, Place, TableId};
-use page_format::{Page, Patch, Patches};
+use page_format::{Page, Patch, Patches, VERSION};
 use std::alloc::Global;
 
 // The name that the page's header gives.

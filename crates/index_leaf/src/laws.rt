@@ -12,7 +12,7 @@ ghost use Rattle.index_leaf.specs.Entries.{count_of, low_of, high_of, right_fiel
 ghost use Rattle.index_leaf.specs.Search.{is_branch, is_beyond, floor, find, look_of, IsFloor};
 ghost use Rattle.ds_base.specs.Pages.{index_page};
 ghost use Rattle.index_leaf.specs.Changes.{all_patched, insert_patches, low_of_split, left_patches, right_patches, IsLeftOf, IsRightOf, zeros, branch, leaf, first_entry, format_patches};
-ghost use Rattle.index_leaf.specs.Nodes.{IsNode, ReadsAs, CanTake, HasTaken, CanSplit, AllLeaveStamp, all_stamped, none_within, patches_for, IsFirst};
+ghost use Rattle.index_leaf.specs.Nodes.{IsNode, ReadsAs, CanTake, HasTaken, CanSplit, AllLieInPage, all_stamped, none_within, patches_for, IsFirst};
 
 /// A search goes right exactly where the key is not below the high key, down exactly by the greatest entry that is not
 /// above the key, and finds exactly an entry of that very key.
@@ -31,7 +31,7 @@ pub fn search_step_laws()
 pub fn stamp_laws()
     ensures whole { (page : List ℕ) (lrsn : ℕ) → length page ≡ page_size → length (set_lrsn page lrsn) ≡ page_size }
     ensures fields { (page : List ℕ) (lrsn : ℕ) → length page ≡ page_size → ReadsAs page (set_lrsn page lrsn) }
-    ensures once { (lrsn : ℕ) (page : List ℕ) (p : Patch) (ps : List Patch) → length page ≡ page_size → AllLeaveStamp (p ∷ ps) → all_stamped lrsn page (p ∷ ps) ≡ set_lrsn (all_patched page (p ∷ ps)) lrsn }
+    ensures once { (lrsn : ℕ) (page : List ℕ) (p : Patch) (ps : List Patch) → length page ≡ page_size → AllLieInPage (p ∷ ps) → all_stamped lrsn page (p ∷ ps) ≡ set_lrsn (all_patched page (p ∷ ps)) lrsn }
     ensures search { (page new : List ℕ) (key : ℕ) → ReadsAs page new → look_of new key ≡ look_of page key }
     ensures node { (page new : List ℕ) → length new ≡ page_size → ReadsAs page new → IsNode page → IsNode new }
 {}

@@ -23,8 +23,6 @@ pub const FIRST_ENTRY_AT: usize = 64;
 /// Where the number of the next free page begins in the header of an index.
 pub const NEXT_AT: usize = 32;
 
-pub const VERSION: u8 = 1;
-
 /// The number of the first branch, at which every search begins.
 pub const ROOT: u32 = 1;
 

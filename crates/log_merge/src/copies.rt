@@ -51,6 +51,7 @@ pub fn copy_record(alloc: Global, from: &LogRecord) -> Result<LogRecord, NoMemor
     ensures { IfOk result (λ r. r ≡ from.now) }
 {
     Ok(LogRecord {
+        version: from.version,
         lrsn: from.lrsn,
         tran: from.tran,
         body: copy_body(alloc, &from.body)?,

@@ -1,19 +1,20 @@
 use super::*;
 use ds_base::{Lrsn, MemberId, Sequence};
-use ds_model::{Body, LogRecord};
+use ds_model::{Body, LogRecord, Version};
 use log_record::Log;
 use std::alloc::Global;
 use std::test::Fail;
 
-fn record(lrsn: u64, tran: u64, body: Body) -> Result<LogRecord, Fail> {
+fn record(lrsn: u128, tran: u128, body: Body) -> Result<LogRecord, Fail> {
     Ok(LogRecord {
+        version: Version::Two,
         lrsn: Lrsn::new(lrsn).ok_or("a number")?,
         tran: Lrsn::new(tran).ok_or("a number")?,
         body,
     })
 }
 
-fn log(alloc: Global, member: u64, numbers: &[(u64, u64)]) -> Result<Log, Fail> {
+fn log(alloc: Global, member: u64, numbers: &[(u128, u128)]) -> Result<Log, Fail> {
     let mut records = Sequence::new(alloc);
     for (lrsn, tran) in numbers {
         let body = if *tran == 0 {

@@ -1,5 +1,6 @@
 pub mod Values
 pub mod Numbers
+pub mod Sizes
 pub mod Steps
 pub mod Changes
 pub mod Patches

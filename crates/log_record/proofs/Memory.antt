@@ -2,6 +2,7 @@
 use Rattle.std.proofs.Common.{◌≡◌, ℕ, ◌+◌, Bool, true, false, cond, List, length, take, drop, get_or, Option, Some, None, Result, Ok, Err, ap}
 use Rattle.std.specs.Prelude.{◌≢◌, ◌==◌, nat_lt}
 use Rattle.std.proofs.lemmas.List.{get_or-drop}
+use Rattle.ds_model.specs.declared.log.Version.{Version}
 use Rattle.log_record.specs.declared.fault.RecordFault.{RecordFault}
 use Rattle.log_record.specs.declared.fault.RecordFault.TheVariants as fault
 use Rattle.log_record.specs.declared.kind.Kind.TheVariants as kind
@@ -64,11 +65,11 @@ change_free fields at =
     (λ before. bind_free (state_at fields before.1) _ (state_free fields before.1)
     (λ after. λ e. cc)))))
 
-pub compensation_free : (fields : List ℕ) (at : ℕ) → compensation_at fields at ≢ Err fault.NoMemory
+pub compensation_free : (v : Version) (fields : List ℕ) (at : ℕ) → compensation_at v fields at ≢ Err fault.NoMemory
 unfolding compensation_at
-compensation_free fields at =
+compensation_free v fields at =
     bind_free (change_at fields at) _ (change_free fields at)
-    (λ change. bind_free (lrsn_at fields change.1) _ (field_free _ _ fields change.1)
+    (λ change. bind_free (lrsn_at v fields change.1) _ (field_free _ _ fields change.1)
     (λ undone. λ e. cc))
 
 -- the byte of the kind that has patches

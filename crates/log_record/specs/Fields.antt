@@ -3,15 +3,16 @@
 use Rattle.std.specs.Prelude.{ℕ, zero, suc, ◌+◌, ◌==◌, nat_le, nat_lt, Bool, true, false, not, ◌&&◌, ◌||◌, if◌then◌else◌, List, [], ◌∷◌, length, take, drop, Option, Some, None, Result, Ok, Err}
 use Rattle.std.specs.List.{list_all}
 use Rattle.byteorder.specs.Endian.{big_number}
-use Rattle.ds_base.specs.Ids.{lrsn_width}
 use Rattle.ds_base.specs.declared.names.Place.{Place}
 use Rattle.ds_base.specs.declared.names.PageId.{PageId}
 use Rattle.page_format.specs.declared.patch.Patch.{Patch}
 use Rattle.page_format.specs.Fields.{page_size}
-use Rattle.ds_model.specs.RecordBytes.{page_sets, patches_limit, patch_limit}
+use Rattle.ds_model.specs.RecordBytes.{width_of, page_sets, patches_limit, patch_limit}
 use Rattle.ds_model.specs.declared.log.RowChange.{RowChange}
 use Rattle.ds_model.specs.declared.log.Body.{Body}
 use Rattle.ds_model.specs.declared.log.Body.TheVariants as body
+use Rattle.ds_model.specs.declared.log.Version.{Version}
+use Rattle.ds_model.specs.declared.log.Version.TheVariants as version
 use Rattle.log_record.specs.declared.fault.RecordFault.{RecordFault}
 use Rattle.log_record.specs.declared.fault.RecordFault.TheVariants as fault
 use Rattle.log_record.specs.declared.kind.Kind.{Kind}
@@ -62,11 +63,17 @@ kind_of_number n =
 abbrev pub kind_at : List ℕ → ℕ → Result (Kind × ℕ) RecordFault
 kind_at = field_at 1 (λ bytes. kind_of_number (big_number 1 bytes))
 
-abbrev pub version_at : List ℕ → ℕ → Result (ℕ × ℕ) RecordFault
-version_at = number_at 1 (λ n. n == 1)
+abbrev pub version_of_number : ℕ → Option Version
+version_of_number n =
+    if n == 1 then Some version.One
+    else if n == 2 then Some version.Two
+    else None
 
-abbrev pub lrsn_at : List ℕ → ℕ → Result (ℕ × ℕ) RecordFault
-lrsn_at = number_at lrsn_width (λ _. true)
+abbrev pub version_at : List ℕ → ℕ → Result (Version × ℕ) RecordFault
+version_at = field_at 1 (λ bytes. version_of_number (big_number 1 bytes))
+
+abbrev pub lrsn_at : Version → List ℕ → ℕ → Result (ℕ × ℕ) RecordFault
+lrsn_at v = number_at (width_of v) (λ _. true)
 
 -- whether a record of the kind belongs to a transaction
 abbrev pub has_tran : Kind → Bool
@@ -79,8 +86,8 @@ has_tran kind.Checkpoint = false
 has_tran kind.RestartEnd = false
 
 -- the transaction's first number: 0 where there is no transaction, and only there
-abbrev pub tran_at : Kind → List ℕ → ℕ → Result (ℕ × ℕ) RecordFault
-tran_at k = number_at lrsn_width (λ n. if has_tran k then not (n == 0) else n == 0)
+abbrev pub tran_at : Version → Kind → List ℕ → ℕ → Result (ℕ × ℕ) RecordFault
+tran_at v k = number_at (width_of v) (λ n. if has_tran k then not (n == 0) else n == 0)
 
 -- an offset of a log
 abbrev pub offset_at : List ℕ → ℕ → Result (ℕ × ℕ) RecordFault
@@ -202,23 +209,23 @@ patches_at fields at = do
 
 -- ---- the body of each kind
 
-unfoldable pub compensation_at : List ℕ → ℕ → Result (Body × ℕ) RecordFault
-compensation_at fields at = do
+unfoldable pub compensation_at : Version → List ℕ → ℕ → Result (Body × ℕ) RecordFault
+compensation_at v fields at = do
   change ← change_at fields at
-  undone ← lrsn_at fields change.1
+  undone ← lrsn_at v fields change.1
   Ok (body.Compensation change.0 undone.0, undone.1)
 
-unfoldable pub body_at : Kind → List ℕ → ℕ → Result (Body × ℕ) RecordFault
-body_at kind.RowChange fields at = do
+unfoldable pub body_at : Version → Kind → List ℕ → ℕ → Result (Body × ℕ) RecordFault
+body_at v kind.RowChange fields at = do
   change ← change_at fields at
   Ok (body.RowChange change.0, change.1)
-body_at kind.Compensation fields at = compensation_at fields at
-body_at kind.System fields at = do
+body_at v kind.Compensation fields at = compensation_at v fields at
+body_at v kind.System fields at = do
   patches ← patches_at fields at
   Ok (body.System patches.0, patches.1)
-body_at kind.Commit fields at = Ok (body.Commit, at)
-body_at kind.Ended fields at = Ok (body.Ended, at)
-body_at kind.Checkpoint fields at = do
+body_at v kind.Commit fields at = Ok (body.Commit, at)
+body_at v kind.Ended fields at = Ok (body.Ended, at)
+body_at v kind.Checkpoint fields at = do
   offset ← offset_at fields at
   Ok (body.Checkpoint offset.0, offset.1)
-body_at kind.RestartEnd fields at = Ok (body.RestartEnd, at)
+body_at v kind.RestartEnd fields at = Ok (body.RestartEnd, at)

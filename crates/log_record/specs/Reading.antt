@@ -12,10 +12,10 @@ unfoldable pub fields_in : List ℕ → Result (LogRecord × ℕ) RecordFault
 fields_in fields = do
   kind ← kind_at fields 4
   version ← version_at fields kind.1
-  lrsn ← lrsn_at fields version.1
-  tran ← tran_at kind.0 fields lrsn.1
-  body ← body_at kind.0 fields tran.1
-  Ok (record { lrsn = lrsn.0; tran = tran.0; body = body.0 }, body.1)
+  lrsn ← lrsn_at version.0 fields version.1
+  tran ← tran_at version.0 kind.0 fields lrsn.1
+  body ← body_at version.0 kind.0 fields tran.1
+  Ok (record { version = version.0; lrsn = lrsn.0; tran = tran.0; body = body.0 }, body.1)
 
 -- whether the body ends at this offset of a record of so many bytes, and the record's length stands there again
 abbrev pub ends_at : List ℕ → ℕ → ℕ → Bool
@@ -27,7 +27,7 @@ whole_in bytes size = do
   found ← fields_in (take (size - 4) bytes)
   if ends_at bytes size found.1 then Ok (found.0, size) else Err (fault.Bad found.1)
 
--- the shortest record has no body
+-- the shortest record has no body, and is of version 1
 abbrev pub is_size : ℕ → Bool
 is_size n = nat_le 22 n && nat_le n 16384
 

@@ -7,9 +7,11 @@ ghost use Rattle.log_record.specs.Reading.{Gives};
 
 use crate::fault::RecordFault;
 use crate::kind::Kind;
-use crate::layout::{SLOTS, VERSION};
+use crate::layout::SLOTS;
+use crate::version::{number_in, version_of_number, width_of};
 use byteorder::{BigEndian, ByteOrder};
-use ds_base::{Key, LRSN_WIDTH, Lrsn, Place, TableId};
+use ds_base::{Key, Lrsn, Place, TableId};
+use ds_model::Version;
 
 /// So many bytes from this offset on.
 pub fn bytes_at(fields: &[u8], at: usize, width: usize) -> Result<&[u8], RecordFault>
@@ -35,38 +37,39 @@ pub fn kind_at(fields: &[u8], at: usize) -> Result<(Kind, usize), RecordFault>
 }
 
 #[tactic(auto, unfolding(crate::specs::Fields::field_at))]
-pub fn version_at(fields: &[u8], at: usize) -> Result<(u8, usize), RecordFault>
+pub fn version_at(fields: &[u8], at: usize) -> Result<(Version, usize), RecordFault>
     ensures { result ≡ version_at fields.now at }
 {
-    let version = bytes_at(fields, at, 1)?[0];
-    if version == VERSION {
-        Ok((version, at + 1))
-    } else {
-        Err(RecordFault::Bad { at })
+    let bytes = bytes_at(fields, at, 1)?;
+    match version_of_number(bytes[0]) {
+        Some(version) => Ok((version, at + 1)),
+        None => Err(RecordFault::Bad { at }),
     }
 }
 
 #[tactic(auto, unfolding(crate::specs::Fields::field_at))]
-pub fn lrsn_at(fields: &[u8], at: usize) -> Result<(Lrsn, usize), RecordFault>
-    ensures { result ≡ lrsn_at fields.now at }
+pub fn lrsn_at(version: Version, fields: &[u8], at: usize) -> Result<(Lrsn, usize), RecordFault>
+    ensures { result ≡ lrsn_at version fields.now at }
 {
-    let width = LRSN_WIDTH as usize;
+    let width = width_of(version);
     let bytes = bytes_at(fields, at, width)?;
-    let number = u64::from_be_bytes([
-        0, 0, bytes[0], bytes[1], bytes[2], bytes[3], bytes[4], bytes[5],
-    ]);
-    let Some(lrsn) = Lrsn::new(number) else {
+    let Some(lrsn) = Lrsn::new(number_in(version, bytes)) else {
         unreachable!()
     };
     Ok((lrsn, at + width))
 }
 
-/// The transaction of a record of the kind.
+/// The transaction of a record of the version and the kind.
 #[tactic(auto, unfolding(crate::specs::Fields::field_at))]
-pub fn tran_at(kind: Kind, fields: &[u8], at: usize) -> Result<(Lrsn, usize), RecordFault>
-    ensures { result ≡ tran_at kind fields.now at }
+pub fn tran_at(
+    version: Version,
+    kind: Kind,
+    fields: &[u8],
+    at: usize,
+) -> Result<(Lrsn, usize), RecordFault>
+    ensures { result ≡ tran_at version kind fields.now at }
 {
-    let (tran, next) = lrsn_at(fields, at)?;
+    let (tran, next) = lrsn_at(version, fields, at)?;
     if kind.has_tran() == (tran.number() != 0) {
         Ok((tran, next))
     } else {

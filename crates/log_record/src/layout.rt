@@ -1,6 +1,3 @@
-/// The version of the records' layout.
-pub const VERSION: u8 = 1;
-
 /// The slots of a page.
 pub const SLOTS: u16 = 31;
 
@@ -16,7 +13,7 @@ pub const PATCHES_LIMIT: usize = 12;
 /// The most bytes of a patch.
 pub const PATCH_LIMIT: usize = 4064;
 
-/// The bytes of a record without a body.
+/// The bytes of a record without a body, in version 1.
 pub const SHORTEST: usize = 22;
 
 /// The most bytes that a record of any kind may have.

@@ -13,7 +13,7 @@ use crate::layout::{LONGEST, SHORTEST};
 use crate::patch::patches_at;
 use crate::state::state_at;
 use byteorder::{BigEndian, ByteOrder};
-use ds_model::{Body, LogRecord, RowChange};
+use ds_model::{Body, LogRecord, RowChange, Version};
 use std::alloc::Global;
 
 /// Where the kind stands, behind the length.
@@ -39,22 +39,28 @@ fn change_at(alloc: Global, fields: &[u8], at: usize) -> Result<(RowChange, usiz
 }
 
 #[tactic(auto, unfolding(crate::specs::Fields::compensation_at))]
-fn compensation_at(alloc: Global, fields: &[u8], at: usize) -> Result<(Body, usize), RecordFault>
-    ensures { result ≡ compensation_at fields.now at }
+fn compensation_at(
+    alloc: Global,
+    version: Version,
+    fields: &[u8],
+    at: usize,
+) -> Result<(Body, usize), RecordFault>
+    ensures { result ≡ compensation_at version fields.now at }
 {
     let (change, at) = change_at(alloc, fields, at)?;
-    let (undone, at) = lrsn_at(fields, at)?;
+    let (undone, at) = lrsn_at(version, fields, at)?;
     Ok((Body::Compensation { change, undone }, at))
 }
 
 #[tactic(auto, using(crate::proofs::Memory::field_free, crate::proofs::Memory::change_free, crate::proofs::Memory::compensation_free), unfolding(crate::specs::Fields::body_at))]
 fn body_at(
     alloc: Global,
+    version: Version,
     kind: Kind,
     fields: &[u8],
     at: usize,
 ) -> Result<(Body, usize), RecordFault>
-    ensures exact { Answers result (body_at kind fields.now at) }
+    ensures exact { Answers result (body_at version kind fields.now at) }
     ensures memory { result ≡ Err NoMemory → kind ≡ kinds.System }
 {
     match kind {
@@ -62,7 +68,7 @@ fn body_at(
             let (change, at) = change_at(alloc, fields, at)?;
             Ok((Body::RowChange { change }, at))
         }
-        Kind::Compensation => compensation_at(alloc, fields, at),
+        Kind::Compensation => compensation_at(alloc, version, fields, at),
         Kind::System => {
             let (patches, at) = patches_at(alloc, fields, at)?;
             Ok((Body::System { patches }, at))
@@ -84,11 +90,17 @@ fn fields_in(alloc: Global, fields: &[u8]) -> Result<(LogRecord, usize), RecordF
     ensures memory { result ≡ Err NoMemory → slice_index fields.now 4 ≡ 3 }
 {
     let (kind, at) = kind_at(fields, KIND_AT)?;
-    let (_, at) = version_at(fields, at)?;
-    let (lrsn, at) = lrsn_at(fields, at)?;
-    let (tran, at) = tran_at(kind, fields, at)?;
-    let (body, at) = body_at(alloc, kind, fields, at)?;
-    Ok((LogRecord { lrsn, tran, body }, at))
+    let (version, at) = version_at(fields, at)?;
+    let (lrsn, at) = lrsn_at(version, fields, at)?;
+    let (tran, at) = tran_at(version, kind, fields, at)?;
+    let (body, at) = body_at(alloc, version, kind, fields, at)?;
+    let it = LogRecord {
+        version,
+        lrsn,
+        tran,
+        body,
+    };
+    Ok((it, at))
 }
 
 // The record of so many bytes.
@@ -127,7 +139,7 @@ fn record_in(alloc: Global, bytes: &[u8]) -> Result<(LogRecord, usize), RecordFa
     whole_in(alloc, bytes, size)
 }
 
-/// The log record at the front of the bytes, and its length. Bytes may follow it.
+/// The log record at the front of the bytes, of either version, and its length. Bytes may follow it.
 ///
 /// `NotWhole` says that the bytes end before the record does. `Bad` names the first byte of the first field that isn't
 /// allowed, or that would reach into the repeated length; where the body ends before it, or another length stands

@@ -2,16 +2,20 @@ ghost use Rattle.std.specs.Prelude.{◌≡◌, ◌+◌, ◌≤◌, ◌∷◌, �
 ghost use Rattle.std.specs.List.{flat_map, AllByRecursion};
 ghost use Rattle.log_record.specs.Kept.{SameFrom};
 ghost use Rattle.log_record.specs.Parts.{page_bytes, head_bytes};
-ghost use Rattle.ds_model.specs.RecordBytes.{state_bytes, row_bytes, change_bytes, patch_bytes, lrsn_bytes, kind_of, body_bytes, record_bytes, log_bytes, patch_limit, PatchIsAllowed, PatchesAreAllowed, BodyFits, IsAllowed, Fits};
+ghost use Rattle.ds_model.specs.declared.log.Version.TheVariants as version;
+ghost use Rattle.ds_model.specs.RecordBytes.{state_bytes, row_bytes, change_bytes, patch_bytes, lrsn_bytes, kind_of, body_bytes, spelling, record_bytes, log_bytes, patch_limit, PatchIsAllowed, PatchesAreAllowed, BodyFits, IsAllowed, Fits};
 
 use crate::allowed::is_allowed;
-use crate::layout::{LONGEST, VERSION};
+use crate::layout::LONGEST;
 use crate::put::put;
-use crate::size::{LONGEST_WITHOUT_PATCHES, record_length};
-use ds_base::{Bytes, Lrsn, NoMemory, PageId, Value};
+use crate::size::{LONGEST_WITHOUT_PATCHES, record_length, written_length};
+use ds_base::{Bytes, LRSN_WIDTH, Lrsn, NoMemory, PageId, Value};
 use ds_model::{Body, LogRecord, RowChange};
 use page_format::Patch;
 use std::alloc::Global;
+
+// The version in which records are written.
+const VERSION: u8 = 2;
 
 fn put_state(into: &mut [u8], at: usize, state: &Option<Value>) -> usize
     requires { at + length (state_bytes state.now) ≤ length into.old }
@@ -101,18 +105,19 @@ fn put_system(into: &mut [u8], at: usize, patches: &[Patch]) -> usize
 }
 
 fn put_lrsn(into: &mut [u8], at: usize, lrsn: Lrsn) -> usize
-    requires { at + 6 ≤ length into.old }
-    ensures next { result ≡ at + 6 }
-    ensures front { take result into.new ≡ take at into.old ++ lrsn_bytes lrsn }
+    requires { at + 10 ≤ length into.old }
+    ensures next { result ≡ at + 10 }
+    ensures front { take result into.new ≡ take at into.old ++ lrsn_bytes version.Two lrsn }
     ensures back { SameFrom result into.old into.new }
 {
-    put(into, at, &lrsn.number().to_be_bytes()[2..])
+    let number = lrsn.number().to_be_bytes();
+    put(into, at, &number[number.len() - LRSN_WIDTH as usize..])
 }
 
 fn put_compensation(into: &mut [u8], at: usize, change: &RowChange, undone: Lrsn) -> usize
-    requires { at + length (change_bytes change.now) + 6 ≤ length into.old }
-    ensures next { result ≡ at + length (change_bytes change.now) + 6 }
-    ensures front { take result into.new ≡ take at into.old ++ (change_bytes change.now ++ lrsn_bytes undone) }
+    requires { at + length (change_bytes change.now) + 10 ≤ length into.old }
+    ensures next { result ≡ at + length (change_bytes change.now) + 10 }
+    ensures front { take result into.new ≡ take at into.old ++ (change_bytes change.now ++ lrsn_bytes version.Two undone) }
     ensures back { SameFrom result into.old into.new }
 {
     let at = put_change(into, at, change);
@@ -120,10 +125,10 @@ fn put_compensation(into: &mut [u8], at: usize, change: &RowChange, undone: Lrsn
 }
 
 fn put_body(into: &mut [u8], at: usize, body: &Body) -> usize
-    requires room { at + length (body_bytes body.now) ≤ length into.old }
-    requires fits { BodyFits body.now }
-    ensures next { result ≡ at + length (body_bytes body.now) }
-    ensures front { take result into.new ≡ take at into.old ++ body_bytes body.now }
+    requires room { at + length (body_bytes version.Two body.now) ≤ length into.old }
+    requires fits { BodyFits version.Two body.now }
+    ensures next { result ≡ at + length (body_bytes version.Two body.now) }
+    ensures front { take result into.new ≡ take at into.old ++ body_bytes version.Two body.now }
     ensures back { SameFrom result into.old into.new }
 {
     match body {
@@ -151,8 +156,8 @@ fn kind_number(body: &Body) -> u8
 
 // The kind, the version, the number and the transaction.
 fn put_head(into: &mut [u8], at: usize, it: &LogRecord) -> usize
-    requires { at + 14 ≤ length into.old }
-    ensures next { result ≡ at + 14 }
+    requires { at + 22 ≤ length into.old }
+    ensures next { result ≡ at + 22 }
     ensures front { take result into.new ≡ take at into.old ++ head_bytes it.now }
     ensures back { SameFrom result into.old into.new }
 {
@@ -161,8 +166,24 @@ fn put_head(into: &mut [u8], at: usize, it: &LogRecord) -> usize
     put_lrsn(into, at, it.tran)
 }
 
-/// Writes the record at the front of the buffer, and answers its length.
-#[tactic(auto, unfolding(ds_model::specs::RecordBytes::record_bytes))]
+// Writes the number, the transaction and the body of a record in version 2.
+#[tactic(auto, unfolding(ds_model::specs::RecordBytes::spelling))]
+fn write_fields(it: &LogRecord, into: &mut [u8]) -> usize
+    requires fits { BodyFits version.Two it.now.body }
+    requires room { length (spelling version.Two it.now.lrsn it.now.tran it.now.body) ≤ length into.old }
+    ensures bytes { take result into.new ≡ spelling version.Two it.now.lrsn it.now.tran it.now.body }
+    ensures count { result ≡ length (spelling version.Two it.now.lrsn it.now.tran it.now.body) }
+    ensures rest { SameFrom result into.old into.new }
+{
+    let length = (written_length(&it.body) as u32).to_be_bytes();
+    let at = put(into, 0, &length);
+    let at = put_head(into, at, it);
+    let at = put_body(into, at, &it.body);
+    put(into, at, &length)
+}
+
+/// Writes the record, which is of version 2, at the front of the buffer, and answers its length.
+#[tactic(auto, using(crate::proofs::Records::as_written, crate::proofs::Records::body_written))]
 pub fn write_record(it: &LogRecord, into: &mut [u8]) -> usize
     requires fits { Fits it.now }
     requires room { length (record_bytes it.now) ≤ length into.old }
@@ -172,11 +193,7 @@ pub fn write_record(it: &LogRecord, into: &mut [u8]) -> usize
     ensures allowed { IsAllowed it.now }
 {
     prove!(is_allowed(it));
-    let length = (record_length(it) as u32).to_be_bytes();
-    let at = put(into, 0, &length);
-    let at = put_head(into, at, it);
-    let at = put_body(into, at, &it.body);
-    put(into, at, &length)
+    write_fields(it, into)
 }
 
 // Adds the bytes of a record for which the buffer has room.

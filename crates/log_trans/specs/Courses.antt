@@ -31,8 +31,9 @@ undone_one c = record {
   is_ended = c.is_ended;
 }
 
-abbrev pub row_record : ℕ → ℕ → RowChange → LogRecord
-row_record lrsn tran change = record { lrsn = lrsn; tran = tran; body = body.RowChange change }
+-- the record of a row change
+abbrev pub row_record : LogRecord → RowChange → LogRecord
+row_record r change = record { version = r.version; lrsn = r.lrsn; tran = r.tran; body = body.RowChange change }
 
 abbrev pub changed : Course → LogRecord → Course
 changed c r = record {
@@ -49,14 +50,14 @@ abbrev pub ended : Course → Course
 ended c = record { undo = c.undo; undone = c.undone; is_committed = c.is_committed; is_ended = true }
 
 -- after a record of the transaction; a compensation undoes the last row change that isn't undone
-abbrev pub after_body : Course → ℕ → ℕ → Body → Course
-after_body c lrsn tran (body.RowChange change) = changed c (row_record lrsn tran change)
-after_body c lrsn tran (body.Compensation change undone) = if is_next undone c.undo then undone_one c else c
-after_body c lrsn tran (body.System patches) = c
-after_body c lrsn tran body.Commit = committed c
-after_body c lrsn tran body.Ended = ended c
-after_body c lrsn tran (body.Checkpoint offset) = c
-after_body c lrsn tran body.RestartEnd = c
+abbrev pub after_body : Course → LogRecord → Body → Course
+after_body c r (body.RowChange change) = changed c (row_record r change)
+after_body c r (body.Compensation change undone) = if is_next undone c.undo then undone_one c else c
+after_body c r (body.System patches) = c
+after_body c r body.Commit = committed c
+after_body c r body.Ended = ended c
+after_body c r (body.Checkpoint offset) = c
+after_body c r body.RestartEnd = c
 
 -- ---- all transactions, by their numbers
 
@@ -70,7 +71,7 @@ course_of (Some c) = c
 -- a record without a transaction says nothing of one
 abbrev pub with_record : Courses → LogRecord → Courses
 with_record courses r =
-    if r.tran == 0 then courses else finite.insert courses r.tran (after_body (course_of (finite.get courses r.tran)) r.lrsn r.tran r.body)
+    if r.tran == 0 then courses else finite.insert courses r.tran (after_body (course_of (finite.get courses r.tran)) r r.body)
 
 abbrev pub courses_from : Courses → List LogRecord → Courses
 courses_from courses [] = courses

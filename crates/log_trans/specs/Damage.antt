@@ -6,7 +6,7 @@ use Rattle.std.specs.FinMap as finite
 use Rattle.ds_model.specs.declared.log.LogRecord.{LogRecord}
 use Rattle.ds_model.specs.declared.log.Body.{Body}
 use Rattle.ds_model.specs.declared.log.Body.TheVariants as body
-use Rattle.ds_model.specs.RecordBytes.{record_bytes, IsAllowed}
+use Rattle.ds_model.specs.RecordBytes.{width_of, record_bytes, IsAllowed}
 use Rattle.log_record.specs.declared.log.Log.{Log}
 use Rattle.log_record.specs.Changes.{is_drawn}
 use Rattle.log_trans.specs.declared.course.Course.{Course}
@@ -18,11 +18,11 @@ use Rattle.log_trans.specs.Courses.{is_next, course_of, with_record}
 abbrev pub number_at : ℕ
 number_at = 6
 
-abbrev pub tran_at : ℕ
-tran_at = 12
+abbrev pub tran_at : LogRecord → ℕ
+tran_at r = number_at + width_of r.version
 
 abbrev pub undone_at : LogRecord → ℕ
-undone_at r = length (record_bytes r) - 10
+undone_at r = length (record_bytes r) - (width_of r.version + 4)
 
 -- ---- one record
 
@@ -37,11 +37,11 @@ nothing_undone c = length c.undone == 0
 -- there is one Commit at most, and none beside a compensation
 -- an Ended follows the Commit or the last compensation
 abbrev pub body_fault : Course → LogRecord → Body → Option ℕ
-body_fault c r (body.RowChange change) = unless (nothing_undone c) tran_at
-body_fault c r (body.Compensation change undone) = if c.is_committed then Some tran_at else unless (is_next undone c.undo) (undone_at r)
+body_fault c r (body.RowChange change) = unless (nothing_undone c) (tran_at r)
+body_fault c r (body.Compensation change undone) = if c.is_committed then Some (tran_at r) else unless (is_next undone c.undo) (undone_at r)
 body_fault c r (body.System patches) = None
-body_fault c r body.Commit = unless (not c.is_committed && nothing_undone c) tran_at
-body_fault c r body.Ended = unless (c.is_committed || ((length c.undo == 0) && not (nothing_undone c))) tran_at
+body_fault c r body.Commit = unless (not c.is_committed && nothing_undone c) (tran_at r)
+body_fault c r body.Ended = unless (c.is_committed || ((length c.undo == 0) && not (nothing_undone c))) (tran_at r)
 body_fault c r (body.Checkpoint offset) = None
 body_fault c r body.RestartEnd = None
 
@@ -54,7 +54,7 @@ abbrev pub tran_fault : ℕ → Known → LogRecord → Option ℕ
 tran_fault member known r =
     if r.tran == 0 then None
     else if is_home member (finite.get known.homes r.tran) then body_fault (course_of (finite.get known.courses r.tran)) r r.body
-    else Some tran_at
+    else Some (tran_at r)
 
 abbrev pub was_drawn : Known → LogRecord → Bool
 was_drawn known r = is_drawn r.body && is_some (finite.get known.drawn r.lrsn)

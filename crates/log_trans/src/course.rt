@@ -17,12 +17,13 @@ pub struct Course {
     pub is_ended: bool,
 }
 
-fn row_record(lrsn: Lrsn, tran: Lrsn, change: &RowChange) -> LogRecord
-    ensures { result ≡ row_record lrsn tran change.now }
+fn row_record(it: &LogRecord, change: &RowChange) -> LogRecord
+    ensures { result ≡ row_record it.now change.now }
 {
     LogRecord {
-        lrsn,
-        tran,
+        version: it.version,
+        lrsn: it.lrsn,
+        tran: it.tran,
         body: Body::RowChange { change: *change },
     }
 }
@@ -79,10 +80,10 @@ impl Course {
 
     /// Takes a record of the transaction into account.
     pub fn enter(&mut self, alloc: Global, it: &LogRecord) -> Result<(), NoMemory>
-        ensures { OnOk result (self.new ≡ after_body self.old it.now.lrsn it.now.tran it.now.body) }
+        ensures { OnOk result (self.new ≡ after_body self.old it.now it.now.body) }
     {
         match &it.body {
-            Body::RowChange { change } => self.undo.push(row_record(it.lrsn, it.tran, change))?,
+            Body::RowChange { change } => self.undo.push(row_record(it, change))?,
             Body::Compensation { undone, .. } => self.compensate(alloc, *undone)?,
             Body::Commit => self.is_committed = true,
             Body::Ended => self.is_ended = true,

@@ -1,20 +1,17 @@
 ghost use Rattle.std.specs.Prelude.{◌≡◌, ◌≤◌, OnOk, IfSome, option_copied};
-ghost use Rattle.ds_model.specs.RecordBytes.{Fits};
-ghost use Rattle.log_trans.specs.Damage.{unless, body_fault, is_home, tran_fault, was_drawn, record_fault, nothing_known, known_with};
+ghost use Rattle.ds_model.specs.RecordBytes.{BodyFits};
+ghost use Rattle.log_trans.specs.Damage.{tran_at, undone_at, unless, body_fault, is_home, tran_fault, was_drawn, record_fault, nothing_known, known_with};
 
 use crate::course::{Course, is_next};
 use crate::opened::enter_record;
 use ds_base::{Lrsn, MemberId, NoMemory};
 use ds_model::{Body, LogRecord};
-use log_record::{is_drawn, record_length};
+use log_record::{is_drawn, record_length, width_of};
 use number_map::NumberMap;
 use std::alloc::Global;
 
-// Where the number and the transaction of a record begin.
-
+// Where the number of a record begins.
 const NUMBER_AT: u64 = 6;
-
-const TRAN_AT: u64 = 12;
 
 /// What the records so far say: whose each number is that was drawn, in whose log each transaction stands, and what its
 /// records come to.
@@ -25,6 +22,24 @@ pub struct Known {
     pub courses: NumberMap<Course>,
 }
 
+// Where the transaction of a record begins.
+fn tran_at(it: &LogRecord) -> u64
+    ensures exact { result ≡ tran_at it.now }
+    ensures small { result ≤ 16 }
+{
+    NUMBER_AT + width_of(it.version) as u64
+}
+
+// Where the undone number of a compensation begins.
+fn undone_at(it: &LogRecord) -> u64
+    requires fits { BodyFits it.now.version it.now.body }
+    ensures exact { result ≡ undone_at it.now }
+    ensures small { result ≤ 16384 }
+{
+    let length = record_length(it) as u64;
+    length.saturating_sub(width_of(it.version) as u64 + 4)
+}
+
 fn unless(may_stand: bool, at: u64) -> Option<u64>
     ensures { result ≡ unless may_stand at }
 {
@@ -33,27 +48,23 @@ fn unless(may_stand: bool, at: u64) -> Option<u64>
 
 // Where a record that belongs to a transaction can't follow on those of the transaction before it.
 fn body_fault(course: &Course, it: &LogRecord) -> Option<u64>
-    requires fits { Fits it.now }
+    requires fits { BodyFits it.now.version it.now.body }
     ensures exact { result ≡ body_fault course.now it.now it.now.body }
     ensures small { IfSome result (λ at. at ≤ 16384) }
 {
     let nothing_undone = course.undone.is_empty();
     match &it.body {
-        Body::RowChange { .. } => unless(nothing_undone, TRAN_AT),
+        Body::RowChange { .. } => unless(nothing_undone, tran_at(it)),
         Body::Compensation { undone, .. } => {
             if course.is_committed {
-                return Some(TRAN_AT);
+                return Some(tran_at(it));
             }
-            let length = record_length(it) as u64;
-            unless(
-                is_next(*undone, course.undo.as_slice()),
-                length.saturating_sub(10),
-            )
+            unless(is_next(*undone, course.undo.as_slice()), undone_at(it))
         }
-        Body::Commit => unless(!course.is_committed && nothing_undone, TRAN_AT),
+        Body::Commit => unless(!course.is_committed && nothing_undone, tran_at(it)),
         Body::Ended => {
             let is_undone = course.undo.is_empty() && !nothing_undone;
-            unless(course.is_committed || is_undone, TRAN_AT)
+            unless(course.is_committed || is_undone, tran_at(it))
         }
         Body::System { .. } | Body::Checkpoint { .. } | Body::RestartEnd => None,
     }
@@ -86,7 +97,7 @@ impl Known {
     }
 
     fn tran_fault(&self, alloc: Global, member: MemberId, it: &LogRecord) -> Option<u64>
-        requires fits { Fits it.now }
+        requires fits { BodyFits it.now.version it.now.body }
         ensures exact { result ≡ tran_fault member self.now it.now }
         ensures small { IfSome result (λ at. at ≤ 16384) }
     {
@@ -94,7 +105,7 @@ impl Known {
             return None;
         }
         if !is_home(member, self.homes.get(it.tran)) {
-            return Some(TRAN_AT);
+            return Some(tran_at(it));
         }
         match self.courses.get(it.tran) {
             Some(course) => body_fault(course, it),
@@ -103,8 +114,8 @@ impl Known {
     }
 
     /// Where the first number of a record of the member's log can't stand, behind a record with the number `low`.
-    pub fn fault(&self, alloc: Global, member: MemberId, low: u64, it: &LogRecord) -> Option<u64>
-        requires fits { Fits it.now }
+    pub fn fault(&self, alloc: Global, member: MemberId, low: u128, it: &LogRecord) -> Option<u64>
+        requires fits { BodyFits it.now.version it.now.body }
         ensures exact { result ≡ record_fault member self.now low it.now }
         ensures small { IfSome result (λ at. at ≤ 16384) }
     {

@@ -5,7 +5,7 @@ use ds_base::{LRSN_END, Lrsn};
 use ds_model::LogRecord;
 use log_record::Log;
 
-fn greatest_of(records: &[LogRecord]) -> u64
+fn greatest_of(records: &[LogRecord]) -> u128
     ensures { result ≡ greatest records.now }
 {
     let mut last = 0;
@@ -16,7 +16,7 @@ fn greatest_of(records: &[LogRecord]) -> u64
 }
 
 /// The greatest number of the log's records, 0 where it has none.
-pub fn greatest_number(log: &Log) -> u64
+pub fn greatest_number(log: &Log) -> u128
     ensures { result ≡ greatest log.now.records }
 {
     greatest_of(log.records())
@@ -24,7 +24,7 @@ pub fn greatest_number(log: &Log) -> u64
 
 /// Whether the numbers above this one are at least as many as the row changes that are to be compensated.
 pub fn has_numbers(counter: Lrsn, changes: u64) -> bool
-    ensures { IsTrue result ↔ (counter + changes < 2 ^ 48) }
+    ensures { IsTrue result ↔ (counter + changes < 2 ^ 80) }
 {
-    changes < LRSN_END - counter.number()
+    u128::from(changes) < LRSN_END - counter.number()
 }

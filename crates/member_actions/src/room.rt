@@ -9,13 +9,13 @@ use page_format::{ENTRIES_PER_PAGE, Page};
 use page_plans::Action;
 
 /// The bytes of a record of a row change, at most.
-pub const ROW_CHANGE: u32 = 241;
+pub const ROW_CHANGE: u32 = 249;
 
 /// The bytes of a compensation and of the record that ends its transaction, at most.
-pub const COMPENSATION: u32 = 269;
+pub const COMPENSATION: u32 = 289;
 
 // The bytes of a record of patches, beside these; the bytes of a patch, beside those that it puts.
-const RECORD: u32 = 23;
+const RECORD: u32 = 31;
 
 const PATCH: u32 = 10;
 

@@ -6,7 +6,7 @@ use member_resources::Resources;
 use member_state::{MemberState, SeatState, Standing, closing_intent, release_intent, test_intent};
 
 /// The bytes of a Commit record.
-const COMMIT_BYTES: u32 = 22;
+const COMMIT_BYTES: u32 = 30;
 
 fn commit_intent(marks: &Marks, slot: u8) -> Intent {
     if marks.log_room() < COMMIT_BYTES || marks.must_append() {

@@ -5,6 +5,7 @@ use Rattle.ds_model.specs.declared.fate.Refusal.TheVariants as refusal
 use Rattle.ds_model.specs.declared.log.LogRecord.{LogRecord}
 use Rattle.ds_model.specs.declared.log.RowChange.{RowChange}
 use Rattle.ds_model.specs.declared.log.Body.TheVariants as body
+use Rattle.ds_model.specs.declared.log.Version.TheVariants as version
 use Rattle.page_format.specs.declared.patch.Patch.{Patch}
 use Rattle.heap_space.specs.Written.{written}
 use Rattle.write_order.specs.Ranks.{rank_of}
@@ -73,7 +74,7 @@ abbrev pub with_marks : Kept → MarksState → Kept
 with_marks k s = record k { marks = s }
 
 abbrev pub system_record : List Patch → ℕ → LogRecord
-system_record patches lrsn = record { lrsn = lrsn; tran = 0; body = body.System patches }
+system_record patches lrsn = record { version = version.Two; lrsn = lrsn; tran = 0; body = body.System patches }
 
 abbrev pub system_logged : Kept → ℕ → List Patch → ℕ → Kept
 system_logged k slot patches lrsn = with_marks k (after_system k.marks slot (system_record patches lrsn))

@@ -15,7 +15,7 @@ ghost use Rattle.member_effects.specs.Changes.{bytes_at, system_record, patched_
 
 use crate::told::Told;
 use ds_base::{Lrsn, PageId};
-use ds_model::{Body, LogRecord, Refusal, RowChange};
+use ds_model::{Body, LogRecord, Refusal, RowChange, Version};
 use facility::Reply;
 use member_intents::Frames;
 use member_marks::{Marks, Owner};
@@ -134,6 +134,7 @@ fn system_record(patches: Patches, lrsn: Lrsn) -> LogRecord
         unreachable!()
     };
     LogRecord {
+        version: Version::Two,
         lrsn,
         tran: none,
         body: Body::System { patches },

@@ -4,10 +4,10 @@ ghost use Rattle.ds_model.specs.RecordBytes.{Fits};
 
 use crate::{MemberLog, MustForce};
 use ds_base::Lrsn;
-use log_record::{Body, LogRecord};
+use log_record::{Body, LogRecord, Version};
 use std::test::Fail;
 
-fn lrsn(number: u64) -> Lrsn
+fn lrsn(number: u128) -> Lrsn
     requires { IsLrsn number }
     ensures { result ≡ number }
 {
@@ -18,6 +18,7 @@ fn commit() -> LogRecord
     ensures { Fits result }
 {
     LogRecord {
+        version: Version::Two,
         lrsn: lrsn(5),
         tran: lrsn(5),
         body: Body::Commit,
@@ -25,17 +26,17 @@ fn commit() -> LogRecord
 }
 
 #[test]
-fn two_commits_fill_a_buffer_of_45_bytes(rt: HostRuntime) -> Result<(), Fail> {
-    let mut log = MemberLog::new(rt.alloc(), 45)?;
+fn two_commits_fill_a_buffer_of_61_bytes(rt: HostRuntime) -> Result<(), Fail> {
+    let mut log = MemberLog::new(rt.alloc(), 61)?;
     assert_eq!(rt; log.put(&commit()), Ok(()));
-    assert_eq!(rt; log.room(), 23);
+    assert_eq!(rt; log.room(), 31);
     assert_eq!(rt; log.stable(), lrsn(0));
     assert_eq!(rt; log.last(), lrsn(5));
     assert_eq!(rt; log.put(&commit()), Ok(()));
     assert_eq!(rt; log.put(&commit()), Err(MustForce { room: 1 }));
-    assert_eq!(rt; log.pending().len(), 44);
+    assert_eq!(rt; log.pending().len(), 60);
     log.forced();
     assert_eq!(rt; log.stable(), lrsn(5));
-    assert_eq!(rt; log.room(), 45);
+    assert_eq!(rt; log.room(), 61);
     Ok(())
 }

@@ -6,6 +6,7 @@ use Rattle.ds_model.specs.declared.log.LogRecord.{LogRecord}
 use Rattle.ds_model.specs.declared.log.RowChange.{RowChange}
 use Rattle.ds_model.specs.declared.log.Body.{Body}
 use Rattle.ds_model.specs.declared.log.Body.TheVariants as body
+use Rattle.ds_model.specs.declared.log.Version.TheVariants as version
 use Rattle.ds_model.specs.RecordBytes.{record_bytes}
 use Rattle.page_format.specs.declared.patch.Patch.{Patch}
 use Rattle.log_record.specs.Changes.{inverse}
@@ -37,7 +38,7 @@ undo_page s o = page_undone (newest_of (tran_of s o))
 -- ---- a row change
 
 abbrev pub row_record : TranState → ℕ → RowChange → LogRecord
-row_record t lrsn c = record { lrsn = lrsn; tran = first_with t.first lrsn; body = body.RowChange c }
+row_record t lrsn c = record { version = version.Two; lrsn = lrsn; tran = first_with t.first lrsn; body = body.RowChange c }
 
 abbrev pub may_change : MarksState → ℕ → ℕ → RowChange → Bool
 may_change s slot lrsn c = not (lrsn == 0) && (is_at_row c && ((slot_tran s slot).has_room && fits_in s.log (row_record (slot_tran s slot) lrsn c)))
@@ -76,10 +77,10 @@ after_system s slot r =
 -- ---- a change is taken back
 
 abbrev pub back_record : TranState → ℕ → Change → LogRecord
-back_record t lrsn it = record { lrsn = lrsn; tran = t.first; body = body.Compensation (inverse it.change) it.lrsn }
+back_record t lrsn it = record { version = version.Two; lrsn = lrsn; tran = t.first; body = body.Compensation (inverse it.change) it.lrsn }
 
 abbrev pub ended_record : TranState → ℕ → LogRecord
-ended_record t lrsn = record { lrsn = lrsn; tran = t.first; body = body.Ended }
+ended_record t lrsn = record { version = version.Two; lrsn = lrsn; tran = t.first; body = body.Ended }
 
 -- there is room for both records
 abbrev pub both_fit : LogBuffer → LogRecord → LogRecord → Bool
@@ -122,7 +123,7 @@ may_undo_as s o lrsn (Some it) = may_back (tran_of s o) it && both_fit s.log (ba
 -- ---- a commit
 
 abbrev pub commit_record : TranState → ℕ → LogRecord
-commit_record t lrsn = record { lrsn = lrsn; tran = first_with t.first lrsn; body = body.Commit }
+commit_record t lrsn = record { version = version.Two; lrsn = lrsn; tran = first_with t.first lrsn; body = body.Commit }
 
 abbrev pub may_commit : MarksState → ℕ → ℕ → Bool
 may_commit s slot lrsn = not (lrsn == 0) && (is_forward (slot_tran s slot).stage && fits_in s.log (commit_record (slot_tran s slot) lrsn))

@@ -26,7 +26,7 @@ ghost use Rattle.member_marks.specs.Records.{
 
 use crate::Marks;
 use ds_base::{LRSN_LIMIT, Lrsn, NoMemory, PageId};
-use ds_model::{Body, LogRecord, RowChange};
+use ds_model::{Body, LogRecord, RowChange, Version};
 use log_record::{compensation_of, record_length};
 use member_trans::{Owner, Trans};
 use page_format::Patch;
@@ -139,6 +139,7 @@ impl Marks {
             return false;
         }
         let it = LogRecord {
+            version: Version::Two,
             lrsn,
             tran: number_or(self.trans.first(&Owner::Slot(slot)), lrsn),
             body: Body::RowChange { change: *change },
@@ -180,11 +181,13 @@ impl Marks {
             return false;
         }
         let back = LogRecord {
+            version: Version::Two,
             lrsn,
             tran,
             body: compensation_of(&newest.change, newest.lrsn),
         };
         let ended = LogRecord {
+            version: Version::Two,
             lrsn,
             tran,
             body: Body::Ended,
@@ -234,6 +237,7 @@ impl Marks {
             return false;
         }
         let it = LogRecord {
+            version: Version::Two,
             lrsn,
             tran: number_or(self.trans.first(&Owner::Slot(slot)), lrsn),
             body: Body::Commit,

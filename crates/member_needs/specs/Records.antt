@@ -133,14 +133,14 @@ room_test s bytes = when (nat_le bytes (room_of s.log)) NoRoom passed
 
 -- the most bytes of the record of a row change
 abbrev pub row_change_bytes : ℕ
-row_change_bytes = 241
+row_change_bytes = 249
 
 -- the most bytes of a compensation, and of the Ended record behind it
 abbrev pub undo_bytes : ℕ
-undo_bytes = 269
+undo_bytes = 289
 
 abbrev pub short_bytes : ℕ
-short_bytes = 22
+short_bytes = 30
 
 abbrev pub change_page : RowChange → PageId
 change_page c = heap_page c.table c.place.page

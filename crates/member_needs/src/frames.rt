@@ -1,7 +1,7 @@
 //! Frames: how they are filled, tested, written and made free.
 
 ghost use Rattle.std.specs.Prelude.{◌≡◌, ◌≤◌, nat_le, length};
-ghost use Rattle.page_format.specs.Fields.{page_size, lrsn_of};
+ghost use Rattle.page_format.specs.Fields.{lrsn_of};
 ghost use Rattle.member_needs.specs.Frames.{is_stable, placed, read_need, read_page_need, header_test, gives_test, test_need, write_need, unregister_need};
 
 use ds_base::{Lrsn, PageId, TableId};
@@ -10,22 +10,11 @@ use member_intents::{Sent, Test};
 use member_marks::{Frame, Marks};
 use page_format::Page;
 
-// Where the number of the last change stands in a page.
-const LRSN_AT: usize = 16;
-
-fn lrsn_in(page: &[u8]) -> u64
-    requires { page_size ≤ length page.now }
-    ensures { result ≡ lrsn_of page.now }
-{
-    let b = &page[LRSN_AT..];
-    u64::from_be_bytes([0, 0, b[0], b[1], b[2], b[3], b[4], b[5]])
-}
-
 /// Whether the number of the page's last change isn't above this one.
 pub fn is_page_stable(page: &Page, stable: Lrsn) -> bool
     ensures { result ≡ nat_le (lrsn_of page.now) stable }
 {
-    lrsn_in(page.bytes()) <= stable.number()
+    page.lrsn().number() <= stable.number()
 }
 
 /// Whether the last change of the page in the frame stands in the log.

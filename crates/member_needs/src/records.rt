@@ -16,13 +16,13 @@ use page_format::Page;
 use page_plans::{Action, action_page, place_of};
 
 /// The most bytes of the record of a row change.
-pub const ROW_CHANGE_BYTES: u32 = 22 + 15 + 2 * 102;
+pub const ROW_CHANGE_BYTES: u32 = 30 + 15 + 2 * 102;
 
 /// The bytes of a Commit or an Ended record.
-const SHORT_BYTES: u32 = 22;
+const SHORT_BYTES: u32 = 30;
 
 /// The most bytes of a compensation and the Ended record behind it.
-const UNDO_BYTES: u32 = ROW_CHANGE_BYTES + 6 + SHORT_BYTES;
+const UNDO_BYTES: u32 = ROW_CHANGE_BYTES + 10 + SHORT_BYTES;
 
 fn has_row(marks: &Marks, owner: &Owner, table: TableId, key: Key) -> bool
     ensures { result ≡ allows_row (mode_held marks.now owner.now (Row table key)) }

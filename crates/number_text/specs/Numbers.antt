@@ -16,3 +16,10 @@ is_number word = nat_le 1 (length word) && (nat_le (length word) 20 && (all_asci
 
 abbrev pub number_of : List ℕ → Option ℕ
 number_of word = if is_number word then Some (spelled word) else None
+
+-- 1 to 25 decimal digits that spell a number below 2^80
+abbrev pub is_wide_number : List ℕ → Bool
+is_wide_number word = nat_le 1 (length word) && (nat_le (length word) 25 && (all_ascii_digits word && nat_lt (spelled word) (2 ^ 80)))
+
+abbrev pub wide_number_of : List ℕ → Option ℕ
+wide_number_of word = if is_wide_number word then Some (spelled word) else None

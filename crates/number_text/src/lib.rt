@@ -2,5 +2,7 @@
 #![tactic(auto)]
 
 mod number;
+mod wide;
 
 pub use number::number_of;
+pub use wide::wide_number_of;

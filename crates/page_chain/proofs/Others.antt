@@ -7,7 +7,9 @@ use Rattle.ds_model.specs.declared.log.LogRecord.{LogRecord}
 use Rattle.ds_model.specs.declared.log.RowChange.{RowChange}
 use Rattle.ds_model.specs.declared.log.Body.{Body}
 use Rattle.ds_model.specs.declared.log.Body.TheVariants as body
-use Rattle.ds_model.specs.RecordBytes.{IsAllowed, StateIsAllowed, ChangeIsAllowed, PatchIsAllowed, BodyIsAllowed}
+use Rattle.ds_model.specs.declared.log.Version.{Version}
+use Rattle.ds_model.specs.declared.log.Version.TheVariants as version
+use Rattle.ds_model.specs.RecordBytes.{IsAllowed, StateIsAllowed, ChangeIsAllowed, PatchIsAllowed, IsNumber, BodyIsAllowed}
 use Rattle.page_format.specs.Fields.{lrsn_of}
 use Rattle.page_format.specs.declared.patch.Patch.{Patch}
 use Rattle.heap_space.specs.Slots.{head, image}
@@ -38,17 +40,22 @@ patches_within : (ps : List Patch) → AllByRecursion PatchIsAllowed ps → AreW
 patches_within [] h = tt
 patches_within (p ∷ ps) h = (h.0.within, patches_within ps h.1)
 
-body_within : (b : Body) → BodyIsAllowed b → AreWithin (changes_of b)
-body_within (body.RowChange c) h = row_within c h
-body_within (body.Compensation c undone) h = row_within c h.0
-body_within (body.System ps) h = patches_within ps h.each
-body_within body.Commit h = tt
-body_within body.Ended h = tt
-body_within (body.Checkpoint offset) h = tt
-body_within body.RestartEnd h = tt
+body_within : (v : Version) (b : Body) → BodyIsAllowed v b → AreWithin (changes_of b)
+body_within v (body.RowChange c) h = row_within c h
+body_within v (body.Compensation c undone) h = row_within c h.0
+body_within v (body.System ps) h = patches_within ps h.each
+body_within v body.Commit h = tt
+body_within v body.Ended h = tt
+body_within v (body.Checkpoint offset) h = tt
+body_within v body.RestartEnd h = tt
 
 pub record_within : (r : LogRecord) → IsAllowed r → AreWithin (changes_of r.body)
-record_within r h = body_within r.body h.body_is
+record_within r h = body_within r.version r.body h.body_is
+
+-- the number of a record of either version
+pub number_in : (v : Version) (n : ℕ) → IsNumber v n → n < 2 ^ 80
+number_in version.One n h = omega (arith, h)
+number_in version.Two n h = h
 
 within_when : (b : Bool) (p : Patch) (ps : List Patch) → AreWithin (p ∷ []) → AreWithin ps → AreWithin (cond b (p ∷ ps) ps)
 within_when true p ps h k = (h.0, k)
@@ -86,7 +93,7 @@ pub record Stamping : Type 0 where
   pub free : FreeStays
   pub stamped : (id : PageId) (lrsn : ℕ) (ps : List Patch) (page : List ℕ) → written id lrsn ps page ≡ all_stamped lrsn page (patches_for id ps)
   pub whole : (lrsn : ℕ) (page : List ℕ) (ps : List Patch) → length page ≡ 4096 → AreWithin ps → length (all_stamped lrsn page ps) ≡ 4096
-  pub lrsn : (lrsn : ℕ) (page : List ℕ) (p : Patch) (ps : List Patch) → length page ≡ 4096 → AreWithin (p ∷ ps) → lrsn < 2 ^ 48 → lrsn_of (all_stamped lrsn page (p ∷ ps)) ≡ lrsn
+  pub lrsn : (lrsn : ℕ) (page : List ℕ) (p : Patch) (ps : List Patch) → length page ≡ 4096 → AreWithin (p ∷ ps) → lrsn < 2 ^ 80 → lrsn_of (all_stamped lrsn page (p ∷ ps)) ≡ lrsn
   pub zero : (length zeros ≡ 4096) × (lrsn_of zeros ≡ 0)
 
 pub record_whole : Stamping → (r : LogRecord) (id : PageId) (page : List ℕ) → IsAllowed r → length page ≡ 4096 → length (after_record id page r) ≡ 4096
@@ -109,4 +116,4 @@ record_stamps s r id page allowed whole e =
     let some = some_for id ps e in
     ap lrsn_of (s.stamped id r.lrsn ps page)
     ∙ ap (λ (l : List Patch). lrsn_of (all_stamped r.lrsn page l)) some.2
-    ∙ s.lrsn r.lrsn page some.0 some.1 whole (subst AreWithin some.2 (within_for id ps (record_within r allowed))) allowed.lrsn_in
+    ∙ s.lrsn r.lrsn page some.0 some.1 whole (subst AreWithin some.2 (within_for id ps (record_within r allowed))) (number_in r.version r.lrsn allowed.lrsn_in)

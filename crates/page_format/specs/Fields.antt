@@ -1,6 +1,6 @@
 -- Where the fields of a page's header stand, and how a page is patched.
-use Rattle.std.specs.Prelude.{ℕ, ◌+◌, List, ◌++◌, length, take, drop}
-use Rattle.ds_base.specs.Ids.{lrsn_width}
+use Rattle.std.specs.Prelude.{ℕ, ◌+◌, ◌==◌, Bool, if◌then◌else◌, List, [], ◌∷◌, ◌++◌, length, take, drop, slice_index}
+use Rattle.ds_base.specs.Ids.{lrsn_width, old_lrsn_width}
 use Rattle.byteorder.specs.Endian.{big_bytes, big_number}
 
 abbrev pub page_size : ℕ
@@ -35,9 +35,26 @@ count_at = 26
 abbrev pub number_in : List ℕ → ℕ → ℕ → ℕ
 number_in page offset width = big_number width (drop offset page)
 
+-- ---- versions
+
+-- pages are written in this version
+abbrev pub version : ℕ
+version = 2
+
+-- and are read in this one too, whose LRSN is shorter
+abbrev pub old_version : ℕ
+old_version = 1
+
+abbrev pub is_old : List ℕ → Bool
+is_old page = slice_index page version_at == old_version
+
+-- how many bytes the LRSN of the page has
+abbrev pub width_in : List ℕ → ℕ
+width_in page = if slice_index page version_at == version then lrsn_width else old_lrsn_width
+
 -- the LRSN of the last change
 abbrev pub lrsn_of : List ℕ → ℕ
-lrsn_of page = number_in page lrsn_at lrsn_width
+lrsn_of page = number_in page lrsn_at (width_in page)
 
 -- ---- changes
 
@@ -45,6 +62,14 @@ lrsn_of page = number_in page lrsn_at lrsn_width
 unfoldable pub patched : List ℕ → ℕ → List ℕ → List ℕ
 patched page offset bytes = take offset page ++ bytes ++ drop (offset + length bytes) page
 
--- the page with this number as the LRSN of its last change
+-- the page in the version that is written
+unfoldable pub set_version : List ℕ → List ℕ
+set_version page = patched page version_at (version ∷ [])
+
+-- the page in that version, with this number as the LRSN of its last change
 unfoldable pub set_lrsn : List ℕ → ℕ → List ℕ
-set_lrsn page lrsn = patched page lrsn_at (big_bytes lrsn_width lrsn)
+set_lrsn page lrsn = patched (set_version page) lrsn_at (big_bytes lrsn_width lrsn)
+
+-- the page in that version, with the same LRSN
+unfoldable pub renewed : List ℕ → List ℕ
+renewed page = set_lrsn page (lrsn_of page)

@@ -1,9 +1,9 @@
 -- What the header of a page says, and where it can't be the header of that page.
-use Rattle.std.specs.Prelude.{ℕ, ◌%◌, ◌==◌, nat_le, Bool, false, not, ◌&&◌, if◌then◌else◌, List, [], ◌∷◌, take, slice_index, Option, Some, None, Result, Ok, Err}
+use Rattle.std.specs.Prelude.{ℕ, ◌%◌, ◌==◌, nat_le, Bool, false, not, ◌&&◌, ◌||◌, if◌then◌else◌, List, [], ◌∷◌, take, slice_index, Option, Some, None, Result, Ok, Err}
 use Rattle.std.specs.List.{list_all}
 use Rattle.std.specs.Str.{bytes_eq}
 use Rattle.ds_base.specs.declared.names.PageId.{PageId}
-use Rattle.page_format.specs.Fields.{mark_at, kind_at, version_at, set_at, number_at, lrsn_at, count_at, number_in, lrsn_of}
+use Rattle.page_format.specs.Fields.{mark_at, kind_at, version_at, set_at, number_at, lrsn_at, count_at, version, old_version, number_in, lrsn_of}
 use Rattle.page_format.specs.declared.header.Header.{Header}
 use Rattle.page_format.specs.declared.header.NotAPage.{NotAPage}
 use Rattle.page_format.specs.declared.header.PageKind.{PageKind}
@@ -53,6 +53,10 @@ most kind.Leaf = entries_per_page
 
 -- ---- fields
 
+-- whether a page may be of the version
+abbrev pub is_version : ℕ → Bool
+is_version n = n == old_version || n == version
+
 -- DSG1
 abbrev pub mark : List ℕ
 mark = 0x44 ∷ 0x53 ∷ 0x47 ∷ 0x31 ∷ []
@@ -69,7 +73,7 @@ abbrev pub fields : List ℕ → PageId → List (ℕ × Bool)
 fields page id =
     (mark_at, bytes_eq (take 4 page) mark)
     ∷ (kind_at, may_have id (header_in page).kind)
-    ∷ (version_at, slice_index page version_at == 1)
+    ∷ (version_at, is_version (slice_index page version_at))
     ∷ (set_at, number_in page set_at 2 == id.set)
     ∷ (number_at, number_in page number_at 4 == id.number)
     ∷ (lrsn_at, not ((header_in page).lrsn == 0))

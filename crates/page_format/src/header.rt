@@ -1,16 +1,17 @@
 ghost use Rattle.std.specs.Prelude.{◌≡◌, ◌≤◌, length};
-ghost use Rattle.page_format.specs.Fields.{page_size, lrsn_of};
-ghost use Rattle.page_format.specs.Header.{kind_of, may_have, most, fields, first_fault, is_zeros, empty_header, header_in, header_of};
+ghost use Rattle.ds_base.specs.Ids.{IsLrsn, lrsn_width, old_lrsn_width};
+ghost use Rattle.page_format.specs.Fields.{page_size, lrsn_at, number_in, lrsn_of};
+ghost use Rattle.page_format.specs.Header.{kind_of, is_version, may_have, most, fields, first_fault, is_zeros, empty_header, header_in, header_of};
 
-use crate::layout::{COUNT_AT, KIND_AT, LRSN_AT, MARK_AT, NUMBER_AT, SET_AT, VERSION_AT};
+use crate::layout::{
+    COUNT_AT, KIND_AT, LRSN_AT, MARK_AT, NUMBER_AT, OLD_VERSION, SET_AT, VERSION, VERSION_AT,
+};
 use crate::{ENTRIES_PER_PAGE, Page, SLOTS_PER_PAGE};
 use byteorder::{BigEndian, ByteOrder};
 use ds_base::{Lrsn, PageId};
 
 // What every page begins with, once it was written.
 const MARK: [u8; 4] = *b"DSG1";
-
-const VERSION: u8 = 1;
 
 /// What a page holds.
 #[derive(Clone, Copy, Debug, PartialEq, Eq)]
@@ -87,16 +88,54 @@ impl PageKind {
     }
 }
 
+// The LRSN of a page, in 10 bytes.
+fn new_number(page: &[u8]) -> u128
+    requires { page_size ≤ length page.now }
+    ensures value { result ≡ number_in page.now lrsn_at lrsn_width }
+    ensures range { IsLrsn result }
+{
+    let b = &page[LRSN_AT as usize..];
+    u128::from_be_bytes([
+        0, 0, 0, 0, 0, 0, b[0], b[1], b[2], b[3], b[4], b[5], b[6], b[7], b[8], b[9],
+    ])
+}
+
+// That of a page of version 1, in 6 bytes.
+fn old_number(page: &[u8]) -> u128
+    requires { page_size ≤ length page.now }
+    ensures value { result ≡ number_in page.now lrsn_at old_lrsn_width }
+    ensures range { IsLrsn result }
+{
+    let b = &page[LRSN_AT as usize..];
+    u64::from_be_bytes([0, 0, b[0], b[1], b[2], b[3], b[4], b[5]]) as u128
+}
+
+fn read_number(page: &[u8]) -> u128
+    requires { page_size ≤ length page.now }
+    ensures value { result ≡ lrsn_of page.now }
+    ensures range { IsLrsn result }
+{
+    if page[VERSION_AT as usize] == VERSION {
+        new_number(page)
+    } else {
+        old_number(page)
+    }
+}
+
 fn read_lrsn(page: &[u8]) -> Lrsn
     requires { page_size ≤ length page.now }
     ensures { result ≡ lrsn_of page.now }
 {
-    let b = &page[LRSN_AT as usize..];
-    let number = u64::from_be_bytes([0, 0, b[0], b[1], b[2], b[3], b[4], b[5]]);
-    let Some(lrsn) = Lrsn::new(number) else {
+    let Some(lrsn) = Lrsn::new(read_number(page)) else {
         unreachable!()
     };
     lrsn
+}
+
+fn is_version(number: u8) -> bool
+    ensures { result ≡ is_version number }
+{
+    number == OLD_VERSION || number == VERSION
 }
 
 impl Header {
@@ -143,7 +182,7 @@ fn find_fault(page: &[u8], id: PageId, header: &Header) -> Option<u16>
         Some(MARK_AT)
     } else if !header.kind.may_stand_in(id) {
         Some(KIND_AT)
-    } else if page[VERSION_AT as usize] != VERSION {
+    } else if !is_version(page[VERSION_AT as usize]) {
         Some(VERSION_AT)
     } else if BigEndian::read_u16(&page[SET_AT as usize..]) != id.set {
         Some(SET_AT)
@@ -159,6 +198,13 @@ fn find_fault(page: &[u8], id: PageId, header: &Header) -> Option<u16>
 }
 
 impl Page {
+    /// The LRSN of the last change, 0 for an empty page. Whether the bytes are a page's isn't asked.
+    pub fn lrsn(&self) -> Lrsn
+        ensures { result ≡ lrsn_of self.now }
+    {
+        read_lrsn(self.bytes())
+    }
+
     /// The header of the page of this name. Bytes of no field are looked at only to tell an empty page.
     #[tactic(auto, unfolding(crate::specs::Header::header_of))]
     pub fn read_header(&self, id: PageId) -> Result<Header, NotAPage>

@@ -7,5 +7,6 @@ mod page;
 mod patch;
 
 pub use header::{Header, NotAPage, PageKind};
+pub use layout::VERSION;
 pub use page::{ENTRIES_PER_PAGE, PAGE_SIZE, Page, SLOTS_PER_PAGE};
 pub use patch::{Patch, Patches};

@@ -9,7 +9,7 @@ use Rattle.byteorder.specs.Endian.{big_bytes, big_from}
 use Rattle.byteorder.specs.Numbers.{big_number-reads_back}
 use Rattle.ds_base.specs.declared.names.PageId.{PageId}
 use Rattle.page_format.specs.Fields.{number_in, lrsn_of}
-use Rattle.page_format.specs.Header.{mark, kind_of, may_have, most, header_in, fields, first_fault, is_zeros, empty_header, judged, header_of}
+use Rattle.page_format.specs.Header.{mark, kind_of, is_version, may_have, most, header_in, fields, first_fault, is_zeros, empty_header, judged, header_of}
 use Rattle.page_format.specs.declared.header.Header.{Header}
 use Rattle.page_format.specs.declared.header.NotAPage.{NotAPage}
 use Rattle.heap_space.specs.Changes.{front}
@@ -32,7 +32,7 @@ kind_in kind id rest = refl
 pub kind_read : (page : List ℕ) (id : PageId) (kind : ℕ) → HasFront page id kind → slice_index page 4 ≡ kind
 kind_read page id kind h = ap (λ (l : List ℕ). slice_index l 4) (page_is page id kind h) ∙ kind_in kind id (drop 12 page)
 
-version_in : (kind : ℕ) (id : PageId) (rest : List ℕ) → slice_index (front_of kind id ++ rest) 5 ≡ 1
+version_in : (kind : ℕ) (id : PageId) (rest : List ℕ) → slice_index (front_of kind id ++ rest) 5 ≡ 2
 unfolding front_of spelt
 version_in kind id rest = refl
 
@@ -85,7 +85,7 @@ fields_right page id kind h stamped count may set number =
     no_fault _ _ _ _ _ _ _ _ _ _ _ _ _ _
     (ap (λ (l : List ℕ). bytes_eq (take 4 l) mark) is ∙ mark_in kind id (drop 12 page))
     (ap (λ (n : ℕ). may_have id (kind_of n)) k ∙ may)
-    (ap (λ (l : List ℕ). slice_index l 5 == 1) is ∙ ap (λ (n : ℕ). n == 1) (version_in kind id (drop 12 page)))
+    (ap (λ (l : List ℕ). is_version (slice_index l 5)) is ∙ ap is_version (version_in kind id (drop 12 page)))
     (eq-eqb (number_in page 6 2) id.set (set_read page id kind h set))
     (eq-eqb (number_in page 8 4) id.number (number_read page id kind h number))
     (not_not (lrsn_of page == 0) stamped)

@@ -1,8 +1,9 @@
 -- Changes keep what a page begins with, and its stamp.
-use Rattle.std.proofs.Common.{◌≡◌, ◌≤◌, ◌<◌, ◌^◌, ℕ, ◌+◌, inl, ◌==◌, List, [], ◌∷◌, length, take, refl, sym, ap, subst, ◌∙◌, arith}
+use Rattle.std.proofs.Common.{◌≡◌, ◌≤◌, ◌<◌, ◌^◌, ℕ, ◌+◌, ◌==◌, List, [], ◌∷◌, ◌++◌, length, take, drop, refl, sym, ap, subst, ◌∙◌, arith}
 use Rattle.std.proofs.lemmas.Bool.{ne_eqb}
+use Rattle.std.proofs.lemmas.List.{take-append-drop}
 use Rattle.ds_base.specs.declared.names.PageId.{PageId}
-use Rattle.page_format.specs.Fields.{patched, set_lrsn, lrsn_of}
+use Rattle.page_format.specs.Fields.{patched, set_version, set_lrsn, lrsn_of}
 use Rattle.page_format.specs.declared.patch.Patch.{Patch}
 use Rattle.heap_space.specs.Changes.{front}
 use Rattle.heap_space.specs.Written.{after_patch}
@@ -11,19 +12,30 @@ use Rattle.index_leaf.specs.Nodes.{all_stamped}
 use Rattle.page_images.specs.Images.{HasFront, IsStamped}
 use Rattle.page_images.specs.Parts.{Lies, AreWithin, AreBehindFront}
 use Rattle.page_images.proofs.Fronts.{fronts_agree}
-use Rattle.page_images.proofs.Parts.{step_whole, step_kept, step_put, stamp_read, patched_whole}
+use Rattle.page_images.proofs.Parts.{step_whole, front_put, front_left, stamp_front, stamp_read, patched_whole}
 
 front_length : (kind : ℕ) (id : PageId) → length (front_of kind id) ≡ 12
 unfolding front_of spelt
 front_length kind id = refl
 
+-- the version is that of the front
+version_same : (kind : ℕ) (id : PageId) (rest : List ℕ) → take 12 (set_version (front_of kind id ++ rest)) ≡ front_of kind id
+unfolding front_of spelt set_version patched
+version_same kind id rest = refl
+
+version_kept : (page : List ℕ) (id : PageId) (kind : ℕ) → take 12 page ≡ front_of kind id → take 12 (set_version page) ≡ front_of kind id
+version_kept page id kind begins =
+    ap (λ (l : List ℕ). take 12 (set_version l)) (sym (take-append-drop 12 page) ∙ ap (λ (l : List ℕ). l ++ drop 12 page) begins) ∙ version_same kind id (drop 12 page)
+
 pub made : (lrsn : ℕ) (page : List ℕ) (id : PageId) (kind : ℕ) → length page ≡ 4096 → HasFront (set_lrsn (patched page 0 (front_of kind id)) lrsn) id kind
 made lrsn page id kind whole =
     let l = front_length kind id in
+    let new = patched page 0 (front_of kind id) in
     let lies : Lies page (front_patch kind id) = record { whole = whole; within = omega (arith, l) } in
+    let there : take 12 new ≡ front_of kind id = ap (λ (n : ℕ). take n new) (sym l) ∙ front_put page (front_of kind id) in
     record {
       whole = step_whole lrsn page (front_patch kind id) lies;
-      begins = ap (λ (n : ℕ). take n (after_patch lrsn page (front_patch kind id))) (sym l) ∙ step_put lrsn page (front_patch kind id) lies (inl (omega (arith, l)));
+      begins = stamp_front lrsn new (patched_whole page (front_patch kind id) lies) ∙ version_kept new id kind there;
     }
 
 pub made_by_heap : (lrsn : ℕ) (page : List ℕ) (id : PageId) (kind : ℕ) → length page ≡ 4096 → HasFront (set_lrsn (patched page 0 (front kind id)) lrsn) id kind
@@ -34,7 +46,7 @@ step_front lrsn page id kind p h past within =
     let lies : Lies page p = record { whole = h.whole; within = within } in
     record {
       whole = step_whole lrsn page p lies;
-      begins = step_kept lrsn page p 0 12 lies (inl (omega arith)) (inl past) ∙ h.begins;
+      begins = stamp_front lrsn (patched page p.offset p.bytes) (patched_whole page p lies) ∙ version_kept (patched page p.offset p.bytes) id kind (front_left page p.offset p.bytes (omega (arith, within, h.whole)) past ∙ h.begins);
     }
 
 pub all_front : (lrsn : ℕ) (page : List ℕ) (id : PageId) (kind : ℕ) (ps : List Patch) → HasFront page id kind → AreBehindFront ps → HasFront (all_stamped lrsn page ps) id kind
@@ -43,7 +55,7 @@ all_front lrsn page id kind (p ∷ ps) h b = all_front lrsn (after_patch lrsn pa
 
 -- ---- stamps
 
-pub is_stamped : (lrsn : ℕ) (page : List ℕ) → length page ≡ 4096 → 1 ≤ lrsn → lrsn < 2 ^ 48 → IsStamped (set_lrsn page lrsn)
+pub is_stamped : (lrsn : ℕ) (page : List ℕ) → length page ≡ 4096 → 1 ≤ lrsn → lrsn < 2 ^ 80 → IsStamped (set_lrsn page lrsn)
 is_stamped lrsn page whole pos lt =
     ap (λ (n : ℕ). n == 0) (stamp_read lrsn page whole lt) ∙ ne_eqb lrsn 0 (λ e. omega (arith, e, pos))
 
@@ -51,10 +63,10 @@ pub all_whole : (lrsn : ℕ) (page : List ℕ) (ps : List Patch) → length page
 all_whole lrsn page [] whole w = whole
 all_whole lrsn page (p ∷ ps) whole w = all_whole lrsn (after_patch lrsn page p) ps (step_whole lrsn page p (record { whole = whole; within = w.0 })) w.1
 
-pub all_lrsn : (lrsn : ℕ) (page : List ℕ) (p : Patch) (ps : List Patch) → length page ≡ 4096 → AreWithin (p ∷ ps) → lrsn < 2 ^ 48 → lrsn_of (all_stamped lrsn page (p ∷ ps)) ≡ lrsn
+pub all_lrsn : (lrsn : ℕ) (page : List ℕ) (p : Patch) (ps : List Patch) → length page ≡ 4096 → AreWithin (p ∷ ps) → lrsn < 2 ^ 80 → lrsn_of (all_stamped lrsn page (p ∷ ps)) ≡ lrsn
 all_lrsn lrsn page p [] whole w lt = stamp_read lrsn (patched page p.offset p.bytes) (patched_whole page p (record { whole = whole; within = w.0 })) lt
 all_lrsn lrsn page p (q ∷ qs) whole w lt = all_lrsn lrsn (after_patch lrsn page p) q qs (step_whole lrsn page p (record { whole = whole; within = w.0 })) w.1 lt
 
-pub all_are_stamped : (lrsn : ℕ) (page : List ℕ) (p : Patch) (ps : List Patch) → length page ≡ 4096 → AreWithin (p ∷ ps) → 1 ≤ lrsn → lrsn < 2 ^ 48 → IsStamped (all_stamped lrsn page (p ∷ ps))
+pub all_are_stamped : (lrsn : ℕ) (page : List ℕ) (p : Patch) (ps : List Patch) → length page ≡ 4096 → AreWithin (p ∷ ps) → 1 ≤ lrsn → lrsn < 2 ^ 80 → IsStamped (all_stamped lrsn page (p ∷ ps))
 all_are_stamped lrsn page p ps whole w pos lt =
     ap (λ (n : ℕ). n == 0) (all_lrsn lrsn page p ps whole w lt) ∙ ne_eqb lrsn 0 (λ e. omega (arith, e, pos))

@@ -2,4 +2,5 @@ mod Fronts
 mod Kept_fronts
 mod Names
 mod Parts
+mod Renewals
 mod Written

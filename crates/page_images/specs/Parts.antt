@@ -1,7 +1,7 @@
 -- Parts of pages, and patches that lie in them.
 use Rattle.std.specs.Prelude.{◌≡◌, ℕ, ◌+◌, ◌≤◌, ◌⊎◌, List, [], ◌∷◌, take, drop, length}
 use Rattle.ds_base.specs.Ids.{lrsn_width}
-use Rattle.page_format.specs.Fields.{page_size, lrsn_at}
+use Rattle.page_format.specs.Fields.{page_size, version_at, lrsn_at}
 use Rattle.page_format.specs.declared.patch.Patch.{Patch}
 use Rattle.page_images.specs.Images.{front_width}
 
@@ -13,9 +13,9 @@ part at width page = take width (drop at page)
 abbrev pub AreApart : ℕ → ℕ → ℕ → ℕ → Type 0
 AreApart at width other count = (at + width ≤ other) ⊎ (other + count ≤ at)
 
--- the bytes are not those of the stamp
+-- the bytes are not those of the stamp: the version and the number
 abbrev pub IsOffStamp : ℕ → ℕ → Type 0
-IsOffStamp at width = AreApart at width lrsn_at lrsn_width
+IsOffStamp at width = AreApart at width version_at 1 × AreApart at width lrsn_at lrsn_width
 
 -- the patch lies in the page
 pub record Lies (page : List ℕ) (patch : Patch) : Type 0 where

@@ -6,7 +6,7 @@
 ghost use Rattle.std.specs.Prelude.{◌≡◌, ℕ, ◌<◌, ◌≤◌, ◌^◌, ◌+◌, ◌==◌, [], ◌∷◌, ◌++◌, true, false, List, length, slice_index, Ok};
 ghost use Rattle.ds_base.specs.declared.names.PageId.{PageId};
 ghost use Rattle.byteorder.specs.Endian.{big_number};
-ghost use Rattle.page_format.specs.Fields.{page_size, mark_at, kind_at, count_at, patched, number_in, lrsn_of, set_lrsn};
+ghost use Rattle.page_format.specs.Fields.{page_size, mark_at, kind_at, count_at, patched, number_in, lrsn_of, is_old, set_lrsn, renewed};
 ghost use Rattle.page_format.specs.Header.{kind_of, may_have, most, is_zeros, empty_header, header_of};
 ghost use Rattle.page_format.specs.declared.patch.Patch.{Patch};
 ghost use Rattle.ds_base.specs.Pages.{same_page, heap_page, index_page};
@@ -43,7 +43,14 @@ pub fn part_laws()
     ensures put { (lrsn : ℕ) (page : List ℕ) (p : Patch) → Lies page p → IsOffStamp p.offset (length p.bytes) → part p.offset (length p.bytes) (after_patch lrsn page p) ≡ p.bytes }
     ensures kept { (lrsn : ℕ) (page : List ℕ) (p : Patch) (at width : ℕ) → Lies page p → IsOffStamp at width → AreApart at width p.offset (length p.bytes) → part at width (after_patch lrsn page p) ≡ part at width page }
     ensures number { (page : List ℕ) (at width : ℕ) → number_in page at width ≡ big_number width (part at width page) }
-    ensures stamp { (lrsn : ℕ) (page : List ℕ) → length page ≡ page_size → lrsn < 2 ^ 48 → lrsn_of (set_lrsn page lrsn) ≡ lrsn }
+    ensures stamp { (lrsn : ℕ) (page : List ℕ) → length page ≡ page_size → lrsn < 2 ^ 80 → lrsn_of (set_lrsn page lrsn) ≡ lrsn }
+{}
+
+/// A page of version 1 that is written in version 2 has the header that it had: its kind, the LRSN of its last change and its
+/// count, or the field that can't stand there. All bytes but those of the version and the LRSN are as they were.
+pub fn renewal_laws()
+    ensures header { (page : List ℕ) (id : PageId) → length page ≡ page_size → is_old page ≡ true → lrsn_of page < 2 ^ 80 → header_of (renewed page) id ≡ header_of page id }
+    ensures kept { (page : List ℕ) (at width : ℕ) → length page ≡ page_size → IsOffStamp at width → part at width (renewed page) ≡ part at width page }
 {}
 
 /// A page that begins with its front and was stamped has the header that its kind, its LRSN and its count say, and bears
@@ -65,8 +72,8 @@ pub fn front_laws()
     ensures made_by_heap { (lrsn : ℕ) (page : List ℕ) (id : PageId) (kind : ℕ) → length page ≡ page_size → HasFront (set_lrsn (patched page mark_at (front kind id)) lrsn) id kind }
     ensures patch { (lrsn : ℕ) (page : List ℕ) (id : PageId) (kind : ℕ) (p : Patch) → HasFront page id kind → front_width ≤ p.offset → p.offset + length p.bytes ≤ page_size → HasFront (after_patch lrsn page p) id kind }
     ensures patches { (lrsn : ℕ) (page : List ℕ) (id : PageId) (kind : ℕ) (ps : List Patch) → HasFront page id kind → AreBehindFront ps → HasFront (all_stamped lrsn page ps) id kind }
-    ensures stamped { (lrsn : ℕ) (page : List ℕ) → length page ≡ page_size → 1 ≤ lrsn → lrsn < 2 ^ 48 → IsStamped (set_lrsn page lrsn) }
+    ensures stamped { (lrsn : ℕ) (page : List ℕ) → length page ≡ page_size → 1 ≤ lrsn → lrsn < 2 ^ 80 → IsStamped (set_lrsn page lrsn) }
     ensures all_whole { (lrsn : ℕ) (page : List ℕ) (ps : List Patch) → length page ≡ page_size → AreWithin ps → length (all_stamped lrsn page ps) ≡ page_size }
-    ensures all_lrsn { (lrsn : ℕ) (page : List ℕ) (p : Patch) (ps : List Patch) → length page ≡ page_size → AreWithin (p ∷ ps) → lrsn < 2 ^ 48 → lrsn_of (all_stamped lrsn page (p ∷ ps)) ≡ lrsn }
-    ensures all_stamped { (lrsn : ℕ) (page : List ℕ) (p : Patch) (ps : List Patch) → length page ≡ page_size → AreWithin (p ∷ ps) → 1 ≤ lrsn → lrsn < 2 ^ 48 → IsStamped (all_stamped lrsn page (p ∷ ps)) }
+    ensures all_lrsn { (lrsn : ℕ) (page : List ℕ) (p : Patch) (ps : List Patch) → length page ≡ page_size → AreWithin (p ∷ ps) → lrsn < 2 ^ 80 → lrsn_of (all_stamped lrsn page (p ∷ ps)) ≡ lrsn }
+    ensures all_stamped { (lrsn : ℕ) (page : List ℕ) (p : Patch) (ps : List Patch) → length page ≡ page_size → AreWithin (p ∷ ps) → 1 ≤ lrsn → lrsn < 2 ^ 80 → IsStamped (all_stamped lrsn page (p ∷ ps)) }
 {}

@@ -37,7 +37,7 @@ patches_width (p ∷ ps) =
     let more = patches_width ps in
     let both = length-append (patch_bytes p) (flat_map patch_bytes ps) in omega (arith, here, more, both)
 
-pub allowed_by : (ps : List Patch) → 1 ≤ length ps → length ps ≤ 12 → AllByRecursion PatchIsAllowed ps → size_of ps ≤ 16361 → PatchesAreAllowed ps
+pub allowed_by : (ps : List Patch) → 1 ≤ length ps → length ps ≤ 12 → AllByRecursion PatchIsAllowed ps → size_of ps ≤ 16353 → PatchesAreAllowed ps
 allowed_by ps some few each small = let width = patches_width ps in record { some = some; few = few; each = each; short = omega (arith, width, small) }
 
 -- ---- one patch

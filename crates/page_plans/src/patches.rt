@@ -34,5 +34,5 @@ pub fn patches_length(patches: &Patches) -> u32
     requires { PatchesAreAllowed patches.now }
     ensures { result ≡ length_of (body.System patches.now) }
 {
-    23 + sum_of(patches.as_slice()) as u32
+    31 + sum_of(patches.as_slice()) as u32
 }

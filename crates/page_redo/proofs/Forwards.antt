@@ -6,6 +6,7 @@ use Rattle.ds_base.specs.declared.names.PageId.{PageId}
 use Rattle.ds_model.specs.declared.log.LogRecord.{LogRecord}
 use Rattle.ds_model.specs.declared.log.Body.{Body}
 use Rattle.ds_model.specs.declared.log.Body.TheVariants as body
+use Rattle.ds_model.specs.declared.log.Version.{Version}
 use Rattle.ds_model.specs.RecordBytes.{IsAllowed, PatchIsAllowed, BodyIsAllowed}
 use Rattle.page_format.specs.Fields.{lrsn_of}
 use Rattle.page_format.specs.Header.{header_of}
@@ -31,14 +32,14 @@ all_lie : (ps : List Patch) → AllByRecursion PatchIsAllowed ps → filter lies
 all_lie [] h = refl
 all_lie (p ∷ ps) h = filter_when (lies_in_page p) p ps (filter lies_in_page ps) (lies p h.0) (all_lie ps h.1)
 
-body_patches : (b : Body) → BodyIsAllowed b → patches_of b ≡ changes_of b
-body_patches (body.RowChange c) h = refl
-body_patches (body.Compensation c undone) h = refl
-body_patches (body.System ps) h = all_lie ps h.each
-body_patches body.Commit h = refl
-body_patches body.Ended h = refl
-body_patches (body.Checkpoint offset) h = refl
-body_patches body.RestartEnd h = refl
+body_patches : (v : Version) (b : Body) → BodyIsAllowed v b → patches_of b ≡ changes_of b
+body_patches v (body.RowChange c) h = refl
+body_patches v (body.Compensation c undone) h = refl
+body_patches v (body.System ps) h = all_lie ps h.each
+body_patches v body.Commit h = refl
+body_patches v body.Ended h = refl
+body_patches v (body.Checkpoint offset) h = refl
+body_patches v body.RestartEnd h = refl
 
 -- ---- one record
 
@@ -63,7 +64,7 @@ one_cases others false false id page r b e same ok = refl
 one_is : LeavesOthers → (id : PageId) (page : List ℕ) (r : LogRecord) (b : Bool) → IsAllowed r → (after_one id page r).outcome ≡ Ok b
     → (after_one id page r).page ≡ cond (nat_lt (lrsn_of page) r.lrsn) (after_record id page r) page
 one_is others id page r b allowed ok =
-    let same = body_patches r.body allowed.body_is in
+    let same = body_patches r.version r.body allowed.body_is in
     one_cases others (nat_lt (lrsn_of page) r.lrsn) (has_patch id (patches_of r.body)) id page r b (ap (has_patch id) same) same ok
 
 -- ---- several records

@@ -1,7 +1,7 @@
 //! Pages brought forward by records.
 
 ghost use Rattle.std.specs.Prelude.{◌≡◌, ◌+◌, ◌≤◌, true, false, if◌then◌else◌, length, filter, Ok};
-ghost use Rattle.page_format.specs.Fields.{page_size, lrsn_of};
+ghost use Rattle.page_format.specs.Fields.{page_size};
 ghost use Rattle.heap_space.specs.Written.{written, after_patch};
 ghost use Rattle.ds_base.specs.Pages.{same_page};
 ghost use Rattle.page_chain.specs.Chains.{row_patch};
@@ -14,27 +14,6 @@ use crate::rows::change_row;
 use ds_base::{Lrsn, PageId};
 use ds_model::{Body, LogRecord, RowChange};
 use page_format::{PAGE_SIZE, Page, Patch};
-
-// Where the number of the last change stands in a page.
-const LRSN_AT: usize = 16;
-
-fn read_lrsn(page: &[u8]) -> Lrsn
-    requires { page_size ≤ length page.now }
-    ensures { result ≡ lrsn_of page.now }
-{
-    let b = &page[LRSN_AT..];
-    let number = u64::from_be_bytes([0, 0, b[0], b[1], b[2], b[3], b[4], b[5]]);
-    let Some(lrsn) = Lrsn::new(number) else {
-        unreachable!()
-    };
-    lrsn
-}
-
-fn lrsn_of(page: &Page) -> Lrsn
-    ensures { result ≡ lrsn_of page.now }
-{
-    read_lrsn(page.bytes())
-}
 
 fn lies_in_page(patch: &Patch) -> bool
     ensures exact { result ≡ lies_in_page patch.now }
@@ -87,7 +66,7 @@ pub fn bring_record(page: &mut Page, id: PageId, it: &LogRecord) -> Result<bool,
     ensures outcome { result ≡ (after_one id page.old it.now).outcome }
     ensures page { page.new ≡ (after_one id page.old it.now).page }
 {
-    if it.lrsn.number() <= lrsn_of(page).number() {
+    if it.lrsn.number() <= page.lrsn().number() {
         return Ok(false);
     }
     match &it.body {

@@ -12,7 +12,7 @@ ghost use Rattle.page_redo.specs.declared.fault.FieldFault.{FieldFault};
 ghost use Rattle.page_redo.specs.Rows.{kind_fault, key_fault, row_fault, change_fault};
 
 use crate::fault::FieldFault;
-use ds_base::{Key, LRSN_WIDTH, Lrsn, PageId, Value};
+use ds_base::{Key, Lrsn, PageId, Value};
 use ds_model::RowChange;
 use heap_space::{Slot, row, slot_fault, slot_image};
 use log_record::inverse;
@@ -21,8 +21,6 @@ use page_format::{Page, PageKind};
 // Where the fields of a page stand.
 
 const KIND_AT: u16 = 4;
-
-const LRSN_AT: usize = 16;
 
 const COUNT_AT: u16 = 26;
 
@@ -85,33 +83,12 @@ pub fn row_fault(page: &Page, id: PageId, slot: u16, key: Key) -> Option<u16>
     key_fault(page, slot, key)
 }
 
-// Writes bytes over those from an offset on.
-#[tactic(auto, unfolding(page_format::specs::Fields::patched))]
-fn overwrite(page: &mut [u8], offset: usize, bytes: &[u8])
-    requires { offset + length bytes.now ≤ length page.old }
-    ensures { page.new ≡ patched page.old offset bytes.now }
-{
-    page[offset..offset + bytes.len()].copy_from_slice(bytes);
-}
-
-// Writes the number of the last change.
-#[tactic(auto, unfolding(page_format::specs::Fields::set_lrsn))]
-fn stamp(page: &mut [u8], lrsn: Lrsn)
-    requires { page_size ≤ length page.old }
-    ensures { page.new ≡ set_lrsn page.old lrsn }
-{
-    let number = lrsn.number().to_be_bytes();
-    overwrite(page, LRSN_AT, &number[number.len() - LRSN_WIDTH as usize..]);
-}
-
-/// Writes the row of a key into its slot, and then the number of the change.
+/// Writes the row of a key into its slot, and then the version and the number of the change.
 pub fn put_row(page: &mut Page, slot: u16, key: Key, value: Option<&Value>, lrsn: Lrsn)
     requires { slot < slots_per_page }
     ensures { page.new ≡ set_lrsn (patched page.old (slot_at slot) (image key (option_copied value.entry))) lrsn }
 {
-    let bytes = page.bytes_mut();
-    overwrite(bytes, slot_at(slot) as usize, &slot_image(key, value));
-    stamp(bytes, lrsn);
+    page.write(slot_at(slot) as usize, &slot_image(key, value), lrsn);
 }
 
 /// Makes a row change in its page, or tells the first field in the way and leaves the page as it is.

@@ -1,6 +1,6 @@
 use crate::{FieldFault, bring_forward, pages_of};
 use ds_base::{Bytes, Lrsn, PageId};
-use ds_model::{Body, LogRecord};
+use ds_model::{Body, LogRecord, Version};
 use page_format::{Page, Patch, Patches};
 use std::alloc::Global;
 use std::test::Fail;
@@ -22,6 +22,7 @@ fn a_record_changes_two_pages_and_no_page_without_a_mark(rt: HostRuntime) -> Res
         patches.push(patch(rt.alloc(), number)?)?;
     }
     let records = [LogRecord {
+        version: Version::Two,
         lrsn: Lrsn::new(5).ok_or("a number")?,
         tran: Lrsn::new(0).ok_or("a number")?,
         body: Body::System { patches },
@@ -33,7 +34,7 @@ fn a_record_changes_two_pages_and_no_page_without_a_mark(rt: HostRuntime) -> Res
     assert!(rt; first.number == 7 && second.number == 8);
     let mut page = Page::zero(rt.alloc())?;
     assert!(rt; bring_forward(&mut page, *first, &records) == Ok(true));
-    assert!(rt; page.bytes()[21] == 5 && page.bytes()[40] == b'x');
+    assert!(rt; page.bytes()[25] == 5 && page.bytes()[40] == b'x');
     assert!(rt; bring_forward(&mut page, *first, &records) == Err(FieldFault { at: 0 }));
     Ok(())
 }

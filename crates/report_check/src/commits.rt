@@ -12,7 +12,7 @@ use log_record::Log;
 use std::alloc::Global;
 use std::collections::VecDeque;
 
-fn put_commits(out: &mut VecDeque<u64>, records: &[LogRecord]) -> Result<(), NoMemory>
+fn put_commits(out: &mut VecDeque<u128>, records: &[LogRecord]) -> Result<(), NoMemory>
     ensures { OnOk result (out.new.items ≡ out.old.items ++ commits_of records.now) }
 {
     for item in records {
@@ -28,7 +28,7 @@ fn commits_behind(
     alloc: Global,
     records: &[LogRecord],
     had: usize,
-) -> Result<VecDeque<u64>, NoMemory>
+) -> Result<VecDeque<u128>, NoMemory>
     ensures { IfOk result (λ trans. trans.items ≡ commits_of (drop had records.now)) }
 {
     let mut trans = VecDeque::new(alloc);
@@ -50,7 +50,7 @@ pub fn new_commits(
     alloc: Global,
     logs: &[Log],
     had: &[usize],
-) -> Result<Vec<VecDeque<u64>>, NoMemory>
+) -> Result<Vec<VecDeque<u128>>, NoMemory>
     ensures { IfOk result (λ commits. map (λ q. q.items) commits.items ≡ model.new_commits had.now (records_of logs.now)) }
 {
     let mut commits = Vec::new(alloc);
@@ -61,7 +61,7 @@ pub fn new_commits(
 }
 
 /// Takes the first commit of a member.
-pub fn next_commit(commits: &mut [VecDeque<u64>], member: MemberId) -> Option<u64>
+pub fn next_commit(commits: &mut [VecDeque<u128>], member: MemberId) -> Option<u128>
     ensures first { option_to_list result ≡ take 1 (at_member (map (λ q. q.items) commits.old) member) }
     ensures left { map (λ q. q.items) commits.new ≡ slice_set (map (λ q. q.items) commits.old) (member - 1) (drop 1 (at_member (map (λ q. q.items) commits.old) member)) }
 {
@@ -74,7 +74,7 @@ pub fn next_commit(commits: &mut [VecDeque<u64>], member: MemberId) -> Option<u6
 }
 
 /// Whether no commit is left.
-pub fn none_left(commits: &[VecDeque<u64>]) -> bool
+pub fn none_left(commits: &[VecDeque<u128>]) -> bool
     ensures { Decides result (AllByRecursion (λ q. q.items ≡ []) commits.now) }
 {
     for trans in commits {

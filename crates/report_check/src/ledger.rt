@@ -12,9 +12,9 @@ use std::alloc::Global;
 use std::collections::BTreeMap;
 
 /// For each log, by its place, and each transaction the records in the order of the log.
-pub type Ledger<'a> = BTreeMap<(u64, u64), Vec<&'a LogRecord>>;
+pub type Ledger<'a> = BTreeMap<(u64, u128), Vec<&'a LogRecord>>;
 
-fn take<'a>(alloc: Global, ledger: &mut Ledger<'a>, place: u64, tran: u64) -> Vec<&'a LogRecord>
+fn take<'a>(alloc: Global, ledger: &mut Ledger<'a>, place: u64, tran: u128) -> Vec<&'a LogRecord>
     ensures items { map (λ r. r.now) result.items ≡ held ledger.old place tran }
     ensures others { (p t : ℕ) → ((place == p) && (tran == t)) ≡ false → held ledger.new p t ≡ held ledger.old p t }
 {
@@ -27,7 +27,7 @@ fn take<'a>(alloc: Global, ledger: &mut Ledger<'a>, place: u64, tran: u64) -> Ve
 fn put<'a>(
     ledger: &mut Ledger<'a>,
     place: u64,
-    tran: u64,
+    tran: u128,
     items: Vec<&'a LogRecord>,
 ) -> Result<(), NoMemory>
     ensures items { OnOk result (held ledger.new place tran ≡ map (λ r. r.now) items.entry.items) }

@@ -28,7 +28,7 @@ fn has_effect(
     rows: &mut SpotMap<Value>,
     logged: &mut SpotMap<Value>,
     place: u64,
-    tran: u64,
+    tran: u128,
     ops: &[Op],
 ) -> Result<bool, NoMemory>
     requires { logged.old ≡ rows.old }
@@ -47,7 +47,7 @@ fn has_effect(
 fn has_commit(
     alloc: Global,
     ledger: &Ledger,
-    commits: &mut [VecDeque<u64>],
+    commits: &mut [VecDeque<u128>],
     rows: &mut SpotMap<Value>,
     logged: &mut SpotMap<Value>,
     member: MemberId,
@@ -68,7 +68,7 @@ fn has_commit(
 fn is_logged(
     alloc: Global,
     ledger: &Ledger,
-    commits: &mut [VecDeque<u64>],
+    commits: &mut [VecDeque<u128>],
     rows: &mut SpotMap<Value>,
     logged: &mut SpotMap<Value>,
     entry: &Entry,
@@ -92,7 +92,7 @@ fn is_logged(
 fn all_logged(
     alloc: Global,
     ledger: &Ledger,
-    commits: &mut [VecDeque<u64>],
+    commits: &mut [VecDeque<u128>],
     rows: &mut SpotMap<Value>,
     logged: &mut SpotMap<Value>,
     entries: &[Entry],

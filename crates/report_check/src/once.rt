@@ -53,12 +53,12 @@ fn flatten<'a>(alloc: Global, script: &'a Script) -> Result<Vec<PlacedTran<'a>>,
 }
 
 // The entries in the order of their transactions' numbers.
-fn sorted<'a>(alloc: Global, entries: &'a [Entry]) -> Result<Vec<(u64, &'a Entry)>, NoMemory>
+fn sorted<'a>(alloc: Global, entries: &'a [Entry]) -> Result<Vec<(u128, &'a Entry)>, NoMemory>
     ensures { IfOk result (λ sorted. map (λ p. played p.1.now) sorted.items ≡ reports.by_number (map played entries.now)) }
 {
     let mut items = Vec::new(alloc);
     for entry in entries {
-        items.push((u64::from(entry.tran.number), entry))?;
+        items.push((u128::from(entry.tran.number), entry))?;
     }
     by_number(alloc, items)
 }
@@ -69,7 +69,7 @@ fn same_played(entry: &Entry, member: u64, tran: &Tran) -> bool
     entry.member.number() == member && same_tran(&entry.tran, tran)
 }
 
-fn same_trans(entries: &[(u64, &Entry)], trans: &[PlacedTran]) -> bool
+fn same_trans(entries: &[(u128, &Entry)], trans: &[PlacedTran]) -> bool
     ensures { Decides result (map (λ p. played p.1.now) entries.now ≡ map (λ p. (p.0, p.1.now)) trans.now) }
 {
     if entries.len() != trans.len() {

@@ -17,7 +17,7 @@ use std::alloc::Global;
 use std::collections::BTreeSet;
 
 // Adds the transactions whose Commit records these are.
-fn note_commits(trans: &mut BTreeSet<u64>, records: &[LogRecord]) -> Result<(), NoMemory>
+fn note_commits(trans: &mut BTreeSet<u128>, records: &[LogRecord]) -> Result<(), NoMemory>
     ensures { OnOk result ((tran : ℕ) → set.contains nat_cmp trans.new tran ≡ (set.contains nat_cmp trans.old tran || has_commit records.now tran)) }
 {
     for item in records {
@@ -29,7 +29,7 @@ fn note_commits(trans: &mut BTreeSet<u64>, records: &[LogRecord]) -> Result<(), 
 }
 
 // The transactions that have a Commit record.
-fn committed(alloc: Global, logs: &[Log]) -> Result<BTreeSet<u64>, NoMemory>
+fn committed(alloc: Global, logs: &[Log]) -> Result<BTreeSet<u128>, NoMemory>
     ensures { IfOk result (λ trans. (tran : ℕ) → set.contains nat_cmp trans tran ≡ has_commit (all_records logs.now) tran) }
 {
     let mut trans = BTreeSet::new(alloc);
@@ -40,8 +40,8 @@ fn committed(alloc: Global, logs: &[Log]) -> Result<BTreeSet<u64>, NoMemory>
 }
 
 fn keep<'a>(
-    kept: &mut Vec<(u64, &'a LogRecord)>,
-    trans: &BTreeSet<u64>,
+    kept: &mut Vec<(u128, &'a LogRecord)>,
+    trans: &BTreeSet<u128>,
     records: &'a [LogRecord],
 ) -> Result<(), NoMemory>
     ensures { OnOk result (map (λ p. (p.0, p.1.now)) kept.new.items ≡ map (λ p. (p.0, p.1.now)) kept.old.items ++ chosen (set.contains nat_cmp trans.now) records.now) }
@@ -57,9 +57,9 @@ fn keep<'a>(
 // The records of these transactions, each with its number.
 fn records_by<'a>(
     alloc: Global,
-    trans: &BTreeSet<u64>,
+    trans: &BTreeSet<u128>,
     logs: &'a [Log],
-) -> Result<Vec<(u64, &'a LogRecord)>, NoMemory>
+) -> Result<Vec<(u128, &'a LogRecord)>, NoMemory>
     ensures { IfOk result (λ kept. map (λ p. (p.0, p.1.now)) kept.items ≡ chosen (set.contains nat_cmp trans.now) (all_records logs.now)) }
 {
     let mut kept = Vec::new(alloc);

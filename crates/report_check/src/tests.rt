@@ -2,7 +2,7 @@ use crate::{is_sound, rows_of};
 use ds_base::{Bytes, Lrsn, MemberId, NoMemory, Place, RowList, Sequence, TableId, Value};
 use ds_model::{
     Answer, Body, Entry, Fate, LogRecord, Op, OpList, Part, Phase, Reads, Refusal, RowChange,
-    Script, Tran,
+    Script, Tran, Version,
 };
 use log_record::Log;
 use std::alloc::Global;
@@ -68,7 +68,7 @@ fn script(alloc: Global) -> Result<Script, Fail> {
 }
 
 // The log of a member that has committed one transaction, with one change.
-fn log(alloc: Global, number: u64, (lrsn, commit): (u64, u64), key: u64) -> Result<Log, Fail> {
+fn log(alloc: Global, number: u64, (lrsn, commit): (u128, u128), key: u64) -> Result<Log, Fail> {
     let first = Lrsn::new(lrsn).ok_or("a number")?;
     let change = RowChange {
         table: table(),
@@ -79,11 +79,13 @@ fn log(alloc: Global, number: u64, (lrsn, commit): (u64, u64), key: u64) -> Resu
     };
     let records = vec![in alloc;
         LogRecord {
+            version: Version::Two,
             lrsn: first,
             tran: first,
             body: Body::RowChange { change }
         },
         LogRecord {
+            version: Version::Two,
             lrsn: Lrsn::new(commit).ok_or("a number")?,
             tran: first,
             body: Body::Commit

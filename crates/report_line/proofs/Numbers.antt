@@ -1,13 +1,13 @@
 -- Numbers in digits, read again.
 use Rattle.std.proofs.Common.{◌≡◌, ℕ, ◌+◌, ◌-◌, ◌*◌, ◌/◌, ◌%◌, ◌^◌, ◌<◌, ◌≤◌, Bool, true, false, ◌&&◌, nat_lt, nat_le, if◌then◌else◌, List, [], ◌∷◌, ◌++◌, length, Some, None, refl, ◌∙◌, arith, decimal}
 use Rattle.std.proofs.lemmas.Bool.Decides.{nat_tests}
-use Rattle.std.proofs.lemmas.Fmt.{decimal_by_steps, decimal_nonempty, length-decimal-le}
+use Rattle.std.proofs.lemmas.Fmt.{decimal_by_steps_wide, decimal_nonempty, length-decimal-le, length-decimal-le_wide, decimal_is_IsNumeral_wide}
 use Rattle.std.specs.Option.{unwrap_or}
 use Rattle.std.specs.List.{list_all}
 use Rattle.std.specs.Str.{all_ascii_digits}
 use Rattle.std.specs.Char.{is_ascii_digit}
-use Rattle.number_text.specs.Numbers.{spelled, spelled_after, is_number}
-use Rattle.report_line.specs.Reading.{number}
+use Rattle.number_text.specs.Numbers.{spelled, spelled_after, is_number, is_wide_number}
+use Rattle.report_line.specs.Reading.{number, wide_number}
 use Rattle.report_line.proofs.Tests.{and_left, and_right, and_true}
 
 -- above the blank and the line feed
@@ -53,8 +53,8 @@ more_digits n ds h k =
       plain = plain_append ds ((48 + n % 10) ∷ []) k.plain (and_true (is_plain_byte (48 + n % 10)) true (grind (arith, nat_tests)) refl);
     }
 
-pub decimal_digits : (n : ℕ) → n < 2 ^ 64 → Digits n (decimal n)
-decimal_digits n h = decimal_by_steps Digits one_digit more_digits n h
+pub decimal_digits : (n : ℕ) → n < 10 ^ 64 → Digits n (decimal n)
+decimal_digits n h = decimal_by_steps_wide Digits one_digit more_digits n h
 
 some_of : (b : Bool) (n : ℕ) → b ≡ true → unwrap_or (if b then Some n else None) 0 ≡ n
 some_of true n h = refl
@@ -63,7 +63,7 @@ some_of false n h = cc
 pub number_again : (n : ℕ) → n < 2 ^ 64 → number (decimal n) ≡ n
 unfolding number
 number_again n h =
-    let d = decimal_digits n h in
+    let d = decimal_digits n (omega arith) in
     let value = d.value in
     let some : 0 < length (decimal n) = decimal_nonempty n h in
     let few : length (decimal n) ≤ 20 = length-decimal-le 20 n (omega arith) (omega arith) h in
@@ -71,3 +71,15 @@ number_again n h =
     (and_true (nat_le (length (decimal n)) 20) (all_ascii_digits (decimal n) && nat_lt (spelled (decimal n)) (2 ^ 64)) (grind (arith, nat_tests))
     (and_true (all_ascii_digits (decimal n)) (nat_lt (spelled (decimal n)) (2 ^ 64)) d.digits (grind (arith, nat_tests)))) in
     some_of (is_number (decimal n)) (spelled (decimal n)) test ∙ value
+
+pub wide_number_again : (n : ℕ) → n < 2 ^ 80 → wide_number (decimal n) ≡ n
+unfolding wide_number
+wide_number_again n h =
+    let d = decimal_digits n (omega arith) in
+    let value = d.value in
+    let some : 0 < length (decimal n) = (decimal_is_IsNumeral_wide n (omega arith)).0.0 in
+    let few : length (decimal n) ≤ 25 = length-decimal-le_wide 25 n (omega arith) (omega arith) (omega arith) in
+    let test = and_true (nat_le 1 (length (decimal n))) (nat_le (length (decimal n)) 25 && (all_ascii_digits (decimal n) && nat_lt (spelled (decimal n)) (2 ^ 80))) (grind (arith, nat_tests))
+    (and_true (nat_le (length (decimal n)) 25) (all_ascii_digits (decimal n) && nat_lt (spelled (decimal n)) (2 ^ 80)) (grind (arith, nat_tests))
+    (and_true (all_ascii_digits (decimal n)) (nat_lt (spelled (decimal n)) (2 ^ 80)) d.digits (grind (arith, nat_tests)))) in
+    some_of (is_wide_number (decimal n)) (spelled (decimal n)) test ∙ value

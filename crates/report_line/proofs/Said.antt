@@ -12,9 +12,9 @@ use Rattle.report_line.specs.declared.line.ReportLine.{ReportLine}
 use Rattle.report_line.specs.declared.line.ReportLine.TheVariants as lines
 use Rattle.report_line.specs.Lines.{is_between, is_name, is_value, is_member, is_table, has_bits, is_command, is_reply, is_told_value, is_lock, is_refusal, is_who, is_line}
 use Rattle.report_line.specs.Bodies.{member_word, lock_words, refusal_words, line_words, line_body}
-use Rattle.report_line.specs.Reading.{words_of, word, number, number_at, member_at, by_place, lock_said, refusal_said, line_said, kept, is_spelled, line_in}
+use Rattle.report_line.specs.Reading.{words_of, word, number, wide_number, number_at, wide_number_at, member_at, by_place, lock_said, refusal_said, line_said, kept, is_spelled, line_in}
 use Rattle.report_line.proofs.Tests.{and_left, and_right, and_true}
-use Rattle.report_line.proofs.Numbers.{number_again}
+use Rattle.report_line.proofs.Numbers.{number_again, wide_number_again}
 use Rattle.report_line.proofs.Plain.{words_again}
 use Rattle.report_line.proofs.Whole.{below_key, below_lrsn, below_count, below_short, below_byte, below_table, below_member, below_group, below_place, words_plain}
 use Rattle.report_line.proofs.Again.{by_words}
@@ -25,6 +25,9 @@ at text ws i e = ap (λ (found : List (List ℕ)). slice_index_or found i []) e
 
 number_in : (text : List ℕ) (ws : List (List ℕ)) (i n : ℕ) → words_of text ≡ ws → slice_index_or ws i [] ≡ decimal n → n < 2 ^ 64 → number_at text i ≡ n
 number_in text ws i n e is h = ap number (at text ws i e ∙ is) ∙ number_again n h
+
+wide_number_in : (text : List ℕ) (ws : List (List ℕ)) (i n : ℕ) → words_of text ≡ ws → slice_index_or ws i [] ≡ decimal n → n < 2 ^ 80 → wide_number_at text i ≡ n
+wide_number_in text ws i n e is h = ap wide_number (at text ws i e ∙ is) ∙ wide_number_again n h
 
 member_in : (text : List ℕ) (ws : List (List ℕ)) (i n : ℕ) → words_of text ≡ ws → slice_index_or ws i [] ≡ member_word n → n < 2 ^ 64 → member_at text i ≡ n
 member_in text ws i n e is h = ap (λ (w : List ℕ). number (drop 1 w)) (at text ws i e ∙ is) ∙ number_again n h
@@ -87,7 +90,7 @@ said_refusal text a b c (refusal.RecordsFull limit) e h =
     rw (k, n) refl
 said_refusal text a b c (refusal.LrsnEnd at_) e h =
     let k = at text _ 3 e in
-    let n = number_in text _ 4 at_ e refl (below_lrsn at_ h) in
+    let n = wide_number_in text _ 4 at_ e refl (below_lrsn at_ h) in
     rw (k, n) refl
 said_refusal text a b c refusal.Memory e h = let k = at text _ 3 e in rw k refl
 said_refusal text a b c refusal.Aborted e h = let k = at text _ 3 e in rw k refl

@@ -19,8 +19,8 @@ use Rattle.report_line.proofs.Plain.{are_plain, name_plain, value_plain, command
 pub below_key : (n : ℕ) → has_bits 64 n ≡ true → n < 2 ^ 64
 below_key n h = grind (arith, nat_tests)
 
-pub below_lrsn : (n : ℕ) → has_bits 48 n ≡ true → n < 2 ^ 64
-below_lrsn n h = let low : n < 2 ^ 48 = grind (arith, nat_tests) in omega arith
+pub below_lrsn : (n : ℕ) → has_bits 80 n ≡ true → n < 2 ^ 80
+below_lrsn n h = grind (arith, nat_tests)
 
 pub below_count : (n : ℕ) → has_bits 32 n ≡ true → n < 2 ^ 64
 below_count n h = let low : n < 2 ^ 32 = grind (arith, nat_tests) in omega arith
@@ -46,7 +46,10 @@ below_place n h = let test = and_right (nat_le 1 n) (nat_le n (2 ^ 64 - 1)) h in
 -- ---- words
 
 digits_plain : (n : ℕ) → n < 2 ^ 64 → is_plain (decimal n) ≡ true
-digits_plain n h = (decimal_digits n h).plain
+digits_plain n h = (decimal_digits n (omega arith)).plain
+
+lrsn_plain : (n : ℕ) → n < 2 ^ 80 → is_plain (decimal n) ≡ true
+lrsn_plain n h = (decimal_digits n (omega arith)).plain
 
 then : (w : List ℕ) (ws : List (List ℕ)) → is_plain w ≡ true → are_plain ws ≡ true → are_plain (w ∷ ws) ≡ true
 then w ws h k = and_true (is_plain w) (are_plain ws) h k
@@ -82,7 +85,7 @@ refusal_plain (refusal.SpaceFull table pages) h =
     then (decimal table) (decimal pages ∷ []) (digits_plain table (below_table table (and_left (is_table table) (has_bits 32 pages) h)))
     (then (decimal pages) [] (digits_plain pages (below_count pages (and_right (is_table table) (has_bits 32 pages) h))) refl)
 refusal_plain (refusal.RecordsFull limit) h = then (decimal limit) [] (digits_plain limit (below_count limit h)) refl
-refusal_plain (refusal.LrsnEnd at) h = then (decimal at) [] (digits_plain at (below_lrsn at h)) refl
+refusal_plain (refusal.LrsnEnd at) h = then (decimal at) [] (lrsn_plain at (below_lrsn at h)) refl
 refusal_plain refusal.Memory h = refl
 refusal_plain refusal.Aborted h = refl
 

@@ -76,7 +76,7 @@ is_refusal (refusal.Retained name by) = is_lock name && is_member by
 is_refusal (refusal.Deadlock cycle) = are_names cycle
 is_refusal (refusal.SpaceFull table pages) = is_table table && has_bits 32 pages
 is_refusal (refusal.RecordsFull limit) = has_bits 32 limit
-is_refusal (refusal.LrsnEnd at) = has_bits 48 at
+is_refusal (refusal.LrsnEnd at) = has_bits 80 at
 is_refusal refusal.Memory = true
 is_refusal refusal.Aborted = true
 

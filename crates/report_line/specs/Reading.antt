@@ -8,7 +8,7 @@ use Rattle.ds_model.specs.declared.lock.Name.TheVariants as lock
 use Rattle.ds_model.specs.declared.report.ToldRefusal.{ToldRefusal}
 use Rattle.ds_model.specs.declared.report.ToldRefusal.TheVariants as refusal
 use Rattle.ds_model.specs.ScriptText.{line}
-use Rattle.number_text.specs.Numbers.{number_of}
+use Rattle.number_text.specs.Numbers.{number_of, wide_number_of}
 use Rattle.report_line.specs.declared.line.ReportLine.{ReportLine}
 use Rattle.report_line.specs.declared.line.ReportLine.TheVariants as lines
 use Rattle.report_line.specs.Lines.{is_blank, is_line, line_text}
@@ -24,10 +24,16 @@ word text at = slice_index_or (words_of text) at []
 unfoldable pub number : List ℕ → ℕ
 number digits = unwrap_or (number_of digits) 0
 
+unfoldable pub wide_number : List ℕ → ℕ
+wide_number digits = unwrap_or (wide_number_of digits) 0
+
 -- ---- what the words at their places would say, whatever they are
 
 abbrev pub number_at : List ℕ → ℕ → ℕ
 number_at text at = number (word text at)
+
+abbrev pub wide_number_at : List ℕ → ℕ → ℕ
+wide_number_at text at = wide_number (word text at)
 
 -- the number behind a word's first byte
 abbrev pub member_at : List ℕ → ℕ → ℕ
@@ -72,7 +78,7 @@ refusal_said text =
     else if bytes_eq (word text 3) (codes "deadlock") then deadlock_said text
     else if bytes_eq (word text 3) (codes "space-full") then space_full_said text
     else if bytes_eq (word text 3) (codes "records-full") then refusal.RecordsFull (number_at text 4)
-    else if bytes_eq (word text 3) (codes "lrsn-end") then refusal.LrsnEnd (number_at text 4)
+    else if bytes_eq (word text 3) (codes "lrsn-end") then refusal.LrsnEnd (wide_number_at text 4)
     else if bytes_eq (word text 3) (codes "memory") then refusal.Memory
     else refusal.Aborted
 

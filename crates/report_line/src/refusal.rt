@@ -8,7 +8,7 @@ ghost use Rattle.report_line.specs.Lines as spec;
 ghost use Rattle.report_line.specs.Reading as said;
 
 use crate::lock::{by_place, lock_in, put_lock};
-use crate::spell::{put_number, put_numbers};
+use crate::spell::{put_lrsn, put_number, put_numbers};
 use crate::values::{count_at, is_name, lrsn_at, member_at, name_at, table_at};
 use crate::words::{word, words_from};
 use ds_base::{Bytes, NoMemory};
@@ -58,7 +58,7 @@ pub fn put_refusal(alloc: Global, out: &mut Bytes, refusal: &ToldRefusal) -> Res
             b"records-full ",
             *limit as u64,
         ),
-        ToldRefusal::LrsnEnd { at } => put_number(alloc, out, b"lrsn-end ", at.number()),
+        ToldRefusal::LrsnEnd { at } => put_lrsn(alloc, out, b"lrsn-end ", at.number()),
         ToldRefusal::Memory => out.extend(b"memory"),
         ToldRefusal::Aborted => out.extend(b"aborted"),
     }

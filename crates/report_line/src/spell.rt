@@ -21,6 +21,14 @@ pub fn put_number(alloc: Global, out: &mut Bytes, text: &[u8], number: u64) -> R
     out.extend_number(alloc, number)
 }
 
+/// Adds a text and the digits of a log record's number (LRSN).
+pub fn put_lrsn(alloc: Global, out: &mut Bytes, text: &[u8], number: u128) -> Result<(), NoMemory>
+    ensures { OnOk result (out.new ≡ out.old ++ (text.now ++ decimal number)) }
+{
+    out.extend(text)?;
+    out.extend_wide_number(alloc, number)
+}
+
 /// Adds a text and the digits of two numbers, with a blank between them.
 pub fn put_numbers(
     alloc: Global,

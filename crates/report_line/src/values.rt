@@ -7,7 +7,7 @@ ghost use Rattle.report_line.specs.Reading as said;
 
 use crate::words::{behind_first, word};
 use ds_base::{Bytes, Key, Lrsn, MemberId, NoMemory, TableId, Value};
-use number_text::number_of;
+use number_text::{number_of, wide_number_of};
 use std::alloc::Global;
 
 // The most bytes of a name.
@@ -19,6 +19,13 @@ pub fn number(word: &[u8]) -> u64
     ensures { result ≡ said.number word.now }
 {
     number_of(word).unwrap_or(0)
+}
+
+#[tactic(auto, unfolding(crate::specs::Reading::wide_number))]
+fn wide_number(word: &[u8]) -> u128
+    ensures { result ≡ said.wide_number word.now }
+{
+    wide_number_of(word).unwrap_or(0)
 }
 
 pub fn number_at(line: &[u8], at: usize) -> u64
@@ -41,9 +48,9 @@ pub fn member_at(line: &[u8], at: usize) -> Option<MemberId>
 }
 
 pub fn lrsn_at(line: &[u8], at: usize) -> Option<Lrsn>
-    ensures { result ≡ said.kept (spec.has_bits 48 (said.number_at line.now at)) (said.number_at line.now at) }
+    ensures { result ≡ said.kept (spec.has_bits 80 (said.wide_number_at line.now at)) (said.wide_number_at line.now at) }
 {
-    Lrsn::new(number_at(line, at))
+    Lrsn::new(wide_number(word(line, at)))
 }
 
 pub fn byte_at(line: &[u8], at: usize) -> Option<u8>

@@ -16,7 +16,7 @@ refused r M2 retained set 6 by M1
 refused r M2 deadlock a bb c
 refused r M2 space-full 4 1000
 refused r M2 records-full 0
-refused r M2 lrsn-end 281474959933440
+refused r M2 lrsn-end 1208925819614629157928960
 refused r M2 memory
 refused r M2 aborted
 stopped c M3

@@ -21,11 +21,11 @@ use Rattle.restart_marks.specs.Tested.{Tested, passed, when, after, sends}
 
 -- the last number that new work draws
 abbrev pub limit : ℕ
-limit = 281474959933440
+limit = 1208925819614629157928960
 
 -- the most bytes of a compensation and of the Ended record behind it
 abbrev pub undo_bytes : ℕ
-undo_bytes = 269
+undo_bytes = 289
 
 -- ---- the lock of the page of the newest change that stands
 

@@ -4,6 +4,7 @@ use Rattle.std.proofs.Common.{◌∙◌, ap, refl, sym}
 use Rattle.ds_base.specs.declared.names.PageId.{PageId}
 use Rattle.ds_model.specs.declared.log.LogRecord.{LogRecord}
 use Rattle.ds_model.specs.declared.log.Body.TheVariants as body
+use Rattle.ds_model.specs.declared.log.Version.TheVariants as version
 use Rattle.ds_model.specs.RecordBytes.{record_bytes}
 use Rattle.member_log.specs.Buffers.{LogBuffer, room_of, after_put}
 use Rattle.restart_marks.specs.declared.hand.Hand.{Hand}
@@ -81,7 +82,7 @@ logged b r = if fits_in b r then after_put b r else b
 
 -- the number is that of the record before it
 abbrev pub closing_record : RestartState → ℕ → LogRecord
-closing_record s id = record { lrsn = s.log.last; tran = id; body = body.Ended }
+closing_record s id = record { version = version.Two; lrsn = s.log.last; tran = id; body = body.Ended }
 
 abbrev pub may_close : RestartState → ℕ → Bool
 may_close s id = not (id == 0) && (not (is_some s.trans.ending) && (is_undone s.trans id && fits_in s.log (closing_record s id)))

@@ -15,7 +15,7 @@ use lock_names::{Interest, Mode, Name};
 use restart_records::page_of;
 
 /// The most bytes of a compensation and of the Ended record behind it.
-const UNDO_BYTES: u32 = 247 + 22;
+const UNDO_BYTES: u32 = 259 + 30;
 
 impl RestartMarks {
     // The page of the transaction's newest change that stands.

@@ -33,7 +33,7 @@ pub struct RestartMarks {
     pub(crate) member: MemberId,
     pub(crate) own: OwnLog,
     pub(crate) log: MemberLog,
-    pub(crate) counter: u64,
+    pub(crate) counter: u128,
     pub(crate) listed: u32,
     pub(crate) is_listed: bool,
     pub(crate) pages: Queue,
@@ -110,7 +110,7 @@ impl RestartMarks {
     }
 
     /// The greatest number that was met: in the own log, of pages, and of what was drawn.
-    pub fn counter(&self) -> u64
+    pub fn counter(&self) -> u128
         ensures { result ≡ self.now.counter }
     {
         self.counter

@@ -8,7 +8,7 @@ ghost use Rattle.restart_marks.specs.Moves.{TakeUpRetained, TakeUpUndone, PutDow
 use crate::hand::Hand;
 use crate::marks::RestartMarks;
 use ds_base::{Lrsn, PageId};
-use ds_model::{Body, LogRecord};
+use ds_model::{Body, LogRecord, Version};
 use restart_records::TurnKey;
 
 fn hand_with(page: PageId, key: Option<TurnKey>) -> Hand
@@ -146,6 +146,7 @@ impl RestartMarks {
             return false;
         }
         let it = LogRecord {
+            version: Version::Two,
             lrsn: self.log.last(),
             tran: id,
             body: Body::Ended,

@@ -3,3 +3,4 @@ pub mod Greatest
 pub mod Tails
 pub mod Opened
 pub mod Plans
+pub mod Renewal

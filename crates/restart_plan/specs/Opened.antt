@@ -1,11 +1,12 @@
 -- What the open transactions of logs ask for.
-use Rattle.std.specs.Prelude.{ℕ, ◌-◌, ◌==◌, Bool, true, false, not, ◌||◌, if◌then◌else◌, List, [], ◌∷◌, ◌++◌, length, slice_get, Option, None, Some}
+use Rattle.std.specs.Prelude.{ℕ, ◌-◌, ◌==◌, Bool, true, false, not, ◌&&◌, ◌||◌, if◌then◌else◌, List, [], ◌∷◌, ◌++◌, length, slice_get, Option, None, Some}
 use Rattle.std.specs.Ordering.{nat_cmp}
 use Rattle.std.specs.FinMap as finite
 use Rattle.ds_model.specs.declared.log.LogRecord.{LogRecord}
 use Rattle.ds_model.specs.declared.log.RowChange.{RowChange}
 use Rattle.ds_model.specs.declared.log.Body.{Body}
 use Rattle.ds_model.specs.declared.log.Body.TheVariants as body
+use Rattle.ds_model.specs.RecordBytes.{is_written}
 use Rattle.log_record.specs.declared.log.Log.{Log}
 use Rattle.log_trans.specs.declared.opened.OpenTran.{OpenTran}
 use Rattle.log_trans.specs.Courses.{open_trans}
@@ -73,16 +74,20 @@ is_restart_end body.Ended = false
 is_restart_end (body.Checkpoint offset) = false
 is_restart_end body.RestartEnd = true
 
+-- a RestartEnd of the version in which records are written
+abbrev pub is_end : LogRecord → Bool
+is_end r = is_written r.version && is_restart_end r.body
+
 abbrev pub with_ending : Opened → ℕ → Opened
 with_ending o member = record { closings = o.closings; undo = o.undo; endings = o.endings ++ member ∷ [] }
 
--- a log that ends with a RestartEnd and has no open transaction gets no record
-abbrev pub needs_end : Body → List OpenTran → Bool
-needs_end last trans = not (is_restart_end last) || not (length trans == 0)
+-- a log that ends with such a RestartEnd and has no open transaction gets no record
+abbrev pub needs_end : LogRecord → List OpenTran → Bool
+needs_end last trans = not (is_end last) || not (length trans == 0)
 
 abbrev pub with_last : Opened → ℕ → List OpenTran → Option LogRecord → Opened
 with_last o member trans None = o
-with_last o member trans (Some last) = with_trans member last.lrsn (if needs_end last.body trans then with_ending o member else o) trans
+with_last o member trans (Some last) = with_trans member last.lrsn (if needs_end last trans then with_ending o member else o) trans
 
 -- an empty log asks for nothing
 abbrev pub with_log : Opened → Log → Opened

@@ -10,6 +10,7 @@ use Rattle.restart_plan.specs.Greatest.{no_number, greatest_among}
 use Rattle.restart_plan.specs.Tails.{tails_of}
 use Rattle.restart_plan.specs.Values.{falling}
 use Rattle.restart_plan.specs.Opened.{nothing_open, with_logs}
+use Rattle.restart_plan.specs.Renewal.{must_renew}
 
 abbrev pub opened_of : List Log → Opened
 opened_of logs = with_logs nothing_open logs
@@ -23,5 +24,6 @@ plan_of logs = record {
   closings = (opened_of logs).closings;
   undo = falling (finite.entries (opened_of logs).undo);
   endings = (opened_of logs).endings;
+  renews = must_renew logs;
   greatest = greatest_among no_number logs;
 }

@@ -11,6 +11,7 @@ mod logs;
 mod opened;
 mod plan;
 mod queue;
+mod renewal;
 mod tails;
 mod tran;
 

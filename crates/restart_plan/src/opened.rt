@@ -1,11 +1,11 @@
 ghost use Rattle.std.specs.Prelude.{◌≡◌, true, OnOk, IfOk};
 ghost use Rattle.std.specs.FinMap as finite;
-ghost use Rattle.restart_plan.specs.Opened.{with_change, with_changes, with_tran, with_trans, with_log, with_logs, nothing_open, is_restart_end};
+ghost use Rattle.restart_plan.specs.Opened.{with_change, with_changes, with_tran, with_trans, with_log, with_logs, nothing_open, is_restart_end, is_end};
 
 use crate::queue::Queue;
 use crate::tran::TranNumber;
 use ds_base::{Lrsn, MemberId, NoMemory, Sequence};
-use ds_model::{Body, LogRecord, RowChange};
+use ds_model::{Body, LogRecord, RowChange, Version};
 use log_record::Log;
 use log_trans::{OpenTran, open_trans};
 use number_map::NumberMap;
@@ -44,6 +44,13 @@ fn is_restart_end(body: &Body) -> bool
     ensures { result ≡ is_restart_end body.now }
 {
     matches!(body, Body::RestartEnd)
+}
+
+/// Whether a restart has ended with the record, and its version is that in which records are written.
+pub fn is_end(it: &LogRecord) -> bool
+    ensures { result ≡ is_end it.now }
+{
+    matches!(it.version, Version::Two) && is_restart_end(&it.body)
 }
 
 impl Opened {
@@ -147,7 +154,7 @@ fn add_log(alloc: Global, opened: &mut Opened, log: &Log) -> Result<(), NoMemory
         return Ok(());
     };
     let trans = open_trans(alloc, log)?;
-    if !is_restart_end(&last.body) || !trans.is_empty() {
+    if !is_end(last) || !trans.is_empty() {
         opened.endings.push(log.member)?;
     }
     add_trans(opened, log.member, last.lrsn, trans.as_slice())

@@ -6,6 +6,7 @@ use crate::greatest::{Greatest, greatest_at};
 use crate::logs::Logs;
 use crate::opened::{Closing, Opened, Undo, opened_of};
 use crate::queue::Queue;
+use crate::renewal::must_renew;
 use crate::tails::{Tail, tails_of};
 use ds_base::{MemberId, NoMemory};
 use log_merge::{Merged, merge};
@@ -26,6 +27,8 @@ pub struct Plan {
     pub undo: Queue<Undo>,
     /// The members whose log is to end with a RestartEnd.
     pub endings: Queue<MemberId>,
+    /// Whether pages of version 1 are written in version 2.
+    pub renews: bool,
     pub greatest: Greatest,
 }
 
@@ -44,6 +47,7 @@ pub fn plan_of(alloc: Global, logs: &Logs) -> Result<Plan, NoMemory>
         undo,
         endings,
     } = opened_of(alloc, logs)?;
+    let renews = must_renew(logs);
     let merged = merge(alloc, logs)?;
     let pages = by_page(alloc, merged.records())?;
     Ok(Plan {
@@ -53,6 +57,7 @@ pub fn plan_of(alloc: Global, logs: &Logs) -> Result<Plan, NoMemory>
         closings,
         undo: falling(alloc, undo)?,
         endings,
+        renews,
         greatest,
     })
 }

@@ -6,7 +6,7 @@ ghost use Rattle.restart_records.specs.Written.{back_record, ended_record, both_
 
 use crate::trans::Newest;
 use ds_base::Lrsn;
-use ds_model::{Body, LogRecord};
+use ds_model::{Body, LogRecord, Version};
 use log_record::{compensation_of, record_length};
 use member_log::MemberLog;
 
@@ -15,6 +15,7 @@ pub fn back_record(id: Lrsn, lrsn: Lrsn, it: &Newest) -> LogRecord
     ensures { result ≡ back_record id lrsn it.now }
 {
     LogRecord {
+        version: Version::Two,
         lrsn,
         tran: id,
         body: compensation_of(&it.change, it.lrsn),
@@ -25,6 +26,7 @@ pub fn ended_record(id: Lrsn, lrsn: Lrsn) -> LogRecord
     ensures { result ≡ ended_record id lrsn }
 {
     LogRecord {
+        version: Version::Two,
         lrsn,
         tran: id,
         body: Body::Ended,

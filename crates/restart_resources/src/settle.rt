@@ -5,7 +5,7 @@ ghost use Rattle.restart_marks.specs.declared.told.RestartTold.TheVariants as to
 ghost use Rattle.restart_resources.specs.Settled.{damaged, noted, brought_told, brought_after, bring_told, bring_after, ready_told, ready_after, read_told, read_after, tested_told, tested_after, undo_told, undo_after, drawn_told, drawn_after, settle_undo_told, settle_undo_after, told_by, settled};
 
 use crate::RestartResources;
-use crate::forward::{bring_own, number_of};
+use crate::forward::bring_own;
 use ds_base::{Lrsn, NoMemory, PageId, Volume};
 use facility::Reply;
 use list_structure::Cell;
@@ -28,7 +28,7 @@ impl RestartResources {
         ensures told { IfOk result (λ said. said ≡ told.Ready) }
         ensures after { OnOk result (self.new ≡ noted self.old page raised) }
     {
-        let number = number_of(&self.page);
+        let number = self.page.lrsn();
         let rank = rank_of(page, &self.page);
         self.marks.note_ready(raised, number, &rank)?;
         Ok(RestartTold::Ready)
