@@ -140,6 +140,23 @@ module _ (ends : PartsEnd) (bad : PartsAreBad) (ended : EndIsInHand) (left : Bad
   pub tells : (s : EndState) (log : List ℕ) → first_of s.head ≡ None → IsOf log s.head → Tells (standing_of s.block s.head) (end_of log s.head)
   tells s log none is = tells_when s.block (record_in s.head.hand) log s.head is refl none
 
+-- where every whole record is passed none is there
+short_ready : (b : Bool) (block : ℕ) (h : HeadState) → cond b (standing.Wants (hand_end h) (min (h.end - hand_end h) block)) (standing.Ends h.at) ≡ standing.Ready → ⊥
+short_ready true block h e = cc
+short_ready false block h e = cc
+
+ready_when : (block : ℕ) (f : Found) (h : HeadState) → first_by f ≡ None → standing_by block h f ≡ standing.Ready → ⊥
+ready_when block (Ok (r, n)) h none e = some_none none
+  where
+    some_none : Some r ≡ None → ⊥
+    some_none is = cc
+ready_when block (Err (Bad field)) h none e = cc
+ready_when block (Err NotWhole) h none e = short_ready (nat_lt (hand_end h) h.end) block h e
+ready_when block (Err NoMemory) h none e = short_ready (nat_lt (hand_end h) h.end) block h e
+
+pub not_ready : (block : ℕ) (h : HeadState) → first_of h ≡ None → standing_of block h ≡ standing.Ready → ⊥
+not_ready block h none e = ready_when block (record_in h.hand) h none e
+
 -- ---- bytes that are wanted
 
 -- no whole record is in hand, and there is room for them

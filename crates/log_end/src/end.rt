@@ -48,6 +48,7 @@ fn pass_records(head: &mut Head)
 }
 
 impl WholeEnd {
+    ghost use Rattle.log_head.specs.declared.standing.Standing.TheVariants.{Ready};
     ghost use Rattle.log_end.specs.Ends.{Tells, AreWanted, IsRead};
 
     /// The log from a place on where a record begins, up to its length. At most so many bytes are asked for at once.
@@ -66,6 +67,7 @@ impl WholeEnd {
     /// Which bytes are wanted, or where the whole records end, or where the first field begins that isn't allowed.
     pub fn standing(&self) -> Standing
         ensures exact { result ≡ standing_of self.now.block self.now.head }
+        ensures never { result ≡ Ready → ⊥ }
         ensures tells { (log : List ℕ) → IsOf log self.now.head → Tells result (end_of log self.now.head) }
     {
         whole_laws();

@@ -1,9 +1,12 @@
-use Rattle.std.proofs.Common.{◌≡◌, ℕ, List, sym, subst}
+use Rattle.std.proofs.Common.{◌≡◌, ℕ, List, sym, subst, ◌∙◌}
 use Rattle.log_head.specs.declared.standing.Standing.{Standing}
 use Rattle.log_head.specs.Heads.{IsOf}
 use Rattle.log_end.specs.Ends.{EndState, end_of, Tells}
-use Rattle.log_end.proofs.Passing.{tells}
+use Rattle.log_end.proofs.Passing.{tells, not_ready}
 use Rattle.log_end.proofs.end.WholeEnd.standing.Goals as goal
+
+pub returns-clause-never : goal.returns-clause-never
+returns-clause-never c = λ e. not_ready c.self.inside.block c.self.inside.head c.self.invariant (sym c.standing.ensures ∙ e)
 
 pub returns-clause-tells : goal.returns-clause-tells
 returns-clause-tells c =
