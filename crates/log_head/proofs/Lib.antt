@@ -1,0 +1,4 @@
+pub mod Fronts
+pub mod Whole
+pub mod Logs
+pub mod Kept
