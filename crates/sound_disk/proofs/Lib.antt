@@ -1,0 +1,4 @@
+mod Logs
+mod Blank
+mod Ones
+mod Examples_sound
