@@ -116,3 +116,9 @@ torn_keeps member bytes log r n h none allowed few =
       tail_is = omega (arith, size, length-take n (record_bytes r), none, h.tail_is);
       rising = h.rising;
     }
+
+-- the whole records of bytes that are these records
+pub whole_records : ReadsSound → (member : ℕ) (records : List LogRecord) (log : Log) → AllByRecursion IsAllowed records → IsWholeLog member (log_bytes records) log → log.records ≡ records
+whole_records sound member records log allowed h =
+    ap records_in (sym (sound (log_bytes records) log.records h.records_are)
+    ∙ sound (log_bytes records) records (record { tail = []; whole = sym (append-nil (log_bytes records)); allowed = allowed; torn = inl refl }))

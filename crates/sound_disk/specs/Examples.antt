@@ -1,10 +1,11 @@
 -- Small disks that are sound, and some that are not, each for one clause.
-use Rattle.std.specs.Prelude.{◌≡◌, ℕ, zero, suc, ◌+◌, List, [], ◌∷◌, length, replicate}
+use Rattle.std.specs.Prelude.{ℕ, zero, suc, ◌+◌, ◌-◌, ◌^◌, List, [], ◌∷◌, length, replicate, None}
 use Rattle.std.specs.FinMap as map
 use Rattle.ds_base.specs.declared.names.PageId.{PageId}
 use Rattle.ds_disk.specs.Contents.{Contents}
 use Rattle.ds_disk.specs.Pages.{Pages}
 use Rattle.ds_model.specs.declared.log.LogRecord.{LogRecord}
+use Rattle.ds_model.specs.declared.log.RowChange.{RowChange}
 use Rattle.ds_model.specs.declared.log.Body.{Body}
 use Rattle.ds_model.specs.declared.log.Body.TheVariants as body
 use Rattle.ds_model.specs.declared.log.Version.TheVariants as version
@@ -49,6 +50,21 @@ twice_committed = record_of 1 1 body.Commit ∷ record_of 2 1 body.Commit ∷ []
 -- reading is to begin inside a record
 abbrev pub lost_start : List LogRecord
 lost_start = record_of 1 1 body.Commit ∷ record_of 1 0 (body.Checkpoint 29) ∷ []
+
+-- a row is changed for which no page is there
+abbrev pub row_change : ℕ → RowChange
+row_change key = record { table = 1; key = key; place = record { page = 1; slot = 0 }; before = None; after = None }
+
+abbrev pub lost_row : List LogRecord
+lost_row = record_of 1 1 (body.RowChange (row_change 10)) ∷ []
+
+-- two open transactions change one row
+abbrev pub two_writers : List LogRecord
+two_writers = record_of 1 1 (body.RowChange (row_change 10)) ∷ record_of 2 2 (body.RowChange (row_change 10)) ∷ []
+
+-- no number is left for the compensation of an open row change
+abbrev pub last_number_used : List LogRecord
+last_number_used = record_of (2 ^ 80 - 1) (2 ^ 80 - 1) (body.RowChange (row_change 10)) ∷ []
 
 -- a page that no record has changed
 abbrev pub stray_page : Pages

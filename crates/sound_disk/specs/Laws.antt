@@ -1,5 +1,5 @@
 -- What is proved of sound disks.
-use Rattle.std.specs.Prelude.{◌≡◌, ℕ, ◌+◌, ◌<◌, ◌≤◌, List, [], ◌∷◌, ◌++◌, length, take, map, Option, None, Ok}
+use Rattle.std.specs.Prelude.{◌≡◌, ℕ, ◌+◌, ◌<◌, ◌≤◌, List, [], ◌∷◌, ◌++◌, length, take, map, Ok}
 use Rattle.ds_base.specs.declared.names.PageId.{PageId}
 use Rattle.ds_disk.specs.Contents.{Contents}
 use Rattle.ds_disk.specs.Pages.{page_at}
@@ -8,7 +8,6 @@ use Rattle.ds_model.specs.Logs.{StandFor, rows_of_logs}
 use Rattle.ds_model.specs.RecordBytes.{record_bytes, IsAllowed}
 use Rattle.log_record.specs.declared.log.Log.{Log}
 use Rattle.log_record.specs.Logs.{parts_in, parts_of}
-use Rattle.log_trans.specs.Damage.{log_damage}
 use Rattle.page_chain.specs.Chains.{AreRecords, redo}
 use Rattle.index_protocol.specs.Opening.{opening}
 use Rattle.index_protocol.specs.Whole.{WholeIndex}
@@ -50,3 +49,26 @@ with_tail log n = record { member = log.member; records = log.records; length = 
 abbrev pub TornKeeps : Type 0
 TornKeeps = (member : ℕ) (bytes : List ℕ) (log : Log) (r : LogRecord) (n : ℕ) → IsWholeLog member bytes log → log.tail ≡ 0 → IsAllowed r → n < length (record_bytes r)
     → IsWholeLog member (bytes ++ take n (record_bytes r)) (with_tail log n)
+
+-- ---- pages
+
+-- the records of all logs that change pages may stand in logs, and their numbers rise
+abbrev pub AreMerged : Type 0
+AreMerged = (bytes : List (List ℕ)) (logs : List Log) → AreWholeLogs 1 bytes logs → AreTransactions logs → AreRecords (merged logs)
+
+-- redo by the numbers of pages leads from each page of the disk to the last one
+abbrev pub RedoReaches : Type 0
+RedoReaches = (c : Contents) (logs : List Log) (id : PageId) → IsSoundWith c logs → redo id (current (page_at c.pages id)) (merged logs) ≡ last_images logs id
+
+-- the machine of the index begins whole with what the pages say
+abbrev pub IndexOpens : Type 0
+IndexOpens = (at : Images) (records : List LogRecord) (table : ℕ) (h : IsWholeIndex at records table) → WholeIndex (opening (index_of at records table h.home))
+
+-- ---- rows
+
+abbrev pub records_of : List Log → List (List LogRecord)
+records_of logs = map (λ (l : Log). l.records) logs
+
+-- the logs of the disk stand for the rows of these records
+abbrev pub LogsStand : Type 0
+LogsStand = (c : Contents) (logs : List Log) → IsSoundWith c logs → StandFor c.logs (rows_of_logs (records_of logs))
