@@ -5,3 +5,4 @@ mod Blank
 mod Ones
 mod Examples_sound
 mod Unsound
+mod Undamaged

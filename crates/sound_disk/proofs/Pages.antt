@@ -1,9 +1,11 @@
 -- The pages and the rows of a sound disk.
 use Rattle.std.proofs.Common.{◌≡◌, ℕ, ◌+◌, List, [], ◌∷◌, ◌++◌, refl, sym, ap, subst, ◌∙◌}
+use Rattle.std.specs.List.{AllByRecursion}
 use Rattle.ds_base.specs.declared.names.PageId.{PageId}
 use Rattle.ds_model.specs.declared.log.LogRecord.{LogRecord}
 use Rattle.ds_model.specs.Logs.{AreLogs}
 use Rattle.log_record.specs.declared.log.Log.{Log}
+use Rattle.log_merge.specs.Merging.{RisesFrom}
 use Rattle.page_chain.specs.Chains.{AreRecords, IsVersion, RedoReaches, version_of, redo}
 use Rattle.sound_disk.specs.Whole_logs.{AreWholeLogs}
 use Rattle.sound_disk.specs.Laws.{records_of}
@@ -22,3 +24,9 @@ are_logs member [] [] h = tt
 are_logs member [] (log ∷ logs) h = absurd h
 are_logs member (bs ∷ rest) [] h = absurd h
 are_logs member (bs ∷ rest) (log ∷ logs) h = (h.0.records_are, are_logs (member + 1) rest logs h.1)
+
+pub all_rise : (member : ℕ) (bytes : List (List ℕ)) (logs : List Log) → AreWholeLogs member bytes logs → AllByRecursion (λ (l : Log). RisesFrom 0 l.records) logs
+all_rise member [] [] h = tt
+all_rise member [] (log ∷ logs) h = absurd h
+all_rise member (bs ∷ rest) [] h = absurd h
+all_rise member (bs ∷ rest) (log ∷ logs) h = (h.0.rising, all_rise (member + 1) rest logs h.1)

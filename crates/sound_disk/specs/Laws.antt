@@ -1,5 +1,5 @@
 -- What is proved of sound disks.
-use Rattle.std.specs.Prelude.{◌≡◌, ℕ, ◌+◌, ◌<◌, ◌≤◌, List, [], ◌∷◌, ◌++◌, length, take, map, Ok}
+use Rattle.std.specs.Prelude.{◌≡◌, ℕ, ◌+◌, ◌<◌, ◌≤◌, List, [], ◌∷◌, ◌++◌, length, take, map, None, Ok}
 use Rattle.ds_base.specs.declared.names.PageId.{PageId}
 use Rattle.ds_disk.specs.Contents.{Contents}
 use Rattle.ds_disk.specs.Pages.{page_at}
@@ -8,6 +8,7 @@ use Rattle.ds_model.specs.Logs.{StandFor, rows_of_logs}
 use Rattle.ds_model.specs.RecordBytes.{record_bytes, IsAllowed}
 use Rattle.log_record.specs.declared.log.Log.{Log}
 use Rattle.log_record.specs.Logs.{parts_in, parts_of}
+use Rattle.log_trans.specs.Damage.{log_damage}
 use Rattle.page_chain.specs.Chains.{AreRecords, redo}
 use Rattle.index_protocol.specs.Opening.{opening}
 use Rattle.index_protocol.specs.Whole.{WholeIndex}
@@ -49,6 +50,12 @@ with_tail log n = record { member = log.member; records = log.records; length = 
 abbrev pub TornKeeps : Type 0
 TornKeeps = (member : ℕ) (bytes : List ℕ) (log : Log) (r : LogRecord) (n : ℕ) → IsWholeLog member bytes log → log.tail ≡ 0 → IsAllowed r → n < length (record_bytes r)
     → IsWholeLog member (bytes ++ take n (record_bytes r)) (with_tail log n)
+
+-- ---- transactions
+
+-- no number of the logs can't stand there
+abbrev pub HaveNoDamage : Type 0
+HaveNoDamage = (bytes : List (List ℕ)) (logs : List Log) → AreWholeLogs 1 bytes logs → AreTransactions logs → log_damage logs ≡ None
 
 -- ---- pages
 

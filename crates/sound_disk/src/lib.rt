@@ -7,7 +7,7 @@ ghost use Rattle.std.specs.Prelude.{[]};
 ghost use Rattle.std.specs.FinMap as map;
 ghost use Rattle.ds_disk.specs.Memory.{nothing};
 ghost use Rattle.sound_disk.specs.Examples.{disk_of, closed_log, falling_log, twice_committed, lost_start, lost_row, two_writers, last_number_used, stray_page};
-ghost use Rattle.sound_disk.specs.Laws.{AppendKeeps, AreMerged, AreRead, AreTold, IndexOpens, LogsStand, RedoReaches, TornKeeps};
+ghost use Rattle.sound_disk.specs.Laws.{AppendKeeps, AreMerged, AreRead, AreTold, HaveNoDamage, IndexOpens, LogsStand, RedoReaches, TornKeeps};
 ghost use Rattle.sound_disk.specs.Sound.{IsSoundDisk};
 
 /// What is read of the logs of a sound disk is their whole records and their tails, so there is one list of logs. A record that
@@ -21,6 +21,11 @@ pub fn log_laws()
 {
     log_record::log_laws();
 }
+
+/// No number in the logs of a sound disk is one that can't stand there: a restart of the group finds no damage in them.
+pub fn transaction_laws()
+    ensures { HaveNoDamage }
+{}
 
 /// The merged records of a sound disk may stand in logs, and the numbers of those that change pages rise; redo leads from each
 /// of its pages to the last one. Its logs stand for rows. Its indexes are such as the machine of the index opens with.
