@@ -2,7 +2,7 @@
 use Rattle.std.proofs.Common.{◌≡◌, ◌≤◌, ◌<◌, ◌^◌, ℕ, zero, suc, Bool, true, false, not, ◌==◌, ◌&&◌, nat_le, if◌then◌else◌, inl, inr, List, [], ◌∷◌, ◌+◌, length, take, get_or, Result, Ok, refl, sym, ap, ◌∙◌, arith}
 use Rattle.std.specs.Prelude.{slice_index}
 use Rattle.std.specs.Str.{bytes_eq}
-use Rattle.std.proofs.lemmas.Bool.{cases_Bool, eqb-true}
+use Rattle.std.proofs.lemmas.Bool.{true≢false, eqb-true}
 use Rattle.byteorder.specs.Endian.{big_number}
 use Rattle.ds_base.specs.declared.names.PageId.{PageId}
 use Rattle.page_format.specs.Fields.{number_in, lrsn_of, is_old, set_lrsn, renewed}
@@ -40,11 +40,11 @@ and_not : (a b : Bool) → b ≡ false → (a && b) ≡ false
 and_not true b h = h
 and_not false b h = refl
 
-not_zeros : (page : List ℕ) (k n : ℕ) → slice_index page k ≡ suc n → is_zeros page ≡ false
-not_zeros [] zero n h = absurd cc
-not_zeros [] (suc k) n h = absurd cc
-not_zeros (x ∷ xs) zero n h = ap (λ (b : ℕ). (b == 0) && is_zeros xs) h
-not_zeros (x ∷ xs) (suc k) n h = and_not (x == 0) (is_zeros xs) (not_zeros xs k n h)
+not_zeros : (page : List ℕ) (k n : ℕ) → slice_index page k ≡ n → (n == 0) ≡ false → is_zeros page ≡ false
+not_zeros [] zero n h some = absurd (true≢false (ap (λ (b : ℕ). b == 0) h ∙ some))
+not_zeros [] (suc k) n h some = absurd (true≢false (ap (λ (b : ℕ). b == 0) h ∙ some))
+not_zeros (x ∷ xs) zero n h some = ap (λ (b : ℕ). (b == 0) && is_zeros xs) h ∙ ap (λ (b : Bool). b && is_zeros xs) some
+not_zeros (x ∷ xs) (suc k) n h some = and_not (x == 0) (is_zeros xs) (not_zeros xs k n h some)
 
 -- ---- the header
 
@@ -86,7 +86,7 @@ renewed_header page id whole old low =
     answered new id
     ∙ same_answer (is_zeros new) (is_zeros page) (take 4 new) (take 4 page) (slice_index new 4) (slice_index page 4) (is_version (slice_index new 5)) (is_version (slice_index page 5))
     (number_in new 6 2) (number_in page 6 2) (number_in new 8 4) (number_in page 8 4) (lrsn_of new) (lrsn_of page) (number_in new 26 2) (number_in page 26 2) id
-    (not_zeros new 5 1 two ∙ sym (not_zeros page 5 0 one))
+    (not_zeros new 5 2 two refl ∙ sym (not_zeros page 5 1 one refl))
     (renewed_kept page 0 4 whole (inl (omega arith), inl (omega arith)))
     (byte_same page 4 whole (inl (omega arith), inl (omega arith)))
     (ap is_version two ∙ sym (ap is_version one))
