@@ -6,7 +6,7 @@ use Rattle.ds_base.specs.Ids.{IsTable}
 use Rattle.ds_base.specs.Pages.{heap_page, index_page}
 use Rattle.ds_base.specs.declared.names.PageId.{PageId}
 use Rattle.ds_base.specs.declared.names.Place.{Place}
-use Rattle.ds_disk.specs.Pages.{page_at}
+use Rattle.ds_disk.specs.Pages.{page_cmp, page_at}
 use Rattle.ds_model.specs.declared.log.LogRecord.{LogRecord}
 use Rattle.page_format.specs.Fields.{page_size, version_at, count_at, number_in, is_old, renewed}
 use Rattle.page_format.specs.Header.{is_zeros, header_of, empty_header}
@@ -30,7 +30,7 @@ pub record IsBlank : Type 0 where
 
 pub never_written : (id : PageId) → page_at map.empty id ≡ zeros
 unfolding zero_bytes
-never_written id = ap (λ o. unwrap_or o (replicate 4096 0)) (get-empty id)
+never_written id = ap (λ o. unwrap_or o (replicate 4096 0)) (get-empty {X = List ℕ} {R = page_cmp} id)
 
 not_old : IsBlank → is_old zeros ≡ false
 not_old b = ap (λ (n : ℕ). n == 1) (b.bytes version_at)

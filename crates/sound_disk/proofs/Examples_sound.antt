@@ -9,6 +9,7 @@ use Rattle.sound_disk.specs.Checkpoints.{IsCheckpointed}
 use Rattle.ds_model.specs.declared.log.Body.TheVariants as body
 use Rattle.sound_disk.specs.Examples.{first_log, disk_of, record_of, closed_log}
 use Rattle.sound_disk.specs.Sound.{IsSoundDisk}
+use Rattle.sound_disk.proofs.Allowed.{commit_allowed, checkpoint_allowed, end_allowed}
 use Rattle.sound_disk.proofs.Blank.{IsBlank, never_written, zeros_stand, blank_tables}
 use Rattle.sound_disk.proofs.Ones.{IsSoundLog, first_is_sound}
 
@@ -37,8 +38,8 @@ closed_checkpointed = record { offsets = refl; before = refl }
 
 closed_is : IsBlank → IsSoundLog map.empty closed_log
 closed_is b = record {
-  allowed = search arith;
-  rising = search arith;
+  allowed = (commit_allowed 1 1 (omega arith) (λ e. omega arith) (omega arith), (checkpoint_allowed 1 30 (omega arith) (omega arith), (end_allowed 1 (omega arith), tt)));
+  rising = (omega arith, (omega arith, (omega arith, tt)));
   numbers = refl;
   follow = (record { named = refl; fits = refl; takes_back = tt }, (record { named = refl; fits = refl; takes_back = tt }, (record { named = refl; fits = refl; takes_back = tt }, tt)));
   stand = λ id. zeros_stand b (first_log closed_log) id (page_at map.empty id) (never_written id);

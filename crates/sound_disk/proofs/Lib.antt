@@ -2,6 +2,7 @@ mod Logs
 mod Merged
 mod Pages
 mod Blank
+mod Allowed
 mod Ones
 mod Examples_sound
 mod Unsound

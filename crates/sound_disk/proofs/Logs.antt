@@ -16,13 +16,16 @@ use Rattle.sound_disk.specs.Laws.{last_number, with_record, with_tail}
 abbrev pub ReadsSound : Type 0
 ReadsSound = (bytes : List ℕ) (records : List LogRecord) → IsLog bytes records → parts_in bytes ≡ Ok (record { records = records; size = length (log_bytes records); tail = length bytes - length (log_bytes records) })
 
+abbrev parts : List LogRecord → ℕ → ℕ → Result Parts ℕ
+parts records size tail = Ok (record { records = records; size = size; tail = tail })
+
 pub are_read : ReadsSound → (member : ℕ) (bytes : List ℕ) (log : Log) → IsWholeLog member bytes log → parts_in bytes ≡ Ok (parts_of log)
 are_read sound member bytes log h =
     let size : length (log_bytes log.records) ≡ log.length = sym h.length_is in
     let tail : length bytes - length (log_bytes log.records) ≡ log.tail = omega (arith, h.length_is, h.tail_is) in
     sound bytes log.records h.records_are
-    ∙ ap (λ (n : ℕ). Ok (record { records = log.records; size = n; tail = length bytes - length (log_bytes log.records) })) size
-    ∙ ap (λ (n : ℕ). Ok (record { records = log.records; size = log.length; tail = n })) tail
+    ∙ ap (λ (n : ℕ). parts log.records n (length bytes - length (log_bytes log.records))) size
+    ∙ ap (λ (n : ℕ). parts log.records log.length n) tail
 
 -- ---- one list of logs
 
@@ -30,15 +33,15 @@ records_in : Result Parts ℕ → List LogRecord
 records_in (Ok p) = p.records
 records_in (Err at) = []
 
-log_from : ℕ → List LogRecord → ℕ → ℕ → Log
+abbrev log_from : ℕ → List LogRecord → ℕ → ℕ → Log
 log_from member records size tail = record { member = member; records = records; length = size; tail = tail }
 
 same_log : (a b : Log) → a.member ≡ b.member → a.records ≡ b.records → a.length ≡ b.length → a.tail ≡ b.tail → a ≡ b
 same_log a b m r l t =
-    ap (λ (n : ℕ). record { member = n; records = a.records; length = a.length; tail = a.tail }) m
-    ∙ ap (λ (rs : List LogRecord). record { member = b.member; records = rs; length = a.length; tail = a.tail }) r
-    ∙ ap (λ (n : ℕ). record { member = b.member; records = b.records; length = n; tail = a.tail }) l
-    ∙ ap (λ (n : ℕ). record { member = b.member; records = b.records; length = b.length; tail = n }) t
+    ap (λ (n : ℕ). log_from n a.records a.length a.tail) m
+    ∙ ap (λ (rs : List LogRecord). log_from b.member rs a.length a.tail) r
+    ∙ ap (λ (n : ℕ). log_from b.member b.records n a.tail) l
+    ∙ ap (λ (n : ℕ). log_from b.member b.records b.length n) t
 
 one_log : ReadsSound → (member : ℕ) (bytes : List ℕ) (a b : Log) → IsWholeLog member bytes a → IsWholeLog member bytes b → a ≡ b
 one_log sound member bytes a b h k =
@@ -83,7 +86,7 @@ append_keeps member bytes log r h none allowed low =
     let e : bytes ≡ log_bytes log.records = spelled member bytes log h none in
     let one : record_bytes r ≡ log_bytes (r ∷ []) = sym (append-nil (record_bytes r)) in
     let more : bytes ++ record_bytes r ≡ log_bytes (log.records ++ r ∷ []) =
-        ap (λ (t : List ℕ). t ++ record_bytes r) e ∙ ap (λ (t : List ℕ). log_bytes log.records ++ t) one ∙ sym (flat_map-append record_bytes log.records (r ∷ [])) in
+    ap (λ (t : List ℕ). t ++ record_bytes r) e ∙ ap (λ (t : List ℕ). log_bytes log.records ++ t) one ∙ sym (flat_map-append record_bytes log.records (r ∷ [])) in
     let size : length (bytes ++ record_bytes r) ≡ length bytes + length (record_bytes r) = length-append bytes (record_bytes r) in
     let sizes : length (bytes ++ record_bytes r) ≡ length (log_bytes (log.records ++ r ∷ [])) = ap length more in
     record {
@@ -113,7 +116,7 @@ torn_keeps member bytes log r n h none allowed few =
         torn = inr (r, allowed, n, few, refl);
       };
       length_is = h.length_is;
-      tail_is = omega (arith, size, length-take n (record_bytes r), none, h.tail_is);
+      tail_is = omega (arith, size, length-take {A = ℕ}, none, h.tail_is);
       rising = h.rising;
     }
 

@@ -2,6 +2,7 @@
 use Rattle.std.proofs.Common.{◌≡◌, ℕ, ◌+◌, ◌<◌, ◌≤◌, Bool, true, false, cond, leb, List, [], ◌∷◌, ◌++◌, refl, sym, ap, subst, ◌∙◌, arith}
 use Rattle.std.specs.Prelude.{◌==◌, nat_le, not, ◌||◌, ◌&&◌, filter, map}
 use Rattle.std.specs.List.{AllByRecursion}
+use Rattle.std.proofs.lemmas.Bool.Decides.{nat_tests}
 use Rattle.ds_model.specs.declared.log.LogRecord.{LogRecord}
 use Rattle.ds_model.specs.declared.log.Body.{Body}
 use Rattle.ds_model.specs.declared.log.Body.TheVariants as body
@@ -85,15 +86,15 @@ unfolding numbers_of
 among_put n r [] = refl
 among_put n r (s ∷ ss) =
     among_if n (nat_le r.lrsn s.lrsn) (r ∷ s ∷ ss) (s ∷ put_by_lrsn r ss) ((r.lrsn == n) || ((s.lrsn == n) || is_among n (numbers_of ss)))
-      refl
-      (ap (λ (b : Bool). (s.lrsn == n) || b) (among_put n r ss) ∙ or_swap (s.lrsn == n) (r.lrsn == n) (is_among n (numbers_of ss)))
+    refl
+    (ap (λ (b : Bool). (s.lrsn == n) || b) (among_put n r ss) ∙ or_swap (s.lrsn == n) (r.lrsn == n) (is_among n (numbers_of ss)))
 
 differ_if : (b : Bool) (xs ys : List LogRecord) (t : Bool) → all_differ (numbers_of xs) ≡ t → all_differ (numbers_of ys) ≡ t → all_differ (numbers_of (cond b xs ys)) ≡ t
 differ_if true xs ys t h k = h
 differ_if false xs ys t h k = k
 
 eq_swap : (m n : ℕ) → (m == n) ≡ (n == m)
-eq_swap m n = grind arith
+eq_swap m n = grind (arith, nat_tests)
 
 differ_swap : (e f a b d : Bool) → e ≡ f → (not (e || a) && (not b && d)) ≡ (not (f || b) && (not a && d))
 differ_swap true true a b d h = refl
@@ -109,11 +110,11 @@ unfolding numbers_of
 differ_put r [] = refl
 differ_put r (s ∷ ss) =
     differ_if (nat_le r.lrsn s.lrsn) (r ∷ s ∷ ss) (s ∷ put_by_lrsn r ss)
-      (not ((s.lrsn == r.lrsn) || is_among r.lrsn (numbers_of ss)) && (not (is_among s.lrsn (numbers_of ss)) && all_differ (numbers_of ss)))
-      refl
-      (ap (λ (b : Bool). not b && all_differ (numbers_of (put_by_lrsn r ss))) (among_put s.lrsn r ss)
-      ∙ ap (λ (b : Bool). not ((r.lrsn == s.lrsn) || is_among s.lrsn (numbers_of ss)) && b) (differ_put r ss)
-      ∙ differ_swap (r.lrsn == s.lrsn) (s.lrsn == r.lrsn) (is_among s.lrsn (numbers_of ss)) (is_among r.lrsn (numbers_of ss)) (all_differ (numbers_of ss)) (eq_swap r.lrsn s.lrsn))
+    (not ((s.lrsn == r.lrsn) || is_among r.lrsn (numbers_of ss)) && (not (is_among s.lrsn (numbers_of ss)) && all_differ (numbers_of ss)))
+    refl
+    (ap (λ (b : Bool). not b && all_differ (numbers_of (put_by_lrsn r ss))) (among_put s.lrsn r ss)
+    ∙ ap (λ (b : Bool). not ((r.lrsn == s.lrsn) || is_among s.lrsn (numbers_of ss)) && b) (differ_put r ss)
+    ∙ differ_swap (r.lrsn == s.lrsn) (s.lrsn == r.lrsn) (is_among s.lrsn (numbers_of ss)) (is_among r.lrsn (numbers_of ss)) (all_differ (numbers_of ss)) (eq_swap r.lrsn s.lrsn))
 
 among_sorted : (n : ℕ) (rs : List LogRecord) → is_among n (numbers_of (by_lrsn rs)) ≡ is_among n (numbers_of rs)
 unfolding numbers_of
@@ -149,7 +150,7 @@ or_left true b h = absurd cc
 or_left false b h = refl
 
 above : (low n : ℕ) → low ≤ n → (n == low) ≡ false → low < n
-above low n h e = grind arith
+above low n h e = grind (arith, nat_tests)
 
 follows : (low : ℕ) (r : LogRecord) (ps : List Patch) → low < r.lrsn → Follows low r ps
 follows low r [] h = omega arith
@@ -165,6 +166,7 @@ rising low (r ∷ rs) h d =
     (follows low r (changes_of r.body) lt, rising r.lrsn rs h.1 rest)
 
 pub merged_are : ((records : List LogRecord) → RisesFrom 0 (in_order records)) → (bytes : List (List ℕ)) (logs : List Log) → AreWholeLogs 1 bytes logs → AreTransactions logs → AreRecords (merged logs)
-merged_are rises bytes logs h t =
-    (each_sorted IsAllowed (kept (all_records logs)) (each_kept IsAllowed (all_records logs) (all_allowed 1 bytes logs h)),
-    rising 0 (merged logs) (rises (all_records logs)) (merged_differ (all_records logs) t.numbers))
+merged_are rises bytes logs h t = (
+  each_sorted IsAllowed (kept (all_records logs)) (each_kept IsAllowed (all_records logs) (all_allowed 1 bytes logs h)),
+  rising 0 (merged logs) (rises (all_records logs)) (merged_differ (all_records logs) t.numbers),
+)

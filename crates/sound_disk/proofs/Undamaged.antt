@@ -26,10 +26,13 @@ same_key : (q k : ℕ) → eq_by_cmp nat_cmp q k ≡ (k == q)
 same_key q k = grind (arith, nat_tests)
 
 itself : (n : ℕ) → (n == n) ≡ true
-itself n = grind arith
+itself n = grind (arith, nat_tests)
+
+eq_turn : (m n : ℕ) → (m == n) ≡ (n == m)
+eq_turn m n = grind (arith, nat_tests)
 
 equal : (m n : ℕ) → (m == n) ≡ true → m ≡ n
-equal m n e = grind arith
+equal m n e = grind (arith, nat_tests)
 
 and_left : (a b : Bool) → (a && b) ≡ true → a ≡ true
 and_left true b h = refl
@@ -65,6 +68,12 @@ not_true : (b : Bool) → not b ≡ true → b ≡ false
 not_true true h = absurd cc
 not_true false h = refl
 
+not_same : (k t : ℕ) → (k == 0) ≡ true → (t == 0) ≡ false → (k == t) ≡ false
+not_same k t e some = grind (arith, nat_tests)
+
+not_turned : (o t : ℕ) → (t == o) ≡ false → (o == t) ≡ false
+not_turned o t e = eq_turn o t ∙ e
+
 -- ---- what is known
 
 -- of all records that were passed: their numbers; and of transactions without any of them nothing
@@ -81,7 +90,7 @@ record Owns (member : ℕ) (others earlier : List LogRecord) (known : Known) : T
 -- ---- maps
 
 put_at : {X : Type 0} (m : FinMap nat_cmp X) (k : ℕ) (v : X) (q : ℕ) → get (insert m k v) q ≡ cond (k == q) (Some v) (get m q)
-put_at {X} m k v q = get-insert nat_cmp_total m k v q ∙ ap (λ (b : Bool). cond b (Some v) (get m q)) (same_key q k)
+put_at m k v q = get-insert nat_cmp_total m k v q ∙ ap (λ (b : Bool). cond b (Some v) (get m q)) (same_key q k)
 
 some_if : {X : Type 0} (b : Bool) (v : X) (o : Option X) → is_some (cond b (Some v) o) ≡ (b || is_some o)
 some_if true v o = refl
@@ -93,10 +102,11 @@ none_if false v o h k = k
 
 -- ---- one record more
 
-drawn_more : (xs ys : List LogRecord) → drawn_numbers (xs ++ ys) ≡ drawn_numbers xs ++ drawn_numbers ys
 drawn_when : (b : Bool) (n : ℕ) (xs ys zs : List ℕ) → xs ≡ ys ++ zs → cond b (n ∷ xs) xs ≡ cond b (n ∷ ys) ys ++ zs
 drawn_when true n xs ys zs e = ap (λ (l : List ℕ). n ∷ l) e
 drawn_when false n xs ys zs e = e
+
+drawn_more : (xs ys : List LogRecord) → drawn_numbers (xs ++ ys) ≡ drawn_numbers xs ++ drawn_numbers ys
 drawn_more [] ys = refl
 drawn_more (x ∷ xs) ys = drawn_when (is_drawn x.body) x.lrsn (drawn_numbers (xs ++ ys)) (drawn_numbers xs) (drawn_numbers ys) (drawn_more xs ys)
 
@@ -155,7 +165,7 @@ course_put false m r t c e h = h
 owned_course : (z : Bool) (m : FinMap nat_cmp Course) (r : LogRecord) (t : ℕ) (c : Course) → (r.tran == 0) ≡ z → (t == 0) ≡ false → course_of (get m t) ≡ c
     → course_of (get (cond z m (insert m r.tran (after_body (course_of (get m r.tran)) r r.body))) t) ≡ cond (r.tran == t) (after_body c r r.body) c
 owned_course true m r t c e some h =
-    let other : (r.tran == t) ≡ false = grind arith in
+    let other : (r.tran == t) ≡ false = not_same r.tran t e some in
     h ∙ ap (λ (b : Bool). cond b (after_body c r r.body) c) (sym other)
 owned_course false m r t c e some h =
     ap (λ (o : Option Course). course_of o) (put_at m r.tran (after_body (course_of (get m r.tran)) r r.body) t) ∙ course_put (r.tran == t) m r t c refl h
@@ -169,7 +179,7 @@ owns_more member others earlier known r h = record {
 -- ---- no fault in a record
 
 low_is : (n low : ℕ) → low ≤ n → nat_lt n low ≡ false
-low_is n low h = grind arith
+low_is n low h = grind (arith, nat_tests)
 
 number_if : (d s : Bool) → (d ≡ true → s ≡ false) → (d && s) ≡ false
 number_if true s h = h refl
@@ -186,8 +196,8 @@ tran_or false fault h = h refl
 no_tran_fault : (member : ℕ) (others earlier : List LogRecord) (known : Known) (r : LogRecord) → Owns member others earlier known → ((r.tran == 0) ≡ false → speak_of r.tran others ≡ false) → MayFollow earlier r → tran_fault member known r ≡ None
 no_tran_fault member others earlier known r o apart f =
     tran_or (r.tran == 0) (cond (is_home member (get known.homes r.tran)) (body_fault (course_of (get known.courses r.tran)) r r.body) (Some (tran_at r)))
-      (λ some. home_or (is_home member (get known.homes r.tran)) (tran_at r) (body_fault (course_of (get known.courses r.tran)) r r.body) (o.home r.tran (apart some))
-        (ap (λ (c : Course). body_fault c r r.body) (o.course r.tran some (apart some)) ∙ f.fits))
+    (λ some. home_or (is_home member (get known.homes r.tran)) (tran_at r) (body_fault (course_of (get known.courses r.tran)) r r.body) (o.home r.tran (apart some))
+    (ap (λ (c : Course). body_fault c r r.body) (o.course r.tran some (apart some)) ∙ f.fits))
 
 fault_if : (a b : Bool) (n : ℕ) (fault : Option ℕ) → a ≡ false → b ≡ false → fault ≡ None → cond (a || b) (Some n) fault ≡ None
 fault_if true b n fault h k e = absurd cc
@@ -198,8 +208,8 @@ no_fault : (member low : ℕ) (done others earlier : List LogRecord) (known : Kn
     → ((r.tran == 0) ≡ false → speak_of r.tran others ≡ false) → MayFollow earlier r → record_fault member known low r ≡ None
 no_fault member low done others earlier known r k o le new apart f =
     fault_if (nat_lt r.lrsn low) (is_drawn r.body && is_some (get known.drawn r.lrsn)) number_at (tran_fault member known r) (low_is r.lrsn low le)
-      (number_if (is_drawn r.body) (is_some (get known.drawn r.lrsn)) (λ d. k.drawn r.lrsn ∙ new d))
-      (no_tran_fault member others earlier known r o apart f)
+    (number_if (is_drawn r.body) (is_some (get known.drawn r.lrsn)) (λ d. k.drawn r.lrsn ∙ new d))
+    (no_tran_fault member others earlier known r o apart f)
 
 -- ---- numbers that differ
 
@@ -212,7 +222,7 @@ differ_behind (x ∷ xs) ys n h =
     let head : is_among x (xs ++ n ∷ ys) ≡ false = not_true (is_among x (xs ++ n ∷ ys)) (and_left (not (is_among x (xs ++ n ∷ ys))) (all_differ (xs ++ n ∷ ys)) h) in
     let both : (is_among x xs || ((n == x) || is_among x ys)) ≡ false = sym (among_more x xs (n ∷ ys)) ∙ head in
     let other : (n == x) ≡ false = or_left (n == x) (is_among x ys) (or_right (is_among x xs) ((n == x) || is_among x ys) both) in
-    let other_way : (x == n) ≡ false = grind arith in
+    let other_way : (x == n) ≡ false = eq_turn x n ∙ other in
     ap (λ (b : Bool). b || is_among n xs) other_way ∙ differ_behind xs ys n (differ_tail x (xs ++ n ∷ ys) h)
 
 new_if : (b : Bool) (xs ys : List ℕ) (n : ℕ) → all_differ (xs ++ cond b (n ∷ ys) ys) ≡ true → b ≡ true → is_among n xs ≡ false
@@ -233,17 +243,17 @@ apart_tail : (others : List LogRecord) (r : LogRecord) (xs : List LogRecord) →
 apart_tail [] r xs h = refl
 apart_tail (o ∷ os) r xs h =
     and_both ((o.tran == 0) || not (speak_of o.tran xs)) (stands_apart os xs)
-      (apart_tail_one o (o.tran == 0) (r.tran == o.tran) (speak_of o.tran xs) (and_left ((o.tran == 0) || not (speak_of o.tran (r ∷ xs))) (stands_apart os (r ∷ xs)) h))
-      (apart_tail os r xs (and_right ((o.tran == 0) || not (speak_of o.tran (r ∷ xs))) (stands_apart os (r ∷ xs)) h))
+    (apart_tail_one o (o.tran == 0) (r.tran == o.tran) (speak_of o.tran xs) (and_left ((o.tran == 0) || not (speak_of o.tran (r ∷ xs))) (stands_apart os (r ∷ xs)) h))
+    (apart_tail os r xs (and_right ((o.tran == 0) || not (speak_of o.tran (r ∷ xs))) (stands_apart os (r ∷ xs)) h))
 
 apart_rest : (others xs ys : List LogRecord) → stands_apart others (xs ++ ys) ≡ true → stands_apart others ys ≡ true
 apart_rest others [] ys h = h
 apart_rest others (x ∷ xs) ys h = apart_rest others xs ys (apart_tail others x (xs ++ ys) h)
 
 other_tran : (z e : Bool) (b : Bool) (o t : ℕ) → (o == 0) ≡ z → (t == 0) ≡ false → (t == o) ≡ e → (z || not (e || b)) ≡ true → (o == t) ≡ false
-other_tran true e b o t hz some he h = grind arith
+other_tran true e b o t hz some he h = not_same o t hz some
 other_tran false true b o t hz some he h = absurd cc
-other_tran false false b o t hz some he h = grind arith
+other_tran false false b o t hz some he h = not_turned o t he
 
 apart_head : (others : List LogRecord) (r : LogRecord) (xs : List LogRecord) → stands_apart others (r ∷ xs) ≡ true → (r.tran == 0) ≡ false → speak_of r.tran others ≡ false
 apart_head [] r xs h some = refl
@@ -266,10 +276,10 @@ passes member low at done others earlier [] later known k o rises follow differ 
     record { behind = known; is = refl; counts = subst (λ (l : List LogRecord). Counts l known) (sym (append-nil done)) k }
 passes member low at done others earlier (r ∷ rs) later known k o rises follow differ apart =
     let none : record_fault member known low r ≡ None =
-        no_fault member low done others earlier known r k o rises.0 (new_number done (rs ++ later) r differ) (apart_head others r (rs ++ later) apart) follow.0 in
+    no_fault member low done others earlier known r k o rises.0 (new_number done (rs ++ later) r differ) (apart_head others r (rs ++ later) apart) follow.0 in
     let more : all_differ (drawn_numbers ((done ++ r ∷ []) ++ (rs ++ later))) ≡ true = ap (λ (l : List LogRecord). all_differ (drawn_numbers l)) (append_assoc done (r ∷ []) (rs ++ later)) ∙ differ in
     let p = passes member r.lrsn (at + length (record_bytes r)) (done ++ r ∷ []) others (earlier ++ r ∷ []) rs later (known_with member known r)
-        (counts_more member done known r k) (owns_more member others earlier known r o) rises.1 follow.1 more (apart_tail others r (rs ++ later) apart) in
+    (counts_more member done known r k) (owns_more member others earlier known r o) rises.1 follow.1 more (apart_tail others r (rs ++ later) apart) in
     record {
       behind = p.behind;
       is = ap (λ (f : Option ℕ). judged at f (damage_from member (known_with member known r) r.lrsn (at + length (record_bytes r)) rs)) none ∙ p.is;
@@ -291,17 +301,17 @@ none_damaged done known (log ∷ logs) k rises follow differ apart stand =
     let p = passes log.member 0 0 done done [] log.records (all_records logs) known k (owns_none log.member done known k) rises.0 follow.0 differ apart in
     let more : all_differ (drawn_numbers ((done ++ log.records) ++ all_records logs)) ≡ true = ap (λ (l : List LogRecord). all_differ (drawn_numbers l)) (append_assoc done log.records (all_records logs)) ∙ differ in
     let both : stands_apart (done ++ log.records) (all_records logs) ≡ true =
-        list_all-append (λ (r : LogRecord). (r.tran == 0) || not (speak_of r.tran (all_records logs))) done log.records
-        ∙ and_both (stands_apart done (all_records logs)) (stands_apart log.records (all_records logs)) (apart_rest done log.records (all_records logs) apart)
-          (and_left (stands_apart log.records (all_records logs)) (stand_apart logs) stand) in
+    list_all-append (λ (r : LogRecord). (r.tran == 0) || not (speak_of r.tran (all_records logs))) done log.records
+    ∙ and_both (stands_apart done (all_records logs)) (stands_apart log.records (all_records logs)) (apart_rest done log.records (all_records logs) apart)
+    (and_left (stands_apart log.records (all_records logs)) (stand_apart logs) stand) in
     ap (λ (f : Result Known ℕ). goes_on (λ (m : Known). damage_among m logs) log.member f) p.is
     ∙ none_damaged (done ++ log.records) p.behind logs p.counts rises.1 follow.1 more both (and_right (stands_apart log.records (all_records logs)) (stand_apart logs) stand)
 
 nothing_counts : Counts [] nothing_known
 nothing_counts = record {
-  drawn = λ n. ap (λ (o : Option ℕ). is_some o) (get-empty n);
-  no_home = λ t none. get-empty t;
-  no_course = λ t none. get-empty t;
+  drawn = λ n. ap (λ (o : Option ℕ). is_some o) (get-empty {X = ℕ} {R = nat_cmp} n);
+  no_home = λ t none. get-empty {X = ℕ} {R = nat_cmp} t;
+  no_course = λ t none. get-empty {X = Course} {R = nat_cmp} t;
 }
 
 pub undamaged : (logs : List Log) → AllByRecursion (λ (l : Log). RisesFrom 0 l.records) logs → AreTransactions logs → log_damage logs ≡ None

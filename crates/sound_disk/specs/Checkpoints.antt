@@ -56,8 +56,8 @@ start_of records = start_from 0 records
 
 -- the records before this byte, the first of which begins at `at`
 abbrev pub records_before : ℕ → ℕ → List LogRecord → List LogRecord
-records_before end at [] = []
-records_before end at (r ∷ rs) = if nat_lt at end then r ∷ records_before end (next_place at r) rs else []
+records_before upto at [] = []
+records_before upto at (r ∷ rs) = if nat_lt at upto then r ∷ records_before upto (next_place at r) rs else []
 
 -- ---- what stands before it
 
