@@ -1,0 +1,9 @@
+mod Logs
+mod Merged
+mod Pages
+mod Blank
+mod Allowed
+mod Ones
+mod Examples_sound
+mod Unsound
+mod Undamaged

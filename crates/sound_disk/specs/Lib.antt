@@ -1,0 +1,16 @@
+pub mod Whole_logs
+pub mod Transactions
+pub mod Versions
+pub mod Settled
+pub mod Turns
+pub mod Numbers_left
+pub mod Checkpoints
+pub mod Layouts
+pub mod Heaps
+pub mod Indexes
+pub mod Index_views
+pub mod Rows_there
+pub mod Tables
+pub mod Sound
+pub mod Laws
+pub mod Examples
