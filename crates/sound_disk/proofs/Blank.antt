@@ -30,7 +30,7 @@ pub record IsBlank : Type 0 where
 
 pub never_written : (id : PageId) → page_at map.empty id ≡ zeros
 unfolding zero_bytes
-never_written id = ap (λ o. unwrap_or o (replicate 4096 0)) (get-empty {X = List ℕ} {R = page_cmp} id)
+never_written id = ap (λ o. unwrap_or o (replicate 4096 0)) (get-empty {X = List ℕ} page_cmp id)
 
 not_old : IsBlank → is_old zeros ≡ false
 not_old b = ap (λ (n : ℕ). n == 1) (b.bytes version_at)

@@ -29,7 +29,7 @@ are_read sound member bytes log h =
 
 -- ---- one list of logs
 
-records_in : Result Parts ℕ → List LogRecord
+abbrev records_in : Result Parts ℕ → List LogRecord
 records_in (Ok p) = p.records
 records_in (Err at) = []
 

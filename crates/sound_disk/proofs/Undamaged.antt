@@ -309,9 +309,9 @@ none_damaged done known (log ∷ logs) k rises follow differ apart stand =
 
 nothing_counts : Counts [] nothing_known
 nothing_counts = record {
-  drawn = λ n. ap (λ (o : Option ℕ). is_some o) (get-empty {X = ℕ} {R = nat_cmp} n);
-  no_home = λ t none. get-empty {X = ℕ} {R = nat_cmp} t;
-  no_course = λ t none. get-empty {X = Course} {R = nat_cmp} t;
+  drawn = λ n. ap (λ (o : Option ℕ). is_some o) (get-empty {X = ℕ} nat_cmp n);
+  no_home = λ t none. get-empty {X = ℕ} nat_cmp t;
+  no_course = λ t none. get-empty {X = Course} nat_cmp t;
 }
 
 pub undamaged : (logs : List Log) → AllByRecursion (λ (l : Log). RisesFrom 0 l.records) logs → AreTransactions logs → log_damage logs ≡ None
