@@ -1,0 +1,22 @@
+//! What no event of a member changes: that its slots with transactions are those of its agents; and its claims, where no lock is
+//! taken or given up.
+//!
+//! The crate has definitions and proofs alone. Its functions do nothing: their contracts are the theorems.
+#![tactic(auto)]
+
+ghost use Rattle.marks_law.specs.Claims.{ClaimsStay};
+ghost use Rattle.marks_law.specs.Slots.{SlotsAdopt, SlotsBegin, SlotsReach, SlotsStay, SlotsTell};
+
+/// Slot 0 of a member, which is its own, is always free, so a slot with a transaction is an agent's.
+pub fn slots_stay()
+    ensures tell { SlotsTell }
+    ensures begin { SlotsBegin }
+    ensures event { SlotsStay }
+    ensures local { SlotsReach }
+    ensures adopted { SlotsAdopt }
+{}
+
+/// An event in which no lock is taken or given up leaves the claims as they were, but for the local moves that follow it.
+pub fn claims_stay()
+    ensures { ClaimsStay }
+{}
