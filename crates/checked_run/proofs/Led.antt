@@ -1,12 +1,15 @@
 -- Where the journal of a run leads.
-use Rattle.std.proofs.Common.{◌≡◌, inl, inr, ℕ, ◌<◌, Bool, List, [], ◌++◌, length, Option, Some, None, Result, Ok, Err, IsErr, refl, sym, ap, subst, ◌∙◌, arith, length-append, ◌+◌}
+use Rattle.std.proofs.Common.{◌≡◌, inl, inr, ℕ, ◌<◌, Bool, true, List, [], ◌++◌, length, Option, Some, None, Result, Ok, Err, IsErr, refl, sym, ap, subst, ◌∙◌, arith, length-append, ◌+◌}
 use Rattle.std.specs.Prelude.{Vec, IfSome, IfOk, OnOk}
 use Rattle.std.specs.declared.alloc.Global.{Global}
 use Rattle.ds_base.specs.declared.fault.NoMemory.{NoMemory}
 use Rattle.ds_disk.specs.Contents.{Contents}
 use Rattle.cache_structure.specs.Directory.{Directory}
 use Rattle.ds_model.specs.declared.script.Script.{Script}
+use Rattle.ds_model.specs.declared.fate.Refusal.{Refusal}
 use Rattle.ds_model.specs.declared.history.Entry.{Entry}
+use Rattle.script_fates.specs.declared.fates.Cause.{Cause}
+use Rattle.script_fates.specs.Fated.{FatesState}
 use Rattle.group_core.specs.declared.close.Played.{Played}
 use Rattle.group_core.specs.declared.group.Group.{Group}
 use Rattle.group_core.specs.declared.fault.RunFault.{RunFault}
@@ -16,6 +19,9 @@ use Rattle.group_core.specs.Goes.{Goes}
 use Rattle.group_core.specs.Runs.{Draws, RunsOn}
 use Rattle.group_threads.specs.Fresh.{RunsFresh, RunsFrom}
 use Rattle.group_threads.proofs.Looked.{runs_plain}
+use Rattle.refusal_causes.specs.Answers.{AnswersGiven}
+use Rattle.refusal_causes.specs.Laws.{CausesHeld, is_lawful}
+use Rattle.refusal_causes.specs.Moments.{AllCaused, HeldInRun}
 use Rattle.checked_run.specs.declared.account.Account.{Account}
 use Rattle.checked_run.specs.declared.ended.Ended.{Ended}
 use Rattle.checked_run.specs.declared.ended.Ended.TheVariants as ended
@@ -60,22 +66,33 @@ by_seed {C} {D} {P} directory alive contents count old new seed s begun most aft
 }
 by_seed {C} {D} {P} directory alive contents count old new seed s begun most after (Err why) is same goes ran = tt
 
+-- what is known of the fates of a group is known of what is told of them
+caused_told : (K : ℕ → Refusal → ℕ → Type 0) (f : FatesState) (entries : List Entry) (causes : List Cause) → f.entries ≡ entries → f.causes ≡ causes → AllCaused K f → AllCaused K (record { entries = entries; causes = causes })
+caused_told K f entries causes same told known =
+    let first : AllCaused K (record { entries = entries; causes = f.causes }) = subst (λ (es : List Entry). AllCaused K (record { entries = es; causes = f.causes })) same known in
+    subst (λ (cs : List Cause). AllCaused K (record { entries = entries; causes = cs })) told first
+
 -- what a group leaves is that of the group to which its journal leads
 pub led : {C D P : Type 0} (directory : C → Directory) (alive : D → Bool) (contents : D → Option Contents) (count : D → ℕ) (script : Script) (start last : Group D C P) (seed : Option ℕ) (end : RunEnd) (account : Account) (played : Played)
     → Begins directory script start → RunsBy directory alive contents count start seed last → Ends end last → account ≡ account_of played
     → played.journal.items ≡ last.journal.items → played.faults.items ≡ last.faults.items → played.causes.items ≡ last.crew.fates.causes → played.entries.items ≡ last.crew.fates.entries → played.fault ≡ last.fault
-    → LeadsFrom directory alive contents count start seed account end played.fault played.entries.items
-led {C} {D} {P} directory alive contents count script start last seed end account played begins ran ends same journal faults causes entries why =
+    → CausesHeld P directory alive contents count → AnswersGiven P directory alive contents count → LeadsFrom directory alive contents count start seed account end played.fault played.entries.items
+led {C} {D} {P} directory alive contents count script start last seed end account played begins ran ends same journal faults causes entries why held given =
     let events : account.journal ≡ ran.from.events = ap (λ (a : Account). a.journal) same ∙ (journal ∙ (ran.from.journal ∙ ap (λ (es : List ℕ). es ++ ran.from.events) begins.journal)) in
+    let runs : RunsFresh directory alive contents count start account.journal last = subst (λ (es : List ℕ). RunsFresh directory alive contents count start es last) (sym events) ran.from.runs in
+    let told : last.crew.fates.causes ≡ account.causes = sym causes ∙ sym (ap (λ (a : Account). a.causes) same) in
     record {
       last = last;
-      runs = subst (λ (es : List ℕ). RunsFresh directory alive contents count start es last) (sym events) ran.from.runs;
+      runs = runs;
       draws = subst (λ (es : List ℕ). IfSome seed (λ s. (after : ℕ) × Draws directory alive contents count start s es last after)) (sym events) ran.drawn;
       ends = ends;
       fault_is = sym why;
       entries_are = sym entries;
-      causes_are = sym causes ∙ sym (ap (λ (a : Account). a.causes) same);
+      causes_are = told;
       faults_are = sym faults ∙ sym (ap (λ (a : Account). a.faults) same);
+      caused = λ lawful. caused_told (HeldInRun directory alive contents count start account.journal last) last.crew.fates played.entries.items account.causes (sym entries) told
+          (held start account.journal last begins.fresh runs (subst (λ (f : Option RunFault). is_lawful f ≡ true) why lawful));
+      answers = λ events group run lawful. given start events group begins.fresh run lawful;
     }
 
 -- by what the run answered

@@ -1,5 +1,5 @@
 -- The run to which a journal leads.
-use Rattle.std.specs.Prelude.{◌≡◌, ◌⊎◌, ℕ, Bool, List, [], Option, None, IfSome}
+use Rattle.std.specs.Prelude.{◌≡◌, ◌⊎◌, ℕ, Bool, true, List, [], Option, None, IfSome}
 use Rattle.ds_disk.specs.Contents.{Contents}
 use Rattle.cache_structure.specs.Directory.{Directory}
 use Rattle.cache_structure.specs.State.{CacheState, directory_of}
@@ -12,6 +12,9 @@ use Rattle.group_core.specs.Ends.{Ends}
 use Rattle.group_core.specs.Runs.{Draws}
 use Rattle.group_core.specs.Starts.{IsFresh}
 use Rattle.group_threads.specs.Fresh.{RunsFresh, RunsFrom}
+use Rattle.refusal_causes.specs.Answers.{Answered, AreGiven}
+use Rattle.refusal_causes.specs.Laws.{is_lawful}
+use Rattle.refusal_causes.specs.Moments.{AllCaused, HeldInRun}
 use Rattle.checked_run.specs.declared.account.Account.{Account}
 use Rattle.checked_run.specs.declared.ended.Ended.{Ended}
 use Rattle.checked_run.specs.declared.ended.Ended.TheVariants as ended
@@ -32,7 +35,8 @@ pub record RunsBy {C D P : Type 0} (directory : C → Directory) (alive : D → 
 
 -- From this group on the events of the journal lead to a group whose run has ended so, by this fault if by any, with these entries in the order
 -- of their fates, these causes of refusals, and these places at which calls of the disk failed. Where there is a seed, each event was drawn from
--- those that are ready, by a generator with it.
+-- those that are ready, by a generator with it. Each refused one has a cause that held where it is told, and each cause that is told is that of one,
+-- unless the run has ended since what was wanted may not be done. Each answer about a lock that a member may read on the way was given by claims.
 pub record LeadsFrom {C D P : Type 0} (directory : C → Directory) (alive : D → Bool) (contents : D → Option Contents) (count : D → ℕ) (start : Group D C P) (seed : Option ℕ) (account : Account) (end : RunEnd) (why : Option RunFault) (entries : List Entry) : Type 0 where
   pub last : Group D C P
   pub runs : RunsFresh directory alive contents count start account.journal last
@@ -42,6 +46,8 @@ pub record LeadsFrom {C D P : Type 0} (directory : C → Directory) (alive : D �
   pub entries_are : last.crew.fates.entries ≡ entries
   pub causes_are : last.crew.fates.causes ≡ account.causes
   pub faults_are : last.faults.items ≡ account.faults
+  pub caused : is_lawful why ≡ true → AllCaused (HeldInRun directory alive contents count start account.journal last) (record { entries = entries; causes = account.causes })
+  pub answers : (events : List ℕ) (group : Group D C P) → RunsFresh directory alive contents count start events group → is_lawful group.fault ≡ true → AreGiven (Answered directory alive contents count start events group) group.crew.facility.lists.cells
 
 -- they do so from a group with members of this type that has just started, with the script
 abbrev pub Leads : {D : Type 0} → (P : Type 0) → (D → Bool) → (D → Option Contents) → (D → ℕ) → Script → Option ℕ → Account → RunEnd → Option RunFault → List Entry → Type 0

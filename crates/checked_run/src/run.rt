@@ -26,6 +26,7 @@ use group_core::{Group, RunEnd, RunFault, StartFault, run_one_thread};
 use group_threads::{Gate, run_threads};
 use member_resources::Policy;
 use opening_rows::{Opening, read_opening};
+use refusal_causes::{answers_given, causes_held};
 use std::alloc::Global;
 use std::sync::Wait;
 use std::thread::Threads;
@@ -111,6 +112,8 @@ fn finish<R: Threads + Wait + Sync, D: Disk + Send, P: Policy + Drop + Send, G: 
         result.2 }
     ensures later { D.faults group.disk ≤ D.faults result.0 }
 {
+    causes_held::<D, Cache, P>();
+    answers_given::<D, Cache, P>();
     let (group, end) = play_to_end(rt, alloc, group, seed, gate);
     let (mut disk, played, closed) = group.close(alloc);
     let (account, ended) = settle(

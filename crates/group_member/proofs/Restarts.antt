@@ -24,29 +24,29 @@ takes_open (Ok left) q h told after = inr (told, ap (λ (k : held.Held). record 
 
 -- ---- the event of a restart
 
-broken_at : (m : Member) (w : World) (sent : RestartSent) (answered : Answered) (v : World) (n : Member) (r : Option Restarting) → n.restart ≡ r → IsSomeAnd r (RestartMakes m w sent answered v)
-    → n ≡ record m { restart = n.restart } → is_failure answered ≡ true → Restarts m w sent answered v n
-broken_at m w sent answered v n None is makes same fails = absurd makes
-broken_at m w sent answered v n (Some q) is makes same fails = record {
+broken_at : (m : Member) (w : World) (place : ℕ) (sent : RestartSent) (answered : Answered) (v : World) (n : Member) (r : Option Restarting) → n.restart ≡ r → IsSomeAnd r (RestartMakes m w sent answered v)
+    → n ≡ record m { restart = n.restart } → is_failure answered ≡ true → Restarts m w place sent answered v n
+broken_at m w place sent answered v n None is makes same fails = absurd makes
+broken_at m w place sent answered v n (Some q) is makes same fails = record {
   reached = q;
   makes = makes;
-  ends = subst (λ (b : Bool). RestartEnds b q m n) (sym fails) (same ∙ ap (λ (r : Option Restarting). record m { restart = r }) is);
+  ends = subst (λ (b : Bool). RestartEnds b q m place n) (sym fails) (same ∙ ap (λ (r : Option Restarting). record m { restart = r }) is);
 }
 
-pub restart_broken : (m : Member) (w : World) (sent : RestartSent) (answered : Answered) (v : World) (n : Member) → IsSomeAnd n.restart (RestartMakes m w sent answered v)
-    → n ≡ record m { restart = n.restart } → is_failure answered ≡ true → Restarts m w sent answered v n
-restart_broken m w sent answered v n makes same fails = broken_at m w sent answered v n n.restart refl makes same fails
+pub restart_broken : (m : Member) (w : World) (place : ℕ) (sent : RestartSent) (answered : Answered) (v : World) (n : Member) → IsSomeAnd n.restart (RestartMakes m w sent answered v)
+    → n ≡ record m { restart = n.restart } → is_failure answered ≡ true → Restarts m w place sent answered v n
+restart_broken m w place sent answered v n makes same fails = broken_at m w place sent answered v n n.restart refl makes same fails
 
-pub restart_goes_on : (m : Member) (w : World) (sent : RestartSent) (answered : Answered) (u v : World) (r s : Option Restarting) (h left after : Held) (n : Member)
-    → IsSomeAnd r (RestartMakes m w sent answered u) → h ≡ m.holds → GoesOnFrom r h s left → Tells left after → n ≡ record m { holds = after; restart = s } → v ≡ u → is_failure answered ≡ false
-    → Restarts m w sent answered v n
-restart_goes_on m w sent answered u v None s h left after n makes same goes tells n_is v_is whole = absurd makes
-restart_goes_on m w sent answered u v (Some q) s h left after n makes same goes tells n_is v_is whole =
+pub restart_goes_on : (m : Member) (w : World) (place : ℕ) (sent : RestartSent) (answered : Answered) (u v : World) (r s : Option Restarting) (h left after : Held) (n : Member)
+    → IsSomeAnd r (RestartMakes m w sent answered u) → h ≡ m.holds → GoesOnFrom r h s left → Tells left place after → n ≡ record m { holds = after; restart = s } → v ≡ u → is_failure answered ≡ false
+    → Restarts m w place sent answered v n
+restart_goes_on m w place sent answered u v None s h left after n makes same goes tells n_is v_is whole = absurd makes
+restart_goes_on m w place sent answered u v (Some q) s h left after n makes same goes tells n_is v_is whole =
     let restart : s ≡ n.restart = sym (ap (λ (k : Member). k.restart) n_is) in
     let from : GoesOn q.resources.marks.is_up q m.holds s left = subst (λ (k : Held). GoesOn q.resources.marks.is_up q k s left) same goes in record {
       reached = q;
       makes = subst (λ (x : World). RestartMakes m w sent answered x q) (sym v_is) makes;
-      ends = subst (λ (b : Bool). RestartEnds b q m n) (sym whole) (record {
+      ends = subst (λ (b : Bool). RestartEnds b q m place n) (sym whole) (record {
         left = left;
         after = after;
         goes_on = subst (λ (r : Option Restarting). GoesOn q.resources.marks.is_up q m.holds r left) restart from;
@@ -62,19 +62,19 @@ in_hand_before : (id ids : ℕ) (o k : Option Rebuilding) (before : Rebuilding) 
 in_hand_before id ids o None before begun had = absurd begun
 in_hand_before id ids o (Some q) before begun had = subst (λ (r : Rebuilding). IsInHand id o r) (sym had) begun
 
-pub rebuild_goes_on : (m b : Member) (w : World) (sent : RebuildSent) (answered : Answered) (u v : World) (r s : Option Rebuilding) (h after : Held) (n : Member)
-    → IsSomeAnd b.rebuild (IsInHand m.id m.rebuild) → IsSomeAnd r (RebuildMakes b w sent answered u) → (s ≡ r) ⊎ (s ≡ None) → h ≡ m.holds → Tells h after → n ≡ record m { holds = after; rebuild = s } → v ≡ u
-    → is_failure answered ≡ false → Rebuilds m w sent answered v n
-rebuild_goes_on m b w sent answered u v None s h after n begun makes goes same tells n_is v_is whole = absurd makes
-rebuild_goes_on m b w sent answered u v (Some q) s h after n begun makes goes same tells n_is v_is whole =
+pub rebuild_goes_on : (m b : Member) (w : World) (place : ℕ) (sent : RebuildSent) (answered : Answered) (u v : World) (r s : Option Rebuilding) (h after : Held) (n : Member)
+    → IsSomeAnd b.rebuild (IsInHand m.id m.rebuild) → IsSomeAnd r (RebuildMakes b w sent answered u) → (s ≡ r) ⊎ (s ≡ None) → h ≡ m.holds → Tells h place after → n ≡ record m { holds = after; rebuild = s } → v ≡ u
+    → is_failure answered ≡ false → Rebuilds m w place sent answered v n
+rebuild_goes_on m b w place sent answered u v None s h after n begun makes goes same tells n_is v_is whole = absurd makes
+rebuild_goes_on m b w place sent answered u v (Some q) s h after n begun makes goes same tells n_is v_is whole =
     let rebuild : s ≡ n.rebuild = sym (ap (λ (k : Member). k.rebuild) n_is) in
     let own : RebuildMakes m w sent answered u q = record { before = makes.before; had = in_hand_before m.id b.id m.rebuild b.rebuild makes.before begun makes.had; happens = makes.happens } in record {
       reached = q;
       makes = subst (λ (x : World). RebuildMakes m w sent answered x q) (sym v_is) own;
-      ends = subst (λ (b : Bool). RebuildEnds b q m n) (sym whole) (record {
+      ends = subst (λ (b : Bool). RebuildEnds b q m place n) (sym whole) (record {
         after = after;
         goes_on = subst (λ (t : Option Rebuilding). (t ≡ Some q) ⊎ (t ≡ None)) rebuild goes;
-        tells = subst (λ (k : Held). Tells k after) same tells;
+        tells = subst (λ (k : Held). Tells k place after) same tells;
         member = n_is ∙ ap (λ (t : Option Rebuilding). record m { holds = after; rebuild = t }) rebuild;
       });
     }

@@ -46,8 +46,8 @@ pub record Acts (m : Member) (w : World) (place : ℕ) (sent : Sent) (answered :
   pub member : n ≡ record m { holds = after }
 
 -- the member is told of what befell its restart or rebuild: a new event begins, in which nothing is sent, and its policy makes local moves
-abbrev pub Tells : Held → Held → Type 0
-Tells h k = Ends (begun h) k
+abbrev pub Tells : Held → ℕ → Held → Type 0
+Tells h place k = Ends (begun h place) k
 
 -- ---- the event of its restart
 
@@ -77,16 +77,16 @@ GoesOn true q h r k = (r ≡ None) × (k ≡ h)
 GoesOn false q h r k = HandsOver q h r k
 
 -- behind a call that was answered the restart goes on, and the member is told
-pub record RestartGoesOn (q : Restarting) (m n : Member) : Type 0 where
+pub record RestartGoesOn (q : Restarting) (m : Member) (place : ℕ) (n : Member) : Type 0 where
   pub left : Held
   pub after : Held
   pub goes_on : GoesOn q.resources.marks.is_up q m.holds n.restart left
-  pub tells : Tells left after
+  pub tells : Tells left place after
   pub member : n ≡ record m { holds = after; restart = n.restart }
 
-abbrev pub RestartEnds : Bool → Restarting → Member → Member → Type 0
-RestartEnds true q m n = n ≡ record m { restart = Some q }
-RestartEnds false q m n = RestartGoesOn q m n
+abbrev pub RestartEnds : Bool → Restarting → Member → ℕ → Member → Type 0
+RestartEnds true q m place n = n ≡ record m { restart = Some q }
+RestartEnds false q m place n = RestartGoesOn q m place n
 
 -- the restart in hand has made its event
 pub record RestartMakes (m : Member) (w : World) (sent : RestartSent) (answered : Answered) (v : World) (q : Restarting) : Type 0 where
@@ -94,10 +94,10 @@ pub record RestartMakes (m : Member) (w : World) (sent : RestartSent) (answered 
   pub had : m.restart ≡ Some before
   pub happens : restarting.Happens (as_restarting w) before.resources sent answered (as_restarting v) q.resources
 
-pub record Restarts (m : Member) (w : World) (sent : RestartSent) (answered : Answered) (v : World) (n : Member) : Type 0 where
+pub record Restarts (m : Member) (w : World) (place : ℕ) (sent : RestartSent) (answered : Answered) (v : World) (n : Member) : Type 0 where
   pub reached : Restarting
   pub makes : RestartMakes m w sent answered v reached
-  pub ends : RestartEnds (is_failure answered) reached m n
+  pub ends : RestartEnds (is_failure answered) reached m place n
 
 -- ---- the event of its rebuild
 
@@ -107,15 +107,15 @@ IsInHand member None r = IsNewRebuild member r.resources
 IsInHand member (Some q) r = r ≡ q
 
 -- behind a call that was answered it is let go where it is done, and the member is told
-pub record RebuildGoesOn (q : Rebuilding) (m n : Member) : Type 0 where
+pub record RebuildGoesOn (q : Rebuilding) (m : Member) (place : ℕ) (n : Member) : Type 0 where
   pub after : Held
   pub goes_on : (n.rebuild ≡ Some q) ⊎ (n.rebuild ≡ None)
-  pub tells : Tells m.holds after
+  pub tells : Tells m.holds place after
   pub member : n ≡ record m { holds = after; rebuild = n.rebuild }
 
-abbrev pub RebuildEnds : Bool → Rebuilding → Member → Member → Type 0
-RebuildEnds true q m n = n ≡ record m { rebuild = Some q }
-RebuildEnds false q m n = RebuildGoesOn q m n
+abbrev pub RebuildEnds : Bool → Rebuilding → Member → ℕ → Member → Type 0
+RebuildEnds true q m place n = n ≡ record m { rebuild = Some q }
+RebuildEnds false q m place n = RebuildGoesOn q m place n
 
 -- the rebuild in hand has made its event
 pub record RebuildMakes (m : Member) (w : World) (sent : RebuildSent) (answered : Answered) (v : World) (q : Rebuilding) : Type 0 where
@@ -123,18 +123,18 @@ pub record RebuildMakes (m : Member) (w : World) (sent : RebuildSent) (answered 
   pub had : IsInHand m.id m.rebuild before
   pub happens : rebuilding.Happens (as_rebuilding w) before.resources sent answered (as_rebuilding v) q.resources
 
-pub record Rebuilds (m : Member) (w : World) (sent : RebuildSent) (answered : Answered) (v : World) (n : Member) : Type 0 where
+pub record Rebuilds (m : Member) (w : World) (place : ℕ) (sent : RebuildSent) (answered : Answered) (v : World) (n : Member) : Type 0 where
   pub reached : Rebuilding
   pub makes : RebuildMakes m w sent answered v reached
-  pub ends : RebuildEnds (is_failure answered) reached m n
+  pub ends : RebuildEnds (is_failure answered) reached m place n
 
 -- ---- an event, by what it was
 
 -- before the fates of its transactions are entered
 abbrev pub Makes : Member → World → ℕ → Stepped → World → Member → Type 0
 Makes m w place (steps.Sent sent answered) v n = Acts m w place sent answered v n
-Makes m w place (steps.Restart sent answered) v n = Restarts m w sent answered v n
-Makes m w place (steps.Rebuild sent answered) v n = Rebuilds m w sent answered v n
+Makes m w place (steps.Restart sent answered) v n = Restarts m w place sent answered v n
+Makes m w place (steps.Rebuild sent answered) v n = Rebuilds m w place sent answered v n
 Makes m w place steps.Failed v n = ⊥
 
 -- the event was made and answered, and the fates of its transactions are entered

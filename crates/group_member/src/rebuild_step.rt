@@ -82,7 +82,7 @@ pub fn step_rebuild<C: CacheFace, D: Disk, P: Policy>(
     disk: &mut D,
     place: u64,
 ) -> Result<(RebuildSent, Answered), EventFault>
-    ensures rebuilds { IfOk result (λ r. Rebuilds (member_of part.old) (world_of C.directory D.alive D.contents facility.old disk.old) r.0 r.1 (world_of C.directory D.alive D.contents facility.new disk.new) (member_of part.new)) }
+    ensures rebuilds { IfOk result (λ r. Rebuilds (member_of part.old) (world_of C.directory D.alive D.contents facility.old disk.old) place r.0 r.1 (world_of C.directory D.alive D.contents facility.new disk.new) (member_of part.new)) }
     ensures unlawful { result ≡ Err faults.Unlawful → RebuildIsRefused (member_of part.old) (world_of C.directory D.alive D.contents facility.old disk.old) (world_of C.directory D.alive D.contents facility.new disk.new) }
     ensures rest { part.new ≡ record part.old { resources = part.new.resources; policy = part.new.policy; rebuild = part.new.rebuild } }
     ensures later { D.faults disk.old ≤ D.faults disk.new }

@@ -105,7 +105,7 @@ pub fn step_restart<C: CacheFace, D: Disk, P: Policy>(
     place: u64,
 ) -> Result<(RestartSent, Answered), EventFault>
     requires { is_some part.old.restart ≡ true }
-    ensures restarts { IfOk result (λ r. Restarts (member_of part.old) (world_of C.directory D.alive D.contents facility.old disk.old) r.0 r.1 (world_of C.directory D.alive D.contents facility.new disk.new) (member_of part.new)) }
+    ensures restarts { IfOk result (λ r. Restarts (member_of part.old) (world_of C.directory D.alive D.contents facility.old disk.old) place r.0 r.1 (world_of C.directory D.alive D.contents facility.new disk.new) (member_of part.new)) }
     ensures unlawful { result ≡ Err faults.Unlawful → RestartStepIsRefused (member_of part.old) (world_of C.directory D.alive D.contents facility.old disk.old) (world_of C.directory D.alive D.contents facility.new disk.new) }
     ensures rest { part.new ≡ record part.old { resources = part.new.resources; policy = part.new.policy; restart = part.new.restart } }
     ensures later { D.faults disk.old ≤ D.faults disk.new }

@@ -23,7 +23,7 @@ pub fn tell<C: CacheFace, D: Disk, P: Policy>(
     choice: u64,
     place: u64,
 ) -> Result<(), EventFault>
-    ensures tells { OnOk result (Tells part.old.resources part.new.resources) }
+    ensures tells { OnOk result (Tells part.old.resources place part.new.resources) }
     ensures world { OnOk result (world_of C.directory D.alive D.contents facility.new disk.new ≡ world_of C.directory D.alive D.contents facility.old disk.old) }
     ensures lawful { result ≢ Err faults.Unlawful }
     ensures rest { part.new ≡ record part.old { resources = part.new.resources; policy = part.new.policy } }

@@ -141,11 +141,11 @@ wait_goes facts w f held left s t id tied up knows leads e = by (is_postponed s.
 
 -- ---- any of them
 pub local_goes : Facts → LocalGoes
-local_goes facts w f held left s t (Claim slot n m event has_memory spare) sound tied up knows e leads = facts.claim w f held left s t slot n m event has_memory spare sound tied up knows e leads
+local_goes facts w f held left s t (Claim slot n m has_memory spare) sound tied up knows e leads = facts.claim w f held left s t slot n m s.trans.place has_memory spare sound tied up knows e leads
 local_goes facts w f held left s t (Begin slot n has_memory lock_room room) sound tied up knows e leads = begin_goes facts w f held left s t slot n has_memory lock_room room tied up knows leads e
 local_goes facts w f held left s t (Refuse slot) sound tied up knows e leads = quiet facts w f held left s t tied up knows leads (as_trans s t (after_refuse s.trans slot) e)
-local_goes facts w f held left s t (Abort slot event) sound tied up knows e leads = quiet facts w f held left s t tied up knows leads (as_trans s t (refused_for s.trans slot refusal.Aborted event) e)
-local_goes facts w f held left s t (RefuseForMemory slot event) sound tied up knows e leads = quiet facts w f held left s t tied up knows leads (as_trans s t (refused_for s.trans slot refusal.Memory event) e)
+local_goes facts w f held left s t (Abort slot) sound tied up knows e leads = quiet facts w f held left s t tied up knows leads (as_trans s t (refused_for s.trans slot refusal.Aborted s.trans.place) e)
+local_goes facts w f held left s t (RefuseForMemory slot) sound tied up knows e leads = quiet facts w f held left s t tied up knows leads (as_trans s t (refused_for s.trans slot refusal.Memory s.trans.place) e)
 local_goes facts w f held left s t (Place p) sound tied up knows e leads = quiet facts w f held left s t tied up knows leads (same_by s t (after_place s p) e (same_if s (is_none (find_page s.heads.frames p)) (placed_at s p (free_in s.heads)) s (same_placed s p (free_in s.heads)) (same_itself s)))
 local_goes facts w f held left s t (Pin at) sound tied up knows e leads = quiet facts w f held left s t tied up knows leads (same_by s t (after_pin s at) e (same_if s (may_pin s.heads at) (with_heads s (pinned_to s.heads at ((head_of s.heads at).pins + 1))) s (record { locks = refl; member = refl }) (same_itself s)))
 local_goes facts w f held left s t (Unpin at) sound tied up knows e leads = quiet facts w f held left s t tied up knows leads (same_by s t (after_unpin s at) e (same_if s (may_unpin s.heads at) (with_heads s (with_head s.heads at (record (head_of s.heads at) { pins = (head_of s.heads at).pins - 1 }))) s (record { locks = refl; member = refl }) (same_itself s)))

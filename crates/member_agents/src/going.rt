@@ -84,14 +84,13 @@ fn go_back(
 fn roll_back(
     state: &mut MemberState,
     slot: u8,
-    event: &Event,
     is_undo: bool,
     marks: &mut Marks,
 ) -> Result<bool, NoMemory>
     ensures reaches { Reaches marks.old marks.new }
 {
     if marks.stage(&Owner::Slot(slot)) == Stage::Forward {
-        return Ok(marks.abort(slot, event.place));
+        return Ok(marks.abort(slot));
     }
     go_back(state, slot, is_undo, marks)?;
     Ok(false)
@@ -111,8 +110,8 @@ fn meet(
 {
     match *wanted {
         Wanted::Lock(name, mode) => return try_lock(state, alloc, slot, event, name, mode, marks),
-        Wanted::Undo => return roll_back(state, slot, event, true, marks),
-        Wanted::Ended => return roll_back(state, slot, event, false, marks),
+        Wanted::Undo => return roll_back(state, slot, true, marks),
+        Wanted::Ended => return roll_back(state, slot, false, marks),
         Wanted::Page(page) => read_page(state, slot, page, marks)?,
         Wanted::Change(action) => submit_for(state, slot, &Work::Change(action))?,
         Wanted::Commit => state.set_state(slot, SeatState::CommitDraw),
@@ -169,6 +168,6 @@ pub fn action_done(
 ) -> Result<(), NoMemory>
     ensures reaches { Reaches marks.old marks.new }
 {
-    tell_met(state, alloc, slot, event, &Met::Done, marks)?;
+    tell_met(state, alloc, slot, &Met::Done, marks)?;
     go_on(state, alloc, slot, event, marks)
 }

@@ -85,8 +85,8 @@ pub fn try_lock(
 ) -> Result<bool, NoMemory>
     ensures reaches { Reaches marks.old marks.new }
 {
-    match marks.claim(slot, &name, mode, event.place) {
-        Trial::Have => met(state, alloc, slot, event, marks),
+    match marks.claim(slot, &name, mode) {
+        Trial::Have => met(state, alloc, slot, marks),
         Trial::ToObtain(joint) => {
             negotiate(state, slot, name, joint);
             Ok(false)
@@ -136,7 +136,7 @@ pub fn lock_told(
     };
     let goes_on = match progress {
         Progress::GoesOn => false,
-        Progress::Granted => met(state, alloc, slot, &began, marks)?,
+        Progress::Granted => met(state, alloc, slot, marks)?,
         Progress::Conflict { by } => conflict(state, alloc, slot, &began, by, marks)?,
         Progress::Refused => refuse_need(state, alloc, slot, marks)?,
     };

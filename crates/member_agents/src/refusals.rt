@@ -29,12 +29,11 @@ pub fn met(
     state: &mut MemberState,
     alloc: Global,
     slot: u8,
-    event: &Event,
     marks: &mut Marks,
 ) -> Result<bool, NoMemory>
     ensures reaches { Reaches marks.old marks.new }
 {
-    tell_met(state, alloc, slot, event, &Met::Done, marks)?;
+    tell_met(state, alloc, slot, &Met::Done, marks)?;
     Ok(ends_need(state, slot))
 }
 

@@ -90,7 +90,7 @@ fn page_met(
     ensures reaches { Reaches marks.old marks.new }
 {
     unpin_for_reader(state, frame, marks);
-    tell_met(state, alloc, slot, event, &Met::Page(page), marks)?;
+    tell_met(state, alloc, slot, &Met::Page(page), marks)?;
     go_on(state, alloc, slot, event, marks)
 }
 
@@ -130,7 +130,7 @@ fn flag_told(
     ensures reaches { Reaches marks.old marks.new }
 {
     if is_raised {
-        if met(state, alloc, slot, event, marks)? {
+        if met(state, alloc, slot, marks)? {
             return go_on(state, alloc, slot, event, marks);
         }
     } else if let Some(raiser) = state.raiser(flag) {

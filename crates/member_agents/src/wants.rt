@@ -4,7 +4,6 @@ ghost use Rattle.member_marks.specs.Local.{Reaches};
 use ds_base::{NoMemory, PageId};
 use ds_model::Refusal;
 use lock_names::{Mode, Name};
-use member_intents::Event;
 use member_marks::Marks;
 use member_state::MemberState;
 use page_plans::Action;
@@ -109,7 +108,6 @@ pub fn tell_met(
     state: &mut MemberState,
     alloc: Global,
     slot: u8,
-    event: &Event,
     answer: &Met<'_>,
     marks: &mut Marks,
 ) -> Result<(), NoMemory>
@@ -118,7 +116,7 @@ pub fn tell_met(
     if tell(state, alloc, slot, answer).is_ok() {
         return Ok(());
     }
-    if !marks.refuse_for_memory(slot, event.place) {
+    if !marks.refuse_for_memory(slot) {
         return Err(NoMemory);
     }
     tell_refused(state, alloc, slot)

@@ -17,13 +17,13 @@ use Rattle.member_marks.specs.Frames.{after_place, after_pin, after_unpin}
 use Rattle.member_marks.specs.Rollbacks.{after_postpone, after_wait}
 
 pub data Local : Type 0 where
-  -- slot, name, mode and event; whether there was memory, and for how many more claims there is room then
-  Claim : ℕ → Name → Mode → ℕ → Bool → ℕ → Local
+  -- slot, name and mode; whether there was memory, and for how many more claims there is room then
+  Claim : ℕ → Name → Mode → Bool → ℕ → Local
   -- slot and number; whether there was memory, and for how many more rollbacks there is room then, for claims and for transactions
   Begin : ℕ → ℕ → Bool → ℕ → ℕ → Local
   Refuse : ℕ → Local
-  Abort : ℕ → ℕ → Local
-  RefuseForMemory : ℕ → ℕ → Local
+  Abort : ℕ → Local
+  RefuseForMemory : ℕ → Local
   Place : PageId → Local
   Pin : ℕ → Local
   Unpin : ℕ → Local
@@ -88,13 +88,13 @@ after_begin s slot n has_memory lock_room room =
 
 -- ---- all moves
 
--- a move that isn't allowed changes nothing
+-- a move that isn't allowed changes nothing; what one refuses, or allows to be refused, is of this event
 abbrev pub moved : Local → MarksState → MarksState
-moved (Claim slot n m event has_memory spare) s = after_claim s slot n m event has_memory spare
+moved (Claim slot n m has_memory spare) s = after_claim s slot n m s.trans.place has_memory spare
 moved (Begin slot n has_memory lock_room room) s = after_begin s slot n has_memory lock_room room
 moved (Refuse slot) s = with_trans s (after_refuse s.trans slot)
-moved (Abort slot event) s = with_trans s (refused_for s.trans slot refusal.Aborted event)
-moved (RefuseForMemory slot event) s = with_trans s (refused_for s.trans slot refusal.Memory event)
+moved (Abort slot) s = with_trans s (refused_for s.trans slot refusal.Aborted s.trans.place)
+moved (RefuseForMemory slot) s = with_trans s (refused_for s.trans slot refusal.Memory s.trans.place)
 moved (Place p) s = after_place s p
 moved (Pin at) s = after_pin s at
 moved (Unpin at) s = after_unpin s at

@@ -156,11 +156,11 @@ impl Marks {
 }
 
 impl Marks {
-    /// A new event begins.
-    pub fn begin_event(&mut self)
-        ensures { self.new ≡ with_trans self.old (after_event self.old.trans) }
+    /// A new event begins, at this place of the journal.
+    pub fn begin_event(&mut self, place: u64)
+        ensures { self.new ≡ with_trans self.old (after_event self.old.trans place) }
     {
-        self.trans.begin_event();
+        self.trans.begin_event(place);
     }
 
     /// The transaction that this event has refused. It is told once.

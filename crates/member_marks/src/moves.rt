@@ -37,21 +37,22 @@ use member_trans::Owner;
 // Local moves.
 impl Marks {
     /// Tries the lock at home, and enters the claim where the member's own claims cover it.
-    pub fn claim(&mut self, slot: u8, name: &Name, mode: Mode, event: u64) -> Trial
+    pub fn claim(&mut self, slot: u8, name: &Name, mode: Mode) -> Trial
         ensures told { result ≡ trial_of self.old slot name.now mode (had_memory result) }
-        ensures marks { self.new ≡ moved (Claim slot name.now mode event (had_memory result) self.new.locks.spare) self.old }
+        ensures marks { self.new ≡ moved (Claim slot name.now mode (had_memory result) self.new.locks.spare) self.old }
         ensures reaches { Reaches self.old self.new }
     {
-        self.try_claim(slot, name, mode, event)
+        self.try_claim(slot, name, mode)
     }
 
-    fn try_claim(&mut self, slot: u8, name: &Name, mode: Mode, event: u64) -> Trial
+    fn try_claim(&mut self, slot: u8, name: &Name, mode: Mode) -> Trial
         ensures told { result ≡ trial_of self.old slot name.now mode (had_memory result) }
-        ensures marks { self.new ≡ moved (Claim slot name.now mode event (had_memory result) self.new.locks.spare) self.old }
+        ensures marks { self.new ≡ moved (Claim slot name.now mode (had_memory result) self.new.locks.spare) self.old }
     {
         if !self.may_claim(slot, name) {
             return Trial::NotForward;
         }
+        let event = self.trans.place();
         match self.locks.ask(slot, name, mode) {
             Ask::Have => Trial::Have,
             Ask::Conflict { by } => self.offer_held(slot, name, by, event),
@@ -115,34 +116,36 @@ impl Marks {
     }
 
     /// The slot's transaction is rolled back as it asked for, if it goes forward.
-    pub fn abort(&mut self, slot: u8, event: u64) -> bool
+    pub fn abort(&mut self, slot: u8) -> bool
         ensures told { result ≡ may_refuse self.old.trans slot }
-        ensures marks { self.new ≡ moved (Abort slot event) self.old }
+        ensures marks { self.new ≡ moved (Abort slot) self.old }
         ensures reaches { Reaches self.old self.new }
     {
-        self.set_aborted(slot, event)
+        self.set_aborted(slot)
     }
 
-    fn set_aborted(&mut self, slot: u8, event: u64) -> bool
+    fn set_aborted(&mut self, slot: u8) -> bool
         ensures told { result ≡ may_refuse self.old.trans slot }
-        ensures marks { self.new ≡ moved (Abort slot event) self.old }
+        ensures marks { self.new ≡ moved (Abort slot) self.old }
     {
+        let event = self.trans.place();
         self.trans.refuse_for(slot, Refusal::Aborted, event)
     }
 
     /// The slot's transaction is refused for want of memory, if it goes forward.
-    pub fn refuse_for_memory(&mut self, slot: u8, event: u64) -> bool
+    pub fn refuse_for_memory(&mut self, slot: u8) -> bool
         ensures told { result ≡ may_refuse self.old.trans slot }
-        ensures marks { self.new ≡ moved (RefuseForMemory slot event) self.old }
+        ensures marks { self.new ≡ moved (RefuseForMemory slot) self.old }
         ensures reaches { Reaches self.old self.new }
     {
-        self.set_starved(slot, event)
+        self.set_starved(slot)
     }
 
-    fn set_starved(&mut self, slot: u8, event: u64) -> bool
+    fn set_starved(&mut self, slot: u8) -> bool
         ensures told { result ≡ may_refuse self.old.trans slot }
-        ensures marks { self.new ≡ moved (RefuseForMemory slot event) self.old }
+        ensures marks { self.new ≡ moved (RefuseForMemory slot) self.old }
     {
+        let event = self.trans.place();
         self.trans.refuse_for(slot, Refusal::Memory, event)
     }
 

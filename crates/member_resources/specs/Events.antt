@@ -187,7 +187,7 @@ pub record Happens (w : World) (h : Held) (i : Intent) (place : ℕ) (s : Sent) 
   pub after : Held
   pub lawful : asked_for w h place i ≡ Ok (record { sent = s; plan = plan })
   pub reserves : Reserves i h ready
-  pub runs : Runs w (begun ready) i s plan place a said v after
+  pub runs : Runs w (begun ready place) i s plan place a said v after
   pub ends : Ends after k
 
 -- The intent fails this test, and nothing is changed.
@@ -204,4 +204,4 @@ pub record IsNotExecutable (w : World) (h : Held) (i : Intent) (place : ℕ) (v 
   pub after : Held
   pub lawful : asked_for w h place i ≡ Ok (record { sent = sent; plan = plan })
   pub reserves : Reserves i h ready
-  pub stopped : IsStopped w (begun ready) sent v after
+  pub stopped : IsStopped w (begun ready place) sent v after

@@ -33,8 +33,8 @@ pub record IsNew (member : ℕ) (sizes : Sizes) (h : Held) : Type 0 where
   pub limit : h.limit ≡ sizes.pages
 
 -- a new event begins: nothing is decided, refused or answered in it yet
-abbrev pub begun : Held → Held
-begun h = with_marks h (with_trans h.marks (after_event h.marks.trans))
+abbrev pub begun : Held → ℕ → Held
+begun h place = with_marks h (with_trans h.marks (after_event h.marks.trans place))
 
 -- ---- room
 

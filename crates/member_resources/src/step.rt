@@ -197,10 +197,10 @@ impl Resources {
     }
 
     // A new event begins.
-    fn begin(&mut self)
-        ensures { self.new ≡ begun self.old }
+    fn begin(&mut self, place: u64)
+        ensures { self.new ≡ begun self.old place }
     {
-        self.marks.begin_event();
+        self.marks.begin_event(place);
     }
 
     // Lets the policy go on.
@@ -240,7 +240,7 @@ impl Resources {
     {
         let holder = self.cast_holder(facility);
         let Prepared { sent, plan } = self.prepare(alloc, intent, holder, place)?;
-        self.begin();
+        self.begin(place);
         let (told, answered) = self.run(alloc, facility, disk, intent, &sent, plan, place)?;
         let event = Event {
             place,

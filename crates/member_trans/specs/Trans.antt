@@ -36,6 +36,7 @@ pub record TransState : Type 0 where
   pub offer : Option Offer  -- the refusal that this event allows
   pub refused : Option Refused  -- the transaction that this event has refused
   pub answered : Option ℕ  -- the number of the decided transaction that has come to its end in this event
+  pub place : ℕ  -- of this event in the journal
 
 -- ---- one transaction
 
@@ -188,7 +189,7 @@ abbrev pub with_set_of : TransState → Owner → ℕ → TransState
 with_set_of s o set = with_tran_of s o (with_set (tran_of s o) set)
 
 abbrev pub no_trans : ℕ → TransState
-no_trans agents = record { slots = replicate (agents + 1) free_tran; rollbacks = []; room = agents; commits = []; decided = []; offer = None; refused = None; answered = None }
+no_trans agents = record { slots = replicate (agents + 1) free_tran; rollbacks = []; room = agents; commits = []; decided = []; offer = None; refused = None; answered = None; place = 0 }
 
 -- the transaction is decided; or it is undoing, none of its changes stands, and its Ended record, if there is one, stands in the log up to this number
 abbrev pub is_over_at : TranState → ℕ → Bool
@@ -334,8 +335,8 @@ rollback_id s at = option_map (λ (t : TranState). t.first) (slice_get s.rollbac
 
 -- as at the start, with the room that there is
 abbrev pub after_reset : TransState → TransState
-after_reset s = record { slots = replicate (length s.slots) free_tran; rollbacks = []; room = s.room + length s.rollbacks; commits = []; decided = []; offer = None; refused = None; answered = None }
+after_reset s = record { slots = replicate (length s.slots) free_tran; rollbacks = []; room = s.room + length s.rollbacks; commits = []; decided = []; offer = None; refused = None; answered = None; place = 0 }
 
 -- a new event
-abbrev pub after_event : TransState → TransState
-after_event s = record s { decided = []; offer = None; refused = None; answered = None }
+abbrev pub after_event : TransState → ℕ → TransState
+after_event s place = record s { decided = []; offer = None; refused = None; answered = None; place = place }

@@ -77,6 +77,7 @@ pub struct Trans {
     offer: Option<Offer>,
     refused: Option<Refused>,
     answered: Option<u32>,
+    place: u64,
     alloc: Global,
 }
 
@@ -86,7 +87,7 @@ impl Model for Trans {
 
     ghost Value = { TransState };
 
-    ghost view = { λ t. record { slots = t.slots.items; rollbacks = t.rollbacks.items; room = t.room; commits = t.commits; decided = t.decided; offer = t.offer; refused = t.refused; answered = t.answered } };
+    ghost view = { λ t. record { slots = t.slots.items; rollbacks = t.rollbacks.items; room = t.room; commits = t.commits; decided = t.decided; offer = t.offer; refused = t.refused; answered = t.answered; place = t.place } };
 
     ghost invariant = { λ t. vec_len t.rollbacks + t.room ≤ vec_capacity t.rollbacks };
 }
@@ -175,6 +176,7 @@ impl Trans {
             offer: None,
             refused: None,
             answered: None,
+            place: 0,
             alloc,
         })
     }
@@ -624,14 +626,22 @@ impl Trans {
         }
     }
 
-    /// A new event begins.
-    pub fn begin_event(&mut self)
-        ensures { self.new ≡ after_event self.old }
+    /// A new event begins, at this place of the journal.
+    pub fn begin_event(&mut self, place: u64)
+        ensures { self.new ≡ after_event self.old place }
     {
         self.decided = SlotList::new();
         self.offer = None;
         self.refused = None;
         self.answered = None;
+        self.place = place;
+    }
+
+    /// The place of this event in the journal.
+    pub fn place(&self) -> u64
+        ensures { result ≡ self.now.place }
+    {
+        self.place
     }
 
     /// The transaction that this event has refused. It is told once.
@@ -741,6 +751,7 @@ impl Trans {
         self.offer = None;
         self.refused = None;
         self.answered = None;
+        self.place = 0;
     }
 }
 

@@ -1,9 +1,10 @@
 -- Fates as callers see them.
-use Rattle.std.specs.Prelude.{◌≡◌, ℕ, ◌≤◌, ◌==◌, ◌&&◌, ◌⊎◌, Bool, true, false, List, [], ◌∷◌, ◌++◌, Option, Some, None, slice_index_or}
+use Rattle.std.specs.Prelude.{◌≡◌, ℕ, ◌≤◌, ◌==◌, ◌&&◌, ◌⊎◌, Bool, true, false, not, List, [], ◌∷◌, ◌++◌, Option, Some, None, slice_index_or}
 use Rattle.std.specs.List.{AllByRecursion, list_any}
 use Rattle.ds_model.specs.declared.fate.Fate.{Fate}
 use Rattle.ds_model.specs.declared.fate.Fate.TheVariants as fate
 use Rattle.ds_model.specs.declared.fate.Refusal.{Refusal}
+use Rattle.ds_model.specs.declared.fate.Refusal.TheVariants as refusal
 use Rattle.ds_model.specs.declared.history.Entry.{Entry}
 use Rattle.ds_model.specs.declared.script.Tran.{Tran}
 use Rattle.ds_model.specs.declared.script.Part.{Part}
@@ -30,9 +31,25 @@ waits_at {X} waiting i = is_there (slice_index_or waiting i None)
 abbrev pub is_marked : List Bool → ℕ → Bool
 is_marked marks i = slice_index_or marks i false
 
+-- a transaction that waits for locks isn't refused since another one holds one
+abbrev pub may_be_refused : Tran → Refusal → Bool
+may_be_refused tran (refusal.Held n by) = not tran.wait
+may_be_refused tran (refusal.Retained n by) = true
+may_be_refused tran (refusal.Deadlock cycle) = true
+may_be_refused tran (refusal.SpaceFull table pages) = true
+may_be_refused tran (refusal.RecordsFull most) = true
+may_be_refused tran (refusal.LrsnEnd at) = true
+may_be_refused tran refusal.Memory = true
+may_be_refused tran refusal.Aborted = true
+
+abbrev pub may_have : Tran → Fate → Bool
+may_have tran (fate.Committed answered reads) = true
+may_have tran (fate.Refused why) = may_be_refused tran why
+may_have tran fate.Stopped = true
+
 -- a transaction of this number, which had none, has this fate now
 abbrev pub Adds : List Entry → ℕ → Fate → List Entry → Type 0
-Adds old number its new = (1 ≤ number) × (has_number old number ≡ false) × ((e : Entry) × (e.tran.number ≡ number) × (e.fate ≡ its) × (new ≡ old ++ e ∷ []))
+Adds old number its new = (1 ≤ number) × (has_number old number ≡ false) × ((e : Entry) × (e.tran.number ≡ number) × (e.fate ≡ its) × (may_have e.tran its ≡ true) × (new ≡ old ++ e ∷ []))
 
 -- it was so; or nothing changed
 abbrev pub Ends : FatesState → ℕ → Fate → Bool → FatesState → Type 0
@@ -42,11 +59,10 @@ Ends old number its false new = new ≡ old
 abbrev pub Fixes : FatesState → ℕ → Fate → FatesState → Type 0
 Fixes old number its new = (new ≡ old) ⊎ (Adds old.entries number its new.entries × (new.causes ≡ old.causes))
 
--- and its cause stands last, if there was room
+-- and its cause stands last
 abbrev pub Refuses : FatesState → ℕ → Refusal → ℕ → FatesState → Type 0
 Refuses old number why place new =
-    (new ≡ old) ⊎ (Adds old.entries number (fate.Refused why) new.entries
-    × ((new.causes ≡ old.causes) ⊎ (new.causes ≡ old.causes ++ record { number = number; place = place } ∷ [])))
+    (new ≡ old) ⊎ (Adds old.entries number (fate.Refused why) new.entries × (new.causes ≡ old.causes ++ record { number = number; place = place } ∷ []))
 
 -- one of these transactions has this number
 abbrev pub has_tran : List Tran → ℕ → Bool

@@ -1,7 +1,7 @@
 ghost use Rattle.std.specs.Prelude.{◌≡◌, ◌≢◌, ◌<◌, ℕ, ◌⊎◌, true, false, length, IfOk, IsSome};
 ghost use Rattle.ds_model.specs.declared.fate.Fate.TheVariants as fate;
 ghost use Rattle.tran_history.specs.Histories.{after_answer};
-ghost use Rattle.script_fates.specs.Fated.{waits_at, is_marked, is_in_part, is_in_phase, Ends, Fixes, Refuses, Stops, StopsOnly, no_fates};
+ghost use Rattle.script_fates.specs.Fated.{waits_at, is_marked, may_be_refused, may_have, is_in_part, is_in_phase, Ends, Fixes, Refuses, Stops, StopsOnly, no_fates};
 
 use crate::copies::copy_tran;
 use ds_base::{MemberId, NoMemory};
@@ -83,6 +83,25 @@ fn mark(marks: &mut Vec<bool>, at: usize)
     }
 }
 
+fn may_be_refused(tran: &Tran, refusal: &Refusal) -> bool
+    ensures { result ≡ may_be_refused tran.now refusal.now }
+{
+    match refusal {
+        Refusal::Held { .. } => !tran.wait,
+        _ => true,
+    }
+}
+
+// Whether the transaction may have this fate.
+fn may_have(tran: &Tran, fate: &Fate) -> bool
+    ensures { result ≡ may_have tran.now fate.now }
+{
+    match fate {
+        Fate::Refused(refusal) => may_be_refused(tran, refusal),
+        _ => true,
+    }
+}
+
 impl Fates {
     /// No transaction of the script has a fate. Takes the memory for all of them.
     pub fn new(alloc: Global, script: &Script) -> Result<Fates, NoMemory>
@@ -110,7 +129,7 @@ impl Fates {
         let Some((member, tran)) = take_at(&mut self.waiting, at) else {
             return false;
         };
-        if tran.number != number || number > self.history.room() {
+        if tran.number != number || number > self.history.room() || !may_have(&tran, &fate) {
             return false;
         }
         if self.history.len() >= self.history.room() as usize {
@@ -143,11 +162,15 @@ impl Fates {
         }
     }
 
-    /// The transaction is refused by a cause that held at this event.
+    /// The transaction is refused by a cause that held at this event. A transaction that waits for locks isn't refused
+    /// since another one holds one: it has no fate then.
     pub fn refuse(&mut self, number: u32, refusal: Refusal, place: u64)
         ensures { Refuses self.old number refusal place self.new }
     {
-        if self.end(number, Fate::Refused(refusal)) && self.causes.len() < self.causes.capacity() {
+        if self.causes.len() >= self.causes.capacity() {
+            return;
+        }
+        if self.end(number, Fate::Refused(refusal)) {
             self.causes.push_reserved(Cause { number, place });
         }
     }

@@ -44,7 +44,7 @@ returns-clause-comes g c =
       entries = played.entries.items;
       leads = led directory_of g.D.Disk.alive g.D.Disk.contents g.D.Disk.faults c.args.script.now c.args.group last c.args.seed e account played begins ran
           (subst (λ r. IfOk r (λ end. Ends end last)) is c.play_to_end-group.ensures.ends)
-          c.settle-account.ensures.account (ap items closed.journal) (ap items closed.faults) closed.causes closed.entries closed.fault;
+          c.settle-account.ensures.account (ap items closed.journal) (ap items closed.faults) closed.causes closed.entries closed.fault c.causes_held.ensures c.answers_given.ensures;
       settles = c.settle-account.ensures.settles begun e (omega (arith, goes.later, closed.later)) (λ why. elim why [
         | inl failed ↦ still _ _ _ (rose (inl (subst (λ (v : Vec ℕ Global). HasFailed v.items) closed.faults failed))) closed.later
         | inr other ↦ elim other [

@@ -15,6 +15,6 @@ returns-clause-rebuilds g c =
     ap (λ part. part.resources) c.let_go.ensures.rest ∙ (ap (λ part. part.resources) c.make.ensures.rest ∙ ap (λ part. part.resources) c.begin.ensures.rest) in
     let is : member_of c.tell.new.part ≡ record (member_of c.args.part.now) { holds = c.tell.new.part.resources; rebuild = c.let_go.new.part.rebuild } =
     ap (member_of {P = g.row.P.Denot}) c.tell.ensures.rest ∙ (λ i. record { id = id i; holds = c.tell.new.part.resources; restart = restart i; rebuild = c.let_go.new.part.rebuild }) in
-    rebuild_goes_on (member_of c.args.part.now) (member_of c.begin.new.part) (world_of g.C.CacheFace.directory g.D.Disk.alive g.D.Disk.contents c.args.facility.now c.args.disk.now) c.in_ok-sent.sent c.in_ok-sent.answered u v
+    rebuild_goes_on (member_of c.args.part.now) (member_of c.begin.new.part) (world_of g.C.CacheFace.directory g.D.Disk.alive g.D.Disk.contents c.args.facility.now c.args.disk.now) c.args.place c.in_ok-sent.sent c.in_ok-sent.answered u v
     c.make.new.part.rebuild c.let_go.new.part.rebuild c.let_go.new.part.resources c.tell.new.part.resources (member_of c.tell.new.part) c.in_ok-begin.ensures.begun c.in_ok-sent.ensures.makes
     c.let_go.ensures.goes holds c.in_ok-tell.ensures.tells is c.in_ok-tell.ensures.world (sym c.is_failure.ensures ∙ c.if-is_failure.false)

@@ -7,7 +7,7 @@ use Rattle.group_member.proofs.restart_step.step_restart.Goals as goal
 
 pub returns-then-is_failure-clause-restarts : goal.returns-then-is_failure-clause-restarts
 returns-then-is_failure-clause-restarts g c =
-    restart_broken (member_of c.args.part.now) (world_of g.C.CacheFace.directory g.D.Disk.alive g.D.Disk.contents c.args.facility.now c.args.disk.now) c.in_ok-sent.sent c.in_ok-sent.answered
+    restart_broken (member_of c.args.part.now) (world_of g.C.CacheFace.directory g.D.Disk.alive g.D.Disk.contents c.args.facility.now c.args.disk.now) c.args.place c.in_ok-sent.sent c.in_ok-sent.answered
     (world_of g.C.CacheFace.directory g.D.Disk.alive g.D.Disk.contents c.make.new.facility c.make.new.disk) (member_of c.make.new.part) c.in_ok-sent.ensures.makes
     (ap (member_of {P = g.row.P.Denot}) c.make.ensures.rest) (sym c.is_failure.ensures ∙ c.if-is_failure.true)
 
@@ -25,6 +25,6 @@ returns-clause-restarts g c =
     let rebuild : c.go_on.new.part.rebuild ≡ c.args.part.now.rebuild = ap (λ part. part.rebuild) c.go_on.ensures.rest ∙ ap (λ part. part.rebuild) c.make.ensures.rest in
     let is : member_of c.tell.new.part ≡ record (member_of c.args.part.now) { holds = c.tell.new.part.resources; restart = c.go_on.new.part.restart } =
     ap (member_of {P = g.row.P.Denot}) c.tell.ensures.rest ∙ (λ i. record { id = id i; holds = c.tell.new.part.resources; restart = c.go_on.new.part.restart; rebuild = rebuild i }) in
-    restart_goes_on (member_of c.args.part.now) (world_of g.C.CacheFace.directory g.D.Disk.alive g.D.Disk.contents c.args.facility.now c.args.disk.now) c.in_ok-sent.sent c.in_ok-sent.answered u v
+    restart_goes_on (member_of c.args.part.now) (world_of g.C.CacheFace.directory g.D.Disk.alive g.D.Disk.contents c.args.facility.now c.args.disk.now) c.args.place c.in_ok-sent.sent c.in_ok-sent.answered u v
     c.make.new.part.restart c.go_on.new.part.restart c.make.new.part.resources c.go_on.new.part.resources c.tell.new.part.resources (member_of c.tell.new.part) c.in_ok-sent.ensures.makes
     (ap (λ part. part.resources) c.make.ensures.rest) c.in_ok-go_on.ensures.goes c.in_ok-tell.ensures.tells is c.in_ok-tell.ensures.world (sym c.is_failure.ensures ∙ c.if-is_failure.false)

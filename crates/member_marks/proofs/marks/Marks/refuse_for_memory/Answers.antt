@@ -2,4 +2,4 @@ use Rattle.member_marks.specs.Local.{RefuseForMemory, by_one}
 use Rattle.member_marks.proofs.marks.Marks.refuse_for_memory.Goals as goal
 
 pub returns-clause-reaches : goal.returns-clause-reaches
-returns-clause-reaches c = by_one _ _ (RefuseForMemory c.args.slot c.args.event) c.set_starved.ensures.marks
+returns-clause-reaches c = by_one _ _ (RefuseForMemory c.args.slot) c.set_starved.ensures.marks
