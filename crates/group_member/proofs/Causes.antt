@@ -1,5 +1,6 @@
 -- Why an event is refused, by what refused it, and what a call of the disk that failed leaves as it was.
 use Rattle.std.proofs.Common.{◌≡◌, ℕ, true, false, Option, Some, None, Result, Ok, Err, IsErrAnd, IsSomeAnd, inl, inr, subst}
+use Rattle.list_structure.specs.Standings.{status_of, is_live}
 use Rattle.member_intents.specs.declared.intent.Intent.{Intent}
 use Rattle.member_intents.specs.declared.outcome.Answered.{Answered}
 use Rattle.member_intents.specs.declared.outcome.Answered.TheVariants as answers
@@ -40,7 +41,8 @@ use Rattle.group_member.specs.Faults.{rebuild_fault, restart_fault, step_fault}
 use Rattle.group_member.specs.Happening.{IsInHand, Makes, RestartMakes, as_rebuilding, as_restarting}
 use Rattle.group_member.specs.Members.{Member}
 use Rattle.group_member.specs.Queries.{answers_held}
-use Rattle.group_member.specs.Refusing.{Own, Restart, Rebuild, Adoption, IsRefused, OwnIsRefused, RestartIsRefused, RestartStepIsRefused, RebuildIsRefused}
+use Rattle.group_member.specs.Refusing.{Own, Restart, Rebuild, Adoption, Purge, Begin, Standing, IsRefused, OwnIsRefused, RestartIsRefused, RestartStepIsRefused, RebuildIsRefused}
+use Rattle.group_member.specs.Resting.{RestsIdle, frees_claimed}
 use Rattle.group_member.specs.Restarting.{LeftIsRefused, OpenIsRefused}
 use Rattle.group_member.specs.Stepping.{has_failed}
 
@@ -85,7 +87,13 @@ pub adoption_refused : (m : Member) (w : World) (sent : RestartSent) (answered :
     → RestartStepIsRefused m w v
 adoption_refused m w sent answered v None h makes same left = absurd makes
 adoption_refused m w sent answered v (Some q) h makes same left =
-    inr (record { sent = sent; answered = answered; reached = q; makes = makes; left = subst (λ (k : Held). LeftIsRefused q k) same left })
+    inr (inl (record { sent = sent; answered = answered; reached = q; makes = makes; left = subst (λ (k : Held). LeftIsRefused q k) same left }))
+
+-- a record was freed whose name the member claims
+pub purge_refused : (m : Member) (w : World) (sent : RestartSent) (answered : Answered) (v : World) (r : Option Restarting) → IsSomeAnd r (RestartMakes m w sent answered v) → frees_claimed m.holds.marks sent ≡ true
+    → RestartStepIsRefused m w v
+purge_refused m w sent answered v None makes claimed = absurd makes
+purge_refused m w sent answered v (Some q) makes claimed = inr (inr (record { sent = sent; answered = answered; reached = q; makes = makes; claimed = claimed }))
 
 -- ---- the cause of the whole event
 
@@ -94,10 +102,17 @@ by_own m w place v it = record { cause = Own; because = it }
 
 pub by_restart : (m : Member) (w : World) (place : ℕ) (v : World) → RestartStepIsRefused m w v → IsRefused m w place v
 by_restart m w place v (inl it) = record { cause = Restart; because = it }
-by_restart m w place v (inr it) = record { cause = Adoption; because = it }
+by_restart m w place v (inr (inl it)) = record { cause = Adoption; because = it }
+by_restart m w place v (inr (inr it)) = record { cause = Purge; because = it }
 
 pub by_rebuild : (m : Member) (w : World) (place : ℕ) (v : World) → RebuildIsRefused m w v → IsRefused m w place v
 by_rebuild m w place v it = record { cause = Rebuild; because = it }
+
+pub by_begin : (m : Member) (w : World) (place : ℕ) (v : World) (stepped : Stepped) (mid : Member) → Makes m w place stepped v mid → ¬ RestsIdle mid → IsRefused m w place v
+by_begin m w place v stepped mid makes begun = record { cause = Begin; because = record { stepped = stepped; mid = mid; makes = makes; begun = begun } }
+
+pub by_standing : (m : Member) (w : World) (place : ℕ) (v : World) → is_live (status_of w.facility.lists.statuses m.id) ≡ false → IsRefused m w place v
+by_standing m w place v down = record { cause = Standing; because = down }
 
 -- ---- a call of the disk that failed
 

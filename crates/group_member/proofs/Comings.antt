@@ -5,6 +5,7 @@ use Rattle.ds_model.specs.declared.script.Script.{Script}
 use Rattle.facility.specs.States as facility
 use Rattle.facility.specs.States.{MemberFailed}
 use Rattle.list_structure.specs.Bells.{CanRing}
+use Rattle.list_structure.specs.Standings.{status_of, is_live}
 use Rattle.member_resources.specs.Events.{World}
 use Rattle.script_fates.specs.Fated.{FatesState, StopsOnly}
 use Rattle.group_member.specs.declared.stepped.Stepped.{Stepped}
@@ -14,6 +15,7 @@ use Rattle.group_member.specs.Failing.{is_in_hand}
 use Rattle.group_member.specs.Happening.{Comes, Makes}
 use Rattle.group_member.specs.Members.{Member, IsDown}
 use Rattle.group_member.specs.Refusing.{Bells, IsRefused}
+use Rattle.group_member.specs.Resting.{RestsIdle}
 use Rattle.group_member.specs.Stepping.{has_failed, is_fail, is_of, is_over, kind_for}
 use Rattle.group_member.proofs.Causes.{failed_kept}
 
@@ -33,14 +35,15 @@ never : (b : Bool) → b ≡ false → b ≡ true → ⊥
 never b isnt is = cc
 
 answered : (script : Script) (begun : ℕ) (sizes : Sizes) (choice : ℕ) (m : Member) (w : World) (f : FatesState) (place : ℕ) (stepped : Stepped) (mid n : Member) (u v : World) (g : FatesState)
-    → Makes m w place stepped u mid → is_of (kind_for choice (is_some m.restart)) stepped ≡ true → has_failed stepped ≡ false
+    → is_live (status_of w.facility.lists.statuses m.id) ≡ true → Makes m w place stepped u mid → RestsIdle mid → is_of (kind_for choice (is_some m.restart)) stepped ≡ true → has_failed stepped ≡ false
     → Enters mid f n g → v.facility ≡ u.facility → v.drive ≡ u.drive → Comes script begun sizes choice m w f place stepped n v g
-answered script begun sizes choice m w f place stepped mid n u v g makes kind whole enters kept drives =
+answered script begun sizes choice m w f place stepped mid n u v g live makes idle kind whole enters kept drives =
     let whole_too : is_fail stepped ≡ false = no_fail m w place stepped u mid makes in
     let alive : is_over stepped ≡ false = or_false (has_failed stepped) (is_fail stepped) whole whole_too in
     let same : u ≡ v = λ i. record { facility = sym kept i; drive = sym drives i } in record {
+      live = live;
       kind = λ _. kind;
-      steps = λ _. record { mid = mid; makes = subst (λ (x : World). Makes m w place stepped x mid) same makes; enters = enters };
+      steps = λ _. record { mid = mid; makes = subst (λ (x : World). Makes m w place stepped x mid) same makes; idle = idle; enters = enters };
       breaks = λ so. absurd (never (has_failed stepped) whole so);
       silent = λ so. absurd (never (is_fail stepped) whole_too so);
       fails = λ so. absurd (never (is_over stepped) alive so);
@@ -53,15 +56,16 @@ or_true true b p = refl
 or_true false b p = absurd cc
 
 broken : (script : Script) (begun : ℕ) (sizes : Sizes) (choice : ℕ) (m : Member) (w : World) (f : FatesState) (place : ℕ) (stepped : Stepped) (mid n : Member) (u v : World) (g : FatesState)
-    → Makes m w place stepped u mid → is_of (kind_for choice (is_some m.restart)) stepped ≡ true → has_failed stepped ≡ true → v.drive ≡ u.drive → mid.id ≡ m.id
+    → is_live (status_of w.facility.lists.statuses m.id) ≡ true → Makes m w place stepped u mid → is_of (kind_for choice (is_some m.restart)) stepped ≡ true → has_failed stepped ≡ true → v.drive ≡ u.drive → mid.id ≡ m.id
     → MemberFailed u.facility mid.id v.facility → IsDown sizes n → StopsOnly (is_in_hand script begun mid.id) f g → Comes script begun sizes choice m w f place stepped n v g
-broken script begun sizes choice m w f place stepped mid n u v g makes kind failed drives id fails down stops =
+broken script begun sizes choice m w f place stepped mid n u v g live makes kind failed drives id fails down stops =
     let whole_too : is_fail stepped ≡ false = no_fail m w place stepped u mid makes in
     let over : is_over stepped ≡ true = or_true (has_failed stepped) (is_fail stepped) failed in
     let kept : u.facility ≡ w.facility = failed_kept m w place stepped u mid makes failed in
     let to : World = record v { facility = w.facility } in
     let same : u ≡ to = λ i. record { facility = kept i; drive = sym drives i } in
     let fell : MemberFailed w.facility mid.id v.facility = subst (λ (x : facility.Held). MemberFailed x mid.id v.facility) kept fails in record {
+      live = live;
       kind = λ _. kind;
       steps = λ so. absurd (never (is_over stepped) so over);
       breaks = λ _. record { mid = mid; makes = subst (λ (x : World). Makes m w place stepped x mid) same makes };
@@ -72,20 +76,21 @@ broken script begun sizes choice m w f place stepped mid n u v g makes kind fail
     }
 
 pub comes : (b : Bool) (script : Script) (begun : ℕ) (sizes : Sizes) (choice : ℕ) (m : Member) (w : World) (f : FatesState) (place : ℕ) (stepped : Stepped) (mid n : Member) (u v : World) (g : FatesState)
-    → has_failed stepped ≡ b → Makes m w place stepped u mid → is_of (kind_for choice (is_some m.restart)) stepped ≡ true → v.drive ≡ u.drive → mid.id ≡ m.id
+    → is_live (status_of w.facility.lists.statuses m.id) ≡ true → has_failed stepped ≡ b → Makes m w place stepped u mid → RestsIdle mid → is_of (kind_for choice (is_some m.restart)) stepped ≡ true → v.drive ≡ u.drive → mid.id ≡ m.id
     → (has_failed stepped ≡ false → Enters mid f n g) → (has_failed stepped ≡ false → v.facility ≡ u.facility)
     → (has_failed stepped ≡ true → MemberFailed u.facility mid.id v.facility) → (has_failed stepped ≡ true → IsDown sizes n)
     → (has_failed stepped ≡ true → StopsOnly (is_in_hand script begun mid.id) f g) → Comes script begun sizes choice m w f place stepped n v g
-comes false script begun sizes choice m w f place stepped mid n u v g is makes kind drives id enters stays fails down stops =
-    answered script begun sizes choice m w f place stepped mid n u v g makes kind is (enters is) (stays is) drives
-comes true script begun sizes choice m w f place stepped mid n u v g is makes kind drives id enters stays fails down stops =
-    broken script begun sizes choice m w f place stepped mid n u v g makes kind is drives id (fails is) (down is) (stops is)
+comes false script begun sizes choice m w f place stepped mid n u v g live is makes idle kind drives id enters stays fails down stops =
+    answered script begun sizes choice m w f place stepped mid n u v g live makes idle kind is (enters is) (stays is) drives
+comes true script begun sizes choice m w f place stepped mid n u v g live is makes idle kind drives id enters stays fails down stops =
+    broken script begun sizes choice m w f place stepped mid n u v g live makes kind is drives id (fails is) (down is) (stops is)
 
 -- ---- the member fails in place of its event
 
 pub comes_down : (script : Script) (begun : ℕ) (sizes : Sizes) (choice : ℕ) (m : Member) (w : World) (f : FatesState) (place : ℕ) (n : Member) (v : World) (g : FatesState)
-    → v.drive ≡ w.drive → MemberFailed w.facility m.id v.facility → IsDown sizes n → StopsOnly (is_in_hand script begun m.id) f g → Comes script begun sizes choice m w f place steps.Failed n v g
-comes_down script begun sizes choice m w f place n v g drives fails down stops = record {
+    → is_live (status_of w.facility.lists.statuses m.id) ≡ true → v.drive ≡ w.drive → MemberFailed w.facility m.id v.facility → IsDown sizes n → StopsOnly (is_in_hand script begun m.id) f g → Comes script begun sizes choice m w f place steps.Failed n v g
+comes_down script begun sizes choice m w f place n v g live drives fails down stops = record {
+  live = live;
   kind = λ so. absurd cc;
   steps = λ so. absurd cc;
   breaks = λ so. absurd cc;

@@ -12,6 +12,7 @@ use Rattle.group_member.specs.declared.rebuilding.Rebuilding.{Rebuilding}
 use Rattle.group_member.specs.declared.restarting.Restarting.{Restarting}
 use Rattle.group_member.specs.Happening.{AdoptsLeft, GoesOn, IsInHand, RebuildEnds, RebuildMakes, Rebuilds, RestartEnds, RestartMakes, Restarts, Takes, Tells}
 use Rattle.group_member.specs.Members.{Member}
+use Rattle.group_member.specs.Resting.{frees_claimed}
 use Rattle.group_member.specs.Restarting.{GoesOnFrom, HandsOverFrom, TakesFrom}
 use Rattle.group_member.specs.Stepping.{is_failure}
 
@@ -24,26 +25,28 @@ takes_open (Ok left) q h told after = inr (told, ap (λ (k : held.Held). record 
 
 -- ---- the event of a restart
 
-broken_at : (m : Member) (w : World) (place : ℕ) (sent : RestartSent) (answered : Answered) (v : World) (n : Member) (r : Option Restarting) → n.restart ≡ r → IsSomeAnd r (RestartMakes m w sent answered v)
+broken_at : (m : Member) (w : World) (place : ℕ) (sent : RestartSent) (answered : Answered) (v : World) (n : Member) (r : Option Restarting) → frees_claimed m.holds.marks sent ≡ false → n.restart ≡ r → IsSomeAnd r (RestartMakes m w sent answered v)
     → n ≡ record m { restart = n.restart } → is_failure answered ≡ true → Restarts m w place sent answered v n
-broken_at m w place sent answered v n None is makes same fails = absurd makes
-broken_at m w place sent answered v n (Some q) is makes same fails = record {
+broken_at m w place sent answered v n None keeps is makes same fails = absurd makes
+broken_at m w place sent answered v n (Some q) keeps is makes same fails = record {
+  keeps = keeps;
   reached = q;
   makes = makes;
   ends = subst (λ (b : Bool). RestartEnds b q m place n) (sym fails) (same ∙ ap (λ (r : Option Restarting). record m { restart = r }) is);
 }
 
-pub restart_broken : (m : Member) (w : World) (place : ℕ) (sent : RestartSent) (answered : Answered) (v : World) (n : Member) → IsSomeAnd n.restart (RestartMakes m w sent answered v)
+pub restart_broken : (m : Member) (w : World) (place : ℕ) (sent : RestartSent) (answered : Answered) (v : World) (n : Member) → frees_claimed m.holds.marks sent ≡ false → IsSomeAnd n.restart (RestartMakes m w sent answered v)
     → n ≡ record m { restart = n.restart } → is_failure answered ≡ true → Restarts m w place sent answered v n
-restart_broken m w place sent answered v n makes same fails = broken_at m w place sent answered v n n.restart refl makes same fails
+restart_broken m w place sent answered v n keeps makes same fails = broken_at m w place sent answered v n n.restart keeps refl makes same fails
 
 pub restart_goes_on : (m : Member) (w : World) (place : ℕ) (sent : RestartSent) (answered : Answered) (u v : World) (r s : Option Restarting) (h left after : Held) (n : Member)
-    → IsSomeAnd r (RestartMakes m w sent answered u) → h ≡ m.holds → GoesOnFrom r h s left → Tells left place after → n ≡ record m { holds = after; restart = s } → v ≡ u → is_failure answered ≡ false
+    → frees_claimed m.holds.marks sent ≡ false → IsSomeAnd r (RestartMakes m w sent answered u) → h ≡ m.holds → GoesOnFrom r h s left → Tells left place after → n ≡ record m { holds = after; restart = s } → v ≡ u → is_failure answered ≡ false
     → Restarts m w place sent answered v n
-restart_goes_on m w place sent answered u v None s h left after n makes same goes tells n_is v_is whole = absurd makes
-restart_goes_on m w place sent answered u v (Some q) s h left after n makes same goes tells n_is v_is whole =
+restart_goes_on m w place sent answered u v None s h left after n keeps makes same goes tells n_is v_is whole = absurd makes
+restart_goes_on m w place sent answered u v (Some q) s h left after n keeps makes same goes tells n_is v_is whole =
     let restart : s ≡ n.restart = sym (ap (λ (k : Member). k.restart) n_is) in
     let from : GoesOn q.resources.marks.is_up q m.holds s left = subst (λ (k : Held). GoesOn q.resources.marks.is_up q k s left) same goes in record {
+      keeps = keeps;
       reached = q;
       makes = subst (λ (x : World). RestartMakes m w sent answered x q) (sym v_is) makes;
       ends = subst (λ (b : Bool). RestartEnds b q m place n) (sym whole) (record {

@@ -3,6 +3,7 @@ use Rattle.std.specs.Prelude.{◌≡◌, ◌⊎◌, ℕ, Bool, true, false, Opti
 use Rattle.ds_base.specs.declared.names.Sizes.{Sizes}
 use Rattle.ds_model.specs.declared.script.Script.{Script}
 use Rattle.facility.specs.States.{MemberFailed}
+use Rattle.list_structure.specs.Standings.{status_of, is_live}
 use Rattle.member_intents.specs.declared.intent.Intent.{Intent}
 use Rattle.member_intents.specs.declared.outcome.Answered.{Answered}
 use Rattle.member_intents.specs.declared.outcome.Sent.{Sent}
@@ -26,6 +27,7 @@ use Rattle.group_member.specs.Entering.{Enters}
 use Rattle.group_member.specs.Failing.{is_in_hand}
 use Rattle.group_member.specs.Members.{Member, IsDown}
 use Rattle.group_member.specs.Queries.{answers_held}
+use Rattle.group_member.specs.Resting.{RestsIdle, changes_locks, frees_claimed}
 use Rattle.group_member.specs.Stepping.{has_failed, is_fail, is_failure, is_of, is_over, kind_for}
 
 -- the facility and the disk, as a restart and a rebuild see them
@@ -37,11 +39,13 @@ as_rebuilding w = record { facility = w.facility; drive = record { alive = w.dri
 
 -- ---- the member's own event
 
--- an intent of the member was lawful, went out and was settled, and answers no query about a page whose lock its restart has
+-- an intent of the member was lawful, went out and was settled; it answers no query about a page whose lock its restart has, and changes no locks
+-- while that is in hand
 pub record Acts (m : Member) (w : World) (place : ℕ) (sent : Sent) (answered : Answered) (v : World) (n : Member) : Type 0 where
   pub intent : Intent
   pub after : Held
   pub keeps : answers_held m.restart intent ≡ false
+  pub rests : is_some m.restart ≡ true → changes_locks intent ≡ false
   pub happens : Happens w m.holds intent place sent answered v after
   pub member : n ≡ record m { holds = after }
 
@@ -94,7 +98,9 @@ pub record RestartMakes (m : Member) (w : World) (sent : RestartSent) (answered 
   pub had : m.restart ≡ Some before
   pub happens : restarting.Happens (as_restarting w) before.resources sent answered (as_restarting v) q.resources
 
+-- it frees no record whose name the member claims
 pub record Restarts (m : Member) (w : World) (place : ℕ) (sent : RestartSent) (answered : Answered) (v : World) (n : Member) : Type 0 where
+  pub keeps : frees_claimed m.holds.marks sent ≡ false
   pub reached : Restarting
   pub makes : RestartMakes m w sent answered v reached
   pub ends : RestartEnds (is_failure answered) reached m place n
@@ -137,10 +143,11 @@ Makes m w place (steps.Restart sent answered) v n = Restarts m w place sent answ
 Makes m w place (steps.Rebuild sent answered) v n = Rebuilds m w place sent answered v n
 Makes m w place steps.Failed v n = ⊥
 
--- the event was made and answered, and the fates of its transactions are entered
+-- The event was made and answered, and the fates of its transactions are entered. While a restart is in hand no slot has a transaction.
 pub record Steps (m : Member) (w : World) (f : FatesState) (place : ℕ) (stepped : Stepped) (n : Member) (v : World) (g : FatesState) : Type 0 where
   pub mid : Member
   pub makes : Makes m w place stepped v mid
+  pub idle : RestsIdle mid
   pub enters : Enters mid f n g
 
 -- a call of the disk was made in the event, and has failed
@@ -148,9 +155,10 @@ pub record Breaks (m : Member) (w : World) (place : ℕ) (stepped : Stepped) (v 
   pub mid : Member
   pub makes : Makes m w place stepped v mid
 
--- ---- all that an event comes to, in a phase of a script, where the group has these sizes
+-- ---- all that an event of a live member comes to, in a phase of a script, where the group has these sizes
 
 pub record Comes (script : Script) (begun : ℕ) (sizes : Sizes) (choice : ℕ) (m : Member) (w : World) (f : FatesState) (place : ℕ) (stepped : Stepped) (n : Member) (v : World) (g : FatesState) : Type 0 where
+  pub live : is_live (status_of w.facility.lists.statuses m.id) ≡ true
   pub kind : is_fail stepped ≡ false → is_of (kind_for choice (is_some m.restart)) stepped ≡ true
   pub steps : is_over stepped ≡ false → Steps m w f place stepped n v g
   pub breaks : has_failed stepped ≡ true → Breaks m w place stepped (record v { facility = w.facility })  -- the call changed nothing of the facility

@@ -1,6 +1,7 @@
 pub mod Faults
 pub mod Stepping
 pub mod Queries
+pub mod Resting
 pub mod Adopting
 pub mod Members
 pub mod Entering

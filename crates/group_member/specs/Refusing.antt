@@ -1,6 +1,7 @@
 -- Why an event of a member is refused.
-use Rattle.std.specs.Prelude.{◌≡◌, ◌⊎◌, ℕ, false, Option, Some, None}
+use Rattle.std.specs.Prelude.{◌≡◌, ◌⊎◌, ℕ, true, false, Option, Some, None}
 use Rattle.list_structure.specs.Bells.{CanRing}
+use Rattle.list_structure.specs.Standings.{status_of, is_live}
 use Rattle.member_intents.specs.declared.intent.Intent.{Intent}
 use Rattle.member_intents.specs.declared.outcome.Answered.{Answered}
 use Rattle.member_intents.specs.declared.test.Test.{Test}
@@ -15,9 +16,11 @@ use Rattle.restart_resources.specs.Events as restarting
 use Rattle.restart_resources.specs.Held as held
 use Rattle.group_member.specs.declared.rebuilding.Rebuilding.{Rebuilding}
 use Rattle.group_member.specs.declared.restarting.Restarting.{Restarting}
-use Rattle.group_member.specs.Happening.{IsInHand, RestartMakes, as_rebuilding, as_restarting}
+use Rattle.group_member.specs.declared.stepped.Stepped.{Stepped}
+use Rattle.group_member.specs.Happening.{IsInHand, Makes, RestartMakes, as_rebuilding, as_restarting}
 use Rattle.group_member.specs.Members.{Member}
 use Rattle.group_member.specs.Queries.{answers_held}
+use Rattle.group_member.specs.Resting.{RestsIdle, frees_claimed}
 use Rattle.group_member.specs.Restarting.{LeftIsRefused}
 
 -- an intent of the member, which answers no query about a page whose lock its restart has, failed a named test, or the facility's
@@ -49,23 +52,44 @@ pub record AdoptionIsRefused (m : Member) (w v : World) : Type 0 where
   pub makes : RestartMakes m w sent answered v reached
   pub left : LeftIsRefused reached m.holds
 
+-- it has freed a record whose name the member claims
+pub record PurgeIsRefused (m : Member) (w v : World) : Type 0 where
+  pub sent : RestartSent
+  pub answered : Answered
+  pub reached : Restarting
+  pub makes : RestartMakes m w sent answered v reached
+  pub claimed : frees_claimed m.holds.marks sent ≡ true
+
 -- an event of the restart in hand, or what follows it
 abbrev pub RestartStepIsRefused : Member → World → World → Type 0
-RestartStepIsRefused m w v = RestartIsRefused m w v ⊎ AdoptionIsRefused m w v
+RestartStepIsRefused m w v = RestartIsRefused m w v ⊎ (AdoptionIsRefused m w v ⊎ PurgeIsRefused m w v)
+
+-- the member has made its event, and a slot has a transaction while its restart is in hand
+pub record BeginIsRefused (m : Member) (w : World) (place : ℕ) (v : World) : Type 0 where
+  pub stepped : Stepped
+  pub mid : Member
+  pub makes : Makes m w place stepped v mid
+  pub begun : ¬ RestsIdle mid
 
 pub data Cause : Type 0 where
   Own : Cause
   Restart : Cause
   Rebuild : Cause
   Adoption : Cause
+  Purge : Cause
+  Begin : Cause
+  Standing : Cause
   Bells : Cause
 
--- where the member fails, the bells are at their end
+-- it isn't live; and where it fails, the bells are at their end
 abbrev pub IsBecause : Cause → Member → World → ℕ → World → Type 0
 IsBecause Own m w place v = OwnIsRefused m w place v
 IsBecause Restart m w place v = RestartIsRefused m w v
 IsBecause Rebuild m w place v = RebuildIsRefused m w v
 IsBecause Adoption m w place v = AdoptionIsRefused m w v
+IsBecause Purge m w place v = PurgeIsRefused m w v
+IsBecause Begin m w place v = BeginIsRefused m w place v
+IsBecause Standing m w place v = is_live (status_of w.facility.lists.statuses m.id) ≡ false
 IsBecause Bells m w place v = ¬ CanRing w.facility.lists.bells
 
 -- the event of the member is refused, for one of these causes

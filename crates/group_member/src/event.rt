@@ -12,6 +12,7 @@ ghost use Rattle.group_member.specs.Failing.{is_in_hand};
 ghost use Rattle.group_member.specs.Happening.{Comes, Makes};
 ghost use Rattle.group_member.specs.Members.{IsDown, member_of};
 ghost use Rattle.group_member.specs.Refusing.{IsRefused};
+ghost use Rattle.group_member.specs.Resting.{RestsIdle};
 ghost use Rattle.group_member.specs.Stepping.{has_failed, is_of, kind_for};
 
 use crate::failure::fail_one;
@@ -60,6 +61,30 @@ fn make<C: CacheFace, D: Disk, P: Policy>(
     }
 }
 
+// The same, behind which no slot has a transaction while the member's restart is in hand.
+fn make_idly<C: CacheFace, D: Disk, P: Policy>(
+    alloc: Global,
+    part: &mut MemberPart<P>,
+    facility: &mut Facility<C>,
+    disk: &mut D,
+    choice: u64,
+    place: u64,
+) -> Result<Stepped, EventFault>
+    ensures makes { IfOk result (λ stepped. Makes (member_of part.old) (world_of C.directory D.alive D.contents facility.old disk.old) place stepped (world_of C.directory D.alive D.contents facility.new disk.new) (member_of part.new)) }
+    ensures idle { OnOk result (RestsIdle (member_of part.new)) }
+    ensures kind { IfOk result (λ stepped. is_of (kind_for choice (is_some part.old.restart)) stepped ≡ true) }
+    ensures unlawful { result ≡ Err faults.Unlawful → IsRefused (member_of part.old) (world_of C.directory D.alive D.contents facility.old disk.old) place (world_of C.directory D.alive D.contents facility.new disk.new) }
+    ensures rest { part.new ≡ record part.old { resources = part.new.resources; policy = part.new.policy; restart = part.new.restart; rebuild = part.new.rebuild } }
+    ensures later { D.faults disk.old ≤ D.faults disk.new }
+    ensures failed { IfOk result (λ stepped. has_failed stepped ≡ true → Rose (D.faults disk.old) (D.faults disk.new)) }
+{
+    let stepped = make(alloc, part, facility, disk, choice, place)?;
+    if part.has_begun() {
+        return Err(EventFault::Unlawful);
+    }
+    Ok(stepped)
+}
+
 // Enters what the event has made of the member's transactions; but where a call of the disk has failed in it, the member fails.
 fn settle<C: CacheFace, P: Policy>(
     alloc: Global,
@@ -88,7 +113,7 @@ fn settle<C: CacheFace, P: Policy>(
     Ok(())
 }
 
-/// One event of a member, by its choice and its number: its failure, where that is due; else that of its restart or its
+/// One event of a live member, by its choice and its number: its failure, where that is due; else that of its restart or its
 /// rebuild, or its own, and what it makes of the member's transactions is entered. Where a call of the disk fails in it, the
 /// member fails too.
 ///
@@ -112,11 +137,14 @@ pub fn step_one<C: CacheFace, D: Disk, P: Policy>(
     ensures later { D.faults disk.old ≤ D.faults disk.new }
     ensures failed { IfOk result (λ stepped. has_failed stepped ≡ true → Rose (D.faults disk.old) (D.faults disk.new)) }
 {
+    if !facility.live(part.id) {
+        return Err(EventFault::Unlawful);
+    }
     if part.policy.is_fail_due() {
         fail_one(alloc, part, facility, fates, script, begun, sizes)?;
         return Ok(Stepped::Failed);
     }
-    let stepped = make(alloc, part, facility, disk, choice, place)?;
+    let stepped = make_idly(alloc, part, facility, disk, choice, place)?;
     settle(alloc, part, facility, fates, script, begun, sizes, &stepped)?;
     Ok(stepped)
 }

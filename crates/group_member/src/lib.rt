@@ -13,6 +13,7 @@ mod rebuild_step;
 mod rebuilding;
 mod restart_step;
 mod restarting;
+mod resting;
 mod sizes;
 mod stepped;
 mod tell;

@@ -1,10 +1,12 @@
-ghost use Rattle.std.specs.Prelude.{◌≡◌, ◌<◌, ◌^◌, None, true, false, OnOk};
+ghost use Rattle.std.specs.Prelude.{◌≡◌, ◌<◌, ◌^◌, None, true, false, is_some, OnOk};
 ghost use Rattle.group_member.specs.Members.{IsDown, member_of};
 ghost use Rattle.group_member.specs.Queries.{answers_held, asker_in, is_held, query_in};
+ghost use Rattle.group_member.specs.Resting.{RestsIdle, changes_locks, frees_claimed};
 
 use crate::ready::{all_choices, ready_choices};
 use crate::rebuilding::Rebuilding;
 use crate::restarting::Restarting;
+use crate::resting::{changes_locks, frees_claimed, has_tran};
 use crate::sizes::GroupSizes;
 use ds_base::{MemberId, NoMemory, TranId, Volume};
 use ds_model::{FailAt, TranList};
@@ -12,6 +14,7 @@ use list_structure::Asker;
 use lock_names::Name;
 use member_intents::{Intent, Look};
 use member_resources::{Policy, Resources};
+use restart_marks::RestartSent;
 use std::alloc::Global;
 
 // Who has asked about which lock, where the intent is to answer that.
@@ -76,6 +79,21 @@ impl<P> MemberPart<P> {
             None => false,
         }
     }
+
+    /// Whether the restart has freed a record whose name the member claims.
+    pub fn frees_claimed(&self, sent: &RestartSent) -> bool
+        ensures { result ≡ frees_claimed self.now.resources.marks sent.now }
+    {
+        frees_claimed(self.resources.marks(), sent)
+    }
+
+    /// Whether a slot has a transaction while the restart is in hand.
+    pub fn has_begun(&self) -> bool
+        ensures begun { result ≡ true → ¬ RestsIdle (member_of self.now) }
+        ensures idle { result ≡ false → RestsIdle (member_of self.now) }
+    {
+        self.restart.is_some() && has_tran(self.resources.marks())
+    }
 }
 
 impl<P: Policy> MemberPart<P> {
@@ -129,15 +147,29 @@ impl<P: Policy> MemberPart<P> {
         }
     }
 
-    /// What a choice wants. A query about a page whose lock the member's restart has isn't answered: the next one is taken
-    /// past its asker.
-    pub fn intent(&self, choice: u64) -> Intent
+    // What a choice wants. A query about a page whose lock the member's restart has isn't answered: the next one is taken
+    // past its asker.
+    fn intent_passing(&self, choice: u64) -> Intent
         ensures { answers_held self.now.restart result ≡ false }
     {
         let intent = self.policy.intent(choice, &self.resources);
         match self.asker_passed(&intent) {
             Some(asker) => Intent::Take { after: Some(asker) },
             None => intent,
+        }
+    }
+
+    /// What a choice wants. A query about a page whose lock the member's restart has isn't answered, and while that restart
+    /// is in hand no locks are changed.
+    pub fn intent(&self, choice: u64) -> Intent
+        ensures keeps { answers_held self.now.restart result ≡ false }
+        ensures rests { is_some self.now.restart ≡ true → changes_locks result ≡ false }
+    {
+        let intent = self.intent_passing(choice);
+        if self.restart.is_some() && changes_locks(&intent) {
+            Intent::Step
+        } else {
+            intent
         }
     }
 

@@ -112,6 +112,9 @@ pub fn step_restart<C: CacheFace, D: Disk, P: Policy>(
     ensures failed { IfOk result (λ r. r.1 ≡ answered.Failed → Rose (D.faults disk.old) (D.faults disk.new)) }
 {
     let (sent, answered) = make(alloc, part, facility, disk, place)?;
+    if part.frees_claimed(&sent) {
+        return Err(EventFault::Unlawful);
+    }
     if is_failure(&answered) {
         return Ok((sent, answered));
     }
