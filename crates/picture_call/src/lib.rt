@@ -1,8 +1,11 @@
-//! The call that reads a report with its trace, and writes its picture, or what the trace tells of one transaction.
+//! The call that reads a report with its trace, and writes its picture, or what the trace tells of one transaction; where the script
+//! stands before it, also what a replay of that tells.
 #![tactic(auto)]
 
 mod answer;
+mod input;
 mod order;
+mod sizes;
 mod status;
 mod style;
 mod top;

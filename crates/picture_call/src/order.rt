@@ -1,3 +1,4 @@
+use ds_base::Sizes;
 use run_picture::Cut;
 
 /// What the words order.
@@ -6,5 +7,5 @@ pub enum Order {
     /// The picture of a run, or of some of its events.
     Draw(Cut),
     /// The story of the transaction whose name is the second word.
-    Why,
+    Why(Sizes),
 }

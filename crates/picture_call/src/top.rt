@@ -1,6 +1,9 @@
 //! The call as a whole.
 
 ghost use Rattle.std.specs.Prelude.{◌≡◌, ℕ, List, IfOk};
+ghost use Rattle.ds_base.specs.declared.names.Sizes.{Sizes as AnySizes};
+ghost use Rattle.group_words.specs.Orders.{AreSizes};
+ghost use Rattle.picture_call.specs.declared.order.Order.TheVariants as orders;
 ghost use Rattle.picture_call.specs.Calls.{IsCaused, IsNamed, IsWritable, Meets, Reads, Tells};
 ghost use Rattle.picture_call.specs.Orders.{name_in, texts};
 ghost use Rattle.picture_call.specs.declared.status.Status.{Status as AnyStatus};
@@ -22,7 +25,7 @@ fn name_in(words: &[String]) -> &[u8]
     ensures { result.now ≡ name_in (texts words.now) }
 {
     match words {
-        [_, name] => name.as_bytes(),
+        [_, name, ..] => name.as_bytes(),
         _ => b"",
     }
 }
@@ -33,6 +36,7 @@ fn tell_source<S: Source>(
     name: &[u8],
     source: &mut S,
 ) -> Result<Telling, NoMemory>
+    requires { (s : AnySizes) → order ≡ orders.Why s → AreSizes s }
     ensures named { IfOk result (λ t. IsNamed t.status t.text) }
     ensures writable { IfOk result (λ t. IsWritable t.status) }
     ensures read { IfOk result (λ t. (t.status ≡ status.SourceFailed → ⊥) → Reads order name.now (S.left source.old) (S.left source.new) t.status t.text) }
@@ -51,7 +55,7 @@ fn tell<S: Source>(alloc: Global, words: &[String], source: &mut S) -> Result<Te
     ensures meets { IfOk result (λ t. Meets (texts words.now) (S.left source.old) (S.left source.new) t.status t.text) }
     ensures caused { IfOk result (λ t. IsCaused t.status (S.faults source.old) (S.faults source.new)) }
 {
-    match read_words(words) {
+    match read_words(alloc, words)? {
         None => short_telling(alloc, Status::WordsRefused),
         Some(order) => tell_source(alloc, order, name_in(words), source),
     }
@@ -84,7 +88,7 @@ fn write_telling<K: Sink>(sink: &mut K, telling: &Telling) -> Status
     }
 }
 
-/// Reads a report with its trace, writes what the words order, and answers how that ended. Nothing is written before all is computed.
+/// Reads a report with its trace, for a story also a script before it, writes what the words order, and answers how that ended. Nothing is written before all is computed.
 pub fn call<S: Source, K: Sink>(
     alloc: Global,
     words: &[String],

@@ -1,0 +1,5 @@
+pub mod Dates
+pub mod Grips
+pub mod Quests
+pub mod Seats
+pub mod Seen

@@ -1,0 +1,20 @@
+use Rattle.std.proofs.Common.{◌<◌, length, map, [], take, subst, List, true, arith}
+use Rattle.ds_model.specs.declared.report.EventLine.{EventLine}
+use Rattle.run_replay.specs.Seen.{Dates}
+use Rattle.run_replay.specs.Follows.{StopsIn}
+use Rattle.run_replay.proofs.Following.{carried, found_there, stops_there, dates_follow, runs_more}
+use Rattle.run_replay.proofs.dates.find_dates.Goals as goal
+
+pub returns-in_err-date_once-clause-err : goal.returns-in_err-date_once-clause-err
+returns-in_err-date_once-clause-err g c =
+    let events = c.args.events.now in
+    let lt : c.loop-event.event-index < length c.args.events.now = omega arith in
+    carried c.from_residual.result c.in_err-date_once.field-0.0 (StopsIn g.C.CacheFace.directory g.D.Disk.alive g.D.Disk.contents g.D.Disk.faults c.args.group.now c.args.events.now) (λ z so. grind (arith, so, c.from_residual.ensures))
+    (stops_there g.C.CacheFace.directory g.D.Disk.alive g.D.Disk.contents g.D.Disk.faults c.args.group.now c.loop-event.group c.date_once.new.group events c.loop-event.event-index c.event-item.result c.in_err-date_once.field-0.0
+    (found_there events c.loop-event.event-index c.event-item.result lt c.event-item.is) (dates_follow g.C.CacheFace.directory g.D.Disk.alive g.D.Disk.contents g.D.Disk.faults c.args.group.now c.loop-event.group c.args.sights.now c.loop-event.sights (take c.loop-event.event-index c.args.events.now) c.loop-event.invariant) c.in_err-date_once.ensures.err)
+
+pub loop-event-preserved : goal.loop-event-preserved
+loop-event-preserved g c =
+    let lt : c.loop-event.event-index < length c.args.events.now = omega arith in
+    runs_more (Dates g.C.CacheFace.directory g.D.Disk.alive g.D.Disk.contents g.D.Disk.faults) c.args.group.now c.loop-event.group c.date_once.new.group c.args.sights.now c.loop-event.sights c.date_once.new.sights c.args.events.now c.loop-event.event-index c.event-item.result lt c.loop-event.invariant
+    (subst (λ (e : EventLine). Dates g.C.CacheFace.directory g.D.Disk.alive g.D.Disk.contents g.D.Disk.faults c.loop-event.group c.loop-event.sights e c.date_once.new.group c.date_once.new.sights) c.event-item.is c.in_ok-date_once.ensures.ok)
