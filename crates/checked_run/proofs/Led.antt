@@ -17,7 +17,7 @@ use Rattle.group_core.specs.declared.schedule.RunEnd.{RunEnd}
 use Rattle.group_core.specs.Ends.{Ends}
 use Rattle.group_core.specs.Goes.{Goes}
 use Rattle.group_core.specs.Runs.{Draws, RunsOn}
-use Rattle.group_threads.specs.Fresh.{RunsFresh, RunsFrom}
+use Rattle.group_core.specs.Fresh.{RunsFresh, RunsFrom}
 use Rattle.group_threads.proofs.Looked.{runs_plain}
 use Rattle.refusal_causes.specs.Answers.{AnswersGiven}
 use Rattle.refusal_causes.specs.Laws.{CausesHeld, is_lawful}

@@ -11,7 +11,7 @@ use Rattle.group_core.specs.declared.schedule.RunEnd.{RunEnd}
 use Rattle.group_core.specs.Ends.{Ends}
 use Rattle.group_core.specs.Runs.{Draws}
 use Rattle.group_core.specs.Starts.{IsFresh}
-use Rattle.group_threads.specs.Fresh.{RunsFresh, RunsFrom}
+use Rattle.group_core.specs.Fresh.{RunsFresh, RunsFrom}
 use Rattle.refusal_causes.specs.Answers.{Answered, AreGiven}
 use Rattle.refusal_causes.specs.Laws.{is_lawful}
 use Rattle.refusal_causes.specs.Moments.{AllCaused, HeldInRun}

@@ -17,6 +17,7 @@ mod trace;
 pub use account::{Account, CauseList, FailList, Journal, no_account};
 pub use ended::{Ended, Outcome, Ran};
 pub use group_core::{Cause, RunFault};
+pub use group_threads::{Gate, OpenGate};
 pub use plain::plain_report;
 pub use run::run_script;
 pub use show::show_disk;

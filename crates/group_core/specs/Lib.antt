@@ -4,6 +4,7 @@ pub mod Moves
 pub mod Restarts
 pub mod Takes
 pub mod Runs
+pub mod Fresh
 pub mod Ends
 pub mod Closing
 pub mod Starts

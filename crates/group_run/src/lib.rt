@@ -8,7 +8,6 @@ mod summary;
 mod telling;
 mod top;
 
-pub use checked_run::{Cause, CauseList, FailList, Journal};
-pub use group_threads::{Gate, OpenGate};
+pub use checked_run::{Cause, CauseList, FailList, Gate, Journal, OpenGate};
 pub use status::Status;
 pub use top::{Finished, play};

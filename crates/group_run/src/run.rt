@@ -7,12 +7,11 @@ ghost use Rattle.checked_run.specs.Outcomes.{Comes, IsLeft, Plays};
 ghost use Rattle.group_words.specs.Orders.{AreSizes};
 
 use crate::prepare::Setting;
-use checked_run::{Outcome, Ran, RunFault, no_account, run_script};
+use checked_run::{Gate, Outcome, Ran, RunFault, no_account, run_script};
 use disk_restart::keeping_laws;
 use ds_base::{NoMemory, Sizes};
 use ds_disk::Disk;
 use ds_model::Script;
-use group_threads::Gate;
 use member_core::Member;
 use std::alloc::Global;
 use std::sync::Wait;

@@ -17,12 +17,13 @@ use crate::status::Status;
 use crate::telling::{
     Telling, fault_status, or_wanting, script_telling, short_telling, telling_of,
 };
-use checked_run::{Account, CauseList, FailList, Journal, Outcome, Ran, no_account, show_disk};
+use checked_run::{
+    Account, CauseList, FailList, Gate, Journal, Outcome, Ran, no_account, show_disk,
+};
 use disk_restart::keeping_laws;
 use ds_base::{NoMemory, RowList, Sink, Source};
 use ds_disk::Disk;
 use ds_model::Report;
-use group_threads::Gate;
 use std::alloc::Global;
 use std::sync::Wait;
 use std::thread::Threads;

@@ -28,7 +28,7 @@ use Rattle.turn_story.specs.Chains.{part_of, with_part}
 use Rattle.group_threads.specs.declared.hand.Hand.{Hand}
 use Rattle.group_threads.specs.declared.shared.Shared.{Shared}
 use Rattle.group_threads.specs.Happening.{ByFault, MadeAlone, takes_alone}
-use Rattle.group_threads.specs.Fresh.{IsLooked, TakesFresh}
+use Rattle.group_core.specs.Fresh.{IsLooked, TakesFresh}
 use Rattle.group_threads.specs.Wholes.{parts_in, whole, StepsHand}
 
 -- ---- lists

@@ -15,7 +15,7 @@ use Rattle.turn_story.specs.Chains.{with_part, Leads}
 use Rattle.group_threads.specs.declared.hand.Hand.{Hand}
 use Rattle.group_threads.specs.declared.shared.Shared.{Shared}
 use Rattle.group_threads.specs.Desks.{member_in}
-use Rattle.group_threads.specs.Fresh.{IsLooked, TakesFresh, RunsFresh, RunsFrom}
+use Rattle.group_core.specs.Fresh.{IsLooked, TakesFresh, RunsFresh, RunsFrom}
 use Rattle.group_threads.specs.Wholes.{parts_in, whole, StepsHand}
 use Rattle.group_threads.proofs.Looked.{looked_same, goes_fresh, goes_looked, runs_looked, runs_on}
 

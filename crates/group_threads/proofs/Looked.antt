@@ -10,7 +10,7 @@ use Rattle.group_core.specs.Takes.{Takes}
 use Rattle.group_core.specs.Runs.{Runs}
 use Rattle.group_core.proofs.Going.{on, stays}
 use Rattle.group_core.proofs.Taking.{goes_from}
-use Rattle.group_threads.specs.Fresh.{IsLooked, TakesFresh, RunsFresh, RunsFrom}
+use Rattle.group_core.specs.Fresh.{IsLooked, TakesFresh, RunsFresh, RunsFrom}
 
 module _ {C D P : Type 0} where
   pub looked_same : (g : Group D C P) → IsLooked g g

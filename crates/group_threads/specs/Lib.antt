@@ -1,4 +1,3 @@
-pub mod Fresh
 pub mod Wholes
 pub mod Happening
 pub mod Desks

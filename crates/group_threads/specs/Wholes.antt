@@ -11,7 +11,7 @@ use Rattle.turn_gate.specs.declared.answer.Look.TheVariants as looked
 use Rattle.turn_story.specs.Chains.{part_of, with_part}
 use Rattle.group_threads.specs.declared.hand.Hand.{Hand}
 use Rattle.group_threads.specs.declared.shared.Shared.{Shared}
-use Rattle.group_threads.specs.Fresh.{TakesFresh}
+use Rattle.group_core.specs.Fresh.{TakesFresh}
 
 abbrev pub parts_in : {P : Type 0} → List (Hand P) → List (MemberPart P)
 parts_in {P} hands = map (λ (h : Hand P). h.part) hands

@@ -4,7 +4,7 @@ ghost use Rattle.std.specs.Prelude.{◌≡◌, ◌⊎◌, ◌+◌, ◌^◌, ◌<
 ghost use Rattle.turn_story.specs.Chains.{Leads};
 ghost use Rattle.group_core.specs.declared.fault.RunFault.TheVariants as fault;
 ghost use Rattle.group_threads.specs.Desks.{AreMembersAt, IsMemberAt, member_in};
-ghost use Rattle.group_threads.specs.Fresh.{IsLooked, RunsFrom};
+ghost use Rattle.group_core.specs.Fresh.{IsLooked, RunsFrom};
 ghost use Rattle.group_threads.specs.Wholes.{StepsHand, parts_in};
 ghost use Rattle.group_core.specs.declared.group.Group.{Group as AnyGroup};
 

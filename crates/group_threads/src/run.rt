@@ -4,7 +4,7 @@ ghost use Rattle.std.specs.Prelude.{◌≡◌, ◌≢◌, ◌≤◌, true, false
 ghost use Rattle.group_core.specs.declared.fault.RunFault.TheVariants as fault;
 ghost use Rattle.group_core.specs.declared.schedule.RunEnd.TheVariants as ends;
 ghost use Rattle.group_core.specs.Ends.{Ends};
-ghost use Rattle.group_threads.specs.Fresh.{RunsFrom};
+ghost use Rattle.group_core.specs.Fresh.{RunsFrom};
 
 use crate::gate::Gate;
 use crate::phase::play_phase;

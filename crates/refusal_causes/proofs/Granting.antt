@@ -36,7 +36,7 @@ use Rattle.group_core.specs.declared.group.Group.{Group}
 use Rattle.group_core.specs.Events.{takes}
 use Rattle.group_core.specs.Restarts.{EntersRestart, RestartSteps}
 use Rattle.group_core.specs.Takes.{BeginsOrNot, IsMade, Takes, TakesMember, TakesOwn}
-use Rattle.group_threads.specs.Fresh.{IsLooked, RunsFresh}
+use Rattle.group_core.specs.Fresh.{IsLooked, RunsFresh}
 use Rattle.refusal_causes.specs.Answers.{AnswersAt, Answered, AnswersGiven, AreGiven, Says}
 use Rattle.refusal_causes.specs.Laws.{is_lawful}
 use Rattle.refusal_causes.proofs.Cells.{Knowledge, failed_given, made_given}

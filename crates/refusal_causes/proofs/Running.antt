@@ -8,7 +8,7 @@ use Rattle.script_fates.specs.Fated.{FatesState, no_fates}
 use Rattle.group_crew.specs.declared.crew.Crew.{Crew}
 use Rattle.group_core.specs.declared.fault.RunFault.{RunFault}
 use Rattle.group_core.specs.declared.group.Group.{Group}
-use Rattle.group_threads.specs.Fresh.{IsLooked, RunsFresh}
+use Rattle.group_core.specs.Fresh.{IsLooked, RunsFresh}
 use Rattle.refusal_causes.specs.Laws.{CausesHeld, is_lawful}
 use Rattle.refusal_causes.specs.Moments.{AllCaused, HeldInRun, HoldsAt}
 use Rattle.refusal_causes.proofs.Known.{Claim}

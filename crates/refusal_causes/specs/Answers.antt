@@ -18,7 +18,7 @@ use Rattle.group_crew.specs.Happening.{member_at}
 use Rattle.group_core.specs.declared.group.Group.{Group}
 use Rattle.group_core.specs.Starts.{IsFresh}
 use Rattle.group_core.specs.Takes.{Takes}
-use Rattle.group_threads.specs.Fresh.{RunsFresh}
+use Rattle.group_core.specs.Fresh.{RunsFresh}
 use Rattle.refusal_causes.specs.Causes.{HasClaim, HasPostponed}
 use Rattle.refusal_causes.specs.Laws.{is_lawful}
 

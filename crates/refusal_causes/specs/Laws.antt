@@ -6,7 +6,7 @@ use Rattle.group_core.specs.declared.fault.RunFault.{RunFault}
 use Rattle.group_core.specs.declared.fault.RunFault.TheVariants as fault
 use Rattle.group_core.specs.declared.group.Group.{Group}
 use Rattle.group_core.specs.Starts.{IsFresh}
-use Rattle.group_threads.specs.Fresh.{RunsFresh}
+use Rattle.group_core.specs.Fresh.{RunsFresh}
 use Rattle.refusal_causes.specs.Moments.{AllCaused, HeldInRun}
 
 -- whether the run hasn't ended since what was wanted may not be done

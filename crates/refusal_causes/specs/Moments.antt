@@ -21,7 +21,7 @@ use Rattle.group_member.specs.Members.{Member}
 use Rattle.group_crew.specs.Happening.{member_at}
 use Rattle.group_core.specs.declared.group.Group.{Group}
 use Rattle.group_core.specs.Takes.{Takes}
-use Rattle.group_threads.specs.Fresh.{RunsFresh}
+use Rattle.group_core.specs.Fresh.{RunsFresh}
 use Rattle.refusal_causes.specs.Causes.{CauseHolds}
 
 -- The member held this at some time in its event: the moves that its policy made in it led there, and on to what the member holds

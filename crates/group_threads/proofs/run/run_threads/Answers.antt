@@ -1,5 +1,5 @@
 use Rattle.std.proofs.Common.{OnOk, subst}
-use Rattle.group_threads.specs.Fresh.{RunsFrom}
+use Rattle.group_core.specs.Fresh.{RunsFrom}
 use Rattle.group_threads.proofs.Looked.{from_looked, from_on, looked_same}
 use Rattle.group_threads.proofs.run.run_threads.Goals as goal
 

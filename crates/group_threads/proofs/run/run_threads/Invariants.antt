@@ -1,4 +1,4 @@
-use Rattle.group_threads.specs.Fresh.{RunsFrom}
+use Rattle.group_core.specs.Fresh.{RunsFrom}
 use Rattle.group_threads.proofs.run.run_threads.Given as goal
 
 abbrev pub invariant-loop : goal.invariant-loop
