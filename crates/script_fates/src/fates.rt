@@ -1,7 +1,7 @@
-ghost use Rattle.std.specs.Prelude.{◌≡◌, ◌≢◌, ◌<◌, ℕ, ◌⊎◌, true, false, length, IfOk, IsSome};
+ghost use Rattle.std.specs.Prelude.{◌≡◌, ◌≢◌, ◌<◌, ℕ, ◌⊎◌, true, false, length, IfOk, IsSome, ◌+◌};
 ghost use Rattle.ds_model.specs.declared.fate.Fate.TheVariants as fate;
-ghost use Rattle.tran_history.specs.Histories.{after_answer};
-ghost use Rattle.script_fates.specs.Fated.{waits_at, is_marked, may_be_refused, may_have, is_in_part, is_in_phase, Ends, Fixes, Refuses, Stops, StopsOnly, no_fates};
+ghost use Rattle.tran_history.specs.Histories.{after_answer, has_committed, has_number};
+ghost use Rattle.script_fates.specs.Fated.{Adds, waits_at, is_marked, may_be_refused, may_have, is_in_part, is_in_phase, Ends, Fixes, Refuses, Stops, StopsOnly, no_fates};
 
 use crate::copies::copy_tran;
 use ds_base::{MemberId, NoMemory};
@@ -102,6 +102,35 @@ fn may_have(tran: &Tran, fate: &Fate) -> bool
     }
 }
 
+// Enters the fate of a transaction that has none, and answers whether it was so.
+fn end_in(
+    waiting: &mut [Option<PlacedTran>],
+    history: &mut History,
+    number: u32,
+    fate: Fate,
+) -> bool
+    requires { (i : ℕ) → waits_at waiting.old i ≡ true → has_number history.old.entries (i + 1) ≡ false }
+    ensures added { result ≡ true → Adds history.old.entries number fate history.new.entries }
+    ensures as_before { result ≡ false → history.new.entries ≡ history.old.entries }
+    ensures unfated { (i : ℕ) → waits_at waiting.new i ≡ true → has_number history.new.entries (i + 1) ≡ false }
+    ensures fated { (n : ℕ) → has_committed history.old.entries n ≡ true → has_committed history.new.entries n ≡ true }
+{
+    let Some(at) = (number as usize).checked_sub(1) else {
+        return false;
+    };
+    let Some((member, tran)) = take_at(waiting, at) else {
+        return false;
+    };
+    if tran.number != number || number > history.room() || !may_have(&tran, &fate) {
+        return false;
+    }
+    if history.len() >= history.room() as usize {
+        return false;
+    }
+    history.push(Entry { member, tran, fate });
+    true
+}
+
 impl Fates {
     /// No transaction of the script has a fate. Takes the memory for all of them.
     pub fn new(alloc: Global, script: &Script) -> Result<Fates, NoMemory>
@@ -123,20 +152,7 @@ impl Fates {
     fn end(&mut self, number: u32, fate: Fate) -> bool
         ensures { Ends self.old number fate result self.new }
     {
-        let Some(at) = (number as usize).checked_sub(1) else {
-            return false;
-        };
-        let Some((member, tran)) = take_at(&mut self.waiting, at) else {
-            return false;
-        };
-        if tran.number != number || number > self.history.room() || !may_have(&tran, &fate) {
-            return false;
-        }
-        if self.history.len() >= self.history.room() as usize {
-            return false;
-        }
-        self.history.push(Entry { member, tran, fate });
-        true
+        end_in(&mut self.waiting, &mut self.history, number, fate)
     }
 
     /// The transaction has committed, and has read this.
@@ -167,11 +183,17 @@ impl Fates {
     pub fn refuse(&mut self, number: u32, refusal: Refusal, place: u64)
         ensures { Refuses self.old number refusal place self.new }
     {
-        if self.causes.len() >= self.causes.capacity() {
+        let Fates {
+            waiting,
+            committed: _,
+            history,
+            causes,
+        } = self;
+        if causes.len() >= causes.capacity() {
             return;
         }
-        if self.end(number, Fate::Refused(refusal)) {
-            self.causes.push_reserved(Cause { number, place });
+        if end_in(waiting, history, number, Fate::Refused(refusal)) {
+            causes.push_reserved(Cause { number, place });
         }
     }
 
