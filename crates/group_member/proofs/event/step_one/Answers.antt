@@ -6,8 +6,8 @@ use Rattle.group_member.proofs.Causes.{by_standing}
 use Rattle.group_member.proofs.Comings.{by_bells, by_bells_then, comes, comes_down}
 use Rattle.group_member.proofs.event.step_one.Goals as goal
 
-pub returns-then-live-clause-unlawful : goal.returns-then-live-clause-unlawful
-returns-then-live-clause-unlawful g c = λ so. by_standing _ _ _ _ (sym c.live.ensures ∙ c.if-live.false)
+pub returns-then-not-live-clause-unlawful : goal.returns-then-not-live-clause-unlawful
+returns-then-not-live-clause-unlawful g c = λ so. by_standing _ _ _ _ (sym c.live.ensures ∙ c.if-not-live.true)
 
 pub returns-in_err-fail_one-clause-unlawful : goal.returns-in_err-fail_one-clause-unlawful
 returns-in_err-fail_one-clause-unlawful g c = λ so. by_bells _ _ _ _ (c.in_err-fail_one.ensures.unlawful (grind (arith, so, c.from_residual.ensures)))
@@ -25,5 +25,5 @@ returns-clause-comes g c =
     let v : World = world_of g.C.CacheFace.directory g.D.Disk.alive g.D.Disk.contents c.settle.new.facility c.make_idly.new.disk in
     comes (has_failed c.in_ok-stepped.stepped) c.args.script.now c.args.begun c.args.sizes.now.sizes c.args.choice (member_of c.args.part.now)
     (world_of g.C.CacheFace.directory g.D.Disk.alive g.D.Disk.contents c.args.facility.now c.args.disk.now) c.args.fates.now c.args.place c.in_ok-stepped.stepped (member_of c.make_idly.new.part)
-    (member_of c.settle.new.part) u v c.settle.new.fates (sym c.live.ensures ∙ c.if-live.true) refl c.in_ok-stepped.ensures.makes c.in_ok-stepped.ensures.idle c.in_ok-stepped.ensures.kind refl (ap (λ part. part.id) c.make_idly.ensures.rest)
+    (member_of c.settle.new.part) u v c.settle.new.fates (sym c.live.ensures ∙ c.if-not-live.false) refl c.in_ok-stepped.ensures.makes c.in_ok-stepped.ensures.idle c.in_ok-stepped.ensures.kind refl (ap (λ part. part.id) c.make_idly.ensures.rest)
     c.settle.ensures.enters c.settle.ensures.stays c.in_ok-settle.ensures.fails c.in_ok-settle.ensures.down c.in_ok-settle.ensures.stops
