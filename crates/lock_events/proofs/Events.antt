@@ -51,35 +51,35 @@ needs_sent (Ok t) (Ok q) s p e = ap sent_in e
 
 -- ---- what is run and settled
 run_goes : Facts → (w : World) (u v : event.World) (held left : Claims) (h ready k : Held) (c : Setting) (i : Intent) (s : Sent) (p : Plan) (place : ℕ) (a : Answered) (told : Told)
-    → Stands w u.facility held h.marks → SlotsStand h.marks → Lawful h.marks h.pages c i s → Reserves i h ready → Runs u (begun ready) i s p place a told v k → Leads held left h.marks k.marks → Goes w u.facility v.facility left h.marks k.marks
+    → Stands w u.facility held h.marks → SlotsStand h.marks → Lawful h.marks h.pages c i s → Reserves i h ready → Runs u (begun ready place) i s p place a told v k → Leads held left h.marks k.marks → Goes w u.facility v.facility left h.marks k.marks
 run_goes facts w u v held left h ready k c intent.Step s p place a told st slots lawful e r leads = quiet_run facts w u v held left h ready k intent.Step s p place a told st (same_itself h ready e) (quiet_as s _ lawful tt) refl r leads
 run_goes facts w u v held left h ready k c (intent.Obtain o n m) s p place a told st slots lawful e r leads =
     obtain_run facts w u v held left h k ready.marks.locks.spare o n m p place a told st slots lawful.lawful
-    (subst (λ z. Runs u (begun z) (intent.Obtain o n m) (sent.Command (command.Obtain n m)) p place a told v k) e.2 (subst (λ z. Runs u (begun ready) (intent.Obtain o n m) z p place a told v k) lawful.is r)) leads
+    (subst (λ z. Runs u (begun z place) (intent.Obtain o n m) (sent.Command (command.Obtain n m)) p place a told v k) e.2 (subst (λ z. Runs u (begun ready place) (intent.Obtain o n m) z p place a told v k) lawful.is r)) leads
 run_goes facts w u v held left h ready k c (intent.Grant o n m) s p place a told st slots lawful e r leads =
     grant_run facts w u v held left h k ready.marks.locks.spare o n m p place a told st slots lawful.lawful
-    (subst (λ z. Runs u (begun z) (intent.Grant o n m) (sent.Command (command.Grant (cell_slot o n) n m)) p place a told v k) e.2 (subst (λ z. Runs u (begun ready) (intent.Grant o n m) z p place a told v k) lawful.is r)) leads
+    (subst (λ z. Runs u (begun z place) (intent.Grant o n m) (sent.Command (command.Grant (cell_slot o n) n m)) p place a told v k) e.2 (subst (λ z. Runs u (begun ready place) (intent.Grant o n m) z p place a told v k) lawful.is r)) leads
 run_goes facts w u v held left h ready k c (intent.Ask o to n m) s p place a told st slots lawful e r leads =
     ask_run facts w u v held left h k o to n m p place a told st
-    (subst (λ z. Runs u (begun z) (intent.Ask o to n m) (sent.Command (command.Ask (cell_slot o n) to n m)) p place a told v k) e (subst (λ z. Runs u (begun ready) (intent.Ask o to n m) z p place a told v k) lawful r)) leads
+    (subst (λ z. Runs u (begun z place) (intent.Ask o to n m) (sent.Command (command.Ask (cell_slot o n) to n m)) p place a told v k) e (subst (λ z. Runs u (begun ready place) (intent.Ask o to n m) z p place a told v k) lawful r)) leads
 run_goes facts w u v held left h ready k c (intent.Answers o n m asked) s p place a told st slots lawful e r leads = quiet_run facts w u v held left h ready k (intent.Answers o n m asked) s p place a told st (same_itself h ready e) (quiet_as s _ lawful refl) refl r leads
 run_goes facts w u v held left h ready k c (intent.Status member) s p place a told st slots lawful e r leads = quiet_run facts w u v held left h ready k (intent.Status member) s p place a told st (same_itself h ready e) (quiet_as s _ lawful refl) refl r leads
 run_goes facts w u v held left h ready k c (intent.Take past) s p place a told st slots lawful e r leads = quiet_run facts w u v held left h ready k (intent.Take past) s p place a told st (same_itself h ready e) (quiet_as s _ lawful refl) refl r leads
 run_goes facts w u v held left h ready k c (intent.Answer asker n m) s p place a told st slots lawful e r leads =
     answer_run facts w u v held left h k asker n m c.place p place a told st
-    (subst (λ z. Runs u (begun z) (intent.Answer asker n m) (sent.Command (command.Answer asker n m (answer_to h.marks n m) c.place)) p place a told v k) e (subst (λ z. Runs u (begun ready) (intent.Answer asker n m) z p place a told v k) lawful.is r)) leads
+    (subst (λ z. Runs u (begun z place) (intent.Answer asker n m) (sent.Command (command.Answer asker n m (answer_to h.marks n m) c.place)) p place a told v k) e (subst (λ z. Runs u (begun ready place) (intent.Answer asker n m) z p place a told v k) lawful.is r)) leads
 run_goes facts w u v held left h ready k c (intent.ReleaseLock o) s p place a told st slots lawful e r leads =
     release_run facts w u v held left h k o lawful.told p place a told st (over_agent facts h.marks o slots lawful.may.over) lawful.next
-    (subst (λ z. Runs u (begun z) (intent.ReleaseLock o) (sent.Command (command.Release lawful.told.0 lawful.told.1)) p place a told v k) e (subst (λ z. Runs u (begun ready) (intent.ReleaseLock o) z p place a told v k) lawful.is r)) leads
+    (subst (λ z. Runs u (begun z place) (intent.ReleaseLock o) (sent.Command (command.Release lawful.told.0 lawful.told.1)) p place a told v k) e (subst (λ z. Runs u (begun ready place) (intent.ReleaseLock o) z p place a told v k) lawful.is r)) leads
 run_goes facts w u v held left h ready k c (intent.ReleasePage page) s p place a told st slots lawful e r leads =
     page_run facts w u v held left h k page lawful.told p place a told st lawful.next
-    (subst (λ z. Runs u (begun z) (intent.ReleasePage page) (sent.Command (command.Release lawful.told.0 lawful.told.1)) p place a told v k) e (subst (λ z. Runs u (begun ready) (intent.ReleasePage page) z p place a told v k) lawful.is r)) leads
+    (subst (λ z. Runs u (begun z place) (intent.ReleasePage page) (sent.Command (command.Release lawful.told.0 lawful.told.1)) p place a told v k) e (subst (λ z. Runs u (begun ready place) (intent.ReleasePage page) z p place a told v k) lawful.is r)) leads
 run_goes facts w u v held left h ready k c (intent.Purge n) s p place a told st slots lawful e r leads =
     purge_run facts w u v held left h k n p place a told st lawful.unclaimed
-    (subst (λ z. Runs u (begun z) (intent.Purge n) (sent.Command (command.Purge n)) p place a told v k) e (subst (λ z. Runs u (begun ready) (intent.Purge n) z p place a told v k) lawful.is r)) leads
+    (subst (λ z. Runs u (begun z place) (intent.Purge n) (sent.Command (command.Purge n)) p place a told v k) e (subst (λ z. Runs u (begun ready place) (intent.Purge n) z p place a told v k) lawful.is r)) leads
 run_goes facts w u v held left h ready k c (intent.End o) s p place a told st slots lawful e r leads =
     end_run facts w u v held left h k o p place a told st
-    (subst (λ z. Runs u (begun z) (intent.End o) (end_sent h.marks o) p place a told v k) e (subst (λ z. Runs u (begun ready) (intent.End o) z p place a told v k) lawful.is r)) leads
+    (subst (λ z. Runs u (begun z place) (intent.End o) (end_sent h.marks o) p place a told v k) e (subst (λ z. Runs u (begun ready place) (intent.End o) z p place a told v k) lawful.is r)) leads
 run_goes facts w u v held left h ready k c (intent.Wait slot holder flag) s p place a told st slots lawful e r leads = quiet_run facts w u v held left h ready k (intent.Wait slot holder flag) s p place a told st (same_itself h ready e) (quiet_as s _ lawful.is refl) refl r leads
 run_goes facts w u v held left h ready k c (intent.Unwait slot) s p place a told st slots lawful e r leads = quiet_run facts w u v held left h ready k (intent.Unwait slot) s p place a told st (same_itself h ready e) (quiet_as s _ lawful.is refl) refl r leads
 run_goes facts w u v held left h ready k c (intent.Waits bits) s p place a told st slots lawful e r leads = quiet_run facts w u v held left h ready k (intent.Waits bits) s p place a told st (same_itself h ready e) (quiet_as s _ lawful refl) refl r leads
@@ -114,6 +114,6 @@ events_go lawful law reaches facts w u v held left h k i place s a sound tied up
     (reaches first.moved.world v.facility between left mid k.marks (sound_after law w u.facility v.facility between h.marks mid first sound) first.moved.tied first.stands (knows_own held h.marks.member mid first.same) happens.ends.0 (leads_on held left h.marks mid k.marks first.same leads))
 
 pub told_goes : ReachesGoes → ToldGoes
-told_goes reaches w u held left h k sound tied up knows ends leads =
-    let st : Stands w u.facility held (begun h).marks = new_stands w u.facility held h (record { tied = tied; up = up; knows = knows }) in
-    goes_from w u.facility u.facility left h.marks (begun h).marks k.marks refl (reaches w u.facility held left (begun h).marks k.marks sound st.tied st.up st.knows ends.0 (new_leads held left h k.marks leads))
+told_goes reaches w u held left h k place sound tied up knows ends leads =
+    let st : Stands w u.facility held (begun h place).marks = new_stands w u.facility held h place (record { tied = tied; up = up; knows = knows }) in
+    goes_from w u.facility u.facility left h.marks (begun h place).marks k.marks refl (reaches w u.facility held left (begun h place).marks k.marks sound st.tied st.up st.knows ends.0 (new_leads held left h place k.marks leads))

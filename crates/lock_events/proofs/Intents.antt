@@ -99,10 +99,10 @@ same_on : (s t u : MarksState) → SameClaims s t → SameClaims t u → SameCla
 same_on s t u a b = record { locks = b.locks ∙ a.locks; member = b.member ∙ a.member }
 
 pub quiet_run : Facts → (w : World) (u v : event.World) (held left : Claims) (h ready k : Held) (i : Intent) (s : Sent) (p : Plan) (place : ℕ) (a : Answered) (told : Told)
-    → Stands w u.facility held h.marks → SameClaims h.marks ready.marks → QuietSent s → changes_claims i ≡ false → Runs u (begun ready) i s p place a told v k → Leads held left h.marks k.marks → Goes w u.facility v.facility left h.marks k.marks
+    → Stands w u.facility held h.marks → SameClaims h.marks ready.marks → QuietSent s → changes_claims i ≡ false → Runs u (begun ready place) i s p place a told v k → Leads held left h.marks k.marks → Goes w u.facility v.facility left h.marks k.marks
 quiet_run facts w u v held left h ready k i s p place a told st same q quiet r leads =
-    quiet_goes facts.stay w u.facility v.facility held left h.marks k.marks st.tied st.up st.knows leads (quiet_facility u v (begun ready) k i s p place a told q r)
-    (same_on h.marks (begun ready).marks k.marks (record { locks = same.locks; member = same.member }) (facts.claims u v (begun ready) k i s p place a told quiet r))
+    quiet_goes facts.stay w u.facility v.facility held left h.marks k.marks st.tied st.up st.knows leads (quiet_facility u v (begun ready place) k i s p place a told q r)
+    (same_on h.marks (begun ready place).marks k.marks (record { locks = same.locks; member = same.member }) (facts.claims u v (begun ready place) k i s p place a told quiet r))
 
 pub same_itself : (h k : Held) → k ≡ h → SameClaims h.marks k.marks
 same_itself h k e = record { locks = ap (λ (z : Held). z.marks.locks) e; member = ap (λ (z : Held). z.marks.member) e }
@@ -132,11 +132,11 @@ over_agent facts s (owner.Slot slot) slots e = facts.tell s slot slots (over_tak
 over_agent facts s (owner.Rollback id) slots e = tt
 
 -- ---- a lock is asked for: the member as the reply finds it
-abbrev pub asking : Held → ℕ → MarksState
-asking h spare = (begun (with_spare h spare)).marks
+abbrev pub asking : Held → ℕ → ℕ → MarksState
+asking h spare place = (begun (with_spare h spare) place).marks
 
-asking_stands : (w : World) (f : Facility) (held : Claims) (h : Held) (spare : ℕ) → Stands w f held h.marks → Stands w f held (asking h spare)
-asking_stands w f held h spare st = record {
+asking_stands : (w : World) (f : Facility) (held : Claims) (h : Held) (spare place : ℕ) → Stands w f held h.marks → Stands w f held (asking h spare place)
+asking_stands w f held h spare place st = record {
   tied = st.tied;
   up = record {
     member = st.up.member;
@@ -149,11 +149,11 @@ asking_stands w f held h spare st = record {
   knows = λ o c. st.knows o c;
 }
 
-asking_leads : (held left : Claims) (h : Held) (spare : ℕ) (t : MarksState) → Leads held left h.marks t → Leads held left (asking h spare) t
-asking_leads held left h spare t leads = record { others = leads.others; own = leads.own }
+asking_leads : (held left : Claims) (h : Held) (spare place : ℕ) (t : MarksState) → Leads held left h.marks t → Leads held left (asking h spare place) t
+asking_leads held left h spare place t leads = record { others = leads.others; own = leads.own }
 
-asking_slot : (h : Held) (spare slot : ℕ) (n : Name) (m : Mode) → SlotClaims h.marks slot n m → SlotClaims (asking h spare) slot n m
-asking_slot h spare slot n m may = record { forward = may.forward; joined = may.joined }
+asking_slot : (h : Held) (spare place slot : ℕ) (n : Name) (m : Mode) → SlotClaims h.marks slot n m → SlotClaims (asking h spare place) slot n m
+asking_slot h spare place slot n m may = record { forward = may.forward; joined = may.joined }
 
 -- whatever is answered about a page is the member's
 page_settles : (s t : MarksState) (o : Owner) (p : PageId) (m : Mode) (answer : Reply) (place : ℕ) → SettlesClaims s o (name.Page p) m answer place t
@@ -193,47 +193,47 @@ page_settles s t o p m (reply.Stale index) place e = (s, refl, record { locks = 
 page_settles s t o p m (reply.LrsnEnd at) place e = (s, refl, record { locks = ap (λ (z : MarksState). z.locks) e; member = ap (λ (z : MarksState). z.member) e })
 
 pub obtain_goes : Facts → (w : World) (f g : Facility) (held left : Claims) (h : Held) (spare : ℕ) (t : MarksState) (o : Owner) (n : Name) (m : Mode) (answer : Reply) (place : ℕ)
-    → Stands w f held h.marks → SlotsStand h.marks → MayClaim h.marks o n m → ObtainsLock f (asking h spare).member n m answer g → SettlesClaims (asking h spare) o n m answer place t → Leads held left h.marks t → Goes w f g left (asking h spare) t
+    → Stands w f held h.marks → SlotsStand h.marks → MayClaim h.marks o n m → ObtainsLock f (asking h spare place).member n m answer g → SettlesClaims (asking h spare place) o n m answer place t → Leads held left h.marks t → Goes w f g left (asking h spare place) t
 obtain_goes facts w f g held left h spare t (owner.Slot slot) (name.Space table) m answer place st slots may gives settles leads =
-    let now = asking_stands w f held h spare st in
-    facts.obtain w f g held left (asking h spare) t (owner.Slot slot) (name.Space table) m answer place now.tied now.up now.knows (forward_agent facts h.marks slot slots may.forward) (asking_slot h spare slot (name.Space table) m may) gives settles (asking_leads held left h spare t leads)
+    let now = asking_stands w f held h spare place st in
+    facts.obtain w f g held left (asking h spare place) t (owner.Slot slot) (name.Space table) m answer place now.tied now.up now.knows (forward_agent facts h.marks slot slots may.forward) (asking_slot h spare place slot (name.Space table) m may) gives settles (asking_leads held left h spare place t leads)
 obtain_goes facts w f g held left h spare t (owner.Rollback id) (name.Space table) m answer place st slots may gives settles leads = absurd may
 obtain_goes facts w f g held left h spare t (owner.Slot slot) (name.Row table k) m answer place st slots may gives settles leads =
-    let now = asking_stands w f held h spare st in
-    facts.obtain w f g held left (asking h spare) t (owner.Slot slot) (name.Row table k) m answer place now.tied now.up now.knows (forward_agent facts h.marks slot slots may.forward) (asking_slot h spare slot (name.Row table k) m may) gives settles (asking_leads held left h spare t leads)
+    let now = asking_stands w f held h spare place st in
+    facts.obtain w f g held left (asking h spare place) t (owner.Slot slot) (name.Row table k) m answer place now.tied now.up now.knows (forward_agent facts h.marks slot slots may.forward) (asking_slot h spare place slot (name.Row table k) m may) gives settles (asking_leads held left h spare place t leads)
 obtain_goes facts w f g held left h spare t (owner.Rollback id) (name.Row table k) m answer place st slots may gives settles leads = absurd may
 obtain_goes facts w f g held left h spare t (owner.Slot slot) (name.Page p) m answer place st slots may gives settles leads =
-    let now = asking_stands w f held h spare st in
-    let x = page_settles (asking h spare) t (owner.Slot slot) p m answer place settles in
-    goes_as w f g left (asking h spare) x.0 t x.2 (facts.obtain w f g held left (asking h spare) x.0 (owner.Rollback 0) (name.Page p) m answer place now.tied now.up now.knows tt (record { in_x = may.in_x; room = may.room }) gives x.1
-    (leads_as held left (asking h spare) x.0 t x.2 (asking_leads held left h spare t leads)))
+    let now = asking_stands w f held h spare place st in
+    let x = page_settles (asking h spare place) t (owner.Slot slot) p m answer place settles in
+    goes_as w f g left (asking h spare place) x.0 t x.2 (facts.obtain w f g held left (asking h spare place) x.0 (owner.Rollback 0) (name.Page p) m answer place now.tied now.up now.knows tt (record { in_x = may.in_x; room = may.room }) gives x.1
+    (leads_as held left (asking h spare place) x.0 t x.2 (asking_leads held left h spare place t leads)))
 obtain_goes facts w f g held left h spare t (owner.Rollback id) (name.Page p) m answer place st slots may gives settles leads =
-    let now = asking_stands w f held h spare st in
-    let x = page_settles (asking h spare) t (owner.Rollback id) p m answer place settles in
-    goes_as w f g left (asking h spare) x.0 t x.2 (facts.obtain w f g held left (asking h spare) x.0 (owner.Rollback 0) (name.Page p) m answer place now.tied now.up now.knows tt (record { in_x = may.in_x; room = may.room }) gives x.1
-    (leads_as held left (asking h spare) x.0 t x.2 (asking_leads held left h spare t leads)))
+    let now = asking_stands w f held h spare place st in
+    let x = page_settles (asking h spare place) t (owner.Rollback id) p m answer place settles in
+    goes_as w f g left (asking h spare place) x.0 t x.2 (facts.obtain w f g held left (asking h spare place) x.0 (owner.Rollback 0) (name.Page p) m answer place now.tied now.up now.knows tt (record { in_x = may.in_x; room = may.room }) gives x.1
+    (leads_as held left (asking h spare place) x.0 t x.2 (asking_leads held left h spare place t leads)))
 obtain_goes facts w f g held left h spare t (owner.Slot slot) (name.Set number) m answer place st slots may gives settles leads = absurd may
 obtain_goes facts w f g held left h spare t (owner.Rollback id) (name.Set number) m answer place st slots may gives settles leads = absurd may
 
 pub grant_goes : Facts → (w : World) (f g : Facility) (held left : Claims) (h : Held) (spare : ℕ) (t : MarksState) (o : Owner) (n : Name) (m : Mode) (answer : Reply) (place : ℕ)
-    → Stands w f held h.marks → SlotsStand h.marks → MayClaim h.marks o n m → cell_slot o n ≤ 16 → GrantsLock f (asking h spare).member (cell_slot o n) n m answer g → SettlesClaims (asking h spare) o n m answer place t → Leads held left h.marks t → Goes w f g left (asking h spare) t
+    → Stands w f held h.marks → SlotsStand h.marks → MayClaim h.marks o n m → cell_slot o n ≤ 16 → GrantsLock f (asking h spare place).member (cell_slot o n) n m answer g → SettlesClaims (asking h spare place) o n m answer place t → Leads held left h.marks t → Goes w f g left (asking h spare place) t
 grant_goes facts w f g held left h spare t (owner.Slot slot) (name.Space table) m answer place st slots may few gives settles leads =
-    let now = asking_stands w f held h spare st in
-    facts.grant w f g held left (asking h spare) t (owner.Slot slot) (name.Space table) m answer place now.tied now.up now.knows (forward_agent facts h.marks slot slots may.forward) (asking_slot h spare slot (name.Space table) m may) few gives settles (asking_leads held left h spare t leads)
+    let now = asking_stands w f held h spare place st in
+    facts.grant w f g held left (asking h spare place) t (owner.Slot slot) (name.Space table) m answer place now.tied now.up now.knows (forward_agent facts h.marks slot slots may.forward) (asking_slot h spare place slot (name.Space table) m may) few gives settles (asking_leads held left h spare place t leads)
 grant_goes facts w f g held left h spare t (owner.Rollback id) (name.Space table) m answer place st slots may few gives settles leads = absurd may
 grant_goes facts w f g held left h spare t (owner.Slot slot) (name.Row table k) m answer place st slots may few gives settles leads =
-    let now = asking_stands w f held h spare st in
-    facts.grant w f g held left (asking h spare) t (owner.Slot slot) (name.Row table k) m answer place now.tied now.up now.knows (forward_agent facts h.marks slot slots may.forward) (asking_slot h spare slot (name.Row table k) m may) few gives settles (asking_leads held left h spare t leads)
+    let now = asking_stands w f held h spare place st in
+    facts.grant w f g held left (asking h spare place) t (owner.Slot slot) (name.Row table k) m answer place now.tied now.up now.knows (forward_agent facts h.marks slot slots may.forward) (asking_slot h spare place slot (name.Row table k) m may) few gives settles (asking_leads held left h spare place t leads)
 grant_goes facts w f g held left h spare t (owner.Rollback id) (name.Row table k) m answer place st slots may few gives settles leads = absurd may
 grant_goes facts w f g held left h spare t (owner.Slot slot) (name.Page p) m answer place st slots may few gives settles leads =
-    let now = asking_stands w f held h spare st in
-    let x = page_settles (asking h spare) t (owner.Slot slot) p m answer place settles in
-    goes_as w f g left (asking h spare) x.0 t x.2 (facts.grant w f g held left (asking h spare) x.0 (owner.Rollback 0) (name.Page p) m answer place now.tied now.up now.knows tt (record { in_x = may.in_x; room = may.room }) few gives x.1
-    (leads_as held left (asking h spare) x.0 t x.2 (asking_leads held left h spare t leads)))
+    let now = asking_stands w f held h spare place st in
+    let x = page_settles (asking h spare place) t (owner.Slot slot) p m answer place settles in
+    goes_as w f g left (asking h spare place) x.0 t x.2 (facts.grant w f g held left (asking h spare place) x.0 (owner.Rollback 0) (name.Page p) m answer place now.tied now.up now.knows tt (record { in_x = may.in_x; room = may.room }) few gives x.1
+    (leads_as held left (asking h spare place) x.0 t x.2 (asking_leads held left h spare place t leads)))
 grant_goes facts w f g held left h spare t (owner.Rollback id) (name.Page p) m answer place st slots may few gives settles leads =
-    let now = asking_stands w f held h spare st in
-    let x = page_settles (asking h spare) t (owner.Rollback id) p m answer place settles in
-    goes_as w f g left (asking h spare) x.0 t x.2 (facts.grant w f g held left (asking h spare) x.0 (owner.Rollback 0) (name.Page p) m answer place now.tied now.up now.knows tt (record { in_x = may.in_x; room = may.room }) few gives x.1
-    (leads_as held left (asking h spare) x.0 t x.2 (asking_leads held left h spare t leads)))
+    let now = asking_stands w f held h spare place st in
+    let x = page_settles (asking h spare place) t (owner.Rollback id) p m answer place settles in
+    goes_as w f g left (asking h spare place) x.0 t x.2 (facts.grant w f g held left (asking h spare place) x.0 (owner.Rollback 0) (name.Page p) m answer place now.tied now.up now.knows tt (record { in_x = may.in_x; room = may.room }) few gives x.1
+    (leads_as held left (asking h spare place) x.0 t x.2 (asking_leads held left h spare place t leads)))
 grant_goes facts w f g held left h spare t (owner.Slot slot) (name.Set number) m answer place st slots may few gives settles leads = absurd may
 grant_goes facts w f g held left h spare t (owner.Rollback id) (name.Set number) m answer place st slots may few gives settles leads = absurd may

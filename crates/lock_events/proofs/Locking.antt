@@ -51,62 +51,62 @@ use Rattle.lock_events.proofs.Stands.{goes_as, goes_from, goes_to, quiet_goes}
 use Rattle.lock_events.proofs.Intents.{Facts, Stands, grant_goes, obtain_goes, over_agent}
 
 -- ---- the member as a reply finds it, where no room was taken
-abbrev pub new : Held → MarksState
-new h = (begun h).marks
+abbrev pub new : Held → ℕ → MarksState
+new h place = (begun h place).marks
 
-pub new_stands : (w : World) (f : Facility) (held : Claims) (h : Held) → Stands w f held h.marks → Stands w f held (new h)
-new_stands w f held h st = record {
+pub new_stands : (w : World) (f : Facility) (held : Claims) (h : Held) (place : ℕ) → Stands w f held h.marks → Stands w f held (new h place)
+new_stands w f held h place st = record {
   tied = st.tied;
   up = record { member = st.up.member; among = st.up.among; few = st.up.few; up = st.up.up; size = st.up.size; book = st.up.book };
   knows = λ o c. st.knows o c;
 }
 
-pub new_leads : (held left : Claims) (h : Held) (t : MarksState) → Leads held left h.marks t → Leads held left (new h) t
-new_leads held left h t leads = record { others = leads.others; own = leads.own }
+pub new_leads : (held left : Claims) (h : Held) (place : ℕ) (t : MarksState) → Leads held left h.marks t → Leads held left (new h place) t
+new_leads held left h place t leads = record { others = leads.others; own = leads.own }
 
 -- ---- a lock is asked for
 pub obtain_run : Facts → (w : World) (u v : event.World) (held left : Claims) (h k : Held) (spare : ℕ) (o : Owner) (n : Name) (m : Mode) (p : Plan) (place : ℕ) (a : Answered) (told : Told)
-    → Stands w u.facility held h.marks → SlotsStand h.marks → MayClaim h.marks o n m → Runs u (begun (with_spare h spare)) (intent.Obtain o n m) (sent.Command (command.Obtain n m)) p place a told v k → Leads held left h.marks k.marks
+    → Stands w u.facility held h.marks → SlotsStand h.marks → MayClaim h.marks o n m → Runs u (begun (with_spare h spare) place) (intent.Obtain o n m) (sent.Command (command.Obtain n m)) p place a told v k → Leads held left h.marks k.marks
     → Goes w u.facility v.facility left h.marks k.marks
 obtain_run facts w u v held left h k spare o n m p place a told st slots may r leads =
-    let same : r.0.after.marks ≡ (begun (with_spare h spare)).marks = ap (λ (z : Held). z.marks) r.0.gives.executed.back in
-    goes_from w u.facility v.facility left h.marks (begun (with_spare h spare)).marks k.marks refl
+    let same : r.0.after.marks ≡ (begun (with_spare h spare) place).marks = ap (λ (z : Held). z.marks) r.0.gives.executed.back in
+    goes_from w u.facility v.facility left h.marks (begun (with_spare h spare) place).marks k.marks refl
     (obtain_goes facts w u.facility v.facility held left h spare k.marks o n m r.0.answer place st slots may r.0.gives.executed.executes.0
     (subst (λ z. SettlesClaims z o n m r.0.answer place k.marks) same r.0.settles.1.0) leads)
 
 pub grant_run : Facts → (w : World) (u v : event.World) (held left : Claims) (h k : Held) (spare : ℕ) (o : Owner) (n : Name) (m : Mode) (p : Plan) (place : ℕ) (a : Answered) (told : Told)
-    → Stands w u.facility held h.marks → SlotsStand h.marks → MayClaim h.marks o n m → Runs u (begun (with_spare h spare)) (intent.Grant o n m) (sent.Command (command.Grant (cell_slot o n) n m)) p place a told v k → Leads held left h.marks k.marks
+    → Stands w u.facility held h.marks → SlotsStand h.marks → MayClaim h.marks o n m → Runs u (begun (with_spare h spare) place) (intent.Grant o n m) (sent.Command (command.Grant (cell_slot o n) n m)) p place a told v k → Leads held left h.marks k.marks
     → Goes w u.facility v.facility left h.marks k.marks
 grant_run facts w u v held left h k spare o n m p place a told st slots may r leads =
-    let same : r.0.after.marks ≡ (begun (with_spare h spare)).marks = ap (λ (z : Held). z.marks) r.0.gives.executed.back in
-    goes_from w u.facility v.facility left h.marks (begun (with_spare h spare)).marks k.marks refl
+    let same : r.0.after.marks ≡ (begun (with_spare h spare) place).marks = ap (λ (z : Held). z.marks) r.0.gives.executed.back in
+    goes_from w u.facility v.facility left h.marks (begun (with_spare h spare) place).marks k.marks refl
     (grant_goes facts w u.facility v.facility held left h spare k.marks o n m r.0.answer place st slots may r.0.gives.can.0 r.0.gives.executed.executes.0
     (subst (λ z. SettlesClaims z o n m r.0.answer place k.marks) same r.0.settles.1.0) leads)
 
 -- ---- queries: the marks stay
-same_new : (h k after : Held) → after.marks ≡ new h → k ≡ after → SameClaims (new h) k.marks
-same_new h k after a e = record { locks = ap (λ (z : Held). z.marks.locks) e ∙ ap (λ (z : MarksState). z.locks) a; member = ap (λ (z : Held). z.marks.member) e ∙ ap (λ (z : MarksState). z.member) a }
+same_new : (h : Held) (place : ℕ) (k after : Held) → after.marks ≡ new h place → k ≡ after → SameClaims (new h place) k.marks
+same_new h place k after a e = record { locks = ap (λ (z : Held). z.marks.locks) e ∙ ap (λ (z : MarksState). z.locks) a; member = ap (λ (z : Held). z.marks.member) e ∙ ap (λ (z : MarksState). z.member) a }
 
 -- of what is left, the claims are those of these marks
 back_leads : (held left : Claims) (s t u : MarksState) → SameClaims t u → Leads held left s u → Leads held left s t
 back_leads held left s t u same leads = record { others = leads.others; own = λ o c. leads.own o c ∙ ap (λ z. claim_in z o c) same.locks }
 
 pub ask_run : Facts → (w : World) (u v : event.World) (held left : Claims) (h k : Held) (o : Owner) (to : ℕ) (n : Name) (m : Mode) (p : Plan) (place : ℕ) (a : Answered) (told : Told)
-    → Stands w u.facility held h.marks → Runs u (begun h) (intent.Ask o to n m) (sent.Command (command.Ask (cell_slot o n) to n m)) p place a told v k → Leads held left h.marks k.marks → Goes w u.facility v.facility left h.marks k.marks
+    → Stands w u.facility held h.marks → Runs u (begun h place) (intent.Ask o to n m) (sent.Command (command.Ask (cell_slot o n) to n m)) p place a told v k → Leads held left h.marks k.marks → Goes w u.facility v.facility left h.marks k.marks
 ask_run facts w u v held left h k o to n m p place a told st r leads =
-    let now = new_stands w u.facility held h st in
-    let same : SameClaims (new h) k.marks = same_new h k r.0.after (ap (λ (z : Held). z.marks) r.0.gives.executed.back) r.0.settles.1 in
-    let own : Leads held left (new h) (new h) = back_leads held left (new h) (new h) k.marks same (new_leads held left h k.marks leads) in
-    goes_from w u.facility v.facility left h.marks (new h) k.marks refl (goes_as w u.facility v.facility left (new h) (new h) k.marks same (elim (member_or to) [
-      | inl is ↦ facts.ask w u.facility v.facility held left (new h) (cell_slot o n) to n m r.0.answer now.tied now.up now.knows r.0.gives.can is r.0.gives.executed.executes.0 own
-      | inr isnt ↦ strangers facts.stay w u.facility v.facility held left (new h) (slot_of h.marks.member (cell_slot o n)) to (cell.Asked n m) now.tied now.up now.knows own (none_to (slot_of h.marks.member (cell_slot o n)) to isnt) r.0.gives.executed.executes.0.1.0 r.0.gives.executed.executes.0.1.1
+    let now = new_stands w u.facility held h place st in
+    let same : SameClaims (new h place) k.marks = same_new h place k r.0.after (ap (λ (z : Held). z.marks) r.0.gives.executed.back) r.0.settles.1 in
+    let own : Leads held left (new h place) (new h place) = back_leads held left (new h place) (new h place) k.marks same (new_leads held left h place k.marks leads) in
+    goes_from w u.facility v.facility left h.marks (new h place) k.marks refl (goes_as w u.facility v.facility left (new h place) (new h place) k.marks same (elim (member_or to) [
+      | inl is ↦ facts.ask w u.facility v.facility held left (new h place) (cell_slot o n) to n m r.0.answer now.tied now.up now.knows r.0.gives.can is r.0.gives.executed.executes.0 own
+      | inr isnt ↦ strangers facts.stay w u.facility v.facility held left (new h place) (slot_of h.marks.member (cell_slot o n)) to (cell.Asked n m) now.tied now.up now.knows own (none_to (slot_of h.marks.member (cell_slot o n)) to isnt) r.0.gives.executed.executes.0.1.0 r.0.gives.executed.executes.0.1.1
     ]))
 
 -- what the lock manager says is the same in the event
-told_as : (h : Held) (x : LockAnswer) → cell_for h.marks x ≡ cell_for (new h) x
-told_as h answer.Clean = refl
-told_as h (answer.Conflict by) = refl
-told_as h (answer.Postponed by) = refl
+told_as : (h : Held) (place : ℕ) (x : LockAnswer) → cell_for h.marks x ≡ cell_for (new h place) x
+told_as h place answer.Clean = refl
+told_as h place (answer.Conflict by) = refl
+told_as h place (answer.Postponed by) = refl
 
 stranger_answers : Facts → (w : World) (f g : Facility) (held left : Claims) (s : MarksState) (asker : Asker) (n : Name) (m : Mode) (x : CellAnswer) (event : ℕ) (answer : Reply)
     → Stands w f held s → ((j : ℕ) → IsMember j → j ≢ asker.member) → AnswersQuery f s.member asker n m x event answer g → Leads held left s s → Goes w f g left s s
@@ -145,49 +145,49 @@ stranger_answers facts w f g held left s asker n m x event (reply.Stale index) s
 stranger_answers facts w f g held left s asker n m x event (reply.LrsnEnd at) st other e leads = absurd e
 
 pub answer_run : Facts → (w : World) (u v : event.World) (held left : Claims) (h k : Held) (asker : Asker) (n : Name) (m : Mode) (at : ℕ) (p : Plan) (place : ℕ) (a : Answered) (told : Told)
-    → Stands w u.facility held h.marks → Runs u (begun h) (intent.Answer asker n m) (sent.Command (command.Answer asker n m (answer_to h.marks n m) at)) p place a told v k → Leads held left h.marks k.marks
+    → Stands w u.facility held h.marks → Runs u (begun h place) (intent.Answer asker n m) (sent.Command (command.Answer asker n m (answer_to h.marks n m) at)) p place a told v k → Leads held left h.marks k.marks
     → Goes w u.facility v.facility left h.marks k.marks
 answer_run facts w u v held left h k asker n m at p place a told st r leads =
-    let now = new_stands w u.facility held h st in
-    let same : SameClaims (new h) k.marks = same_new h k r.0.after (ap (λ (z : Held). z.marks) r.0.gives.executed.back) r.0.settles.1 in
-    let own : Leads held left (new h) (new h) = back_leads held left (new h) (new h) k.marks same (new_leads held left h k.marks leads) in
-    let said : AnswersQuery u.facility h.marks.member asker n m (answer_to (new h) n m) at r.0.answer v.facility =
-    subst (λ z. AnswersQuery u.facility h.marks.member asker n m z at r.0.answer v.facility) (told_as h (answer_of h.marks.locks n m)) r.0.gives.executed.executes.0 in
-    goes_from w u.facility v.facility left h.marks (new h) k.marks refl (goes_as w u.facility v.facility left (new h) (new h) k.marks same (elim (member_or asker.member) [
-      | inl is ↦ facts.answer w u.facility v.facility held left (new h) asker n m at r.0.answer now.tied now.up now.knows (is, r.0.gives.can) said own
-      | inr isnt ↦ stranger_answers facts w u.facility v.facility held left (new h) asker n m (answer_to (new h) n m) at r.0.answer now isnt said own
+    let now = new_stands w u.facility held h place st in
+    let same : SameClaims (new h place) k.marks = same_new h place k r.0.after (ap (λ (z : Held). z.marks) r.0.gives.executed.back) r.0.settles.1 in
+    let own : Leads held left (new h place) (new h place) = back_leads held left (new h place) (new h place) k.marks same (new_leads held left h place k.marks leads) in
+    let said : AnswersQuery u.facility h.marks.member asker n m (answer_to (new h place) n m) at r.0.answer v.facility =
+    subst (λ z. AnswersQuery u.facility h.marks.member asker n m z at r.0.answer v.facility) (told_as h place (answer_of h.marks.locks n m)) r.0.gives.executed.executes.0 in
+    goes_from w u.facility v.facility left h.marks (new h place) k.marks refl (goes_as w u.facility v.facility left (new h place) (new h place) k.marks same (elim (member_or asker.member) [
+      | inl is ↦ facts.answer w u.facility v.facility held left (new h place) asker n m at r.0.answer now.tied now.up now.knows (is, r.0.gives.can) said own
+      | inr isnt ↦ stranger_answers facts w u.facility v.facility held left (new h place) asker n m (answer_to (new h place) n m) at r.0.answer now isnt said own
     ]))
 
 -- ---- locks are given up
-releasing_as : (h : Held) (o : Owner) (x : Option (Name × Interest)) → releasing h.marks o ≡ x → releasing (new h) o ≡ x
-releasing_as h (owner.Slot slot) x e = e
-releasing_as h (owner.Rollback id) x e = e
+releasing_as : (h : Held) (place : ℕ) (o : Owner) (x : Option (Name × Interest)) → releasing h.marks o ≡ x → releasing (new h place) o ≡ x
+releasing_as h place (owner.Slot slot) x e = e
+releasing_as h place (owner.Rollback id) x e = e
 
-agent_as : (h : Held) (o : Owner) → IsAgent h.marks o → IsAgent (new h) o
-agent_as h (owner.Slot slot) a = a
-agent_as h (owner.Rollback id) a = a
+agent_as : (h : Held) (place : ℕ) (o : Owner) → IsAgent h.marks o → IsAgent (new h place) o
+agent_as h place (owner.Slot slot) a = a
+agent_as h place (owner.Rollback id) a = a
 
 -- what is settled is settled of the marks that the reply found
-settled_of : (h after k : Held) (f : MarksState → MarksState) → after.marks ≡ new h → k ≡ with_marks after (f after.marks) → k.marks ≡ f (new h)
-settled_of h after k f a e = ap (λ (z : Held). z.marks) e ∙ ap f a
+settled_of : (h : Held) (place : ℕ) (after k : Held) (f : MarksState → MarksState) → after.marks ≡ new h place → k ≡ with_marks after (f after.marks) → k.marks ≡ f (new h place)
+settled_of h place after k f a e = ap (λ (z : Held). z.marks) e ∙ ap f a
 
 pub release_run : Facts → (w : World) (u v : event.World) (held left : Claims) (h k : Held) (o : Owner) (x : Name × Interest) (p : Plan) (place : ℕ) (a : Answered) (told : Told)
-    → Stands w u.facility held h.marks → IsAgent h.marks o → releasing h.marks o ≡ Some x → Runs u (begun h) (intent.ReleaseLock o) (sent.Command (command.Release x.0 x.1)) p place a told v k → Leads held left h.marks k.marks
+    → Stands w u.facility held h.marks → IsAgent h.marks o → releasing h.marks o ≡ Some x → Runs u (begun h place) (intent.ReleaseLock o) (sent.Command (command.Release x.0 x.1)) p place a told v k → Leads held left h.marks k.marks
     → Goes w u.facility v.facility left h.marks k.marks
 release_run facts w u v held left h k o x p place a told st agent next r leads =
-    let now = new_stands w u.facility held h st in
-    goes_from w u.facility v.facility left h.marks (new h) k.marks refl
-    (facts.release w u.facility v.facility held left (new h) k.marks o x.0 x.1 r.0.answer now.tied now.up now.knows (agent_as h o agent) (releasing_as h o (Some x) next) r.0.gives.executed.executes.0
-    (settled_of h r.0.after k (λ z. released_after z o r.0.answer) (ap (λ (z : Held). z.marks) r.0.gives.executed.back) r.0.settles.1) (new_leads held left h k.marks leads))
+    let now = new_stands w u.facility held h place st in
+    goes_from w u.facility v.facility left h.marks (new h place) k.marks refl
+    (facts.release w u.facility v.facility held left (new h place) k.marks o x.0 x.1 r.0.answer now.tied now.up now.knows (agent_as h place o agent) (releasing_as h place o (Some x) next) r.0.gives.executed.executes.0
+    (settled_of h place r.0.after k (λ z. released_after z o r.0.answer) (ap (λ (z : Held). z.marks) r.0.gives.executed.back) r.0.settles.1) (new_leads held left h place k.marks leads))
 
 pub page_run : Facts → (w : World) (u v : event.World) (held left : Claims) (h k : Held) (page : PageId) (x : Name × Interest) (p : Plan) (place : ℕ) (a : Answered) (told : Told)
-    → Stands w u.facility held h.marks → releasing_page h.marks page ≡ Some x → Runs u (begun h) (intent.ReleasePage page) (sent.Command (command.Release x.0 x.1)) p place a told v k → Leads held left h.marks k.marks
+    → Stands w u.facility held h.marks → releasing_page h.marks page ≡ Some x → Runs u (begun h place) (intent.ReleasePage page) (sent.Command (command.Release x.0 x.1)) p place a told v k → Leads held left h.marks k.marks
     → Goes w u.facility v.facility left h.marks k.marks
 page_run facts w u v held left h k page x p place a told st next r leads =
-    let now = new_stands w u.facility held h st in
-    goes_from w u.facility v.facility left h.marks (new h) k.marks refl
-    (facts.page w u.facility v.facility held left (new h) k.marks page x.0 x.1 r.0.answer now.tied now.up now.knows next r.0.gives.executed.executes.0
-    (settled_of h r.0.after k (λ z. page_released_after z page r.0.answer) (ap (λ (z : Held). z.marks) r.0.gives.executed.back) r.0.settles.1) (new_leads held left h k.marks leads))
+    let now = new_stands w u.facility held h place st in
+    goes_from w u.facility v.facility left h.marks (new h place) k.marks refl
+    (facts.page w u.facility v.facility held left (new h place) k.marks page x.0 x.1 r.0.answer now.tied now.up now.knows next r.0.gives.executed.executes.0
+    (settled_of h place r.0.after k (λ z. page_released_after z page r.0.answer) (ap (λ (z : Held). z.marks) r.0.gives.executed.back) r.0.settles.1) (new_leads held left h place k.marks leads))
 
 purged_same : (s : MarksState) (n : Name) (answer : Reply) → SameClaims s (purged_after s n answer)
 purged_same s n (reply.Granted version) = record { locks = refl; member = refl }
@@ -225,42 +225,42 @@ purged_same s n (reply.Stale index) = record { locks = refl; member = refl }
 purged_same s n (reply.LrsnEnd at) = record { locks = refl; member = refl }
 
 pub purge_run : Facts → (w : World) (u v : event.World) (held left : Claims) (h k : Held) (n : Name) (p : Plan) (place : ℕ) (a : Answered) (told : Told)
-    → Stands w u.facility held h.marks → is_claimed h.marks n ≡ false → Runs u (begun h) (intent.Purge n) (sent.Command (command.Purge n)) p place a told v k → Leads held left h.marks k.marks → Goes w u.facility v.facility left h.marks k.marks
+    → Stands w u.facility held h.marks → is_claimed h.marks n ≡ false → Runs u (begun h place) (intent.Purge n) (sent.Command (command.Purge n)) p place a told v k → Leads held left h.marks k.marks → Goes w u.facility v.facility left h.marks k.marks
 purge_run facts w u v held left h k n p place a told st none r leads =
-    let now = new_stands w u.facility held h st in
-    let is : k.marks ≡ purged_after (new h) n r.0.answer = settled_of h r.0.after k (λ z. purged_after z n r.0.answer) (ap (λ (z : Held). z.marks) r.0.gives.executed.back) r.0.settles.1 in
-    let same : SameClaims (new h) k.marks = subst (λ z. SameClaims (new h) z) (sym is) (purged_same (new h) n r.0.answer) in
-    goes_from w u.facility v.facility left h.marks (new h) k.marks refl (goes_as w u.facility v.facility left (new h) (new h) k.marks same
-    (facts.purge w u.facility v.facility held left (new h) n r.0.answer now.tied now.up now.knows none r.0.gives.executed.executes.0 (back_leads held left (new h) (new h) k.marks same (new_leads held left h k.marks leads))))
+    let now = new_stands w u.facility held h place st in
+    let is : k.marks ≡ purged_after (new h place) n r.0.answer = settled_of h place r.0.after k (λ z. purged_after z n r.0.answer) (ap (λ (z : Held). z.marks) r.0.gives.executed.back) r.0.settles.1 in
+    let same : SameClaims (new h place) k.marks = subst (λ z. SameClaims (new h place) z) (sym is) (purged_same (new h place) n r.0.answer) in
+    goes_from w u.facility v.facility left h.marks (new h place) k.marks refl (goes_as w u.facility v.facility left (new h place) (new h place) k.marks same
+    (facts.purge w u.facility v.facility held left (new h place) n r.0.answer now.tied now.up now.knows none r.0.gives.executed.executes.0 (back_leads held left (new h place) (new h place) k.marks same (new_leads held left h place k.marks leads))))
 
 -- ---- a transaction ends
 ended_done : (s t : MarksState) (o : Owner) (answer : Reply) → answer ≡ reply.Done → t ≡ ended_after s o answer → t ≡ after_end_of s o
 ended_done s t o answer e is = subst (λ z. t ≡ ended_after s o z) e is
 
 end_told : Facts → (w : World) (u v : event.World) (held left : Claims) (h k : Held) (o : Owner) (p : Plan) (place : ℕ) (a : Answered) (told : Told)
-    → Stands w u.facility held h.marks → Runs u (begun h) (intent.End o) (sent.Command (command.End (id_of h.marks o))) p place a told v k → Leads held left h.marks k.marks → Goes w u.facility v.facility left h.marks k.marks
+    → Stands w u.facility held h.marks → Runs u (begun h place) (intent.End o) (sent.Command (command.End (id_of h.marks o))) p place a told v k → Leads held left h.marks k.marks → Goes w u.facility v.facility left h.marks k.marks
 end_told facts w u v held left h k o p place a told st r leads =
-    let now = new_stands w u.facility held h st in
-    let is : k.marks ≡ ended_after (new h) o r.0.answer = settled_of h r.0.after k (λ z. ended_after z o r.0.answer) (ap (λ (z : Held). z.marks) r.0.gives.executed.back) r.0.settles.1 in
-    goes_from w u.facility v.facility left h.marks (new h) k.marks refl
-    (facts.end w u.facility v.facility held left (new h) k.marks o (id_of h.marks o) r.0.answer now.tied now.up now.knows (ended_done (new h) k.marks o r.0.answer r.0.gives.executed.executes.0.0 is) r.0.gives.executed.executes.0 (new_leads held left h k.marks leads))
+    let now = new_stands w u.facility held h place st in
+    let is : k.marks ≡ ended_after (new h place) o r.0.answer = settled_of h place r.0.after k (λ z. ended_after z o r.0.answer) (ap (λ (z : Held). z.marks) r.0.gives.executed.back) r.0.settles.1 in
+    goes_from w u.facility v.facility left h.marks (new h place) k.marks refl
+    (facts.end w u.facility v.facility held left (new h place) k.marks o (id_of h.marks o) r.0.answer now.tied now.up now.knows (ended_done (new h place) k.marks o r.0.answer r.0.gives.executed.executes.0.0 is) r.0.gives.executed.executes.0 (new_leads held left h place k.marks leads))
 
 -- nothing is sent: as if it were, but for the waits
 end_untold : Facts → (w : World) (u v : event.World) (held left : Claims) (h k : Held) (o : Owner) (p : Plan) (place : ℕ) (a : Answered) (told : Told)
-    → Stands w u.facility held h.marks → Runs u (begun h) (intent.End o) sent.None p place a told v k → Leads held left h.marks k.marks → Goes w u.facility v.facility left h.marks k.marks
+    → Stands w u.facility held h.marks → Runs u (begun h place) (intent.End o) sent.None p place a told v k → Leads held left h.marks k.marks → Goes w u.facility v.facility left h.marks k.marks
 end_untold facts w u v held left h k o p place a told st r leads =
-    let now = new_stands w u.facility held h st in
+    let now = new_stands w u.facility held h place st in
     let f = u.facility in
     let ended : Facility = record f { lists = ring (record f.lists { waits = without_tran f.lists.waits (id_of h.marks o); flags = map (raised_by (id_of h.marks o)) f.lists.flags }) } in
-    let first : Goes w f ended left (new h) k.marks = facts.end w f ended held left (new h) k.marks o (id_of h.marks o) reply.Done now.tied now.up now.knows (ap (λ (z : Held). z.marks) r.held) (refl, refl) (new_leads held left h k.marks leads) in
-    let back : Goes w f f left (new h) k.marks = goes_to facts.stay w f ended f left (new h) k.marks (record { locks = refl; lists = record { cells = refl; statuses = refl; members = refl } }) first in
+    let first : Goes w f ended left (new h place) k.marks = facts.end w f ended held left (new h place) k.marks o (id_of h.marks o) reply.Done now.tied now.up now.knows (ap (λ (z : Held). z.marks) r.held) (refl, refl) (new_leads held left h place k.marks leads) in
+    let back : Goes w f f left (new h place) k.marks = goes_to facts.stay w f ended f left (new h place) k.marks (record { locks = refl; lists = record { cells = refl; statuses = refl; members = refl } }) first in
     let is : v.facility ≡ f = ap (λ (z : event.World). z.facility) r.world in
-    goes_from w f v.facility left h.marks (new h) k.marks refl (subst (λ z. Goes w f z left (new h) k.marks) (sym is) back)
+    goes_from w f v.facility left h.marks (new h place) k.marks refl (subst (λ z. Goes w f z left (new h place) k.marks) (sym is) back)
 
 pub end_run : Facts → (w : World) (u v : event.World) (held left : Claims) (h k : Held) (o : Owner) (p : Plan) (place : ℕ) (a : Answered) (told : Told)
-    → Stands w u.facility held h.marks → Runs u (begun h) (intent.End o) (end_sent h.marks o) p place a told v k → Leads held left h.marks k.marks → Goes w u.facility v.facility left h.marks k.marks
+    → Stands w u.facility held h.marks → Runs u (begun h place) (intent.End o) (end_sent h.marks o) p place a told v k → Leads held left h.marks k.marks → Goes w u.facility v.facility left h.marks k.marks
 end_run facts w u v held left h k o p place a told st r leads = by ((id_of h.marks o).number == 0) r
   where
-    by : (b : Bool) → Runs u (begun h) (intent.End o) (if b then sent.None else sent.Command (command.End (id_of h.marks o))) p place a told v k → Goes w u.facility v.facility left h.marks k.marks
+    by : (b : Bool) → Runs u (begun h place) (intent.End o) (if b then sent.None else sent.Command (command.End (id_of h.marks o))) p place a told v k → Goes w u.facility v.facility left h.marks k.marks
     by true x = end_untold facts w u v held left h k o p place a told st x leads
     by false x = end_told facts w u v held left h k o p place a told st x leads

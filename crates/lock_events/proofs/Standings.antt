@@ -205,4 +205,4 @@ pub standings_stay : SendsLawfully → StandingsStay
 standings_stay law u v h k i place s a happens =
     let c : Setting = setting_of h (holder_in u.facility h.cast) place in
     let may : Lawful h.marks h.pages c i s = law h.marks h.pages c i s (needs_sent (need_of h.marks h.pages c i) (intent_plan h.marks h.pages h.limit i) s happens.plan happens.lawful) in
-    runs_same u v (begun happens.ready) happens.after i s happens.plan place a happens.said (sets_none h.marks h.pages c i s may) happens.runs
+    runs_same u v (begun happens.ready place) happens.after i s happens.plan place a happens.said (sets_none h.marks h.pages c i s may) happens.runs

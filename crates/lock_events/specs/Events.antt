@@ -21,6 +21,6 @@ EventGoes = (w : World) (u v : event.World) (held left : Claims) (h k : Held) (i
 
 -- the member is told of its restart or its rebuild
 abbrev pub ToldGoes : Type 0
-ToldGoes = (w : World) (u : event.World) (held left : Claims) (h k : Held)
+ToldGoes = (w : World) (u : event.World) (held left : Claims) (h k : Held) (place : ℕ)
     → Sound (entry_in u.facility.locks) w → Tied w u.facility.locks u.facility.lists held → IsUp u.facility h.marks → Knows held h.marks
-    → Ends (begun h) k → Leads held left h.marks k.marks → Goes w u.facility u.facility left h.marks k.marks
+    → Ends (begun h place) k → Leads held left h.marks k.marks → Goes w u.facility u.facility left h.marks k.marks

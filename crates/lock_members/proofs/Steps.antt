@@ -180,28 +180,28 @@ quiet_runs facts u v h k i (sent.ReadLog member at count) a said q r = same_faci
 quiet_runs facts u v h k i (sent.ReadPage page) a said q r = same_facility u.facility v.facility r.1
 quiet_runs facts u v h k i (sent.WritePage page) a said q r = same_facility u.facility v.facility r.1
 
-quiet_rebuild : Facts → (m n : Member) (u v : event.World) (s : RebuildSent) (a : Answered) → Rebuilds m u s a v n → Quiet u.facility v.facility
-quiet_rebuild facts m n u v s a r =
+quiet_rebuild : Facts → (m n : Member) (u v : event.World) (place : ℕ) (s : RebuildSent) (a : Answered) → Rebuilds m u place s a v n → Quiet u.facility v.facility
+quiet_rebuild facts m n u v place s a r =
     let h = r.makes.happens in
     quiet_runs facts (as_rebuilding u) (as_rebuilding v) r.makes.before.resources r.reached.resources h.intent s a h.said (needed (need_of r.makes.before.resources h.intent) s h.lawful (quiet_need r.makes.before.resources h.intent)) h.runs
 
 -- what the member holds behind it: nothing else, or what its policy has made of what it was told
-pub record Behind (m mid : Member) : Type 0 where
+pub record Behind (m : Member) (place : ℕ) (mid : Member) : Type 0 where
   pub after : Held
-  pub tells : (after ≡ m.holds) ⊎ Tells m.holds after
+  pub tells : (after ≡ m.holds) ⊎ Tells m.holds place after
   pub holds : mid.holds ≡ after
   pub restart : mid.restart ≡ m.restart
   pub id : mid.id ≡ m.id
 
-behind : (m mid : Member) (q : Rebuilding) (b : Bool) → RebuildEnds b q m mid → Behind m mid
-behind m mid q true e = record {
+behind : (m : Member) (place : ℕ) (mid : Member) (q : Rebuilding) (b : Bool) → RebuildEnds b q m place mid → Behind m place mid
+behind m place mid q true e = record {
   after = m.holds;
   tells = inl refl;
   holds = ap (λ (z : Member). z.holds) e;
   restart = ap (λ (z : Member). z.restart) e;
   id = ap (λ (z : Member). z.id) e;
 }
-behind m mid q false e = record {
+behind m place mid q false e = record {
   after = e.after;
   tells = inr e.tells;
   holds = ap (λ (z : Member). z.holds) e.member;
@@ -209,20 +209,20 @@ behind m mid q false e = record {
   id = ap (λ (z : Member). z.id) e.member;
 }
 
-begun_slots : (s : MarksState) → SlotsStand s → AreSlots (after_event s.trans) s.locks.agents
-begun_slots s h = entered_slots s.trans (after_event s.trans) s.locks.agents h refl refl
+begun_slots : (s : MarksState) (place : ℕ) → SlotsStand s → AreSlots (after_event s.trans place) s.locks.agents
+begun_slots s place h = entered_slots s.trans (after_event s.trans place) s.locks.agents h refl refl
 
-told_slots : Facts → (h k : Held) → (k ≡ h) ⊎ Tells h k → SlotsStand h.marks → SlotsStand k.marks
-told_slots facts h k (inl e) slots = subst (λ (z : Held). SlotsStand z.marks) (sym e) slots
-told_slots facts h k (inr ends) slots = facts.local (begun h).marks k.marks ends.0 (begun_slots h.marks slots)
+told_slots : Facts → (h : Held) (place : ℕ) (k : Held) → (k ≡ h) ⊎ Tells h place k → SlotsStand h.marks → SlotsStand k.marks
+told_slots facts h place k (inl e) slots = subst (λ (z : Held). SlotsStand z.marks) (sym e) slots
+told_slots facts h place k (inr ends) slots = facts.local (begun h place).marks k.marks ends.0 (begun_slots h.marks place slots)
 
-told_goes : Facts → (w : World) (u : event.World) (held left : Claims) (m : Member) (k : Held) → Sound (entry_in u.facility.locks) w → Tied w u.facility.locks u.facility.lists held → MemberIsUp u.facility m → KnowsOwn held m
-    → (k ≡ m.holds) ⊎ Tells m.holds k → Leads held left m.holds.marks k.marks → Goes w u.facility u.facility left m.holds.marks k.marks
-told_goes facts w u held left m k sound tied up knows (inr ends) leads = facts.told w u held left m.holds k sound tied up.up (knows_marks u.facility held m up knows) ends leads
-told_goes facts w u held left m k sound tied up knows (inl e) leads =
-    let to : Held = begun m.holds in
+told_goes : Facts → (w : World) (u : event.World) (held left : Claims) (m : Member) (place : ℕ) (k : Held) → Sound (entry_in u.facility.locks) w → Tied w u.facility.locks u.facility.lists held → MemberIsUp u.facility m → KnowsOwn held m
+    → (k ≡ m.holds) ⊎ Tells m.holds place k → Leads held left m.holds.marks k.marks → Goes w u.facility u.facility left m.holds.marks k.marks
+told_goes facts w u held left m place k sound tied up knows (inr ends) leads = facts.told w u held left m.holds k place sound tied up.up (knows_marks u.facility held m up knows) ends leads
+told_goes facts w u held left m place k sound tied up knows (inl e) leads =
+    let to : Held = begun m.holds place in
     let same : k.marks.locks ≡ to.marks.locks = ap (λ (z : Held). z.marks.locks) e in
-    let first : Goes w u.facility u.facility left m.holds.marks to.marks = facts.told w u held left m.holds to sound tied up.up (knows_marks u.facility held m up knows) (stays to.marks, refl)
+    let first : Goes w u.facility u.facility left m.holds.marks to.marks = facts.told w u held left m.holds to place sound tied up.up (knows_marks u.facility held m up knows) (stays to.marks, refl)
     (record { others = leads.others; own = λ o c. leads.own o c ∙ ap (λ (z : Book). claim_in z o c) same }) in
     record {
       moves = first.moves;
@@ -231,27 +231,27 @@ told_goes facts w u held left m k sound tied up knows (inl e) leads =
       stands = same_marks u.facility to.marks k.marks first.stands same (ap (λ (z : Held). z.marks.member) e);
     }
 
-rebuild_goes : Facts → (w : World) (u v : event.World) (held left : Claims) (m mid n : Member) (f g : FatesState) (s : RebuildSent) (a : Answered)
-    → Sound (entry_in u.facility.locks) w → Tied w u.facility.locks u.facility.lists held → MemberIsUp u.facility m → KnowsOwn held m → Rebuilds m u s a v mid → Enters mid f n g → LeadsTo held left m n → MemberGoes w u.facility v.facility left m n
-rebuild_goes facts w u v held left m mid n f g s a sound tied up knows makes enters leads =
-    let b : Behind m mid = behind m mid makes.reached (is_failure a) makes.ends in
-    let quiet : Quiet u.facility v.facility = quiet_rebuild facts m mid u v s a makes in
+rebuild_goes : Facts → (w : World) (u v : event.World) (held left : Claims) (m mid n : Member) (f g : FatesState) (place : ℕ) (s : RebuildSent) (a : Answered)
+    → Sound (entry_in u.facility.locks) w → Tied w u.facility.locks u.facility.lists held → MemberIsUp u.facility m → KnowsOwn held m → Rebuilds m u place s a v mid → Enters mid f n g → LeadsTo held left m n → MemberGoes w u.facility v.facility left m n
+rebuild_goes facts w u v held left m mid n f g place s a sound tied up knows makes enters leads =
+    let b : Behind m place mid = behind m place mid makes.reached (is_failure a) makes.ends in
+    let quiet : Quiet u.facility v.facility = quiet_rebuild facts m mid u v place s a makes in
     let rests : n.restart ≡ None = ap (λ (z : Member). z.restart) enters.member ∙ b.restart ∙ up.rests in
     let holds : n.holds ≡ told_once b.after = ap (λ (z : Member). z.holds) enters.member ∙ ap (λ (z : Held). told_once z) b.holds in
     entered w u.facility v.facility left m n b.after up (ap (λ (z : Member). z.id) enters.member ∙ b.id) rests holds
     (facts.stay w u.facility u.facility v.facility left m.holds.marks b.after.marks quiet
-    (told_goes facts w u held left m b.after sound tied up knows b.tells (leads_marks u.facility held left m n b.after.marks up rests (ap (λ (z : Held). z.marks.locks) holds) leads)))
-    (told_slots facts m.holds b.after b.tells up.slots) (record { statuses = quiet.lists.statuses; members = quiet.lists.members })
+    (told_goes facts w u held left m place b.after sound tied up knows b.tells (leads_marks u.facility held left m n b.after.marks up rests (ap (λ (z : Held). z.marks.locks) holds) leads)))
+    (told_slots facts m.holds place b.after b.tells up.slots) (record { statuses = quiet.lists.statuses; members = quiet.lists.members })
 
 -- ---- whose event it is; no restart is in hand
-no_restart : (m n : Member) (u v : event.World) (s : RestartSent) (a : Answered) → m.restart ≡ None → Restarts m u s a v n → ⊥
-no_restart m n u v s a rests r = let never : Some r.makes.before ≡ None = sym r.makes.had ∙ rests in cc
+no_restart : (m n : Member) (u v : event.World) (place : ℕ) (s : RestartSent) (a : Answered) → m.restart ≡ None → Restarts m u place s a v n → ⊥
+no_restart m n u v place s a rests r = let never : Some r.makes.before ≡ None = sym r.makes.had ∙ rests in cc
 
 made : Facts → (w : World) (u v : event.World) (held left : Claims) (m mid n : Member) (f g : FatesState) (place : ℕ) (stepped : Stepped)
     → Sound (entry_in u.facility.locks) w → Tied w u.facility.locks u.facility.lists held → MemberIsUp u.facility m → KnowsOwn held m → Makes m u place stepped v mid → Enters mid f n g → LeadsTo held left m n → MemberGoes w u.facility v.facility left m n
 made facts w u v held left m mid n f g place (steps.Sent s a) sound tied up knows makes enters leads = own_goes facts w u v held left m mid n f g place s a sound tied up knows makes enters leads
-made facts w u v held left m mid n f g place (steps.Restart s a) sound tied up knows makes enters leads = absurd (no_restart m mid u v s a up.rests makes)
-made facts w u v held left m mid n f g place (steps.Rebuild s a) sound tied up knows makes enters leads = rebuild_goes facts w u v held left m mid n f g s a sound tied up knows makes enters leads
+made facts w u v held left m mid n f g place (steps.Restart s a) sound tied up knows makes enters leads = absurd (no_restart m mid u v place s a up.rests makes)
+made facts w u v held left m mid n f g place (steps.Rebuild s a) sound tied up knows makes enters leads = rebuild_goes facts w u v held left m mid n f g place s a sound tied up knows makes enters leads
 made facts w u v held left m mid n f g place steps.Failed sound tied up knows makes enters leads = absurd makes
 
 pub steps_go : Facts → StepsGo

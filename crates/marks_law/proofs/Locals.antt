@@ -118,11 +118,11 @@ waits_by s id (Some by) = record { agents = refl; slots = λ h. same_slots s.tra
 
 -- ---- any of them
 stands_moved : (s : MarksState) (x : Local) → Stands s (moved x s)
-stands_moved s (Claim slot n m event has_memory spare) = stands_if s _ _ (may_claim s slot n) (λ e. tried s slot n m event has_memory spare (ask_of s.locks slot n m)) (λ e. stands_itself s)
+stands_moved s (Claim slot n m has_memory spare) = stands_if s _ _ (may_claim s slot n) (λ e. tried s slot n m s.trans.place has_memory spare (ask_of s.locks slot n m)) (λ e. stands_itself s)
 stands_moved s (Begin slot n has_memory lock_room room) = stands_begun s slot n has_memory lock_room room
 stands_moved s (Refuse slot) = stands_kept s _ (kept_trans s (after_refuse s.trans slot) (refuse_slots s.trans s.locks.agents slot))
-stands_moved s (Abort slot event) = stands_kept s _ (kept_trans s (refused_for s.trans slot refusal.Aborted event) (refused_slots s.trans s.locks.agents slot refusal.Aborted event))
-stands_moved s (RefuseForMemory slot event) = stands_kept s _ (kept_trans s (refused_for s.trans slot refusal.Memory event) (refused_slots s.trans s.locks.agents slot refusal.Memory event))
+stands_moved s (Abort slot) = stands_kept s _ (kept_trans s (refused_for s.trans slot refusal.Aborted s.trans.place) (refused_slots s.trans s.locks.agents slot refusal.Aborted s.trans.place))
+stands_moved s (RefuseForMemory slot) = stands_kept s _ (kept_trans s (refused_for s.trans slot refusal.Memory s.trans.place) (refused_slots s.trans s.locks.agents slot refusal.Memory s.trans.place))
 stands_moved s (Place p) = stands_if s _ _ (is_none (find_page s.heads.frames p)) (λ e. placed s p (free_in s.heads)) (λ e. stands_itself s)
 stands_moved s (Pin at) = stands_heads s (may_pin s.heads at) (pinned_to s.heads at ((head_of s.heads at).pins + 1))
 stands_moved s (Unpin at) = stands_heads s (may_unpin s.heads at) (with_head s.heads at (record (head_of s.heads at) { pins = (head_of s.heads at).pins - 1 }))

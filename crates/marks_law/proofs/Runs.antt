@@ -354,5 +354,5 @@ reserved intent.PhaseDone h k e a = subst (λ (z : Held). AreSlots z.marks.trans
 pub slots_stay : SlotsReach → SlotsStay
 slots_stay reach w v h k i place s a happens slots =
     let ready = reserved i h happens.ready happens.reserves slots in
-    let new = same_slots happens.ready.marks.trans (after_event happens.ready.marks.trans) happens.ready.marks.locks.agents ready refl refl in
-    reach happens.after.marks k.marks happens.ends.0 (stands_slots (begun happens.ready).marks happens.after.marks (any_stand w v (begun happens.ready) happens.after i s happens.plan place a happens.said happens.runs) new)
+    let new = same_slots happens.ready.marks.trans (after_event happens.ready.marks.trans place) happens.ready.marks.locks.agents ready refl refl in
+    reach happens.after.marks k.marks happens.ends.0 (stands_slots (begun happens.ready place).marks happens.after.marks (any_stand w v (begun happens.ready place) happens.after i s happens.plan place a happens.said happens.runs) new)
