@@ -80,6 +80,7 @@ module _ (law : SendsLawfully) (K : Claim) (m : Member) (w : World) (place : ℕ
           intent = a.intent;
           after = with_marks a.happens.after u;
           keeps = a.keeps;
+          rests = a.rests;
           happens = record {
             plan = a.happens.plan;
             ready = a.happens.ready;
@@ -111,7 +112,7 @@ module _ (law : SendsLawfully) (K : Claim) (m : Member) (w : World) (place : ℕ
       home_known K m w place v n closed u (record {
         stepped = steps.Restart sent answered;
         here = here;
-        makes = record { reached = r.reached; makes = r.makes; ends = subst (λ (f : Bool). RestartEnds f r.reached m place here) (sym is) goes_on };
+        makes = record { keeps = r.keeps; reached = r.reached; makes = r.makes; ends = subst (λ (f : Bool). RestartEnds f r.reached m place here) (sym is) goes_on };
         is = refl;
         left = ends.after;
         goes_on = b.1;
