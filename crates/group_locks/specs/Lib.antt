@@ -1,0 +1,5 @@
+pub mod Stands
+pub mod Events
+pub mod Whole
+pub mod Beginning
+pub mod Members

@@ -1,0 +1,4 @@
+pub mod Stands
+pub mod Intents
+pub mod Sent
+pub mod Changes
