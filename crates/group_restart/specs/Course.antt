@@ -3,6 +3,7 @@ use Rattle.std.specs.Prelude.{◌≡◌, ℕ, ◌+◌, ◌^◌, nat_lt, Bool, tr
 use Rattle.ds_base.specs.declared.names.PageId.{PageId}
 use Rattle.ds_base.specs.declared.names.Volume.TheVariants as volume
 use Rattle.ds_model.specs.declared.log.LogRecord.{LogRecord}
+use Rattle.ds_model.specs.RecordBytes.{log_bytes}
 use Rattle.page_format.specs.Fields.{is_old, renewed}
 use Rattle.page_chain.specs.Chains.{row_patch}
 use Rattle.log_record.specs.declared.log.Log.{Log}
@@ -20,6 +21,7 @@ use Rattle.restart_plan.specs.declared.opened.Closing.{Closing}
 use Rattle.restart_plan.specs.declared.opened.Undo.{Undo}
 use Rattle.restart_plan.specs.declared.tails.Tail.{Tail}
 use Rattle.restart_plan.specs.declared.plan.Plan.{Plan}
+use Rattle.restart_plan.specs.Ends.{end_of, raised as longer}
 use Rattle.restart_plan.specs.Plans.{plan_of}
 use Rattle.group_restart.specs.declared.calls.State.{State}
 use Rattle.group_restart.specs.declared.calls.State.TheVariants as state
@@ -28,7 +30,7 @@ use Rattle.group_restart.specs.declared.reply.Reply.TheVariants as reply
 use Rattle.group_restart.specs.declared.stage.Stage.{Stage}
 use Rattle.group_restart.specs.declared.stage.Stage.TheVariants as stage
 use Rattle.group_restart.specs.Machine.{Restart}
-use Rattle.group_restart.specs.Records.{ended, restart_end}
+use Rattle.group_restart.specs.Records.{ended, ending}
 use Rattle.places_redo.specs.Picked.{brought_at}
 use Rattle.group_restart.specs.PageNumbers.{with_page_number}
 use Rattle.group_restart.specs.Undo.{undo_fault, undone_page, undoing}
@@ -69,6 +71,10 @@ rest_undo p = record p { undo = drop 1 p.undo }
 abbrev pub rest_endings : Plan → Plan
 rest_endings p = record p { endings = drop 1 p.endings }
 
+-- so many bytes were appended to the member's log
+abbrev pub with_longer : ℕ → ℕ → Plan → Plan
+with_longer member count p = record p { ends = longer p.ends member count }
+
 abbrev pub without_records : Plan → Plan
 without_records p = record p { merged = [] }
 
@@ -82,20 +88,17 @@ done h = (h, state.Done h.counter)
 
 abbrev pub ending_or : Restart → Option ℕ → Next
 ending_or h None = done (record h { stage = stage.End })
-ending_or h (Some member) = go h (stage.EndAppend member)
+ending_or h (Some member) = go (with_added h (ending h.counter (end_of h.plan.ends member))) (stage.EndAppend member)
 
 unfoldable pub next_ending : Restart → Next
 next_ending h = ending_or (with_plan h (rest_endings h.plan)) (slice_get h.plan.endings 0)
-
-unfoldable pub begin_end : Restart → Next
-begin_end h = next_ending (with_added h (restart_end h.counter ∷ []))
 
 -- pages that are still of version 1 are written in version 2
 abbrev pub rest_old : Restart → Restart
 rest_old h = record h { old_pages = drop 1 h.old_pages }
 
 abbrev pub renewal_or : Restart → Option PageId → Next
-renewal_or h None = begin_end h
+renewal_or h None = next_ending h
 renewal_or h (Some page) = go h (stage.RenewRead page)
 
 unfoldable pub next_renewal : Restart → Next
@@ -210,18 +213,22 @@ take_old h id = if is_old h.page then go (record h { page = renewed h.page }) (s
 
 -- ---- what was done
 
+-- the records stand behind the member's log
+abbrev pub appended : Restart → ℕ → Restart
+appended h member = with_plan h (with_longer member (length (log_bytes h.added)) h.plan)
+
 abbrev pub take_done : Restart → Stage → Next
 take_done h stage.ReadLog = stays h
 take_done h (stage.CutTail tail) = next_tail h
 take_done h (stage.RedoRead page) = take_page h page
 take_done h (stage.RedoWrite page) = next_redo h
-take_done h (stage.CloseAppend member) = next_closing h
+take_done h (stage.CloseAppend member) = next_closing (appended h member)
 take_done h (stage.UndoRead page) = take_undone h
-take_done h (stage.UndoAppend member page) = go h (stage.UndoWrite page)
+take_done h (stage.UndoAppend member page) = go (appended h member) (stage.UndoWrite page)
 take_done h (stage.UndoWrite page) = next_undo h
 take_done h (stage.RenewRead page) = take_old h page
 take_done h (stage.RenewWrite page) = next_renewal h
-take_done h (stage.EndAppend member) = next_ending h
+take_done h (stage.EndAppend member) = next_ending (appended h member)
 take_done h stage.End = done h
 
 -- ---- logs

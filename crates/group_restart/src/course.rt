@@ -8,13 +8,13 @@ ghost use Rattle.group_restart.specs.declared.calls.State.TheVariants as state;
 ghost use Rattle.group_restart.specs.declared.stage.Stage.TheVariants as stage;
 ghost use Rattle.group_restart.specs.Going.{GoesOn, IsGoingOn};
 ghost use Rattle.group_restart.specs.Undo.{undo_fault};
-ghost use Rattle.group_restart.specs.Course.{found_damage, counted, has_numbers, next_tail, next_redo, begin_undo, next_closing, undo_or, next_undo, next_renewal, begin_end, next_ending, done, too_few_numbers, go, TakesLog, TakesWhole, take_logs, take_page, noted, take_raised, take_undone, take_old, undo_one, undone, take_done, TakesTold, TakesReply};
+ghost use Rattle.group_restart.specs.Course.{found_damage, counted, has_numbers, next_tail, next_redo, begin_undo, next_closing, undo_or, next_undo, next_renewal, next_ending, done, too_few_numbers, go, TakesLog, TakesWhole, take_logs, take_page, noted, take_raised, take_undone, take_old, undo_one, undone, appended, take_done, TakesTold, TakesReply};
 
 use crate::append::Append;
 use crate::calls::State;
 use crate::machine::{GroupRestart, no_records};
 use crate::page_number::with_page_number;
-use crate::records::{ended, restart_end};
+use crate::records::{ended, ending};
 use crate::reply::Reply;
 use crate::stage::Stage;
 use crate::undo::{undo_fault, undo_page, undoing};
@@ -170,29 +170,24 @@ impl GroupRestart {
     {
         match self.old_pages.next() {
             Some(page) => Ok(self.go(Stage::RenewRead(page))),
-            None => self.begin_end(alloc),
+            None => self.next_ending(alloc),
         }
     }
 
-    #[tactic(auto, unfolding(crate::specs::Course::begin_end))]
-    fn begin_end(&mut self, alloc: Global) -> Result<State, NoMemory>
-        ensures exact { IfOk result (λ s. begin_end self.old ≡ (self.new, s)) }
+    // The Checkpoint's offset is the place where it is appended.
+    #[tactic(auto, unfolding(crate::specs::Course::next_ending))]
+    fn next_ending(&mut self, alloc: Global) -> Result<State, NoMemory>
+        ensures exact { IfOk result (λ s. next_ending self.old ≡ (self.new, s)) }
         ensures goes_on { IsGoingOn result }
     {
-        self.added = Append::new(alloc).with(restart_end(self.counter))?;
-        Ok(self.next_ending())
-    }
-
-    #[tactic(auto, unfolding(crate::specs::Course::next_ending))]
-    fn next_ending(&mut self) -> State
-        ensures exact { next_ending self.old ≡ (self.new, result) }
-        ensures goes_on { GoesOn result }
-    {
         match self.plan.endings.next() {
-            Some(member) => self.go(Stage::EndAppend(member)),
+            Some(member) => {
+                self.added = ending(alloc, self.counter, self.plan.ends.end_of(member))?;
+                Ok(self.go(Stage::EndAppend(member)))
+            }
             None => {
                 self.stage = Stage::End;
-                self.done()
+                Ok(self.done())
             }
         }
     }
@@ -348,6 +343,38 @@ impl GroupRestart {
 
     // ---- replies
 
+    // The records stand behind the member's log.
+    fn note_append(&mut self, member: MemberId) -> Result<(), NoMemory>
+        ensures { OnOk result (self.new ≡ appended self.old member) }
+    {
+        let count = self.added.bytes().len() as u64;
+        self.plan.ends.raise(member, count)
+    }
+
+    fn take_closed(&mut self, alloc: Global, member: MemberId) -> Result<State, NoMemory>
+        ensures exact { IfOk result (λ s. next_closing (appended self.old member) ≡ (self.new, s)) }
+        ensures goes_on { IsGoingOn result }
+    {
+        self.note_append(member)?;
+        self.next_closing(alloc)
+    }
+
+    fn take_compensated(&mut self, member: MemberId, page: PageId) -> Result<State, NoMemory>
+        ensures exact { IfOk result (λ s. go (appended self.old member) (stage.UndoWrite page) ≡ (self.new, s)) }
+        ensures goes_on { IsGoingOn result }
+    {
+        self.note_append(member)?;
+        Ok(self.go(Stage::UndoWrite(page)))
+    }
+
+    fn take_ended(&mut self, alloc: Global, member: MemberId) -> Result<State, NoMemory>
+        ensures exact { IfOk result (λ s. next_ending (appended self.old member) ≡ (self.new, s)) }
+        ensures goes_on { IsGoingOn result }
+    {
+        self.note_append(member)?;
+        self.next_ending(alloc)
+    }
+
     fn take_done(&mut self, alloc: Global) -> Result<State, NoMemory>
         ensures exact { IfOk result (λ s. take_done self.old self.old.stage ≡ (self.new, s)) }
         ensures goes_on { IsGoingOn result }
@@ -357,13 +384,13 @@ impl GroupRestart {
             Stage::CutTail(_) => self.next_tail(alloc),
             Stage::RedoRead(page) => self.take_page(alloc, page),
             Stage::RedoWrite(_) => self.next_redo(alloc),
-            Stage::CloseAppend(_) => self.next_closing(alloc),
+            Stage::CloseAppend(member) => self.take_closed(alloc, member),
             Stage::UndoRead(_) => self.take_undone(alloc),
-            Stage::UndoAppend { page, .. } => Ok(self.go(Stage::UndoWrite(page))),
+            Stage::UndoAppend { member, page } => self.take_compensated(member, page),
             Stage::UndoWrite(_) => self.next_undo(alloc),
             Stage::RenewRead(page) => self.take_old(alloc, page),
             Stage::RenewWrite(_) => self.next_renewal(alloc),
-            Stage::EndAppend(_) => Ok(self.next_ending()),
+            Stage::EndAppend(member) => self.take_ended(alloc, member),
             Stage::End => Ok(self.done()),
         }
     }

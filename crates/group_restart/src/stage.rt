@@ -21,7 +21,7 @@ pub enum Stage {
     /// A page that was of version 1 when it had been brought forward.
     RenewRead(PageId),
     RenewWrite(PageId),
-    /// The RestartEnd of a log.
+    /// The Checkpoint and the RestartEnd of a log.
     EndAppend(MemberId),
     /// All is done.
     End,

@@ -169,10 +169,10 @@ fn a_disk_that_dies_in_an_append_keeps_a_front_of_it(rt: HostRuntime) -> Result<
         fails: None,
     };
     let whole = plays(&rt, alloc, &hello, 0, HELLO_REPORT)?;
-    // The second append is that of a commit alone, and behind it the closing has put a RestartEnd: each has 30 bytes.
+    // The second append is that of a commit alone, with 30 bytes. Behind it the closing has put a Checkpoint with 38, and a RestartEnd with 30.
     for kept in [0u64, 29, 30] {
         let (length, _) = dies_in_append(&rt, alloc, 2, kept, STOPPED_REPORT)?;
-        let left = whole.log(member).len().wrapping_sub(60);
+        let left = whole.log(member).len().wrapping_sub(98);
         assert!(rt; length == left.wrapping_add(kept as usize));
     }
     Ok(())

@@ -1,6 +1,7 @@
 pub mod Values
 pub mod Greatest
 pub mod Tails
+pub mod Ends
 pub mod Opened
 pub mod Plans
 pub mod Renewal

@@ -81,7 +81,7 @@ is_end r = is_written r.version && is_restart_end r.body
 abbrev pub with_ending : Opened → ℕ → Opened
 with_ending o member = record { closings = o.closings; undo = o.undo; endings = o.endings ++ member ∷ [] }
 
--- a log that ends with such a RestartEnd and has no open transaction gets no record
+-- a log that ends with such a RestartEnd and has no open transaction gets no record; one that ends with a Checkpoint, since a restart was stopped behind it, gets both again
 abbrev pub needs_end : LogRecord → List OpenTran → Bool
 needs_end last trans = not (is_end last) || not (length trans == 0)
 

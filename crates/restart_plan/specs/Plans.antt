@@ -8,6 +8,7 @@ use Rattle.restart_plan.specs.declared.opened.Opened.{Opened}
 use Rattle.restart_plan.specs.declared.plan.Plan.{Plan}
 use Rattle.restart_plan.specs.Greatest.{no_number, greatest_among}
 use Rattle.restart_plan.specs.Tails.{tails_of}
+use Rattle.restart_plan.specs.Ends.{ends_of}
 use Rattle.restart_plan.specs.Values.{falling}
 use Rattle.restart_plan.specs.Opened.{nothing_open, with_logs}
 use Rattle.restart_plan.specs.Renewal.{must_renew}
@@ -19,6 +20,7 @@ opened_of logs = with_logs nothing_open logs
 unfoldable pub plan_of : List Log → Plan
 plan_of logs = record {
   tails = tails_of logs;
+  ends = ends_of logs;
   merged = in_order (all_records logs);
   pages = by_page (in_order (all_records logs));
   closings = (opened_of logs).closings;

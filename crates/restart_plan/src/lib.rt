@@ -1,10 +1,11 @@
 //! What the logs of a group ask of a restart after a stop of the whole group, as plain data.
 //!
 //! Tails of logs are cut, pages are brought forward, open transactions are undone in falling order of their changes, and
-//! each log gets a last record (Josten, Mohan, Narang and Teng, "DB2's use of the coupling facility for data sharing", IBM
+//! each log gets last records (Josten, Mohan, Narang and Teng, "DB2's use of the coupling facility for data sharing", IBM
 //! Systems Journal 36(2), 1997).
 #![tactic(auto)]
 
+mod ends;
 mod falling;
 mod greatest;
 mod logs;
@@ -15,6 +16,7 @@ mod renewal;
 mod tails;
 mod tran;
 
+pub use ends::Ends;
 pub use greatest::Greatest;
 pub use logs::Logs;
 pub use opened::{Closing, Undo};

@@ -32,7 +32,7 @@ pub struct Undo {
 }
 
 /// What the open transactions of logs ask for: Ended records, the changes that are undone, by their numbers, and the logs
-/// that are to end with a RestartEnd.
+/// that are to end with a Checkpoint and a RestartEnd.
 #[derive(Drop)]
 pub struct Opened {
     pub closings: Queue<Closing>,

@@ -1,6 +1,7 @@
 ghost use Rattle.std.specs.Prelude.{◌≡◌, IfOk};
 ghost use Rattle.restart_plan.specs.Plans.{plan_of};
 
+use crate::ends::Ends;
 use crate::falling::falling;
 use crate::greatest::{Greatest, greatest_at};
 use crate::logs::Logs;
@@ -18,6 +19,8 @@ use std::alloc::Global;
 pub struct Plan {
     /// Of each log that has one.
     pub tails: Queue<Tail>,
+    /// Where each log ends without its tail.
+    pub ends: Ends,
     /// The records of all logs that change pages or commit, in the order of their numbers.
     pub merged: Merged,
     /// The pages that they change.
@@ -25,7 +28,7 @@ pub struct Plan {
     pub closings: Queue<Closing>,
     /// In falling order of the changes.
     pub undo: Queue<Undo>,
-    /// The members whose log is to end with a RestartEnd.
+    /// The members whose log is to end with a Checkpoint and a RestartEnd.
     pub endings: Queue<MemberId>,
     /// Whether pages of version 1 are written in version 2.
     pub renews: bool,
@@ -42,6 +45,7 @@ pub fn plan_of(alloc: Global, logs: &Logs) -> Result<Plan, NoMemory>
     let logs = logs.as_slice();
     let greatest = greatest_at(logs)?;
     let tails = tails_of(alloc, logs)?;
+    let ends = Ends::of(alloc, logs)?;
     let Opened {
         closings,
         undo,
@@ -52,6 +56,7 @@ pub fn plan_of(alloc: Global, logs: &Logs) -> Result<Plan, NoMemory>
     let pages = by_page(alloc, merged.records())?;
     Ok(Plan {
         tails,
+        ends,
         merged,
         pages: Queue::of(alloc, pages)?,
         closings,
