@@ -9,18 +9,18 @@ use Rattle.ds_disk.specs.declared.disk.DiskError.{DiskError}
 use Rattle.log_reader.specs.declared.calls.LogCall.{LogCall}
 use Rattle.log_reader.specs.declared.calls.LogCall.TheVariants as asked
 use Rattle.log_reader.specs.Readers.{next_call}
+use Rattle.restart_plan.specs.Ends.{end_of}
 use Rattle.group_restart.specs.declared.reply.Reply.{Reply}
 use Rattle.group_restart.specs.declared.stage.Stage.{Stage}
 use Rattle.group_restart.specs.declared.stage.Stage.TheVariants as stage
 use Rattle.group_restart.specs.Calls.{log_call, call_in}
 use Rattle.group_restart.specs.Disk.{Drive, Calls, TellsLength, TellsBlock, Cuts, Appends, ReadsPage, WritesPage}
 use Rattle.group_restart.specs.Machine.{Restart}
-use Rattle.group_restart.specs.Records.{IsOfRestart}
 use Rattle.disk_restart.specs.Keeping.{lasting}
 use Rattle.disk_restart.proofs.Told.{left_by}
-use Rattle.disk_restart.proofs.Whole.{ReadsSound, front_kept, append_kept}
+use Rattle.disk_restart.proofs.Whole.{ReadsSound, IsWhole, front_kept, append_kept}
 use Rattle.disk_restart.proofs.Cutting.{Logs, log_at, Keeps, set_kept}
-use Rattle.disk_restart.proofs.Stages.{Stands, InStage}
+use Rattle.disk_restart.proofs.Stages.{Adds, InStage}
 
 abbrev pub Made : Type 0
 Made = Result Reply DiskError
@@ -60,12 +60,14 @@ module _ (sound : ReadsSound) (o : Logs) (h k : Restart) (w v : Drive) (made : M
   asks_kept member asked.Length keeps calls = length_left w v made c (KeepsLogs o) member is calls.0 keeps
   asks_kept member (asked.Read from count) keeps calls = block_left w v made c (KeepsLogs o) member from count k.reader.block is calls.0 keeps
 
-  adds_kept : (member : ℕ) → Stands o c.logs → Appends member (log_bytes h.added) w made v → AllByRecursion IsOfRestart h.added → AllByRecursion IsAllowed h.added → Becomes (Some c) v.contents (λ _ d. Keeps o d.logs)
-  adds_kept member s a ours allowed =
+  adds_kept : (member : ℕ) → Adds o c.logs h.plan.ends member h.added → Appends member (log_bytes h.added) w made v → AllByRecursion IsAllowed h.added → Becomes (Some c) v.contents (λ _ d. Keeps o d.logs)
+  adds_kept member i a allowed =
       let log : List ℕ = log_of c.logs member in
-      append_left w v made c (KeepsLogs o) member (log_bytes h.added) is a s.keeps
-      (set_kept o c.logs (member - 1) (log ++ log_bytes h.added) s.keeps (append_kept sound log h.added (s.whole (member - 1)) allowed ours))
-      (λ n. set_kept o c.logs (member - 1) (log ++ take n (log_bytes h.added)) s.keeps (front_kept sound log h.added n (s.whole (member - 1)) allowed ours))
+      let end : ℕ = end_of h.plan.ends member in
+      let whole : IsWhole end log = i.stands.whole (member - 1) in
+      append_left w v made c (KeepsLogs o) member (log_bytes h.added) is a i.stands.keeps
+      (set_kept o c.logs (member - 1) (log ++ log_bytes h.added) i.stands.keeps (append_kept sound end log h.added whole allowed i.added))
+      (λ n. set_kept o c.logs (member - 1) (log ++ take n (log_bytes h.added)) i.stands.keeps (front_kept sound end log h.added n whole allowed i.added))
 
   pub kept : (st : Stage) → InStage st o h c.logs → Calls h (call_in st h) w made v k → Becomes (Some c) v.contents (λ _ d. Keeps o d.logs)
   kept stage.ReadLog i calls = asks_kept h.reader.member (next_call h.reader) (itself o c.logs i.same) calls
@@ -73,11 +75,11 @@ module _ (sound : ReadsSound) (o : Logs) (h k : Restart) (w v : Drive) (made : M
       cut_left w v made c (KeepsLogs o) tail.member tail.length is calls.0 i.keeps (set_kept o c.logs (tail.member - 1) (take tail.length (log_of c.logs tail.member)) i.keeps i.due.0)
   kept (stage.RedoRead page) i calls = page_left w v made c (KeepsLogs o) page k.page is calls.0 i.keeps
   kept (stage.RedoWrite page) i calls = written_left w v made c (KeepsLogs o) page h.page is calls.0 i.keeps i.keeps
-  kept (stage.CloseAppend member) i calls = adds_kept member i calls.0 calls.1 calls.2
+  kept (stage.CloseAppend member) i calls = adds_kept member i calls.0 calls.2
   kept (stage.UndoRead page) i calls = page_left w v made c (KeepsLogs o) page k.page is calls.0 i.keeps
-  kept (stage.UndoAppend member page) i calls = adds_kept member i calls.0 calls.1 calls.2
+  kept (stage.UndoAppend member page) i calls = adds_kept member i calls.0 calls.2
   kept (stage.UndoWrite page) i calls = written_left w v made c (KeepsLogs o) page h.page is calls.0 i.keeps i.keeps
   kept (stage.RenewRead page) i calls = page_left w v made c (KeepsLogs o) page k.page is calls.0 i.keeps
   kept (stage.RenewWrite page) i calls = written_left w v made c (KeepsLogs o) page h.page is calls.0 i.keeps i.keeps
-  kept (stage.EndAppend member) i calls = adds_kept member i calls.0 calls.1 calls.2
+  kept (stage.EndAppend member) i calls = adds_kept member i calls.0 calls.2
   kept stage.End i calls = length_left w v made c (KeepsLogs o) h.reader.member is calls.0 i.keeps

@@ -2,12 +2,13 @@
 use Rattle.std.proofs.Common.{◌≡◌, ◌⊎◌, ℕ, suc, ◌+◌, ◌-◌, ◌<◌, ◌≤◌, true, false, List, [], ◌∷◌, ◌++◌, length, get_or, take, cond, refl, sym, ap, subst, ◌∙◌, arith, inl, inr}
 use Rattle.std.specs.Prelude.{map, filter, nat_lt, slice_set as set}
 use Rattle.std.proofs.lemmas.Bool.{cases_lt, cases_eq, ltb-false}
-use Rattle.std.proofs.lemmas.List.{length-set, get_or-set_same, get_or-set_other, get_or_past, set_past}
+use Rattle.std.proofs.lemmas.List.{length-set, length-map, get_or-set_same, get_or-set_other, get_or_past, set_past}
 use Rattle.ds_disk.specs.Contents.{log_of}
 use Rattle.log_record.specs.declared.log.Log.{Log}
 use Rattle.log_record.specs.Logs.{IsLogOf}
 use Rattle.restart_plan.specs.declared.tails.Tail.{Tail}
 use Rattle.restart_plan.specs.Tails.{tail_of, tails_of}
+use Rattle.restart_plan.specs.Ends.{ends_of}
 use Rattle.disk_restart.specs.Keeping.{lasting}
 use Rattle.disk_restart.proofs.Whole.{ReadsSound, IsWhole, none_whole, cut_whole, cut_kept, uncut_whole}
 
@@ -21,8 +22,9 @@ log_at logs i = get_or logs i []
 abbrev pub Keeps : Logs → Logs → Type 0
 Keeps before after = (i : ℕ) → lasting (log_at after i) ≡ lasting (log_at before i)
 
-abbrev pub AreWhole : Logs → Type 0
-AreWhole logs = (i : ℕ) → IsWhole (log_at logs i)
+-- each is whole records, which end there
+abbrev pub AreWhole : List ℕ → Logs → Type 0
+AreWhole ends logs = (i : ℕ) → IsWhole (get_or ends i 0) (log_at logs i)
 
 -- ---- one log is written
 
@@ -42,10 +44,14 @@ set_kept before logs i bytes keeps same j = elim (at_set logs i j bytes) [
   | inr there ↦ ap lasting there ∙ keeps j
 ]
 
-pub set_whole : (logs : Logs) (i : ℕ) (bytes : List ℕ) → AreWhole logs → IsWhole bytes → AreWhole (set logs i bytes)
-set_whole logs i bytes whole is j = elim (at_set logs i j bytes) [
-  | inl here ↦ subst IsWhole (sym here.1) is
-  | inr there ↦ subst IsWhole (sym there) (whole j)
+-- the new log ends elsewhere
+pub set_whole : (ends : List ℕ) (logs : Logs) (i size : ℕ) (bytes : List ℕ) → length ends ≡ length logs → AreWhole ends logs → IsWhole size bytes → AreWhole (set ends i size) (set logs i bytes)
+set_whole ends logs i size bytes count whole is j = elim (cases_eq i j) [
+  | inl same ↦ subst (λ (k : ℕ). IsWhole (get_or (set ends i size) k 0) (log_at (set logs i bytes) k)) same (elim (cases_lt i (length logs)) [
+    | inl inside ↦ let within : i < length ends = omega arith in rw (get_or-set_same ends i size 0 within, get_or-set_same logs i bytes [] inside) is
+    | inr past ↦ let beyond : length ends ≤ i = omega arith in rw (set_past ends i size beyond, set_past logs i bytes past) (whole i)
+  ])
+  | inr apart ↦ rw (get_or-set_other ends i j size 0 (λ e. apart (sym e)), get_or-set_other logs i j bytes [] (λ e. apart (sym e))) (whole j)
 ]
 
 -- ---- tails that are due to be cut
@@ -53,18 +59,24 @@ set_whole logs i bytes whole is j = elim (at_set logs i j bytes) [
 abbrev pub cut : Logs → Tail → Logs
 cut logs t = set logs (t.member - 1) (take t.length (log_of logs t.member))
 
--- each cut keeps the lasting records, and after the last one all logs are whole
-abbrev pub CutsDue : List Tail → Logs → Type 0
-CutsDue [] logs = AreWhole logs
-CutsDue (t ∷ ts) logs = (lasting (take t.length (log_of logs t.member)) ≡ lasting (log_of logs t.member)) × CutsDue ts (cut logs t)
+-- each cut keeps the lasting records, and after the last one all logs are whole, and end there
+abbrev pub CutsDue : List ℕ → List Tail → Logs → Type 0
+CutsDue ends [] logs = AreWhole ends logs
+CutsDue ends (t ∷ ts) logs = (lasting (take t.length (log_of logs t.member)) ≡ lasting (log_of logs t.member)) × CutsDue ends ts (cut logs t)
 
 -- these are the logs from this place on
 abbrev pub AreFrom : ℕ → List Log → Logs → Type 0
 AreFrom i [] bytes = Unit {0}
 AreFrom i (log ∷ logs) bytes = (log.member ≡ i + 1) × IsLogOf (log_at bytes i) log × AreFrom (i + 1) logs bytes
 
-abbrev AreWholeBelow : ℕ → Logs → Type 0
-AreWholeBelow i bytes = (j : ℕ) → j < i → IsWhole (log_at bytes j)
+-- they end there
+abbrev EndFrom : ℕ → List Log → List ℕ → Type 0
+EndFrom i [] ends = Unit {0}
+EndFrom i (log ∷ logs) ends = (get_or ends i 0 ≡ log.length) × EndFrom (i + 1) logs ends
+
+-- the logs before this place are whole
+abbrev AreWholeBelow : List ℕ → ℕ → Logs → Type 0
+AreWholeBelow ends i bytes = (j : ℕ) → j < i → IsWhole (get_or ends j 0) (log_at bytes j)
 
 -- what is written before them leaves them
 from_set : (i k : ℕ) (new : List ℕ) (logs : List Log) (bytes : Logs) → k < i → AreFrom i logs bytes → AreFrom i logs (set bytes k new)
@@ -74,25 +86,29 @@ from_set i k new (log ∷ logs) bytes lt are =
     (are.0, subst (λ (b : List ℕ). IsLogOf b log) other are.1, from_set (i + 1) k new logs bytes (omega arith) are.2)
 
 -- one more is whole
-more_whole : (i : ℕ) (bytes : Logs) → AreWholeBelow i bytes → IsWhole (log_at bytes i) → AreWholeBelow (i + 1) bytes
-more_whole i bytes below here j lt = elim (cases_lt j i) [
+more_whole : (ends : List ℕ) (i : ℕ) (bytes : Logs) → AreWholeBelow ends i bytes → IsWhole (get_or ends i 0) (log_at bytes i) → AreWholeBelow ends (i + 1) bytes
+more_whole ends i bytes below here j lt = elim (cases_lt j i) [
   | inl less ↦ below j less
-  | inr least ↦ let e : i ≡ j = omega arith in subst (λ (k : ℕ). IsWhole (log_at bytes k)) e here
+  | inr least ↦ let e : i ≡ j = omega arith in subst (λ (k : ℕ). IsWhole (get_or ends k 0) (log_at bytes k)) e here
 ]
 
-below_set : (i : ℕ) (new : List ℕ) (bytes : Logs) → AreWholeBelow i bytes → AreWholeBelow i (set bytes i new)
-below_set i new bytes below j lt = subst IsWhole (sym (get_or-set_other bytes i j new [] (λ e. omega arith))) (below j lt)
+below_set : (ends : List ℕ) (i : ℕ) (new : List ℕ) (bytes : Logs) → AreWholeBelow ends i bytes → AreWholeBelow ends i (set bytes i new)
+below_set ends i new bytes below j lt = subst (IsWhole (get_or ends j 0)) (sym (get_or-set_other bytes i j new [] (λ e. omega arith))) (below j lt)
 
-here_set : (i : ℕ) (new : List ℕ) (bytes : Logs) → IsWhole new → IsWhole (log_at (set bytes i new) i)
-here_set i new bytes is = elim (cases_lt i (length bytes)) [
-  | inl inside ↦ subst IsWhole (sym (get_or-set_same bytes i new [] inside)) is
-  | inr past ↦ subst IsWhole (sym (ap (λ (ls : Logs). log_at ls i) (set_past bytes i new past) ∙ get_or_past bytes i [] past)) none_whole
+-- behind the last one there is none
+past_none : (ends : List ℕ) (j : ℕ) (bytes : Logs) → length ends ≡ length bytes → length bytes ≤ j → IsWhole (get_or ends j 0) (log_at bytes j)
+past_none ends j bytes count past = let beyond : length ends ≤ j = omega arith in rw (get_or_past ends j 0 beyond, get_or_past bytes j [] past) none_whole
+
+here_set : (ends : List ℕ) (i : ℕ) (new : List ℕ) (bytes : Logs) → length ends ≡ length bytes → IsWhole (get_or ends i 0) new → IsWhole (get_or ends i 0) (log_at (set bytes i new) i)
+here_set ends i new bytes count is = elim (cases_lt i (length bytes)) [
+  | inl inside ↦ subst (IsWhole (get_or ends i 0)) (sym (get_or-set_same bytes i new [] inside)) is
+  | inr past ↦ subst (λ (ls : Logs). IsWhole (get_or ends i 0) (log_at ls i)) (sym (set_past bytes i new past)) (past_none ends i bytes count past)
 ]
 
-past_whole : (i : ℕ) (bytes : Logs) → AreWholeBelow i bytes → length bytes ≤ i → AreWhole bytes
-past_whole i bytes below long j = elim (cases_lt j i) [
+past_whole : (ends : List ℕ) (i : ℕ) (bytes : Logs) → length ends ≡ length bytes → AreWholeBelow ends i bytes → length bytes ≤ i → AreWhole ends bytes
+past_whole ends i bytes count below long j = elim (cases_lt j i) [
   | inl less ↦ below j less
-  | inr least ↦ subst IsWhole (sym (get_or_past bytes j [] (omega arith))) none_whole
+  | inr least ↦ past_none ends j bytes count (omega arith)
 ]
 
 place : (i member : ℕ) → member ≡ i + 1 → i ≡ member - 1
@@ -101,26 +117,44 @@ place i member is = omega arith
 no_tail : (n : ℕ) → nat_lt 0 n ≡ false → n ≡ 0
 no_tail n e = omega (arith, ltb-false 0 n e)
 
-due_from : ReadsSound → (i : ℕ) (logs : List Log) (bytes : Logs) → AreFrom i logs bytes → AreWholeBelow i bytes → length bytes ≤ i + length logs → CutsDue (tails_of logs) bytes
-due_from sound i [] bytes are below long = past_whole i bytes below (omega arith)
-due_from sound i (log ∷ logs) bytes are below long =
+due_from : ReadsSound → (ends : List ℕ) (i : ℕ) (logs : List Log) (bytes : Logs) → AreFrom i logs bytes → EndFrom i logs ends → AreWholeBelow ends i bytes → length ends ≡ length bytes → length bytes ≤ i + length logs → CutsDue ends (tails_of logs) bytes
+due_from sound ends i [] bytes are ended below count long = past_whole ends i bytes count below (omega arith)
+due_from sound ends i (log ∷ logs) bytes are ended below count long =
     let its : i ≡ log.member - 1 = place i log.member are.0 in
     let new : List ℕ = take log.length (log_at bytes i) in
-    let cut_due : CutsDue (tails_of logs) (set bytes i new) =
-    due_from sound (i + 1) logs (set bytes i new) (from_set (i + 1) i new logs bytes (omega arith) are.2)
-    (more_whole i (set bytes i new) (below_set i new bytes below) (here_set i new bytes (cut_whole (log_at bytes i) log are.1)))
-    (omega (arith, length-set bytes i new, long)) in
-    let there : (k : ℕ) → i ≡ k → (lasting (take log.length (log_at bytes k)) ≡ lasting (log_at bytes k)) × CutsDue (tails_of logs) (set bytes k (take log.length (log_at bytes k)))
-    = λ k e. subst (λ (q : ℕ). (lasting (take log.length (log_at bytes q)) ≡ lasting (log_at bytes q)) × CutsDue (tails_of logs) (set bytes q (take log.length (log_at bytes q)))) e (cut_kept sound (log_at bytes i) log are.1, cut_due) in
+    let its_new : IsWhole (get_or ends i 0) new = subst (λ (n : ℕ). IsWhole n new) (sym ended.0) (cut_whole (log_at bytes i) log are.1) in
+    let cut_due : CutsDue ends (tails_of logs) (set bytes i new) =
+    due_from sound ends (i + 1) logs (set bytes i new) (from_set (i + 1) i new logs bytes (omega arith) are.2) ended.1
+    (more_whole ends i (set bytes i new) (below_set ends i new bytes below) (here_set ends i new bytes count its_new))
+    (omega (arith, length-set bytes i new, count)) (omega (arith, length-set bytes i new, long)) in
+    let there : (k : ℕ) → i ≡ k → (lasting (take log.length (log_at bytes k)) ≡ lasting (log_at bytes k)) × CutsDue ends (tails_of logs) (set bytes k (take log.length (log_at bytes k)))
+    = λ k e. subst (λ (q : ℕ). (lasting (take log.length (log_at bytes q)) ≡ lasting (log_at bytes q)) × CutsDue ends (tails_of logs) (set bytes q (take log.length (log_at bytes q)))) e (cut_kept sound (log_at bytes i) log are.1, cut_due) in
     let left : List Log = filter (λ (l : Log). nat_lt 0 l.tail) logs in
-    elim (nat_lt 0 log.tail) as (λ b. nat_lt 0 log.tail ≡ b → CutsDue (map tail_of (cond b (log ∷ left) left)) bytes) [
+    elim (nat_lt 0 log.tail) as (λ b. nat_lt 0 log.tail ≡ b → CutsDue ends (map tail_of (cond b (log ∷ left) left)) bytes) [
       | true ↦ λ e. there (log.member - 1) its
-      | false ↦ λ e. due_from sound (i + 1) logs bytes are.2 (more_whole i bytes below (uncut_whole (log_at bytes i) log are.1 (no_tail log.tail e))) (omega arith)
+      | false ↦ λ e. due_from sound ends (i + 1) logs bytes are.2 ended.1
+          (more_whole ends i bytes below (subst (λ (n : ℕ). IsWhole n (log_at bytes i)) (sym ended.0) (uncut_whole (log_at bytes i) log are.1 (no_tail log.tail e)))) count (omega arith)
     ] refl
 
+-- ---- where they end
+
+behind_first : (x : ℕ) (xs : List ℕ) (i j : ℕ) → j ≡ suc i → get_or (x ∷ xs) j 0 ≡ get_or xs i 0
+behind_first x xs i j is = ap (λ (k : ℕ). get_or (x ∷ xs) k 0) is
+
+end_behind : (x : ℕ) (i : ℕ) (logs : List Log) (ends : List ℕ) → EndFrom i logs ends → EndFrom (i + 1) logs (x ∷ ends)
+end_behind x i [] ends h = tt
+end_behind x i (log ∷ logs) ends h = (behind_first x ends i (i + 1) (omega arith) ∙ h.0, end_behind x (i + 1) logs ends h.1)
+
+end_all : (logs : List Log) → EndFrom 0 logs (ends_of logs)
+end_all [] = tt
+end_all (log ∷ logs) = (refl, end_behind log.length 0 logs (ends_of logs) (end_all logs))
+
+pub count_all : (logs : List Log) → length (ends_of logs) ≡ length logs
+count_all logs = length-map logs (λ (l : Log). l.length)
+
 -- the tails of all logs
-pub due_all : ReadsSound → (logs : List Log) (bytes : Logs) → AreFrom 0 logs bytes → length bytes ≤ length logs → CutsDue (tails_of logs) bytes
-due_all sound logs bytes are long = due_from sound 0 logs bytes are (λ j lt. absurd (omega arith)) (omega arith)
+pub due_all : ReadsSound → (logs : List Log) (bytes : Logs) → AreFrom 0 logs bytes → length bytes ≡ length logs → CutsDue (ends_of logs) (tails_of logs) bytes
+due_all sound logs bytes are long = due_from sound (ends_of logs) 0 logs bytes are (end_all logs) (λ j lt. absurd (omega arith)) (count_all logs ∙ sym long) (omega arith)
 
 -- one more log
 pub from_more : (i : ℕ) (logs : List Log) (log : Log) (bytes : Logs) → AreFrom i logs bytes → log.member ≡ i + length logs + 1 → IsLogOf (log_at bytes (i + length logs)) log → AreFrom i (logs ++ log ∷ []) bytes

@@ -1,8 +1,10 @@
 -- What a restart makes of an answer, from the last stage to the first: where it goes on, the logs stand for the stage that it goes to.
-use Rattle.std.proofs.Common.{◌≡◌, ℕ, ◌+◌, ◌^◌, ◌≤◌, Bool, true, false, List, [], ◌∷◌, length, drop, Option, Some, None, Result, Ok, Err, refl, subst}
-use Rattle.std.specs.Prelude.{nat_lt, slice_get}
-use Rattle.std.proofs.lemmas.Bool.{cond_both}
+use Rattle.std.proofs.Common.{◌≡◌, ℕ, ◌+◌, ◌-◌, ◌^◌, Bool, true, false, List, [], ◌∷◌, ◌++◌, length, drop, Option, Some, None, Result, Ok, Err, refl, sym, ap, subst, ◌∙◌}
+use Rattle.std.specs.Prelude.{nat_lt, slice_get, not, ◌&&◌, ◌==◌}
+use Rattle.std.proofs.lemmas.Bool.{cond_both, eqb-refl}
 use Rattle.ds_base.specs.declared.names.PageId.{PageId}
+use Rattle.ds_model.specs.RecordBytes.{record_bytes}
+use Rattle.ds_disk.specs.Contents.{log_of}
 use Rattle.log_record.specs.declared.log.Log.{Log}
 use Rattle.log_trans.specs.declared.damage.Damaged.{Damaged}
 use Rattle.page_redo.specs.declared.fault.FieldFault.{FieldFault}
@@ -10,151 +12,165 @@ use Rattle.page_records.specs.declared.places.PageRecords.{PageRecords}
 use Rattle.restart_plan.specs.declared.opened.Closing.{Closing}
 use Rattle.restart_plan.specs.declared.opened.Undo.{Undo}
 use Rattle.restart_plan.specs.declared.tails.Tail.{Tail}
+use Rattle.restart_plan.specs.Ends.{end_of}
 use Rattle.restart_plan.specs.Plans.{plan_of}
 use Rattle.group_restart.specs.declared.stage.Stage.{Stage}
 use Rattle.group_restart.specs.declared.stage.Stage.TheVariants as stage
 use Rattle.group_restart.specs.Machine.{Restart}
-use Rattle.group_restart.specs.Records.{restart_end}
-use Rattle.group_restart.specs.Undo.{undo_fault}
+use Rattle.group_restart.specs.Records.{ended, ending, compensation}
+use Rattle.group_restart.specs.Undo.{undo_fault, undoing}
 use Rattle.page_format.specs.Fields.{is_old, renewed}
-use Rattle.group_restart.specs.Course.{go, with_plan, with_added, rest_tails, rest_pages, rest_closings, rest_undo, rest_endings, ending_or, next_ending, begin_end, rest_old, renewal_or, next_renewal, undo_or, next_undo, closing_or, next_closing, too_few_numbers, has_numbers, numbered, counted, begin_undo, page_or, next_redo, tail_or, next_tail, raised, numbered_by, noted, take_raised, forwarded, page_brought, take_page, undone, undo_at, undo_unless, undo_one, undo_first, take_undone, take_old, take_done, found_damage, planned, take_logs}
-use Rattle.disk_restart.proofs.Whole.{ReadsSound}
-use Rattle.disk_restart.proofs.Cutting.{Logs, CutsDue, AreFrom, due_all}
-use Rattle.disk_restart.proofs.Stages.{Cuts, Stands, AfterCall, Good}
+use Rattle.group_restart.specs.Course.{go, with_plan, rest_tails, rest_pages, rest_closings, rest_undo, rest_endings, ending_or, next_ending, rest_old, renewal_or, next_renewal, undo_or, next_undo, closing_or, next_closing, too_few_numbers, has_numbers, numbered, counted, begin_undo, page_or, next_redo, tail_or, next_tail, raised, numbered_by, noted, take_raised, forwarded, page_brought, take_page, undone, undo_at, undo_unless, undo_one, undo_first, take_undone, take_old, appended, take_done, found_damage, planned, take_logs}
+use Rattle.disk_restart.proofs.Whole.{ReadsSound, AreAdded}
+use Rattle.disk_restart.proofs.Cutting.{Logs, AreFrom, count_all, due_all}
+use Rattle.disk_restart.proofs.Stages.{Cuts, Stands, Adds, AfterCall, Good}
 
 -- ---- ends
 
-ending_good : (o d : Logs) (h : Restart) (next : Option ℕ) → Stands o d → Good o d (ending_or h next)
-ending_good o d h None s = λ e. absurd cc
-ending_good o d h (Some member) s = λ e. s
+same_number : (a b : ℕ) → a ≡ b → not (a == b) ≡ false
+same_number a b is = ap not (subst (λ (k : ℕ). (a == k) ≡ true) is (eqb-refl a))
 
-next_ending_good : (o d : Logs) (h : Restart) → Stands o d → Good o d (next_ending h)
+-- the Checkpoint is appended where it says
+ending_adds : (o d : Logs) (ends : List ℕ) (lrsn member : ℕ) → Stands o d ends → Adds o d ends member (ending lrsn (end_of ends member))
+ending_adds o d ends lrsn member s = record { stands = s; added = (same_number (end_of ends member) (length (log_of d member)) (s.whole (member - 1)).size_is, refl, tt) }
+
+ending_good : (o d : Logs) (h : Restart) (next : Option ℕ) → Stands o d h.plan.ends → Good o d (ending_or h next)
+ending_good o d h None s = λ e. absurd cc
+ending_good o d h (Some member) s = λ e. ending_adds o d h.plan.ends h.counter member s
+
+next_ending_good : (o d : Logs) (h : Restart) → Stands o d h.plan.ends → Good o d (next_ending h)
 unfolding next_ending
 next_ending_good o d h s = ending_good o d (with_plan h (rest_endings h.plan)) (slice_get h.plan.endings 0) s
 
-begin_end_good : (o d : Logs) (h : Restart) → Stands o d → Good o d (begin_end h)
-unfolding begin_end
-begin_end_good o d h s = next_ending_good o d (with_added h (restart_end h.counter ∷ [])) s
-
 -- ---- renewal
 
-renewal_good : (o d : Logs) (h : Restart) (next : Option PageId) → Stands o d → Good o d (renewal_or h next)
-renewal_good o d h None s = begin_end_good o d h s
+renewal_good : (o d : Logs) (h : Restart) (next : Option PageId) → Stands o d h.plan.ends → Good o d (renewal_or h next)
+renewal_good o d h None s = next_ending_good o d h s
 renewal_good o d h (Some page) s = λ e. s
 
-next_renewal_good : (o d : Logs) (h : Restart) → Stands o d → Good o d (next_renewal h)
+next_renewal_good : (o d : Logs) (h : Restart) → Stands o d h.plan.ends → Good o d (next_renewal h)
 unfolding next_renewal
 next_renewal_good o d h s = renewal_good o d (rest_old h) (slice_get h.old_pages 0) s
 
-take_old_good : (o d : Logs) (h : Restart) (id : PageId) → Stands o d → Good o d (take_old h id)
+take_old_good : (o d : Logs) (h : Restart) (id : PageId) → Stands o d h.plan.ends → Good o d (take_old h id)
 unfolding take_old
 take_old_good o d h id s = cond_both (is_old h.page) (go (record h { page = renewed h.page }) (stage.RenewWrite id)) (next_renewal h) (Good o d) (λ _. λ e. s) (λ _. next_renewal_good o d h s)
 
 -- ---- undo
 
-undo_good : (o d : Logs) (h : Restart) (next : Option Undo) → Stands o d → Good o d (undo_or h next)
+undo_good : (o d : Logs) (h : Restart) (next : Option Undo) → Stands o d h.plan.ends → Good o d (undo_or h next)
 undo_good o d h None s = next_renewal_good o d h s
 undo_good o d h (Some u) s = λ e. s
 
-next_undo_good : (o d : Logs) (h : Restart) → Stands o d → Good o d (next_undo h)
+next_undo_good : (o d : Logs) (h : Restart) → Stands o d h.plan.ends → Good o d (next_undo h)
 unfolding next_undo
 next_undo_good o d h s = undo_good o d h (slice_get h.plan.undo 0) s
 
-undone_good : (o d : Logs) (h : Restart) (u : Undo) (lrsn : ℕ) → Stands o d → Good o d (undone h u lrsn)
-unfolding undone
-undone_good o d h u lrsn s = λ e. s
+-- of what is appended nothing is a Checkpoint
+undoing_adds : (o d : Logs) (ends : List ℕ) (u : Undo) (lrsn : ℕ) → Stands o d ends → Adds o d ends u.member (undoing u lrsn)
+undoing_adds o d ends u lrsn s = record {
+  stands = s;
+  added = (refl, cond_both u.is_last (ended lrsn u.tran ∷ []) [] (AreAdded (length (log_of d u.member) + length (record_bytes (compensation u lrsn)))) (λ _. (refl, tt)) (λ _. tt));
+}
 
-undo_at_good : (o d : Logs) (h : Restart) (u : Undo) (lrsn : ℕ) → Stands o d → Good o d (undo_at h u lrsn)
+undone_good : (o d : Logs) (h : Restart) (u : Undo) (lrsn : ℕ) → Stands o d h.plan.ends → Good o d (undone h u lrsn)
+unfolding undone
+undone_good o d h u lrsn s = λ e. undoing_adds o d h.plan.ends u lrsn s
+
+undo_at_good : (o d : Logs) (h : Restart) (u : Undo) (lrsn : ℕ) → Stands o d h.plan.ends → Good o d (undo_at h u lrsn)
 undo_at_good o d h u lrsn s = cond_both (nat_lt lrsn (2 ^ 80)) (undone h u lrsn) (too_few_numbers h) (Good o d) (λ _. undone_good o d h u lrsn s) (λ _. λ e. absurd cc)
 
-undo_unless_good : (o d : Logs) (h : Restart) (u : Undo) (fault : Option ℕ) → Stands o d → Good o d (undo_unless h u fault)
+undo_unless_good : (o d : Logs) (h : Restart) (u : Undo) (fault : Option ℕ) → Stands o d h.plan.ends → Good o d (undo_unless h u fault)
 undo_unless_good o d h u (Some at) s = λ e. absurd cc
 undo_unless_good o d h u None s = undo_at_good o d h u (h.counter + 1) s
 
-undo_one_good : (o d : Logs) (h : Restart) (u : Undo) → Stands o d → Good o d (undo_one h u)
+undo_one_good : (o d : Logs) (h : Restart) (u : Undo) → Stands o d h.plan.ends → Good o d (undo_one h u)
 unfolding undo_one
 undo_one_good o d h u s = undo_unless_good o d h u (undo_fault u.change h.page) s
 
-undo_first_good : (o d : Logs) (h : Restart) (next : Option Undo) → Stands o d → Good o d (undo_first h next)
+undo_first_good : (o d : Logs) (h : Restart) (next : Option Undo) → Stands o d h.plan.ends → Good o d (undo_first h next)
 undo_first_good o d h None s = next_renewal_good o d h s
 undo_first_good o d h (Some u) s = undo_one_good o d h u s
 
-take_undone_good : (o d : Logs) (h : Restart) → Stands o d → Good o d (take_undone h)
+take_undone_good : (o d : Logs) (h : Restart) → Stands o d h.plan.ends → Good o d (take_undone h)
 unfolding take_undone
 take_undone_good o d h s = undo_first_good o d (with_plan h (rest_undo h.plan)) (slice_get h.plan.undo 0) s
 
 -- ---- closings
 
-closing_good : (o d : Logs) (h : Restart) (next : Option Closing) → Stands o d → Good o d (closing_or h next)
+closing_good : (o d : Logs) (h : Restart) (next : Option Closing) → Stands o d h.plan.ends → Good o d (closing_or h next)
 closing_good o d h None s = next_undo_good o d h s
-closing_good o d h (Some c) s = λ e. s
+closing_good o d h (Some c) s = λ e. record { stands = s; added = (refl, tt) }
 
-next_closing_good : (o d : Logs) (h : Restart) → Stands o d → Good o d (next_closing h)
+next_closing_good : (o d : Logs) (h : Restart) → Stands o d h.plan.ends → Good o d (next_closing h)
 unfolding next_closing
 next_closing_good o d h s = closing_good o d (with_plan h (rest_closings h.plan)) (slice_get h.plan.closings 0) s
 
-numbered_good : (o d : Logs) (h : Restart) → Stands o d → Good o d (numbered h)
+numbered_good : (o d : Logs) (h : Restart) → Stands o d h.plan.ends → Good o d (numbered h)
 numbered_good o d h s = cond_both (has_numbers h) (next_closing h) (too_few_numbers h) (Good o d) (λ _. next_closing_good o d h s) (λ _. λ e. absurd cc)
 
-begin_undo_good : (o d : Logs) (h : Restart) → Stands o d → Good o d (begin_undo h)
+begin_undo_good : (o d : Logs) (h : Restart) → Stands o d h.plan.ends → Good o d (begin_undo h)
 unfolding begin_undo
 begin_undo_good o d h s = numbered_good o d (counted h) s
 
 -- ---- redo
 
-page_good : (o d : Logs) (h : Restart) (next : Option PageRecords) → Stands o d → Good o d (page_or h next)
+page_good : (o d : Logs) (h : Restart) (next : Option PageRecords) → Stands o d h.plan.ends → Good o d (page_or h next)
 page_good o d h None s = begin_undo_good o d h s
 page_good o d h (Some p) s = λ e. s
 
-next_redo_good : (o d : Logs) (h : Restart) → Stands o d → Good o d (next_redo h)
+next_redo_good : (o d : Logs) (h : Restart) → Stands o d h.plan.ends → Good o d (next_redo h)
 unfolding next_redo
 next_redo_good o d h s = page_good o d (with_plan h (rest_pages h.plan)) (slice_get h.plan.pages 0) s
 
-raised_good : (o d : Logs) (h : Restart) (id : PageId) (is_raised : Bool) → Stands o d → Good o d (raised h id is_raised)
+raised_good : (o d : Logs) (h : Restart) (id : PageId) (is_raised : Bool) → Stands o d h.plan.ends → Good o d (raised h id is_raised)
 raised_good o d h id true s = λ e. s
 raised_good o d h id false s = next_redo_good o d h s
 
-take_raised_good : (o d : Logs) (h : Restart) (id : PageId) (is_raised : Bool) → Stands o d → Good o d (take_raised h id is_raised)
-unfolding take_raised
-take_raised_good o d h id is_raised s = raised_good o d (noted (numbered_by h id) id) id is_raised s
+noted_stands : (o d : Logs) (h : Restart) (id : PageId) → Stands o d h.plan.ends → Stands o d (noted h id).plan.ends
+noted_stands o d h id s = cond_both (h.plan.renews && is_old h.page) (record h { old_pages = h.old_pages ++ id ∷ [] }) h (λ (z : Restart). Stands o d z.plan.ends) (λ _. s) (λ _. s)
 
-forwarded_good : (o d : Logs) (h : Restart) (id : PageId) (outcome : Result Bool FieldFault) → Stands o d → Good o d (forwarded h id outcome)
+take_raised_good : (o d : Logs) (h : Restart) (id : PageId) (is_raised : Bool) → Stands o d h.plan.ends → Good o d (take_raised h id is_raised)
+unfolding take_raised
+take_raised_good o d h id is_raised s = raised_good o d (noted (numbered_by h id) id) id is_raised (noted_stands o d (numbered_by h id) id s)
+
+forwarded_good : (o d : Logs) (h : Restart) (id : PageId) (outcome : Result Bool FieldFault) → Stands o d h.plan.ends → Good o d (forwarded h id outcome)
 forwarded_good o d h id (Err fault) s = λ e. absurd cc
 forwarded_good o d h id (Ok is_raised) s = take_raised_good o d h id is_raised s
 
-take_page_good : (o d : Logs) (h : Restart) (id : PageId) → Stands o d → Good o d (take_page h id)
+take_page_good : (o d : Logs) (h : Restart) (id : PageId) → Stands o d h.plan.ends → Good o d (take_page h id)
 unfolding take_page
 take_page_good o d h id s = forwarded_good o d (record h { page = (page_brought h id).page }) id (page_brought h id).outcome s
 
 -- ---- tails
 
-first_cut : (o d : Logs) (tails : List Tail) (t : Tail) → Cuts o d tails → slice_get tails 0 ≡ Some t → Cuts o d (t ∷ drop 1 tails)
-first_cut o d [] t c e = absurd cc
-first_cut o d (x ∷ ts) t c e = let same : x ≡ t = cc in subst (λ (z : Tail). Cuts o d (z ∷ ts)) same c
+first_cut : (o d : Logs) (ends : List ℕ) (tails : List Tail) (t : Tail) → Cuts o d ends tails → slice_get tails 0 ≡ Some t → Cuts o d ends (t ∷ drop 1 tails)
+first_cut o d ends [] t c e = absurd cc
+first_cut o d ends (x ∷ ts) t c e = let same : x ≡ t = cc in subst (λ (z : Tail). Cuts o d ends (z ∷ ts)) same c
 
-none_cut : (o d : Logs) (tails : List Tail) → Cuts o d tails → slice_get tails 0 ≡ None → Stands o d
-none_cut o d [] c e = record { keeps = c.keeps; whole = c.due }
-none_cut o d (x ∷ ts) c e = absurd cc
+none_cut : (o d : Logs) (ends : List ℕ) (tails : List Tail) → Cuts o d ends tails → slice_get tails 0 ≡ None → Stands o d ends
+none_cut o d ends [] c e = record { keeps = c.keeps; count = c.count; whole = c.due }
+none_cut o d ends (x ∷ ts) c e = absurd cc
 
-tail_good : (o d : Logs) (h : Restart) (next : Option Tail) → ((t : Tail) → next ≡ Some t → Cuts o d (t ∷ h.plan.tails)) → (next ≡ None → Stands o d) → Good o d (tail_or h next)
+tail_good : (o d : Logs) (h : Restart) (next : Option Tail) → ((t : Tail) → next ≡ Some t → Cuts o d h.plan.ends (t ∷ h.plan.tails)) → (next ≡ None → Stands o d h.plan.ends) → Good o d (tail_or h next)
 tail_good o d h None cuts stands = next_redo_good o d h (stands refl)
 tail_good o d h (Some tail) cuts stands = λ e. cuts tail refl
 
-next_tail_good : (o d : Logs) (h : Restart) → Cuts o d h.plan.tails → Good o d (next_tail h)
+next_tail_good : (o d : Logs) (h : Restart) → Cuts o d h.plan.ends h.plan.tails → Good o d (next_tail h)
 unfolding next_tail
-next_tail_good o d h c = tail_good o d (with_plan h (rest_tails h.plan)) (slice_get h.plan.tails 0) (λ t e. first_cut o d h.plan.tails t c e) (λ e. none_cut o d h.plan.tails c e)
+next_tail_good o d h c = tail_good o d (with_plan h (rest_tails h.plan)) (slice_get h.plan.tails 0) (λ t e. first_cut o d h.plan.ends h.plan.tails t c e) (λ e. none_cut o d h.plan.ends h.plan.tails c e)
 
 -- ---- all logs are read
 
-plan_due : ReadsSound → (logs : List Log) (o : Logs) → AreFrom 0 logs o → length o ≤ length logs → CutsDue (plan_of logs).tails o
+plan_cuts : ReadsSound → (logs : List Log) (o : Logs) → AreFrom 0 logs o → length o ≡ length logs → Cuts o o (plan_of logs).ends (plan_of logs).tails
 unfolding plan_of
-plan_due sound logs o are long = due_all sound logs o are long
+plan_cuts sound logs o are long = record { keeps = λ i. refl; count = count_all logs ∙ sym long; due = due_all sound logs o are long }
 
-planned_good : ReadsSound → (o : Logs) (h : Restart) (damage : Option Damaged) → AreFrom 0 h.logs o → length o ≤ length h.logs → Good o o (planned h damage)
+planned_good : ReadsSound → (o : Logs) (h : Restart) (damage : Option Damaged) → AreFrom 0 h.logs o → length o ≡ length h.logs → Good o o (planned h damage)
 planned_good sound o h (Some d) are long = λ e. absurd cc
-planned_good sound o h None are long = next_tail_good o o (record h { plan = plan_of h.logs; logs = [] }) (record { keeps = λ i. refl; due = plan_due sound h.logs o are long })
+planned_good sound o h None are long = next_tail_good o o (record h { plan = plan_of h.logs; logs = [] }) (plan_cuts sound h.logs o are long)
 
-pub take_logs_good : ReadsSound → (o : Logs) (h : Restart) → AreFrom 0 h.logs o → length o ≤ length h.logs → Good o o (take_logs h)
+pub take_logs_good : ReadsSound → (o : Logs) (h : Restart) → AreFrom 0 h.logs o → length o ≡ length h.logs → Good o o (take_logs h)
 unfolding take_logs
 take_logs_good sound o h are long = planned_good sound o h (found_damage h.logs) are long
 
@@ -165,11 +181,11 @@ done_good stage.ReadLog o d h after = absurd after
 done_good (stage.CutTail tail) o d h after = next_tail_good o d h after
 done_good (stage.RedoRead page) o d h after = take_page_good o d h page after
 done_good (stage.RedoWrite page) o d h after = next_redo_good o d h after
-done_good (stage.CloseAppend member) o d h after = next_closing_good o d h after
+done_good (stage.CloseAppend member) o d h after = next_closing_good o d (appended h member) after
 done_good (stage.UndoRead page) o d h after = take_undone_good o d h after
 done_good (stage.UndoAppend member page) o d h after = λ e. after
 done_good (stage.UndoWrite page) o d h after = next_undo_good o d h after
 done_good (stage.RenewRead page) o d h after = take_old_good o d h page after
 done_good (stage.RenewWrite page) o d h after = next_renewal_good o d h after
-done_good (stage.EndAppend member) o d h after = next_ending_good o d h after
+done_good (stage.EndAppend member) o d h after = next_ending_good o d (appended h member) after
 done_good stage.End o d h after = λ e. absurd cc

@@ -1,7 +1,7 @@
 -- The answers while logs are read.
-use Rattle.std.proofs.Common.{◌≡◌, ℕ, ◌-◌, ◌≤◌, Bool, true, false, List, [], ◌∷◌, ◌++◌, length, take, drop, Option, Some, None, Ok, refl, sym, ap, subst, ◌∙◌, arith}
+use Rattle.std.proofs.Common.{◌≡◌, ℕ, ◌-◌, Bool, true, false, List, [], ◌∷◌, ◌++◌, length, take, drop, Option, Some, None, Ok, refl, sym, ap, subst, ◌∙◌, arith}
 use Rattle.std.specs.Prelude.{min, nat_lt, ◌==◌}
-use Rattle.std.proofs.lemmas.Bool.{cond_both, ltb-false}
+use Rattle.std.proofs.lemmas.Bool.{cond_both, ltb-true, ltb-false}
 use Rattle.std.proofs.lemmas.List.{length_push}
 use Rattle.ds_base.specs.declared.names.Volume.TheVariants as volume
 use Rattle.ds_disk.specs.Contents.{Contents, Becomes, log_of}
@@ -39,11 +39,11 @@ with_log h logs = record h { logs = logs }
 whole_goes : ReadsSound → (o : Logs) (h k : Restart) (logs : List Log) (log : Log) (s : State) → length o ≡ 32 → h.stage ≡ stage.ReadLog → Reads o h.reader logs → AreFrom 0 (logs ++ log ∷ []) o
     → (is_before : Bool) → nat_lt h.reader.member 32 ≡ is_before → GoesToNext is_before (with_log h (logs ++ log ∷ [])) s k → s ≡ state.Going → Runs o k o
 whole_goes sound o h k logs log s all is reads are true before goes going =
-    let next : IsReadingLogs o o k.reader (logs ++ log ∷ []) = record { same = refl; all = all; reads = next_reads o h.reader k.reader logs log reads are goes.1 } in
+    let next : IsReadingLogs o o k.reader (logs ++ log ∷ []) = record { same = refl; all = all; reads = next_reads o h.reader k.reader logs log reads are (ltb-true h.reader.member 32 before) goes.1 } in
     subst (λ (z : Restart). Runs o z o) (sym goes.2) (reads_on o (with_reader (with_log h (logs ++ log ∷ [])) k.reader) is next)
 whole_goes sound o h k logs log s all is reads are false last goes going =
-    let few : length o ≤ length (logs ++ log ∷ []) = omega (arith, all, reads.member_is, ltb-false h.reader.member 32 last, length_push logs log) in
-    (subst (Good o o) goes (take_logs_good sound o (with_log h (logs ++ log ∷ [])) are few)) going
+    let each : length o ≡ length (logs ++ log ∷ []) = omega (arith, all, reads.member_is, reads.few, ltb-false h.reader.member 32 last, length_push logs log) in
+    (subst (Good o o) goes (take_logs_good sound o (with_log h (logs ++ log ∷ [])) are each)) going
 
 found_goes : ReadsSound → (o : Logs) (h k : Restart) (s : State) (found : LogRead) → length o ≡ 32 → h.stage ≡ stage.ReadLog → Reads o h.reader h.logs → IsRead h.reader found → TakesRead h found s k → s ≡ state.Going → Runs o k o
 unfolding TakesWhole
@@ -70,7 +70,7 @@ told_goes : ReadsSound → (o : Logs) (h k : Restart) (it : LogReply) (s : State
 unfolding TakesReply TakesTold
 told_goes sound o h k it s all is reads reading takes going =
     let t : TakesLog h it s k = subst (λ (st : Stage). TakesTold st h it s k) is takes in
-    let next : Reads o (after_reply h.reader it) h.logs = record { member_is = member_after h.reader it ∙ reads.member_is; are = reads.are; reading = reading } in
+    let next : Reads o (after_reply h.reader it) h.logs = record { member_is = member_after h.reader it ∙ reads.member_is; few = reads.few; are = reads.are; reading = reading } in
     found_goes sound o (with_reader h (after_reply h.reader it)) k s t.found all is next t.is_read t.takes going
 
 its_log : (c : Contents) (o : Logs) (r : ReaderState) (logs : List Log) → c.logs ≡ o → Reads o r logs → log_of c.logs r.member ≡ log_at o (length logs)
@@ -102,7 +102,7 @@ module _ (sound : ReadsSound) (o : Logs) (h k x : Restart) (w v : Drive) (r : Re
       let before : IsReading bytes now.reader = record { front = i.reads.reading.front; told = i.reads.reading.told } in
       let whole : long ≡ length bytes = subst (λ (z : Option ℕ). TellsLength z bytes) is_long i.reads.reading.told in
       let reading : IsReading bytes (after_count now.reader n) = count_reading bytes now.reader long n before whole refl b.1 in
-      let reads : Reads o now.reader now.logs = record { member_is = i.reads.member_is; are = i.reads.are; reading = before } in
+      let reads : Reads o now.reader now.logs = record { member_is = i.reads.member_is; few = i.reads.few; are = i.reads.are; reading = before } in
       stays d e.0 (told_goes sound o now k (told.Count n) s i.all st reads reading t going))
 
   asks_goes : (t : Option ℕ) → h.reader.length_told ≡ t → Calls h (log_call h.reader.member (call_by (length h.reader.bytes) t)) w (Ok r) v x → TakesReply x r s k → Becomes (Some c) v.contents (λ _ d. Runs o k d.logs)

@@ -71,11 +71,12 @@ whole_read bytes r h e = h.front ∙ take_all (length r.bytes) bytes (long_told 
 -- those of the first members are read, and the next one is being read
 pub record Reads (o : Logs) (r : ReaderState) (logs : List Log) : Type 0 where
   pub member_is : r.member ≡ length logs + 1
+  pub few : length logs < 32
   pub are : AreFrom 0 logs o
   pub reading : IsReading (log_at o (length logs)) r
 
 pub first_reads : (o : Logs) (r : ReaderState) → IsNew 1 r → Reads o r []
-first_reads o r is = record { member_is = is.member_is; are = tt; reading = new_reading (log_at o 0) r 1 is }
+first_reads o r is = record { member_is = is.member_is; few = lit< tt; are = tt; reading = new_reading (log_at o 0) r 1 is }
 
 -- one log more
 pub more_read : (o : Logs) (r : ReaderState) (logs : List Log) (log : Log) → Reads o r logs → is_whole r ≡ true → log.member ≡ r.member → IsLogOf r.bytes log → AreFrom 0 (logs ++ log ∷ []) o
@@ -84,9 +85,10 @@ more_read o r logs log h whole member is =
     let its : IsLogOf (log_at o (length logs)) log = subst (λ (b : List ℕ). IsLogOf b log) (whole_read (log_at o (length logs)) r h.reading whole) is in
     from_more 0 logs log o h.are (omega (arith, member, h.member_is)) (subst (λ (k : ℕ). IsLogOf (log_at o k) log) e its)
 
-pub next_reads : (o : Logs) (r next : ReaderState) (logs : List Log) (log : Log) → Reads o r logs → AreFrom 0 (logs ++ log ∷ []) o → IsNew (r.member + 1) next → Reads o next (logs ++ log ∷ [])
-next_reads o r next logs log h are is = record {
+pub next_reads : (o : Logs) (r next : ReaderState) (logs : List Log) (log : Log) → Reads o r logs → AreFrom 0 (logs ++ log ∷ []) o → r.member < 32 → IsNew (r.member + 1) next → Reads o next (logs ++ log ∷ [])
+next_reads o r next logs log h are more is = record {
   member_is = omega (arith, is.member_is, h.member_is, length_push logs log);
+  few = omega (arith, more, h.member_is, length_push logs log);
   are = are;
   reading = new_reading (log_at o (length (logs ++ log ∷ []))) next (r.member + 1) is;
 }

@@ -1,7 +1,8 @@
 -- A step of a restart.
-use Rattle.std.proofs.Common.{◌≡◌, ℕ, ◌-◌, List, ◌∷◌, ◌++◌, length, Option, Some, None, Result, Ok, Err, refl, sym, ap, subst, ◌∙◌}
+use Rattle.std.proofs.Common.{◌≡◌, ℕ, ◌+◌, ◌-◌, List, ◌∷◌, ◌++◌, length, Option, Some, None, Result, Ok, Err, refl, sym, ap, subst, ◌∙◌}
 use Rattle.std.specs.Prelude.{IfOk, take, slice_set}
 use Rattle.std.specs.List.{AllByRecursion}
+use Rattle.std.proofs.lemmas.List.{length-set}
 use Rattle.ds_base.specs.declared.fault.NoMemory.{NoMemory}
 use Rattle.ds_base.specs.declared.names.PageId.{PageId}
 use Rattle.ds_model.specs.RecordBytes.{IsAllowed, log_bytes}
@@ -10,6 +11,7 @@ use Rattle.ds_disk.specs.declared.disk.DiskError.TheVariants as failures
 use Rattle.log_record.specs.declared.log.Log.{Log}
 use Rattle.log_reader.specs.declared.calls.LogReply.TheVariants as told
 use Rattle.restart_plan.specs.declared.tails.Tail.{Tail}
+use Rattle.restart_plan.specs.Ends.{end_of}
 use Rattle.group_restart.specs.declared.calls.State.{State}
 use Rattle.group_restart.specs.declared.calls.State.TheVariants as state
 use Rattle.group_restart.specs.declared.reply.Reply.{Reply}
@@ -19,15 +21,14 @@ use Rattle.group_restart.specs.declared.stage.Stage.TheVariants as stage
 use Rattle.group_restart.specs.Calls.{call_in, call_of}
 use Rattle.group_restart.specs.Disk.{Drive, Calls, TellsLength, Cuts as CutsLog, Appends, ReadsPage, WritesPage, with_page}
 use Rattle.group_restart.specs.Machine.{Restart}
-use Rattle.group_restart.specs.Course.{Next, IsBegun, TakesTold, TakesReply, take_done, done}
-use Rattle.group_restart.specs.Records.{IsOfRestart}
+use Rattle.group_restart.specs.Course.{Next, IsBegun, TakesTold, TakesReply, appended, take_done, done}
 use Rattle.group_restart.specs.Steps.{WantsMemory, Takes, Steps}
 use Rattle.disk_restart.specs.Keeping.{KeepsRecords}
 use Rattle.disk_restart.proofs.Told.{told_on, told_as, answered}
-use Rattle.disk_restart.proofs.Whole.{ReadsSound, append_kept, append_whole}
+use Rattle.disk_restart.proofs.Whole.{ReadsSound, IsWhole, append_kept, append_whole}
 use Rattle.disk_restart.proofs.Cutting.{Logs, Keeps, set_kept, set_whole, cut}
 use Rattle.disk_restart.proofs.Reading.{Reads, first_reads}
-use Rattle.disk_restart.proofs.Stages.{Cuts, Stands, InStage, AfterCall, Runs, Good}
+use Rattle.disk_restart.proofs.Stages.{Cuts, Stands, Adds, InStage, AfterCall, Runs, Good}
 use Rattle.disk_restart.proofs.Going.{done_good}
 use Rattle.disk_restart.proofs.Calls.{Made, itself, kept}
 use Rattle.disk_restart.proofs.Logs.{reading_goes}
@@ -80,30 +81,37 @@ module _ (sound : ReadsSound) (o : Logs) (h k x : Restart) (w v : Drive) (r : Re
   end_goes : h.stage ≡ stage.End → TellsLength h.reader.member w (Ok r) v → x ≡ h → Goes
   end_goes at a same = answered c r (λ d. Runs o k d.logs) is a (λ d e. absurd (never_on h k r (length (log_of c.logs h.reader.member)) s at (takes_as h same) e.1 going))
 
-  after_append : (member : ℕ) → Stands o c.logs → AllByRecursion IsOfRestart h.added → AllByRecursion IsAllowed h.added → Stands o (slice_set c.logs (member - 1) (log_of c.logs member ++ log_bytes h.added))
-  after_append member i ours allowed =
+  after_append : (member : ℕ) → Adds o c.logs h.plan.ends member h.added → AllByRecursion IsAllowed h.added → Stands o (slice_set c.logs (member - 1) (log_of c.logs member ++ log_bytes h.added)) (appended h member).plan.ends
+  after_append member i allowed =
       let log : List ℕ = log_of c.logs member in
-      let whole = i.whole (member - 1) in
+      let added : List ℕ = log_bytes h.added in
+      let end : ℕ = end_of h.plan.ends member in
+      let whole : IsWhole end log = i.stands.whole (member - 1) in
+      let same : length (slice_set h.plan.ends (member - 1) (end + length added)) ≡ length (slice_set c.logs (member - 1) (log ++ added)) =
+      length-set h.plan.ends (member - 1) (end + length added) ∙ i.stands.count ∙ sym (length-set c.logs (member - 1) (log ++ added)) in
       record {
-        keeps = set_kept o c.logs (member - 1) (log ++ log_bytes h.added) i.keeps (append_kept sound log h.added whole allowed ours);
-        whole = set_whole c.logs (member - 1) (log ++ log_bytes h.added) i.whole (append_whole log h.added whole allowed);
+        keeps = set_kept o c.logs (member - 1) (log ++ added) i.stands.keeps (append_kept sound end log h.added whole allowed i.added);
+        count = same;
+        whole = set_whole h.plan.ends c.logs (member - 1) (end + length added) (log ++ added) i.stands.count i.stands.whole (append_whole end log h.added whole allowed);
       }
 
-  after_cut : (tail : Tail) → Cuts o c.logs (tail ∷ h.plan.tails) → Cuts o (cut c.logs tail) h.plan.tails
-  after_cut tail i = record { keeps = set_kept o c.logs (tail.member - 1) (take tail.length (log_of c.logs tail.member)) i.keeps i.due.0; due = i.due.1 }
+  after_cut : (tail : Tail) → Cuts o c.logs h.plan.ends (tail ∷ h.plan.tails) → Cuts o (cut c.logs tail) h.plan.ends h.plan.tails
+  after_cut tail i =
+      let front : List ℕ = take tail.length (log_of c.logs tail.member) in
+      record { keeps = set_kept o c.logs (tail.member - 1) front i.keeps i.due.0; count = i.count ∙ sym (length-set c.logs (tail.member - 1) front); due = i.due.1 }
 
   pub goes : (st : Stage) → h.stage ≡ st → InStage st o h c.logs → Calls h (call_in st h) w (Ok r) v x → Goes
   goes stage.ReadLog at i calls = reading_goes sound o h k x w v r s c is at i going calls takes
   goes (stage.CutTail tail) at i calls = cut_goes (stage.CutTail tail) tail.member tail.length at (after_cut tail i) calls.0 calls.1
   goes (stage.RedoRead page) at i calls = page_goes (stage.RedoRead page) page at i calls.0 calls.1
   goes (stage.RedoWrite page) at i calls = written_goes (stage.RedoWrite page) page at i calls.0 calls.1
-  goes (stage.CloseAppend member) at i calls = append_goes (stage.CloseAppend member) member at (after_append member i calls.1 calls.2) calls.0 calls.3
+  goes (stage.CloseAppend member) at i calls = append_goes (stage.CloseAppend member) member at (after_append member i calls.2) calls.0 calls.3
   goes (stage.UndoRead page) at i calls = page_goes (stage.UndoRead page) page at i calls.0 calls.1
-  goes (stage.UndoAppend member page) at i calls = append_goes (stage.UndoAppend member page) member at (after_append member i calls.1 calls.2) calls.0 calls.3
+  goes (stage.UndoAppend member page) at i calls = append_goes (stage.UndoAppend member page) member at (after_append member i calls.2) calls.0 calls.3
   goes (stage.UndoWrite page) at i calls = written_goes (stage.UndoWrite page) page at i calls.0 calls.1
   goes (stage.RenewRead page) at i calls = page_goes (stage.RenewRead page) page at i calls.0 calls.1
   goes (stage.RenewWrite page) at i calls = written_goes (stage.RenewWrite page) page at i calls.0 calls.1
-  goes (stage.EndAppend member) at i calls = append_goes (stage.EndAppend member) member at (after_append member i calls.1 calls.2) calls.0 calls.3
+  goes (stage.EndAppend member) at i calls = append_goes (stage.EndAppend member) member at (after_append member i calls.2) calls.0 calls.3
   goes stage.End at i calls = end_goes at calls.0 calls.1
 
 -- ---- a step
@@ -148,13 +156,13 @@ stage_keeps stage.ReadLog o h c i = itself o c i.same
 stage_keeps (stage.CutTail tail) o h c i = i.keeps
 stage_keeps (stage.RedoRead page) o h c i = i.keeps
 stage_keeps (stage.RedoWrite page) o h c i = i.keeps
-stage_keeps (stage.CloseAppend member) o h c i = i.keeps
+stage_keeps (stage.CloseAppend member) o h c i = i.stands.keeps
 stage_keeps (stage.UndoRead page) o h c i = i.keeps
-stage_keeps (stage.UndoAppend member page) o h c i = i.keeps
+stage_keeps (stage.UndoAppend member page) o h c i = i.stands.keeps
 stage_keeps (stage.UndoWrite page) o h c i = i.keeps
 stage_keeps (stage.RenewRead page) o h c i = i.keeps
 stage_keeps (stage.RenewWrite page) o h c i = i.keeps
-stage_keeps (stage.EndAppend member) o h c i = i.keeps
+stage_keeps (stage.EndAppend member) o h c i = i.stands.keeps
 stage_keeps stage.End o h c i = i.keeps
 
 pub alive_keeps : (before now : Option Contents) (h : Restart) → Alive before h now → Becomes before now KeepsRecords
