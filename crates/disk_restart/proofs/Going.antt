@@ -1,7 +1,7 @@
 -- What a restart makes of an answer, from the last stage to the first: where it goes on, the logs stand for the stage that it goes to.
 use Rattle.std.proofs.Common.{◌≡◌, ℕ, ◌+◌, ◌-◌, ◌^◌, Bool, true, false, List, [], ◌∷◌, ◌++◌, length, drop, Option, Some, None, Result, Ok, Err, refl, sym, ap, subst, ◌∙◌}
 use Rattle.std.specs.Prelude.{nat_lt, slice_get, not, ◌&&◌, ◌==◌}
-use Rattle.std.proofs.lemmas.Bool.{cond_both, eqb-refl}
+use Rattle.std.proofs.lemmas.Bool.{cond_both, eq-eqb}
 use Rattle.ds_base.specs.declared.names.PageId.{PageId}
 use Rattle.ds_model.specs.RecordBytes.{record_bytes}
 use Rattle.ds_disk.specs.Contents.{log_of}
@@ -28,7 +28,7 @@ use Rattle.disk_restart.proofs.Stages.{Cuts, Stands, Adds, AfterCall, Good}
 -- ---- ends
 
 same_number : (a b : ℕ) → a ≡ b → not (a == b) ≡ false
-same_number a b is = ap not (subst (λ (k : ℕ). (a == k) ≡ true) is (eqb-refl a))
+same_number a b is = ap not (eq-eqb a b is)
 
 -- the Checkpoint is appended where it says
 ending_adds : (o d : Logs) (ends : List ℕ) (lrsn member : ℕ) → Stands o d ends → Adds o d ends member (ending lrsn (end_of ends member))
