@@ -33,5 +33,6 @@ fn the_first_record_with_a_number_is_found(rt: HostRuntime) -> Result<(), Fail> 
     let member = MemberId::new(2).ok_or("a member")?;
     assert_eq!(rt; spot_of(&logs, 7)?, Some(Spot::Log { member, at: 30 }));
     assert_eq!(rt; spot_of(&logs, 6)?, None);
+    assert_eq!(rt; drawn_spot_of(&logs, 4)?, Some(Spot::Log { member, at: 0 }));
     Ok(())
 }

@@ -30,13 +30,6 @@ has_put m k q =
     ap (λ (o : Option Bool). is_some o) (get-insert nat_cmp_total m k true q ∙ ap (λ (b : Bool). cond b (Some true) (get m q)) (same_number q k))
     ∙ some_if (k == q) (get m q)
 
-no_places : Places
-no_places = empty
-
-has_none : (q : ℕ) → is_some (get no_places q) ≡ false
-unfolding no_places
-has_none q = ap (λ (o : Option Bool). is_some o) (get-empty nat_cmp q)
-
 or_turned : (a b : Bool) → (a || b) ≡ (b || (a || false))
 or_turned true true = refl
 or_turned true false = refl

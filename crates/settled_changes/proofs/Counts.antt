@@ -16,7 +16,7 @@ use Rattle.log_merge.specs.Merging.{all_records}
 use Rattle.sound_disk.specs.Settled.{is_row_change, takes_back, is_open}
 use Rattle.sound_disk.specs.Numbers_left.{open_changes}
 use Rattle.settled_changes.specs.declared.marks.Marks.{Marks}
-use Rattle.settled_changes.specs.Marks.{Numbers, no_marks, marked, marked_by, marked_by_logs, is_open_by, count_by}
+use Rattle.settled_changes.specs.Marks.{Numbers, no_marks, marked, marked_by, marked_by_logs, is_settled_by, is_open_by, count_by}
 
 -- ---- sets of numbers
 
@@ -27,7 +27,7 @@ some_if : (b : Bool) (o : Option Bool) → is_some (cond b (Some true) o) ≡ (b
 some_if true o = refl
 some_if false o = refl
 
-has_put : (m : Numbers) (k q : ℕ) → is_some (get (insert m k true) q) ≡ ((k == q) || is_some (get m q))
+pub has_put : (m : Numbers) (k q : ℕ) → is_some (get (insert m k true) q) ≡ ((k == q) || is_some (get m q))
 has_put m k q =
     ap (λ (o : Option Bool). is_some o) (get-insert nat_cmp_total m k true q ∙ ap (λ (b : Bool). cond b (Some true) (get m q)) (same_number q k))
     ∙ some_if (k == q) (get m q)
@@ -47,7 +47,7 @@ or_moved false false c = refl
 
 -- ---- transactions with a Commit
 
-commits_one : (m : Marks) (tran : ℕ) (b : Body) (t : ℕ) → is_some (get (marked m tran b).committed t) ≡ ((is_commit b && (tran == t)) || is_some (get m.committed t))
+pub commits_one : (m : Marks) (tran : ℕ) (b : Body) (t : ℕ) → is_some (get (marked m tran b).committed t) ≡ ((is_commit b && (tran == t)) || is_some (get m.committed t))
 commits_one m tran (body.RowChange change) t = refl
 commits_one m tran (body.Compensation change undone) t = refl
 commits_one m tran (body.System patches) t = refl
@@ -65,7 +65,7 @@ commits m (r ∷ rs) t =
 
 -- ---- row changes that are taken back
 
-undone_one : (m : Marks) (tran : ℕ) (b : Body) (n : ℕ) → is_some (get (marked m tran b).undone n) ≡ (takes_back n b || is_some (get m.undone n))
+pub undone_one : (m : Marks) (tran : ℕ) (b : Body) (n : ℕ) → is_some (get (marked m tran b).undone n) ≡ (takes_back n b || is_some (get m.undone n))
 undone_one m tran (body.RowChange change) n = refl
 undone_one m tran (body.Compensation change undone) n = has_put m.undone undone n
 undone_one m tran (body.System patches) n = refl
@@ -83,7 +83,7 @@ undone m (r ∷ rs) n =
 
 -- ---- all logs
 
-marked_more : (m : Marks) (xs ys : List LogRecord) → marked_by (marked_by m xs) ys ≡ marked_by m (xs ++ ys)
+pub marked_more : (m : Marks) (xs ys : List LogRecord) → marked_by (marked_by m xs) ys ≡ marked_by m (xs ++ ys)
 marked_more m [] ys = refl
 marked_more m (x ∷ xs) ys = marked_more (marked m x.tran x.body) xs ys
 
@@ -91,12 +91,15 @@ marked_once : (m : Marks) (logs : List Log) → marked_by_logs m logs ≡ marked
 marked_once m [] = refl
 marked_once m (log ∷ logs) = marked_once (marked_by m log.records) logs ∙ marked_more m log.records (all_records logs)
 
-settles : (rs : List LogRecord) (r : LogRecord) → is_open_by (marked_by no_marks rs) r ≡ is_open rs r
-settles rs r =
-    ap (λ (b : Bool). is_row_change r.body && not (b || is_some (get (marked_by no_marks rs).undone r.lrsn)))
-    (commits no_marks rs r.tran ∙ ap (λ (b : Bool). b || has_commit rs r.tran) (has_none r.tran))
-    ∙ ap (λ (b : Bool). is_row_change r.body && not (has_commit rs r.tran || b))
-    (undone no_marks rs r.lrsn ∙ ap (λ (b : Bool). b || list_any (λ (s : LogRecord). takes_back r.lrsn s.body) rs) (has_none r.lrsn))
+pub settled_is : (rs : List LogRecord) (tran lrsn : ℕ) → is_settled_by (marked_by no_marks rs) tran lrsn ≡ (has_commit rs tran || list_any (λ (s : LogRecord). takes_back lrsn s.body) rs)
+settled_is rs tran lrsn =
+    ap (λ (b : Bool). b || is_some (get (marked_by no_marks rs).undone lrsn))
+    (commits no_marks rs tran ∙ ap (λ (b : Bool). b || has_commit rs tran) (has_none tran))
+    ∙ ap (λ (b : Bool). has_commit rs tran || b)
+    (undone no_marks rs lrsn ∙ ap (λ (b : Bool). b || list_any (λ (s : LogRecord). takes_back lrsn s.body) rs) (has_none lrsn))
+
+pub settles : (rs : List LogRecord) (r : LogRecord) → is_open_by (marked_by no_marks rs) r ≡ is_open rs r
+settles rs r = ap (λ (b : Bool). is_row_change r.body && not b) (settled_is rs r.tran r.lrsn)
 
 pub counts_open : (logs : List Log) → count_by (marked_by_logs no_marks logs) (all_records logs) ≡ length (open_changes (all_records logs))
 counts_open logs =

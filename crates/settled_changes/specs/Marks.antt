@@ -1,5 +1,5 @@
 -- The numbers of transactions with a Commit, and of row changes that are taken back, as sets.
-use Rattle.std.specs.Prelude.{ℕ, Bool, true, not, ◌&&◌, ◌||◌, List, [], ◌∷◌, length, filter, is_some}
+use Rattle.std.specs.Prelude.{ℕ, Bool, true, not, ◌&&◌, ◌||◌, if◌then◌else◌, List, [], ◌∷◌, length, filter, is_some}
 use Rattle.std.specs.Ordering.{nat_cmp}
 use Rattle.std.specs.FinMap as finite
 use Rattle.ds_model.specs.declared.log.LogRecord.{LogRecord}
@@ -39,10 +39,23 @@ abbrev pub marked_by_logs : Marks → List Log → Marks
 marked_by_logs m [] = m
 marked_by_logs m (log ∷ logs) = marked_by_logs (marked_by m log.records) logs
 
--- the record is a row change that isn't settled by these marks
+-- a row change of this transaction and number is settled by these marks
+abbrev pub is_settled_by : Marks → ℕ → ℕ → Bool
+is_settled_by m tran lrsn = is_some (finite.get m.committed tran) || is_some (finite.get m.undone lrsn)
+
+-- the record is a row change that isn't
 abbrev pub is_open_by : Marks → LogRecord → Bool
-is_open_by m r = is_row_change r.body && not (is_some (finite.get m.committed r.tran) || is_some (finite.get m.undone r.lrsn))
+is_open_by m r = is_row_change r.body && not (is_settled_by m r.tran r.lrsn)
 
 -- how many of the records are
 abbrev pub count_by : Marks → List LogRecord → ℕ
 count_by m records = length (filter (is_open_by m) records)
+
+-- ---- transactions with a row change that is open by these marks
+
+abbrev pub with_open : Marks → Numbers → LogRecord → Numbers
+with_open m found r = if is_open_by m r then finite.insert found r.tran true else found
+
+abbrev pub open_by : Marks → Numbers → List LogRecord → Numbers
+open_by m found [] = found
+open_by m found (r ∷ rs) = open_by m (with_open m found r) rs

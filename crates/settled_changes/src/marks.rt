@@ -1,8 +1,8 @@
 ghost use Rattle.std.specs.Prelude.{◌≡◌, OnOk, IfOk};
 ghost use Rattle.sound_disk.specs.Settled.{is_row_change};
-ghost use Rattle.settled_changes.specs.Marks.{no_marks, marked, marked_by, marked_by_logs, is_open_by, count_by};
+ghost use Rattle.settled_changes.specs.Marks.{no_marks, marked, marked_by, marked_by_logs, is_settled_by, is_open_by, count_by};
 
-use ds_base::NoMemory;
+use ds_base::{Lrsn, NoMemory};
 use ds_model::{Body, LogRecord};
 use log_record::Log;
 use number_map::NumberMap;
@@ -22,7 +22,7 @@ fn is_row_change(body: &Body) -> bool
 }
 
 impl Marks {
-    fn new(alloc: Global) -> Marks
+    pub fn new(alloc: Global) -> Marks
         ensures { result ≡ no_marks }
     {
         Marks {
@@ -31,7 +31,8 @@ impl Marks {
         }
     }
 
-    fn mark(&mut self, record: &LogRecord) -> Result<(), NoMemory>
+    /// Takes a record into account.
+    pub fn mark(&mut self, record: &LogRecord) -> Result<(), NoMemory>
         ensures { OnOk result (self.new ≡ marked self.old record.now.tran record.now.body) }
     {
         match &record.body {
@@ -65,13 +66,27 @@ impl Marks {
         Ok(marks)
     }
 
+    /// What these records mark.
+    pub fn of_records(alloc: Global, records: &[LogRecord]) -> Result<Marks, NoMemory>
+        ensures { IfOk result (λ marks. marks ≡ marked_by no_marks records.now) }
+    {
+        let mut marks = Marks::new(alloc);
+        marks.mark_all(records)?;
+        Ok(marks)
+    }
+
+    /// Whether a row change of this transaction and number has a Commit or is taken back.
+    pub fn is_settled(&self, tran: Lrsn, lrsn: Lrsn) -> bool
+        ensures { result ≡ is_settled_by self.now tran lrsn }
+    {
+        self.committed.get(tran).is_some() || self.undone.get(lrsn).is_some()
+    }
+
     /// Whether the record is a row change that isn't settled.
     pub fn is_open(&self, record: &LogRecord) -> bool
         ensures { result ≡ is_open_by self.now record.now }
     {
-        is_row_change(&record.body)
-            && !(self.committed.get(record.tran).is_some()
-                || self.undone.get(record.lrsn).is_some())
+        is_row_change(&record.body) && !self.is_settled(record.tran, record.lrsn)
     }
 
     /// How many of the records are.
