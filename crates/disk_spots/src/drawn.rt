@@ -10,10 +10,10 @@ use ds_base::NoMemory;
 use ds_model::LogRecord;
 use log_record::{Log, is_drawn};
 
-fn has_drawn(record: &LogRecord, number: u128) -> bool
-    ensures { result ≡ has_drawn number record.now }
+fn has_drawn(it: &LogRecord, number: u128) -> bool
+    ensures { result ≡ has_drawn number it.now }
 {
-    is_drawn(&record.body) && record.lrsn.number() == number
+    is_drawn(&it.body) && it.lrsn.number() == number
 }
 
 #[tactic(auto, using(crate::proofs::Fitting::fits_of))]

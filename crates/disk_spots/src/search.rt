@@ -10,11 +10,11 @@ use ds_model::LogRecord;
 use log_record::{Log, record_length};
 
 /// Where the next record of a log begins. No log is so long that a number of 64 bits doesn't hold its length.
-pub fn next_place(at: u64, record: &LogRecord) -> Result<u64, NoMemory>
-    requires { BodyFits record.now.version record.now.body }
-    ensures { IfOk result (λ next. next ≡ at + length (record_bytes record.now)) }
+pub fn next_place(at: u64, it: &LogRecord) -> Result<u64, NoMemory>
+    requires { BodyFits it.now.version it.now.body }
+    ensures { IfOk result (λ next. next ≡ at + length (record_bytes it.now)) }
 {
-    at.checked_add(record_length(record) as u64).ok_or(NoMemory)
+    at.checked_add(record_length(it) as u64).ok_or(NoMemory)
 }
 
 #[tactic(auto, using(crate::proofs::Fitting::fits_of))]

@@ -43,27 +43,22 @@ fn add_pages(
     Ok(())
 }
 
-fn is_unended(trans: &NumberMap<bool>, record: &LogRecord) -> bool
-    ensures { result ≡ unended_among trans.now record.now }
+fn is_unended(trans: &NumberMap<bool>, it: &LogRecord) -> bool
+    ensures { result ≡ unended_among trans.now it.now }
 {
-    record.tran.number() != 0 && trans.get(record.tran).is_some()
+    it.tran.number() != 0 && trans.get(it.tran).is_some()
 }
 
 fn add_record(
     alloc: Global,
     needs: &mut Sequence<Need>,
     trans: &NumberMap<bool>,
-    record: &LogRecord,
+    it: &LogRecord,
 ) -> Result<(), NoMemory>
-    ensures { OnOk result (needs.new ≡ needs.old ++ needs_among trans.now record.now) }
+    ensures { OnOk result (needs.new ≡ needs.old ++ needs_among trans.now it.now) }
 {
-    let pages = pages_of(alloc, record)?;
-    add_pages(
-        needs,
-        pages.as_slice(),
-        record.lrsn,
-        is_unended(trans, record),
-    )
+    let pages = pages_of(alloc, it)?;
+    add_pages(needs, pages.as_slice(), it.lrsn, is_unended(trans, it))
 }
 
 // The needs of the records before this byte.

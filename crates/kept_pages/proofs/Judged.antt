@@ -80,7 +80,7 @@ met_more : (at : Images) (needs : List Need) (n : Need) → list_all (is_met at)
 met_more at needs n = list_all-append (is_met at) needs (n ∷ []) ∙ ap (λ (b : Bool). list_all (is_met at) needs && b) (and_true (is_met at n))
 
 -- where all are met none is unmet
-none_unmet : (at : Images) (needs : List Need) (id : PageId) → list_all (is_met at) needs ≡ true → has_unmet at needs id ≡ false
+pub none_unmet : (at : Images) (needs : List Need) (id : PageId) → list_all (is_met at) needs ≡ true → has_unmet at needs id ≡ false
 none_unmet at [] id h = refl
 none_unmet at (n ∷ ns) id h =
     neither (same_page n.page id && not (is_met at n)) (has_unmet at ns id)

@@ -2,8 +2,10 @@
 #![tactic(auto)]
 
 mod first;
+mod unkept;
 mod unmet;
 
+pub use unkept::find_unkept;
 pub use unmet::find_unmet;
 
 #[cfg(test)]

@@ -39,15 +39,15 @@ fn apply_patches(page: &mut Page, id: PageId, patches: &[Patch], lrsn: Lrsn)
 }
 
 /// The page of this name after the record.
-pub fn apply_record(page: &mut Page, id: PageId, record: &LogRecord)
-    requires { BodyFits record.now.version record.now.body }
-    ensures { page.new ≡ after_record id page.old record.now }
+pub fn apply_record(page: &mut Page, id: PageId, it: &LogRecord)
+    requires { BodyFits it.now.version it.now.body }
+    ensures { page.new ≡ after_record id page.old it.now }
 {
-    match &record.body {
+    match &it.body {
         Body::RowChange { change } | Body::Compensation { change, .. } => {
-            apply_change(page, id, change, record.lrsn)
+            apply_change(page, id, change, it.lrsn)
         }
-        Body::System { patches } => apply_patches(page, id, patches.as_slice(), record.lrsn),
+        Body::System { patches } => apply_patches(page, id, patches.as_slice(), it.lrsn),
         Body::Commit | Body::Ended | Body::Checkpoint { .. } | Body::RestartEnd => {}
     }
 }
@@ -64,10 +64,10 @@ fn any_for(id: PageId, patches: &[Patch]) -> bool
 }
 
 /// Whether the record changes the page.
-pub fn touches(id: PageId, record: &LogRecord) -> bool
-    ensures { result ≡ touches id record.now }
+pub fn touches(id: PageId, it: &LogRecord) -> bool
+    ensures { result ≡ touches id it.now }
 {
-    match &record.body {
+    match &it.body {
         Body::RowChange { change } | Body::Compensation { change, .. } => {
             page_changed(change).is_same(id)
         }

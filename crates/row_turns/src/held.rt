@@ -29,11 +29,11 @@ fn held_of(tran: Lrsn, lrsn: Lrsn, change: &RowChange) -> Held
 }
 
 /// Enters the row of a row change.
-pub fn hold(held: &mut Sequence<Held>, record: &LogRecord) -> Result<(), NoMemory>
-    ensures { OnOk result (held.new ≡ held.old ++ held_in record.now.tran record.now.lrsn record.now.body) }
+pub fn hold(held: &mut Sequence<Held>, it: &LogRecord) -> Result<(), NoMemory>
+    ensures { OnOk result (held.new ≡ held.old ++ held_in it.now.tran it.now.lrsn it.now.body) }
 {
-    match &record.body {
-        Body::RowChange { change } => held.push(held_of(record.tran, record.lrsn, change)),
+    match &it.body {
+        Body::RowChange { change } => held.push(held_of(it.tran, it.lrsn, change)),
         _ => Ok(()),
     }
 }
@@ -76,11 +76,11 @@ fn all_let(held: &[Held], tran: Lrsn, change: &RowChange) -> bool
 }
 
 /// Whether none of the rows is in the way of the record.
-pub fn lets_record(held: &[Held], record: &LogRecord) -> bool
-    ensures { result ≡ lets_record held.now record.now.tran record.now.body }
+pub fn lets_record(held: &[Held], it: &LogRecord) -> bool
+    ensures { result ≡ lets_record held.now it.now.tran it.now.body }
 {
-    match &record.body {
-        Body::RowChange { change } => all_let(held, record.tran, change),
+    match &it.body {
+        Body::RowChange { change } => all_let(held, it.tran, change),
         _ => true,
     }
 }

@@ -26,11 +26,11 @@ impl Turns {
         }
     }
 
-    fn enter(&mut self, alloc: Global, record: &LogRecord) -> Result<(), NoMemory>
-        ensures { OnOk result (self.new ≡ turns_with self.old record.now) }
+    fn enter(&mut self, alloc: Global, it: &LogRecord) -> Result<(), NoMemory>
+        ensures { OnOk result (self.new ≡ turns_with self.old it.now) }
     {
-        hold(&mut self.held, record)?;
-        self.marks.mark(record)?;
+        hold(&mut self.held, it)?;
+        self.marks.mark(it)?;
         self.held = still_held(alloc, &self.marks, self.held.as_slice())?;
         Ok(())
     }

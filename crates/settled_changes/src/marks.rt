@@ -32,11 +32,11 @@ impl Marks {
     }
 
     /// Takes a record into account.
-    pub fn mark(&mut self, record: &LogRecord) -> Result<(), NoMemory>
-        ensures { OnOk result (self.new ≡ marked self.old record.now.tran record.now.body) }
+    pub fn mark(&mut self, it: &LogRecord) -> Result<(), NoMemory>
+        ensures { OnOk result (self.new ≡ marked self.old it.now.tran it.now.body) }
     {
-        match &record.body {
-            Body::Commit => self.committed.put(record.tran, true),
+        match &it.body {
+            Body::Commit => self.committed.put(it.tran, true),
             Body::Compensation { undone, .. } => self.undone.put(*undone, true),
             Body::RowChange { .. }
             | Body::System { .. }
@@ -83,10 +83,10 @@ impl Marks {
     }
 
     /// Whether the record is a row change that isn't settled.
-    pub fn is_open(&self, record: &LogRecord) -> bool
-        ensures { result ≡ is_open_by self.now record.now }
+    pub fn is_open(&self, it: &LogRecord) -> bool
+        ensures { result ≡ is_open_by self.now it.now }
     {
-        is_row_change(&record.body) && !self.is_settled(record.tran, record.lrsn)
+        is_row_change(&it.body) && !self.is_settled(it.tran, it.lrsn)
     }
 
     /// How many of the records are.

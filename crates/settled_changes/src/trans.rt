@@ -9,15 +9,11 @@ use ds_model::LogRecord;
 use number_map::NumberMap;
 use std::alloc::Global;
 
-fn enter_open(
-    marks: &Marks,
-    found: &mut NumberMap<bool>,
-    record: &LogRecord,
-) -> Result<(), NoMemory>
-    ensures { OnOk result (found.new ≡ with_open marks.now found.old record.now) }
+fn enter_open(marks: &Marks, found: &mut NumberMap<bool>, it: &LogRecord) -> Result<(), NoMemory>
+    ensures { OnOk result (found.new ≡ with_open marks.now found.old it.now) }
 {
-    if marks.is_open(record) {
-        found.put(record.tran, true)
+    if marks.is_open(it) {
+        found.put(it.tran, true)
     } else {
         Ok(())
     }
