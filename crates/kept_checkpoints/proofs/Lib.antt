@@ -1,0 +1,3 @@
+pub mod Fitting
+pub mod Meets
+pub mod Places

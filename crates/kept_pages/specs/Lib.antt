@@ -1,0 +1,3 @@
+pub mod Unmet
+pub mod Reading
+pub mod Unkept

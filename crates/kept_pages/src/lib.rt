@@ -1,0 +1,12 @@
+//! Whether the pages of a disk have what stands in its logs before the places from which they are read on.
+#![tactic(auto)]
+
+mod first;
+mod unkept;
+mod unmet;
+
+pub use unkept::find_unkept;
+pub use unmet::find_unmet;
+
+#[cfg(test)]
+mod tests;

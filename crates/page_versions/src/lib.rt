@@ -1,0 +1,11 @@
+//! Whether a page of a disk is a version: what a front of the log records makes of a page of zeros.
+#![tactic(auto)]
+
+mod apply;
+mod front;
+
+pub use apply::apply_record;
+pub use front::{is_placed, is_version, version_laws};
+
+#[cfg(test)]
+mod tests;

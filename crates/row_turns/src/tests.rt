@@ -1,0 +1,65 @@
+ghost use Rattle.std.specs.Prelude.{◌≡◌, IfOk};
+ghost use Rattle.ds_model.specs.RecordBytes.{IsAllowed};
+
+use super::*;
+use disk_spots::Spot;
+use ds_base::{Lrsn, MemberId, Place, Sequence, TableId};
+use ds_model::{Body, LogRecord, RowChange, Version};
+use log_record::{Log, is_allowed};
+use std::test::Fail;
+
+fn record(lrsn: u128, tran: u128, body: Body) -> Result<LogRecord, Fail>
+    ensures { IfOk result IsAllowed }
+{
+    let record = LogRecord {
+        version: Version::Two,
+        lrsn: Lrsn::new(lrsn).ok_or("a number")?,
+        tran: Lrsn::new(tran).ok_or("a number")?,
+        body,
+    };
+    if !is_allowed(&record) {
+        return Err(Fail::from("a record of a log"));
+    }
+    Ok(record)
+}
+
+fn change(lrsn: u128, tran: u128, key: u64) -> Result<LogRecord, Fail>
+    ensures { IfOk result IsAllowed }
+{
+    let change = RowChange {
+        table: TableId::new(1).ok_or("a table")?,
+        key,
+        place: Place { page: 1, slot: 0 },
+        before: None,
+        after: None,
+    };
+    record(lrsn, tran, Body::RowChange { change })
+}
+
+fn log(member: u64, records: Vec<LogRecord>) -> Result<Log, Fail>
+    ensures { IfOk result (λ log. log.records ≡ records.items) }
+{
+    Ok(Log {
+        member: MemberId::new(member).ok_or("a member")?,
+        records: Sequence::from_vec(records),
+        length: 0,
+        tail: 0,
+    })
+}
+
+#[test]
+fn a_row_waits_for_the_commit(rt: HostRuntime) -> Result<(), Fail> {
+    let alloc = rt.alloc();
+    let first = vec![in alloc; change(1, 1, 10)?, record(3, 1, Body::Commit)?]?;
+    let second = vec![in alloc; change(2, 2, 11)?, change(4, 2, 10)?]?;
+    let third = vec![in alloc; change(5, 5, 11)?]?;
+    let logs = [log(1, first)?, log(2, second)?, log(3, third)?];
+    let member = MemberId::new(3).ok_or("a member")?;
+    assert_eq!(rt; find_turn_spot(alloc, &logs[..2])?, None);
+    assert_eq!(rt;
+        find_turn_spot(alloc, &logs)?,
+        Some(Spot::Log { member, at: 0 })
+    );
+    assert_eq!(rt; find_out_of_turn(alloc, logs[1].records())?, None);
+    Ok(())
+}
