@@ -136,6 +136,63 @@ wants_again s member at count e =
     let same : heads_by (first_stop s.block 1 s.heads) s.heads (least_from 0 s.heads) ≡ s.heads = again_by s (first_stop s.block 1 s.heads) (least_from 0 s.heads) member at count e in
     ap (λ (hs : List HeadState). taken_of (record { block = s.block; heads = hs })) same ∙ e
 
+-- ---- which bytes are wanted
+
+-- the member's log, so many places behind the first, wants bytes from here on
+record WantsFrom (m : ℕ) (heads : List HeadState) (member at : ℕ) : Type 0 where
+  place : ℕ
+  is : member ≡ m + place
+  next : at ≡ hand_end (head_at heads place)
+
+abbrev OneWants : ℕ → HeadState → ℕ → ℕ → Type 0
+OneWants m h member at = (member ≡ m) × (at ≡ hand_end h)
+
+bad_wants : (b : Bool) (m : ℕ) (h : HeadState) (member at count : ℕ) → cond b (Some (taken.Bad m h.end)) None ≡ Some (taken.Wants member at count) → ⊥
+bad_wants true m h member at count e = cc
+bad_wants false m h member at count e = cc
+
+one_when : (b : Bool) (block m : ℕ) (h : HeadState) (member at count : ℕ)
+    → stop_of m h.end (cond b (standing.Wants (hand_end h) (min (h.end - hand_end h) block)) (standing.Ends h.at)) ≡ Some (taken.Wants member at count) → OneWants m h member at
+one_when true block m h member at count e = (cc, cc)
+one_when false block m h member at count e = absurd (bad_wants (nat_lt h.at h.end) m h member at count e)
+
+one_wants : (block m : ℕ) (h : HeadState) (f : Found) (member at count : ℕ) → stop_of m h.end (standing_by block h f) ≡ Some (taken.Wants member at count) → OneWants m h member at
+one_wants block m h (Ok found) member at count e = absurd cc
+one_wants block m h (Err (Bad field)) member at count e = absurd cc
+one_wants block m h (Err NotWhole) member at count e = one_when (nat_lt (hand_end h) h.end) block m h member at count e
+one_wants block m h (Err NoMemory) member at count e = one_when (nat_lt (hand_end h) h.end) block m h member at count e
+
+wants_by : (o : Option Taken) (block m : ℕ) (h : HeadState) (hs : List HeadState) (member at count : ℕ) → stop_of m h.end (standing_of block h) ≡ o → or_else o (first_stop block (m + 1) hs) ≡ Some (taken.Wants member at count)
+    → (first_stop block (m + 1) hs ≡ Some (taken.Wants member at count) → WantsFrom (m + 1) hs member at) → WantsFrom m (h ∷ hs) member at
+wants_by None block m h hs member at count e w again =
+    let it = again w in
+    record { place = suc it.place; is = omega (arith, it.is); next = it.next }
+wants_by (Some stop) block m h hs member at count e w again =
+    let it = one_wants block m h (record_in h.hand) member at count (e ∙ w) in
+    record { place = 0; is = omega (arith, it.0); next = it.1 }
+
+wants_from : (block m : ℕ) (heads : List HeadState) (member at count : ℕ) → first_stop block m heads ≡ Some (taken.Wants member at count) → WantsFrom m heads member at
+wants_from block m [] member at count e = absurd cc
+wants_from block m (h ∷ hs) member at count e = wants_by (stop_of m h.end (standing_of block h)) block m h hs member at count refl e (wants_from block (m + 1) hs member at count)
+
+record_wants : (m : ℕ) (o : Option LogRecord) (member at count : ℕ) → taken_record m o ≡ taken.Wants member at count → ⊥
+record_wants m None member at count e = cc
+record_wants m (Some r) member at count e = cc
+
+stop_wants : (stop : Option Taken) (heads : List HeadState) (least : Option (ℕ × ℕ)) (member at count : ℕ) → taken_by stop heads least ≡ taken.Wants member at count → stop ≡ Some (taken.Wants member at count)
+stop_wants (Some stop) heads least member at count e = cc
+stop_wants None heads None member at count e = absurd cc
+stop_wants None heads (Some p) member at count e = absurd (record_wants (p.0 + 1) (first_by (record_in (head_at heads p.0).hand)) member at count e)
+
+pub wants_next : (s : HeadsState) (member at count : ℕ) → taken_of s ≡ taken.Wants member at count → (at ≡ hand_end (head_at s.heads (member - 1))) × (at + count ≤ (head_at s.heads (member - 1)).end) × (count ≤ s.block)
+wants_next s member at count e =
+    let w : AreWanted (taken_of s) member count = subst (λ (t : Taken). AreWanted t member count) (sym e) (refl, refl) in
+    let it = wanted s member count w in
+    let from = wants_from s.block 1 s.heads member at count (stop_wants (first_stop s.block 1 s.heads) s.heads (least_from 0 s.heads) member at count e) in
+    let place : from.place ≡ member - 1 = omega (arith, from.is) in
+    let next : at ≡ hand_end (head_at s.heads (member - 1)) = subst (λ (k : ℕ). at ≡ hand_end (head_at s.heads k)) place from.next in
+    (next, omega (arith, it.room, next), it.few)
+
 -- ---- what is in hand
 
 pub few_after : (block : ℕ) (h : HeadState) (f : Found) → IsFew block h → IsFew block (after_by h f)
@@ -227,6 +284,35 @@ pub fill_goes : FilledIsOf → (logs : List (List ℕ)) (s : HeadsState) (member
 fill_goes law logs s member bytes one is w next =
     let it = wanted s member (length bytes) w in
     fill_is law logs s.heads (member - 1) bytes is it.within (it.some one) it.room next
+
+-- ---- how much is left to be done
+
+less_at : (heads : List HeadState) (k : ℕ) (bytes : List ℕ) → k < length heads → 1 ≤ length bytes → hand_end (head_at heads k) + length bytes ≤ (head_at heads k).end → work_left (filled_at heads k bytes) < work_left heads
+less_at [] k bytes lt some room = absurd (omega (arith, lt))
+less_at (h ∷ hs) zero bytes lt some room = omega (arith, some, room, length-append h.hand bytes)
+less_at (h ∷ hs) (suc k) bytes lt some room = omega (arith, less_at hs k bytes (omega (arith, lt)) some room)
+
+pub fill_leaves : (s : HeadsState) (member : ℕ) (bytes : List ℕ) → 1 ≤ s.block → AreWanted (taken_of s) member (length bytes) → work_left (after_fill s member bytes).heads < work_left s.heads
+fill_leaves s member bytes one w =
+    let it = wanted s member (length bytes) w in
+    less_at s.heads (member - 1) bytes it.within (it.some one) it.room
+
+taken_when : RecordHasSize → (h : HeadState) (f : Found) → record_in h.hand ≡ f → work_left (after_by h f ∷ []) ≤ work_left (h ∷ [])
+taken_when size h (Ok (r, n)) e = let s = size h.hand r n e in omega (arith, s.0, s.1, length-drop n h.hand)
+taken_when size h (Err fault) e = omega arith
+
+no_more_at : RecordHasSize → (heads : List HeadState) (k : ℕ) → work_left (set heads k (after_take (head_at heads k))) ≤ work_left heads
+no_more_at size [] k = omega arith
+no_more_at size (h ∷ hs) zero = omega (arith, taken_when size h (record_in h.hand) refl)
+no_more_at size (h ∷ hs) (suc k) = omega (arith, no_more_at size hs k)
+
+no_more_by : RecordHasSize → (stop : Option Taken) (heads : List HeadState) (least : Option (ℕ × ℕ)) → work_left (heads_by stop heads least) ≤ work_left heads
+no_more_by size (Some stop) heads least = omega arith
+no_more_by size None heads None = omega arith
+no_more_by size None heads (Some p) = no_more_at size heads p.0
+
+pub taken_leaves : RecordHasSize → (s : HeadsState) → work_left (after_taken s).heads ≤ work_left s.heads
+taken_leaves size s = no_more_by size (first_stop s.block 1 s.heads) s.heads (least_from 0 s.heads)
 
 -- ---- the end
 

@@ -61,7 +61,7 @@ fn fill_at(alloc: Global, heads: &mut [Head], place: usize, bytes: &[u8]) -> Res
 impl Heads {
     ghost use Rattle.log_heads.specs.declared.taken.Taken.TheVariants.{Wants, End};
     ghost use Rattle.log_heads.specs.Heads.{IsFew, taken_of, after_taken, AreWanted, after_fill};
-    ghost use Rattle.log_heads.specs.Logs.{AreOf, AreNextOf, GoesOn, AreRead, IsFilled};
+    ghost use Rattle.log_heads.specs.Logs.{AreOf, AreNextOf, GoesOn, AreRead, work_left, IsFilled};
 
     /// The logs of all members from these starts on and up to these lengths, each of which begins with the first member's. Of a
     /// log at most so many bytes are asked for at once.
@@ -107,6 +107,7 @@ impl Heads {
         ensures wants { (member at count : ℕ) → result ≡ Wants member at count → taken_of self.new ≡ Wants member at count }
         ensures goes { (logs : List (List ℕ)) → AreOf logs self.old.heads → GoesOn logs self.old.heads result self.new.heads }
         ensures end { (logs : List (List ℕ)) → AreOf logs self.old.heads → (result ≡ End) ↔ AreRead self.old.heads }
+        ensures no_more { work_left self.new.heads ≤ work_left self.old.heads }
         ensures few { AllByRecursion (IsFew self.new.block) self.new.heads }
     {
         heads_laws();
@@ -131,6 +132,7 @@ impl Heads {
         ensures ok { OnOk result (self.new ≡ after_fill self.old member bytes.now) }
         ensures err { OnErr result (self.new ≡ self.old) }
         ensures goes { (logs : List (List ℕ)) → AreOf logs self.old.heads → AreNextOf logs self.old.heads member bytes.now → OnOk result (IsFilled logs self.old.heads self.new.heads) }
+        ensures less { OnOk result (work_left self.new.heads < work_left self.old.heads) }
         ensures few { AllByRecursion (IsFew self.new.block) self.new.heads }
     {
         heads_laws();

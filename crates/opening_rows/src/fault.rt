@@ -1,6 +1,8 @@
 ghost use Rattle.std.specs.Prelude.{◌≡◌};
+ghost use Rattle.opening_rows.specs.Reading.{fault_in};
 ghost use Rattle.opening_rows.specs.declared.fault.LogsFault.TheVariants as fault;
 
+use disk_heads::LogFault;
 use ds_base::{MemberId, NoMemory};
 use std::alloc::AllocError;
 use thiserror::Error;
@@ -31,5 +33,16 @@ impl From<AllocError> for LogsFault {
 
     fn from(_: AllocError) -> Self {
         LogsFault::NoMemory
+    }
+}
+
+/// The fault of the member's log as one of the logs.
+pub fn fault_in(member: MemberId, fault: LogFault) -> LogsFault
+    ensures { result ≡ fault_in member fault }
+{
+    match fault {
+        LogFault::Failed => LogsFault::Failed,
+        LogFault::Damaged { at } => LogsFault::Damaged { member, at },
+        LogFault::NoMemory => LogsFault::NoMemory,
     }
 }

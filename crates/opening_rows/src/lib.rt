@@ -4,6 +4,11 @@
 mod fault;
 mod logs;
 mod opening;
+mod rows;
+mod survey;
+mod surveyed;
+#[cfg(test)]
+mod tests;
 
 pub use fault::LogsFault;
 pub use log_record::Log;

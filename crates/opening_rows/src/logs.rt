@@ -10,10 +10,10 @@ use log_volume::{Log, LogFault, open_log};
 use std::alloc::Global;
 
 /// The most members of a group, each with a log.
-const MEMBERS: usize = 32;
+pub const MEMBERS: usize = 32;
 
-// The member behind so many others.
-fn member_behind(n: usize) -> MemberId
+/// The member behind so many others.
+pub fn member_behind(n: usize) -> MemberId
     requires { n < 32 }
     ensures { result ≡ n + 1 }
 {

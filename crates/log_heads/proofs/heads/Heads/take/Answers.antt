@@ -1,9 +1,9 @@
-use Rattle.std.proofs.Common.{◌≡◌, ℕ, List, sym, subst, ◌∙◌}
+use Rattle.std.proofs.Common.{◌≡◌, ℕ, ◌≤◌, List, sym, subst, ◌∙◌}
 use Rattle.std.specs.Prelude.{◌↔◌}
 use Rattle.log_heads.specs.declared.taken.Taken.{Taken}
 use Rattle.log_heads.specs.declared.taken.Taken.TheVariants as taken
 use Rattle.log_heads.specs.Heads.{HeadsState, taken_of}
-use Rattle.log_heads.specs.Logs.{GoesOn, AreRead}
+use Rattle.log_heads.specs.Logs.{GoesOn, AreRead, work_left}
 use Rattle.log_heads.proofs.heads.Heads.take.Goals as goal
 
 pub returns-clause-wants : goal.returns-clause-wants
@@ -17,3 +17,6 @@ returns-clause-goes c = λ logs are.
 
 pub returns-clause-end : goal.returns-clause-end
 returns-clause-end c = λ logs are. subst (λ (t : Taken). (t ≡ taken.End) ↔ AreRead c.args.self.now.heads) (sym c.take_next.ensures.taken) (c.heads_laws.ensures.end logs c.args.self.now are)
+
+pub returns-clause-no_more : goal.returns-clause-no_more
+returns-clause-no_more c = subst (λ (s : HeadsState). work_left s.heads ≤ work_left c.args.self.now.heads) (sym c.take_next.ensures.after) (c.heads_laws.ensures.no_more c.args.self.now)

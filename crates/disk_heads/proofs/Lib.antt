@@ -1,0 +1,4 @@
+mod Taking
+mod Told
+mod Next
+mod Ending
