@@ -1,5 +1,5 @@
 -- A crew that is made, and one that was looked at since.
-use Rattle.std.proofs.Common.{◌≡◌, ℕ, zero, suc, List, [], ◌∷◌, map, Option, None, All, IfSome, refl, sym, ap, subst, ◌∙◌, arith}
+use Rattle.std.proofs.Common.{◌≡◌, ℕ, zero, suc, ◌+◌, List, [], ◌∷◌, ◌++◌, length, map, Option, None, All, IfSome, refl, sym, ap, subst, ◌∙◌, arith}
 use Rattle.ds_base.specs.declared.names.Sizes.{Sizes}
 use Rattle.cache_structure.specs.Directory.{Directory}
 use Rattle.facility.specs.States.{IsMade, held}
@@ -16,11 +16,23 @@ down_at sizes [] k all = tt
 down_at sizes (part ∷ parts) zero all = all 0 part (omega arith)
 down_at sizes (part ∷ parts) (suc k) all = down_at sizes parts k (λ i d within. all (suc i) d (omega arith))
 
+-- ---- members that are numbered in their order, by any count
+
+pub number_next : {P : Type 0} (count : ℕ → ℕ) (parts : List (MemberPart P)) (part : MemberPart P) → ((k : ℕ) → IfSome (member_at parts k) (λ m. m.id ≡ count k)) → part.id ≡ count (length parts)
+    → (k : ℕ) → IfSome (member_at (parts ++ part ∷ []) k) (λ m. m.id ≡ count k)
+number_next count [] part numbered next zero = next
+number_next count [] part numbered next (suc k) = tt
+number_next count (x ∷ xs) part numbered next zero = numbered 0
+number_next count (x ∷ xs) part numbered next (suc k) = number_next (λ j. count (suc j)) xs part (λ j. numbered (suc j)) next k
+
+-- ---- the crew
+
 pub made_crew : {C P : Type 0} (directory : C → Directory) (counter : ℕ) (crew : Crew C P) → IsMade crew.sizes.sizes counter (held directory crew.facility) → All (λ part. IsDown crew.sizes.sizes (member_of part)) crew.parts.items
-    → crew.progress.begun ≡ 0 → crew.progress.groupfails ≡ 0 → crew.restart ≡ None → crew.fates ≡ no_fates → IsNewCrew directory crew
-made_crew directory counter crew made down unplayed groupfails unfailed unfated = record {
+    → ((k : ℕ) → IfSome (member_at crew.parts.items k) (λ m. m.id ≡ k + 1)) → crew.progress.begun ≡ 0 → crew.progress.groupfails ≡ 0 → crew.restart ≡ None → crew.fates ≡ no_fates → IsNewCrew directory crew
+made_crew directory counter crew made down numbered unplayed groupfails unfailed unfated = record {
   facility = record { locks_empty = made.locks_empty; directory_empty = made.directory_empty; lists_new = made.lists_new; counter_at = refl };
   members = λ k. down_at crew.sizes.sizes crew.parts.items k down;
+  numbered = numbered;
   unplayed = unplayed;
   groupfails = groupfails;
   unfailed = unfailed;
@@ -41,6 +53,7 @@ looked_new {C} {P} directory mid new made looks = record {
   members = λ k.
       subst (λ (o : Option Member). IfSome o (IsDown new.sizes.sizes)) (same_member mid.parts.items new.parts.items k looks.parts)
       (subst (λ (crew : Crew C P). IfSome (member_at mid.parts.items k) (IsDown crew.sizes.sizes)) (sym looks.rest) (made.members k));
+  numbered = λ k. subst (λ (o : Option Member). IfSome o (λ m. m.id ≡ k + 1)) (same_member mid.parts.items new.parts.items k looks.parts) (made.numbered k);
   unplayed = ap (λ (crew : Crew C P). crew.progress.begun) looks.rest ∙ made.unplayed;
   groupfails = ap (λ (crew : Crew C P). crew.progress.groupfails) looks.rest ∙ made.groupfails;
   unfailed = ap (λ (crew : Crew C P). crew.restart) looks.rest ∙ made.unfailed;

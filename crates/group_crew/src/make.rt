@@ -1,6 +1,7 @@
-ghost use Rattle.std.specs.Prelude.{◌≡◌, ◌≤◌, All, None, IfOk};
+ghost use Rattle.std.specs.Prelude.{◌≡◌, ◌≤◌, ◌+◌, ℕ, All, None, IfOk, IfSome};
 ghost use Rattle.cache_structure.specs.Directory.{empty_directory};
 ghost use Rattle.group_member.specs.Members.{IsDown, member_of};
+ghost use Rattle.group_crew.specs.Happening.{member_at};
 ghost use Rattle.group_crew.specs.Making.{IsNewCrew};
 
 use crate::crew::Crew;
@@ -20,7 +21,8 @@ fn make_parts<P: Policy + Drop>(
     policies: Vec<P>,
 ) -> Result<Vec<MemberPart<P>>, NoMemory>
     requires { (1 ≤ sizes.now.locks) × (1 ≤ sizes.now.pool) }
-    ensures { IfOk result (λ parts. All (λ part. IsDown sizes.now (member_of part)) parts.items) }
+    ensures down { IfOk result (λ parts. All (λ part. IsDown sizes.now (member_of part)) parts.items) }
+    ensures numbered { IfOk result (λ parts. (k : ℕ) → IfSome (member_at parts.items k) (λ m. m.id ≡ k + 1)) }
 {
     let mut parts = Vec::new(alloc);
     let mut number = 0u64;

@@ -36,12 +36,13 @@ never b isnt is = cc
 
 answered : (script : Script) (begun : ℕ) (sizes : Sizes) (choice : ℕ) (m : Member) (w : World) (f : FatesState) (place : ℕ) (stepped : Stepped) (mid n : Member) (u v : World) (g : FatesState)
     → is_live (status_of w.facility.lists.statuses m.id) ≡ true → Makes m w place stepped u mid → RestsIdle mid → is_of (kind_for choice (is_some m.restart)) stepped ≡ true → has_failed stepped ≡ false
-    → Enters mid f n g → v.facility ≡ u.facility → v.drive ≡ u.drive → Comes script begun sizes choice m w f place stepped n v g
-answered script begun sizes choice m w f place stepped mid n u v g live makes idle kind whole enters kept drives =
+    → n.id ≡ m.id → Enters mid f n g → v.facility ≡ u.facility → v.drive ≡ u.drive → Comes script begun sizes choice m w f place stepped n v g
+answered script begun sizes choice m w f place stepped mid n u v g live makes idle kind whole keeps enters kept drives =
     let whole_too : is_fail stepped ≡ false = no_fail m w place stepped u mid makes in
     let alive : is_over stepped ≡ false = or_false (has_failed stepped) (is_fail stepped) whole whole_too in
     let same : u ≡ v = λ i. record { facility = sym kept i; drive = sym drives i } in record {
       live = live;
+      same = keeps;
       kind = λ _. kind;
       steps = λ _. record { mid = mid; makes = subst (λ (x : World). Makes m w place stepped x mid) same makes; idle = idle; enters = enters };
       breaks = λ so. absurd (never (has_failed stepped) whole so);
@@ -56,9 +57,9 @@ or_true true b p = refl
 or_true false b p = absurd cc
 
 broken : (script : Script) (begun : ℕ) (sizes : Sizes) (choice : ℕ) (m : Member) (w : World) (f : FatesState) (place : ℕ) (stepped : Stepped) (mid n : Member) (u v : World) (g : FatesState)
-    → is_live (status_of w.facility.lists.statuses m.id) ≡ true → Makes m w place stepped u mid → is_of (kind_for choice (is_some m.restart)) stepped ≡ true → has_failed stepped ≡ true → v.drive ≡ u.drive → mid.id ≡ m.id
+    → is_live (status_of w.facility.lists.statuses m.id) ≡ true → Makes m w place stepped u mid → is_of (kind_for choice (is_some m.restart)) stepped ≡ true → has_failed stepped ≡ true → v.drive ≡ u.drive → mid.id ≡ m.id → n.id ≡ m.id
     → MemberFailed u.facility mid.id v.facility → IsDown sizes n → StopsOnly (is_in_hand script begun mid.id) f g → Comes script begun sizes choice m w f place stepped n v g
-broken script begun sizes choice m w f place stepped mid n u v g live makes kind failed drives id fails down stops =
+broken script begun sizes choice m w f place stepped mid n u v g live makes kind failed drives id keeps fails down stops =
     let whole_too : is_fail stepped ≡ false = no_fail m w place stepped u mid makes in
     let over : is_over stepped ≡ true = or_true (has_failed stepped) (is_fail stepped) failed in
     let kept : u.facility ≡ w.facility = failed_kept m w place stepped u mid makes failed in
@@ -66,6 +67,7 @@ broken script begun sizes choice m w f place stepped mid n u v g live makes kind
     let same : u ≡ to = λ i. record { facility = kept i; drive = sym drives i } in
     let fell : MemberFailed w.facility mid.id v.facility = subst (λ (x : facility.Held). MemberFailed x mid.id v.facility) kept fails in record {
       live = live;
+      same = keeps;
       kind = λ _. kind;
       steps = λ so. absurd (never (is_over stepped) so over);
       breaks = λ _. record { mid = mid; makes = subst (λ (x : World). Makes m w place stepped x mid) same makes };
@@ -76,21 +78,22 @@ broken script begun sizes choice m w f place stepped mid n u v g live makes kind
     }
 
 pub comes : (b : Bool) (script : Script) (begun : ℕ) (sizes : Sizes) (choice : ℕ) (m : Member) (w : World) (f : FatesState) (place : ℕ) (stepped : Stepped) (mid n : Member) (u v : World) (g : FatesState)
-    → is_live (status_of w.facility.lists.statuses m.id) ≡ true → has_failed stepped ≡ b → Makes m w place stepped u mid → RestsIdle mid → is_of (kind_for choice (is_some m.restart)) stepped ≡ true → v.drive ≡ u.drive → mid.id ≡ m.id
+    → is_live (status_of w.facility.lists.statuses m.id) ≡ true → has_failed stepped ≡ b → Makes m w place stepped u mid → RestsIdle mid → is_of (kind_for choice (is_some m.restart)) stepped ≡ true → v.drive ≡ u.drive → mid.id ≡ m.id → n.id ≡ m.id
     → (has_failed stepped ≡ false → Enters mid f n g) → (has_failed stepped ≡ false → v.facility ≡ u.facility)
     → (has_failed stepped ≡ true → MemberFailed u.facility mid.id v.facility) → (has_failed stepped ≡ true → IsDown sizes n)
     → (has_failed stepped ≡ true → StopsOnly (is_in_hand script begun mid.id) f g) → Comes script begun sizes choice m w f place stepped n v g
-comes false script begun sizes choice m w f place stepped mid n u v g live is makes idle kind drives id enters stays fails down stops =
-    answered script begun sizes choice m w f place stepped mid n u v g live makes idle kind is (enters is) (stays is) drives
-comes true script begun sizes choice m w f place stepped mid n u v g live is makes idle kind drives id enters stays fails down stops =
-    broken script begun sizes choice m w f place stepped mid n u v g live makes kind is drives id (fails is) (down is) (stops is)
+comes false script begun sizes choice m w f place stepped mid n u v g live is makes idle kind drives id keeps enters stays fails down stops =
+    answered script begun sizes choice m w f place stepped mid n u v g live makes idle kind is keeps (enters is) (stays is) drives
+comes true script begun sizes choice m w f place stepped mid n u v g live is makes idle kind drives id keeps enters stays fails down stops =
+    broken script begun sizes choice m w f place stepped mid n u v g live makes kind is drives id keeps (fails is) (down is) (stops is)
 
 -- ---- the member fails in place of its event
 
 pub comes_down : (script : Script) (begun : ℕ) (sizes : Sizes) (choice : ℕ) (m : Member) (w : World) (f : FatesState) (place : ℕ) (n : Member) (v : World) (g : FatesState)
-    → is_live (status_of w.facility.lists.statuses m.id) ≡ true → v.drive ≡ w.drive → MemberFailed w.facility m.id v.facility → IsDown sizes n → StopsOnly (is_in_hand script begun m.id) f g → Comes script begun sizes choice m w f place steps.Failed n v g
-comes_down script begun sizes choice m w f place n v g live drives fails down stops = record {
+    → is_live (status_of w.facility.lists.statuses m.id) ≡ true → n.id ≡ m.id → v.drive ≡ w.drive → MemberFailed w.facility m.id v.facility → IsDown sizes n → StopsOnly (is_in_hand script begun m.id) f g → Comes script begun sizes choice m w f place steps.Failed n v g
+comes_down script begun sizes choice m w f place n v g live keeps drives fails down stops = record {
   live = live;
+  same = keeps;
   kind = λ so. absurd cc;
   steps = λ so. absurd cc;
   breaks = λ so. absurd cc;

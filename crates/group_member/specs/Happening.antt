@@ -155,10 +155,11 @@ pub record Breaks (m : Member) (w : World) (place : ℕ) (stepped : Stepped) (v 
   pub mid : Member
   pub makes : Makes m w place stepped v mid
 
--- ---- all that an event of a live member comes to, in a phase of a script, where the group has these sizes
+-- ---- all that an event of a live member comes to, in a phase of a script, where the group has these sizes; it keeps its number
 
 pub record Comes (script : Script) (begun : ℕ) (sizes : Sizes) (choice : ℕ) (m : Member) (w : World) (f : FatesState) (place : ℕ) (stepped : Stepped) (n : Member) (v : World) (g : FatesState) : Type 0 where
   pub live : is_live (status_of w.facility.lists.statuses m.id) ≡ true
+  pub same : n.id ≡ m.id
   pub kind : is_fail stepped ≡ false → is_of (kind_for choice (is_some m.restart)) stepped ≡ true
   pub steps : is_over stepped ≡ false → Steps m w f place stepped n v g
   pub breaks : has_failed stepped ≡ true → Breaks m w place stepped (record v { facility = w.facility })  -- the call changed nothing of the facility

@@ -15,6 +15,7 @@ use Rattle.lock_world.specs.Tied.{Claims, Tied, Moved}
 use Rattle.lock_world.specs.Views.{entry_in}
 use Rattle.lock_intents.specs.Stands.{IsUp}
 use Rattle.lock_events.specs.Standings.{SameStandings}
+use Rattle.marks_law.specs.Free.{FreeHoldNothing}
 use Rattle.marks_law.specs.Slots.{SlotsStand}
 use Rattle.lock_members.specs.Known.{KnowsOwn, LeadsTo}
 
@@ -42,3 +43,7 @@ StepsGo = (w : World) (u v : event.World) (held left : Claims) (m n : Member) (f
 abbrev pub FailuresGo : Type 0
 FailuresGo = (w : World) (f g : Held) (held left : Claims) (m n : Member) (sizes : Sizes)
     → Tied w f.locks f.lists held → IsMember m.id → f.lists.members ≤ 32 → MemberFailed f m.id g → IsDown sizes n → LeadsTo held left m n → Moved w (Fail m.id ∷ []) f.locks g.locks g.lists left
+
+-- an agent without a transaction has no claims behind the event either
+abbrev pub StepsKeepFree : Type 0
+StepsKeepFree = (m n : Member) (u v : event.World) (f g : FatesState) (place : ℕ) (stepped : Stepped) → Steps m u f place stepped n v g → FreeHoldNothing m.holds.marks → FreeHoldNothing n.holds.marks

@@ -3,11 +3,11 @@
 //! The crate has definitions and proofs alone. Its functions do nothing: their contracts are the theorems.
 #![tactic(auto)]
 
-ghost use Rattle.lock_members.specs.Members.{FailuresGo, StepsGo};
+ghost use Rattle.lock_members.specs.Members.{FailuresGo, StepsGo, StepsKeepFree};
 
 use lock_events::{commands_stay, events_go, standings_stay};
 use lock_world::failures_are_moves;
-use marks_law::slots_stay;
+use marks_law::{free_slots_stay, slots_stay};
 
 /// Each event of a member that is up, in which it doesn't fail, is moves: its own, with the fates of its transactions entered, or that of
 /// its rebuild. It is still up behind it.
@@ -25,4 +25,11 @@ pub fn members_fail()
     ensures { FailuresGo }
 {
     failures_are_moves();
+}
+
+/// Behind each event of a member in which it doesn't fail, whatever its standing, its agents without transactions still have no claims.
+pub fn members_keep_free()
+    ensures { StepsKeepFree }
+{
+    free_slots_stay();
 }

@@ -44,7 +44,7 @@ use Rattle.marks_law.proofs.Records.{kept_change, kept_system, kept_undo, kept_c
 
 -- ---- refusals
 pub kept_offered : (s : MarksState) (o : Owner) (r : Refusal) (place : ℕ) → Kept s (offered s o r place)
-kept_offered s o r place = kept_trans s (after_offer s.trans o r place) (λ h. same_slots s.trans (after_offer s.trans o r place) s.locks.agents h refl refl)
+kept_offered s o r place = kept_trans s (after_offer s.trans o r place) (λ h. same_slots s.trans (after_offer s.trans o r place) s.locks.agents h refl refl) (λ slot f. f)
 
 in_the_way : (s : MarksState) (o : Owner) (n : Name) (a : CellAnswer) (event : ℕ) → Kept s (in_the_way_after s o n a event)
 in_the_way s o n cell_answer.Clean event = kept_itself s

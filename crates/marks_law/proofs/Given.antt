@@ -1,7 +1,7 @@
 -- What a lock that is taken or given up leaves of the slots.
 use Rattle.std.proofs.Common.{◌≡◌, ℕ, refl, sym, ◌∙◌, ap, subst, Bool, true, false, [], Option, Some, None}
-use Rattle.std.specs.Prelude.{◌+◌, if◌then◌else◌, is_some}
-use Rattle.std.proofs.lemmas.Bool.{cond_both}
+use Rattle.std.specs.Prelude.{◌+◌, ◌&&◌, if◌then◌else◌, is_some, slice_set}
+use Rattle.std.proofs.lemmas.Bool.{and_parts, cond_both}
 use Rattle.ds_base.specs.declared.names.PageId.{PageId}
 use Rattle.ds_model.specs.declared.fate.Refusal.{Refusal}
 use Rattle.ds_model.specs.declared.fate.Refusal.TheVariants as refusal
@@ -10,17 +10,19 @@ use Rattle.ds_model.specs.declared.lock.Name.TheVariants as name
 use Rattle.lock_names.specs.declared.mode.Mode.{Mode}
 use Rattle.lock_manager.specs.declared.claim.Ask.{Ask}
 use Rattle.lock_manager.specs.declared.claim.Ask.TheVariants as ask
-use Rattle.lock_manager.specs.Managers.{Book, slots, ask_of, given, with_claims, after_release, after_release_at, after_page_release, after_postponed_release, release_told, dropped, ended}
+use Rattle.lock_manager.specs.Claims.{entered as claims_entered, joined, without}
+use Rattle.lock_manager.specs.Managers.{Book, slots, claims_of, held_by, ask_of, given, with_claims, after_release, after_release_at, after_page_release, after_postponed_release, release_told, dropped, ended}
 use Rattle.facility.specs.declared.command.Reply.{Reply}
 use Rattle.facility.specs.declared.command.Reply.TheVariants as reply
 use Rattle.member_trans.specs.declared.fate.Owner.{Owner}
 use Rattle.member_trans.specs.declared.fate.Owner.TheVariants as owner
-use Rattle.member_trans.specs.Trans.{TransState, tran_of as tran_in, free_tran, place_of, rollback_ended, slot_ended, with_released, with_tran_of}
-use Rattle.member_marks.specs.State.{MarksState, slot_id, tran_of, with_locks, with_trans}
+use Rattle.member_trans.specs.Trans.{TransState, is_forward, tran_of as tran_in, free_tran, place_of, rollback_ended, slot_ended, with_released, with_tran_of}
+use Rattle.member_marks.specs.State.{MarksState, slot_id, slot_tran, tran_of, with_locks, with_trans}
 use Rattle.member_marks.specs.Claims.{offered, is_agent, is_for_agents, may_claim, has_page, has_spare, may_enter_page, PageEntered, entered, entered_as, after_enter, lock_place, noted_released, rollback_releasing, slot_released, rollback_released, after_release_of, after_release_page, after_end_of, rollback_over, slot_over}
 use Rattle.member_effects.specs.Claims.{Claims, Enters, EntersPage, agent_entered, refused_after}
 use Rattle.member_effects.specs.Closing.{released_after, page_released_after, ended_after}
 use Rattle.marks_law.specs.Slots.{AreSlots}
+use Rattle.marks_law.proofs.Free.{FreesNone, LeavesNone, free_left, free_over, frees_of, left_dropped, left_forward, left_own, left_postponed_release, left_released}
 use Rattle.marks_law.proofs.Kept.{Stands, stands_kept, stands_as, stands_if, stands_itself, stands_locks}
 use Rattle.marks_law.proofs.Slots.{SameStage, set_of, set_slots}
 use Rattle.marks_law.proofs.Effects.{kept_offered}
@@ -29,22 +31,29 @@ use Rattle.marks_law.proofs.Effects.{kept_offered}
 stands_offered : (s : MarksState) (o : Owner) (r : Refusal) (place : ℕ) → Stands s (offered s o r place)
 stands_offered s o r place = stands_kept s (offered s o r place) (kept_offered s o r place)
 
-stands_entered : (s : MarksState) (slot : ℕ) (n : Name) (m : Mode) (place : ℕ) → Stands s (entered s slot n m place)
-stands_entered s slot n m place = stands_if s _ _ (has_spare s) (λ e. stands_locks s (given s.locks slot n m) refl) (λ e. stands_offered s (owner.Slot slot) refusal.Memory place)
+stands_given : (s : MarksState) (slot : ℕ) (n : Name) (m : Mode) → is_forward (slot_tran s slot).stage ≡ true → Stands s (with_locks s (given s.locks slot n m))
+stands_given s slot n m forward = stands_locks s (given s.locks slot n m) (left_forward s (given s.locks slot n m) slot (claims_entered (claims_of s.locks slot) n (joined (held_by s.locks slot n) m)) refl refl forward)
 
-entered_by : (s : MarksState) (slot : ℕ) (n : Name) (m : Mode) (place : ℕ) (a : Ask) → Stands s (entered_as s slot n m place a)
-entered_by s slot n m place ask.Have = stands_entered s slot n m place
-entered_by s slot n m place (ask.Conflict by) = stands_offered s (owner.Slot slot) (refusal.Held n (slot_id s by)) place
-entered_by s slot n m place (ask.Postponed by) = stands_offered s (owner.Slot slot) (refusal.Retained n by) place
-entered_by s slot n m place ask.Local = stands_entered s slot n m place
-entered_by s slot n m place (ask.Facility more) = stands_entered s slot n m place
+stands_entered : (s : MarksState) (slot : ℕ) (n : Name) (m : Mode) (place : ℕ) → is_forward (slot_tran s slot).stage ≡ true → Stands s (entered s slot n m place)
+stands_entered s slot n m place forward = stands_if s _ _ (has_spare s) (λ e. stands_given s slot n m forward) (λ e. stands_offered s (owner.Slot slot) refusal.Memory place)
+
+entered_by : (s : MarksState) (slot : ℕ) (n : Name) (m : Mode) (place : ℕ) (a : Ask) → is_forward (slot_tran s slot).stage ≡ true → Stands s (entered_as s slot n m place a)
+entered_by s slot n m place ask.Have forward = stands_entered s slot n m place forward
+entered_by s slot n m place (ask.Conflict by) forward = stands_offered s (owner.Slot slot) (refusal.Held n (slot_id s by)) place
+entered_by s slot n m place (ask.Postponed by) forward = stands_offered s (owner.Slot slot) (refusal.Retained n by) place
+entered_by s slot n m place ask.Local forward = stands_entered s slot n m place forward
+entered_by s slot n m place (ask.Facility more) forward = stands_entered s slot n m place forward
+
+pub claims_forward : (s : MarksState) (slot : ℕ) (n : Name) → may_claim s slot n ≡ true → is_forward (slot_tran s slot).stage ≡ true
+claims_forward s slot n may =
+    (and_parts (is_forward (slot_tran s slot).stage) (is_for_agents n) (and_parts (is_agent s slot) (is_forward (slot_tran s slot).stage && is_for_agents n) may).1).0
 
 agent_stands : (s : MarksState) (o : Owner) (n : Name) (m : Mode) (place : ℕ) → Stands s (agent_entered s o n m place)
-agent_stands s (owner.Slot slot) n m place = stands_if s _ _ (may_claim s slot n) (λ e. entered_by s slot n m place (ask_of s.locks slot n m)) (λ e. stands_itself s)
+agent_stands s (owner.Slot slot) n m place = stands_if s _ _ (may_claim s slot n) (λ e. entered_by s slot n m place (ask_of s.locks slot n m) (claims_forward s slot n e)) (λ e. stands_itself s)
 agent_stands s (owner.Rollback id) n m place = stands_itself s
 
 page_stands : (s t : MarksState) (p : PageId) (b : Bool) → PageEntered b s p t → Stands s t
-page_stands s t p true e = stands_as s t (with_locks s t.locks) e.1 (stands_locks s t.locks (ap (λ (b : Book). b.agents) e.0.rest))
+page_stands s t p true e = stands_as s t (with_locks s t.locks) e.1 (stands_locks s t.locks (left_own s t.locks (claims_of t.locks 0) (ap (λ (b : Book). b.agents) e.0.rest) (ap (λ (b : Book). b.holders) e.0.rest)))
 page_stands s t p false e = stands_as s t s e (stands_itself s)
 
 enters_page : (s t : MarksState) (n : Name) → EntersPage s n t → Stands s t
@@ -132,20 +141,17 @@ same_released : (t : TransState) (o : Owner) → SameStage t o (with_released (t
 same_released t (owner.Slot slot) = refl
 same_released t (owner.Rollback id) = tt
 
-stands_noted : (s : MarksState) (o : Owner) (b : Book) → b.agents ≡ s.locks.agents → Stands s (with_locks (noted_released s o) b)
-stands_noted s o b e = record {
-  agents = e;
+stands_noted : (s : MarksState) (o : Owner) (b : Book) → LeavesNone s b → Stands s (with_locks (noted_released s o) b)
+stands_noted s o b left = record {
+  agents = left.agents;
   slots = λ h. set_of s.trans s.locks.agents o (with_released (tran_of s o)) h (same_released s.trans o);
+  free = free_left s (with_locks (noted_released s o) b) left (frees_of s.trans o (with_released (tran_of s o)) (same_released s.trans o));
 }
 
-released_agents : (b : Book) (k : Option ℕ) → (after_postponed_release b k).agents ≡ b.agents
-released_agents b None = refl
-released_agents b (Some k) = cond_both (is_some (release_told b (slots b + k))) (after_release b (slots b + k)) (ended (after_release b (slots b + k)) k) (λ (z : Book). z.agents ≡ b.agents) (λ e. refl) (λ e. refl)
-
 release_of : (s : MarksState) (o : Owner) → Stands s (after_release_of s o)
-release_of s (owner.Slot slot) = stands_if s _ _ (is_agent s slot) (λ e. stands_noted s (owner.Slot slot) (after_release s.locks slot) refl) (λ e. stands_itself s)
+release_of s (owner.Slot slot) = stands_if s _ _ (is_agent s slot) (λ e. stands_noted s (owner.Slot slot) (after_release s.locks slot) (left_released s slot)) (λ e. stands_itself s)
 release_of s (owner.Rollback id) = stands_if s _ _ (is_some (rollback_releasing s id))
-    (λ e. stands_noted s (owner.Rollback id) (after_postponed_release s.locks (lock_place s id)) (released_agents s.locks (lock_place s id))) (λ e. stands_itself s)
+    (λ e. stands_noted s (owner.Rollback id) (after_postponed_release s.locks (lock_place s id)) (left_postponed_release s (lock_place s id))) (λ e. stands_itself s)
 
 pub stands_released : (s : MarksState) (o : Owner) (answer : Reply) → Stands s (released_after s o answer)
 stands_released s o (reply.Granted version) = stands_itself s
@@ -183,7 +189,7 @@ stands_released s o (reply.Stale index) = stands_itself s
 stands_released s o (reply.LrsnEnd at) = stands_itself s
 
 release_page : (s : MarksState) (p : PageId) → Stands s (after_release_page s p)
-release_page s p = stands_if s _ _ (has_page s p) (λ e. stands_locks s (after_page_release s.locks (name.Page p)) refl) (λ e. stands_itself s)
+release_page s p = stands_if s _ _ (has_page s p) (λ e. stands_locks s (after_page_release s.locks (name.Page p)) (left_own s (after_page_release s.locks (name.Page p)) (without (claims_of s.locks 0) (name.Page p)) refl refl)) (λ e. stands_itself s)
 
 pub stands_page_released : (s : MarksState) (p : PageId) (answer : Reply) → Stands s (page_released_after s p answer)
 stands_page_released s p (reply.Granted version) = stands_itself s
@@ -230,13 +236,18 @@ rollback_gone : (t : TransState) (agents : ℕ) (k : Option ℕ) → AreSlots t 
 rollback_gone t agents None h = h
 rollback_gone t agents (Some k) h = record { count = h.count; own = h.own; commits = h.commits }
 
-dropped_agents : (b : Book) (k : Option ℕ) → (dropped b k).agents ≡ b.agents
-dropped_agents b None = refl
-dropped_agents b (Some k) = refl
+gone_frees : (t : TransState) (k : Option ℕ) → FreesNone t (rollback_ended t k)
+gone_frees t None = λ slot f. f
+gone_frees t (Some k) = λ slot f. f
+
+rollback_stands : (s : MarksState) (id : ℕ) → Stands s (rollback_over s id)
+rollback_stands s id =
+    let left : LeavesNone s (dropped s.locks (lock_place s id)) = left_dropped s (lock_place s id) in
+    record { agents = left.agents; slots = rollback_gone s.trans s.locks.agents (place_of s.trans id); free = free_left s (rollback_over s id) left (gone_frees s.trans (place_of s.trans id)) }
 
 pub stands_ended_of : (s : MarksState) (o : Owner) → Stands s (after_end_of s o)
-stands_ended_of s (owner.Slot slot) = stands_if s _ _ (is_agent s slot) (λ e. record { agents = refl; slots = slot_free s.trans s.locks.agents slot }) (λ e. stands_itself s)
-stands_ended_of s (owner.Rollback id) = record { agents = dropped_agents s.locks (lock_place s id); slots = rollback_gone s.trans s.locks.agents (place_of s.trans id) }
+stands_ended_of s (owner.Slot slot) = stands_if s _ _ (is_agent s slot) (λ e. record { agents = refl; slots = slot_free s.trans s.locks.agents slot; free = free_over s slot }) (λ e. stands_itself s)
+stands_ended_of s (owner.Rollback id) = rollback_stands s id
 
 pub stands_ended : (s : MarksState) (o : Owner) (answer : Reply) → Stands s (ended_after s o answer)
 stands_ended s o (reply.Granted version) = stands_itself s

@@ -8,15 +8,18 @@ use Rattle.member_log.specs.Buffers.{LogBuffer}
 use Rattle.member_trans.specs.Trans.{TransState, free_tran, is_free}
 use Rattle.member_marks.specs.Names.{NameSet}
 use Rattle.member_marks.specs.State.{MarksState, with_heads, with_kept, with_locks, with_trans}
+use Rattle.marks_law.specs.Free.{FreeHoldNothing}
 use Rattle.marks_law.specs.Slots.{AreSlots, has_own}
+use Rattle.marks_law.proofs.Free.{FreesNone, LeavesNone, free_left, left_same}
 
 pub record Kept (s t : MarksState) : Type 0 where
   pub locks : t.locks ≡ s.locks
   pub member : t.member ≡ s.member
   pub slots : AreSlots s.trans s.locks.agents → AreSlots t.trans s.locks.agents
+  pub frees : FreesNone s.trans t.trans
 
 pub kept_itself : (s : MarksState) → Kept s s
-kept_itself s = record { locks = refl; member = refl; slots = λ h. h }
+kept_itself s = record { locks = refl; member = refl; slots = λ h. h; frees = λ slot f. f }
 
 pub kept_as : (s t u : MarksState) → t ≡ u → Kept s u → Kept s t
 kept_as s t u e k = subst (λ z. Kept s z) (sym e) k
@@ -26,6 +29,7 @@ kept_on s t u a b = record {
   locks = b.locks ∙ a.locks;
   member = b.member ∙ a.member;
   slots = λ h. subst (λ (z : Book). AreSlots u.trans z.agents) a.locks (b.slots (subst (λ (z : Book). AreSlots t.trans z.agents) (sym a.locks) (a.slots h)));
+  frees = λ slot f. a.frees slot (b.frees slot f);
 }
 
 pub kept_if : (s x y : MarksState) (b : Bool) → (b ≡ true → Kept s x) → (b ≡ false → Kept s y) → Kept s (if b then x else y)
@@ -33,16 +37,16 @@ kept_if s x y b p q = cond_both b x y (λ z. Kept s z) p q
 
 -- ---- one part is changed
 pub kept_heads : (s : MarksState) (h : HeadState) → Kept s (with_heads s h)
-kept_heads s h = record { locks = refl; member = refl; slots = λ a. a }
+kept_heads s h = record { locks = refl; member = refl; slots = λ a. a; frees = λ slot f. f }
 
 pub kept_names : (s : MarksState) (k : NameSet) → Kept s (with_kept s k)
-kept_names s k = record { locks = refl; member = refl; slots = λ a. a }
+kept_names s k = record { locks = refl; member = refl; slots = λ a. a; frees = λ slot f. f }
 
-pub kept_trans : (s : MarksState) (t : TransState) → (AreSlots s.trans s.locks.agents → AreSlots t s.locks.agents) → Kept s (with_trans s t)
-kept_trans s t a = record { locks = refl; member = refl; slots = a }
+pub kept_trans : (s : MarksState) (t : TransState) → (AreSlots s.trans s.locks.agents → AreSlots t s.locks.agents) → FreesNone s.trans t → Kept s (with_trans s t)
+kept_trans s t a frees = record { locks = refl; member = refl; slots = a; frees = frees }
 
-pub kept_logged : (s : MarksState) (l : LogBuffer) (t : TransState) → (AreSlots s.trans s.locks.agents → AreSlots t s.locks.agents) → Kept s (record s { log = l; trans = t })
-kept_logged s l t a = record { locks = refl; member = refl; slots = a }
+pub kept_logged : (s : MarksState) (l : LogBuffer) (t : TransState) → (AreSlots s.trans s.locks.agents → AreSlots t s.locks.agents) → FreesNone s.trans t → Kept s (record s { log = l; trans = t })
+kept_logged s l t a frees = record { locks = refl; member = refl; slots = a; frees = frees }
 
 -- the transactions stay, but for what this event has made of them
 pub same_slots : (t u : TransState) (agents : ℕ) → AreSlots t agents → u.slots ≡ t.slots → u.commits ≡ t.commits → AreSlots u agents
@@ -56,12 +60,13 @@ same_slots t u agents h slots commits = record {
 pub record Stands (s t : MarksState) : Type 0 where
   pub agents : t.locks.agents ≡ s.locks.agents
   pub slots : AreSlots s.trans s.locks.agents → AreSlots t.trans s.locks.agents
+  pub free : FreeHoldNothing s → FreeHoldNothing t
 
 pub stands_kept : (s t : MarksState) → Kept s t → Stands s t
-stands_kept s t k = record { agents = ap (λ (b : Book). b.agents) k.locks; slots = k.slots }
+stands_kept s t k = record { agents = ap (λ (b : Book). b.agents) k.locks; slots = k.slots; free = free_left s t (left_same s t.locks k.locks) k.frees }
 
 pub stands_itself : (s : MarksState) → Stands s s
-stands_itself s = record { agents = refl; slots = λ h. h }
+stands_itself s = record { agents = refl; slots = λ h. h; free = λ h. h }
 
 pub stands_as : (s t u : MarksState) → t ≡ u → Stands s u → Stands s t
 stands_as s t u e k = subst (λ z. Stands s z) (sym e) k
@@ -69,8 +74,8 @@ stands_as s t u e k = subst (λ z. Stands s z) (sym e) k
 pub stands_if : (s x y : MarksState) (b : Bool) → (b ≡ true → Stands s x) → (b ≡ false → Stands s y) → Stands s (if b then x else y)
 stands_if s x y b p q = cond_both b x y (λ z. Stands s z) p q
 
-pub stands_locks : (s : MarksState) (b : Book) → b.agents ≡ s.locks.agents → Stands s (with_locks s b)
-stands_locks s b e = record { agents = e; slots = λ h. h }
+pub stands_locks : (s : MarksState) (b : Book) → LeavesNone s b → Stands s (with_locks s b)
+stands_locks s b left = record { agents = left.agents; slots = λ h. h; free = free_left s (with_locks s b) left (λ slot f. f) }
 
 pub stands_slots : (s t : MarksState) → Stands s t → AreSlots s.trans s.locks.agents → AreSlots t.trans t.locks.agents
 stands_slots s t k h = subst (λ z. AreSlots t.trans z) (sym k.agents) (k.slots h)

@@ -1,4 +1,5 @@
 pub mod Slots
+pub mod Free
 pub mod Kept
 pub mod Records
 pub mod Effects

@@ -11,7 +11,8 @@ use Rattle.ds_model.specs.declared.log.RowChange.{RowChange}
 use Rattle.lock_names.specs.declared.mode.Mode.{Mode}
 use Rattle.lock_manager.specs.declared.claim.Ask.{Ask}
 use Rattle.lock_manager.specs.declared.claim.Ask.TheVariants as ask
-use Rattle.lock_manager.specs.Managers.{Book, ask_of, is_postponed, waiting_at, with_claims, after_postpone as claims_postponed}
+use Rattle.lock_manager.specs.Claims.{entered as claims_entered, joined}
+use Rattle.lock_manager.specs.Managers.{Book, claims_of, held_by, ask_of, is_postponed, waiting_at, with_claims, after_postpone as claims_postponed}
 use Rattle.member_pool.specs.Frames.{find_page, is_unpinned}
 use Rattle.member_pool.specs.Heads.{HeadState, free_in, head_of, pinned_to, placed_in, with_head}
 use Rattle.member_trans.specs.declared.fate.Change.{Change}
@@ -23,24 +24,31 @@ use Rattle.member_marks.specs.Claims.{is_agent, may_claim, offered, offered_memo
 use Rattle.member_marks.specs.Frames.{may_pin, may_unpin, placed_at, after_place, after_pin, after_unpin}
 use Rattle.member_marks.specs.Local.{Local, Claim, Begin, Refuse, Abort, RefuseForMemory, Place, Pin, Unpin, Postpone, WaitFor, Reaches, given_with, entered_at_home, tried_as, after_claim, with_lock_room, begun_with, after_begin, moved, all_moved}
 use Rattle.member_marks.specs.Rollbacks.{retainer, can_postpone, with_postponed, postponed_for_member, after_postpone, waiting_for, after_wait, spots_of, spot_claimed, claimed, claims_adopted, may_adopt, with_rollback, after_adopt}
+use Rattle.marks_law.specs.Free.{FreeAdopt, FreeHoldNothing, FreeReach}
 use Rattle.marks_law.specs.Slots.{AreSlots, SlotsAdopt, SlotsReach}
+use Rattle.marks_law.proofs.Free.{FreesNone, free_left, frees_set, left_adopted, left_forward, left_postponed, left_same}
 use Rattle.marks_law.proofs.Kept.{Stands, kept_heads, kept_trans, same_slots, stands_kept, stands_itself, stands_as, stands_if, stands_locks, stands_slots}
 use Rattle.marks_law.proofs.Slots.{set_other, forward_other}
 use Rattle.marks_law.proofs.Effects.{kept_offered}
+use Rattle.marks_law.proofs.Given.{claims_forward}
 
 -- ---- a lock is tried at home
 stands_memory : (s : MarksState) (slot spare event : ℕ) → Stands s (offered_memory (with_locks s (record s.locks { spare = spare })) slot event)
-stands_memory s slot spare event = record { agents = refl; slots = λ h. same_slots s.trans _ s.locks.agents h refl refl }
+stands_memory s slot spare event = record { agents = refl; slots = λ h. same_slots s.trans _ s.locks.agents h refl refl; free = λ h. record { lists = h.lists; none = h.none } }
 
-at_home : (s : MarksState) (slot : ℕ) (n : Name) (m : Mode) (event : ℕ) (has_memory : Bool) (spare : ℕ) → Stands s (entered_at_home s slot n m event has_memory spare)
-at_home s slot n m event has_memory spare = stands_if s _ _ has_memory (λ e. stands_locks s (given_with s.locks spare slot n m) refl) (λ e. stands_memory s slot spare event)
+stands_given : (s : MarksState) (slot : ℕ) (n : Name) (m : Mode) (spare : ℕ) → is_forward (slot_tran s slot).stage ≡ true → Stands s (with_locks s (given_with s.locks spare slot n m))
+stands_given s slot n m spare forward =
+    stands_locks s (given_with s.locks spare slot n m) (left_forward s (given_with s.locks spare slot n m) slot (claims_entered (claims_of s.locks slot) n (joined (held_by s.locks slot n) m)) refl refl forward)
 
-tried : (s : MarksState) (slot : ℕ) (n : Name) (m : Mode) (event : ℕ) (has_memory : Bool) (spare : ℕ) (a : Ask) → Stands s (tried_as s slot n m event has_memory spare a)
-tried s slot n m event has_memory spare ask.Have = stands_itself s
-tried s slot n m event has_memory spare (ask.Conflict by) = stands_kept s _ (kept_offered s (owner.Slot slot) (refusal.Held n (slot_id s by)) event)
-tried s slot n m event has_memory spare (ask.Postponed by) = stands_kept s _ (kept_offered s (owner.Slot slot) (refusal.Retained n by) event)
-tried s slot n m event has_memory spare ask.Local = at_home s slot n m event has_memory spare
-tried s slot n m event has_memory spare (ask.Facility more) = stands_itself s
+at_home : (s : MarksState) (slot : ℕ) (n : Name) (m : Mode) (event : ℕ) (has_memory : Bool) (spare : ℕ) → is_forward (slot_tran s slot).stage ≡ true → Stands s (entered_at_home s slot n m event has_memory spare)
+at_home s slot n m event has_memory spare forward = stands_if s _ _ has_memory (λ e. stands_given s slot n m spare forward) (λ e. stands_memory s slot spare event)
+
+tried : (s : MarksState) (slot : ℕ) (n : Name) (m : Mode) (event : ℕ) (has_memory : Bool) (spare : ℕ) (a : Ask) → is_forward (slot_tran s slot).stage ≡ true → Stands s (tried_as s slot n m event has_memory spare a)
+tried s slot n m event has_memory spare ask.Have forward = stands_itself s
+tried s slot n m event has_memory spare (ask.Conflict by) forward = stands_kept s _ (kept_offered s (owner.Slot slot) (refusal.Held n (slot_id s by)) event)
+tried s slot n m event has_memory spare (ask.Postponed by) forward = stands_kept s _ (kept_offered s (owner.Slot slot) (refusal.Retained n by) event)
+tried s slot n m event has_memory spare ask.Local forward = at_home s slot n m event has_memory spare forward
+tried s slot n m event has_memory spare (ask.Facility more) forward = stands_itself s
 
 -- ---- a transaction begins
 begin_other : (t : TransState) (slot : ℕ) → may_begin t slot ≡ true → slot ≢ 0
@@ -55,9 +63,18 @@ begun_slots : (t : TransState) (agents slot n room : ℕ) → AreSlots t agents 
 begun_slots t agents slot n room h = cond_both (may_begin t slot) (with_room_for (with_tran t slot (begun n)) room) t (λ (z : TransState). AreSlots z agents)
     (λ e. begin_set t agents slot n room h (begin_other t slot e)) (λ e. h)
 
+begun_frees : (t : TransState) (slot n room : ℕ) → FreesNone t (after_begin_with t slot n room)
+begun_frees t slot n room = cond_both (may_begin t slot) (with_room_for (with_tran t slot (begun n)) room) t (λ (z : TransState). FreesNone t z) (λ e. frees_set t slot (begun n) (λ f. absurd cc)) (λ e k f. f)
+
+begun_or_not : (t : TransState) (slot n : ℕ) (has_memory : Bool) (room : ℕ) → FreesNone t (begun_with t slot n has_memory room)
+begun_or_not t slot n has_memory room = cond_both has_memory (after_begin_with t slot n room) t (λ (z : TransState). FreesNone t z) (λ e. begun_frees t slot n room) (λ e k f. f)
+
+begun_free : (s : MarksState) (slot n : ℕ) (has_memory : Bool) (lock_room room : ℕ) → FreeHoldNothing s → FreeHoldNothing (with_trans (with_lock_room s lock_room) (begun_with s.trans slot n has_memory room))
+begun_free s slot n has_memory lock_room room h = record { lists = h.lists; none = λ k a f. h.none k a (begun_or_not s.trans slot n has_memory room k f) }
+
 stands_begun : (s : MarksState) (slot n : ℕ) (has_memory : Bool) (lock_room room : ℕ) → Stands s (after_begin s slot n has_memory lock_room room)
 stands_begun s slot n has_memory lock_room room = stands_if s _ _ (may_begin s.trans slot)
-    (λ e. record { agents = refl; slots = λ h. cond_both has_memory (after_begin_with s.trans slot n room) s.trans (λ (z : TransState). AreSlots z s.locks.agents) (λ f. begun_slots s.trans s.locks.agents slot n room h) (λ f. h) })
+    (λ e. record { agents = refl; slots = λ h. cond_both has_memory (after_begin_with s.trans slot n room) s.trans (λ (z : TransState). AreSlots z s.locks.agents) (λ f. begun_slots s.trans s.locks.agents slot n room h) (λ f. h); free = begun_free s slot n has_memory lock_room room })
     (λ e. stands_itself s)
 
 -- ---- a transaction is refused
@@ -81,6 +98,17 @@ refused_with t agents slot (Some o) h = cond_both (same_owner o.owner (owner.Slo
 refuse_slots : (t : TransState) (agents slot : ℕ) → AreSlots t agents → AreSlots (after_refuse t slot) agents
 refuse_slots t agents slot h = cond_both (may_refuse t slot) (refused_as t slot t.offer) t (λ (z : TransState). AreSlots z agents) (λ e. refused_with t agents slot t.offer h) (λ e. h)
 
+refused_frees : (t : TransState) (slot : ℕ) (r : Refusal) (place : ℕ) → FreesNone t (refused_for t slot r place)
+refused_frees t slot r place = cond_both (may_refuse t slot) (refused_now t slot r place) t (λ (z : TransState). FreesNone t z) (λ e. frees_set t slot (undoing (tran_at t slot)) (λ f. absurd cc)) (λ e k f. f)
+
+refuses_none : (t : TransState) (slot : ℕ) (o : Option Offer) → FreesNone t (refused_as t slot o)
+refuses_none t slot None = λ k f. f
+refuses_none t slot (Some o) = cond_both (same_owner o.owner (owner.Slot slot)) (record (refused_for t slot o.refusal o.place) { offer = None }) t (λ (z : TransState). FreesNone t z)
+    (λ e. refused_frees t slot o.refusal o.place) (λ e k f. f)
+
+refuse_frees : (t : TransState) (slot : ℕ) → FreesNone t (after_refuse t slot)
+refuse_frees t slot = cond_both (may_refuse t slot) (refused_as t slot t.offer) t (λ (z : TransState). FreesNone t z) (λ e. refuses_none t slot t.offer) (λ e k f. f)
+
 -- ---- pages are placed and pinned
 stands_heads : (s : MarksState) (b : Bool) (h : HeadState) → Stands s (if b then with_heads s h else s)
 stands_heads s b h = stands_if s _ _ b (λ e. stands_kept s (with_heads s h) (kept_heads s h)) (λ e. stands_itself s)
@@ -99,11 +127,15 @@ postponed_slots : (t : TransState) (agents slot : ℕ) → AreSlots t agents →
 postponed_slots t agents slot h ne = cond_both (may_postpone_tran t slot) (tran_with_postponed t slot (tran_at t slot)) t (λ (z : TransState). AreSlots z agents)
     (λ e. postponed_set t agents slot h ne) (λ e. h)
 
+postponed_frees : (t : TransState) (slot : ℕ) → FreesNone t (tran_postponed t slot)
+postponed_frees t slot = cond_both (may_postpone_tran t slot) (tran_with_postponed t slot (tran_at t slot)) t (λ (z : TransState). FreesNone t z) (λ e. frees_set t slot (left_behind (tran_at t slot)) (λ f. absurd cc)) (λ e k f. f)
+
 postponed_by : (s : MarksState) (slot : ℕ) (by : Option ℕ) → slot ≢ 0 → Stands s (postponed_for_member s slot by)
 postponed_by s slot None ne = stands_itself s
 postponed_by s slot (Some by) ne = record {
   agents = refl;
   slots = λ h. same_slots (tran_postponed s.trans slot) _ s.locks.agents (postponed_slots s.trans s.locks.agents slot h ne) refl refl;
+  free = free_left s (with_postponed s slot by) (left_postponed s slot (slot_tran s slot).first by) (postponed_frees s.trans slot);
 }
 
 agent_other : (s : MarksState) (slot : ℕ) (b : Bool) → (is_agent s slot && b) ≡ true → slot ≢ 0
@@ -114,15 +146,15 @@ stands_postponed s slot = stands_if s _ _ (can_postpone s slot) (λ e. postponed
 
 waits_by : (s : MarksState) (id : ℕ) (by : Option ℕ) → Stands s (waiting_for s id by)
 waits_by s id None = stands_itself s
-waits_by s id (Some by) = record { agents = refl; slots = λ h. same_slots s.trans (without_offer s.trans) s.locks.agents h refl refl }
+waits_by s id (Some by) = record { agents = refl; slots = λ h. same_slots s.trans (without_offer s.trans) s.locks.agents h refl refl; free = λ h. record { lists = h.lists; none = h.none } }
 
 -- ---- any of them
 stands_moved : (s : MarksState) (x : Local) → Stands s (moved x s)
-stands_moved s (Claim slot n m has_memory spare) = stands_if s _ _ (may_claim s slot n) (λ e. tried s slot n m s.trans.place has_memory spare (ask_of s.locks slot n m)) (λ e. stands_itself s)
+stands_moved s (Claim slot n m has_memory spare) = stands_if s _ _ (may_claim s slot n) (λ e. tried s slot n m s.trans.place has_memory spare (ask_of s.locks slot n m) (claims_forward s slot n e)) (λ e. stands_itself s)
 stands_moved s (Begin slot n has_memory lock_room room) = stands_begun s slot n has_memory lock_room room
-stands_moved s (Refuse slot) = stands_kept s _ (kept_trans s (after_refuse s.trans slot) (refuse_slots s.trans s.locks.agents slot))
-stands_moved s (Abort slot) = stands_kept s _ (kept_trans s (refused_for s.trans slot refusal.Aborted s.trans.place) (refused_slots s.trans s.locks.agents slot refusal.Aborted s.trans.place))
-stands_moved s (RefuseForMemory slot) = stands_kept s _ (kept_trans s (refused_for s.trans slot refusal.Memory s.trans.place) (refused_slots s.trans s.locks.agents slot refusal.Memory s.trans.place))
+stands_moved s (Refuse slot) = stands_kept s _ (kept_trans s (after_refuse s.trans slot) (refuse_slots s.trans s.locks.agents slot) (refuse_frees s.trans slot))
+stands_moved s (Abort slot) = stands_kept s _ (kept_trans s (refused_for s.trans slot refusal.Aborted s.trans.place) (refused_slots s.trans s.locks.agents slot refusal.Aborted s.trans.place) (refused_frees s.trans slot refusal.Aborted s.trans.place))
+stands_moved s (RefuseForMemory slot) = stands_kept s _ (kept_trans s (refused_for s.trans slot refusal.Memory s.trans.place) (refused_slots s.trans s.locks.agents slot refusal.Memory s.trans.place) (refused_frees s.trans slot refusal.Memory s.trans.place))
 stands_moved s (Place p) = stands_if s _ _ (is_none (find_page s.heads.frames p)) (λ e. placed s p (free_in s.heads)) (λ e. stands_itself s)
 stands_moved s (Pin at) = stands_heads s (may_pin s.heads at) (pinned_to s.heads at ((head_of s.heads at).pins + 1))
 stands_moved s (Unpin at) = stands_heads s (may_unpin s.heads at) (with_head s.heads at (record (head_of s.heads at) { pins = (head_of s.heads at).pins - 1 }))
@@ -137,6 +169,14 @@ pub slots_reach : SlotsReach
 unfolding Reaches
 slots_reach s t r h = all_stand r.0 s t r.1 h
 
+all_free : (xs : List Local) (s t : MarksState) → t ≡ all_moved xs s → FreeHoldNothing s → FreeHoldNothing t
+all_free [] s t e h = subst (λ (z : MarksState). FreeHoldNothing z) (sym e) h
+all_free (x ∷ xs) s t e h = all_free xs (moved x s) t e ((stands_moved s x).free h)
+
+pub free_reach : FreeReach
+unfolding Reaches
+free_reach s t r h = all_free r.0 s t r.1 h
+
 -- ---- a rollback is adopted
 claimed_agents : (b : Book) (ss : List Spot) → (claimed b ss).agents ≡ b.agents
 claimed_agents b [] = refl
@@ -145,3 +185,7 @@ claimed_agents b (s ∷ ss) = claimed_agents (spot_claimed b s) ss
 pub slots_adopt : SlotsAdopt
 slots_adopt s id by changes undone h = cond_both (may_adopt s id changes) (with_rollback s id by changes undone) s (λ (z : MarksState). AreSlots z.trans z.locks.agents)
     (λ e. subst (λ z. AreSlots (with_rollback s id by changes undone).trans z) (sym (claimed_agents (with_claims s.locks 1 []) (spots_of changes undone))) (record { count = h.count; own = h.own; commits = h.commits })) (λ e. h)
+
+pub free_adopt : FreeAdopt
+free_adopt s id by changes undone h = cond_both (may_adopt s id changes) (with_rollback s id by changes undone) s (λ (z : MarksState). FreeHoldNothing z)
+    (λ e. free_left s (with_rollback s id by changes undone) (left_adopted s id by (spots_of changes undone) (claimed_agents (with_claims s.locks 1 []) (spots_of changes undone))) (λ slot f. f) h) (λ e. h)

@@ -16,6 +16,7 @@ use Rattle.member_marks.specs.State.{MarksState, tran_of, slot_tran}
 use Rattle.member_marks.specs.Records.{fits_in, row_record, may_change, set_noted, sets_noted, row_noted, after_change, after_system, back_noted, back_record, ended_record, both_fit, both_logged, after_back, may_back, undone_of, undone_as, after_undo, commit_record, may_commit, after_commit, after_append}
 use Rattle.member_effects.specs.Changes.{system_record}
 use Rattle.marks_law.specs.Slots.{AreSlots}
+use Rattle.marks_law.proofs.Free.{FreesNone, frees_set, frees_kept, frees_of, frees_on, frees_decided}
 use Rattle.marks_law.proofs.Kept.{Kept, kept_itself, kept_if, kept_logged}
 use Rattle.marks_law.proofs.Slots.{SameStage, set_kept, set_of, set_other, pushed_own, forward_other, all_slots}
 
@@ -27,6 +28,13 @@ noted_sets : (t : TransState) (agents slot : ℕ) (ps : List Patch) → AreSlots
 noted_sets t agents slot [] h = h
 noted_sets t agents slot (p ∷ ps) h = noted_sets (set_noted t slot p.page.set) agents slot ps (noted_set t agents slot p.page.set h)
 
+set_frees : (t : TransState) (slot set : ℕ) → FreesNone t (set_noted t slot set)
+set_frees t slot set = frees_kept t slot (with_set (tran_at t slot) set) refl
+
+sets_free : (t : TransState) (slot : ℕ) (ps : List Patch) → FreesNone t (sets_noted t slot ps)
+sets_free t slot [] = λ k f. f
+sets_free t slot (p ∷ ps) = frees_on t (set_noted t slot p.page.set) (sets_noted t slot (p ∷ ps)) (set_frees t slot p.page.set) (sets_free (set_noted t slot p.page.set) slot ps)
+
 -- ---- a row change
 change_stage : (t : TranState) (lrsn : ℕ) (c : RowChange) → (changed t lrsn c).stage ≡ t.stage
 change_stage t lrsn c = cond_both t.has_room (record t { first = first_with t.first lrsn; changes = t.changes ++ record { lrsn = lrsn; change = c } ∷ []; has_room = false }) t (λ (z : TranState). z.stage ≡ t.stage) (λ e. refl) (λ e. refl)
@@ -34,12 +42,15 @@ change_stage t lrsn c = cond_both t.has_room (record t { first = first_with t.fi
 pub kept_change : (s : MarksState) (slot lrsn : ℕ) (c : RowChange) → Kept s (after_change s slot lrsn c)
 kept_change s slot lrsn c = kept_if s _ _ (may_change s slot lrsn c)
     (λ e. kept_logged s (after_put s.log (row_record (slot_tran s slot) lrsn c)) (row_noted s.trans slot lrsn c)
-    (λ h. noted_set (with_tran s.trans slot (changed (tran_at s.trans slot) lrsn c)) s.locks.agents slot (heap_set c.table) (set_kept s.trans s.locks.agents slot (changed (tran_at s.trans slot) lrsn c) h (change_stage (tran_at s.trans slot) lrsn c))))
+    (λ h. noted_set (with_tran s.trans slot (changed (tran_at s.trans slot) lrsn c)) s.locks.agents slot (heap_set c.table) (set_kept s.trans s.locks.agents slot (changed (tran_at s.trans slot) lrsn c) h (change_stage (tran_at s.trans slot) lrsn c)))
+    (frees_on s.trans (with_tran s.trans slot (changed (tran_at s.trans slot) lrsn c)) (row_noted s.trans slot lrsn c)
+    (frees_kept s.trans slot (changed (tran_at s.trans slot) lrsn c) (change_stage (tran_at s.trans slot) lrsn c))
+    (set_frees (with_tran s.trans slot (changed (tran_at s.trans slot) lrsn c)) slot (heap_set c.table))))
     (λ e. kept_itself s)
 
 pub kept_system : (s : MarksState) (slot : ℕ) (ps : List Patch) (lrsn : ℕ) → Kept s (after_system s slot (system_record ps lrsn))
 kept_system s slot ps lrsn = kept_if s _ _ (fits_in s.log (system_record ps lrsn))
-    (λ e. kept_logged s (after_put s.log (system_record ps lrsn)) (sets_noted s.trans slot ps) (λ h. noted_sets s.trans s.locks.agents slot ps h)) (λ e. kept_itself s)
+    (λ e. kept_logged s (after_put s.log (system_record ps lrsn)) (sets_noted s.trans slot ps) (λ h. noted_sets s.trans s.locks.agents slot ps h) (sets_free s.trans slot ps)) (λ e. kept_itself s)
 
 -- ---- a change is taken back
 undone_stage : (t : TranState) (lrsn : ℕ) → (with_undone t lrsn).stage ≡ t.stage
@@ -58,9 +69,14 @@ noted_back s o lrsn set h =
     let mid = with_tran_of s.trans o (with_undone (tran_of s o) lrsn) in
     set_of mid s.locks.agents o (with_set (tran_in mid o) set) (set_of s.trans s.locks.agents o (with_undone (tran_of s o) lrsn) h (back_stage s o lrsn)) (set_stage mid o set)
 
+back_frees : (s : MarksState) (o : Owner) (lrsn set : ℕ) → FreesNone s.trans (back_noted s.trans o (tran_of s o) lrsn set)
+back_frees s o lrsn set =
+    let mid = with_tran_of s.trans o (with_undone (tran_of s o) lrsn) in
+    frees_on s.trans mid (back_noted s.trans o (tran_of s o) lrsn set) (frees_of s.trans o (with_undone (tran_of s o) lrsn) (back_stage s o lrsn)) (frees_of mid o (with_set (tran_in mid o) set) (set_stage mid o set))
+
 kept_back : (s : MarksState) (o : Owner) (lrsn set : ℕ) (r q : LogRecord) → Kept s (after_back s o lrsn set r q)
 kept_back s o lrsn set r q = kept_if s _ _ (both_fit s.log r q)
-    (λ e. kept_logged s _ (back_noted s.trans o (tran_of s o) lrsn set) (noted_back s o lrsn set)) (λ e. kept_itself s)
+    (λ e. kept_logged s _ (back_noted s.trans o (tran_of s o) lrsn set) (noted_back s o lrsn set) (back_frees s o lrsn set)) (λ e. kept_itself s)
 
 kept_undone : (s : MarksState) (o : Owner) (lrsn : ℕ) (x : Option Change) → Kept s (undone_as s o lrsn x)
 kept_undone s o lrsn None = kept_itself s
@@ -82,9 +98,12 @@ drawn_set t agents slot h ne =
 drawn_slots : (t : TransState) (agents slot : ℕ) → AreSlots t agents → AreSlots (after_draw t slot) agents
 drawn_slots t agents slot h = cond_both (is_forward (tran_at t slot).stage) (drawn_now t slot) t (λ (z : TransState). AreSlots z agents) (λ e. drawn_set t agents slot h (forward_other t agents slot h e)) (λ e. h)
 
+drawn_frees : (t : TransState) (slot : ℕ) → FreesNone t (after_draw t slot)
+drawn_frees t slot = cond_both (is_forward (tran_at t slot).stage) (drawn_now t slot) t (λ (z : TransState). FreesNone t z) (λ e. frees_set t slot (drawn (tran_at t slot)) (λ f. absurd cc)) (λ e k f. f)
+
 pub kept_commit : (s : MarksState) (slot lrsn : ℕ) → Kept s (after_commit s slot lrsn)
 kept_commit s slot lrsn = kept_if s _ _ (may_commit s slot lrsn)
-    (λ e. kept_logged s (after_put s.log (commit_record (slot_tran s slot) lrsn)) (after_draw s.trans slot) (drawn_slots s.trans s.locks.agents slot)) (λ e. kept_itself s)
+    (λ e. kept_logged s (after_put s.log (commit_record (slot_tran s slot) lrsn)) (after_draw s.trans slot) (drawn_slots s.trans s.locks.agents slot) (drawn_frees s.trans slot)) (λ e. kept_itself s)
 
 pub kept_append : (s : MarksState) → Kept s (after_append s)
-kept_append s = kept_logged s (after_force s.log) (after_decide s.trans) (all_slots s.trans s.locks.agents)
+kept_append s = kept_logged s (after_force s.log) (after_decide s.trans) (all_slots s.trans s.locks.agents) (frees_decided s.trans.slots s.trans.commits)

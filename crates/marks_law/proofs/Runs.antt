@@ -23,14 +23,16 @@ use Rattle.member_effects.specs.declared.told.Told.{Told}
 use Rattle.member_effects.specs.Answers.{summed, nothing}
 use Rattle.member_resources.specs.declared.lending.Lent.{Lent}
 use Rattle.member_resources.specs.declared.lending.Lent.TheVariants as lent
-use Rattle.member_resources.specs.Held.{Held, begun, with_marks}
+use Rattle.member_resources.specs.Held.{Held, begun, with_marks, with_spare}
 use Rattle.member_resources.specs.Events.{Drive, World, Calls, Happens, ReadsAs, ReadsFrame, Runs, RunsCall, RunsCommand, SettlesAs, Stores, frame_read, waits_in}
 use Rattle.member_resources.specs.Lending.{lent_of, with_bytes}
-use Rattle.member_resources.specs.Prepared.{Reserves, with_change_room}
+use Rattle.member_resources.specs.Prepared.{HasSpare, Reserves, with_change_room}
 use Rattle.member_resources.specs.Settled.{Settles, cast_read, kept_of, settled, stored, unsent}
 use Rattle.marks_law.specs.Claims.{ClaimsStay, changes_claims}
+use Rattle.marks_law.specs.Free.{FreeHoldNothing, FreeReach, FreeStay}
 use Rattle.marks_law.specs.Slots.{AreSlots, SlotsReach, SlotsStay}
-use Rattle.marks_law.proofs.Kept.{Kept, Stands, kept_itself, kept_as, same_slots, stands_as, stands_itself, stands_kept, stands_slots}
+use Rattle.marks_law.proofs.Free.{frees_kept}
+use Rattle.marks_law.proofs.Kept.{Kept, Stands, kept_itself, kept_as, kept_trans, same_slots, stands_as, stands_itself, stands_kept, stands_slots}
 use Rattle.marks_law.proofs.Slots.{set_kept}
 use Rattle.marks_law.proofs.Records.{kept_append}
 use Rattle.marks_law.proofs.Effects.{kept_found, kept_cycle, kept_filled, kept_read, kept_tested, kept_written, kept_unregistered, kept_purged, kept_drawn, kept_undone, kept_committed}
@@ -317,42 +319,56 @@ any_stand w v h k i s p place a told r = by (changes_claims i) refl
     by false quiet = stands_kept h.marks k.marks (runs_kept w v h k i s p place a told quiet r)
 
 -- ---- the whole event
-reserved : (i : Intent) (h k : Held) → Reserves i h k → AreSlots h.marks.trans h.marks.locks.agents → AreSlots k.marks.trans k.marks.locks.agents
-reserved intent.Step h k e a = subst (λ (z : Held). AreSlots z.marks.trans z.marks.locks.agents) (sym e) a
-reserved (intent.Obtain o n m) h k e a = subst (λ (z : Held). AreSlots z.marks.trans z.marks.locks.agents) (sym e.2) a
-reserved (intent.Grant o n m) h k e a = subst (λ (z : Held). AreSlots z.marks.trans z.marks.locks.agents) (sym e.2) a
-reserved (intent.Ask o to n m) h k e a = subst (λ (z : Held). AreSlots z.marks.trans z.marks.locks.agents) (sym e) a
-reserved (intent.Answers o n m asked) h k e a = subst (λ (z : Held). AreSlots z.marks.trans z.marks.locks.agents) (sym e) a
-reserved (intent.Status member) h k e a = subst (λ (z : Held). AreSlots z.marks.trans z.marks.locks.agents) (sym e) a
-reserved (intent.Take past) h k e a = subst (λ (z : Held). AreSlots z.marks.trans z.marks.locks.agents) (sym e) a
-reserved (intent.Answer asker n m) h k e a = subst (λ (z : Held). AreSlots z.marks.trans z.marks.locks.agents) (sym e) a
-reserved (intent.ReleaseLock o) h k e a = subst (λ (z : Held). AreSlots z.marks.trans z.marks.locks.agents) (sym e) a
-reserved (intent.ReleasePage page) h k e a = subst (λ (z : Held). AreSlots z.marks.trans z.marks.locks.agents) (sym e) a
-reserved (intent.Purge n) h k e a = subst (λ (z : Held). AreSlots z.marks.trans z.marks.locks.agents) (sym e) a
-reserved (intent.End o) h k e a = subst (λ (z : Held). AreSlots z.marks.trans z.marks.locks.agents) (sym e) a
-reserved (intent.Wait slot holder flag) h k e a = subst (λ (z : Held). AreSlots z.marks.trans z.marks.locks.agents) (sym e) a
-reserved (intent.Unwait slot) h k e a = subst (λ (z : Held). AreSlots z.marks.trans z.marks.locks.agents) (sym e) a
-reserved (intent.Waits slots) h k e a = subst (λ (z : Held). AreSlots z.marks.trans z.marks.locks.agents) (sym e) a
-reserved (intent.Flag flag) h k e a = subst (λ (z : Held). AreSlots z.marks.trans z.marks.locks.agents) (sym e) a
-reserved (intent.Raise flag) h k e a = subst (λ (z : Held). AreSlots z.marks.trans z.marks.locks.agents) (sym e) a
-reserved intent.LoseCache h k e a = subst (λ (z : Held). AreSlots z.marks.trans z.marks.locks.agents) (sym e) a
-reserved (intent.Read at) h k e a = subst (λ (z : Held). AreSlots z.marks.trans z.marks.locks.agents) (sym e) a
-reserved (intent.ReadPage at) h k e a = subst (λ (z : Held). AreSlots z.marks.trans z.marks.locks.agents) (sym e) a
-reserved (intent.Test at slot gives) h k e a = subst (λ (z : Held). AreSlots z.marks.trans z.marks.locks.agents) (sym e) a
-reserved (intent.WritePage at) h k e a = subst (λ (z : Held). AreSlots z.marks.trans z.marks.locks.agents) (sym e) a
-reserved (intent.Unregister at) h k e a = subst (λ (z : Held). AreSlots z.marks.trans z.marks.locks.agents) (sym e) a
-reserved (intent.Change slot action frames) h k e a = subst (λ (z : Held). AreSlots z.marks.trans z.marks.locks.agents) (sym e) (set_kept h.marks.trans h.marks.locks.agents slot (with_room (slot_tran h.marks slot)) a refl)
-reserved (intent.Undo o at) h k e a = subst (λ (z : Held). AreSlots z.marks.trans z.marks.locks.agents) (sym e) a
-reserved (intent.Commit slot) h k e a = subst (λ (z : Held). AreSlots z.marks.trans z.marks.locks.agents) (sym e) a
-reserved intent.Append h k e a = subst (λ (z : Held). AreSlots z.marks.trans z.marks.locks.agents) (sym e) a
-reserved (intent.NextChanged past) h k e a = subst (λ (z : Held). AreSlots z.marks.trans z.marks.locks.agents) (sym e) a
-reserved (intent.CastoutRead page) h k e a = subst (λ (z : Held). AreSlots z.marks.trans z.marks.locks.agents) (sym e) a
-reserved intent.CastoutWrite h k e a = subst (λ (z : Held). AreSlots z.marks.trans z.marks.locks.agents) (sym e) a
-reserved intent.CastoutDone h k e a = subst (λ (z : Held). AreSlots z.marks.trans z.marks.locks.agents) (sym e) a
-reserved intent.PhaseDone h k e a = subst (λ (z : Held). AreSlots z.marks.trans z.marks.locks.agents) (sym e) a
+reserves_none : (h k : Held) → k ≡ h → Stands h.marks k.marks
+reserves_none h k e = stands_as h.marks k.marks h.marks (ap (λ (z : Held). z.marks) e) (stands_itself h.marks)
+
+with_room_stands : (h k : Held) → HasSpare h k → Stands h.marks k.marks
+with_room_stands h k e = stands_as h.marks k.marks (with_spare h k.marks.locks.spare).marks (ap (λ (z : Held). z.marks) e.2) (record { agents = refl; slots = λ a. a; free = λ a. record { lists = a.lists; none = a.none } })
+
+reserved : (i : Intent) (h k : Held) → Reserves i h k → Stands h.marks k.marks
+reserved intent.Step h k e = reserves_none h k e
+reserved (intent.Obtain o n m) h k e = with_room_stands h k e
+reserved (intent.Grant o n m) h k e = with_room_stands h k e
+reserved (intent.Ask o to n m) h k e = reserves_none h k e
+reserved (intent.Answers o n m asked) h k e = reserves_none h k e
+reserved (intent.Status member) h k e = reserves_none h k e
+reserved (intent.Take past) h k e = reserves_none h k e
+reserved (intent.Answer asker n m) h k e = reserves_none h k e
+reserved (intent.ReleaseLock o) h k e = reserves_none h k e
+reserved (intent.ReleasePage page) h k e = reserves_none h k e
+reserved (intent.Purge n) h k e = reserves_none h k e
+reserved (intent.End o) h k e = reserves_none h k e
+reserved (intent.Wait slot holder flag) h k e = reserves_none h k e
+reserved (intent.Unwait slot) h k e = reserves_none h k e
+reserved (intent.Waits slots) h k e = reserves_none h k e
+reserved (intent.Flag flag) h k e = reserves_none h k e
+reserved (intent.Raise flag) h k e = reserves_none h k e
+reserved intent.LoseCache h k e = reserves_none h k e
+reserved (intent.Read at) h k e = reserves_none h k e
+reserved (intent.ReadPage at) h k e = reserves_none h k e
+reserved (intent.Test at slot gives) h k e = reserves_none h k e
+reserved (intent.WritePage at) h k e = reserves_none h k e
+reserved (intent.Unregister at) h k e = reserves_none h k e
+reserved (intent.Change slot action frames) h k e = stands_as h.marks k.marks (with_change_room h slot).marks (ap (λ (z : Held). z.marks) e)
+    (stands_kept h.marks (with_change_room h slot).marks (kept_trans h.marks (with_tran h.marks.trans slot (with_room (slot_tran h.marks slot)))
+    (λ a. set_kept h.marks.trans h.marks.locks.agents slot (with_room (slot_tran h.marks slot)) a refl) (frees_kept h.marks.trans slot (with_room (slot_tran h.marks slot)) refl)))
+reserved (intent.Undo o at) h k e = reserves_none h k e
+reserved (intent.Commit slot) h k e = reserves_none h k e
+reserved intent.Append h k e = reserves_none h k e
+reserved (intent.NextChanged past) h k e = reserves_none h k e
+reserved (intent.CastoutRead page) h k e = reserves_none h k e
+reserved intent.CastoutWrite h k e = reserves_none h k e
+reserved intent.CastoutDone h k e = reserves_none h k e
+reserved intent.PhaseDone h k e = reserves_none h k e
 
 pub slots_stay : SlotsReach → SlotsStay
 slots_stay reach w v h k i place s a happens slots =
-    let ready = reserved i h happens.ready happens.reserves slots in
+    let ready = stands_slots h.marks happens.ready.marks (reserved i h happens.ready happens.reserves) slots in
     let new = same_slots happens.ready.marks.trans (after_event happens.ready.marks.trans place) happens.ready.marks.locks.agents ready refl refl in
     reach happens.after.marks k.marks happens.ends.0 (stands_slots (begun happens.ready place).marks happens.after.marks (any_stand w v (begun happens.ready place) happens.after i s happens.plan place a happens.said happens.runs) new)
+
+pub free_stay : FreeReach → FreeStay
+free_stay reach w v h k i place s a happens free =
+    let ready : FreeHoldNothing happens.ready.marks = (reserved i h happens.ready happens.reserves).free free in
+    let new : FreeHoldNothing (begun happens.ready place).marks = record { lists = ready.lists; none = ready.none } in
+    reach happens.after.marks k.marks happens.ends.0 ((any_stand w v (begun happens.ready place) happens.after i s happens.plan place a happens.said happens.runs).free new)

@@ -37,7 +37,7 @@ pub set_other : (t : TransState) (agents slot : ℕ) (x : TranState) → AreSlot
 set_other t agents slot x h ne = set_slots t agents slot x h (λ z. absurd (ne z))
 
 -- what isn't free isn't slot 0
-not_free : (x : Stage) → is_free x ≡ true → is_forward x ≡ true → ⊥
+pub not_free : (x : Stage) → is_free x ≡ true → is_forward x ≡ true → ⊥
 not_free stage.Free a b = cc
 not_free stage.Forward a b = cc
 not_free stage.Drawn a b = cc

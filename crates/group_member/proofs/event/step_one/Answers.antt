@@ -26,4 +26,5 @@ returns-clause-comes g c =
     comes (has_failed c.in_ok-stepped.stepped) c.args.script.now c.args.begun c.args.sizes.now.sizes c.args.choice (member_of c.args.part.now)
     (world_of g.C.CacheFace.directory g.D.Disk.alive g.D.Disk.contents c.args.facility.now c.args.disk.now) c.args.fates.now c.args.place c.in_ok-stepped.stepped (member_of c.make_idly.new.part)
     (member_of c.settle.new.part) u v c.settle.new.fates (sym c.live.ensures ∙ c.if-not-live.false) refl c.in_ok-stepped.ensures.makes c.in_ok-stepped.ensures.idle c.in_ok-stepped.ensures.kind refl (ap (λ part. part.id) c.make_idly.ensures.rest)
+    (ap (λ part. part.id) c.settle.ensures.rest ∙ ap (λ part. part.id) c.make_idly.ensures.rest)
     c.settle.ensures.enters c.settle.ensures.stays c.in_ok-settle.ensures.fails c.in_ok-settle.ensures.down c.in_ok-settle.ensures.stops
