@@ -20,8 +20,8 @@ use group_core::{Group, RunFault};
 use member_resources::Policy;
 use std::alloc::Global;
 use std::sync::Wait;
-use std::thread;
 use std::thread::Threads;
+use thread_row::for_each_in_thread;
 use turn_gate::{Journal, Turn};
 use turn_story::{Closed, Desk, Phase, Told};
 
@@ -91,12 +91,11 @@ fn work_round<
     ensures at { AreMembersAt turn.now workers.new (λ w. w.desk.seat) (λ w. w.desk.part) }
 {
     hall.begin();
-    let threads = workers.len();
     let each = |at: usize, worker: &mut Worker<Shared<D, C, P>>|
         requires { (at < 63) × IsMemberAt turn.now (at + 1) worker.now.desk.seat worker.now.desk.part }
         ensures { IsMemberAt turn.entry.now (at + 1) worker.exit.now.desk.seat worker.exit.now.desk.part }
     { worker.work(rt, alloc, turn, hall, gate, at as u64 + 1) };
-    thread::for_each_mut(rt, workers, threads, &each);
+    for_each_in_thread(rt, workers, &each);
 }
 
 fn has_any_run<D: Disk, C: CacheFace, P: Policy>(workers: &[Worker<Shared<D, C, P>>]) -> bool {

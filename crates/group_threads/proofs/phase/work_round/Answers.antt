@@ -12,17 +12,17 @@ use Rattle.turn_story.proofs.Rows.{moved, at_place, from_places}
 use Rattle.group_threads.specs.Desks.{IsMemberAt, member_in}
 use Rattle.group_threads.proofs.phase.work_round.Goals as goal
 
-pub for_each_mut-requires-send-T : goal.for_each_mut-requires-send-T
+pub for_each_in_thread-requires-send-T : goal.for_each_in_thread-requires-send-T
 unfolding types.Keyed.entry denote.Memory.part_of
-for_each_mut-requires-send-T g c κs within =
+for_each_in_thread-requires-send-T g c κs within =
     let d = c.type_bounds.send-D in
     let e = c.type_bounds.send-C in
     let p = c.type_bounds.send-P in
     search (shared, hand, sendable, crosses, maps, place_send, history_send) depth 400 fits 200000
 
-pub for_each_mut-requires-sync-F : goal.for_each_mut-requires-sync-F
+pub for_each_in_thread-requires-sync-F : goal.for_each_in_thread-requires-sync-F
 unfolding types.Keyed.entry denote.Memory.part_of
-for_each_mut-requires-sync-F g c κs within =
+for_each_in_thread-requires-sync-F g c κs within =
     let d = c.type_bounds.send-D in
     let e = c.type_bounds.send-C in
     let p = c.type_bounds.send-P in
@@ -30,8 +30,8 @@ for_each_mut-requires-sync-F g c κs within =
     let h = c.type_bounds.sync-G in
     search (shared, sendable, crosses, table_sync, lease_sync, history_send, hall_sync) depth 400 fits 200000
 
-pub for_each_mut-requires-clause-accepts : goal.for_each_mut-requires-clause-accepts
-for_each_mut-requires-clause-accepts g c κs within i p less is =
+pub for_each_in_thread-requires-clause-accepts : goal.for_each_in_thread-requires-clause-accepts
+for_each_in_thread-requires-clause-accepts g c κs within i p less is =
     let turn = c.args.turn.now in
     let few : length c.args.workers.now ≤ 63 = c.requires.few.1 in
     let at = at_place member_in turn.id turn.start c.args.workers.now (λ w. w.desk.seat) (λ w. w.desk.part) 1 i p.now c.requires.at less in
@@ -41,7 +41,7 @@ for_each_mut-requires-clause-accepts g c κs within i p less is =
 pub returns-clause-at : goal.returns-clause-at
 returns-clause-at g c =
     let turn = c.args.turn.now in
-    let same : length c.for_each_mut.new.s ≡ length c.args.workers.now = search rules in
-    from_places member_in turn.id turn.start c.for_each_mut.new.s (λ w. w.desk.seat) (λ w. w.desk.part) 1 (λ i d less.
-    let h = (c.for_each_mut.ensures i d (subst (λ n. i < n) same less)).1 in
+    let same : length c.for_each_in_thread.new.s ≡ length c.args.workers.now = search rules in
+    from_places member_in turn.id turn.start c.for_each_in_thread.new.s (λ w. w.desk.seat) (λ w. w.desk.part) 1 (λ i d less.
+    let h = (c.for_each_in_thread.ensures i d (subst (λ n. i < n) same less)).1 in
     moved _ _ h.left (λ w. IsMemberAt turn (i + 1) w.desk.seat w.desk.part) h.call)
