@@ -1,7 +1,8 @@
 -- What the group holds of pages: the facility, the disk, and the logs, frames and castouts of its members.
-use Rattle.std.specs.Prelude.{ℕ, Bool, true, false, ◌&&◌, ◌==◌, if◌then◌else◌, List, [], Option}
+use Rattle.std.specs.Prelude.{◌≡◌, ◌≢◌, ℕ, ◌≤◌, Bool, true, false, ◌&&◌, ◌==◌, if◌then◌else◌, List, [], Option}
 use Rattle.list_structure.specs.declared.standing.MemberStatus.{MemberStatus}
 use Rattle.list_structure.specs.declared.standing.MemberStatus.TheVariants as standing
+use Rattle.list_structure.specs.Standings.{status_of}
 use Rattle.cache_structure.specs.Directory.{Directory, bytes_of, is_changed, castout_of, is_written, is_registered, bit}
 use Rattle.facility.specs.States.{Held}
 use Rattle.page_protocol.specs.Page.{Status, Up, Failed, Restarting}
@@ -84,6 +85,9 @@ with_cast g m n c = record g { casts = put2 g.casts m n c }
 abbrev pub with_facility : Holdings → Held → Holdings
 with_facility g f = record g { facility = f }
 
+abbrev pub with_directory : Holdings → Directory → Holdings
+with_directory g d = record g { facility = record g.facility { directory = d } }
+
 -- ---- standings
 
 abbrev pub as_status : MemberStatus → Status
@@ -91,3 +95,18 @@ as_status standing.Up = Up
 as_status standing.Restarting = Restarting
 as_status standing.Failed = Failed
 as_status standing.Down = Failed
+
+-- what the world of pages sees of the facility stays
+pub record KeepsPages (f after : Held) : Type 0 where
+  pub directory : after.directory ≡ f.directory
+  pub counter : after.counter ≡ f.counter
+  pub members : after.lists.members ≡ f.lists.members
+  pub statuses : after.lists.statuses ≡ f.lists.statuses
+
+-- but for the standing of one member
+pub record StandsAs (f after : Held) (m : ℕ) (s : MemberStatus) : Type 0 where
+  pub directory : after.directory ≡ f.directory
+  pub counter : after.counter ≡ f.counter
+  pub members : after.lists.members ≡ f.lists.members
+  pub own : status_of after.lists.statuses m ≡ s
+  pub others : (k : ℕ) → 1 ≤ k → k ≢ m → status_of after.lists.statuses k ≡ status_of f.lists.statuses k
