@@ -1,0 +1,12 @@
+pub mod Numbers
+pub mod Entries
+pub mod Slices
+pub mod Entering
+pub mod Copies
+pub mod Reading
+pub mod Writing
+pub mod Placing
+pub mod Casting
+pub mod Losing
+pub mod Owning
+pub mod Falling

@@ -1,0 +1,9 @@
+pub mod Numbers
+pub mod Holdings
+pub mod Tied
+pub mod Cache
+pub mod Frames
+pub mod Castouts
+pub mod Losses
+pub mod Owners
+pub mod Failing

@@ -1,0 +1,82 @@
+//! The pages of the group beside their pure machine: what the cache structure, the disk, the logs, the frames of the members
+//! and their page locks are in a world of pages, and which moves their events are.
+//!
+//! The crate has definitions and proofs alone. Its functions do nothing: their contracts are the theorems.
+#![tactic(auto)]
+
+ghost use Rattle.page_world.specs.Numbers.{AreNumbered};
+ghost use Rattle.page_world.specs.Cache.{FindsMoves, RegistersMoves, WritesMoves};
+ghost use Rattle.page_world.specs.Castouts.{BeginsMoves, CastsMoves, EndsMoves};
+ghost use Rattle.page_world.specs.Failing.{FailsMoves, RestartsMoves, OpensMoves};
+ghost use Rattle.page_world.specs.Losses.{StaysTied, LosesMoves, ReadsLogMoves, RebuildsMoves, RebuiltMoves};
+ghost use Rattle.page_world.specs.Owners.{LocksMoves, UnlocksMoves, PurgesMoves, ForcesMoves};
+ghost use Rattle.page_world.specs.Frames.{PlacesStays, FillsMoves, LeavesMoves, UnregistersMoves, TestsTell};
+
+use page_protocol::logs_have_prefixes;
+
+/// Each page has a number, and each number is a page's.
+pub fn pages_have_numbers()
+    ensures { AreNumbered }
+{}
+
+/// A read that registers a frame is one move of its page, behind the one that reclaims an entry where that is needed.
+pub fn reads_are_moves()
+    ensures found { FindsMoves }
+    ensures empty { RegistersMoves }
+{}
+
+/// A write of a changed page whose changes are stable is one move of it, behind the one that reclaims an entry where that is
+/// needed: all other copies of the page lose their registrations.
+pub fn writes_are_moves()
+    ensures { WritesMoves }
+{}
+
+/// A page that is placed in a free frame is no move; one that fills its frame from disk, and one that leaves its frame, with
+/// or without the registration, are one move each.
+pub fn frames_are_moves()
+    ensures places { PlacesStays }
+    ensures fills { FillsMoves }
+    ensures leaves { LeavesMoves }
+    ensures unregisters { UnregistersMoves }
+{}
+
+/// A test of a frame that its member counts on tells the bit of the page in it.
+pub fn tests_tell()
+    ensures { TestsTell }
+{}
+
+/// The begin of a castout, its write to disk under the castout lock, and its end are one move each.
+pub fn castouts_are_moves()
+    ensures begins { BeginsMoves }
+    ensures casts { CastsMoves }
+    ensures ends { EndsMoves }
+{}
+
+/// The loss of the cache structure, each step of its rebuild and the end of that are one move each, and what the world of pages
+/// doesn't see is none.
+pub fn losses_are_moves()
+    ensures stays { StaysTied }
+    ensures loses { LosesMoves }
+    ensures reads_log { ReadsLogMoves }
+    ensures rebuilds { RebuildsMoves }
+    ensures rebuilt { RebuiltMoves }
+{}
+
+/// A page lock that is given, and one that a member gives up that is up or restarts, are one move each, and so is a force of a
+/// log.
+pub fn owners_are_moves()
+    ensures locks { LocksMoves }
+    ensures unlocks { UnlocksMoves }
+    ensures purges { PurgesMoves }
+    ensures forces { ForcesMoves }
+{}
+
+/// The failure of a member is one move, which cuts of each page what its log hadn't on disk; and so are its restart and the
+/// end of that.
+pub fn failures_are_moves()
+    ensures fails { FailsMoves }
+    ensures restarts { RestartsMoves }
+    ensures opens { OpensMoves }
+{
+    logs_have_prefixes();
+}
