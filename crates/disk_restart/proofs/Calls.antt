@@ -63,11 +63,11 @@ module _ (sound : ReadsSound) (o : Logs) (h k : Restart) (w v : Drive) (made : M
   adds_kept : (member : ℕ) → Adds o c.logs h.plan.ends member h.added → Appends member (log_bytes h.added) w made v → AllByRecursion IsAllowed h.added → Becomes (Some c) v.contents (λ _ d. Keeps o d.logs)
   adds_kept member i a allowed =
       let log : List ℕ = log_of c.logs member in
-      let end : ℕ = end_of h.plan.ends member in
-      let whole : IsWhole end log = i.stands.whole (member - 1) in
+      let size : ℕ = end_of h.plan.ends member in
+      let whole : IsWhole size log = i.stands.whole (member - 1) in
       append_left w v made c (KeepsLogs o) member (log_bytes h.added) is a i.stands.keeps
-      (set_kept o c.logs (member - 1) (log ++ log_bytes h.added) i.stands.keeps (append_kept sound end log h.added whole allowed i.added))
-      (λ n. set_kept o c.logs (member - 1) (log ++ take n (log_bytes h.added)) i.stands.keeps (front_kept sound end log h.added n whole allowed i.added))
+      (set_kept o c.logs (member - 1) (log ++ log_bytes h.added) i.stands.keeps (append_kept sound size log h.added whole allowed i.added))
+      (λ n. set_kept o c.logs (member - 1) (log ++ take n (log_bytes h.added)) i.stands.keeps (front_kept sound size log h.added n whole allowed i.added))
 
   pub kept : (st : Stage) → InStage st o h c.logs → Calls h (call_in st h) w made v k → Becomes (Some c) v.contents (λ _ d. Keeps o d.logs)
   kept stage.ReadLog i calls = asks_kept h.reader.member (next_call h.reader) (itself o c.logs i.same) calls

@@ -10,7 +10,7 @@ use Rattle.restart_plan.specs.declared.tails.Tail.{Tail}
 use Rattle.restart_plan.specs.Tails.{tail_of, tails_of}
 use Rattle.restart_plan.specs.Ends.{ends_of}
 use Rattle.disk_restart.specs.Keeping.{lasting}
-use Rattle.disk_restart.proofs.Whole.{ReadsSound, IsWhole, none_whole, cut_whole, cut_kept, uncut_whole}
+use Rattle.disk_restart.proofs.Whole.{ReadsSound, IsWhole, whole_as, none_whole, cut_whole, cut_kept, uncut_whole}
 
 -- the logs of a disk, by their places
 abbrev pub Logs : Type 0
@@ -44,14 +44,19 @@ set_kept before logs i bytes keeps same j = elim (at_set logs i j bytes) [
   | inr there ↦ ap lasting there ∙ keeps j
 ]
 
+set_here : (ends : List ℕ) (logs : Logs) (i size : ℕ) (bytes : List ℕ) → length ends ≡ length logs → IsWhole (get_or ends i 0) (log_at logs i) → IsWhole size bytes → IsWhole (get_or (set ends i size) i 0) (log_at (set logs i bytes) i)
+set_here ends logs i size bytes count whole is = elim (cases_lt i (length logs)) [
+  | inl inside ↦ let within : i < length ends = omega arith in
+      whole_as (get_or (set ends i size) i 0) size (log_at (set logs i bytes) i) bytes (get_or-set_same ends i size 0 within) (get_or-set_same logs i bytes [] inside) is
+  | inr past ↦ let beyond : length ends ≤ i = omega arith in
+      whole_as (get_or (set ends i size) i 0) (get_or ends i 0) (log_at (set logs i bytes) i) (log_at logs i) (ap (λ (es : List ℕ). get_or es i 0) (set_past ends i size beyond)) (ap (λ (ls : Logs). log_at ls i) (set_past logs i bytes past)) whole
+]
+
 -- the new log ends elsewhere
 pub set_whole : (ends : List ℕ) (logs : Logs) (i size : ℕ) (bytes : List ℕ) → length ends ≡ length logs → AreWhole ends logs → IsWhole size bytes → AreWhole (set ends i size) (set logs i bytes)
 set_whole ends logs i size bytes count whole is j = elim (cases_eq i j) [
-  | inl same ↦ subst (λ (k : ℕ). IsWhole (get_or (set ends i size) k 0) (log_at (set logs i bytes) k)) same (elim (cases_lt i (length logs)) [
-    | inl inside ↦ let within : i < length ends = omega arith in rw (get_or-set_same ends i size 0 within, get_or-set_same logs i bytes [] inside) is
-    | inr past ↦ let beyond : length ends ≤ i = omega arith in rw (set_past ends i size beyond, set_past logs i bytes past) (whole i)
-  ])
-  | inr apart ↦ rw (get_or-set_other ends i j size 0 (λ e. apart (sym e)), get_or-set_other logs i j bytes [] (λ e. apart (sym e))) (whole j)
+  | inl same ↦ subst (λ (k : ℕ). IsWhole (get_or (set ends i size) k 0) (log_at (set logs i bytes) k)) same (set_here ends logs i size bytes count (whole i) is)
+  | inr apart ↦ whole_as (get_or (set ends i size) j 0) (get_or ends j 0) (log_at (set logs i bytes) j) (log_at logs j) (get_or-set_other ends i j size 0 (λ e. apart (sym e))) (get_or-set_other logs i j bytes [] (λ e. apart (sym e))) (whole j)
 ]
 
 -- ---- tails that are due to be cut
@@ -97,7 +102,7 @@ below_set ends i new bytes below j lt = subst (IsWhole (get_or ends j 0)) (sym (
 
 -- behind the last one there is none
 past_none : (ends : List ℕ) (j : ℕ) (bytes : Logs) → length ends ≡ length bytes → length bytes ≤ j → IsWhole (get_or ends j 0) (log_at bytes j)
-past_none ends j bytes count past = let beyond : length ends ≤ j = omega arith in rw (get_or_past ends j 0 beyond, get_or_past bytes j [] past) none_whole
+past_none ends j bytes count past = let beyond : length ends ≤ j = omega arith in whole_as (get_or ends j 0) 0 (log_at bytes j) [] (get_or_past ends j 0 beyond) (get_or_past bytes j [] past) none_whole
 
 here_set : (ends : List ℕ) (i : ℕ) (new : List ℕ) (bytes : Logs) → length ends ≡ length bytes → IsWhole (get_or ends i 0) new → IsWhole (get_or ends i 0) (log_at (set bytes i new) i)
 here_set ends i new bytes count is = elim (cases_lt i (length bytes)) [

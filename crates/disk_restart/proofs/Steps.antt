@@ -85,14 +85,14 @@ module _ (sound : ReadsSound) (o : Logs) (h k x : Restart) (w v : Drive) (r : Re
   after_append member i allowed =
       let log : List ℕ = log_of c.logs member in
       let added : List ℕ = log_bytes h.added in
-      let end : ℕ = end_of h.plan.ends member in
-      let whole : IsWhole end log = i.stands.whole (member - 1) in
-      let same : length (slice_set h.plan.ends (member - 1) (end + length added)) ≡ length (slice_set c.logs (member - 1) (log ++ added)) =
-      length-set h.plan.ends (member - 1) (end + length added) ∙ i.stands.count ∙ sym (length-set c.logs (member - 1) (log ++ added)) in
+      let size : ℕ = end_of h.plan.ends member in
+      let whole : IsWhole size log = i.stands.whole (member - 1) in
+      let same : length (slice_set h.plan.ends (member - 1) (size + length added)) ≡ length (slice_set c.logs (member - 1) (log ++ added)) =
+      length-set h.plan.ends (member - 1) (size + length added) ∙ i.stands.count ∙ sym (length-set c.logs (member - 1) (log ++ added)) in
       record {
-        keeps = set_kept o c.logs (member - 1) (log ++ added) i.stands.keeps (append_kept sound end log h.added whole allowed i.added);
+        keeps = set_kept o c.logs (member - 1) (log ++ added) i.stands.keeps (append_kept sound size log h.added whole allowed i.added);
         count = same;
-        whole = set_whole h.plan.ends c.logs (member - 1) (end + length added) (log ++ added) i.stands.count i.stands.whole (append_whole end log h.added whole allowed);
+        whole = set_whole h.plan.ends c.logs (member - 1) (size + length added) (log ++ added) i.stands.count i.stands.whole (append_whole size log h.added whole allowed);
       }
 
   after_cut : (tail : Tail) → Cuts o c.logs h.plan.ends (tail ∷ h.plan.tails) → Cuts o (cut c.logs tail) h.plan.ends h.plan.tails

@@ -30,6 +30,9 @@ pub record IsWhole (size : ℕ) (bytes : List ℕ) : Type 0 where
 pub none_whole : IsWhole 0 []
 none_whole = record { size_is = refl; records = []; spelled = refl; allowed = tt }
 
+pub whole_as : (n m : ℕ) (a b : List ℕ) → n ≡ m → a ≡ b → IsWhole m b → IsWhole n a
+whole_as n m a b size same is = subst (λ (k : ℕ). IsWhole k a) (sym size) (subst (IsWhole m) (sym same) is)
+
 whole_lasting : ReadsSound → (bytes : List ℕ) (records : List LogRecord) → bytes ≡ log_bytes records → AllByRecursion IsAllowed records → lasting bytes ≡ Ok (lasting_among records)
 whole_lasting sound bytes records spelled allowed = lasting_is sound bytes records (record { tail = []; whole = spelled ∙ sym (append-nil (log_bytes records)); allowed = allowed; torn = inl refl })
 
@@ -63,9 +66,8 @@ lasting_append at [] added h =
     let e : at + 0 ≡ at = omega arith in
     none_lasting at added (subst (λ (k : ℕ). AreAdded k added) e h)
 lasting_append at (r ∷ rs) added h =
-    let next : ℕ = at + length (record_bytes r) in
-    let e : at + length (record_bytes r ++ log_bytes rs) ≡ next + length (log_bytes rs) = omega (arith, length-append (record_bytes r) (log_bytes rs)) in
-    ap (λ (t : List LogRecord). kept_if (is_lasting at r.body) r t) (lasting_append next rs added (subst (λ (k : ℕ). AreAdded k added) e h))
+    let e : at + length (record_bytes r ++ log_bytes rs) ≡ at + length (record_bytes r) + length (log_bytes rs) = omega (arith, length-append (record_bytes r) (log_bytes rs)) in
+    ap (λ (t : List LogRecord). kept_if (is_lasting at r.body) r t) (lasting_append (at + length (record_bytes r)) rs added (subst (λ (k : ℕ). AreAdded k added) e h))
 
 -- some whole records, and then a torn tail
 record Front (at : ℕ) (bytes : List ℕ) : Type 0 where
