@@ -57,21 +57,23 @@ fn log(member: u64, records: Vec<LogRecord>) -> Result<Log, Fail>
 fn an_offset_is_the_place_of_a_record_so_far(rt: HostRuntime) -> Result<(), Fail> {
     let alloc = rt.alloc();
     let member = MemberId::new(3).ok_or("a member")?;
-    let first = vec![in alloc; change()?, checkpoint(0)?, checkpoint(49)?]?;
-    let second = vec![in alloc; checkpoint(0)?, checkpoint(0)?, checkpoint(37)?]?;
-    let logs = [log(2, first)?, log(3, second)?];
-    assert_eq!(rt; find_bad_offset(alloc, &logs[..1])?, None);
-    assert_eq!(rt; start_of(logs[0].records()), 49);
+    let changed = vec![in alloc; change()?, checkpoint(0)?, checkpoint(49)?]?;
+    let fit = [log(2, changed)?];
+    assert_eq!(rt; find_bad_offset(alloc, &fit)?, None);
+    assert_eq!(rt; start_of(fit[0].records()), 49);
     assert_eq!(rt;
-        needs_of(alloc, &logs[..1])?.as_slice(),
+        needs_of(alloc, &fit)?.as_slice(),
         &[Need {
             page: PageId { set: 1, number: 7 },
             lrsn: Lrsn::new(1).ok_or("a number")?,
             is_open: true,
         }][..]
     );
+    let first = vec![in alloc; checkpoint(0)?]?;
+    let second = vec![in alloc; checkpoint(0)?, checkpoint(0)?, checkpoint(37)?]?;
+    let bad = [log(2, first)?, log(3, second)?];
     assert_eq!(rt;
-        find_bad_offset(alloc, &logs)?,
+        find_bad_offset(alloc, &bad)?,
         Some(Spot::Log { member, at: 76 })
     );
     Ok(())

@@ -45,7 +45,8 @@ fn a_page_is_a_version_by_a_front_of_the_records(rt: HostRuntime) -> Result<(), 
     assert!(rt; is_version(alloc, ID, &records, &page)?);
     apply_record(&mut page, ID, &records[0]);
     assert!(rt; is_version(alloc, ID, &records, &page)?);
-    assert!(rt; !is_version(alloc, ID, &records[1..], &page)?);
+    let other = [record(alloc, 3, 8)?];
+    assert!(rt; !is_version(alloc, ID, &other, &page)?);
     assert!(rt; !is_placed(alloc, ID, &records, false, &mut page)?);
     apply_record(&mut page, ID, &records[2]);
     assert!(rt; is_version(alloc, ID, &records, &page)?);

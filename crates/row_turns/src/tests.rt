@@ -52,14 +52,16 @@ fn a_row_waits_for_the_commit(rt: HostRuntime) -> Result<(), Fail> {
     let alloc = rt.alloc();
     let first = vec![in alloc; change(1, 1, 10)?, record(3, 1, Body::Commit)?]?;
     let second = vec![in alloc; change(2, 2, 11)?, change(4, 2, 10)?]?;
-    let third = vec![in alloc; change(5, 5, 11)?]?;
-    let logs = [log(1, first)?, log(2, second)?, log(3, third)?];
-    let member = MemberId::new(3).ok_or("a member")?;
-    assert_eq!(rt; find_turn_spot(alloc, &logs[..2])?, None);
+    let in_turn = [log(1, first)?, log(2, second)?];
+    assert_eq!(rt; find_turn_spot(alloc, &in_turn)?, None);
+    let first = vec![in alloc; change(1, 1, 10)?, change(3, 1, 11)?]?;
+    let second = vec![in alloc; change(2, 2, 12)?, change(4, 2, 10)?, change(5, 2, 11)?]?;
+    let out = [log(1, first)?, log(2, second)?];
+    let member = MemberId::new(2).ok_or("a member")?;
     assert_eq!(rt;
-        find_turn_spot(alloc, &logs)?,
-        Some(Spot::Log { member, at: 0 })
+        find_turn_spot(alloc, &out)?,
+        Some(Spot::Log { member, at: 49 })
     );
-    assert_eq!(rt; find_out_of_turn(alloc, logs[1].records())?, None);
+    assert_eq!(rt; find_out_of_turn(alloc, out[1].records())?, None);
     Ok(())
 }
