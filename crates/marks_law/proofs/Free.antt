@@ -99,7 +99,7 @@ left_forward s b owner cs agents are forward = left_set s b owner cs agents are
 
 -- of the member itself
 pub agent_above : (s : MarksState) (slot : ℕ) → is_agent s slot ≡ true → slot ≢ 0
-agent_above s slot a zero = omega (arith, ltb-true 0 slot (and_parts (nat_lt 0 slot) (nat_le slot (agents_of s)) a).0, zero)
+agent_above s slot a none = omega (arith, ltb-true 0 slot (and_parts (nat_lt 0 slot) (nat_le slot (agents_of s)) a).0, none)
 
 pub agent_within : (s : MarksState) (slot : ℕ) → is_agent s slot ≡ true → slot ≤ s.locks.agents
 agent_within s slot a = leb-true slot s.locks.agents (and_parts (nat_lt 0 slot) (nat_le slot s.locks.agents) a).1
