@@ -27,7 +27,7 @@ use Rattle.page_world.proofs.Entries.{at_apart, at_self}
 use Rattle.page_world.proofs.Slices.{Alike, alike_tied, one_moved, put2_here, put2_other, put2_by}
 use Rattle.page_world.proofs.Entering.{entry_same, numbers_apart}
 use Rattle.page_world.proofs.Copies.{by_member, put_here, put_there}
-use Rattle.page_world.proofs.Reading.{coherent, content_some}
+use Rattle.page_world.proofs.Reading.{coherent}
 
 -- ---- another page, where the entries and the castouts of one are others
 cast_beside : (g : Holdings) (m n j : ℕ) (c : Cast) (change : Entry → Entry) (lists : ListsState) → ((e : Entry) → (change e).page ≡ e.page) → j ≢ n
@@ -89,7 +89,7 @@ other_member m k e ne = ne (sym (same_Some m k e))
 -- the page
 begun_tied : (a b : PageHeld) (p : Page) (content : ℕ → List ℕ) (m v : ℕ) (bytes : List ℕ) → PageTied a p content → b.bytes ≡ a.bytes → b.changed ≡ a.changed → b.castout ≡ Some m → b.written ≡ false → b.casts m ≡ taken_cast bytes → bytes ≡ content v
     → PageTied (record a { bytes = b.bytes; changed = b.changed; castout = b.castout; written = b.written; casts = b.casts }) (castout_read p m v) content
-begun_tied a b p content m v bytes t same changed lock unwritten cast is = record {
+begun_tied a b p content m v bytes t same changed lock unwritten in_hand is = record {
   bytes = same ∙ t.bytes;
   changed = changed ∙ t.changed;
   there = t.there;
@@ -102,8 +102,8 @@ begun_tied a b p content m v bytes t same changed lock unwritten cast is = recor
   marked = t.marked;
   same = t.same;
   indirect = t.indirect;
-  buffer = λ k x e. ap (λ z. (b.casts z).bytes) (sym (same_Some m k e)) ∙ ap (λ (c : Cast). c.bytes) cast ∙ is;
-  sent = λ k x e. ap (λ z. (b.casts z).sent) (sym (same_Some m k e)) ∙ ap (λ (c : Cast). c.sent) cast;
+  buffer = λ k x e. ap (λ z. (b.casts z).bytes) (sym (same_Some m k e)) ∙ ap (λ (c : Cast). c.bytes) in_hand ∙ is;
+  sent = λ k x e. ap (λ z. (b.casts z).sent) (sym (same_Some m k e)) ∙ ap (λ (c : Cast). c.sent) in_hand;
   owner = t.owner;
   part = t.part;
 }
@@ -145,7 +145,7 @@ begins w g content m n page bytes v t r =
     let after = record g { casts = put2 g.casts m n (taken_cast bytes); facility = record g.facility { directory = record d { entries = at_entry id (locked_by m) d.entries } } } in
     let left : after_castout_read d m id ≡ record d { entries = at_entry id (locked_by m) d.entries } =
       cond-false d.lost d (if is_taken d m id then record d { entries = at_entry id (locked_by m) d.entries } else d) parts.there ∙ cond-true (is_taken d m id) (record d { entries = at_entry id (locked_by m) d.entries }) d taken in
-    let e : v ≡ after.facility = r.1 ∙ ap (λ x. record g.facility { directory = x }) left in
+    let e : v ≡ after.facility = r.1 ∙ ap (λ (x : Directory). record g.facility { directory = x }) left in
     let free : (p.castout ≡ None) ⊎ (p.castout ≡ Some m) = free_there p.castout parts.entry.castout (sym tp.castout ∙ ap (λ o. option_map_or (λ (y : Entry). y.castout) o None) before) parts.free in
     subst (λ z. Moved w (At n (CastoutRead m z) ∷ []) (record g { casts = put2 g.casts m n (taken_cast bytes); facility = v }) content) (sym (ap (λ o. unwrap_or o 0) version.1))
     (subst (λ (x : Held). Moved w (At n (CastoutRead m version.0) ∷ []) (record g { casts = put2 g.casts m n (taken_cast bytes); facility = x }) content) (sym e)
@@ -253,7 +253,7 @@ ended_tied a b g p content m co t lock same changed free = record {
   changed = changed ∙ ap (λ x. x && a.written) (t.changed ∙ (co.casting m lock).changed) ∙ t.written m lock;
   there = λ e. t.there (co.casting m lock).changed;
   castout = free;
-  written = λ k e. absurd (let both : None ≡ Some k = e in cc both);
+  written = λ k e. absurd (let both : ◌≡◌ {A = Option ℕ} None (Some k) = e in cc both);
   disk = t.disk;
   bit = t.bit;
   own = t.own;
@@ -261,8 +261,8 @@ ended_tied a b g p content m co t lock same changed free = record {
   marked = t.marked;
   same = t.same;
   indirect = t.indirect;
-  buffer = λ k x e. absurd (let both : None ≡ Some k = e in cc both);
-  sent = λ k x e. absurd (let both : None ≡ Some k = e in cc both);
+  buffer = λ k x e. absurd (let both : ◌≡◌ {A = Option ℕ} None (Some k) = e in cc both);
+  sent = λ k x e. absurd (let both : ◌≡◌ {A = Option ℕ} None (Some k) = e in cc both);
   owner = t.owner;
   part = t.part;
 }
@@ -293,6 +293,6 @@ ends w g content m n v good t taken sent r =
     (ended_tied (held_of g n) (held_of after n) w.group p (content n) m co tp lock
     (ap (λ o. option_map_or (λ (y : Entry). y.bytes) o None) now ∙ sym (ap (λ o. option_map_or (λ (y : Entry). y.bytes) o None) before))
     (ap (λ o. option_map_or (λ (y : Entry). y.changed) o false) now
-    ∙ sym (λ i. option_map_or (λ (y : Entry). y.changed) (before i) false && option_map_or (λ (y : Entry). y.written) (before i) false))
+    ∙ sym (ap (λ o. option_map_or (λ (y : Entry). y.changed) o false && option_map_or (λ (y : Entry). y.written) o false) before))
     (ap (λ o. option_map_or (λ (y : Entry). y.castout) o None) now)))
     (λ j ne. cast_beside g m n j no_cast cast_out lists out_page ne))

@@ -137,7 +137,7 @@ reclaim_tied a b p content t r clean free = record {
 }
   where
     none_held : (m : ℕ) → p.castout ≡ Some m → ⊥
-    none_held m e = let both : None ≡ Some m = sym free ∙ e in cc both
+    none_held m e = let both : ◌≡◌ {A = Option ℕ} None (Some m) = sym free ∙ e in cc both
 
 -- the entry's parts, where it may be reclaimed
 idle_parts : (e : Entry) → is_idle e ≡ true → (e.changed ≡ false) × (e.castout ≡ None)
@@ -288,7 +288,7 @@ reclaim_entered w g content id e t s none full h = record {
     u = reclaim_world w g content e t s h
 
     apart : id ≢ e.page
-    apart f = let both : None ≡ Some e = sym none ∙ subst (λ z. entry_of d.entries z ≡ Some e) (sym f) (idle_found d.entries e s.distinct h).0 in cc both
+    apart f = let both : ◌≡◌ {A = Option Entry} None (Some e) = sym none ∙ subst (λ z. entry_of d.entries z ≡ Some e) (sym f) (idle_found d.entries e s.distinct h).0 in cc both
 
     other : page_number id ≢ r
     other f = apart (sym (named id) ∙ ap page_at f ∙ named e.page)

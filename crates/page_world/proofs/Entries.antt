@@ -1,9 +1,10 @@
 -- The entry of a page in the directory, behind a change of the entries.
-use Rattle.std.proofs.Common.{◌≡◌, ℕ, Bool, true, false, cond, not, List, [], ◌∷◌, ◌++◌, map, Option, Some, None, refl, sym, ap, subst, ◌∙◌, arith}
+use Rattle.std.proofs.Common.{◌≡◌, ℕ, Bool, true, false, cond, not, List, [], ◌∷◌, ◌++◌, map, Option, Some, None, refl, sym, ap, subst, ◌∙◌}
 use Rattle.std.specs.Prelude.{◌≢◌, ◌==◌, ◌&&◌, find, is_some}
 use Rattle.std.specs.List.{IsDistinct, AllByRecursion}
 use Rattle.std.specs.Option.{option_map, option_map_or}
 use Rattle.std.proofs.lemmas.Bool.{cond-true, cond-false, cases_Bool, both_ways, and_parts, and_from, eqb-true, eq-eqb, false_from_ne_true}
+use Rattle.std.proofs.lemmas.Option.{same_Some}
 use Rattle.ds_base.specs.declared.names.PageId.{PageId}
 use Rattle.ds_base.specs.Pages.{same_page}
 use Rattle.cache_structure.specs.Entries.{Entry, is_of, is_idle, entry_of, without, newest, at_entry}
@@ -43,11 +44,11 @@ without_apart x q (e ∷ es) ne = by (same_page x e.page) refl (without_apart x 
 -- ---- an entry comes
 last_self : (e : Entry) (es : List Entry) → entry_of es e.page ≡ None → entry_of (es ++ e ∷ []) e.page ≡ Some e
 last_self e [] none = cond-true (same_page e.page e.page) (Some e) None (page_self e.page)
-last_self e (x ∷ es) none = by (same_page e.page x.page) refl
+last_self e (x ∷ es) none = by (last_self e es) (same_page e.page x.page) refl
   where
-    by : (b : Bool) → same_page e.page x.page ≡ b → cond (same_page e.page x.page) (Some x) (entry_of (es ++ e ∷ []) e.page) ≡ Some e
-    by true h = absurd (let there : Some x ≡ None = sym (cond-true (same_page e.page x.page) (Some x) (entry_of es e.page) h) ∙ none in cc there)
-    by false h = cond-false (same_page e.page x.page) (Some x) (entry_of (es ++ e ∷ []) e.page) h ∙ last_self e es (sym (cond-false (same_page e.page x.page) (Some x) (entry_of es e.page) h) ∙ none)
+    by : (entry_of es e.page ≡ None → entry_of (es ++ e ∷ []) e.page ≡ Some e) → (b : Bool) → same_page e.page x.page ≡ b → cond (same_page e.page x.page) (Some x) (entry_of (es ++ e ∷ []) e.page) ≡ Some e
+    by ih true h = absurd (let there : Some x ≡ None = sym (cond-true (same_page e.page x.page) (Some x) (entry_of es e.page) h) ∙ none in cc there)
+    by ih false h = cond-false (same_page e.page x.page) (Some x) (entry_of (es ++ e ∷ []) e.page) h ∙ ih (sym (cond-false (same_page e.page x.page) (Some x) (entry_of es e.page) h) ∙ none)
 
 last_apart : (e : Entry) (q : PageId) (es : List Entry) → q ≢ e.page → entry_of (es ++ e ∷ []) q ≡ entry_of es q
 last_apart e q [] ne = cond-false (same_page q e.page) (Some e) None (page_apart q e.page ne)
@@ -71,11 +72,11 @@ map_entry f keeps q (e ∷ es) = by (same_page q e.page) refl (map_entry f keeps
 -- what is found is of the page
 pub found_page : (q : PageId) (es : List Entry) (e : Entry) → entry_of es q ≡ Some e → e.page ≡ q
 found_page q [] e h = absurd (cc h)
-found_page q (x ∷ es) e h = by (same_page q x.page) refl
+found_page q (x ∷ es) e h = by (found_page q es e) (same_page q x.page) refl
   where
-    by : (b : Bool) → same_page q x.page ≡ b → e.page ≡ q
-    by true is = let same : Some x ≡ Some e = sym (cond-true (same_page q x.page) (Some x) (entry_of es q) is) ∙ h in let it : x ≡ e = grind (arith, same) in ap (λ (y : Entry). y.page) (sym it) ∙ sym (page_is q x.page is)
-    by false is = found_page q es e (sym (cond-false (same_page q x.page) (Some x) (entry_of es q) is) ∙ h)
+    by : (entry_of es q ≡ Some e → e.page ≡ q) → (b : Bool) → same_page q x.page ≡ b → e.page ≡ q
+    by ih true is = let same : Some x ≡ Some e = sym (cond-true (same_page q x.page) (Some x) (entry_of es q) is) ∙ h in let it = same_Some x e same in ap (λ (y : Entry). y.page) (sym it) ∙ sym (page_is q x.page is)
+    by ih false is = ih (sym (cond-false (same_page q x.page) (Some x) (entry_of es q) is) ∙ h)
 
 at_page : (id : PageId) (change : Entry → Entry) → ((e : Entry) → (change e).page ≡ e.page) → (e : Entry) → (cond (is_of id e) (change e) e).page ≡ e.page
 at_page id change keeps e = by (is_of id e)
@@ -102,24 +103,25 @@ at_self id change es keeps = map_entry (λ e. cond (is_of id e) (change e) e) (a
 abbrev Apart : List Entry → Type 0
 Apart es = IsDistinct are_of_one_page es
 
+-- an entry behind another one is of another page
+away_from : (x e : Entry) (es : List Entry) → AllByRecursion (λ y. are_of_one_page x y ≡ false) es → entry_of es e.page ≡ Some e → same_page e.page x.page ≡ false
+away_from x e [] all there = absurd (cc there)
+away_from x e (y ∷ ys) all there = by (away_from x e ys all.1) (same_page e.page y.page) refl
+  where
+    by : (entry_of ys e.page ≡ Some e → same_page e.page x.page ≡ false) → (b : Bool) → same_page e.page y.page ≡ b → same_page e.page x.page ≡ false
+    by ih true is = page_apart e.page x.page (λ f. both_ways (same_page x.page y.page) all.0 (subst (λ p. same_page p y.page ≡ true) f is))
+    by ih false is = ih (sym (cond-false (same_page e.page y.page) (Some y) (entry_of ys e.page) is) ∙ there)
+
 pub idle_found : (es : List Entry) (e : Entry) → Apart es → find is_idle es ≡ Some e → (entry_of es e.page ≡ Some e) × (is_idle e ≡ true)
 unfolding IsDistinct
 idle_found [] e a h = absurd (cc h)
-idle_found (x ∷ es) e a h = by (is_idle x) refl
+idle_found (x ∷ es) e a h = by (idle_found es e a.1) (is_idle x) refl
   where
-    away : (es : List Entry) → AllByRecursion (λ y. are_of_one_page x y ≡ false) es → entry_of es e.page ≡ Some e → same_page e.page x.page ≡ false
-    away [] all there = absurd (cc there)
-    away (y ∷ ys) all there = here (same_page e.page y.page) refl
-      where
-        here : (b : Bool) → same_page e.page y.page ≡ b → same_page e.page x.page ≡ false
-        here true is = page_apart e.page x.page (λ f. both_ways (same_page x.page y.page) all.0 (subst (λ p. same_page p y.page ≡ true) f is))
-        here false is = away ys all.1 (sym (cond-false (same_page e.page y.page) (Some y) (entry_of ys e.page) is) ∙ there)
-
-    by : (b : Bool) → is_idle x ≡ b → (cond (same_page e.page x.page) (Some x) (entry_of es e.page) ≡ Some e) × (is_idle e ≡ true)
-    by true is =
+    by : (find is_idle es ≡ Some e → (entry_of es e.page ≡ Some e) × (is_idle e ≡ true)) → (b : Bool) → is_idle x ≡ b → (cond (same_page e.page x.page) (Some x) (entry_of es e.page) ≡ Some e) × (is_idle e ≡ true)
+    by rest true is =
         let same : Some x ≡ Some e = sym (cond-true (is_idle x) (Some x) (find is_idle es) is) ∙ h in
-        let it : x ≡ e = grind (arith, same) in
+        let it = same_Some x e same in
         (cond-true (same_page e.page x.page) (Some x) (entry_of es e.page) (subst (λ (y : Entry). same_page y.page x.page ≡ true) it (page_self x.page)) ∙ same, subst (λ y. is_idle y ≡ true) it is)
-    by false is =
-        let ih = idle_found es e a.1 (sym (cond-false (is_idle x) (Some x) (find is_idle es) is) ∙ h) in
-        (cond-false (same_page e.page x.page) (Some x) (entry_of es e.page) (away es a.0 ih.0) ∙ ih.0, ih.1)
+    by rest false is =
+        let ih = rest (sym (cond-false (is_idle x) (Some x) (find is_idle es) is) ∙ h) in
+        (cond-false (same_page e.page x.page) (Some x) (entry_of es e.page) (away_from x e es a.0 ih.0) ∙ ih.0, ih.1)

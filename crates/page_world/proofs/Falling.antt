@@ -68,7 +68,7 @@ left_lock m o = if (unwrap_or o (m + 1)) == m then None else o
 none_left : (m : ℕ) → left_lock m None ≡ None
 none_left m = by ((m + 1) == m)
   where
-    by : (b : Bool) → (if b then None else None) ≡ (let o : Option ℕ = None in o)
+    by : (b : Bool) → ◌≡◌ {A = Option ℕ} (if b then None else None) None
     by true = refl
     by false = refl
 
@@ -91,7 +91,7 @@ lock_was : (m k : ℕ) (o : Option ℕ) → left_lock m o ≡ Some k → o ≡ S
 lock_was m k o = by ((unwrap_or o (m + 1)) == m)
   where
     by : (b : Bool) → (if b then None else o) ≡ Some k → o ≡ Some k
-    by true e = absurd (let both : None ≡ Some k = e in cc both)
+    by true e = absurd (let both : ◌≡◌ {A = Option ℕ} None (Some k) = e in cc both)
     by false e = e
 
 no_copy_bit : (x : Bool) → bit_in no_copy x ≡ false

@@ -10,3 +10,4 @@ pub mod Casting
 pub mod Losing
 pub mod Owning
 pub mod Falling
+pub mod Drawing

@@ -57,7 +57,7 @@ lost_page g p content n t = record {
   part = t.part;
 }
   where
-    none_held : (m : ℕ) → None ≡ Some m → ⊥
+    none_held : (m : ℕ) → ◌≡◌ {A = Option ℕ} None (Some m) → ⊥
     none_held m e = cc e
 
 -- a page that was lost
@@ -86,7 +86,7 @@ lost_again g h p content n lost co t = record {
 }
   where
     none_held : (m : ℕ) → p.castout ≡ Some m → ⊥
-    none_held m e = let both : None ≡ Some m = sym (co.lost_castout lost) ∙ e in cc both
+    none_held m e = let both : ◌≡◌ {A = Option ℕ} None (Some m) = sym (co.lost_castout lost) ∙ e in cc both
 
 pub loses : LosesMoves
 loses w g content answer v good t r =

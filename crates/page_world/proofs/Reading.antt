@@ -180,7 +180,7 @@ read_behind : (w : World) (g : Holdings) (content : ℕ → ℕ → List ℕ) (m
 read_behind w g content m index id v c made t live at lost is en left placed noted same frame =
     let n = page_number id in
     let to = record g { copies = put2 g.copies m n c; facility = record g.facility { directory = registers made m id index } } in
-    let e : v ≡ record g.facility { directory = registers made m id index } = left ∙ ap (λ d. record g.facility { directory = d }) (after_is g.facility.directory m id index made lost is) in
+    let e : v ≡ record g.facility { directory = registers made m id index } = left ∙ ap (λ (x : Directory). record g.facility { directory = x }) (after_is g.facility.directory m id index made lost is) in
     subst (λ (x : Held). Moved w (entry_moves g.facility.directory id ++ At n (Read m false) ∷ []) (record g { copies = put2 g.copies m n c; facility = x }) content) (sym e)
     (moved_on w en.world to content (entry_moves g.facility.directory id) (At n (Read m false) ∷ []) en.run
     (reads en.world (with_directory g made) content m index id c en.tied (ap (λ (x : Group). x.lost) en.group ∙ t.lost ∙ lost) (λ f. not_failed w g content m t live (sym (ap (λ (x : Group). x.status m) en.group) ∙ f))

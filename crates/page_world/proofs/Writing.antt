@@ -210,7 +210,7 @@ writes w g content m index id page v good t sound live at marked own stable r =
     let last = co.marked_last m is_marked in
     let own_bytes = tp.same m full in
     let to = record g { copies = put2 g.copies m n c; facility = record g.facility { directory = registers (written_by made m id page) m id index } } in
-    let e : v ≡ record g.facility { directory = registers (written_by made m id page) m id index } = r.1 ∙ ap (λ d. record g.facility { directory = d }) (after_is d m id index page made parts.there parts.is) in
+    let e : v ≡ record g.facility { directory = registers (written_by made m id page) m id index } = r.1 ∙ ap (λ (x : Directory). record g.facility { directory = x }) (after_is d m id index page made parts.there parts.is) in
     subst (λ (x : Held). Moved w (entry_moves d id ++ At n (Write m) ∷ []) (record g { copies = put2 g.copies m n c; facility = x }) content) (sym e)
     (moved_on w en.world to content (entry_moves d id) (At n (Write m) ∷ []) en.run
     (writes_there en.world (with_directory g made) content m index id page en.entry c en.tied (ap (λ (x : Group). x.lost) en.group ∙ t.lost ∙ parts.there) (λ f. not_failed w g content m t live (sym (ap (λ (x : Group). x.status m) en.group) ∙ f))

@@ -7,3 +7,4 @@ pub mod Castouts
 pub mod Losses
 pub mod Owners
 pub mod Failing
+pub mod Draws

@@ -7,6 +7,7 @@
 ghost use Rattle.page_world.specs.Numbers.{AreNumbered};
 ghost use Rattle.page_world.specs.Cache.{FindsMoves, RegistersMoves, WritesMoves};
 ghost use Rattle.page_world.specs.Castouts.{BeginsMoves, CastsMoves, EndsMoves};
+ghost use Rattle.page_world.specs.Draws.{DrawsMoves, UndoesMoves};
 ghost use Rattle.page_world.specs.Failing.{FailsMoves, RestartsMoves, OpensMoves};
 ghost use Rattle.page_world.specs.Losses.{StaysTied, LosesMoves, ReadsLogMoves, RebuildsMoves, RebuiltMoves};
 ghost use Rattle.page_world.specs.Owners.{LocksMoves, UnlocksMoves, PurgesMoves, ForcesMoves};
@@ -80,3 +81,10 @@ pub fn failures_are_moves()
 {
     logs_have_prefixes();
 }
+
+/// A number that a member draws for a record is one move, behind which each page that the record changes has one version more,
+/// in the frame of that member.
+pub fn draws_are_moves()
+    ensures draws { DrawsMoves }
+    ensures undoes { UndoesMoves }
+{}
