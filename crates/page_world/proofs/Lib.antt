@@ -11,3 +11,4 @@ pub mod Losing
 pub mod Owning
 pub mod Falling
 pub mod Drawing
+pub mod Grounding

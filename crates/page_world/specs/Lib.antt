@@ -8,3 +8,4 @@ pub mod Losses
 pub mod Owners
 pub mod Failing
 pub mod Draws
+pub mod Groups

@@ -9,6 +9,7 @@ ghost use Rattle.page_world.specs.Cache.{FindsMoves, RegistersMoves, WritesMoves
 ghost use Rattle.page_world.specs.Castouts.{BeginsMoves, CastsMoves, EndsMoves};
 ghost use Rattle.page_world.specs.Draws.{DrawsMoves, UndoesMoves};
 ghost use Rattle.page_world.specs.Failing.{FailsMoves, RestartsMoves, OpensMoves};
+ghost use Rattle.page_world.specs.Groups.{FallsMoves, FallsAgain, ForwardsMoves, AppendsMoves, RisesMoves, StartsTied};
 ghost use Rattle.page_world.specs.Losses.{StaysTied, LosesMoves, ReadsLogMoves, RebuildsMoves, RebuiltMoves};
 ghost use Rattle.page_world.specs.Owners.{LocksMoves, UnlocksMoves, PurgesMoves, ForcesMoves};
 ghost use Rattle.page_world.specs.Frames.{PlacesStays, FillsMoves, LeavesMoves, UnregistersMoves, TestsTell};
@@ -87,4 +88,21 @@ pub fn failures_are_moves()
 pub fn draws_are_moves()
     ensures draws { DrawsMoves }
     ensures undoes { UndoesMoves }
+{}
+
+/// The failure of the whole group, also inside its restart, is one move, which cuts of each page what no log had on disk; and so
+/// are a page that the restart brings forward, and a record that it appends.
+pub fn group_failures_are_moves()
+    ensures falls { FallsMoves }
+    ensures falls_again { FallsAgain }
+    ensures forwards { ForwardsMoves }
+    ensures appends { AppendsMoves }
+{
+    logs_have_prefixes();
+}
+
+/// A group that begins behind its restart is one move further, and one over empty disks stands beside the start of the world.
+pub fn groups_begin()
+    ensures rises { RisesMoves }
+    ensures starts { StartsTied }
 {}
