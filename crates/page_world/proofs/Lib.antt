@@ -12,3 +12,5 @@ pub mod Owning
 pub mod Falling
 pub mod Drawing
 pub mod Grounding
+pub mod Refusing
+pub mod Newest

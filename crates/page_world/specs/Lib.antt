@@ -9,3 +9,5 @@ pub mod Owners
 pub mod Failing
 pub mod Draws
 pub mod Groups
+pub mod Newest
+pub mod Refusals
