@@ -217,7 +217,7 @@ tests_tell w g content m n index answer v t at noted r =
     let c = g.copies m n in
     let x = g.facility.directory.registered m c.index in
     let same : is_some (g.facility.directory.registered m index) ≡ (w.pages n).bit m =
-      ap (λ i. is_some (g.facility.directory.registered m i)) (sym at.at) ∙ set_bound (page_at n) x (tp.own m at.placed noted) ∙ sym (only_bound c.placed c.noted (is_page (page_at n) x) at.placed noted) ∙ tp.bit m in
+    ap (λ i. is_some (g.facility.directory.registered m i)) (sym at.at) ∙ set_bound (page_at n) x (tp.own m at.placed noted) ∙ sym (only_bound c.placed c.noted (is_page (page_at n) x) at.placed noted) ∙ tp.bit m in
     (r.0 ∙ ap (λ b. if b then reply.Valid else reply.Invalid) same, r.1)
 
 -- ---- redone
@@ -234,7 +234,7 @@ redoes w g content m n index t least among up own at noted filled valid =
     let after = with_copy g m n c in
     let set : is_some (g.facility.directory.registered m (g.copies m n).index) ≡ true = ap (λ i. is_some (g.facility.directory.registered m i)) at.at ∙ valid in
     let held : p.bit m ≡ true =
-      sym (tp.bit m) ∙ all_set (g.copies m n).placed (g.copies m n).noted (is_page (page_at n) (g.facility.directory.registered m (g.copies m n).index)) at.placed noted (tp.own m at.placed noted set) in
+    sym (tp.bit m) ∙ all_set (g.copies m n).placed (g.copies m n).noted (is_page (page_at n) (g.facility.directory.registered m (g.copies m n).index)) at.placed noted (tp.own m at.placed noted set) in
     one_moved w g after content n (Redo m) (redo p m) t
     (record { lost = refl; counter = refl; members = refl; statuses = refl; stable = λ m. refl; written = λ m. refl; apart = apart_put g m n c t.apart refl refl })
     (tp.owner ∙ own, t.status m least among ∙ ap as_status up, sym (tp.filled m) ∙ filled, held, refl)

@@ -1,9 +1,9 @@
 -- The failure of the whole group, its restart over the disk alone, and its begin, as moves.
-use Rattle.std.specs.Prelude.{◌≡◌, ℕ, ◌+◌, ◌<◌, ◌≤◌, true, false, List, [], ◌∷◌, None}
+use Rattle.std.specs.Prelude.{◌≡◌, ℕ, ◌+◌, ◌<◌, ◌≤◌, ◌==◌, ◌&&◌, if◌then◌else◌, true, false, List, [], ◌∷◌, None}
 use Rattle.cache_structure.specs.Directory.{empty_directory}
 use Rattle.list_structure.specs.States.{IsNew}
 use Rattle.page_protocol.specs.Page.{put}
-use Rattle.page_protocol.specs.Moves.{World, Move, Run, start, GroupFail, Forward, Append, Rise}
+use Rattle.page_protocol.specs.Moves.{World, Move, Run, start, GroupFail, Forward, Compensate, Append, Rise}
 use Rattle.page_protocol.specs.Always.{Good}
 use Rattle.page_world.specs.Numbers.{set_of}
 use Rattle.page_world.specs.Holdings.{no_copy, no_cast, Holdings}
@@ -52,6 +52,14 @@ ForwardsMoves = (w : World) (r : Remains) (content : ℕ → ℕ → List ℕ) (
 abbrev pub AppendsMoves : Type 0
 AppendsMoves = (w : World) (r : Remains) (content : ℕ → ℕ → List ℕ) (m : ℕ) → DownTied w r content
     → DownMoved w (Append m ∷ []) (record r { stable = put r.stable m (r.stable m + 1); counter = r.counter + 1 }) content
+
+-- and it appends a compensation, behind which the page has one version more
+abbrev pub content_with : (ℕ → ℕ → List ℕ) → ℕ → ℕ → List ℕ → ℕ → ℕ → List ℕ
+content_with content n version bytes k v = if (k == n) && (v == version) then bytes else content k v
+
+abbrev pub CompensatesMoves : Type 0
+CompensatesMoves = (w : World) (r : Remains) (content : ℕ → ℕ → List ℕ) (n m : ℕ) (bytes : List ℕ) → Good w → DownTied w r content
+    → DownMoved w (Compensate n m ∷ []) (record r { stable = put r.stable m (r.stable m + 1); counter = r.counter + 1 }) (content_with content n ((w.pages n).last + 1) bytes)
 
 -- a group as it is made: nobody has a copy, a castout or a page lock
 pub record IsMade (g : Holdings) : Type 0 where

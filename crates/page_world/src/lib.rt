@@ -9,7 +9,7 @@ ghost use Rattle.page_world.specs.Cache.{FindsMoves, RegistersMoves, WritesMoves
 ghost use Rattle.page_world.specs.Castouts.{BeginsMoves, CastsMoves, EndsMoves};
 ghost use Rattle.page_world.specs.Draws.{DrawsMoves, UndoesMoves};
 ghost use Rattle.page_world.specs.Failing.{FailsMoves, RestartsMoves, OpensMoves};
-ghost use Rattle.page_world.specs.Groups.{FallsMoves, FallsAgain, ForwardsMoves, AppendsMoves, RisesMoves, StartsTied};
+ghost use Rattle.page_world.specs.Groups.{FallsMoves, FallsAgain, ForwardsMoves, AppendsMoves, CompensatesMoves, RisesMoves, StartsTied};
 ghost use Rattle.page_world.specs.Losses.{StaysTied, LosesMoves, ReadsLogMoves, RebuildsMoves, RebuiltMoves};
 ghost use Rattle.page_world.specs.Newest.{ValidIsNewest, CleanIsOnDisk};
 ghost use Rattle.page_world.specs.Owners.{LocksMoves, UnlocksMoves, PurgesMoves, ForcesMoves};
@@ -100,6 +100,7 @@ pub fn group_failures_are_moves()
     ensures falls_again { FallsAgain }
     ensures forwards { ForwardsMoves }
     ensures appends { AppendsMoves }
+    ensures compensates { CompensatesMoves }
 {
     logs_have_prefixes();
 }
