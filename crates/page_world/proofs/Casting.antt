@@ -140,11 +140,11 @@ begins w g content m n page bytes v t r =
     let version = content_of_some p.bytes (tp.there changed) in
     let taken = taken_is d m id parts in
     let read : bytes ≡ content n version.0 =
-      r.2 ∙ cond-true (is_taken d m id) (read_into d id page) page taken ∙ cond-false d.lost page (unwrap_or (bytes_of d id) page) parts.there
-      ∙ ap (λ o. unwrap_or o page) (tp.bytes ∙ ap (content_of (content n)) version.1) in
+    r.2 ∙ cond-true (is_taken d m id) (read_into d id page) page taken ∙ cond-false d.lost page (unwrap_or (bytes_of d id) page) parts.there
+    ∙ ap (λ o. unwrap_or o page) (tp.bytes ∙ ap (content_of (content n)) version.1) in
     let after = record g { casts = put2 g.casts m n (taken_cast bytes); facility = record g.facility { directory = record d { entries = at_entry id (locked_by m) d.entries } } } in
     let left : after_castout_read d m id ≡ record d { entries = at_entry id (locked_by m) d.entries } =
-      cond-false d.lost d (if is_taken d m id then record d { entries = at_entry id (locked_by m) d.entries } else d) parts.there ∙ cond-true (is_taken d m id) (record d { entries = at_entry id (locked_by m) d.entries }) d taken in
+    cond-false d.lost d (if is_taken d m id then record d { entries = at_entry id (locked_by m) d.entries } else d) parts.there ∙ cond-true (is_taken d m id) (record d { entries = at_entry id (locked_by m) d.entries }) d taken in
     let e : v ≡ after.facility = r.1 ∙ ap (λ (x : Directory). record g.facility { directory = x }) left in
     let free : (p.castout ≡ None) ⊎ (p.castout ≡ Some m) = free_there p.castout parts.entry.castout (sym tp.castout ∙ ap (λ o. option_map_or (λ (y : Entry). y.castout) o None) before) parts.free in
     subst (λ z. Moved w (At n (CastoutRead m z) ∷ []) (record g { casts = put2 g.casts m n (taken_cast bytes); facility = v }) content) (sym (ap (λ o. unwrap_or o 0) version.1))
@@ -280,7 +280,7 @@ ends w g content m n v good t taken sent r =
     let lists = ring g.facility.lists in
     let after = record g { casts = put2 g.casts m n no_cast; facility = record g.facility { directory = record d { entries = at_entry id cast_out d.entries }; lists = lists } } in
     let left : after_castout_done d m id ≡ record d { entries = at_entry id cast_out d.entries } =
-      cond-false d.lost d (if holds_castout d m id then record d { entries = at_entry id cast_out d.entries } else d) parts.there ∙ cond-true (holds_castout d m id) (record d { entries = at_entry id cast_out d.entries }) d parts.holds in
+    cond-false d.lost d (if holds_castout d m id then record d { entries = at_entry id cast_out d.entries } else d) parts.there ∙ cond-true (holds_castout d m id) (record d { entries = at_entry id cast_out d.entries }) d parts.holds in
     let rung : lists_after_done (done_reply d m id) g.facility.lists ≡ lists = ap (λ x. lists_after_done x g.facility.lists) (structure_done d.lost (holds_castout d m id) r.0) in
     let e : v ≡ after.facility = r.1 ∙ (λ i. record g.facility { directory = left i; lists = rung i }) in
     let lock : p.castout ≡ Some m = sym tp.castout ∙ ap (λ o. option_map_or (λ (y : Entry). y.castout) o None) before ∙ parts.lock in

@@ -239,8 +239,8 @@ can_change w g content m n frames good t live none s =
     let owns : p.owner ≡ Some m = tp.owner ∙ s.own in
     let full : (p.frame m).filled ≡ true = sym (tp.filled m) ∙ s.filled in
     let set : p.bit m ≡ true =
-      bit_set (g.copies m n) p m (is_page (page_at n) (g.facility.directory.registered m (g.copies m n).index)) (bit g.facility.directory m (g.copies m n).index) s.placed s.noted (tp.own m)
-      (none_stale (bit g.facility.directory m) frames (g.copies m n).index none s.tested) (tp.bit m) in
+    bit_set (g.copies m n) p m (is_page (page_at n) (g.facility.directory.registered m (g.copies m n).index)) (bit g.facility.directory m (g.copies m n).index) s.placed s.noted (tp.own m)
+    (none_stale (bit g.facility.directory m) frames (g.copies m n).index none s.tested) (tp.bit m) in
     let new = newest s.newest in
     record {
       may = record { own = owns; live = not_failed w g content m t live; newest = new; filled = full; usable = inl set };

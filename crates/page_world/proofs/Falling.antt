@@ -199,20 +199,23 @@ without_apart g m v a k i j = by (k == m)
     by false x y e = a k i j x y e
 
 pub fails : FailureIsPossible → FailsMoves
-fails possible w g content m v good t least r = (cut, record {
-  world = world;
-  run = (world, (t.running, (λ n. (possible w m good t.running n).1), refl), refl);
-  tied = record {
-    running = refl;
-    lost = t.lost ∙ sym (ap (λ (d : Directory). d.lost) r.directory);
-    counter = t.counter ∙ sym r.counter;
-    status = λ k a b. subst (λ (x : ListsState). put w.group.status m Failed k ≡ as_status (status_of x.statuses k)) (sym r.lists.others) (status k a (subst (λ (x : ListsState). k ≤ x.members) r.lists.others b));
-    stable = t.stable;
-    written = λ k. elim (k == m) as (λ b. (if b then w.group.stable m else w.group.written k) ≡ (if b then g.stable m else g.written k)) [ true ↦ t.stable m | false ↦ t.written k ];
-    apart = without_apart g m v t.apart;
-    pages = λ n. failed_tied (held_of g n) (held_of (with_facility (without g m) v) n) (w.pages n) (content n) m (cut n) (t.pages n) (without_page g m n v r.directory);
-  };
-})
+fails possible w g content m v good t least r = (
+  cut,
+  record {
+    world = world;
+    run = (world, (t.running, (λ n. (possible w m good t.running n).1), refl), refl);
+    tied = record {
+      running = refl;
+      lost = t.lost ∙ sym (ap (λ (d : Directory). d.lost) r.directory);
+      counter = t.counter ∙ sym r.counter;
+      status = λ k a b. subst (λ (x : ListsState). put w.group.status m Failed k ≡ as_status (status_of x.statuses k)) (sym r.lists.others) (status k a (subst (λ (x : ListsState). k ≤ x.members) r.lists.others b));
+      stable = t.stable;
+      written = λ k. elim (k == m) as (λ b. (if b then w.group.stable m else w.group.written k) ≡ (if b then g.stable m else g.written k)) [ true ↦ t.stable m | false ↦ t.written k ];
+      apart = without_apart g m v t.apart;
+      pages = λ n. failed_tied (held_of g n) (held_of (with_facility (without g m) v) n) (w.pages n) (content n) m (cut n) (t.pages n) (without_page g m n v r.directory);
+    };
+  },
+)
   where
     cut : ℕ → ℕ
     cut n = (possible w m good t.running n).0

@@ -11,3 +11,6 @@ pub mod Losing
 pub mod Owning
 pub mod Falling
 pub mod Drawing
+pub mod Grounding
+pub mod Refusing
+pub mod Newest

@@ -7,13 +7,13 @@ use Rattle.cache_structure.specs.Frames.{Registered, is_page, with_frame}
 use Rattle.facility.specs.declared.command.Reply.{Reply}
 use Rattle.facility.specs.declared.command.Reply.TheVariants as reply
 use Rattle.facility.specs.States.{Held}
-use Rattle.page_protocol.specs.Page.{Page, Group, Frame, put, unfilled, read_disk, drop_frame}
-use Rattle.page_protocol.specs.Moves.{World, At, ReadDisk, DropFrame, MayFill}
+use Rattle.page_protocol.specs.Page.{Page, Group, Frame, put, unfilled, read_disk, drop_frame, redo}
+use Rattle.page_protocol.specs.Moves.{World, At, ReadDisk, DropFrame, Redo, MayFill}
 use Rattle.page_world.specs.Numbers.{page_at}
-use Rattle.page_world.specs.Holdings.{Copy, no_copy, Holdings, PageHeld, held_of, put2, with_copy}
+use Rattle.page_world.specs.Holdings.{Copy, no_copy, Holdings, PageHeld, held_of, put2, with_copy, as_status}
 use Rattle.page_world.specs.Tied.{PageTied, bit_in, AreApart, Tied, Moved}
 use Rattle.page_world.specs.Cache.{IsLive, HasFrame}
-use Rattle.page_world.specs.Frames.{placed_copy, PlacesStays, filled_copy, FillsMoves, LeavesMoves, UnregistersMoves, TestsTell}
+use Rattle.page_world.specs.Frames.{placed_copy, PlacesStays, filled_copy, FillsMoves, redone_copy, RedoesMoves, LeavesMoves, UnregistersMoves, TestsTell}
 use Rattle.page_world.proofs.Slices.{Alike, alike_tied, alike_on, one_moved, none_moved, put2_here, put2_other, put2_by}
 use Rattle.page_world.proofs.Copies.{by_member, put_here, put_there, FrameTied, apart_put, apart_gone, frame_apart, frame_other}
 use Rattle.page_world.proofs.Reading.{not_failed}
@@ -217,5 +217,28 @@ tests_tell w g content m n index answer v t at noted r =
     let c = g.copies m n in
     let x = g.facility.directory.registered m c.index in
     let same : is_some (g.facility.directory.registered m index) ≡ (w.pages n).bit m =
-      ap (λ i. is_some (g.facility.directory.registered m i)) (sym at.at) ∙ set_bound (page_at n) x (tp.own m at.placed noted) ∙ sym (only_bound c.placed c.noted (is_page (page_at n) x) at.placed noted) ∙ tp.bit m in
+    ap (λ i. is_some (g.facility.directory.registered m i)) (sym at.at) ∙ set_bound (page_at n) x (tp.own m at.placed noted) ∙ sym (only_bound c.placed c.noted (is_page (page_at n) x) at.placed noted) ∙ tp.bit m in
     (r.0 ∙ ap (λ b. if b then reply.Valid else reply.Invalid) same, r.1)
+
+-- ---- redone
+all_set : (x y z : Bool) → x ≡ true → y ≡ true → z ≡ true → (x && (y && z)) ≡ true
+all_set true true z a b c = c
+all_set true false z a b c = b
+all_set false y z a b c = a
+
+pub redoes : RedoesMoves
+redoes w g content m n index t least among up own at noted filled valid =
+    let p = w.pages n in
+    let tp = t.pages n in
+    let c = redone_copy (g.copies m n) (content n p.last) in
+    let after = with_copy g m n c in
+    let set : is_some (g.facility.directory.registered m (g.copies m n).index) ≡ true = ap (λ i. is_some (g.facility.directory.registered m i)) at.at ∙ valid in
+    let held : p.bit m ≡ true =
+    sym (tp.bit m) ∙ all_set (g.copies m n).placed (g.copies m n).noted (is_page (page_at n) (g.facility.directory.registered m (g.copies m n).index)) at.placed noted (tp.own m at.placed noted set) in
+    one_moved w g after content n (Redo m) (redo p m) t
+    (record { lost = refl; counter = refl; members = refl; statuses = refl; stable = λ m. refl; written = λ m. refl; apart = apart_put g m n c t.apart refl refl })
+    (tp.owner ∙ own, t.status m least among ∙ ap as_status up, sym (tp.filled m) ∙ filled, held, refl)
+    (alike_tied (let h = held_of g n in record h { copies = put h.copies m c }) (held_of after n) (redo p m) (content n) (copy_here g m n c (λ x y. refl))
+    (frame_same (held_of g n) p (content n) m c (record { filled = true; marked = true; direct = false; version = p.last }) tp
+    (record { filled = refl; marked = refl; same = λ x. refl; indirect = refl }) (tp.bit m) (tp.own m)))
+    (λ j ne. copy_beside g m n j c ne)

@@ -1,10 +1,13 @@
 -- What members do to their frames, as moves, and what a test of one tells.
-use Rattle.std.specs.Prelude.{◌≡◌, ◌≢◌, ℕ, Bool, true, false, if◌then◌else◌, List, [], ◌∷◌}
+use Rattle.std.specs.Prelude.{◌≡◌, ◌≢◌, ℕ, ◌≤◌, Bool, true, false, if◌then◌else◌, List, [], ◌∷◌, Some}
+use Rattle.list_structure.specs.declared.standing.MemberStatus.TheVariants as standing
+use Rattle.list_structure.specs.Standings.{status_of}
+use Rattle.cache_structure.specs.Directory.{bit}
 use Rattle.facility.specs.declared.command.Reply.{Reply}
 use Rattle.facility.specs.declared.command.Reply.TheVariants as reply
 use Rattle.facility.specs.States.{Held}
 use Rattle.facility.specs.CacheCommands.{UnregistersFrame, TestsFrame}
-use Rattle.page_protocol.specs.Moves.{World, At, DropFrame, ReadDisk}
+use Rattle.page_protocol.specs.Moves.{World, At, DropFrame, ReadDisk, Redo}
 use Rattle.page_world.specs.Holdings.{Copy, no_copy, Holdings, with_copy, with_facility}
 use Rattle.page_world.specs.Tied.{Tied, Moved}
 use Rattle.page_world.specs.Cache.{IsLive, HasFrame}
@@ -26,6 +29,16 @@ abbrev pub FillsMoves : Type 0
 FillsMoves = (w : World) (g : Holdings) (content : ℕ → ℕ → List ℕ) (m n : ℕ)
     → Tied w g content → IsLive g m → (g.copies m n).filled ≡ false
     → Moved w (At n (ReadDisk m) ∷ []) (with_copy g m n (filled_copy (g.copies m n) (g.disk n))) content
+
+-- a member that restarts brings a valid copy of a page that it has retained to the last version, by its own log
+abbrev pub redone_copy : Copy → List ℕ → Copy
+redone_copy c bytes = record c { filled = true; marked = true; bytes = bytes }
+
+abbrev pub RedoesMoves : Type 0
+RedoesMoves = (w : World) (g : Holdings) (content : ℕ → ℕ → List ℕ) (m n index : ℕ)
+    → Tied w g content → 1 ≤ m → m ≤ g.facility.lists.members → status_of g.facility.lists.statuses m ≡ standing.Restarting → g.owner n ≡ Some m → HasFrame g m n index
+    → (g.copies m n).noted ≡ true → (g.copies m n).filled ≡ true → bit g.facility.directory m index ≡ true
+    → Moved w (At n (Redo m) ∷ []) (with_copy g m n (redone_copy (g.copies m n) (content n (w.pages n).last))) content
 
 -- a page leaves its frame, which may stay registered for it
 abbrev pub LeavesMoves : Type 0

@@ -8,3 +8,6 @@ pub mod Losses
 pub mod Owners
 pub mod Failing
 pub mod Draws
+pub mod Groups
+pub mod Newest
+pub mod Refusals

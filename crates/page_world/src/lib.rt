@@ -9,9 +9,12 @@ ghost use Rattle.page_world.specs.Cache.{FindsMoves, RegistersMoves, WritesMoves
 ghost use Rattle.page_world.specs.Castouts.{BeginsMoves, CastsMoves, EndsMoves};
 ghost use Rattle.page_world.specs.Draws.{DrawsMoves, UndoesMoves};
 ghost use Rattle.page_world.specs.Failing.{FailsMoves, RestartsMoves, OpensMoves};
+ghost use Rattle.page_world.specs.Groups.{FallsMoves, FallsAgain, ForwardsMoves, AppendsMoves, CompensatesMoves, RisesMoves, StartsTied};
 ghost use Rattle.page_world.specs.Losses.{StaysTied, LosesMoves, ReadsLogMoves, RebuildsMoves, RebuiltMoves};
+ghost use Rattle.page_world.specs.Newest.{ValidIsNewest, CleanIsOnDisk};
 ghost use Rattle.page_world.specs.Owners.{LocksMoves, UnlocksMoves, PurgesMoves, ForcesMoves};
-ghost use Rattle.page_world.specs.Frames.{PlacesStays, FillsMoves, LeavesMoves, UnregistersMoves, TestsTell};
+ghost use Rattle.page_world.specs.Frames.{PlacesStays, FillsMoves, RedoesMoves, LeavesMoves, UnregistersMoves, TestsTell};
+ghost use Rattle.page_world.specs.Refusals.{ReadRefused, WriteRefused};
 
 use page_protocol::logs_have_prefixes;
 
@@ -32,11 +35,12 @@ pub fn writes_are_moves()
     ensures { WritesMoves }
 {}
 
-/// A page that is placed in a free frame is no move; one that fills its frame from disk, and one that leaves its frame, with
-/// or without the registration, are one move each.
+/// A page that is placed in a free frame is no move; one that fills its frame from disk, one that a restart brings to its last
+/// version, and one that leaves its frame, with or without the registration, are one move each.
 pub fn frames_are_moves()
     ensures places { PlacesStays }
     ensures fills { FillsMoves }
+    ensures redoes { RedoesMoves }
     ensures leaves { LeavesMoves }
     ensures unregisters { UnregistersMoves }
 {}
@@ -87,4 +91,35 @@ pub fn failures_are_moves()
 pub fn draws_are_moves()
     ensures draws { DrawsMoves }
     ensures undoes { UndoesMoves }
+{}
+
+/// The failure of the whole group, also inside its restart, is one move, which cuts of each page what no log had on disk; and so
+/// are a page that the restart brings forward, and a record that it appends.
+pub fn group_failures_are_moves()
+    ensures falls { FallsMoves }
+    ensures falls_again { FallsAgain }
+    ensures forwards { ForwardsMoves }
+    ensures appends { AppendsMoves }
+    ensures compensates { CompensatesMoves }
+{
+    logs_have_prefixes();
+}
+
+/// A group that begins behind its restart is one move further, and one over empty disks stands beside the start of the world.
+pub fn groups_begin()
+    ensures rises { RisesMoves }
+    ensures starts { StartsTied }
+{}
+
+/// A read and a write that are refused, since the cache structure is full or lost, leave the facility as it was.
+pub fn refusals_stay()
+    ensures read { ReadRefused }
+    ensures write { WriteRefused }
+{}
+
+/// A copy that isn't changed, in a frame that a test finds valid, has the bytes of the group's copy; and what isn't changed in
+/// the cache structure is on disk.
+pub fn copies_are_newest()
+    ensures valid { ValidIsNewest }
+    ensures clean { CleanIsOnDisk }
 {}
