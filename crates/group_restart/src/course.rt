@@ -379,18 +379,19 @@ impl GroupRestart {
         ensures exact { IfOk result (λ s. take_done self.old self.old.stage ≡ (self.new, s)) }
         ensures goes_on { IsGoingOn result }
     {
-        match self.stage {
+        let stage = self.stage;
+        match &stage {
             Stage::ReadLog => Ok(State::Going),
             Stage::CutTail(_) => self.next_tail(alloc),
-            Stage::RedoRead(page) => self.take_page(alloc, page),
+            Stage::RedoRead(page) => self.take_page(alloc, *page),
             Stage::RedoWrite(_) => self.next_redo(alloc),
-            Stage::CloseAppend(member) => self.take_closed(alloc, member),
+            Stage::CloseAppend(member) => self.take_closed(alloc, *member),
             Stage::UndoRead(_) => self.take_undone(alloc),
-            Stage::UndoAppend { member, page } => self.take_compensated(member, page),
+            Stage::UndoAppend { member, page } => self.take_compensated(*member, *page),
             Stage::UndoWrite(_) => self.next_undo(alloc),
-            Stage::RenewRead(page) => self.take_old(alloc, page),
+            Stage::RenewRead(page) => self.take_old(alloc, *page),
             Stage::RenewWrite(_) => self.next_renewal(alloc),
-            Stage::EndAppend(member) => self.take_ended(alloc, member),
+            Stage::EndAppend(member) => self.take_ended(alloc, *member),
             Stage::End => Ok(self.done()),
         }
     }
