@@ -32,7 +32,7 @@ same_number a b is = ap not (eq-eqb a b is)
 
 -- the Checkpoint is appended where it says
 ending_adds : (o d : Logs) (ends : List ℕ) (lrsn member : ℕ) → Stands o d ends → Adds o d ends member (ending lrsn (end_of ends member))
-ending_adds o d ends lrsn member s = record { stands = s; added = (same_number (end_of ends member) (length (log_of d member)) (s.whole (member - 1)).size_is, refl, tt) }
+ending_adds o d ends lrsn member s = record { stands = s; added = (same_number (end_of ends member) (length (log_of d member)) (s.whole (member - 1)).size_is, (refl, tt)) }
 
 ending_good : (o d : Logs) (h : Restart) (next : Option ℕ) → Stands o d h.plan.ends → Good o d (ending_or h next)
 ending_good o d h None s = λ e. absurd cc
