@@ -1,5 +1,6 @@
 -- A crew that is made, and one that was looked at since.
 use Rattle.std.proofs.Common.{◌≡◌, ℕ, zero, suc, ◌+◌, List, [], ◌∷◌, ◌++◌, length, map, Option, None, All, IfSome, refl, sym, ap, subst, ◌∙◌, arith}
+use Rattle.std.proofs.lemmas.List.{length-append}
 use Rattle.ds_base.specs.declared.names.Sizes.{Sizes}
 use Rattle.cache_structure.specs.Directory.{Directory}
 use Rattle.facility.specs.States.{IsMade, held}
@@ -24,6 +25,9 @@ number_next count [] part numbered next zero = next
 number_next count [] part numbered next (suc k) = tt
 number_next count (x ∷ xs) part numbered next zero = numbered 0
 number_next count (x ∷ xs) part numbered next (suc k) = number_next (λ j. count (suc j)) xs part (λ j. numbered (suc j)) next k
+
+pub number_long : {A : Type 0} → (xs : List A) (x : A) (n : ℕ) → n ≡ length xs + 1 → n ≡ length (xs ++ x ∷ [])
+number_long xs x n is = let long = length-append xs (x ∷ []) in omega (arith, is, long)
 
 -- ---- the crew
 

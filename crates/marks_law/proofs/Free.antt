@@ -160,8 +160,8 @@ free_over s slot h = record {
   none = λ k a f. elim (cases_eq k slot) [
     | inl same ↦ subst (λ (z : ℕ). slice_index_or (slice_set s.locks.holders slot []) z [] ≡ []) (sym same) (set_gone s.locks.holders slot)
     | inr other ↦
-      set_none s.locks.holders slot [] k (λ same old. refl)
-      (h.none k a (subst (λ (z : TranState). is_free z.stage ≡ true) (get_or-set_other s.trans.slots slot k free_tran free_tran other) f))
+        set_none s.locks.holders slot [] k (λ same old. refl)
+        (h.none k a (subst (λ (z : TranState). is_free z.stage ≡ true) (get_or-set_other s.trans.slots slot k free_tran free_tran other) f))
   ];
 }
 
