@@ -7,8 +7,6 @@ mod opening;
 mod rows;
 mod survey;
 mod surveyed;
-#[cfg(test)]
-mod tests;
 
 pub use fault::LogsFault;
 pub use log_record::Log;
