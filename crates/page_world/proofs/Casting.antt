@@ -1,6 +1,6 @@
 -- The steps of a castout are moves.
 use Rattle.std.proofs.Common.{◌≡◌, ℕ, refl, sym, ◌∙◌, ap, subst, arith, Bool, true, false, inl, inr, List, [], ◌∷◌, Option, Some, None}
-use Rattle.std.specs.Prelude.{◌≢◌, ◌⊎◌, ◌==◌, ◌&&◌, cond, if◌then◌else◌, is_some, unwrap_or}
+use Rattle.std.specs.Prelude.{◌≢◌, ◌⊎◌, ◌==◌, ◌&&◌, if◌then◌else◌, is_some, unwrap_or}
 use Rattle.std.specs.Option.{option_map, option_map_or}
 use Rattle.std.proofs.lemmas.Bool.{both_ways, cond-true, cond-false, and_parts, eqb-true}
 use Rattle.std.proofs.lemmas.Option.{same_Some}
@@ -10,21 +10,20 @@ use Rattle.cache_structure.specs.declared.face.DoneReply.{DoneReply}
 use Rattle.cache_structure.specs.declared.face.DoneReply.TheVariants as done
 use Rattle.cache_structure.specs.Entries.{Entry, entry_of, at_entry, locked_by, cast_out, is_locked_by}
 use Rattle.cache_structure.specs.Directory.{Directory, bytes_of, may_cast, is_castable, is_taken, holds_castout, after_castout_read, after_castout_done}
-use Rattle.cache_structure.specs.Replies.{cast_reply, cast_reply_at, cast_reply_for, read_into, done_reply}
+use Rattle.cache_structure.specs.Replies.{cast_reply_at, read_into, done_reply}
 use Rattle.list_structure.specs.States.{ListsState}
-use Rattle.facility.specs.declared.command.Reply.{Reply}
 use Rattle.facility.specs.declared.command.Reply.TheVariants as reply
 use Rattle.facility.specs.States.{Held, ring}
 use Rattle.facility.specs.CacheCommands.{reply_to_cast, reply_to_done, lists_after_done}
 use Rattle.page_protocol.specs.Page.{Page, Group, put, castout_read, castout_write, castout_done}
-use Rattle.page_protocol.specs.Moves.{World, At, CastoutRead, CastoutWrite, CastoutDone}
+use Rattle.page_protocol.specs.Moves.{At, CastoutRead, CastoutWrite, CastoutDone}
 use Rattle.page_protocol.specs.Coherent.{Coherent}
 use Rattle.page_world.specs.Numbers.{page_at}
-use Rattle.page_world.specs.Holdings.{Copy, Cast, no_cast, Holdings, PageHeld, held_of, put2, with_cast}
-use Rattle.page_world.specs.Tied.{PageTied, content_of, Tied, Moved}
-use Rattle.page_world.specs.Castouts.{taken_cast, cached, BeginsMoves, sent_cast, CastsMoves, EndsMoves}
+use Rattle.page_world.specs.Holdings.{Cast, no_cast, Holdings, PageHeld, held_of, put2}
+use Rattle.page_world.specs.Tied.{PageTied, content_of, Moved}
+use Rattle.page_world.specs.Castouts.{taken_cast, BeginsMoves, sent_cast, CastsMoves, EndsMoves}
 use Rattle.page_world.proofs.Entries.{at_apart, at_self}
-use Rattle.page_world.proofs.Slices.{Alike, alike_tied, one_moved, put2_here, put2_other, put2_by}
+use Rattle.page_world.proofs.Slices.{Alike, alike_tied, one_moved, put2_here, put2_other}
 use Rattle.page_world.proofs.Entering.{entry_same, numbers_apart}
 use Rattle.page_world.proofs.Copies.{by_member, put_here, put_there}
 use Rattle.page_world.proofs.Reading.{coherent}

@@ -1,16 +1,14 @@
 -- One member's copy of one page is another.
-use Rattle.std.proofs.Common.{◌≡◌, ℕ, refl, sym, ◌∙◌, ap, subst, Bool, true, false, inl, inr, List, [], ◌∷◌, ◌++◌, Option, Some, None}
-use Rattle.std.specs.Prelude.{◌≢◌, ◌==◌, ◌&&◌, cond, if◌then◌else◌, is_some}
-use Rattle.std.proofs.lemmas.Bool.{cond-true, cond-false, cases_eq, cases_Bool, both_ways, and_parts, and_from, eq-eqb, ne_eqb, eqb-true, false_from_ne_true, and_left}
+use Rattle.std.proofs.Common.{◌≡◌, ℕ, refl, sym, ◌∙◌, subst, Bool, true, false, inl, inr, List, [], ◌∷◌, ◌++◌, Option}
+use Rattle.std.specs.Prelude.{◌≢◌, ◌==◌, ◌&&◌, if◌then◌else◌}
+use Rattle.std.proofs.lemmas.Bool.{cond-true, cond-false, cases_eq, both_ways, and_parts, and_from, eq-eqb, ne_eqb, eqb-true, false_from_ne_true}
 use Rattle.ds_base.specs.declared.names.PageId.{PageId}
-use Rattle.ds_base.specs.Pages.{same_page}
-use Rattle.cache_structure.specs.Frames.{Registered, is_page, with_frame}
+use Rattle.cache_structure.specs.Frames.{Registered, with_frame}
 use Rattle.page_protocol.specs.Page.{Page, Frame, put}
 use Rattle.page_protocol.specs.Moves.{World, Move, Run}
-use Rattle.page_world.specs.Numbers.{page_at, set_of}
-use Rattle.page_world.specs.Holdings.{Copy, Holdings, PageHeld, held_of, put2, with_copy}
+use Rattle.page_world.specs.Numbers.{set_of}
+use Rattle.page_world.specs.Holdings.{Copy, Holdings, PageHeld, put2, with_copy}
 use Rattle.page_world.specs.Tied.{PageTied, bit_in, AreApart, Moved}
-use Rattle.page_world.proofs.Entries.{page_self}
 
 -- ---- moves behind moves
 pub run_on : (w mid v : World) (xs ys : List Move) → Run set_of w xs mid → Run set_of mid ys v → Run set_of w (xs ++ ys) v

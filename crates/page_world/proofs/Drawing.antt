@@ -2,18 +2,16 @@
 use Rattle.std.proofs.Common.{◌≡◌, ℕ, ◌+◌, ◌<◌, ◌≤◌, refl, sym, ◌∙◌, ap, subst, arith, Bool, true, false, not, inl, inr, List, [], ◌∷◌, Option, Some, None}
 use Rattle.std.specs.Prelude.{◌≢◌, ◌⊎◌, ◌==◌, ◌&&◌, ◌||◌, cond, if◌then◌else◌, find, nat_lt, is_some, unwrap_or}
 use Rattle.std.specs.List.{list_any}
-use Rattle.std.proofs.lemmas.Bool.{both_ways, cond-true, cond-false, cases_Bool, cases_lt, eq-eqb, ne_eqb, eqb-true, and_left, not-true}
+use Rattle.std.proofs.lemmas.Bool.{both_ways, cond-true, cond-false, cases_lt, eq-eqb, ne_eqb, eqb-true, and_left}
 use Rattle.std.proofs.lemmas.Option.{same_Some}
 use Rattle.list_structure.specs.declared.standing.MemberStatus.TheVariants as standing
 use Rattle.list_structure.specs.Standings.{status_of}
-use Rattle.cache_structure.specs.Directory.{Directory, bit}
-use Rattle.facility.specs.declared.command.Indexes.{Indexes}
-use Rattle.facility.specs.declared.command.Reply.{Reply}
+use Rattle.cache_structure.specs.Directory.{bit}
 use Rattle.facility.specs.declared.command.Reply.TheVariants as reply
 use Rattle.facility.specs.States.{Held}
 use Rattle.facility.specs.Counting.{given, limit, first_stale, draw_reply, drawn_to, counter_after}
 use Rattle.facility.specs.Counting.{drawn as drawn_reply}
-use Rattle.page_protocol.specs.Page.{Page, Group, Frame, Status, Up, Failed, put, copy_before, group_copy, change}
+use Rattle.page_protocol.specs.Page.{Page, Group, Frame, Up, put, copy_before, change}
 use Rattle.page_protocol.specs.Moves.{World, Draw, IsWritten}
 use Rattle.page_protocol.specs.Moves.{MayChange as WorldMayChange, drawn as drawn_group}
 use Rattle.page_protocol.specs.Coherent.{Coherent}

@@ -1,6 +1,6 @@
 -- An entry of the directory that is found, made in a free place, or made by the reclaim of another.
 use Rattle.std.proofs.Common.{◌≡◌, ℕ, refl, sym, ◌∙◌, ap, subst, Bool, true, false, List, [], ◌∷◌, Option, Some, None}
-use Rattle.std.specs.Prelude.{◌≢◌, ◌==◌, ◌||◌, not, find, if◌then◌else◌, is_some, cond}
+use Rattle.std.specs.Prelude.{◌≢◌, ◌==◌, ◌||◌, if◌then◌else◌, is_some, cond}
 use Rattle.std.specs.Option.{option_map, option_map_or}
 use Rattle.std.proofs.lemmas.Bool.{cond-false, both_ways, or_parts, not-true, ne_eqb}
 use Rattle.std.proofs.lemmas.Option.{same_Some}
@@ -13,7 +13,7 @@ use Rattle.cache_structure.specs.Sound.{IsSound}
 use Rattle.page_protocol.specs.Page.{Page, reclaim, put}
 use Rattle.page_protocol.specs.Moves.{World, Move, At, Reclaim, Run}
 use Rattle.page_world.specs.Numbers.{page_number, page_at, set_of}
-use Rattle.page_world.specs.Holdings.{Copy, Cast, Holdings, PageHeld, held_of, with_directory}
+use Rattle.page_world.specs.Holdings.{Copy, Holdings, PageHeld, held_of, with_directory}
 use Rattle.page_world.specs.Tied.{PageTied, bit_in, Tied}
 use Rattle.page_world.specs.Cache.{reclaim_of, entry_moves}
 use Rattle.page_world.proofs.Numbers.{named, numbered}

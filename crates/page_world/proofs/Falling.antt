@@ -1,9 +1,8 @@
 -- A member that fails, restarts and is up again.
 use Rattle.std.proofs.Common.{◌≡◌, ℕ, zero, suc, ◌+◌, ◌≤◌, refl, sym, ◌∙◌, ap, subst, arith, Bool, true, false, inl, inr, List, [], ◌∷◌, map, Option, Some, None}
-use Rattle.std.specs.Prelude.{◌≢◌, ◌⊎◌, ◌-◌, ◌==◌, ◌&&◌, cond, if◌then◌else◌, is_some, unwrap_or, slice_index_or, slice_set}
+use Rattle.std.specs.Prelude.{◌≢◌, ◌⊎◌, ◌-◌, ◌==◌, cond, if◌then◌else◌, is_some, unwrap_or, slice_index_or, slice_set}
 use Rattle.std.specs.Option.{option_map, option_map_or}
 use Rattle.std.proofs.lemmas.Bool.{both_ways, cond-true, cond-false, cases_eq, eq-eqb, ne_eqb}
-use Rattle.ds_base.specs.declared.names.PageId.{PageId}
 use Rattle.list_structure.specs.declared.standing.MemberStatus.{MemberStatus}
 use Rattle.list_structure.specs.declared.standing.MemberStatus.TheVariants as standing
 use Rattle.list_structure.specs.States.{ListsState}
@@ -11,15 +10,15 @@ use Rattle.list_structure.specs.Standings.{status_of}
 use Rattle.cache_structure.specs.Entries.{Entry, entry_of, is_locked_by, freed_of}
 use Rattle.cache_structure.specs.Frames.{is_page, member_dropped}
 use Rattle.cache_structure.specs.Directory.{Directory, after_fail}
-use Rattle.facility.specs.States.{Held, MemberFailed, ListsFailed}
-use Rattle.page_protocol.specs.Page.{Page, Group, Frame, Status, Failed, put, unfilled, fail}
-use Rattle.page_protocol.specs.Moves.{World, Fail, Restart, Open, IsCut, failed, restarting, opened}
+use Rattle.facility.specs.States.{Held}
+use Rattle.page_protocol.specs.Page.{Page, Frame, Failed, put, unfilled, fail}
+use Rattle.page_protocol.specs.Moves.{World, failed, restarting, opened}
 use Rattle.page_protocol.specs.Words.{FailureIsPossible}
 use Rattle.page_world.specs.Numbers.{page_at}
 use Rattle.page_world.specs.Holdings.{Copy, no_copy, Cast, no_cast, Holdings, PageHeld, held_of, StandsAs, with_facility, as_status}
-use Rattle.page_world.specs.Tied.{PageTied, content_of, bit_in, AreApart, Tied, Moved}
+use Rattle.page_world.specs.Tied.{PageTied, bit_in, AreApart, Tied}
 use Rattle.page_world.specs.Failing.{without, FailsMoves, RestartsMoves, OpensMoves}
-use Rattle.page_world.proofs.Slices.{Alike, alike_tied}
+use Rattle.page_world.proofs.Slices.{alike_tied}
 use Rattle.page_world.proofs.Entries.{map_entry}
 use Rattle.page_world.proofs.Losing.{same_directory}
 

@@ -1,20 +1,19 @@
 -- A group that fails as a whole, restarts over its disk, and begins.
-use Rattle.std.proofs.Common.{◌≡◌, ℕ, ◌+◌, ◌<◌, ◌≤◌, refl, sym, ◌∙◌, ap, subst, arith, Bool, true, false, inl, inr, List, [], ◌∷◌, Option, Some, None}
-use Rattle.std.specs.Prelude.{◌≢◌, ◌==◌, ◌&&◌, if◌then◌else◌, nat_le}
-use Rattle.std.proofs.lemmas.Bool.{both_ways, cond-true, cond-false, cases_eq, eq-eqb, ne_eqb, eqb-true, and_parts, false_from_ne_true, le-leb}
+use Rattle.std.proofs.Common.{◌≡◌, ℕ, ◌+◌, ◌≤◌, refl, sym, ◌∙◌, ap, subst, arith, Bool, true, false, inl, inr, List, Option, Some, None}
+use Rattle.std.specs.Prelude.{◌==◌, ◌&&◌, if◌then◌else◌, nat_le}
+use Rattle.std.proofs.lemmas.Bool.{both_ways, cond-true, cond-false, cases_eq, eqb-true, and_parts, false_from_ne_true, le-leb}
 use Rattle.list_structure.specs.declared.standing.MemberStatus.{MemberStatus}
 use Rattle.list_structure.specs.declared.standing.MemberStatus.TheVariants as standing
 use Rattle.list_structure.specs.Standings.{status_of}
-use Rattle.cache_structure.specs.Directory.{Directory, empty_directory}
-use Rattle.facility.specs.States.{Held}
-use Rattle.page_protocol.specs.Page.{Page, Group, Frame, Status, Up, put, all_fail, brought_forward, compensate, risen}
-use Rattle.page_protocol.specs.Moves.{World, GroupFail, Forward, Compensate, Append, Rise, IsWholeCut, AreDrawnBy, all_failed, longer, all_up, start, blank}
+use Rattle.cache_structure.specs.Directory.{Directory}
+use Rattle.page_protocol.specs.Page.{Page, Group, Up, put, all_fail, brought_forward, compensate, risen}
+use Rattle.page_protocol.specs.Moves.{World, IsWholeCut, AreDrawnBy, all_failed, longer, all_up, blank}
 use Rattle.page_protocol.specs.Down.{Grounded}
 use Rattle.page_protocol.specs.Always.{Good, Stands}
 use Rattle.page_protocol.specs.Words.{GroupFailureIsPossible}
-use Rattle.page_world.specs.Holdings.{Copy, no_copy, Cast, no_cast, Holdings, PageHeld, held_of, with_facility, as_status}
-use Rattle.page_world.specs.Tied.{PageTied, content_of, bit_in, AreApart, Tied, Moved}
-use Rattle.page_world.specs.Groups.{Remains, DownTied, DownMoved, AreDrawn, FallsMoves, FallsAgain, ForwardsMoves, AppendsMoves, content_with, CompensatesMoves, IsMade, RisesMoves, StartsTied}
+use Rattle.page_world.specs.Holdings.{Copy, Holdings, held_of, with_facility, as_status}
+use Rattle.page_world.specs.Tied.{PageTied, content_of, AreApart}
+use Rattle.page_world.specs.Groups.{Remains, DownTied, AreDrawn, FallsMoves, FallsAgain, ForwardsMoves, AppendsMoves, content_with, CompensatesMoves, IsMade, RisesMoves, StartsTied}
 use Rattle.page_world.proofs.Copies.{put_here, put_there}
 
 -- ---- the group fails

@@ -1,16 +1,14 @@
 -- A loss of the cache structure, its rebuild, and events that the world of pages doesn't see.
 use Rattle.std.proofs.Common.{◌≡◌, ℕ, refl, sym, ◌∙◌, ap, subst, Bool, true, false, List, [], ◌∷◌, Option, Some, None}
-use Rattle.std.specs.Prelude.{◌≢◌, ◌==◌, if◌then◌else◌, is_some}
+use Rattle.std.specs.Prelude.{◌≢◌, if◌then◌else◌, is_some}
 use Rattle.std.proofs.lemmas.Bool.{both_ways}
 use Rattle.cache_structure.specs.Directory.{Directory, after_lose, after_rebuilt}
-use Rattle.list_structure.specs.Standings.{status_of}
-use Rattle.facility.specs.declared.command.Reply.{Reply}
 use Rattle.facility.specs.States.{Held, ring}
 use Rattle.page_protocol.specs.Page.{Page, Group, put, lose, rebuild}
-use Rattle.page_protocol.specs.Moves.{World, At, Lose, ReadLog, Rebuild, Rebuilt, without_cache, with_cache, log_read}
+use Rattle.page_protocol.specs.Moves.{World, Lose, Rebuild, Rebuilt, without_cache, with_cache, log_read}
 use Rattle.page_protocol.specs.Coherent.{Coherent}
-use Rattle.page_world.specs.Holdings.{Holdings, PageHeld, held_of, KeepsPages, with_facility, with_directory, as_status}
-use Rattle.page_world.specs.Tied.{PageTied, content_of, bit_in, Tied, Moved}
+use Rattle.page_world.specs.Holdings.{Holdings, held_of, KeepsPages, with_facility, with_directory}
+use Rattle.page_world.specs.Tied.{PageTied, content_of, Tied, Moved}
 use Rattle.page_world.specs.Losses.{StaysTied, LosesMoves, ReadsLogMoves, RebuildsMoves, RebuiltMoves}
 use Rattle.page_world.proofs.Slices.{Alike, Beside, alike_tied, none_moved, all_alike, one_moved}
 use Rattle.page_world.proofs.Entering.{no_bit}

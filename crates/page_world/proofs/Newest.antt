@@ -1,17 +1,12 @@
 -- A valid copy is the group's, and what isn't changed is on disk.
-use Rattle.std.proofs.Common.{◌≡◌, ℕ, refl, sym, ◌∙◌, ap, subst, Bool, true, false, List, Option, Some, None}
-use Rattle.std.specs.Prelude.{◌≢◌, ◌&&◌, unwrap_or, is_some}
+use Rattle.std.proofs.Common.{◌≡◌, ℕ, refl, sym, ◌∙◌, ap, Bool, true, false, List, Option, Some, None}
+use Rattle.std.specs.Prelude.{◌&&◌, unwrap_or}
 use Rattle.std.proofs.lemmas.Bool.{both_ways}
 use Rattle.cache_structure.specs.Frames.{is_page}
 use Rattle.cache_structure.specs.Directory.{bit, bytes_of}
-use Rattle.page_protocol.specs.Page.{Page, Group, group_copy}
-use Rattle.page_protocol.specs.Moves.{World}
-use Rattle.page_protocol.specs.Coherent.{Coherent}
-use Rattle.page_protocol.specs.Always.{Good}
 use Rattle.page_world.specs.Numbers.{page_at}
-use Rattle.page_world.specs.Holdings.{Copy, Holdings, held_of}
-use Rattle.page_world.specs.Tied.{PageTied, content_of, bit_in, Tied}
-use Rattle.page_world.specs.Newest.{group_bytes, ValidIsNewest, CleanIsOnDisk}
+use Rattle.page_world.specs.Tied.{content_of}
+use Rattle.page_world.specs.Newest.{ValidIsNewest, CleanIsOnDisk}
 use Rattle.page_world.proofs.Reading.{coherent}
 
 -- the group's copy in bytes

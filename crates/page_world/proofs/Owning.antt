@@ -1,18 +1,15 @@
 -- Page locks that are given and given up, and logs that are forced.
-use Rattle.std.proofs.Common.{◌≡◌, ℕ, ◌≤◌, refl, sym, ◌∙◌, ap, subst, Bool, true, false, List, [], ◌∷◌, Option, Some, None}
+use Rattle.std.proofs.Common.{◌≡◌, ℕ, ◌≤◌, refl, sym, ◌∙◌, ap, subst, true, false, List, [], ◌∷◌, Option, Some, None}
 use Rattle.std.specs.Prelude.{◌≢◌, ◌==◌, if◌then◌else◌}
 use Rattle.cache_structure.specs.Directory.{Directory}
-use Rattle.list_structure.specs.declared.standing.MemberStatus.{MemberStatus}
-use Rattle.list_structure.specs.declared.standing.MemberStatus.TheVariants as standing
-use Rattle.list_structure.specs.Standings.{status_of}
 use Rattle.facility.specs.States.{Held}
-use Rattle.page_protocol.specs.Page.{Page, Group, put, owned, given_up}
-use Rattle.page_protocol.specs.Moves.{World, PageMove, At, Lock, Unlock, Purge, Force, PageStep, forced}
+use Rattle.page_protocol.specs.Page.{Page, put, owned}
+use Rattle.page_protocol.specs.Moves.{World, PageMove, At, Lock, Unlock, Purge, PageStep, forced}
 use Rattle.page_world.specs.Holdings.{Holdings, PageHeld, held_of, KeepsPages, with_facility, as_status}
 use Rattle.page_world.specs.Tied.{PageTied, Tied, Moved}
 use Rattle.page_world.specs.Owners.{LocksMoves, UnlocksMoves, PurgesMoves, ForcesMoves}
-use Rattle.page_world.proofs.Slices.{Alike, Beside, alike_tied, one_moved}
-use Rattle.page_world.proofs.Copies.{by_member, put_here, put_there}
+use Rattle.page_world.proofs.Slices.{Alike, alike_tied, one_moved}
+use Rattle.page_world.proofs.Copies.{put_here, put_there}
 use Rattle.page_world.proofs.Reading.{not_failed}
 
 -- the page with another owner

@@ -1,10 +1,9 @@
 -- Pages are placed in frames, fill them and leave them.
 use Rattle.std.proofs.Common.{◌≡◌, ℕ, refl, sym, ◌∙◌, ap, subst, Bool, true, false, List, [], ◌∷◌, Option, Some, None}
 use Rattle.std.specs.Prelude.{◌≢◌, ◌==◌, ◌&&◌, if◌then◌else◌, is_some}
-use Rattle.std.proofs.lemmas.Bool.{both_ways, cases_Bool}
+use Rattle.std.proofs.lemmas.Bool.{both_ways}
 use Rattle.ds_base.specs.declared.names.PageId.{PageId}
-use Rattle.cache_structure.specs.Frames.{Registered, is_page, with_frame}
-use Rattle.facility.specs.declared.command.Reply.{Reply}
+use Rattle.cache_structure.specs.Frames.{is_page, with_frame}
 use Rattle.facility.specs.declared.command.Reply.TheVariants as reply
 use Rattle.facility.specs.States.{Held}
 use Rattle.page_protocol.specs.Page.{Page, Group, Frame, put, unfilled, read_disk, drop_frame, redo}
@@ -12,7 +11,6 @@ use Rattle.page_protocol.specs.Moves.{World, At, ReadDisk, DropFrame, Redo, MayF
 use Rattle.page_world.specs.Numbers.{page_at}
 use Rattle.page_world.specs.Holdings.{Copy, no_copy, Holdings, PageHeld, held_of, put2, with_copy, as_status}
 use Rattle.page_world.specs.Tied.{PageTied, bit_in, AreApart, Tied, Moved}
-use Rattle.page_world.specs.Cache.{IsLive, HasFrame}
 use Rattle.page_world.specs.Frames.{placed_copy, PlacesStays, filled_copy, FillsMoves, redone_copy, RedoesMoves, LeavesMoves, UnregistersMoves, TestsTell}
 use Rattle.page_world.proofs.Slices.{Alike, alike_tied, alike_on, one_moved, none_moved, put2_here, put2_other, put2_by}
 use Rattle.page_world.proofs.Copies.{by_member, put_here, put_there, FrameTied, apart_put, apart_gone, frame_apart, frame_other}

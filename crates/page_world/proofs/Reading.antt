@@ -1,6 +1,6 @@
 -- A read that registers a frame is a move of its page, behind one that reclaims an entry.
-use Rattle.std.proofs.Common.{◌≡◌, ℕ, ◌≤◌, refl, sym, ◌∙◌, ap, subst, arith, Bool, true, false, List, [], ◌∷◌, ◌++◌, Option, Some, None}
-use Rattle.std.specs.Prelude.{◌≢◌, ◌==◌, ◌&&◌, if◌then◌else◌, is_some, is_none, unwrap_or}
+use Rattle.std.proofs.Common.{◌≡◌, ℕ, refl, sym, ◌∙◌, ap, subst, Bool, true, false, List, [], ◌∷◌, ◌++◌, Option, Some, None}
+use Rattle.std.specs.Prelude.{◌≢◌, ◌&&◌, if◌then◌else◌, is_some, is_none, unwrap_or}
 use Rattle.std.specs.Option.{option_map_or}
 use Rattle.std.proofs.lemmas.Bool.{both_ways, cond-false}
 use Rattle.ds_base.specs.declared.names.PageId.{PageId}
@@ -10,24 +10,21 @@ use Rattle.list_structure.specs.declared.standing.MemberStatus.TheVariants as st
 use Rattle.list_structure.specs.Standings.{status_of, is_live}
 use Rattle.cache_structure.specs.declared.face.ReadReply.TheVariants as read
 use Rattle.cache_structure.specs.Frames.{Registered, is_page, with_frame}
-use Rattle.cache_structure.specs.Entries.{entry_of}
 use Rattle.cache_structure.specs.Directory.{Directory, bytes_of, with_entry, registers, after_read}
-use Rattle.cache_structure.specs.Sound.{IsSound}
-use Rattle.facility.specs.declared.command.Reply.{Reply}
 use Rattle.facility.specs.declared.command.Reply.TheVariants as reply
 use Rattle.facility.specs.States.{Held}
-use Rattle.facility.specs.CacheCommands.{reply_to_read, ReadsPage}
-use Rattle.page_protocol.specs.Page.{Page, Group, Frame, Status, Failed, Up, Restarting, put, holding, unfilled, after_read as frame_read, read as page_read}
-use Rattle.page_protocol.specs.Moves.{World, Move, At, Read, PageStep, MayUse, MayBeDirect}
+use Rattle.facility.specs.CacheCommands.{reply_to_read}
+use Rattle.page_protocol.specs.Page.{Page, Group, Frame, Failed, put, holding, unfilled, after_read as frame_read, read as page_read}
+use Rattle.page_protocol.specs.Moves.{World, At, Read, MayUse, MayBeDirect}
 use Rattle.page_protocol.specs.Coherent.{Coherent}
 use Rattle.page_protocol.specs.Always.{Good, Stands}
 use Rattle.page_world.specs.Numbers.{page_number, page_at}
-use Rattle.page_world.specs.Holdings.{Copy, Holdings, PageHeld, held_of, put2, with_copy, with_directory, as_status}
-use Rattle.page_world.specs.Tied.{PageTied, content_of, bit_in, AreApart, Tied, Moved}
+use Rattle.page_world.specs.Holdings.{Copy, Holdings, held_of, put2, with_directory, as_status}
+use Rattle.page_world.specs.Tied.{content_of, AreApart, Tied, Moved}
 use Rattle.page_world.specs.Cache.{IsLive, HasFrame, entry_moves, found_copy, empty_copy, FindsMoves, RegistersMoves}
 use Rattle.page_world.proofs.Numbers.{named}
 use Rattle.page_world.proofs.Entries.{page_self}
-use Rattle.page_world.proofs.Slices.{Alike, Beside, alike_tied, one_moved, put2_here, put2_other, put2_by}
+use Rattle.page_world.proofs.Slices.{Alike, alike_tied, one_moved, put2_here, put2_other, put2_by}
 use Rattle.page_world.proofs.Entering.{Entered, entered}
 use Rattle.page_world.proofs.Copies.{moved_on, by_member, put_here, put_there, FrameTied, frame_tied, apart_put, frame_here, frame_apart, frame_other}
 

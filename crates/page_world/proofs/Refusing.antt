@@ -1,8 +1,8 @@
 -- A read or a write that is refused changes nothing.
-use Rattle.std.proofs.Common.{◌≡◌, ℕ, refl, sym, ◌∙◌, ap, subst, Bool, true, false, inl, inr, List, Option, Some, None}
-use Rattle.std.specs.Prelude.{◌≢◌, ◌⊎◌, if◌then◌else◌, is_some, is_none, unwrap_or}
+use Rattle.std.proofs.Common.{◌≡◌, ℕ, refl, sym, ◌∙◌, ap, Bool, true, false, inl, inr, List, Option, Some, None}
+use Rattle.std.specs.Prelude.{◌⊎◌, if◌then◌else◌, is_some, is_none, unwrap_or}
 use Rattle.std.specs.Option.{option_map_or}
-use Rattle.std.proofs.lemmas.Bool.{both_ways, cond-true, cond-false}
+use Rattle.std.proofs.lemmas.Bool.{cond-true, cond-false}
 use Rattle.ds_base.specs.declared.names.PageId.{PageId}
 use Rattle.cache_structure.specs.declared.face.ReadReply.TheVariants as read
 use Rattle.cache_structure.specs.declared.face.WriteReply.TheVariants as write
@@ -11,8 +11,7 @@ use Rattle.cache_structure.specs.Directory.{Directory, bytes_of, made, with_newe
 use Rattle.cache_structure.specs.Replies.{read_into}
 use Rattle.facility.specs.declared.command.Reply.{Reply}
 use Rattle.facility.specs.declared.command.Reply.TheVariants as reply
-use Rattle.facility.specs.States.{Held}
-use Rattle.facility.specs.CacheCommands.{reply_to_read, reply_to_write, ReadsPage, WritesPage}
+use Rattle.facility.specs.CacheCommands.{reply_to_read, reply_to_write}
 use Rattle.page_world.specs.Refusals.{ReadRefused, WriteRefused}
 
 -- no entry is found or made where none can be had, or the cache is lost

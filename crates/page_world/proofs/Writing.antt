@@ -2,27 +2,25 @@
 use Rattle.std.proofs.Common.{◌≡◌, ℕ, refl, sym, ◌∙◌, ap, subst, Bool, true, false, List, [], ◌∷◌, ◌++◌, Option, Some, None}
 use Rattle.std.specs.Prelude.{◌≢◌, ◌==◌, ◌&&◌, cond, if◌then◌else◌, is_some, is_none}
 use Rattle.std.specs.Option.{option_map, option_map_or}
-use Rattle.std.proofs.lemmas.Bool.{both_ways, cond-true, cond-false, eq-eqb, ne_eqb}
+use Rattle.std.proofs.lemmas.Bool.{both_ways, cond-false, eq-eqb, ne_eqb}
 use Rattle.ds_base.specs.declared.names.PageId.{PageId}
 use Rattle.cache_structure.specs.declared.face.WriteReply.TheVariants as write
 use Rattle.cache_structure.specs.Entries.{Entry, entry_of, at_entry, written_with}
 use Rattle.cache_structure.specs.Frames.{is_page, unless}
 use Rattle.cache_structure.specs.Directory.{Directory, with_entry, registers, written_by, after_write}
-use Rattle.facility.specs.declared.command.Reply.{Reply}
 use Rattle.facility.specs.declared.command.Reply.TheVariants as reply
 use Rattle.facility.specs.States.{Held}
 use Rattle.facility.specs.CacheCommands.{reply_to_write}
 use Rattle.page_protocol.specs.Page.{Page, Group, Frame, Failed, put, holding, AllStable, write as page_write}
 use Rattle.page_protocol.specs.Moves.{World, At, Write}
-use Rattle.page_protocol.specs.Coherent.{Coherent}
 use Rattle.page_world.specs.Numbers.{page_number, page_at}
 use Rattle.page_world.specs.Holdings.{Copy, Cast, Holdings, PageHeld, held_of, put2, with_directory}
-use Rattle.page_world.specs.Tied.{PageTied, content_of, bit_in, Tied, Moved}
-use Rattle.page_world.specs.Cache.{IsLive, HasFrame, entry_moves, written_copy, WritesMoves}
+use Rattle.page_world.specs.Tied.{PageTied, bit_in, Tied, Moved}
+use Rattle.page_world.specs.Cache.{HasFrame, entry_moves, written_copy, WritesMoves}
 use Rattle.page_world.proofs.Numbers.{named, numbered}
 use Rattle.page_world.proofs.Entries.{at_apart, at_self}
 use Rattle.page_world.proofs.Slices.{Alike, alike_tied, alike_on, one_moved}
-use Rattle.page_world.proofs.Entering.{SameEntry, entry_same, Entered, entered, dropped_bound, dropped_set, other_bound, other_set, no_bit}
+use Rattle.page_world.proofs.Entering.{entry_same, entered, dropped_bound, dropped_set, other_bound, other_set, no_bit}
 use Rattle.page_world.proofs.Copies.{moved_on, by_member, put_here, put_there, apart_put}
 use Rattle.page_world.proofs.Reading.{coherent, not_failed, registered_here, registered_beside}
 

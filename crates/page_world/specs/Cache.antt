@@ -1,11 +1,10 @@
 -- The commands of the cache structure, as moves.
-use Rattle.std.specs.Prelude.{◌≡◌, ◌⊎◌, ℕ, ◌≤◌, Bool, true, false, ◌||◌, if◌then◌else◌, List, [], ◌∷◌, ◌++◌, Option, Some, None, is_some}
+use Rattle.std.specs.Prelude.{◌≡◌, ℕ, ◌≤◌, true, false, ◌||◌, if◌then◌else◌, List, [], ◌∷◌, ◌++◌, Option, Some, None, is_some}
 use Rattle.ds_base.specs.declared.names.PageId.{PageId}
 use Rattle.list_structure.specs.Standings.{status_of, is_live}
 use Rattle.cache_structure.specs.Entries.{Entry, entry_of}
 use Rattle.cache_structure.specs.Directory.{Directory, has_free_place, reclaimable}
 use Rattle.cache_structure.specs.Sound.{IsSound}
-use Rattle.facility.specs.declared.command.Reply.{Reply}
 use Rattle.facility.specs.declared.command.Reply.TheVariants as reply
 use Rattle.facility.specs.States.{Held}
 use Rattle.facility.specs.CacheCommands.{ReadsPage, WritesPage}

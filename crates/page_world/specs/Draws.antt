@@ -4,7 +4,6 @@ use Rattle.std.specs.List.{list_any}
 use Rattle.list_structure.specs.declared.standing.MemberStatus.TheVariants as standing
 use Rattle.list_structure.specs.Standings.{status_of}
 use Rattle.facility.specs.declared.command.Indexes.{Indexes}
-use Rattle.facility.specs.declared.command.Reply.{Reply}
 use Rattle.facility.specs.declared.command.Reply.TheVariants as reply
 use Rattle.facility.specs.States.{Held}
 use Rattle.facility.specs.Counting.{given, DrawsNumber, DrawsUndo}

@@ -1,5 +1,5 @@
 -- What the group holds of pages: the facility, the disk, and the logs, frames and castouts of its members.
-use Rattle.std.specs.Prelude.{◌≡◌, ◌≢◌, ℕ, ◌≤◌, Bool, true, false, ◌&&◌, ◌==◌, if◌then◌else◌, List, [], Option}
+use Rattle.std.specs.Prelude.{◌≡◌, ◌≢◌, ℕ, ◌≤◌, Bool, false, ◌&&◌, ◌==◌, if◌then◌else◌, List, [], Option}
 use Rattle.list_structure.specs.declared.standing.MemberStatus.{MemberStatus}
 use Rattle.list_structure.specs.declared.standing.MemberStatus.TheVariants as standing
 use Rattle.list_structure.specs.Standings.{status_of}
