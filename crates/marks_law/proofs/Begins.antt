@@ -1,10 +1,10 @@
 -- A member that holds nothing, and a slot with a transaction.
-use Rattle.std.proofs.Common.{◌≡◌, ℕ, ◌+◌, ◌≤◌, ◌<◌, sym, ◌∙◌, ap, subst, arith, Bool, true, false, List, [], inl, inr, length}
+use Rattle.std.proofs.Common.{◌≡◌, ℕ, ◌+◌, sym, ◌∙◌, ap, subst, arith, true, List, [], inl, inr, length}
 use Rattle.std.specs.Prelude.{nat_le, nat_lt, slice_index_or}
 use Rattle.std.proofs.lemmas.Bool.{and_from, both_ways, cases_lt, le-leb, lt-ltb}
 use Rattle.std.proofs.lemmas.List.{length-replicate}
 use Rattle.lock_manager.specs.declared.claim.Claim.{Claim}
-use Rattle.member_trans.specs.Trans.{TransState, is_free, tran_at}
+use Rattle.member_trans.specs.Trans.{TransState, is_free}
 use Rattle.member_marks.specs.State.{MarksState, slot_tran}
 use Rattle.marks_law.specs.Free.{FreeBegin}
 use Rattle.marks_law.specs.Slots.{AreSlots, SlotsBegin, SlotsTell}

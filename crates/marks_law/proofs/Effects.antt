@@ -1,6 +1,6 @@
 -- What is settled of the replies to commands that take and give up no locks.
-use Rattle.std.proofs.Common.{◌≡◌, ℕ, refl, sym, ap, subst, Bool, true, false, List, [], ◌∷◌, Option, Some, None}
-use Rattle.std.specs.Prelude.{nat_lt, if◌then◌else◌, length, slice_set}
+use Rattle.std.proofs.Common.{◌≡◌, ℕ, refl, Bool, true, false, List, Option, Some, None}
+use Rattle.std.specs.Prelude.{nat_lt, length, slice_set}
 use Rattle.std.proofs.lemmas.Bool.{cond_both}
 use Rattle.ds_base.specs.declared.names.PageId.{PageId}
 use Rattle.ds_base.specs.declared.names.TranId.{TranId}
@@ -26,7 +26,7 @@ use Rattle.member_marks.specs.Names.{without_name}
 use Rattle.member_marks.specs.State.{MarksState}
 use Rattle.member_marks.specs.Claims.{offered}
 use Rattle.member_marks.specs.Frames.{frame_in, is_placed, with_registered, with_filled, after_registered, after_filled, after_written, after_marked, after_unregister}
-use Rattle.member_pool.specs.Heads.{HeadState, freed, marked, written as head_written}
+use Rattle.member_pool.specs.Heads.{freed, marked, written as head_written}
 use Rattle.member_needs.specs.declared.plans.Plan.{Plan}
 use Rattle.member_needs.specs.declared.plans.Plan.TheVariants as plan
 use Rattle.member_needs.specs.Records.{frame_of}
@@ -34,10 +34,10 @@ use Rattle.member_effects.specs.declared.answers.Said.{Said}
 use Rattle.member_effects.specs.declared.answers.Said.TheVariants as said
 use Rattle.member_effects.specs.declared.told.Told.{Told}
 use Rattle.member_effects.specs.Answers.{found_after, in_the_way_after}
-use Rattle.member_effects.specs.Changes.{patched_page, patched_frame, patched_nth, patched_frames, row_page, row_frame, row_nth, changed_by, back_by, undrawn_after, drawn_after, undone_after, committed_after, bytes_at, put_page}
+use Rattle.member_effects.specs.Changes.{patched_page, patched_nth, patched_frames, row_page, row_frame, row_nth, changed_by, back_by, undrawn_after, drawn_after, undone_after, committed_after, bytes_at, put_page}
 use Rattle.member_effects.specs.Closing.{purged_after}
 use Rattle.member_effects.specs.Cycles.{RefusesCycle, cycle_after}
-use Rattle.member_effects.specs.Frames.{empty_after, read_after, valid_after, tested_after, written_after, unregistered_after, full_at}
+use Rattle.member_effects.specs.Frames.{read_after, valid_after, tested_after, written_after, unregistered_after, full_at}
 use Rattle.member_effects.specs.Kept as bytes
 use Rattle.marks_law.proofs.Kept.{Kept, kept_itself, kept_as, kept_on, kept_if, kept_heads, kept_names, kept_trans, same_slots}
 use Rattle.marks_law.proofs.Records.{kept_change, kept_system, kept_undo, kept_commit}

@@ -1,7 +1,7 @@
 -- What a lock that is taken or given up leaves of the slots.
-use Rattle.std.proofs.Common.{◌≡◌, ℕ, refl, sym, ◌∙◌, ap, subst, Bool, true, false, [], Option, Some, None}
-use Rattle.std.specs.Prelude.{◌+◌, ◌&&◌, if◌then◌else◌, is_some, slice_set}
-use Rattle.std.proofs.lemmas.Bool.{and_parts, cond_both}
+use Rattle.std.proofs.Common.{◌≡◌, ℕ, refl, ap, Bool, true, false, Option, Some, None}
+use Rattle.std.specs.Prelude.{◌&&◌, is_some}
+use Rattle.std.proofs.lemmas.Bool.{and_parts}
 use Rattle.ds_base.specs.declared.names.PageId.{PageId}
 use Rattle.ds_model.specs.declared.fate.Refusal.{Refusal}
 use Rattle.ds_model.specs.declared.fate.Refusal.TheVariants as refusal
@@ -11,14 +11,14 @@ use Rattle.lock_names.specs.declared.mode.Mode.{Mode}
 use Rattle.lock_manager.specs.declared.claim.Ask.{Ask}
 use Rattle.lock_manager.specs.declared.claim.Ask.TheVariants as ask
 use Rattle.lock_manager.specs.Claims.{entered as claims_entered, joined, without}
-use Rattle.lock_manager.specs.Managers.{Book, slots, claims_of, held_by, ask_of, given, with_claims, after_release, after_release_at, after_page_release, after_postponed_release, release_told, dropped, ended}
+use Rattle.lock_manager.specs.Managers.{Book, claims_of, held_by, ask_of, given, after_release, after_page_release, after_postponed_release, dropped}
 use Rattle.facility.specs.declared.command.Reply.{Reply}
 use Rattle.facility.specs.declared.command.Reply.TheVariants as reply
 use Rattle.member_trans.specs.declared.fate.Owner.{Owner}
 use Rattle.member_trans.specs.declared.fate.Owner.TheVariants as owner
-use Rattle.member_trans.specs.Trans.{TransState, is_forward, tran_of as tran_in, free_tran, place_of, rollback_ended, slot_ended, with_released, with_tran_of}
-use Rattle.member_marks.specs.State.{MarksState, slot_id, slot_tran, tran_of, with_locks, with_trans}
-use Rattle.member_marks.specs.Claims.{offered, is_agent, is_for_agents, may_claim, has_page, has_spare, may_enter_page, PageEntered, entered, entered_as, after_enter, lock_place, noted_released, rollback_releasing, slot_released, rollback_released, after_release_of, after_release_page, after_end_of, rollback_over, slot_over}
+use Rattle.member_trans.specs.Trans.{TransState, is_forward, tran_of as tran_in, free_tran, place_of, rollback_ended, slot_ended, with_released}
+use Rattle.member_marks.specs.State.{MarksState, slot_id, slot_tran, tran_of, with_locks}
+use Rattle.member_marks.specs.Claims.{offered, is_agent, is_for_agents, may_claim, has_page, has_spare, may_enter_page, PageEntered, entered, entered_as, lock_place, noted_released, rollback_releasing, after_release_of, after_release_page, after_end_of, rollback_over}
 use Rattle.member_effects.specs.Claims.{Claims, Enters, EntersPage, agent_entered, refused_after}
 use Rattle.member_effects.specs.Closing.{released_after, page_released_after, ended_after}
 use Rattle.marks_law.specs.Slots.{AreSlots}

@@ -1,5 +1,5 @@
 -- What local moves leave of the slots.
-use Rattle.std.proofs.Common.{◌≡◌, ℕ, ◌<◌, refl, sym, ap, subst, arith, Bool, true, false, List, [], ◌∷◌, Option, Some, None}
+use Rattle.std.proofs.Common.{◌≡◌, ℕ, refl, sym, subst, arith, Bool, true, List, [], ◌∷◌, Option, Some, None}
 use Rattle.std.specs.Prelude.{◌≢◌, ◌+◌, ◌-◌, ◌&&◌, nat_le, nat_lt, if◌then◌else◌, is_none, length, slice_set}
 use Rattle.std.proofs.lemmas.Bool.{and_parts, cond_both, ltb-true}
 use Rattle.ds_base.specs.declared.names.PageId.{PageId}
@@ -7,27 +7,25 @@ use Rattle.ds_model.specs.Rows.{Spot}
 use Rattle.ds_model.specs.declared.fate.Refusal.{Refusal}
 use Rattle.ds_model.specs.declared.fate.Refusal.TheVariants as refusal
 use Rattle.ds_model.specs.declared.lock.Name.{Name}
-use Rattle.ds_model.specs.declared.log.RowChange.{RowChange}
 use Rattle.lock_names.specs.declared.mode.Mode.{Mode}
 use Rattle.lock_manager.specs.declared.claim.Ask.{Ask}
 use Rattle.lock_manager.specs.declared.claim.Ask.TheVariants as ask
 use Rattle.lock_manager.specs.Claims.{entered as claims_entered, joined}
-use Rattle.lock_manager.specs.Managers.{Book, claims_of, held_by, ask_of, is_postponed, waiting_at, with_claims, after_postpone as claims_postponed}
+use Rattle.lock_manager.specs.Managers.{Book, claims_of, held_by, ask_of, is_postponed, with_claims}
 use Rattle.member_pool.specs.Frames.{find_page, is_unpinned}
 use Rattle.member_pool.specs.Heads.{HeadState, free_in, head_of, pinned_to, placed_in, with_head}
-use Rattle.member_trans.specs.declared.fate.Change.{Change}
 use Rattle.member_trans.specs.declared.fate.Offer.{Offer}
 use Rattle.member_trans.specs.declared.fate.Owner.TheVariants as owner
-use Rattle.member_trans.specs.Trans.{TransState, TranState, tran_at, with_tran, with_room_for, begun, undoing, left_behind, may_begin, after_begin_with, is_free, is_forward, may_refuse, refused_for, refused_as, after_refuse, same_owner, without_offer, may_postpone as may_postpone_tran, after_postpone as tran_postponed, with_postponed as tran_with_postponed}
+use Rattle.member_trans.specs.Trans.{TransState, tran_at, with_tran, with_room_for, begun, undoing, left_behind, may_begin, after_begin_with, is_free, is_forward, may_refuse, refused_for, refused_as, after_refuse, same_owner, without_offer, may_postpone as may_postpone_tran, after_postpone as tran_postponed, with_postponed as tran_with_postponed}
 use Rattle.member_marks.specs.State.{MarksState, agents_of, slot_id, slot_tran, with_heads, with_locks, with_trans}
-use Rattle.member_marks.specs.Claims.{is_agent, may_claim, offered, offered_memory}
-use Rattle.member_marks.specs.Frames.{may_pin, may_unpin, placed_at, after_place, after_pin, after_unpin}
-use Rattle.member_marks.specs.Local.{Local, Claim, Begin, Refuse, Abort, RefuseForMemory, Place, Pin, Unpin, Postpone, WaitFor, Reaches, given_with, entered_at_home, tried_as, after_claim, with_lock_room, begun_with, after_begin, moved, all_moved}
-use Rattle.member_marks.specs.Rollbacks.{retainer, can_postpone, with_postponed, postponed_for_member, after_postpone, waiting_for, after_wait, spots_of, spot_claimed, claimed, claims_adopted, may_adopt, with_rollback, after_adopt}
+use Rattle.member_marks.specs.Claims.{is_agent, may_claim, offered_memory}
+use Rattle.member_marks.specs.Frames.{may_pin, may_unpin, placed_at}
+use Rattle.member_marks.specs.Local.{Local, Claim, Begin, Refuse, Abort, RefuseForMemory, Place, Pin, Unpin, Postpone, WaitFor, Reaches, given_with, entered_at_home, tried_as, with_lock_room, begun_with, after_begin, moved, all_moved}
+use Rattle.member_marks.specs.Rollbacks.{retainer, can_postpone, with_postponed, postponed_for_member, after_postpone, waiting_for, spots_of, spot_claimed, claimed, may_adopt, with_rollback}
 use Rattle.marks_law.specs.Free.{FreeAdopt, FreeHoldNothing, FreeReach}
 use Rattle.marks_law.specs.Slots.{AreSlots, SlotsAdopt, SlotsReach}
-use Rattle.marks_law.proofs.Free.{FreesNone, free_left, frees_set, left_adopted, left_forward, left_postponed, left_same}
-use Rattle.marks_law.proofs.Kept.{Stands, kept_heads, kept_trans, same_slots, stands_kept, stands_itself, stands_as, stands_if, stands_locks, stands_slots}
+use Rattle.marks_law.proofs.Free.{FreesNone, free_left, frees_set, left_adopted, left_forward, left_postponed}
+use Rattle.marks_law.proofs.Kept.{Stands, kept_heads, kept_trans, same_slots, stands_kept, stands_itself, stands_if, stands_locks, stands_slots}
 use Rattle.marks_law.proofs.Slots.{set_other, forward_other}
 use Rattle.marks_law.proofs.Effects.{kept_offered}
 use Rattle.marks_law.proofs.Given.{claims_forward}

@@ -1,5 +1,5 @@
 -- What a log record leaves of the slots.
-use Rattle.std.proofs.Common.{◌≡◌, ℕ, refl, Bool, true, false, List, [], ◌∷◌, Option, Some, None}
+use Rattle.std.proofs.Common.{◌≡◌, ℕ, refl, true, false, List, [], ◌∷◌, Option, Some, None}
 use Rattle.std.specs.Prelude.{◌≢◌, ◌-◌, ◌==◌, ◌++◌, if◌then◌else◌, length, slice_set, take}
 use Rattle.std.proofs.lemmas.Bool.{cond_both}
 use Rattle.ds_base.specs.Pages.{heap_set}
@@ -13,7 +13,7 @@ use Rattle.member_trans.specs.declared.fate.Owner.TheVariants as owner
 use Rattle.member_trans.specs.Lists.{pushed}
 use Rattle.member_trans.specs.Trans.{TransState, TranState, tran_of as tran_in, tran_at, with_tran, with_tran_of, with_set, changed, drawn, first_with, with_undone, newest_of, is_empty, is_forward, after_draw, after_decide}
 use Rattle.member_marks.specs.State.{MarksState, tran_of, slot_tran}
-use Rattle.member_marks.specs.Records.{fits_in, row_record, may_change, set_noted, sets_noted, row_noted, after_change, after_system, back_noted, back_record, ended_record, both_fit, both_logged, after_back, may_back, undone_of, undone_as, after_undo, commit_record, may_commit, after_commit, after_append}
+use Rattle.member_marks.specs.Records.{fits_in, row_record, may_change, set_noted, sets_noted, row_noted, after_change, after_system, back_noted, back_record, ended_record, both_fit, after_back, may_back, undone_as, after_undo, commit_record, may_commit, after_commit, after_append}
 use Rattle.member_effects.specs.Changes.{system_record}
 use Rattle.marks_law.specs.Slots.{AreSlots}
 use Rattle.marks_law.proofs.Free.{FreesNone, frees_set, frees_kept, frees_of, frees_on, frees_decided}

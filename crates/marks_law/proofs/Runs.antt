@@ -1,13 +1,11 @@
 -- What an event leaves of the claims and of the slots, by its intent.
-use Rattle.std.proofs.Common.{◌≡◌, ℕ, refl, sym, ◌∙◌, ap, subst, Bool, true, false, List, Option, Some, None, Result, Ok, Err}
+use Rattle.std.proofs.Common.{◌≡◌, ℕ, refl, ap, subst, Bool, true, false, List, Option, Some, None, Result, Ok, Err}
 use Rattle.std.specs.Prelude.{nat_lt, length}
-use Rattle.std.proofs.lemmas.Bool.{cases_Bool}
 use Rattle.ds_base.specs.declared.names.PageId.{PageId}
 use Rattle.ds_disk.specs.declared.disk.DiskError.{DiskError}
 use Rattle.ds_disk.specs.declared.disk.DiskError.TheVariants as disk_error
 use Rattle.list_structure.specs.declared.query.Cell.{Cell}
 use Rattle.list_structure.specs.declared.wait.Wait.{Wait}
-use Rattle.facility.specs.declared.command.Command.{Command}
 use Rattle.facility.specs.declared.command.Reply.{Reply}
 use Rattle.facility.specs.declared.command.Reply.TheVariants as reply
 use Rattle.facility.specs.Commands.{cells_for}
@@ -17,20 +15,20 @@ use Rattle.member_intents.specs.declared.outcome.Answered.{Answered}
 use Rattle.member_intents.specs.declared.outcome.Sent.{Sent}
 use Rattle.member_intents.specs.declared.outcome.Sent.TheVariants as sent
 use Rattle.member_trans.specs.Trans.{after_event, with_room, with_tran}
-use Rattle.member_marks.specs.State.{MarksState, slot_tran}
+use Rattle.member_marks.specs.State.{slot_tran}
 use Rattle.member_needs.specs.declared.plans.Plan.{Plan}
 use Rattle.member_effects.specs.declared.told.Told.{Told}
 use Rattle.member_effects.specs.Answers.{summed, nothing}
 use Rattle.member_resources.specs.declared.lending.Lent.{Lent}
 use Rattle.member_resources.specs.declared.lending.Lent.TheVariants as lent
-use Rattle.member_resources.specs.Held.{Held, begun, with_marks, with_spare}
-use Rattle.member_resources.specs.Events.{Drive, World, Calls, Happens, ReadsAs, ReadsFrame, Runs, RunsCall, RunsCommand, SettlesAs, Stores, frame_read, waits_in}
+use Rattle.member_resources.specs.Held.{Held, begun, with_spare}
+use Rattle.member_resources.specs.Events.{Drive, World, Calls, ReadsAs, ReadsFrame, Runs, RunsCall, SettlesAs, Stores, frame_read, waits_in}
 use Rattle.member_resources.specs.Lending.{lent_of, with_bytes}
 use Rattle.member_resources.specs.Prepared.{HasSpare, Reserves, with_change_room}
 use Rattle.member_resources.specs.Settled.{Settles, cast_read, kept_of, settled, stored, unsent}
 use Rattle.marks_law.specs.Claims.{ClaimsStay, changes_claims}
 use Rattle.marks_law.specs.Free.{FreeHoldNothing, FreeReach, FreeStay}
-use Rattle.marks_law.specs.Slots.{AreSlots, SlotsReach, SlotsStay}
+use Rattle.marks_law.specs.Slots.{SlotsReach, SlotsStay}
 use Rattle.marks_law.proofs.Free.{frees_kept}
 use Rattle.marks_law.proofs.Kept.{Kept, Stands, kept_itself, kept_as, kept_trans, same_slots, stands_as, stands_itself, stands_kept, stands_slots}
 use Rattle.marks_law.proofs.Slots.{set_kept}

@@ -11,7 +11,7 @@ use Rattle.member_marks.specs.State.{MarksState, slot_tran}
 use Rattle.member_marks.specs.Claims.{is_agent}
 use Rattle.member_marks.specs.Local.{Reaches}
 use Rattle.member_marks.specs.Rollbacks.{after_adopt}
-use Rattle.member_resources.specs.Held.{Held, IsNew, begun}
+use Rattle.member_resources.specs.Held.{Held, IsNew}
 use Rattle.member_resources.specs.Events.{World, Happens}
 
 -- whether slot 0 is one of these

@@ -9,7 +9,7 @@ use Rattle.group_crew.proofs.make.make_parts.Goals as goal
 pub loop-policy-preserved : goal.loop-policy-preserved
 loop-policy-preserved g c =
     let held = c.loop-policy.invariant in
-    let member = c.in-Some.ensures in
+    let member = c.in-Some-new.ensures in
     let next = c.saturating_add-number.ensures in
     let counted = held.2 in
     let few = held.3 in
