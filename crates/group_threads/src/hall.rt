@@ -4,10 +4,10 @@ use crate::floor::{Floor, asleep, change, go, is_wish, stand_up};
 use crate::members::Members;
 use ds_base::{MemberId, NoMemory};
 use std::alloc::Global;
+use std::hint;
 use std::sync::Wait;
 use std::sync::atomic::{AtomicU64, Ordering};
 use std::time::Duration;
-use std::{hint, thread};
 
 /// The round goes on.
 const OPEN: u64 = 0;
@@ -18,11 +18,8 @@ const QUIET: u64 = 1;
 /// Nothing is taken any more in this phase.
 const CLOSED: u64 = 2;
 
-/// How often a thread looks for the floor before it lets others go on.
+/// How often a thread looks for the floor before it sleeps.
 const LOOKS: u64 = 4000;
-
-/// How often it lets others go on, and looks again, before it sleeps.
-const YIELDS: u64 = 100;
 
 /// How long a thread sleeps at most before it looks again.
 const SLEEP_MILLIS: u64 = 20;
@@ -160,17 +157,6 @@ impl Hall {
         self.floor.takes(number, word) || self.is_over()
     }
 
-    // Lets others go on for a while, and looks between: where the floor comes soon that is less than to sleep and be woken.
-    fn linger(&self, number: u64, word: &AtomicU64) -> bool {
-        for _ in 0..YIELDS {
-            thread::yield_now();
-            if self.is_due(number, word) {
-                return true;
-            }
-        }
-        false
-    }
-
     // Looks for a while, unless it wasn't called and others look.
     fn look(&self, number: u64, word: &AtomicU64, was_called: bool) -> bool {
         if !was_called && self.floor.are_enough_awake(number) {
@@ -182,7 +168,7 @@ impl Hall {
             }
             hint::spin_loop();
         }
-        self.linger(number, word)
+        false
     }
 
     // Sleeps until it is woken, and not for ever. Answers whether it wasn't, and the floor wasn't passed on meanwhile.

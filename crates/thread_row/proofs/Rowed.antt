@@ -1,26 +1,11 @@
 -- Calls at the places of a list, and those one behind the other.
-use Rattle.std.proofs.Common.{◌≡◌, ℕ, zero, suc, ◌+◌, ◌<◌, List, [], ◌∷◌, length, slice_index_or, refl, sym, subst, arith}
+use Rattle.std.proofs.Common.{◌≡◌, ℕ, zero, suc, ◌+◌, ◌<◌, List, [], ◌∷◌, length, slice_index_or, refl, subst, arith}
 use denote.Ref.{MutBor}
 use denote.Param.Members.{Shared}
-use Rattle.std.specs.Fork.{AcceptsAt, AcceptsEach, ChangesAt, ChangesEach}
-use Rattle.thread_row.specs.Rows.{AcceptsFrom, ChangesFrom}
+use Rattle.std.specs.Fork.{AcceptsEach, ChangesAt, ChangesEach}
+use Rattle.thread_row.specs.Rows.{AcceptsFrom, ChangesFrom, Leaves}
 
 module _ {F T : Type 0} (g : Shared F (ℕ × (MutBor T × Unit {0})) (Unit {0} × (MutBor T × Unit {0}))) (f : F) where
-  -- where there is no element, none is changed
-  pub unchanged : (k : ℕ) (xs : List T) → length xs ≡ 0 → ChangesFrom g f k xs xs
-  unchanged k [] none = tt
-  unchanged k (x ∷ xs) none = absurd (omega arith)
-
-  -- where there is one, it is all that is changed
-  pub changed_alone : (k : ℕ) (xs ys rest : List T) (x y : T) → xs ≡ x ∷ rest → ys ≡ y ∷ rest → length rest ≡ 0 → ChangesAt g f k x y → ChangesFrom g f k xs ys
-  changed_alone k xs ys rest x y old new none h =
-      subst (λ l. ChangesFrom g f k l ys) (sym old) (subst (λ l. ChangesFrom g f k (x ∷ rest) l) (sym new) (h, unchanged (k + 1) rest none))
-
-  -- the first one is changed, and the others
-  pub changed_both : (k : ℕ) (xs ys rest left : List T) (x y : T) → xs ≡ x ∷ rest → ys ≡ y ∷ left → ChangesAt g f k x y → ChangesFrom g f (k + 1) rest left → ChangesFrom g f k xs ys
-  changed_both k xs ys rest left x y old new h others =
-      subst (λ l. ChangesFrom g f k l ys) (sym old) (subst (λ l. ChangesFrom g f k (x ∷ rest) l) (sym new) (h, others))
-
   -- a call at each place of its own is one at each from the k-th on
   accepted : (k : ℕ) (xs : List T) → ((i : ℕ) (p : MutBor T) → i < length xs → p.now ≡ slice_index_or xs i p.now → g.pre f (i + k, (p, tt))) → AcceptsFrom g f k xs
   accepted k [] h = tt
@@ -31,6 +16,7 @@ module _ {F T : Type 0} (g : Shared F (ℕ × (MutBor T × Unit {0})) (Unit {0} 
       )
 
   changed : (k : ℕ) (xs ys : List T) → ChangesFrom g f k xs ys → (i : ℕ) (d : T) → i < length xs → ChangesAt g f (i + k) (slice_index_or xs i d) (slice_index_or ys i d)
+  unfolding Leaves
   changed k [] ys h i d less = absurd (omega arith)
   changed k (x ∷ xs) [] h i d less = absurd h
   changed k (x ∷ xs) (y ∷ ys) h zero d less = let here : k ≡ 0 + k = omega arith in subst (λ n. ChangesAt g f n x y) here h.0

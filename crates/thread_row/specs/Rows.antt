@@ -5,6 +5,10 @@ use denote.Param.Members.{Shared}
 use Rattle.std.specs.Fork.{AcceptsAt, ChangesAt}
 
 module _ {F T : Type 0} (g : Shared F (ℕ × (MutBor T × Unit {0})) (Unit {0} × (MutBor T × Unit {0}))) (f : F) where
+  -- a call of f at the place k may leave y of x
+  unfoldable pub Leaves : ℕ → T → T → Type 0
+  Leaves k x y = ChangesAt g f k x y
+
   -- f may be called at each place, of which the first one's number is k
   abbrev pub AcceptsFrom : ℕ → List T → Type 0
   AcceptsFrom k [] = Unit {0}
@@ -15,4 +19,4 @@ module _ {F T : Type 0} (g : Shared F (ℕ × (MutBor T × Unit {0})) (Unit {0} 
   ChangesFrom k [] [] = Unit {0}
   ChangesFrom k [] (y ∷ ys) = ⊥
   ChangesFrom k (x ∷ xs) [] = ⊥
-  ChangesFrom k (x ∷ xs) (y ∷ ys) = ChangesAt g f k x y × ChangesFrom (k + 1) xs ys
+  ChangesFrom k (x ∷ xs) (y ∷ ys) = Leaves k x y × ChangesFrom (k + 1) xs ys

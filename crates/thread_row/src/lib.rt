@@ -1,16 +1,17 @@
 //! A thread for each element of a list.
 #![tactic(auto)]
 
-ghost use Rattle.std.specs.Prelude.{◌≡◌, ◌+◌, ◌^◌, ◌<◌, ◌∷◌, length};
-ghost use Rattle.std.specs.Fork.{AcceptsAt, AcceptsEach, ChangesAt, ChangesEach};
+ghost use Rattle.std.specs.Prelude.{◌+◌, ◌^◌, ◌<◌, length};
+ghost use Rattle.std.specs.Fork.{AcceptsAt, AcceptsEach, ChangesEach};
 ghost use Rattle.std.specs.Thread.{IsSend, IsSync};
-ghost use Rattle.thread_row.specs.Rows.{AcceptsFrom, ChangesFrom};
+ghost use Rattle.thread_row.specs.Rows.{AcceptsFrom, ChangesFrom, Leaves};
 
 use std::thread::{Threads, join_mut};
 
+#[tactic(auto, unfolding(crate::specs::Rows::Leaves))]
 fn call_at<T, F: Fn(usize, &mut T)>(f: &F, place: usize, element: &mut T)
     requires { AcceptsAt F.Fn f.now place element.old }
-    ensures { ChangesAt F.Fn f.now place element.old element.new }
+    ensures { Leaves F.Fn f.now place element.old element.new }
 {
     f(place, element);
 }
@@ -49,12 +50,12 @@ fn call_both<R: Threads + Sync, T: Send, F: Fn(usize, &mut T) + Sync>(
     requires room { place + 1 + length rest.old < 2 ^ 64 }
     requires first { AcceptsAt F.Fn f.now place first.old }
     requires rest { AcceptsFrom F.Fn f.now (place + 1) rest.old }
-    ensures first { ChangesAt F.Fn f.now place first.old first.new }
+    ensures first { Leaves F.Fn f.now place first.old first.new }
     ensures rest { ChangesFrom F.Fn f.now (place + 1) rest.old rest.new }
 {
     let mut one = ||
         requires { IsSync F.row × IsSend T.row × AcceptsAt F.Fn f.now place first.now }
-        ensures { ChangesAt F.Fn f.entry.now place first.entry.now first.exit.now }
+        ensures { Leaves F.Fn f.entry.now place first.entry.now first.exit.now }
     { call_at(f, place, first) };
     let mut others = ||
         requires { IsSync R.row × IsSync F.row × IsSend T.row × (place + 1 + length rest.now < 2 ^ 64) × AcceptsFrom F.Fn f.now (place + 1) rest.now }
