@@ -10,9 +10,11 @@ use Rattle.lock_manager.specs.declared.claim.Rollback.{Rollback}
 use Rattle.lock_manager.specs.Buckets.{AreDistinct}
 use Rattle.lock_manager.specs.Claims.{mode_in}
 use Rattle.facility.specs.States.{Held as Facility}
+use Rattle.member_trans.specs.Trans.{TransState, free_tran, is_free}
 use Rattle.member_resources.specs.Held.{Held, IsNew}
 use Rattle.group_member.specs.declared.restarting.Restarting.{Restarting as RestartHeld}
 use Rattle.group_member.specs.Members.{IsDown, Member}
+use Rattle.group_member.specs.Resting.{NoneInSlots}
 use Rattle.lock_world.specs.Books.{AreApart, IsBook}
 use Rattle.lock_world.specs.Numbers.{name_at}
 use Rattle.lock_world.specs.Views.{claims_from, is_slot}
@@ -55,6 +57,15 @@ new_count holders rollbacks agents most hs rs same =
     let none : length rollbacks ≡ 0 = ap (λ (z : List Rollback). length z) rs in
     omega (arith, many, none, same)
 
+-- ---- its slots
+free_at : (n slot : ℕ) → is_free (slice_index_or (replicate n free_tran) slot free_tran).stage ≡ true
+free_at zero slot = refl
+free_at (suc n) zero = refl
+free_at (suc n) (suc slot) = free_at n slot
+
+new_slots : (member : ℕ) (sizes : Sizes) (h : Held) → IsNew member sizes h → NoneInSlots h.marks
+new_slots member sizes h new slot agent = ap (λ (z : TransState). is_free (slice_index_or z.slots slot free_tran).stage) new.marks.trans ∙ free_at (sizes.agents + 1) slot
+
 pub new_book : (member : ℕ) (sizes : Sizes) (h : Held) → IsNew member sizes h → sizes.agents ≤ 16 → IsBook h.marks.locks
 new_book member sizes h new few = record {
   owners = new_count h.marks.locks.holders h.marks.locks.rollbacks h.marks.locks.agents sizes.agents new.marks.holders new.marks.rollbacks new.marks.sizes.0;
@@ -84,5 +95,5 @@ down_stands begin f k m sizes down id few entries other = record {
   restarts = λ s. absurd (other s);
   rests = λ s. absurd (never (ap (λ (z : Option RestartHeld). is_some z) (sym down.rests) ∙ s));
   restart = subst (λ (z : Option RestartHeld). RestartInHand k m z) (sym down.rests) tt;
-  down = λ _. (down.rests, new_claims m.id sizes m.holds down.holds);
+  down = λ _. (down.rests, new_claims m.id sizes m.holds down.holds, new_slots m.id sizes m.holds down.holds);
 }

@@ -3,3 +3,11 @@ pub mod Moved
 pub mod Whole
 pub mod Beginning
 pub mod Members
+pub mod Resting
+pub mod Phases
+pub mod Adopting
+pub mod Restarts
+pub mod Answering
+pub mod RestingSteps
+pub mod Taken
+pub mod Handing

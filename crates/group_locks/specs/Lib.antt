@@ -3,3 +3,9 @@ pub mod Events
 pub mod Whole
 pub mod Beginning
 pub mod Members
+pub mod Adopting
+pub mod Phases
+pub mod Restarts
+pub mod Resting
+pub mod Taken
+pub mod Handing

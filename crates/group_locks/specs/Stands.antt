@@ -9,10 +9,9 @@ use Rattle.member_trans.specs.Trans.{is_free}
 use Rattle.member_marks.specs.State.{MarksState, slot_tran}
 use Rattle.member_marks.specs.Claims.{is_agent}
 use Rattle.restart_marks.specs.State.{RestartState}
-use Rattle.restart_records.specs.Trans.{page_undone}
 use Rattle.group_member.specs.declared.restarting.Restarting.{Restarting as RestartHeld}
 use Rattle.group_member.specs.Members.{Member}
-use Rattle.group_member.specs.Resting.{RestsIdle}
+use Rattle.group_member.specs.Resting.{NoneInSlots, RestsIdle}
 use Rattle.group_crew.specs.States.{CrewState}
 use Rattle.lock_protocol.specs.Machine.{World}
 use Rattle.lock_protocol.specs.Sound.{Sound}
@@ -21,6 +20,7 @@ use Rattle.lock_world.specs.Tied.{Claims, Tied}
 use Rattle.lock_world.specs.Views.{entry_in, claim_in}
 use Rattle.marks_law.specs.Slots.{SlotsStand}
 use Rattle.lock_members.specs.Known.{known_of}
+use Rattle.lock_restarts.specs.Courses.{HasHandedOver, IsInOrder}
 
 -- members are numbered from 1 on
 abbrev pub known_by : Option Member → ℕ → ℕ → Option Mode
@@ -45,16 +45,16 @@ FreeClaimsNothing s = (slot c : ℕ) → is_agent s slot ≡ true → is_free (s
 pub record RestartStands (k : ℕ) (m : Member) (s : RestartState) : Type 0 where
   pub member : s.member ≡ k
   pub on : s.is_up ≡ false
+  pub order : IsInOrder s
   pub own : (c : ℕ) → claim_in m.holds.marks.locks 0 c ≡ None
-  pub left : ClaimsNothing m.holds.marks.locks ⊎ ((s.claim ≡ None) × ((id : ℕ) → page_undone s.trans id ≡ None))
-  pub read : is_some s.kept ≡ true → s.own.is_read ≡ true
-  pub taken : (ClaimsNothing m.holds.marks.locks → ⊥) → s.own.is_read ≡ true
+  pub left : ClaimsNothing m.holds.marks.locks ⊎ HasHandedOver s
 
 abbrev pub RestartInHand : ℕ → Member → Option RestartHeld → Type 0
 RestartInHand k m None = Unit {0}
 RestartInHand k m (Some q) = RestartStands k m q.resources.marks
 
--- The member of this number. It has a restart as long as its standing says so. One that isn't live knows of no claims.
+-- The member of this number. It has a restart as long as its standing says so. One that isn't live knows of no claims,
+-- and its slots are free.
 pub record MemberStands (f : Held) (k : ℕ) (m : Member) : Type 0 where
   pub id : m.id ≡ k
   pub member : m.holds.marks.member ≡ k
@@ -66,7 +66,7 @@ pub record MemberStands (f : Held) (k : ℕ) (m : Member) : Type 0 where
   pub restarts : status_of f.lists.statuses k ≡ Restarting → is_some m.restart ≡ true
   pub rests : RestsIdle m
   pub restart : RestartInHand k m m.restart
-  pub down : is_live (status_of f.lists.statuses k) ≡ false → (m.restart ≡ None) × ClaimsNothing m.holds.marks.locks
+  pub down : is_live (status_of f.lists.statuses k) ≡ false → (m.restart ≡ None) × ClaimsNothing m.holds.marks.locks × NoneInSlots m.holds.marks
 
 -- ---- the invariant
 

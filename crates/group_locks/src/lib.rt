@@ -1,18 +1,32 @@
-//! The locks of a group beside a sound world of locks: the fact that the group is to carry from event to event, and what each event
-//! is of that world. Of the events of a group those are proved that befall it as a whole, the failure of a member, and the events of one
-//! that is up.
+//! The locks of a group beside a sound world of locks: the fact that the group is to carry from event to event, and which moves of that
+//! world each event is, by what it befalls: the group as a whole, a phase that begins, a member that fails, one that is up, and one that
+//! restarts. What no contract below says yet is a premise.
 //!
 //! The crate has definitions and proofs alone. Its functions do nothing: their contracts are the theorems.
 #![tactic(auto)]
 
+ghost use Rattle.group_locks.specs.Adopting.{AdoptionsGo};
 ghost use Rattle.group_locks.specs.Beginning.{StartsTied};
+ghost use Rattle.group_locks.specs.Handing.{HandsOnMoves};
 ghost use Rattle.group_locks.specs.Members.{MemberStepsMoves};
+ghost use Rattle.group_locks.specs.Phases.{PhasesMove};
+ghost use Rattle.group_locks.specs.Resting.{RestingStepsMove};
+ghost use Rattle.group_locks.specs.Restarts.{RestartStepsMove};
+ghost use Rattle.group_locks.specs.Taken.{EventsMove};
 ghost use Rattle.group_locks.specs.Whole.{AnewMoves, GroupFailsTied, MemberFailsMoves};
 
+use cache_structure::CacheFace;
+use ds_disk::Disk;
+use lock_events::{commands_stay, events_go};
 use lock_members::{members_fail, members_go};
 use lock_protocol::keeps_sound;
-use lock_world::groups_begin;
-use marks_law::slots_stay;
+use lock_restarts::{restarts_follow, restarts_go};
+use lock_world::{
+    books_change, books_tell, failures_are_moves, groups_begin, names_have_numbers,
+    queries_are_moves, rollbacks_are_moves, rollbacks_change,
+};
+use marks_law::{claims_stay, slots_stay};
+use needs_law::sends_lawfully;
 
 /// A group that is as it was made stands beside the start of the world of locks.
 pub fn groups_start()
@@ -48,4 +62,78 @@ pub fn member_steps_go()
 {
     keeps_sound();
     members_go();
+}
+
+/// The claims of a member that has failed may be handed on to the rollbacks that its transactions are from then on.
+pub fn claims_handed_on()
+    ensures { HandsOnMoves }
+{
+    keeps_sound();
+}
+
+/// The begin of a phase is a restart of each member that it brings back.
+pub fn phases_go()
+    ensures { PhasesMove }
+{
+    keeps_sound();
+    failures_are_moves();
+    groups_begin();
+}
+
+/// What a restart leaves open becomes rollbacks of its member: the claims of the failed transactions are theirs, in the modes that they need.
+pub fn adoptions_go()
+    ensures { AdoptionsGo }
+{
+    names_have_numbers();
+    books_tell();
+    books_change();
+    rollbacks_change();
+    rollbacks_are_moves();
+    slots_stay();
+    groups_begin();
+}
+
+/// An event of a restart, with what it hands over to its member, is moves, behind which the group still stands beside a sound world.
+pub fn member_restarts_go()
+    ensures { RestartStepsMove }
+{
+    names_have_numbers();
+    keeps_sound();
+    groups_begin();
+    books_tell();
+    rollbacks_change();
+    slots_stay();
+    events_go();
+    restarts_go();
+    restarts_follow();
+    adoptions_go();
+}
+
+/// Its other events while it restarts, in which it answers queries, asks and rebuilds the cache, are moves too.
+pub fn resting_members_go()
+    ensures { RestingStepsMove }
+{
+    names_have_numbers();
+    keeps_sound();
+    groups_begin();
+    queries_are_moves();
+    books_tell();
+    rollbacks_change();
+    slots_stay();
+    claims_stay();
+    commands_stay();
+    sends_lawfully();
+}
+
+/// Any event of a group, in which no fault is left, is moves, behind which the group still stands beside a sound world, given what no contract
+/// says yet.
+pub fn groups_step<D: Disk, C: CacheFace, P>()
+    ensures { EventsMove P C.directory D.alive D.contents D.faults }
+{
+    groups_go();
+    phases_go();
+    member_failures_go();
+    member_steps_go();
+    member_restarts_go();
+    resting_members_go();
 }

@@ -23,9 +23,11 @@ use Rattle.lock_world.specs.Cells.{AsksMoves, RefusesMoves}
 use Rattle.lock_world.specs.Grants.{EntersIf, GrantsMoves, MayEnter, ObtainsMoves}
 use Rattle.lock_world.specs.Numbers.{number}
 use Rattle.lock_world.specs.Standing.{StaysTied}
-use Rattle.lock_world.specs.Tied.{Claims, Tied}
+use Rattle.lock_world.specs.Tied.{Claims, Moved, Tied}
+use Rattle.lock_world.specs.Views.{entry_in}
 use Rattle.lock_restarts.specs.Intents.{AskGoes, GrantGoes, ObtainGoes}
-use Rattle.lock_restarts.specs.Stands.{Goes, IsRestarting, Knows, Leads, OwnClaims, known_with}
+use Rattle.lock_restarts.specs.Stands.{Goes, IsRestarting, Knows, Leads, OwnClaims, known_with, none_gone}
+use Rattle.lock_restarts.proofs.Spares.{ask_spares, grant_spares, obtain_spares, refuse_spares}
 use Rattle.lock_restarts.proofs.Stands.{claim_entered, ended, quiet_goes, stay_claims}
 
 -- what the crates below say
@@ -73,19 +75,22 @@ enters f held left own s t page r knows free claimed leads = (
 unchanged : (f g : Held) → g ≡ record f { locks = g.locks } → g.locks ≡ f.locks → g ≡ f
 unchanged f g a b = a ∙ ap (λ (z : Locks). record f { locks = z }) b
 
-not_granted : Facts → (w : World) (f g : Held) (held left : Claims) (own : OwnClaims) (s t : RestartState) → Tied w f.locks f.lists held → Knows held own s → Leads held left own s t → g ≡ record f { locks = g.locks } → g.locks ≡ f.locks → t.claim ≡ s.claim → Goes w f g left
-not_granted facts w f g held left own s t tied knows leads only same claim = quiet_goes facts.stay w f g held left tied (unchanged f g only same) (stay_claims held left own s t knows leads claim)
+not_granted : Facts → (w : World) (f g : Held) (held left : Claims) (own : OwnClaims) (s t : RestartState) → Tied w f.locks f.lists held → Knows held own s → Leads held left own s t → g ≡ record f { locks = g.locks } → g.locks ≡ f.locks → t.claim ≡ s.claim → Goes w f g left s.member none_gone
+not_granted facts w f g held left own s t tied knows leads only same claim = quiet_goes facts.stay w f g held left s.member none_gone tied (unchanged f g only same) (stay_claims held left own s t knows leads claim)
 
 obtained : Facts → (w : World) (f g : Held) (held left : Claims) (own : OwnClaims) (s t : RestartState) (id : ℕ) (page : PageId) (answer : Reply)
     → Tied w f.locks f.lists held → IsRestarting f own s → Knows held own s → page_undone s.trans id ≡ Some page → (is_none s.claim || is_claimed s page) ≡ true
-    → ObtainAnswers f.locks s.member (name.Page page) X answer g.locks → g ≡ record f { locks = g.locks } → t ≡ claim_after s id answer → Leads held left own s t → Goes w f g left
+    → ObtainAnswers f.locks s.member (name.Page page) X answer g.locks → g ≡ record f { locks = g.locks } → t ≡ claim_after s id answer → Leads held left own s t → Goes w f g left s.member none_gone
 obtained facts w f g held left own s t id page (reply.Granted version) tied r knows undone free gives only is leads =
     let claimed : t.claim ≡ Some page = ap (λ (z : RestartState). z.claim) is ∙ undone in
+    let moved : Moved w (Obtain s.member 0 (number (name.Page page)) X true ∷ []) f.locks g.locks g.lists left =
+    ended facts.stay w (Obtain s.member 0 (number (name.Page page)) X true ∷ []) f.locks g.locks f.lists g left left
+    (facts.obtain w f.locks g.locks f.lists held left s.member 0 (name.Page page) X true tied (may_enter f held own s page r) (enters f held left own s t page r knows free claimed leads) gives.0 gives.2 gives.4)
+    refl (ap (λ (z : Held). z.lists.cells) only) (ap (λ (z : Held). z.lists.statuses) only) (ap (λ (z : Held). z.lists.members) only) (λ k o c. refl) in
     record {
       moves = Obtain s.member 0 (number (name.Page page)) X true ∷ [];
-      moved = ended facts.stay w (Obtain s.member 0 (number (name.Page page)) X true ∷ []) f.locks g.locks f.lists g left left
-          (facts.obtain w f.locks g.locks f.lists held left s.member 0 (name.Page page) X true tied (may_enter f held own s page r) (enters f held left own s t page r knows free claimed leads) gives.0 gives.2 gives.4)
-          refl (ap (λ (z : Held). z.lists.cells) only) (ap (λ (z : Held). z.lists.statuses) only) (ap (λ (z : Held). z.lists.members) only) (λ k o c. refl);
+      moved = moved;
+      spares = obtain_spares (entry_in f.locks) w moved.world s.member (number (name.Page page)) X moved.run;
     }
 obtained facts w f g held left own s t id page (reply.Retained by) tied r knows undone free gives only is leads = not_granted facts w f g held left own s t tied knows leads only gives.1 (ap (λ (z : RestartState). z.claim) is)
 obtained facts w f g held left own s t id page (reply.RecordsFull limit) tied r knows undone free gives only is leads = not_granted facts w f g held left own s t tied knows leads only gives.3 (ap (λ (z : RestartState). z.claim) is)
@@ -125,23 +130,26 @@ obtain_goes facts w f g held left own s t id page answer tied r knows undone fre
 
 -- ---- grant
 refused : Facts → (w : World) (f g : Held) (held left : Claims) (own : OwnClaims) (s t : RestartState) → Tied w f.locks f.lists held → IsRestarting f own s → Knows held own s → Leads held left own s t
-    → AreCells g.lists.cells (emptied f.lists.cells (slot_of s.member 0)) → g ≡ record f { locks = g.locks; lists = record f.lists { cells = g.lists.cells } } → g.locks ≡ f.locks → t.claim ≡ s.claim → Goes w f g left
-refused facts w f g held left own s t tied r knows leads are only same claim = record {
-  moves = Refuse s.member 0 ∷ [];
-  moved = ended facts.stay w (Refuse s.member 0 ∷ []) f.locks f.locks g.lists g held left (facts.refuse w f.locks f.lists g.lists held s.member 0 tied r.member (omega arith) are (ap (λ (z : Held). z.lists) only))
-      same refl refl refl (stay_claims held left own s t knows leads claim);
-}
+    → AreCells g.lists.cells (emptied f.lists.cells (slot_of s.member 0)) → g ≡ record f { locks = g.locks; lists = record f.lists { cells = g.lists.cells } } → g.locks ≡ f.locks → t.claim ≡ s.claim → Goes w f g left s.member none_gone
+refused facts w f g held left own s t tied r knows leads are only same claim =
+    let moved : Moved w (Refuse s.member 0 ∷ []) f.locks g.locks g.lists left =
+    ended facts.stay w (Refuse s.member 0 ∷ []) f.locks f.locks g.lists g held left (facts.refuse w f.locks f.lists g.lists held s.member 0 tied r.member (omega arith) are (ap (λ (z : Held). z.lists) only))
+    same refl refl refl (stay_claims held left own s t knows leads claim) in
+    record { moves = Refuse s.member 0 ∷ []; moved = moved; spares = refuse_spares (entry_in f.locks) w moved.world s.member moved.run }
 
 granted : Facts → (w : World) (f g : Held) (held left : Claims) (own : OwnClaims) (s t : RestartState) (id : ℕ) (page : PageId) (answer : Reply)
     → Tied w f.locks f.lists held → IsRestarting f own s → Knows held own s → page_undone s.trans id ≡ Some page → (is_none s.claim || is_claimed s page) ≡ true
     → GrantAnswers f.locks s.member (name.Page page) X (clean_answers f.lists.cells s.member 0 (name.Page page) X) answer g.locks → AreCells g.lists.cells (emptied f.lists.cells (slot_of s.member 0))
-    → g ≡ record f { locks = g.locks; lists = record f.lists { cells = g.lists.cells } } → t ≡ claim_after s id answer → Leads held left own s t → Goes w f g left
+    → g ≡ record f { locks = g.locks; lists = record f.lists { cells = g.lists.cells } } → t ≡ claim_after s id answer → Leads held left own s t → Goes w f g left s.member none_gone
 granted facts w f g held left own s t id page (reply.Granted version) tied r knows undone free gives are only is leads =
     let claimed : t.claim ≡ Some page = ap (λ (z : RestartState). z.claim) is ∙ undone in
+    let moved : Moved w (Grant s.member 0 (number (name.Page page)) X true ∷ []) f.locks g.locks g.lists left =
+    facts.grant w f.locks g.locks f.lists g.lists held left s.member 0 (name.Page page) X true tied (may_enter f held own s page r) (enters f held left own s t page r knows free claimed leads) (omega arith)
+    gives.0 gives.2 gives.4 are (ap (λ (z : Held). z.lists) only) in
     record {
       moves = Grant s.member 0 (number (name.Page page)) X true ∷ [];
-      moved = facts.grant w f.locks g.locks f.lists g.lists held left s.member 0 (name.Page page) X true tied (may_enter f held own s page r) (enters f held left own s t page r knows free claimed leads) (omega arith)
-          gives.0 gives.2 gives.4 are (ap (λ (z : Held). z.lists) only);
+      moved = moved;
+      spares = grant_spares (entry_in f.locks) w moved.world s.member (number (name.Page page)) X moved.run;
     }
 granted facts w f g held left own s t id page (reply.Retained by) tied r knows undone free gives are only is leads = refused facts w f g held left own s t tied r knows leads are only gives.1 (ap (λ (z : RestartState). z.claim) is)
 granted facts w f g held left own s t id page (reply.RecordsFull limit) tied r knows undone free gives are only is leads = refused facts w f g held left own s t tied r knows leads are only gives.3 (ap (λ (z : RestartState). z.claim) is)
@@ -181,9 +189,13 @@ grant_goes facts w f g held left own s t id page answer tied r knows undone free
 
 -- ---- a query
 pub ask_goes : Facts → AskGoes
-ask_goes facts w f g held left own s t to page answer tied r knows member gives claim leads = record {
-  moves = Ask s.member 0 to (number (name.Page page)) X ∷ [];
-  moved = ended facts.stay w (Ask s.member 0 to (number (name.Page page)) X ∷ []) f.locks f.locks g.lists g held left
-      (facts.ask w f.locks f.lists g.lists held s.member 0 to (name.Page page) X tied r.member (omega arith) member gives.1.0 (ap (λ (z : Held). z.lists) gives.1.1))
-      (ap (λ (z : Held). z.locks) gives.1.1) refl refl refl (stay_claims held left own s t knows leads claim);
-}
+ask_goes facts w f g held left own s t to page answer tied r knows member gives claim leads =
+    let moved : Moved w (Ask s.member 0 to (number (name.Page page)) X ∷ []) f.locks g.locks g.lists left =
+    ended facts.stay w (Ask s.member 0 to (number (name.Page page)) X ∷ []) f.locks f.locks g.lists g held left
+    (facts.ask w f.locks f.lists g.lists held s.member 0 to (name.Page page) X tied r.member (omega arith) member gives.1.0 (ap (λ (z : Held). z.lists) gives.1.1))
+    (ap (λ (z : Held). z.locks) gives.1.1) refl refl refl (stay_claims held left own s t knows leads claim) in
+    record {
+      moves = Ask s.member 0 to (number (name.Page page)) X ∷ [];
+      moved = moved;
+      spares = ask_spares (entry_in f.locks) w moved.world s.member to (number (name.Page page)) X moved.run;
+    }

@@ -1,6 +1,13 @@
+pub mod Spares
 pub mod Stands
 pub mod Asking
 pub mod Leaving
 pub mod Sent
 pub mod Locals
 pub mod Changes
+pub mod Near
+pub mod Reading
+pub mod Courses
+pub mod Stills
+pub mod Events
+pub mod Standings

@@ -28,32 +28,32 @@ use Rattle.restart_marks.specs.Tested.{Tested, after, passed, sends, when}
 use Rattle.lock_world.specs.Tied.{is_own}
 use Rattle.lock_restarts.specs.Sent.{IsStill, LocksPage, SendsLawfully}
 
-abbrev holds : Tested → Bool
+abbrev pub holds : Tested → Bool
 holds (Ok x) = true
 holds (Err t) = false
 
-err_ok : {T : Type 0} → (t : RestartTest) (y : T) (x : Result T RestartTest) → x ≡ Err t → x ≡ Ok y → ⊥
+pub err_ok : {T : Type 0} → (t : RestartTest) (y : T) (x : Result T RestartTest) → x ≡ Err t → x ≡ Ok y → ⊥
 err_ok t y x a b = cc
 
-same_ok : {T : Type 0} → (x y : T) (a b : Result T RestartTest) → a ≡ Ok x → b ≡ Ok y → a ≡ b → x ≡ y
+pub same_ok : {T : Type 0} → (x y : T) (a b : Result T RestartTest) → a ≡ Ok x → b ≡ Ok y → a ≡ b → x ≡ y
 same_ok x y a b p q e = cc
 
-after_rest : {T : Type 0} → (t : Tested) (r : Result T RestartTest) (y : T) → after t r ≡ Ok y → r ≡ Ok y
+pub after_rest : {T : Type 0} → (t : Tested) (r : Result T RestartTest) (y : T) → after t r ≡ Ok y → r ≡ Ok y
 after_rest (Ok x) r y e = e
 after_rest {T} (Err t) r y e = absurd (err_ok t y (Err t) refl e)
 
-after_first : {T : Type 0} → (t : Tested) (r : Result T RestartTest) (y : T) → after t r ≡ Ok y → holds t ≡ true
+pub after_first : {T : Type 0} → (t : Tested) (r : Result T RestartTest) (y : T) → after t r ≡ Ok y → holds t ≡ true
 after_first (Ok x) r y e = refl
 after_first {T} (Err t) r y e = absurd (err_ok t y (Err t) refl e)
 
 never : false ≡ true → ⊥
 never e = cc
 
-when_first : (b : Bool) (t : RestartTest) (rest : Tested) → holds (when b t rest) ≡ true → b ≡ true
+pub when_first : (b : Bool) (t : RestartTest) (rest : Tested) → holds (when b t rest) ≡ true → b ≡ true
 when_first true t rest h = refl
 when_first false t rest h = absurd (never h)
 
-when_rest : (b : Bool) (t : RestartTest) (rest : Tested) → holds (when b t rest) ≡ true → holds rest ≡ true
+pub when_rest : (b : Bool) (t : RestartTest) (rest : Tested) → holds (when b t rest) ≡ true → holds rest ≡ true
 when_rest true t rest h = h
 when_rest false t rest h = absurd (never h)
 

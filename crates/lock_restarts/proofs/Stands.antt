@@ -11,12 +11,21 @@ use Rattle.list_structure.specs.States.{ListsState}
 use Rattle.facility.specs.States.{Held}
 use Rattle.restart_marks.specs.Moves.{is_claimed_as, is_same}
 use Rattle.restart_marks.specs.State.{RestartState}
+use Rattle.restart_resources.specs.Held as resources
+use Rattle.restart_resources.specs.Lending.{with_bytes}
 use Rattle.lock_protocol.specs.Machine.{World}
 use Rattle.lock_protocol.specs.Moves.{Move}
 use Rattle.lock_world.specs.Numbers.{number}
 use Rattle.lock_world.specs.Standing.{StaysTied}
 use Rattle.lock_world.specs.Tied.{Claims, Tied, Moved}
+use Rattle.lock_world.specs.Views.{entry_in}
 use Rattle.lock_restarts.specs.Stands.{OwnClaims, Knows, Leads, Goes, known_with, or_else, page_claim}
+use Rattle.lock_restarts.proofs.Spares.{no_move}
+
+-- ---- marks behind the command, before it is settled
+pub same_marks : (h k : resources.Held) (b : Bool) (page : List ℕ) → k ≡ with_bytes h b page → k.marks ≡ h.marks
+same_marks h k true page e = ap (λ (z : resources.Held). z.marks) e
+same_marks h k false page e = ap (λ (z : resources.Held). z.marks) e
 
 -- ---- the claims stay
 pub stay_claims : (held left : Claims) (own : OwnClaims) (s t : RestartState) → Knows held own s → Leads held left own s t → t.claim ≡ s.claim → (k o c : ℕ) → left k o c ≡ held k o c
@@ -36,12 +45,12 @@ ended law w moves before locks lists g held left m same cells statuses members c
         record { same = m.same; world = m.world; run = m.run; tied = subst (λ z. Tied z locks g.lists left) n.run n.tied }
 
 -- no move
-pub quiet_goes : StaysTied → (w : World) (f g : Held) (held left : Claims) → Tied w f.locks f.lists held → g ≡ f → ((k o c : ℕ) → left k o c ≡ held k o c) → Goes w f g left
-quiet_goes law w f g held left tied same claims = record {
-  moves = [];
-  moved = ended law w [] f.locks f.locks f.lists g held left (law w f.locks f.lists f.lists held held tied (record { cells = refl; statuses = refl; members = refl; claims = λ k o c. refl }))
-      (ap (λ (z : Held). z.locks) same) (ap (λ (z : Held). z.lists.cells) same) (ap (λ (z : Held). z.lists.statuses) same) (ap (λ (z : Held). z.lists.members) same) claims;
-}
+pub quiet_goes : StaysTied → (w : World) (f g : Held) (held left : Claims) (m : ℕ) (gone : ℕ → Bool) → Tied w f.locks f.lists held → g ≡ f → ((k o c : ℕ) → left k o c ≡ held k o c) → Goes w f g left m gone
+quiet_goes law w f g held left m gone tied same claims =
+    let moved : Moved w [] f.locks g.locks g.lists left =
+    ended law w [] f.locks f.locks f.lists g held left (law w f.locks f.lists f.lists held held tied (record { cells = refl; statuses = refl; members = refl; claims = λ k o c. refl }))
+    (ap (λ (z : Held). z.locks) same) (ap (λ (z : Held). z.lists.cells) same) (ap (λ (z : Held). z.lists.statuses) same) (ap (λ (z : Held). z.lists.members) same) claims in
+    record { moves = []; moved = moved; spares = no_move (entry_in f.locks) w moved.world m gone moved.run }
 
 -- ---- the page is claimed
 same_page : (p q : PageId) → is_same p q ≡ true → p ≡ q

@@ -1,5 +1,5 @@
 -- A member whose restart is in hand, beside the claims of all members and a world of locks.
-use Rattle.std.specs.Prelude.{◌≡◌, ◌≢◌, ◌⊎◌, ℕ, ◌≤◌, ◌==◌, List, Option, Some, None, if◌then◌else◌}
+use Rattle.std.specs.Prelude.{◌≡◌, ◌≢◌, ◌⊎◌, ℕ, ◌≤◌, ◌==◌, Bool, false, List, Option, Some, None, if◌then◌else◌}
 use Rattle.ds_base.specs.declared.names.PageId.{PageId}
 use Rattle.ds_base.specs.Ids.{IsMember}
 use Rattle.ds_model.specs.declared.lock.Name.TheVariants as name
@@ -13,8 +13,8 @@ use Rattle.restart_marks.specs.Moves.{Reaches}
 use Rattle.restart_marks.specs.State.{RestartState}
 use Rattle.lock_protocol.specs.Machine.{World}
 use Rattle.lock_protocol.specs.Moves.{Move}
-use Rattle.lock_world.specs.Numbers.{number}
-use Rattle.lock_world.specs.Tied.{Claims, Moved}
+use Rattle.lock_world.specs.Numbers.{name_at, number}
+use Rattle.lock_world.specs.Tied.{Claims, Moved, is_own}
 
 -- the claims of the member's lock manager, by owner and name: those of the rollbacks that it has taken over
 abbrev pub OwnClaims : Type 0
@@ -51,10 +51,18 @@ pub record IsRestarting (f : Held) (own : OwnClaims) (s : RestartState) : Type 0
   pub pages : (c : ℕ) → own 0 c ≡ None
   pub left : ((o c : ℕ) → own o c ≡ None) ⊎ ((s.claim ≡ None) × ((id : ℕ) → page_undone s.trans id ≡ None))
 
--- moves lead to a world that stands beside what an event of the restart has left
-pub record Goes (w : World) (f g : Held) (left : Claims) : Type 0 where
+-- the claims of the member's transactions and rollbacks stay, but for those on the names that are gone
+abbrev pub Spares : World → World → ℕ → (ℕ → Bool) → Type 0
+Spares w v m gone = (o c : ℕ) → o ≢ 0 → is_own (name_at c) ≡ false → gone c ≡ false → v.claims m o c ≡ w.claims m o c
+
+abbrev pub none_gone : ℕ → Bool
+none_gone c = false
+
+-- moves lead to a world that stands beside what an event of the member's restart has left
+pub record Goes (w : World) (f g : Held) (left : Claims) (m : ℕ) (gone : ℕ → Bool) : Type 0 where
   pub moves : List Move
   pub moved : Moved w moves f.locks g.locks g.lists left
+  pub spares : Spares w moved.world m gone
 
 -- ---- what the restart's local moves leave as it is
 

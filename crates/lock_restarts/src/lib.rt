@@ -5,6 +5,8 @@
 #![tactic(auto)]
 
 ghost use Rattle.lock_restarts.specs.Changes.{ChangesGo};
+ghost use Rattle.lock_restarts.specs.Courses.{RestartsFollow, StandingsFollow};
+ghost use Rattle.lock_restarts.specs.Events.{EventsGo, StillsStay};
 ghost use Rattle.lock_restarts.specs.Intents.{AskGoes, GrantGoes, ObtainGoes, PurgeGoes, ReleaseGoes, UpGoes};
 ghost use Rattle.lock_restarts.specs.Sent.{SendsLawfully};
 ghost use Rattle.lock_restarts.specs.Stands.{LocalsStay};
@@ -31,6 +33,7 @@ pub fn locks_left_go()
     ensures purge { PurgeGoes }
     ensures up { UpGoes }
 {
+    names_have_numbers();
     groups_begin();
     releases_are_moves();
     failures_are_moves();
@@ -56,4 +59,36 @@ pub fn changes_go()
     local_moves_stay();
     locks_asked_for_go();
     locks_left_go();
+}
+
+/// An event of the restart that changes no locks, asks nobody and sets no standing is no move.
+pub fn stills_stay()
+    ensures { StillsStay }
+{
+    groups_begin();
+    sends_lawfully();
+    local_moves_stay();
+}
+
+/// Any event of the restart leads to a world that stands beside what is left, where the retained record that it frees, if it frees one, is of
+/// a name that no rollback of the member claims.
+pub fn restarts_go()
+    ensures { EventsGo }
+{
+    groups_begin();
+    sends_lawfully();
+    local_moves_stay();
+    stills_stay();
+    changes_go();
+}
+
+/// How far the restart is, behind any event of it: once its log is read, nothing reads on; only behind that retained locks are listed, and
+/// a lock is asked for that another member may keep; and one that has handed over what it has left open asks for none. Only its end sets a
+/// standing, which is the member's.
+pub fn restarts_follow()
+    ensures follows { RestartsFollow }
+    ensures standings { StandingsFollow }
+{
+    sends_lawfully();
+    local_moves_stay();
 }

@@ -4,6 +4,7 @@ use Rattle.lock_restarts.proofs.Leaving.{Facts, purge_goes, release_goes, up_goe
 pub returns : goal.returns
 returns c =
     let facts : Facts = record {
+      numbers = c.names_have_numbers.ensures;
       release = c.releases_are_moves.ensures.release;
       purge = c.releases_are_moves.ensures.purge;
       rises = c.failures_are_moves.ensures.rises;
