@@ -26,8 +26,8 @@ OpenedClaim old new w = (at : ℕ) (m n : Member) (drive left : Drive) (place : 
     → (made : Steps m (record { facility = old.facility; drive = drive }) old.fates place (steps.Restart sent answered) n (record { facility = new.facility; drive = left }) new.fates)
     → made.makes.reached.resources.marks.is_up ≡ false → HaveClaimed (freed_world w m.id sent) m.id (opened_among made.makes.reached.resources.marks.trans.list)
 
--- What no contract below says yet: members keep their numbers; a slot without a transaction claims nothing; and what the log says of the
--- transactions that a restart leaves open.
+-- What isn't drawn yet from the contracts below, that members keep their numbers and that a slot without a transaction claims nothing; and what
+-- none of them says, what the log tells of the transactions that a restart leaves open.
 pub record Unsaid (old new : CrewState) (w : World) : Type 0 where
   pub numbered : (at : ℕ) → IfSome (slice_get new.members at) (λ m. m.id ≡ at + 1)
   pub free : (at : ℕ) → IfSome (slice_get new.members at) (λ m. FreeClaimsNothing m.holds.marks)
