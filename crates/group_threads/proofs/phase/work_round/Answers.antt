@@ -41,7 +41,7 @@ for_each_in_thread-requires-clause-accepts g c κs within i p less is =
 pub returns-clause-at : goal.returns-clause-at
 returns-clause-at g c =
     let turn = c.args.turn.now in
-    let same : length c.for_each_in_thread.new.s ≡ length c.args.workers.now = search rules in
-    from_places member_in turn.id turn.start c.for_each_in_thread.new.s (λ w. w.desk.seat) (λ w. w.desk.part) 1 (λ i d less.
+    let same : length c.for_each_in_thread.new.elements ≡ length c.args.workers.now = search rules in
+    from_places member_in turn.id turn.start c.for_each_in_thread.new.elements (λ w. w.desk.seat) (λ w. w.desk.part) 1 (λ i d less.
     let h = (c.for_each_in_thread.ensures i d (subst (λ n. i < n) same less)).1 in
     moved _ _ h.left (λ w. IsMemberAt turn (i + 1) w.desk.seat w.desk.part) h.call)
