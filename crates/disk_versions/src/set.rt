@@ -4,7 +4,7 @@ ghost use Rattle.ds_disk.specs.Pages.{page_at};
 ghost use Rattle.ds_model.specs.RecordBytes.{IsAllowed};
 ghost use Rattle.disk_versions.specs.Reading.{Reads};
 ghost use Rattle.disk_versions.specs.Ends.{pages_read};
-ghost use Rattle.disk_versions.specs.Placing.{IsSetTold, IsCountUpTo};
+ghost use Rattle.disk_versions.specs.Placing.{count_with, IsSetTold, IsCountUpTo};
 
 use crate::ends::{end_of, last_by_header, last_in_records};
 use crate::page::{judge, load};
