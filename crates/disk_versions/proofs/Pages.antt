@@ -6,11 +6,13 @@ use Rattle.ds_base.specs.declared.names.PageId.{PageId}
 use Rattle.ds_disk.specs.Contents.{Contents, WhenTold, Becomes, Same}
 use Rattle.ds_disk.specs.Pages.{page_at}
 use Rattle.ds_model.specs.declared.log.LogRecord.{LogRecord}
+use Rattle.page_format.specs.Header.{is_zeros, header_of}
 use Rattle.page_images.specs.Images.{Images}
 use Rattle.page_versions.specs.Fronts.{IsPlaced}
-use Rattle.disk_versions.specs.Ends.{page_of}
-use Rattle.disk_versions.specs.Placing.{IsJudged, count_with, written_in, AreUpTo, AreInSet, IsFirstInSet}
+use Rattle.disk_versions.specs.Ends.{page_of, last_by_header, last_in_records, end_of, pages_read}
+use Rattle.disk_versions.specs.Placing.{IsJudged, count_with, written_in, AreUpTo, AreInSet, IsFirstInSet, IsSetTold}
 use Rattle.disk_versions.specs.declared.page.Judged.{Judged}
+use Rattle.disk_versions.specs.declared.set.Placing.{Placing}
 use Rattle.disk_versions.proofs.Reading.{told_before, told_by_both}
 
 pub decide : (b : Bool) (P : Type 0) → (b ≡ true → P) → (b ≡ false → P) → P
@@ -73,3 +75,38 @@ wrong_told start now records renews set n end pages j s lt wrong h k =
     told_by_both start (JudgedAt set n records renews j) (InSetAt records renews set n pages) (FirstAt records renews set end n)
     (λ c is all. page_wrong (page_at c.pages) records renews set n end pages j lt is wrong all)
     (told_before start now (JudgedAt set n records renews j) s k) h
+
+-- ---- a page as it was read
+
+abbrev Loaded : PageId → List ℕ → Contents → Contents → Type 0
+Loaded id page c d = (d ≡ c) × (page ≡ page_at c.pages id)
+
+pub same_after : (before after : Option Contents) (id : PageId) (page : List ℕ) → Becomes before after (Loaded id page) → Becomes before after Same
+same_after None after id page b = tt
+same_after (Some c) None id page b = absurd b
+same_after (Some c) (Some d) id page b = b.0
+
+pub judged_of : (before after : Option Contents) (id : PageId) (records : List LogRecord) (renews : Bool) (page : List ℕ) (j : Judged) → Becomes before after (Loaded id page)
+    → IsTrue j.is_placed ↔ IsPlaced id records renews page → j.is_written ≡ not (is_zeros page) → WhenTold before (λ (c : Contents). IsJudged id records renews (page_at c.pages id) j)
+judged_of None after id records renews page j b p w = tt
+judged_of (Some c) None id records renews page j b p w = absurd b
+judged_of (Some c) (Some d) id records renews page j b p w = record {
+  placed = subst (λ (q : List ℕ). IsTrue j.is_placed ↔ IsPlaced id records renews q) b.1 p;
+  written = w ∙ ap (λ (q : List ℕ). not (is_zeros q)) b.1;
+}
+
+pub end_told : (before after : Option Contents) (records : List LogRecord) (set behind end : ℕ) (page : List ℕ) → Becomes before after (Loaded (page_of set 0) page)
+    → end ≡ end_of (last_by_header (header_of page (page_of set 0)) page) (last_in_records set 0 records) behind → WhenTold before (λ (c : Contents). end ≡ pages_read (page_at c.pages) records behind set)
+end_told None after records set behind end page b e = tt
+end_told (Some c) None records set behind end page b e = absurd b
+end_told (Some c) (Some d) records set behind end page b e = e ∙ ap (λ (q : List ℕ). end_of (last_by_header (header_of q (page_of set 0)) q) (last_in_records set 0 records) behind) b.1
+
+-- what was found up to an end is found up to the same end
+pub ends_at : (start now : Option Contents) (records : List LogRecord) (renews : Bool) (set behind end : ℕ) (found : Placing) → Becomes start now Same
+    → WhenTold start (λ (c : Contents). end ≡ pages_read (page_at c.pages) records behind set) → WhenTold now (λ (c : Contents). IsSetTold (page_at c.pages) records renews set end found)
+    → WhenTold start (λ (c : Contents). IsSetTold (page_at c.pages) records renews set (pages_read (page_at c.pages) records behind set) found)
+ends_at start now records renews set behind end found s e k =
+    told_by_both start (λ (c : Contents). end ≡ pages_read (page_at c.pages) records behind set) (λ (c : Contents). IsSetTold (page_at c.pages) records renews set end found)
+    (λ (c : Contents). IsSetTold (page_at c.pages) records renews set (pages_read (page_at c.pages) records behind set) found)
+    (λ c is told. subst (λ (n : ℕ). IsSetTold (page_at c.pages) records renews set n found) is told)
+    e (told_before start now (λ (c : Contents). IsSetTold (page_at c.pages) records renews set end found) s k)

@@ -29,9 +29,9 @@ pub set_more : (at : Images) (records : List LogRecord) (renews : Bool) (behind 
     → AreInSet at records renews (n + 1) (pages_read at records behind (n + 1)) more → AreInSets at records renews behind (n + 1) (pages + more)
 set_more at records renews behind n pages more h k = record {
   each = λ id r.
-    decide (nat_le id.set n) (IsPlaced id records renews (at id))
-    (λ e. h.each id (record { set_from = r.set_from; set_to = within id.set n e; number_in = r.number_in }))
-    (λ e. placed_in at records renews behind (n + 1) more id (last_of id.set n r.set_to e) r.number_in k);
+      decide (nat_le id.set n) (IsPlaced id records renews (at id))
+      (λ e. h.each id (record { set_from = r.set_from; set_to = within id.set n e; number_in = r.number_in }))
+      (λ e. placed_in at records renews behind (n + 1) more id (last_of id.set n r.set_to e) r.number_in k);
   count =
       ap (λ (m : ℕ). m + more) h.count
       ∙ ap (λ (m : ℕ). written_through at records behind n + m) k.count

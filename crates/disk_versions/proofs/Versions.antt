@@ -58,10 +58,10 @@ by_reading : (at : Images) (records : List LogRecord) (behind sets : ℕ) (id : 
 by_reading at records behind sets id P f g =
     decide (nat_le 1 id.set) P
     (λ a. decide (nat_le id.set sets) P
-      (λ b. decide (nat_lt id.number (pages_read at records behind id.set)) P
-        (λ c. f (record { set_from = le_of 1 id.set a; set_to = le_of id.set sets b; number_in = lt_of id.number (pages_read at records behind id.set) c }))
-        (λ c. g (λ r. not_lt id.number (pages_read at records behind id.set) c r.number_in)))
-      (λ b. g (λ r. not_le id.set sets b r.set_to)))
+    (λ b. decide (nat_lt id.number (pages_read at records behind id.set)) P
+    (λ c. f (record { set_from = le_of 1 id.set a; set_to = le_of id.set sets b; number_in = lt_of id.number (pages_read at records behind id.set) c }))
+    (λ c. g (λ r. not_lt id.number (pages_read at records behind id.set) c r.number_in)))
+    (λ b. g (λ r. not_le id.set sets b r.set_to)))
     (λ a. g (λ r. not_le 1 id.set a r.set_from))
 
 -- ---- what is told
@@ -69,9 +69,9 @@ by_reading at records behind sets id P f g =
 all_told : IsKnown → (at : Images) (logs : List Log) (behind pages : ℕ) → AreInSets at (merged logs) (must_renew logs) behind page_sets pages → AreAllPlaced at logs behind pages
 all_told k at logs behind pages h = record {
   versions = λ rest id.
-    by_reading at (merged logs) behind page_sets id (MayStand logs id (at id))
-    (λ r. (k.stand logs id (at id)).0 (h.each id r))
-    (λ n. subst (λ (p : List ℕ). MayStand logs id p) (sym (rest id n)) (zeros_stand k logs id));
+      by_reading at (merged logs) behind page_sets id (MayStand logs id (at id))
+      (λ r. (k.stand logs id (at id)).0 (h.each id r))
+      (λ n. subst (λ (p : List ℕ). MayStand logs id p) (sym (rest id n)) (zeros_stand k logs id));
   read = λ id r. (k.stand logs id (at id)).0 (h.each id r);
   count = h.count;
 }

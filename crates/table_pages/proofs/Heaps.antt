@@ -1,7 +1,6 @@
 -- The tests of a heap's pages.
 use Rattle.std.proofs.Common.{◌≡◌, ◌↔◌, ℕ, zero, suc, ◌+◌, ◌<◌, ◌≤◌, Bool, true, false, not, ◌&&◌, List, drop, Option, Some, None, is_none, refl, sym, ap, subst, ◌∙◌, arith}
 use Rattle.std.specs.Prelude.{◌==◌, nat_le, nat_lt, IsTrue}
-use Rattle.std.proofs.lemmas.Bool.Decides.{nat_tests}
 use Rattle.ds_base.specs.declared.names.PageId.{PageId}
 use Rattle.page_format.specs.Header.{slots_per_page, is_zeros, header_of}
 use Rattle.page_format.specs.declared.header.PageKind.TheVariants as kind
@@ -10,21 +9,12 @@ use Rattle.heap_space.specs.Next.{last_page_of, given_of, header_allowed}
 use Rattle.heap_space.specs.Slots.{content, slot_in, fault_in}
 use Rattle.sound_disk.specs.Layouts.{IsOfKind, count_in, has_clean_header}
 use Rattle.sound_disk.specs.Heaps.{is_given, IsHeapHeader, IsSlot, IsRowPage}
-use Rattle.table_pages.specs.Kinds.{has_kind}
-use Rattle.table_pages.specs.Heaps.{both_or_neither, is_heap_header, slot_fits, slots_fit, has_rows, is_row_page}
-use Rattle.table_pages.proofs.Tests.{and_left, and_right, and_both, none_of, le_of, of_le}
+use Rattle.table_pages.specs.Kinds.{has_kind, both_or_neither}
+use Rattle.table_pages.specs.Heaps.{is_heap_header, slot_fits, slots_fit, has_rows, is_row_page}
+use Rattle.table_pages.proofs.Tests.{decide, and_left, and_right, and_both, none_of, of_le, both_same, same_both, below, last_of}
 use Rattle.table_pages.proofs.Kinds.{kind_is, kind_has, count_within}
 
 -- ---- the header page
-
-both_same : (a b : Bool) → both_or_neither a b ≡ true → a ≡ b
-both_same true b h = sym h
-both_same false true h = absurd cc
-both_same false false h = refl
-
-same_both : (a b : Bool) → a ≡ b → both_or_neither a b ≡ true
-same_both true b h = sym h
-same_both false b h = ap not (sym h)
 
 abbrev kind_test : PageId → List ℕ → Bool
 kind_test id page = has_kind kind.HeapHeader (header_of page id)
@@ -71,16 +61,6 @@ slot_right page s h = record {
 
 right_slot : (page : List ℕ) (s : ℕ) → IsSlot page s → slot_fits page s ≡ true
 right_slot page s h = and_both (is_none (fault_in page s)) (is_given (content (slot_in page s))) (ap is_none h.fault_none) h.given
-
-decide : (b : Bool) (P : Type 0) → (b ≡ true → P) → (b ≡ false → P) → P
-decide true P f g = f refl
-decide false P f g = g refl
-
-below : (s n : ℕ) → nat_lt s n ≡ true → s < n
-below s n h = grind (arith, nat_tests)
-
-last_of : (s n : ℕ) → s < suc n → nat_lt s n ≡ false → s ≡ n
-last_of s n lt h = grind (arith, nat_tests)
 
 slots_right : (page : List ℕ) (n : ℕ) → slots_fit page n ≡ true → (s : ℕ) → s < n → IsSlot page s
 slots_right page zero h s lt = absurd (omega (arith, lt))

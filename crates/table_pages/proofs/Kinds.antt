@@ -30,6 +30,13 @@ pub kind_has : (k : PageKind) (r : Result Header NotAPage) → IsOfKind k r → 
 kind_has k (Ok header) h = ap (λ (j : PageKind). rank j == rank k) h ∙ itself (rank k)
 kind_has k (Err e) h = absurd h
 
+pub not_both : (r : Result Header NotAPage) → has_kind kind.Branch r ≡ true → has_kind kind.Leaf r ≡ true → ⊥
+not_both (Ok header) h k =
+    let b : rank header.kind ≡ 4 = equal (rank header.kind) 4 h in
+    let l : rank header.kind ≡ 5 = equal (rank header.kind) 5 k in
+    absurd (omega (arith, b, l))
+not_both (Err e) h k = absurd cc
+
 -- ---- the count
 
 none_first : (b : Bool) (at : ℕ) (rest : Option ℕ) → (if b then rest else Some at) ≡ None → b ≡ true

@@ -2,3 +2,4 @@ pub mod Tests
 pub mod Kinds
 pub mod Heaps
 pub mod Indexes
+pub mod Nodes

@@ -1,5 +1,5 @@
 -- Pages of a heap, as tests.
-use Rattle.std.specs.Prelude.{ℕ, zero, suc, ◌+◌, ◌==◌, eqb, nat_le, Bool, true, false, not, ◌&&◌, List, drop, is_none}
+use Rattle.std.specs.Prelude.{ℕ, zero, suc, ◌+◌, ◌==◌, eqb, nat_le, Bool, true, ◌&&◌, List, drop, is_none}
 use Rattle.ds_base.specs.declared.names.PageId.{PageId}
 use Rattle.page_format.specs.Header.{slots_per_page, is_zeros, header_of}
 use Rattle.page_format.specs.declared.header.PageKind.TheVariants as kind
@@ -8,11 +8,7 @@ use Rattle.heap_space.specs.Next.{last_page_of, given_of, header_allowed}
 use Rattle.heap_space.specs.Slots.{content, slot_in, fault_in}
 use Rattle.sound_disk.specs.Layouts.{count_in, has_clean_header}
 use Rattle.sound_disk.specs.Heaps.{is_given}
-use Rattle.table_pages.specs.Kinds.{has_kind}
-
-abbrev pub both_or_neither : Bool → Bool → Bool
-both_or_neither true b = b
-both_or_neither false b = not b
+use Rattle.table_pages.specs.Kinds.{has_kind, both_or_neither}
 
 abbrev pub is_heap_header : PageId → List ℕ → Bool
 is_heap_header id page =

@@ -1,5 +1,5 @@
--- The kind of a page, as a test.
-use Rattle.std.specs.Prelude.{ℕ, ◌==◌, Bool, false, Result, Ok, Err}
+-- The kind of a page, as a test, and two tests that agree.
+use Rattle.std.specs.Prelude.{ℕ, ◌==◌, Bool, true, false, not, Result, Ok, Err}
 use Rattle.page_format.specs.declared.header.Header.{Header}
 use Rattle.page_format.specs.declared.header.NotAPage.{NotAPage}
 use Rattle.page_format.specs.declared.header.PageKind.{PageKind}
@@ -18,3 +18,7 @@ rank kind.Leaf = 5
 abbrev pub has_kind : PageKind → Result Header NotAPage → Bool
 has_kind kind (Ok header) = rank header.kind == rank kind
 has_kind kind (Err fault) = false
+
+abbrev pub both_or_neither : Bool → Bool → Bool
+both_or_neither true b = b
+both_or_neither false b = not b

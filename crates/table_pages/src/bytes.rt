@@ -3,7 +3,7 @@ ghost use Rattle.page_format.specs.Fields.{page_size, number_in};
 ghost use Rattle.page_format.specs.Header.{is_zeros, header_of};
 ghost use Rattle.page_images.specs.Parts.{part};
 ghost use Rattle.sound_disk.specs.Layouts.{count_in, has_clean_header};
-ghost use Rattle.table_pages.specs.Kinds.{rank, has_kind};
+ghost use Rattle.table_pages.specs.Kinds.{rank, has_kind, both_or_neither};
 
 use byteorder::{BigEndian, ByteOrder};
 use ds_base::PageId;
@@ -42,6 +42,24 @@ pub fn read_u16(page: &Page, at: usize) -> u16
     BigEndian::read_u16(&bytes[at..])
 }
 
+/// The number in the four bytes from the offset on.
+pub fn read_u32(page: &Page, at: usize) -> u32
+    requires { at + 4 ≤ page_size }
+    ensures { result ≡ number_in page.now at 4 }
+{
+    let bytes = page.bytes();
+    BigEndian::read_u32(&bytes[at..])
+}
+
+/// The number in the eight bytes from the offset on.
+pub fn read_u64(page: &Page, at: usize) -> u64
+    requires { at + 8 ≤ page_size }
+    ensures { result ≡ number_in page.now at 8 }
+{
+    let bytes = page.bytes();
+    BigEndian::read_u64(&bytes[at..])
+}
+
 /// How many slots or entries the header says.
 pub fn count_in(page: &Page) -> u16
     ensures { result ≡ count_in page.now }
@@ -77,4 +95,11 @@ pub fn has_kind(page: &Page, id: PageId, kind: PageKind) -> bool
         Ok(header) => rank(header.kind) == rank(kind),
         Err(_) => false,
     }
+}
+
+/// Whether both are so, or neither is.
+pub fn both_or_neither(a: bool, b: bool) -> bool
+    ensures { result ≡ both_or_neither a b }
+{
+    if a { b } else { !b }
 }

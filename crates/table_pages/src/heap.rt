@@ -4,18 +4,15 @@ ghost use Rattle.heap_space.specs.Layout.{slot_at, given_at};
 ghost use Rattle.heap_space.specs.Next.{given_of};
 ghost use Rattle.heap_space.specs.Slots.{said};
 ghost use Rattle.sound_disk.specs.Heaps.{is_given, IsHeapHeader, IsRowPage};
-ghost use Rattle.table_pages.specs.Heaps.{both_or_neither, is_heap_header, slot_fits, slots_fit, has_rows, is_row_page};
+ghost use Rattle.table_pages.specs.Kinds.{both_or_neither};
+ghost use Rattle.table_pages.specs.Heaps.{is_heap_header, slot_fits, slots_fit, has_rows, is_row_page};
 
-use crate::bytes::{count_in, has_clean_header, has_kind, read_u16, rest_is_zeros};
+use crate::bytes::{
+    both_or_neither, count_in, has_clean_header, has_kind, read_u16, rest_is_zeros,
+};
 use ds_base::PageId;
 use heap_space::{Slot, header_is_allowed, last_page, row, slot_is_allowed};
 use page_format::{Page, PageKind, SLOTS_PER_PAGE};
-
-fn both_or_neither(a: bool, b: bool) -> bool
-    ensures { result ≡ both_or_neither a b }
-{
-    if a { b } else { !b }
-}
 
 fn given_in(page: &Page) -> u16
     ensures { result ≡ given_of page.now }

@@ -4,9 +4,11 @@
 mod bytes;
 mod heap;
 mod index;
+mod node;
 
 pub use heap::{is_heap_header, is_row_page};
 pub use index::is_index_header;
+pub use node::is_node_page;
 
 #[cfg(test)]
 mod tests;
