@@ -1,4 +1,4 @@
 pub mod Reading
 pub mod Pages
-pub mod Sets
+pub mod Set_steps
 pub mod Versions

@@ -51,6 +51,13 @@ page_wrong at records renews set n end pages j lt is wrong h = record {
   before = h.each;
 }
 
+count_if : (n pages : ℕ) (w : Bool) → pages ≤ n → count_with pages w ≤ n + 1
+count_if n pages true le = omega (arith, le)
+count_if n pages false le = omega (arith, le)
+
+pub count_up : (n pages more : ℕ) (w : Bool) → more ≡ count_with pages w → pages ≤ n → more ≤ n + 1
+count_up n pages more w e le = let up = count_if n pages w le in omega (arith, e, up)
+
 -- ---- over what the disk told
 
 abbrev JudgedAt : ℕ → ℕ → List LogRecord → Bool → Judged → Contents → Type 0

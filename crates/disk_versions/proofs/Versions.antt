@@ -10,7 +10,9 @@ use Rattle.page_format.specs.Fields.{version_at, is_old, renewed}
 use Rattle.page_format.specs.Header.{header_of, empty_header}
 use Rattle.log_record.specs.declared.log.Log.{Log}
 use Rattle.page_images.specs.Images.{Images, zeros}
+use Rattle.restart_plan.specs.Plans.{plan_of}
 use Rattle.restart_plan.specs.Renewal.{must_renew}
+use Rattle.restart_plan.specs.declared.plan.Plan.{Plan}
 use Rattle.sound_disk.specs.Versions.{merged, is_page, current, MayStand, AreVersions}
 use Rattle.page_versions.specs.Fronts.{IsPlaced, PlacedMayStand}
 use Rattle.disk_versions.specs.Ends.{page_of, pages_read, IsRead}
@@ -109,3 +111,13 @@ told k start logs records renews behind (Ok found) r n h =
     told_by start (SetsAt (merged logs) (must_renew logs) behind found) (TellsOf logs behind found)
     (λ c s. is_told k (page_at c.pages) logs behind found s)
     (subst (λ (b : Bool). WhenTold start (SetsAt (merged logs) b behind found)) n (subst (λ (rs : List LogRecord). WhenTold start (SetsAt rs renews behind found)) r h))
+
+-- ---- the plan of a restart
+
+pub merged_in : (logs : List Log) (plan : Plan) → plan ≡ plan_of logs → plan.merged ≡ merged logs
+unfolding plan_of
+merged_in logs plan e = ap (λ (p : Plan). p.merged) e
+
+pub renews_in : (logs : List Log) (plan : Plan) → plan ≡ plan_of logs → plan.renews ≡ must_renew logs
+unfolding plan_of
+renews_in logs plan e = ap (λ (p : Plan). p.renews) e

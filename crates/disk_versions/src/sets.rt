@@ -31,7 +31,8 @@ fn check_sets<D: Disk>(
 {
     let mut pages = 0u64;
     for before in 0..PAGE_SETS {
-        match check_set(alloc, disk, before + 1, records, renews, behind)? {
+        let found = check_set(alloc, disk, before + 1, records, renews, behind)?;
+        match found {
             Placing::All { pages: more } => pages += more,
             Placing::Unplaced { id } => return Ok(Placing::Unplaced { id }),
         }
@@ -44,7 +45,6 @@ fn check_sets<D: Disk>(
 /// names.
 ///
 /// The pages are read one at a time. A page that isn't all zeros takes time in the number of records.
-#[tactic(auto, unfolding(restart_plan::specs::Plans::plan_of))]
 pub fn find_unplaced<D: Disk>(
     alloc: Global,
     disk: &mut D,

@@ -12,7 +12,7 @@ use Rattle.sound_disk.specs.Heaps.{is_given, IsHeapHeader, IsSlot, IsRowPage}
 use Rattle.table_pages.specs.Kinds.{has_kind, both_or_neither}
 use Rattle.table_pages.specs.Heaps.{is_heap_header, slot_fits, slots_fit, has_rows, is_row_page}
 use Rattle.table_pages.proofs.Tests.{decide, and_left, and_right, and_both, none_of, of_le, both_same, same_both, below, last_of}
-use Rattle.table_pages.proofs.Kinds.{kind_is, kind_has, count_within}
+use Rattle.table_pages.proofs.Kind_tests.{kind_is, kind_has, count_within}
 
 -- ---- the header page
 
@@ -75,6 +75,12 @@ right_slots page (suc n) h =
     and_both (slots_fit page n) (slot_fits page n)
     (right_slots page n (λ s lt. h s (omega (arith, lt))))
     (right_slot page n (h n (omega arith)))
+
+pub slots_misfit : (page : List ℕ) (n s : ℕ) → s < n → slot_fits page s ≡ false → false ≡ slots_fit page n
+slots_misfit page n s lt e =
+    decide (slots_fit page n) (false ≡ slots_fit page n)
+    (λ t. let is = right_slot page s (slots_right page n t s lt) in absurd (cc (is, e)))
+    (λ f. sym f)
 
 abbrev row_kind : PageId → List ℕ → Bool
 row_kind id page = has_kind kind.Heap (header_of page id)

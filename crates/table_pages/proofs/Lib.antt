@@ -1,5 +1,5 @@
 pub mod Tests
-pub mod Kinds
+pub mod Kind_tests
 pub mod Heaps
 pub mod Indexes
 pub mod Nodes

@@ -1,5 +1,5 @@
 -- The tests of branches and leaves.
-use Rattle.std.proofs.Common.{◌≡◌, ◌⊎◌, ◌↔◌, ℕ, zero, suc, ◌+◌, ◌<◌, ◌≤◌, Bool, true, false, not, ◌&&◌, ◌||◌, List, [], ◌∷◌, ◌++◌, length, take, drop, get_or, slice_index, Option, Some, None, is_none, is_some, refl, sym, ap, subst, ◌∙◌, arith, inl, inr}
+use Rattle.std.proofs.Common.{◌≡◌, ◌⊎◌, ◌↔◌, ℕ, zero, suc, ◌+◌, ◌<◌, ◌≤◌, Bool, true, false, not, ◌&&◌, ◌||◌, List, [], ◌∷◌, ◌++◌, length, take, drop, get_or, slice_index, Option, Some, None, is_none, is_some, unwrap_or, refl, sym, ap, subst, ◌∙◌, arith, inl, inr}
 use Rattle.std.specs.Prelude.{◌==◌, nat_le, nat_lt, leb, slice_get, slice_index_or, Contains, IsTrue}
 use Rattle.std.specs.List.{list_all}
 use Rattle.std.proofs.lemmas.Bool.Decides.{nat_tests}
@@ -22,7 +22,7 @@ use Rattle.sound_disk.specs.Indexes.{LeadsToPages, IsBranchPage, IsLeafPage, Has
 use Rattle.table_pages.specs.Kinds.{has_kind, both_or_neither}
 use Rattle.table_pages.specs.Nodes.{node_kind, entry_fits, entries_fit, links_fit, padding_fits, paddings_fit, clean_fits, node_fits}
 use Rattle.table_pages.proofs.Tests.{decide, and_left, and_right, and_both, equal, itself, le_of, of_le, both_same, same_both, below, last_of}
-use Rattle.table_pages.proofs.Kinds.{kind_is, kind_has, not_both}
+use Rattle.table_pages.proofs.Kind_tests.{kind_is, kind_has, not_both}
 
 -- ---- all of a list
 
@@ -58,7 +58,7 @@ all_more f es n e h all t =
 
 is_some_of : (o : Option Entry) (key : ℕ) (place : Place) → pair_of o ≡ Some (key, place) → (e : Entry) × (o ≡ Some e) × (e.key ≡ key) × (e.place ≡ place)
 is_some_of None key place h = absurd cc
-is_some_of (Some e) key place h = (e, refl, cc, cc)
+is_some_of (Some e) key place h = (e, refl, ap (λ (o : Option (ℕ × Place)). (unwrap_or o (key, place)).0) h, ap (λ (o : Option (ℕ × Place)). (unwrap_or o (key, place)).1) h)
 
 pub fits_more : (is_branch : Bool) (low : ℕ) (high : Option ℕ) (es : List Entry) (n key : ℕ) (place : Place) → pair_of (slice_get es n) ≡ Some (key, place) → entries_fit is_branch low high (take n es) ≡ true
     → entry_fits is_branch low high key place ≡ true → entries_fit is_branch low high (take (n + 1) es) ≡ true
@@ -92,12 +92,32 @@ pub all_taken : (is_branch : Bool) (low : ℕ) (high : Option ℕ) (page : List 
     → entries_fit is_branch low high (entries_of page) ≡ true
 all_taken is_branch low high page n le h =
     let len = length_from page first_entry_at (count_of page) in
-    subst (λ (es : List Entry). entries_fit is_branch low high es ≡ true) (take_all (entries_of page) n (omega (arith, len, le))) h
+    subst (λ (es : List Entry). entries_fit is_branch low high es ≡ true) (take_all n (entries_of page) (omega (arith, len, le))) h
 
 pub none_left : (page : List ℕ) (n : ℕ) → n < count_of page → pair_of (slice_get (entries_of page) n) ≡ None → ⊥
 none_left page n lt h =
     let len = length_from page first_entry_at (count_of page) in
     none_at (entries_of page) n h (omega (arith, len, lt))
+
+pub misfit_told : (is_branch : Bool) (low : ℕ) (high : Option ℕ) (page : List ℕ) (n key : ℕ) (place : Place) (r : Bool) → low ≡ low_of page → high ≡ high_of page
+    → Some (key, place) ≡ pair_of (slice_get (entries_of page) n) → r ≡ entry_fits is_branch low high key place → r ≡ false → false ≡ entries_fit is_branch (low_of page) (high_of page) (entries_of page)
+misfit_told is_branch low high page n key place r l h at e f =
+    sym
+    (ap (λ (k : ℕ). entries_fit is_branch k (high_of page) (entries_of page)) (sym l)
+    ∙ ap (λ (o : Option ℕ). entries_fit is_branch low o (entries_of page)) (sym h)
+    ∙ misfit is_branch low high (entries_of page) n key place (sym at) (sym e ∙ f))
+
+pub more_told : (is_branch : Bool) (low : ℕ) (high : Option ℕ) (page : List ℕ) (n key : ℕ) (place : Place) (r : Bool) → Some (key, place) ≡ pair_of (slice_get (entries_of page) n)
+    → r ≡ entry_fits is_branch low high key place → r ≡ true → entries_fit is_branch low high (take n (entries_of page)) ≡ true → entries_fit is_branch low high (take (n + 1) (entries_of page)) ≡ true
+more_told is_branch low high page n key place r at e t all = fits_more is_branch low high (entries_of page) n key place (sym at) all (sym e ∙ t)
+
+pub all_told : (is_branch : Bool) (low : ℕ) (high : Option ℕ) (page : List ℕ) (n : ℕ) → low ≡ low_of page → high ≡ high_of page → count_of page ≤ n → entries_fit is_branch low high (take n (entries_of page)) ≡ true
+    → true ≡ entries_fit is_branch (low_of page) (high_of page) (entries_of page)
+all_told is_branch low high page n l h le all =
+    sym
+    (ap (λ (k : ℕ). entries_fit is_branch k (high_of page) (entries_of page)) (sym l)
+    ∙ ap (λ (o : Option ℕ). entries_fit is_branch low o (entries_of page)) (sym h)
+    ∙ all_taken is_branch low high page n le all)
 
 -- ---- what a right entry is
 
@@ -141,6 +161,12 @@ paddings_right page (suc m) h n lt =
 right_paddings : (page : List ℕ) (count : ℕ) → ((n : ℕ) → n < count → padding_fits page n ≡ true) → paddings_fit page count ≡ true
 right_paddings page zero h = refl
 right_paddings page (suc m) h = and_both (paddings_fit page m) (padding_fits page m) (right_paddings page m (λ n lt. h n (omega (arith, lt)))) (h m (omega arith))
+
+pub paddings_misfit : (page : List ℕ) (count n : ℕ) → n < count → padding_fits page n ≡ false → false ≡ paddings_fit page count
+paddings_misfit page count n lt e =
+    decide (paddings_fit page count) (false ≡ paddings_fit page count)
+    (λ t. let is = paddings_right page count t n lt in absurd (cc (is, e)))
+    (λ f. sym f)
 
 abbrev mark_rest : List ℕ → Bool
 mark_rest page = is_zeros (part (has_high_at + 1) 3 page)

@@ -38,7 +38,7 @@ pub fn is_heap_header(page: &Page, id: PageId) -> bool
 }
 
 fn is_given(slot: Slot<'_>) -> bool
-    ensures { result ≡ is_given (said slot) }
+    ensures { result ≡ is_given (said slot.entry) }
 {
     match slot {
         Slot::Never => false,

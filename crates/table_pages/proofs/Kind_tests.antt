@@ -1,8 +1,10 @@
 -- The kind of a page, and what its header lets its count be.
-use Rattle.std.proofs.Common.{◌≡◌, ℕ, ◌×◌, ◌<◌, ◌≤◌, Bool, true, false, List, [], ◌∷◌, Option, Some, None, Result, Ok, Err, refl, sym, ap, subst, ◌∙◌, arith}
+use Rattle.std.proofs.Common.{◌≡◌, ℕ, ◌<◌, ◌≤◌, Bool, true, false, List, [], ◌∷◌, take, slice_index, not, Option, Some, None, Result, Ok, Err, refl, sym, ap, subst, ◌∙◌, arith}
 use Rattle.std.specs.Prelude.{◌==◌, nat_le, if◌then◌else◌}
 use Rattle.ds_base.specs.declared.names.PageId.{PageId}
-use Rattle.page_format.specs.Header.{kind_of, most, slots_per_page, is_zeros, first_fault, fields, header_in, empty_header, judged, header_of}
+use Rattle.std.specs.Str.{bytes_eq}
+use Rattle.page_format.specs.Fields.{number_in}
+use Rattle.page_format.specs.Header.{kind_of, may_have, is_version, mark, most, slots_per_page, is_zeros, first_fault, fields, header_in, empty_header, judged, header_of}
 use Rattle.page_format.specs.declared.header.Header.{Header}
 use Rattle.page_format.specs.declared.header.NotAPage.{NotAPage}
 use Rattle.page_format.specs.declared.header.PageKind.{PageKind}
@@ -58,7 +60,9 @@ seventh a b c d e f g h =
     passes g [] (passed f (g ∷ []) (passed e (f ∷ g ∷ []) (passed d (e ∷ f ∷ g ∷ []) (passed c (d ∷ e ∷ f ∷ g ∷ []) (passed b (c ∷ d ∷ e ∷ f ∷ g ∷ []) (passed a (b ∷ c ∷ d ∷ e ∷ f ∷ g ∷ []) h))))))
 
 count_fits : (page : List ℕ) (id : PageId) → first_fault (fields page id) ≡ None → nat_le (header_in page).count (most (header_in page).kind) ≡ true
-count_fits page id h = seventh _ _ _ _ _ _ _ h
+count_fits page id h =
+    seventh (0, bytes_eq (take 4 page) mark) (4, may_have id (header_in page).kind) (5, is_version (slice_index page 5)) (6, number_in page 6 2 == id.set) (8, number_in page 8 4 == id.number)
+    (16, not ((header_in page).lrsn == 0)) (26, nat_le (header_in page).count (most (header_in page).kind)) h
 
 count_when : (z : Bool) (fault : Option ℕ) (h : Header) (k : PageKind) → (most k ≡ 0 → ⊥) → (fault ≡ None → nat_le h.count (most h.kind) ≡ true) → IsOfKind k (if z then Ok empty_header else judged fault h) → h.count ≤ most k
 count_when true fault h k some fits is = absurd (some (ap most (sym is)))
