@@ -51,6 +51,10 @@ page_wrong at records renews set n end pages j lt is wrong h = record {
   before = h.each;
 }
 
+pub not_false : (b : Bool) → not b ≡ false → b ≡ true
+not_false true h = refl
+not_false false h = absurd cc
+
 count_if : (n pages : ℕ) (w : Bool) → pages ≤ n → count_with pages w ≤ n + 1
 count_if n pages true le = omega (arith, le)
 count_if n pages false le = omega (arith, le)

@@ -1,5 +1,5 @@
 -- One page set more.
-use Rattle.std.proofs.Common.{◌≡◌, ℕ, suc, ◌+◌, ◌<◌, ◌≤◌, Bool, true, false, List, Option, refl, sym, ap, subst, ◌∙◌, arith, add-one}
+use Rattle.std.proofs.Common.{◌≡◌, ℕ, suc, ◌+◌, ◌*◌, ◌^◌, ◌<◌, ◌≤◌, Bool, true, false, List, Option, refl, sym, ap, subst, ◌∙◌, arith, add-one}
 use Rattle.std.specs.Prelude.{nat_le}
 use Rattle.std.proofs.lemmas.Bool.Decides.{nat_tests}
 use Rattle.ds_base.specs.declared.names.PageId.{PageId}
@@ -9,7 +9,9 @@ use Rattle.ds_model.specs.declared.log.LogRecord.{LogRecord}
 use Rattle.page_images.specs.Images.{Images}
 use Rattle.page_versions.specs.Fronts.{IsPlaced}
 use Rattle.disk_versions.specs.Ends.{page_of, pages_read, IsRead}
-use Rattle.disk_versions.specs.Placing.{written_in, written_through, AreInSet, IsFirstInSet, AreThrough, AreInSets, IsFirstInSets}
+use Rattle.disk_versions.specs.Placing.{written_in, written_through, AreInSet, IsFirstInSet, IsSetTold, IsCountUpTo, AreThrough, AreInSets, IsFirstInSets}
+use Rattle.disk_versions.specs.declared.set.Placing.{Placing}
+use Rattle.disk_versions.specs.declared.set.Placing.TheVariants as placing
 use Rattle.disk_versions.proofs.Reading.{told_before, told_by_both}
 use Rattle.disk_versions.proofs.Pages.{decide}
 
@@ -79,3 +81,28 @@ set_wrong_told start now records renews behind n sets pages id s lt h k =
     told_by_both start (InSetsAt records renews behind n pages) (FirstInNextAt records renews behind n id) (FirstInSetsAt records renews behind sets id)
     (λ c all next. set_wrong (page_at c.pages) records renews behind n sets pages id lt all next)
     h (told_before start now (FirstInNextAt records renews behind n id) s k)
+
+-- ---- in the terms of what was found
+
+abbrev FoundIn : List LogRecord → Bool → ℕ → ℕ → Placing → Contents → Type 0
+FoundIn records renews behind n found c = IsSetTold (page_at c.pages) records renews (n + 1) (pages_read (page_at c.pages) records behind (n + 1)) found
+
+pub set_found : (start now : Option Contents) (records : List LogRecord) (renews : Bool) (behind n pages more : ℕ) (found : Placing) → found ≡ placing.All more → Becomes start now Same
+    → WhenTold start (InSetsAt records renews behind n pages) → WhenTold now (FoundIn records renews behind n found) → WhenTold start (InSetsAt records renews behind (n + 1) (pages + more))
+set_found start now records renews behind n pages more found e s h k =
+    set_told start now records renews behind n pages more s h (subst (λ (f : Placing). WhenTold now (FoundIn records renews behind n f)) e k)
+
+pub wrong_found : (start now : Option Contents) (records : List LogRecord) (renews : Bool) (behind n sets pages : ℕ) (id : PageId) (found : Placing) → found ≡ placing.Unplaced id → Becomes start now Same → n < sets
+    → WhenTold start (InSetsAt records renews behind n pages) → WhenTold now (FoundIn records renews behind n found) → WhenTold start (FirstInSetsAt records renews behind sets id)
+wrong_found start now records renews behind n sets pages id found e s lt h k =
+    set_wrong_told start now records renews behind n sets pages id s lt h (subst (λ (f : Placing). WhenTold now (FoundIn records renews behind n f)) e k)
+
+count_in : (most more : ℕ) (found : Placing) → found ≡ placing.All more → IsCountUpTo most found → more ≤ most
+count_in most more found e h = subst (λ (f : Placing). IsCountUpTo most f) e h
+
+pub count_on : (n pages more : ℕ) (found : Placing) → found ≡ placing.All more → IsCountUpTo (2 ^ 32) found → pages ≤ n * 2 ^ 32 → pages + more ≤ (n + 1) * 2 ^ 32
+count_on n pages more found e h le = let m = count_in (2 ^ 32) more found e h in omega (arith, le, m)
+
+pub all_found : (start : Option Contents) (records : List LogRecord) (renews : Bool) (behind n sets pages : ℕ) → n ≡ sets → WhenTold start (InSetsAt records renews behind n pages)
+    → WhenTold start (InSetsAt records renews behind sets pages)
+all_found start records renews behind n sets pages e h = subst (λ (m : ℕ). WhenTold start (InSetsAt records renews behind m pages)) e h

@@ -13,8 +13,9 @@ returns-then-not-entry_fits c =
 
 pub loop-n-preserved : goal.loop-n-preserved
 loop-n-preserved c =
+    let fits : c.entry_fits.result ≡ true = cc in
     let at : Some (c.in-Some.key, c.in-Some.place) ≡ pair_of (slice_get (entries_of c.args.page.now) c.loop-n.n) = cc in
-    more_told c.args.is_branch c.low_key-low.result c.high_key-high.result c.args.page.now c.loop-n.n c.in-Some.key c.in-Some.place c.entry_fits.result at c.entry_fits.ensures cc c.loop-n.invariant
+    more_told c.args.is_branch c.low_key-low.result c.high_key-high.result c.args.page.now c.loop-n.n c.in-Some.key c.in-Some.place c.entry_fits.result at c.entry_fits.ensures fits c.loop-n.invariant
 
 pub returns : goal.returns
 returns c =
