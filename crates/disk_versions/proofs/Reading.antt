@@ -1,5 +1,5 @@
 -- What one reading after another says of a disk.
-use Rattle.std.proofs.Common.{◌≡◌, Option, Some, None, subst, ◌∙◌}
+use Rattle.std.proofs.Common.{Option, Some, None, subst, ◌∙◌}
 use Rattle.ds_disk.specs.Contents.{Contents, WhenTold, Becomes, Same}
 
 pub same_on : (a b c : Option Contents) → Becomes a b Same → Becomes b c Same → Becomes a c Same

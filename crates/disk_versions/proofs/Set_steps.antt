@@ -1,5 +1,5 @@
 -- One page set more.
-use Rattle.std.proofs.Common.{◌≡◌, ℕ, suc, ◌+◌, ◌*◌, ◌^◌, ◌<◌, ◌≤◌, Bool, true, false, List, Option, refl, sym, ap, subst, ◌∙◌, arith, add-one}
+use Rattle.std.proofs.Common.{◌≡◌, ℕ, ◌+◌, ◌*◌, ◌^◌, ◌<◌, ◌≤◌, Bool, true, false, List, Option, sym, ap, subst, ◌∙◌, arith, add-one}
 use Rattle.std.specs.Prelude.{nat_le}
 use Rattle.std.proofs.lemmas.Bool.Decides.{nat_tests}
 use Rattle.ds_base.specs.declared.names.PageId.{PageId}
@@ -8,8 +8,8 @@ use Rattle.ds_disk.specs.Pages.{page_at}
 use Rattle.ds_model.specs.declared.log.LogRecord.{LogRecord}
 use Rattle.page_images.specs.Images.{Images}
 use Rattle.page_versions.specs.Fronts.{IsPlaced}
-use Rattle.disk_versions.specs.Ends.{page_of, pages_read, IsRead}
-use Rattle.disk_versions.specs.Placing.{written_in, written_through, AreInSet, IsFirstInSet, IsSetTold, IsCountUpTo, AreThrough, AreInSets, IsFirstInSets}
+use Rattle.disk_versions.specs.Ends.{page_of, pages_read}
+use Rattle.disk_versions.specs.Placing.{written_in, written_through, AreInSet, IsFirstInSet, IsSetTold, IsCountUpTo, AreInSets, IsFirstInSets}
 use Rattle.disk_versions.specs.declared.set.Placing.{Placing}
 use Rattle.disk_versions.specs.declared.set.Placing.TheVariants as placing
 use Rattle.disk_versions.proofs.Reading.{told_before, told_by_both}

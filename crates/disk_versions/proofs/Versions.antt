@@ -1,5 +1,5 @@
 -- From the pages that are read to all pages of the disk.
-use Rattle.std.proofs.Common.{◌≡◌, ◌⊎◌, ◌↔◌, ℕ, ◌<◌, ◌≤◌, Bool, true, false, cond, List, [], Option, Some, None, Result, Ok, Err, refl, sym, ap, subst, ◌∙◌, arith, inl, inr, slice_index}
+use Rattle.std.proofs.Common.{◌≡◌, ℕ, ◌<◌, ◌≤◌, Bool, true, false, cond, List, [], Option, Result, Ok, Err, refl, sym, ap, subst, arith, inl, inr, slice_index}
 use Rattle.std.specs.Prelude.{nat_le, nat_lt, ◌==◌, IfOk}
 use Rattle.std.proofs.lemmas.Bool.Decides.{nat_tests}
 use Rattle.ds_base.specs.declared.names.PageId.{PageId}
@@ -13,11 +13,11 @@ use Rattle.page_images.specs.Images.{Images, zeros}
 use Rattle.restart_plan.specs.Plans.{plan_of}
 use Rattle.restart_plan.specs.Renewal.{must_renew}
 use Rattle.restart_plan.specs.declared.plan.Plan.{Plan}
-use Rattle.sound_disk.specs.Versions.{merged, is_page, current, MayStand, AreVersions}
+use Rattle.sound_disk.specs.Versions.{merged, is_page, current, MayStand}
 use Rattle.page_versions.specs.Fronts.{IsPlaced, PlacedMayStand}
 use Rattle.disk_versions.specs.Ends.{page_of, pages_read, IsRead}
 use Rattle.disk_versions.specs.Placing.{AreInSets, IsFirstInSets, AreSetsTold}
-use Rattle.disk_versions.specs.Told.{page_sets, IsReadOf, RestIsZeros, IsBefore, AreAllPlaced, IsFirstUnplaced, IsTold}
+use Rattle.disk_versions.specs.Told.{page_sets, IsReadOf, IsBefore, AreAllPlaced, IsFirstUnplaced, IsTold}
 use Rattle.disk_versions.specs.declared.set.Placing.{Placing}
 use Rattle.disk_versions.specs.declared.set.Placing.TheVariants as placing
 use Rattle.disk_versions.proofs.Reading.{told_by}

@@ -1,5 +1,5 @@
 -- The tests of a heap's pages.
-use Rattle.std.proofs.Common.{◌≡◌, ◌↔◌, ℕ, zero, suc, ◌+◌, ◌<◌, ◌≤◌, Bool, true, false, not, ◌&&◌, List, drop, Option, Some, None, is_none, refl, sym, ap, subst, ◌∙◌, arith}
+use Rattle.std.proofs.Common.{◌≡◌, ◌↔◌, ℕ, zero, suc, ◌+◌, ◌<◌, Bool, true, false, ◌&&◌, List, drop, is_none, refl, sym, ap, subst, ◌∙◌, arith}
 use Rattle.std.specs.Prelude.{◌==◌, nat_le, nat_lt, IsTrue}
 use Rattle.ds_base.specs.declared.names.PageId.{PageId}
 use Rattle.page_format.specs.Header.{slots_per_page, is_zeros, header_of}
@@ -7,10 +7,10 @@ use Rattle.page_format.specs.declared.header.PageKind.TheVariants as kind
 use Rattle.heap_space.specs.Layout.{given_at, slot_at}
 use Rattle.heap_space.specs.Next.{last_page_of, given_of, header_allowed}
 use Rattle.heap_space.specs.Slots.{content, slot_in, fault_in}
-use Rattle.sound_disk.specs.Layouts.{IsOfKind, count_in, has_clean_header}
+use Rattle.sound_disk.specs.Layouts.{count_in, has_clean_header}
 use Rattle.sound_disk.specs.Heaps.{is_given, IsHeapHeader, IsSlot, IsRowPage}
 use Rattle.table_pages.specs.Kinds.{has_kind, both_or_neither}
-use Rattle.table_pages.specs.Heaps.{is_heap_header, slot_fits, slots_fit, has_rows, is_row_page}
+use Rattle.table_pages.specs.Heaps.{is_heap_header, slot_fits, slots_fit, is_row_page}
 use Rattle.table_pages.proofs.Tests.{decide, and_left, and_right, and_both, none_of, of_le, both_same, same_both, below, last_of}
 use Rattle.table_pages.proofs.Kind_tests.{kind_is, kind_has, count_within}
 

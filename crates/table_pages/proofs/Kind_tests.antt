@@ -1,10 +1,10 @@
 -- The kind of a page, and what its header lets its count be.
-use Rattle.std.proofs.Common.{◌≡◌, ℕ, ◌<◌, ◌≤◌, Bool, true, false, List, [], ◌∷◌, take, slice_index, not, Option, Some, None, Result, Ok, Err, refl, sym, ap, subst, ◌∙◌, arith}
+use Rattle.std.proofs.Common.{◌≡◌, ℕ, ◌≤◌, Bool, true, false, List, [], ◌∷◌, take, slice_index, not, Option, Some, None, Result, Ok, Err, refl, sym, ap, subst, ◌∙◌, arith}
 use Rattle.std.specs.Prelude.{◌==◌, nat_le, if◌then◌else◌}
 use Rattle.ds_base.specs.declared.names.PageId.{PageId}
 use Rattle.std.specs.Str.{bytes_eq}
 use Rattle.page_format.specs.Fields.{number_in}
-use Rattle.page_format.specs.Header.{kind_of, may_have, is_version, mark, most, slots_per_page, is_zeros, first_fault, fields, header_in, empty_header, judged, header_of}
+use Rattle.page_format.specs.Header.{kind_of, may_have, is_version, mark, most, is_zeros, first_fault, fields, header_in, empty_header, judged, header_of}
 use Rattle.page_format.specs.declared.header.Header.{Header}
 use Rattle.page_format.specs.declared.header.NotAPage.{NotAPage}
 use Rattle.page_format.specs.declared.header.PageKind.{PageKind}

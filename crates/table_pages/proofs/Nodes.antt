@@ -1,8 +1,7 @@
 -- The tests of branches and leaves.
-use Rattle.std.proofs.Common.{◌≡◌, ◌⊎◌, ◌↔◌, ℕ, zero, suc, ◌+◌, ◌<◌, ◌≤◌, Bool, true, false, not, ◌&&◌, ◌||◌, List, [], ◌∷◌, ◌++◌, length, take, drop, get_or, slice_index, Option, Some, None, is_none, is_some, unwrap_or, refl, sym, ap, subst, ◌∙◌, arith, inl, inr}
-use Rattle.std.specs.Prelude.{◌==◌, nat_le, nat_lt, leb, slice_get, slice_index_or, Contains, IsTrue}
+use Rattle.std.proofs.Common.{◌≡◌, ◌⊎◌, ◌↔◌, ℕ, zero, suc, ◌+◌, ◌<◌, ◌≤◌, Bool, true, false, not, ◌&&◌, ◌||◌, List, [], ◌∷◌, ◌++◌, length, take, drop, slice_index, Option, Some, None, is_none, is_some, unwrap_or, refl, sym, ap, subst, ◌∙◌, arith, inl, inr}
+use Rattle.std.specs.Prelude.{◌==◌, nat_le, nat_lt, slice_get, Contains, IsTrue}
 use Rattle.std.specs.List.{list_all}
-use Rattle.std.proofs.lemmas.Bool.Decides.{nat_tests}
 use Rattle.std.proofs.lemmas.List.{take_more, take_all}
 use Rattle.std.proofs.lemmas.List.Folds.{list_all-append}
 use Rattle.std.proofs.lemmas.Option.{slice_get_within, get_or_from_slice_get, slice_get-get_or}
@@ -12,16 +11,15 @@ use Rattle.page_format.specs.Fields.{page_size}
 use Rattle.page_format.specs.Header.{is_zeros, header_of, entries_per_page}
 use Rattle.page_format.specs.declared.header.PageKind.TheVariants as kind
 use Rattle.index_leaf.specs.declared.layout.Entry.{Entry}
-use Rattle.index_leaf.specs.Entries.{has_high_at, right_at, entry_width, first_entry_at, count_of, low_of, high_of, high_field, right_field, entry_in, entries_from, entries_of, IsRising}
+use Rattle.index_leaf.specs.Entries.{has_high_at, right_at, entry_width, first_entry_at, count_of, low_of, high_of, high_field, right_field, entries_from, entries_of, IsRising}
 use Rattle.index_leaf.specs.Search.{is_beyond, pair_of}
 use Rattle.index_leaf.specs.Changes.{entry_offset}
-use Rattle.index_leaf.specs.Nodes.{IsNode}
 use Rattle.page_images.specs.Parts.{part}
-use Rattle.sound_disk.specs.Layouts.{IsOfKind, has_clean_header}
-use Rattle.sound_disk.specs.Indexes.{LeadsToPages, IsBranchPage, IsLeafPage, HasCleanFields, IsNodePage}
+use Rattle.sound_disk.specs.Layouts.{has_clean_header}
+use Rattle.sound_disk.specs.Indexes.{IsBranchPage, IsLeafPage, HasCleanFields, IsNodePage}
 use Rattle.table_pages.specs.Kinds.{has_kind, both_or_neither}
 use Rattle.table_pages.specs.Nodes.{node_kind, entry_fits, entries_fit, links_fit, padding_fits, paddings_fit, clean_fits, node_fits}
-use Rattle.table_pages.proofs.Tests.{decide, and_left, and_right, and_both, equal, itself, le_of, of_le, both_same, same_both, below, last_of}
+use Rattle.table_pages.proofs.Tests.{decide, and_left, and_right, and_both, equal, le_of, of_le, both_same, same_both, below, last_of}
 use Rattle.table_pages.proofs.Kind_tests.{kind_is, kind_has, not_both}
 
 -- ---- all of a list

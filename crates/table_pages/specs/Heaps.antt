@@ -1,5 +1,5 @@
 -- Pages of a heap, as tests.
-use Rattle.std.specs.Prelude.{ℕ, zero, suc, ◌+◌, ◌==◌, eqb, nat_le, Bool, true, ◌&&◌, List, drop, is_none}
+use Rattle.std.specs.Prelude.{ℕ, zero, suc, ◌+◌, ◌==◌, nat_le, Bool, true, ◌&&◌, List, drop, is_none}
 use Rattle.ds_base.specs.declared.names.PageId.{PageId}
 use Rattle.page_format.specs.Header.{slots_per_page, is_zeros, header_of}
 use Rattle.page_format.specs.declared.header.PageKind.TheVariants as kind

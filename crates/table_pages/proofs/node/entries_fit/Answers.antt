@@ -1,4 +1,4 @@
-use Rattle.std.proofs.Common.{◌≡◌, ◌≤◌, true, false, Some, arith}
+use Rattle.std.proofs.Common.{◌≡◌, ◌≤◌, true, Some, arith}
 use Rattle.std.specs.Prelude.{slice_get}
 use Rattle.index_leaf.specs.Entries.{count_of, entries_of}
 use Rattle.index_leaf.specs.Search.{pair_of}
