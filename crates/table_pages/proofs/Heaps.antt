@@ -11,7 +11,7 @@ use Rattle.sound_disk.specs.Layouts.{count_in, has_clean_header}
 use Rattle.sound_disk.specs.Heaps.{is_given, IsHeapHeader, IsSlot, IsRowPage}
 use Rattle.table_pages.specs.Kinds.{has_kind, both_or_neither}
 use Rattle.table_pages.specs.Heaps.{is_heap_header, slot_fits, slots_fit, is_row_page}
-use Rattle.table_pages.proofs.Tests.{decide, and_left, and_right, and_both, none_of, of_le, both_same, same_both, below, last_of}
+use Rattle.table_pages.proofs.Booleans.{decide, and_left, and_right, and_both, none_of, of_le, both_same, same_both, below, last_of}
 use Rattle.table_pages.proofs.Kind_tests.{kind_is, kind_has, count_within}
 
 -- ---- the header page

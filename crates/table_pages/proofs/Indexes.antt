@@ -9,7 +9,7 @@ use Rattle.sound_disk.specs.Layouts.{has_clean_header}
 use Rattle.sound_disk.specs.Indexes.{IsIndexHeader}
 use Rattle.table_pages.specs.Kinds.{has_kind}
 use Rattle.table_pages.specs.Indexes.{is_next, is_index_header}
-use Rattle.table_pages.proofs.Tests.{and_left, and_right, and_both, le_of, of_le, lt_of, of_lt}
+use Rattle.table_pages.proofs.Booleans.{and_left, and_right, and_both, le_of, of_le, lt_of, of_lt}
 use Rattle.table_pages.proofs.Kind_tests.{kind_is, kind_has}
 
 abbrev kind_test : PageId → List ℕ → Bool

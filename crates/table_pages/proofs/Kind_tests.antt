@@ -11,7 +11,7 @@ use Rattle.page_format.specs.declared.header.PageKind.{PageKind}
 use Rattle.page_format.specs.declared.header.PageKind.TheVariants as kind
 use Rattle.sound_disk.specs.Layouts.{IsOfKind, count_in}
 use Rattle.table_pages.specs.Kinds.{rank, has_kind}
-use Rattle.table_pages.proofs.Tests.{equal, itself, le_of}
+use Rattle.table_pages.proofs.Booleans.{equal, itself, le_of}
 
 back : (k : PageKind) → kind_of (rank k) ≡ k
 back kind.Empty = refl

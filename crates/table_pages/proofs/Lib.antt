@@ -1,4 +1,4 @@
-pub mod Tests
+pub mod Booleans
 pub mod Kind_tests
 pub mod Heaps
 pub mod Indexes

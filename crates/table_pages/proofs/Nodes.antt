@@ -19,7 +19,7 @@ use Rattle.sound_disk.specs.Layouts.{has_clean_header}
 use Rattle.sound_disk.specs.Indexes.{IsBranchPage, IsLeafPage, HasCleanFields, IsNodePage}
 use Rattle.table_pages.specs.Kinds.{has_kind, both_or_neither}
 use Rattle.table_pages.specs.Nodes.{node_kind, entry_fits, entries_fit, links_fit, padding_fits, paddings_fit, clean_fits, node_fits}
-use Rattle.table_pages.proofs.Tests.{decide, and_left, and_right, and_both, equal, le_of, of_le, both_same, same_both, below, last_of}
+use Rattle.table_pages.proofs.Booleans.{decide, and_left, and_right, and_both, equal, le_of, of_le, both_same, same_both, below, last_of}
 use Rattle.table_pages.proofs.Kind_tests.{kind_is, kind_has, not_both}
 
 -- ---- all of a list

@@ -2,7 +2,7 @@ use super::*;
 use ds_base::{Lrsn, PageId, TableId};
 use heap_space::format_heap;
 use index_leaf::format_index;
-use page_format::{Page, Patch};
+use page_format::{PAGE_SIZE, Page, Patch};
 use std::alloc::Global;
 use std::test::Fail;
 
@@ -11,7 +11,8 @@ fn page_after(alloc: Global, id: PageId, patches: &[Patch]) -> Result<Page, Fail
     let number = Lrsn::new(5).ok_or("a number")?;
     let mut page = Page::zero(alloc)?;
     for patch in patches {
-        if patch.page.is_same(id) {
+        let end = patch.offset as usize + patch.bytes.as_slice().len();
+        if patch.page.is_same(id) && end <= PAGE_SIZE {
             page.apply(patch, number);
         }
     }
