@@ -1,6 +1,6 @@
 -- Redo over the pages of a sound disk: no field is in its way.
-use Rattle.std.proofs.Common.{◌≡◌, ℕ, ◌+◌, ◌<◌, ◌≤◌, Bool, true, false, cond, ◌&&◌, ◌||◌, nat_lt, List, [], ◌∷◌, ◌++◌, length, Option, Some, None, Result, Ok, Err, refl, sym, ap, subst, ◌∙◌, arith, append_assoc}
-use Rattle.std.specs.Prelude.{◌==◌, filter, nat_le}
+use Rattle.std.proofs.Common.{◌≡◌, ℕ, ◌<◌, ◌≤◌, Bool, true, false, cond, ◌&&◌, ◌||◌, nat_lt, List, [], ◌∷◌, ◌++◌, Option, None, Result, Ok, Err, refl, sym, ap, subst, ◌∙◌, arith, append_assoc}
+use Rattle.std.specs.Prelude.{◌==◌, filter}
 use Rattle.std.specs.List.{AllByRecursion, list_any}
 use Rattle.std.proofs.lemmas.Bool.Decides.{nat_tests}
 use Rattle.std.proofs.lemmas.List.{append-nil}
@@ -19,8 +19,7 @@ use Rattle.page_format.specs.declared.header.NotAPage.{NotAPage}
 use Rattle.page_format.specs.declared.patch.Patch.{Patch}
 use Rattle.heap_space.specs.Written.{written}
 use Rattle.page_images.specs.Images.{zeros}
-use Rattle.page_chain.specs.Chains.{changes_of, row_patch, touches, after_record, version_of, images_of, IsVersion, Follows, AreInOrder, AreRecords, GrowsByRecords, LeavesOthers, BearsItsNumber}
-use Rattle.page_redo.specs.declared.fault.FieldFault.{FieldFault}
+use Rattle.page_chain.specs.Chains.{changes_of, touches, version_of, IsVersion, Follows, AreInOrder, AreRecords, GrowsByRecords, LeavesOthers, BearsItsNumber}
 use Rattle.page_redo.specs.Rows.{change_fault}
 use Rattle.page_redo.specs.Forward.{lies_in_page, patches_of, has_patch, body_fault, Forward, unless, after_one, go_on, forward_from, headed, brought_forward}
 use Rattle.sound_disk.specs.Versions.{is_page, current}
