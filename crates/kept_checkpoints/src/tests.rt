@@ -1,25 +1,53 @@
+ghost use Rattle.std.specs.Prelude.{◌≡◌, IfOk};
+ghost use Rattle.ds_model.specs.RecordBytes.{IsAllowed};
+
 use super::*;
 use disk_spots::Spot;
-use ds_base::{Lrsn, MemberId, Sequence};
-use ds_model::{Body, LogRecord, Version};
-use log_record::Log;
-use std::alloc::Global;
+use ds_base::{Lrsn, MemberId, PageId, Place, Sequence, TableId};
+use ds_model::{Body, LogRecord, RowChange, Version};
+use log_record::{Log, is_allowed};
 use std::test::Fail;
 
-fn log(alloc: Global, offsets: &[u64]) -> Result<Log, Fail> {
-    let zero = Lrsn::new(0).ok_or("a number")?;
-    let mut records = Sequence::new(alloc);
-    for offset in offsets {
-        records.push(LogRecord {
-            version: Version::Two,
-            lrsn: zero,
-            tran: zero,
-            body: Body::Checkpoint { offset: *offset },
-        })?;
+fn record(lrsn: u128, tran: u128, body: Body) -> Result<LogRecord, Fail>
+    ensures { IfOk result IsAllowed }
+{
+    let record = LogRecord {
+        version: Version::Two,
+        lrsn: Lrsn::new(lrsn).ok_or("a number")?,
+        tran: Lrsn::new(tran).ok_or("a number")?,
+        body,
+    };
+    if !is_allowed(&record) {
+        return Err(Fail::from("a record of a log"));
     }
+    Ok(record)
+}
+
+fn change() -> Result<LogRecord, Fail>
+    ensures { IfOk result IsAllowed }
+{
+    let change = RowChange {
+        table: TableId::new(1).ok_or("a table")?,
+        key: 10,
+        place: Place { page: 7, slot: 0 },
+        before: None,
+        after: None,
+    };
+    record(1, 1, Body::RowChange { change })
+}
+
+fn checkpoint(offset: u64) -> Result<LogRecord, Fail>
+    ensures { IfOk result IsAllowed }
+{
+    record(1, 0, Body::Checkpoint { offset })
+}
+
+fn log(member: u64, records: Vec<LogRecord>) -> Result<Log, Fail>
+    ensures { IfOk result (λ log. log.records ≡ records.items) }
+{
     Ok(Log {
-        member: MemberId::new(3).ok_or("a member")?,
-        records,
+        member: MemberId::new(member).ok_or("a member")?,
+        records: Sequence::from_vec(records),
         length: 0,
         tail: 0,
     })
@@ -29,15 +57,24 @@ fn log(alloc: Global, offsets: &[u64]) -> Result<Log, Fail> {
 fn an_offset_is_the_place_of_a_record_so_far(rt: HostRuntime) -> Result<(), Fail> {
     let alloc = rt.alloc();
     let member = MemberId::new(3).ok_or("a member")?;
-    let mut logs = Vec::new(alloc);
-    logs.push(log(alloc, &[0, 38, 0])?)?;
-    assert_eq!(rt; find_bad_offset(alloc, &logs)?, None);
-    assert_eq!(rt; start_of(logs[0].records()), 0);
-    logs.push(log(alloc, &[0, 0, 37])?)?;
+    let changed = vec![in alloc; change()?, checkpoint(0)?, checkpoint(49)?]?;
+    let fit = [log(2, changed)?];
+    assert_eq!(rt; find_bad_offset(alloc, &fit)?, None);
+    assert_eq!(rt; start_of(fit[0].records()), 49);
     assert_eq!(rt;
-        find_bad_offset(alloc, &logs)?,
+        needs_of(alloc, &fit)?.as_slice(),
+        &[Need {
+            page: PageId { set: 1, number: 7 },
+            lrsn: Lrsn::new(1).ok_or("a number")?,
+            is_open: true,
+        }][..]
+    );
+    let first = vec![in alloc; checkpoint(0)?]?;
+    let second = vec![in alloc; checkpoint(0)?, checkpoint(0)?, checkpoint(37)?]?;
+    let bad = [log(2, first)?, log(3, second)?];
+    assert_eq!(rt;
+        find_bad_offset(alloc, &bad)?,
         Some(Spot::Log { member, at: 76 })
     );
-    assert_eq!(rt; start_of(logs[1].records()), 37);
     Ok(())
 }

@@ -1,11 +1,19 @@
 -- What is told of pages that are read.
-use Rattle.std.proofs.Common.{◌≡◌, Bool, List, [], ◌∷◌, ◌++◌, Option, Some, None, sym, subst, ◌∙◌}
+use Rattle.std.proofs.Common.{◌≡◌, ℕ, Bool, true, false, List, [], ◌∷◌, ◌++◌, Option, Some, None, Result, Ok, Err, IfOk, refl, sym, ap, subst, ◌∙◌, arith}
+use Rattle.std.specs.Prelude.{nat_le, not, ◌==◌, ◌||◌, ◌&&◌}
+use Rattle.std.specs.List.{list_any, list_all}
+use Rattle.std.specs.List.Sorted.{IsPermutation}
+use Rattle.std.proofs.lemmas.Bool.Decides.{nat_tests}
+use Rattle.std.proofs.lemmas.List.Sorted.{list_any-IsPermutation}
+use Rattle.ds_base.specs.Pages.{same_page}
 use Rattle.ds_base.specs.declared.names.PageId.{PageId}
 use Rattle.ds_disk.specs.Contents.{Contents, WhenTold, Becomes, Same}
 use Rattle.ds_disk.specs.Pages.{page_at}
+use Rattle.page_format.specs.Fields.{lrsn_of}
+use Rattle.page_images.specs.Images.{Images}
 use Rattle.kept_checkpoints.specs.declared.needs.Need.{Need}
 use Rattle.kept_checkpoints.specs.Needs.{is_met}
-use Rattle.kept_pages.specs.Unmet.{AreJudged, judged_with}
+use Rattle.kept_pages.specs.Unmet.{has_unmet, AreJudged, judged_with, meets, is_seen, IsSeen}
 use Rattle.kept_pages.proofs.Judged.{judged_more}
 
 pub same_on : (a b c : Option Contents) → Becomes a b Same → Becomes b c Same → Becomes a c Same
@@ -14,12 +22,100 @@ same_on (Some x) None c h k = absurd h
 same_on (Some x) (Some y) None h k = absurd k
 same_on (Some x) (Some y) (Some z) h k = k ∙ h
 
-pub judged_on : (start now : Option Contents) (needs more : List Need) (n : Need) (first out : Option PageId) (met : Bool) → Becomes start now Same → more ≡ needs ++ n ∷ []
-    → out ≡ judged_with met first n.page → WhenTold start (λ (c : Contents). AreJudged (page_at c.pages) needs first) → WhenTold now (λ (c : Contents). met ≡ is_met (page_at c.pages) n)
+pub judged_on : (start : Option Contents) (needs more : List Need) (n : Need) (first out : Option PageId) (met : Bool) (page : List ℕ) → more ≡ needs ++ n ∷ []
+    → out ≡ judged_with met first n.page → WhenTold start (λ (c : Contents). AreJudged (page_at c.pages) needs first)
+    → WhenTold start (λ (c : Contents). (met ≡ is_met (page_at c.pages) n) × (page ≡ page_at c.pages n.page))
     → WhenTold start (λ (c : Contents). AreJudged (page_at c.pages) more out)
-judged_on None now needs more n first out met s e o h k = tt
-judged_on (Some c) None needs more n first out met s e o h k = absurd s
-judged_on (Some c) (Some d) needs more n first out met s e o h k =
+judged_on None needs more n first out met page e o h k = tt
+judged_on (Some c) needs more n first out met page e o h k =
     subst (λ (ns : List Need). AreJudged (page_at c.pages) ns out) (sym e)
-    (subst (λ (id : Option PageId). AreJudged (page_at c.pages) (needs ++ n ∷ []) id) (sym o)
-    (judged_more (page_at c.pages) needs n first met (subst (λ (x : Contents). met ≡ is_met (page_at x.pages) n) s k) h))
+    (subst (λ (id : Option PageId). AreJudged (page_at c.pages) (needs ++ n ∷ []) id) (sym o) (judged_more (page_at c.pages) needs n first met k.0 h))
+
+-- ---- the page that was seen last
+
+same_number : (m n : ℕ) → (m == n) ≡ true → m ≡ n
+same_number m n h = grind (arith, nat_tests)
+
+and_left : (a b : Bool) → (a && b) ≡ true → a ≡ true
+and_left true b h = refl
+and_left false b h = h
+
+and_right : (a b : Bool) → (a && b) ≡ true → b ≡ true
+and_right true b h = h
+and_right false b h = absurd cc
+
+same_is : (a b : PageId) → same_page a b ≡ true → a ≡ b
+same_is a b h =
+    ap (λ (n : ℕ). record { set = n; number = a.number }) (same_number a.set b.set (and_left (a.set == b.set) (a.number == b.number) h))
+    ∙ ap (λ (n : ℕ). record { set = b.set; number = n }) (same_number a.number b.number (and_right (a.set == b.set) (a.number == b.number) h))
+
+seen_is : (at : Images) (seen : Option PageId) (id : PageId) (page : List ℕ) → is_seen seen id ≡ true → IsSeen at seen page → page ≡ at id
+seen_is at None id page e h = absurd cc
+seen_is at (Some last) id page e h = h ∙ ap at (same_is last id e)
+
+pub seen_told : (before : Option Contents) (seen : Option PageId) (id : PageId) (page : List ℕ) → is_seen seen id ≡ true
+    → WhenTold before (λ (c : Contents). IsSeen (page_at c.pages) seen page → page ≡ page_at c.pages id)
+seen_told None seen id page e = tt
+seen_told (Some c) seen id page e = λ h. seen_is (page_at c.pages) seen id page e h
+
+pub read_told : (before : Option Contents) (seen : Option PageId) (id : PageId) (old page : List ℕ) → WhenTold before (λ (c : Contents). page ≡ page_at c.pages id)
+    → WhenTold before (λ (c : Contents). IsSeen (page_at c.pages) seen old → page ≡ page_at c.pages id)
+read_told None seen id old page h = tt
+read_told (Some c) seen id old page h = λ s. h
+
+pub met_told : (before : Option Contents) (seen : Option PageId) (n : Need) (old page : List ℕ) (met : Bool) → met ≡ meets page n
+    → WhenTold before (λ (c : Contents). IsSeen (page_at c.pages) seen old → page ≡ page_at c.pages n.page)
+    → WhenTold before (λ (c : Contents). IsSeen (page_at c.pages) seen old → (met ≡ is_met (page_at c.pages) n) × (page ≡ page_at c.pages n.page))
+met_told None seen n old page met e h = tt
+met_told (Some c) seen n old page met e h = λ s. (e ∙ ap (λ (p : List ℕ). nat_le n.lrsn (lrsn_of p) && not n.is_open) (h s), h s)
+
+-- what the need's page tells, in a disk that is as it was at the start
+pub met_on : (start now : Option Contents) (seen : Option PageId) (n : Need) (old page : List ℕ) (met : Bool) → Becomes start now Same
+    → WhenTold start (λ (c : Contents). IsSeen (page_at c.pages) seen old)
+    → WhenTold now (λ (c : Contents). IsSeen (page_at c.pages) seen old → (met ≡ is_met (page_at c.pages) n) × (page ≡ page_at c.pages n.page))
+    → WhenTold start (λ (c : Contents). (met ≡ is_met (page_at c.pages) n) × (page ≡ page_at c.pages n.page))
+met_on None now seen n old page met s h k = tt
+met_on (Some c) None seen n old page met s h k = absurd s
+met_on (Some c) (Some d) seen n old page met s h k =
+    subst (λ (x : Contents). IsSeen (page_at x.pages) seen old → (met ≡ is_met (page_at x.pages) n) × (page ≡ page_at x.pages n.page)) s k h
+
+pub seen_next : (start : Option Contents) (n : Need) (page : List ℕ) (met : Bool) → WhenTold start (λ (c : Contents). (met ≡ is_met (page_at c.pages) n) × (page ≡ page_at c.pages n.page))
+    → WhenTold start (λ (c : Contents). IsSeen (page_at c.pages) (Some n.page) page)
+seen_next None n page met h = tt
+seen_next (Some c) n page met h = h.1
+
+-- ---- needs in another order
+
+all_or : (a b c : Bool) → b ≡ not c → (a && b) ≡ not (not a || c)
+all_or true b c h = h
+all_or false b c h = refl
+
+all_any : (at : Images) (needs : List Need) → list_all (is_met at) needs ≡ not (list_any (λ (n : Need). not (is_met at n)) needs)
+all_any at [] = refl
+all_any at (n ∷ ns) = all_or (is_met at n) (list_all (is_met at) ns) (list_any (λ (n : Need). not (is_met at n)) ns) (all_any at ns)
+
+all_sorted : (at : Images) (needs sorted : List Need) → IsPermutation needs sorted → list_all (is_met at) needs ≡ list_all (is_met at) sorted
+all_sorted at needs sorted p =
+    all_any at needs
+    ∙ ap (λ (b : Bool). not b) (list_any-IsPermutation (λ (n : Need). not (is_met at n)) needs sorted p)
+    ∙ sym (all_any at sorted)
+
+unmet_sorted : (at : Images) (needs sorted : List Need) (id : PageId) → IsPermutation needs sorted → has_unmet at needs id ≡ has_unmet at sorted id
+unmet_sorted at needs sorted id p = list_any-IsPermutation (λ (n : Need). same_page n.page id && not (is_met at n)) needs sorted p
+
+judged_sorted : (at : Images) (needs sorted : List Need) (found : Option PageId) → IsPermutation needs sorted → AreJudged at sorted found → AreJudged at needs found
+judged_sorted at needs sorted None p h = all_sorted at needs sorted p ∙ h
+judged_sorted at needs sorted (Some id) p h = record {
+  unmet = unmet_sorted at needs sorted id p ∙ h.unmet;
+  first = λ other before. unmet_sorted at needs sorted other p ∙ h.first other before;
+}
+
+judged_told : (before : Option Contents) (needs sorted : List Need) (found : Option PageId) → IsPermutation needs sorted
+    → WhenTold before (λ (c : Contents). AreJudged (page_at c.pages) sorted found) → WhenTold before (λ (c : Contents). AreJudged (page_at c.pages) needs found)
+judged_told None needs sorted found p h = tt
+judged_told (Some c) needs sorted found p h = judged_sorted (page_at c.pages) needs sorted found p h
+
+pub sorted_told : {E : Type 0} (before : Option Contents) (needs sorted : List Need) (result : Result (Option PageId) E) → IsPermutation needs sorted
+    → IfOk result (λ found. WhenTold before (λ (c : Contents). AreJudged (page_at c.pages) sorted found)) → IfOk result (λ found. WhenTold before (λ (c : Contents). AreJudged (page_at c.pages) needs found))
+sorted_told before needs sorted (Ok found) p h = judged_told before needs sorted found p h
+sorted_told before needs sorted (Err e) p h = tt

@@ -38,3 +38,14 @@ judged_with false first id = lower first id
 -- a page of these bytes meets the need
 abbrev pub meets : List ℕ → Need → Bool
 meets page n = nat_le n.lrsn (lrsn_of page) && not n.is_open
+
+-- ---- the page that was seen last
+
+abbrev pub is_seen : Option PageId → PageId → Bool
+is_seen None id = false
+is_seen (Some last) id = same_page last id
+
+-- it has these bytes
+abbrev pub IsSeen : Images → Option PageId → List ℕ → Type 0
+IsSeen at None page = Unit {0}
+IsSeen at (Some last) page = page ≡ at last

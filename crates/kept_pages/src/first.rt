@@ -1,5 +1,5 @@
 ghost use Rattle.std.specs.Prelude.{◌≡◌};
-ghost use Rattle.kept_pages.specs.Unmet.{is_before, lower, judged_with, meets};
+ghost use Rattle.kept_pages.specs.Unmet.{is_before, lower, judged_with, meets, is_seen};
 
 use ds_base::PageId;
 use kept_checkpoints::Need;
@@ -31,6 +31,16 @@ pub fn judged_with(is_met: bool, first: Option<PageId>, id: PageId) -> Option<Pa
     ensures { result ≡ judged_with is_met first id }
 {
     if is_met { first } else { lower(first, id) }
+}
+
+/// Whether this page was seen last.
+pub fn is_seen(seen: Option<PageId>, id: PageId) -> bool
+    ensures { result ≡ is_seen seen id }
+{
+    match seen {
+        None => false,
+        Some(last) => last.is_same(id),
+    }
 }
 
 /// Whether the page meets the need.

@@ -1,30 +1,50 @@
-ghost use Rattle.std.specs.Prelude.{◌≡◌};
-ghost use Rattle.ds_disk.specs.Answers.{Answers, HasCause};
-ghost use Rattle.ds_disk.specs.Contents.{Same};
+ghost use Rattle.std.specs.Prelude.{◌≡◌, IfOk};
+ghost use Rattle.std.specs.List.Sorted.{IsPermutation};
 ghost use Rattle.ds_disk.specs.Pages.{page_at};
 ghost use Rattle.kept_checkpoints.specs.Needs.{is_met};
 ghost use Rattle.kept_pages.specs.Reading.{Reads};
-ghost use Rattle.kept_pages.specs.Unmet.{AreJudged};
+ghost use Rattle.kept_pages.specs.Unmet.{AreJudged, IsSeen};
 
-use crate::first::{judged_with, meets};
-use ds_base::PageId;
+use crate::first::{is_seen, judged_with, meets};
+use ds_base::{NoMemory, PageId};
 use ds_disk::{Disk, DiskError};
 use kept_checkpoints::Need;
 use page_format::Page;
 use std::alloc::Global;
 
-fn load<D: Disk>(disk: &mut D, id: PageId, page: &mut Page) -> Result<(), DiskError>
-    ensures answers { Answers (D.alive disk.old) (D.alive disk.new) (D.contents disk.old) (D.contents disk.new) result (λ _ c d. (d ≡ c) × (page.new ≡ page_at c.pages id)) Same }
-    ensures cause { HasCause (D.faults disk.old) (D.faults disk.new) result }
+fn load<D: Disk>(disk: &mut D, page: &mut Page, id: PageId) -> Result<(), DiskError>
+    ensures { Reads (D.contents disk.old) (D.contents disk.new) (D.faults disk.old) (D.faults disk.new) (λ _ c. page.new ≡ page_at c.pages id) result }
 {
     disk.read_page(id, page.bytes_mut())?;
     Ok(())
 }
 
-fn is_met<D: Disk>(disk: &mut D, page: &mut Page, need: &Need) -> Result<bool, DiskError>
-    ensures { Reads (D.contents disk.old) (D.contents disk.new) (D.faults disk.old) (D.faults disk.new) (λ b c. b ≡ is_met (page_at c.pages) need.now) result }
+// Reads the page, where it isn't the one that was seen last.
+#[tactic(auto, using(crate::proofs::Told::seen_told, crate::proofs::Told::read_told))]
+fn look<D: Disk>(
+    disk: &mut D,
+    page: &mut Page,
+    seen: Option<PageId>,
+    id: PageId,
+) -> Result<(), DiskError>
+    ensures { Reads (D.contents disk.old) (D.contents disk.new) (D.faults disk.old) (D.faults disk.new) (λ _ c. IsSeen (page_at c.pages) seen page.old → page.new ≡ page_at c.pages id) result }
 {
-    load(disk, need.page, page)?;
+    if is_seen(seen, id) {
+        return Ok(());
+    }
+    load(disk, page, id)
+}
+
+#[tactic(auto, using(crate::proofs::Told::met_told))]
+fn is_met<D: Disk>(
+    disk: &mut D,
+    page: &mut Page,
+    seen: Option<PageId>,
+    need: &Need,
+) -> Result<bool, DiskError>
+    ensures { Reads (D.contents disk.old) (D.contents disk.new) (D.faults disk.old) (D.faults disk.new) (λ b c. IsSeen (page_at c.pages) seen page.old → (b ≡ is_met (page_at c.pages) need.now) × (page.new ≡ page_at c.pages need.now.page)) result }
+{
+    look(disk, page, seen, need.page)?;
     Ok(meets(page, need))
 }
 
@@ -36,17 +56,24 @@ fn judge<D: Disk>(
     ensures { Reads (D.contents disk.old) (D.contents disk.new) (D.faults disk.old) (D.faults disk.new) (λ found c. AreJudged (page_at c.pages) needs.now found) result }
 {
     let mut first = None;
+    let mut seen = None;
     for need in needs {
-        let met = is_met(disk, page, need)?;
+        let met = is_met(disk, page, seen, need)?;
         first = judged_with(met, first, need.page);
+        seen = Some(need.page);
     }
     Ok(first)
 }
 
-/// The first page of the disk that doesn't meet one of these needs, by page set and then by number.
-///
-/// It reads a page for each need.
-pub fn find_unmet<D: Disk>(
+fn by_page(alloc: Global, needs: &[Need]) -> Result<Vec<Need>, NoMemory>
+    ensures { IfOk result (λ sorted. IsPermutation needs.now sorted.items) }
+{
+    let mut sorted = Vec::from_slice(alloc, needs)?;
+    sorted.sort_by_key(|need| need.page)?;
+    Ok(sorted)
+}
+
+fn judge_sorted<D: Disk>(
     alloc: Global,
     disk: &mut D,
     needs: &[Need],
@@ -55,4 +82,18 @@ pub fn find_unmet<D: Disk>(
 {
     let mut page = Page::zero(alloc)?;
     judge(disk, &mut page, needs)
+}
+
+/// The first page of the disk that doesn't meet one of these needs, by page set and then by number.
+///
+/// Each page is read once, in that order. Beside this it takes time in the number of needs times its logarithm.
+pub fn find_unmet<D: Disk>(
+    alloc: Global,
+    disk: &mut D,
+    needs: &[Need],
+) -> Result<Option<PageId>, DiskError>
+    ensures { Reads (D.contents disk.old) (D.contents disk.new) (D.faults disk.old) (D.faults disk.new) (λ found c. AreJudged (page_at c.pages) needs.now found) result }
+{
+    let sorted = by_page(alloc, needs)?;
+    judge_sorted(alloc, disk, &sorted)
 }

@@ -1,43 +1,54 @@
+ghost use Rattle.std.specs.Prelude.{IfOk};
+ghost use Rattle.ds_model.specs.RecordBytes.{IsAllowed};
+
 use super::*;
 use ds_base::{Bytes, Lrsn, PageId, Sequence};
-use ds_model::{Body, LogRecord, RecordList, Version};
+use ds_model::{Body, LogRecord, Version};
+use log_record::is_allowed;
 use page_format::{Page, Patch};
 use std::alloc::Global;
 use std::test::Fail;
 
 const ID: PageId = PageId { set: 1, number: 7 };
 
-fn add(alloc: Global, records: &mut RecordList, lrsn: u128, number: u32) -> Result<(), Fail> {
+/// A change of a page of the set.
+fn record(alloc: Global, lrsn: u8, number: u32) -> Result<LogRecord, Fail>
+    ensures { IfOk result IsAllowed }
+{
     let mut patches = Sequence::new(alloc);
     patches.push(Patch {
         page: PageId { set: 1, number },
         offset: 100,
-        bytes: Bytes::from_vec(vec![in alloc; lrsn as u8]?),
+        bytes: Bytes::from_vec(vec![in alloc; lrsn]?),
     })?;
-    records.push(LogRecord {
+    let record = LogRecord {
         version: Version::Two,
-        lrsn: Lrsn::new(lrsn).ok_or("a number")?,
+        lrsn: Lrsn::new(u128::from(lrsn)).ok_or("a number")?,
         tran: Lrsn::new(0).ok_or("a number")?,
         body: Body::System { patches },
-    })?;
-    Ok(())
+    };
+    if !is_allowed(&record) {
+        return Err(Fail::from("a record of a log"));
+    }
+    Ok(record)
 }
 
 #[test]
 fn a_page_is_a_version_by_a_front_of_the_records(rt: HostRuntime) -> Result<(), Fail> {
     let alloc = rt.alloc();
-    let mut records = Sequence::new(alloc);
-    add(alloc, &mut records, 3, 7)?;
-    add(alloc, &mut records, 4, 8)?;
-    add(alloc, &mut records, 5, 7)?;
-    let records = records.as_slice();
+    let records = [
+        record(alloc, 3, 7)?,
+        record(alloc, 4, 8)?,
+        record(alloc, 5, 7)?,
+    ];
     let mut page = Page::zero(alloc)?;
-    assert!(rt; is_version(alloc, ID, records, &page)?);
+    assert!(rt; is_version(alloc, ID, &records, &page)?);
     apply_record(&mut page, ID, &records[0]);
-    assert!(rt; is_version(alloc, ID, records, &page)?);
-    assert!(rt; !is_version(alloc, ID, &records[1..], &page)?);
-    assert!(rt; !is_placed(alloc, ID, records, false, &mut page)?);
+    assert!(rt; is_version(alloc, ID, &records, &page)?);
+    let other = [record(alloc, 3, 8)?];
+    assert!(rt; !is_version(alloc, ID, &other, &page)?);
+    assert!(rt; !is_placed(alloc, ID, &records, false, &mut page)?);
     apply_record(&mut page, ID, &records[2]);
-    assert!(rt; is_version(alloc, ID, records, &page)?);
+    assert!(rt; is_version(alloc, ID, &records, &page)?);
     Ok(())
 }

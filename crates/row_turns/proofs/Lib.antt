@@ -1,3 +1,4 @@
 pub mod Drawn
 pub mod Firsts
-pub mod Knows
+pub mod Fronts
+pub mod Rows

@@ -1,3 +1,4 @@
 pub mod Turns
-pub mod Held
+pub mod Settling
+pub mod Holders
 pub mod Out

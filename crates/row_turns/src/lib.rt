@@ -1,8 +1,9 @@
 //! Whether rows are changed under one transaction at a time, over merged records.
 #![tactic(auto)]
 
-mod held;
+mod holders;
 mod logs;
+mod settling;
 mod turns;
 
 pub use logs::find_turn_spot;

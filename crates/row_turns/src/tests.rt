@@ -1,41 +1,67 @@
+ghost use Rattle.std.specs.Prelude.{◌≡◌, IfOk};
+ghost use Rattle.ds_model.specs.RecordBytes.{IsAllowed};
+
 use super::*;
-use ds_base::{Lrsn, Place, Sequence, TableId};
-use ds_model::{Body, LogRecord, RecordList, RowChange, Version};
-use std::alloc::Global;
+use disk_spots::Spot;
+use ds_base::{Lrsn, MemberId, Place, Sequence, TableId};
+use ds_model::{Body, LogRecord, RowChange, Version};
+use log_record::{Log, is_allowed};
 use std::test::Fail;
 
-fn change(key: u64) -> Result<Body, Fail> {
-    Ok(Body::RowChange {
-        change: RowChange {
-            table: TableId::new(1).ok_or("a table")?,
-            key,
-            place: Place { page: 1, slot: 0 },
-            before: None,
-            after: None,
-        },
-    })
-}
-
-fn add(records: &mut RecordList, lrsn: u128, tran: u128, body: Body) -> Result<(), Fail> {
-    records.push(LogRecord {
+fn record(lrsn: u128, tran: u128, body: Body) -> Result<LogRecord, Fail>
+    ensures { IfOk result IsAllowed }
+{
+    let record = LogRecord {
         version: Version::Two,
         lrsn: Lrsn::new(lrsn).ok_or("a number")?,
         tran: Lrsn::new(tran).ok_or("a number")?,
         body,
-    })?;
-    Ok(())
+    };
+    if !is_allowed(&record) {
+        return Err(Fail::from("a record of a log"));
+    }
+    Ok(record)
+}
+
+fn change(lrsn: u128, tran: u128, key: u64) -> Result<LogRecord, Fail>
+    ensures { IfOk result IsAllowed }
+{
+    let change = RowChange {
+        table: TableId::new(1).ok_or("a table")?,
+        key,
+        place: Place { page: 1, slot: 0 },
+        before: None,
+        after: None,
+    };
+    record(lrsn, tran, Body::RowChange { change })
+}
+
+fn log(member: u64, records: Vec<LogRecord>) -> Result<Log, Fail>
+    ensures { IfOk result (λ log. log.records ≡ records.items) }
+{
+    Ok(Log {
+        member: MemberId::new(member).ok_or("a member")?,
+        records: Sequence::from_vec(records),
+        length: 0,
+        tail: 0,
+    })
 }
 
 #[test]
 fn a_row_waits_for_the_commit(rt: HostRuntime) -> Result<(), Fail> {
     let alloc = rt.alloc();
-    let mut records = Sequence::new(alloc);
-    add(&mut records, 1, 1, change(10)?)?;
-    add(&mut records, 2, 2, change(11)?)?;
-    add(&mut records, 3, 1, Body::Commit)?;
-    add(&mut records, 4, 2, change(10)?)?;
-    assert_eq!(rt; find_out_of_turn(alloc, records.as_slice())?, None);
-    add(&mut records, 5, 5, change(11)?)?;
-    assert_eq!(rt; find_out_of_turn(alloc, records.as_slice())?, Lrsn::new(5));
+    let first = vec![in alloc; change(1, 1, 10)?, record(3, 1, Body::Commit)?]?;
+    let second = vec![in alloc; change(2, 2, 11)?, change(4, 2, 10)?]?;
+    let in_turn = [log(1, first)?, log(2, second)?];
+    assert_eq!(rt; find_turn_spot(alloc, &in_turn)?, None);
+    let first = vec![in alloc; change(1, 1, 10)?, change(3, 1, 11)?]?;
+    let second = vec![in alloc; change(2, 2, 12)?, change(4, 2, 10)?, change(5, 2, 11)?]?;
+    let out = [log(1, first)?, log(2, second)?];
+    let member = MemberId::new(2).ok_or("a member")?;
+    assert_eq!(rt;
+        find_turn_spot(alloc, &out)?,
+        Some(Spot::Log { member, at: 49 })
+    );
+    assert_eq!(rt; find_out_of_turn(alloc, out[1].records())?, None);
     Ok(())
 }

@@ -1,12 +1,14 @@
+ghost use Rattle.std.specs.Prelude.{◌≡◌, IfOk};
+ghost use Rattle.ds_model.specs.RecordBytes.{IsAllowed};
+
 use super::*;
 use disk_spots::Spot;
 use ds_base::{LRSN_END, Lrsn, MemberId, Place, Sequence, TableId};
 use ds_model::{Body, LogRecord, RowChange, Version};
-use log_record::Log;
-use std::alloc::Global;
+use log_record::{Log, is_allowed};
 use std::test::Fail;
 
-fn body() -> Result<Body, Fail> {
+fn change() -> Result<Body, Fail> {
     Ok(Body::RowChange {
         change: RowChange {
             table: TableId::new(1).ok_or("a table")?,
@@ -18,43 +20,52 @@ fn body() -> Result<Body, Fail> {
     })
 }
 
-fn record(lrsn: u128, body: Body) -> Result<LogRecord, Fail> {
-    Ok(LogRecord {
+/// A record of one transaction.
+fn record(lrsn: u128, body: Body) -> Result<LogRecord, Fail>
+    ensures { IfOk result IsAllowed }
+{
+    let record = LogRecord {
         version: Version::Two,
         lrsn: Lrsn::new(lrsn).ok_or("a number")?,
         tran: Lrsn::new(LRSN_END - 3).ok_or("a number")?,
         body,
-    })
+    };
+    if !is_allowed(&record) {
+        return Err(Fail::from("a record of a log"));
+    }
+    Ok(record)
 }
 
-fn logs(alloc: Global, commits: bool) -> Result<Vec<Log>, Fail> {
-    let mut records = Sequence::new(alloc);
-    records.push(record(LRSN_END - 3, body()?)?)?;
-    records.push(record(LRSN_END - 2, body()?)?)?;
-    if commits {
-        records.push(record(LRSN_END - 1, Body::Commit)?)?;
-    }
-    let mut logs = Vec::new(alloc);
-    logs.push(Log {
+fn log(records: Vec<LogRecord>) -> Result<Log, Fail>
+    ensures { IfOk result (λ log. log.records ≡ records.items) }
+{
+    Ok(Log {
         member: MemberId::new(1).ok_or("a member")?,
-        records,
+        records: Sequence::from_vec(records),
         length: 0,
         tail: 0,
-    })?;
-    Ok(logs)
+    })
 }
 
 #[test]
 fn each_open_change_needs_a_number(rt: HostRuntime) -> Result<(), Fail> {
     let alloc = rt.alloc();
     let member = MemberId::new(1).ok_or("a member")?;
-    let open = logs(alloc, false)?;
+    let first = record(LRSN_END - 3, change()?)?;
+    let open = [log(vec![in alloc; first, record(LRSN_END - 2, change()?)?]?)?];
     assert_eq!(rt; count_open(alloc, &open)?, 2);
     assert_eq!(rt;
         find_last_number(alloc, &open)?,
         Some(Spot::Log { member, at: 49 })
     );
-    let settled = logs(alloc, true)?;
+    assert_eq!(rt;
+        unsettled_trans(alloc, open[0].records())?
+            .into_list(alloc)?
+            .len(),
+        1
+    );
+    let first = record(LRSN_END - 3, change()?)?;
+    let settled = [log(vec![in alloc; first, record(LRSN_END - 1, Body::Commit)?]?)?];
     assert_eq!(rt; count_open(alloc, &settled)?, 0);
     assert_eq!(rt; find_last_number(alloc, &settled)?, None);
     Ok(())

@@ -1,7 +1,7 @@
 use Rattle.std.proofs.Common.{◌≤◌, take}
 use Rattle.ds_disk.specs.Contents.{Contents, WhenTold, Becomes, Same}
 use Rattle.ds_disk.specs.Pages.{page_at}
-use Rattle.kept_pages.specs.Unmet.{AreJudged}
+use Rattle.kept_pages.specs.Unmet.{AreJudged, IsSeen}
 use Rattle.kept_pages.proofs.unmet.judge.Given as goal
 
 abbrev pub invariant-loop-need : goal.invariant-loop-need
@@ -9,3 +9,4 @@ invariant-loop-need g l =
     WhenTold (g.D.Disk.contents l.fn.disk) (λ (c : Contents). AreJudged (page_at c.pages) (take l.need-index l.needs) l.first)
     × Becomes (g.D.Disk.contents l.fn.disk) (g.D.Disk.contents l.disk) Same
     × (g.D.Disk.faults l.fn.disk ≤ g.D.Disk.faults l.disk)
+    × WhenTold (g.D.Disk.contents l.fn.disk) (λ (c : Contents). IsSeen (page_at c.pages) l.seen l.page)
