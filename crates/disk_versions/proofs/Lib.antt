@@ -1,0 +1,4 @@
+pub mod Reading
+pub mod Pages
+pub mod Set_steps
+pub mod Versions

@@ -1,0 +1,14 @@
+//! Whether the pages of a disk are versions: what fronts of the log records make of pages of zeros.
+#![tactic(auto)]
+
+mod ends;
+mod page;
+mod set;
+mod sets;
+
+pub use ends::BEHIND;
+pub use set::Placing;
+pub use sets::find_unplaced;
+
+#[cfg(test)]
+mod tests;

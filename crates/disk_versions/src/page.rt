@@ -1,0 +1,59 @@
+ghost use Rattle.std.specs.Prelude.{◌≡◌};
+ghost use Rattle.std.specs.List.{AllByRecursion};
+ghost use Rattle.ds_disk.specs.Answers.{Answers, HasCause};
+ghost use Rattle.ds_disk.specs.Contents.{Same};
+ghost use Rattle.ds_disk.specs.Pages.{page_at};
+ghost use Rattle.ds_model.specs.RecordBytes.{IsAllowed};
+ghost use Rattle.page_format.specs.Header.{is_zeros};
+ghost use Rattle.disk_versions.specs.Reading.{Reads};
+ghost use Rattle.disk_versions.specs.Placing.{IsJudged};
+
+use ds_base::PageId;
+use ds_disk::{Disk, DiskError};
+use log_record::LogRecord;
+use page_format::Page;
+use page_versions::is_placed;
+use std::alloc::Global;
+
+/// Reads the page from the disk.
+pub fn load<D: Disk>(disk: &mut D, id: PageId, page: &mut Page) -> Result<(), DiskError>
+    ensures answers { Answers (D.alive disk.old) (D.alive disk.new) (D.contents disk.old) (D.contents disk.new) result (λ _ c d. (d ≡ c) × (page.new ≡ page_at c.pages id)) Same }
+    ensures cause { HasCause (D.faults disk.old) (D.faults disk.new) result }
+{
+    disk.read_page(id, page.bytes_mut())?;
+    Ok(())
+}
+
+fn is_blank(page: &Page) -> bool
+    ensures { result ≡ is_zeros page.now }
+{
+    page.bytes().iter().all(|byte| *byte == 0)
+}
+
+/// What is found of a page: whether it may stand there, and whether it is more than zeros.
+#[derive(Clone, Copy, Debug)]
+pub struct Judged {
+    pub is_placed: bool,
+    pub is_written: bool,
+}
+
+/// Reads the page and tells of it.
+pub fn judge<D: Disk>(
+    alloc: Global,
+    disk: &mut D,
+    page: &mut Page,
+    id: PageId,
+    records: &[LogRecord],
+    renews: bool,
+) -> Result<Judged, DiskError>
+    requires { AllByRecursion IsAllowed records.now }
+    ensures { Reads (D.contents disk.old) (D.contents disk.new) (D.faults disk.old) (D.faults disk.new) (λ j c. IsJudged id records.now renews (page_at c.pages id) j) result }
+{
+    load(disk, id, page)?;
+    let is_written = !is_blank(page);
+    let is_placed = is_placed(alloc, id, records, renews, page)?;
+    Ok(Judged {
+        is_placed,
+        is_written,
+    })
+}

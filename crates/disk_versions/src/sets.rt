@@ -1,0 +1,61 @@
+ghost use Rattle.std.specs.Prelude.{◌≡◌};
+ghost use Rattle.std.specs.List.{AllByRecursion};
+ghost use Rattle.ds_disk.specs.Pages.{page_at};
+ghost use Rattle.ds_model.specs.RecordBytes.{IsAllowed};
+ghost use Rattle.page_chain.specs.Chains.{AreRecords};
+ghost use Rattle.sound_disk.specs.Versions.{merged};
+ghost use Rattle.disk_versions.specs.Reading.{Reads};
+ghost use Rattle.disk_versions.specs.Placing.{AreSetsTold};
+ghost use Rattle.disk_versions.specs.Told.{IsTold};
+
+use crate::set::{Placing, check_set};
+use ds_disk::{Disk, DiskError};
+use log_record::LogRecord;
+use page_images::header_laws;
+use page_versions::version_laws;
+use restart_plan::{Logs, plan_of};
+use std::alloc::Global;
+
+/// The page sets of a group are numbered from 1 to this.
+const PAGE_SETS: u16 = 128;
+
+fn check_sets<D: Disk>(
+    alloc: Global,
+    disk: &mut D,
+    records: &[LogRecord],
+    renews: bool,
+    behind: u32,
+) -> Result<Placing, DiskError>
+    requires { AllByRecursion IsAllowed records.now }
+    ensures { Reads (D.contents disk.old) (D.contents disk.new) (D.faults disk.old) (D.faults disk.new) (λ found c. AreSetsTold (page_at c.pages) records.now renews behind 128 found) result }
+{
+    let mut pages = 0u64;
+    for before in 0..PAGE_SETS {
+        let found = check_set(alloc, disk, before + 1, records, renews, behind)?;
+        match found {
+            Placing::All { pages: more } => pages += more,
+            Placing::Unplaced { id } => return Ok(Placing::Unplaced { id }),
+        }
+    }
+    Ok(Placing::All { pages })
+}
+
+/// The first page of the disk, by page set and then by number, that may not stand there by these logs; or that each may, and
+/// how many aren't all zeros. Of each page set so many pages are read behind the last one that its header page or a record
+/// names.
+///
+/// The pages are read one at a time. A page that isn't all zeros takes time in the number of records.
+pub fn find_unplaced<D: Disk>(
+    alloc: Global,
+    disk: &mut D,
+    logs: &Logs,
+    behind: u32,
+) -> Result<Placing, DiskError>
+    requires { AreRecords (merged logs.now) }
+    ensures { Reads (D.contents disk.old) (D.contents disk.new) (D.faults disk.old) (D.faults disk.new) (λ found c. IsTold (page_at c.pages) logs.now behind found) result }
+{
+    header_laws();
+    version_laws();
+    let plan = plan_of(alloc, logs)?;
+    check_sets(alloc, disk, plan.merged.records(), plan.renews, behind)
+}

@@ -1,0 +1,4 @@
+pub mod Kinds
+pub mod Heaps
+pub mod Indexes
+pub mod Nodes
