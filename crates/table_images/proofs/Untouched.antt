@@ -1,5 +1,5 @@
 -- Pages that no record changes.
-use Rattle.std.proofs.Common.{◌≡◌, ℕ, ◌<◌, ◌≤◌, Bool, true, false, cond, ◌&&◌, ◌||◌, List, [], ◌∷◌, refl, sym, ap, subst, ◌∙◌, arith}
+use Rattle.std.proofs.Common.{◌≡◌, ℕ, ◌<◌, ◌≤◌, Bool, true, false, cond, ◌&&◌, ◌||◌, List, [], ◌∷◌, replicate, refl, sym, ap, subst, ◌∙◌, arith}
 use Rattle.std.specs.Prelude.{◌==◌, nat_lt, if◌then◌else◌}
 use Rattle.std.specs.List.{list_any}
 use Rattle.std.proofs.lemmas.Bool.Decides.{nat_tests}
@@ -11,6 +11,8 @@ use Rattle.ds_model.specs.declared.log.Body.{Body}
 use Rattle.ds_model.specs.declared.log.Body.TheVariants as body
 use Rattle.ds_model.specs.RecordBytes.{IsAllowed, BodyIsAllowed, BodyFits}
 use Rattle.page_format.specs.declared.patch.Patch.{Patch}
+use Rattle.page_format.specs.Fields.{page_size}
+use Rattle.index_leaf.specs.Changes.{zeros as zero_bytes}
 use Rattle.page_images.specs.Images.{zeros}
 use Rattle.page_chain.specs.Chains.{changes_of, touches, after_record, version_from, version_of, LeavesOthers}
 use Rattle.disk_versions.specs.Ends.{page_of, last_with, last_in_patches, last_in_records}
@@ -66,3 +68,7 @@ unchanged k set last n page (r ∷ rs) lt =
 
 pub never_changed : LeavesOthers → (set n : ℕ) (rs : List LogRecord) → last_in_records set 0 rs < n → version_of (page_of set n) rs ≡ zeros
 never_changed k set n rs lt = unchanged k set 0 n zeros rs lt
+
+pub blank : replicate page_size 0 ≡ zeros
+unfolding zero_bytes
+blank = refl

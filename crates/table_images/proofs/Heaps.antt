@@ -12,8 +12,8 @@ use Rattle.page_chain.specs.Chains.{images_of, LeavesOthers}
 use Rattle.sound_disk.specs.Layouts.{count_in}
 use Rattle.sound_disk.specs.Heaps.{IsHeapHeader, IsRowPage, heap_last, IsHeap}
 use Rattle.disk_versions.specs.Ends.{last_in_records, end_of}
-use Rattle.table_heaps.specs.Stands.{Stands, StandsAt, IsFirstWrong, IsFoundUpTo, given_by, IsWrong, IsTold}
-use Rattle.table_heaps.proofs.Untouched.{never_changed}
+use Rattle.table_images.specs.Stands.{Stands, StandsAt, IsFirstWrong, IsFoundUpTo, given_by, IsWrong, IsTold}
+use Rattle.table_images.proofs.Untouched.{never_changed}
 
 decide : (b : Bool) (P : Type 0) → (b ≡ true → P) → (b ≡ false → P) → P
 decide true P f g = f refl
@@ -32,6 +32,28 @@ more at table last given n h s k lt =
     decide (nat_lt k n) (StandsAt at table last given k)
     (λ e. h k (below k n e))
     (λ e. let up = not_below k n e in let same : k ≡ n = omega (arith, lt, up) in subst (λ (m : ℕ). StandsAt at table last given m) (sym same) s)
+
+stands_at : (records : List LogRecord) (table last given n : ℕ) (id : PageId) (page : List ℕ) → id ≡ heap_page table n → page ≡ images_of records id → Stands last given id page → StandsAt (images_of records) table last given n
+stands_at records table last given n id page i p s =
+    subst (λ (q : PageId). Stands last given q (images_of records q)) i (subst (λ (q : List ℕ). Stands last given id q) p s)
+
+at_stands : (records : List LogRecord) (table last given n : ℕ) (id : PageId) (page : List ℕ) → id ≡ heap_page table n → page ≡ images_of records id → StandsAt (images_of records) table last given n → Stands last given id page
+at_stands records table last given n id page i p s =
+    subst (λ (q : List ℕ). Stands last given id q) (sym p) (subst (λ (q : PageId). Stands last given q (images_of records q)) (sym i) s)
+
+pub one_more : (records : List LogRecord) (table last given n : ℕ) (id : PageId) (page : List ℕ) (b : Bool) → id ≡ heap_page table n → page ≡ images_of records id → IsTrue b ↔ Stands last given id page → b ≡ true
+    → ((k : ℕ) → k < n → StandsAt (images_of records) table last given k) → (k : ℕ) → k < n + 1 → StandsAt (images_of records) table last given k
+one_more records table last given n id page b i p t e h = more (images_of records) table last given n h (stands_at records table last given n id page i p (t.0 e))
+
+pub one_wrong : (records : List LogRecord) (table last given n : ℕ) (id : PageId) (page : List ℕ) (b : Bool) → id ≡ heap_page table n → page ≡ images_of records id → IsTrue b ↔ Stands last given id page → b ≡ false
+    → ((k : ℕ) → k < n → StandsAt (images_of records) table last given k) → IsFirstWrong (images_of records) table last given id
+one_wrong records table last given n id page b i p t e h =
+    let number : id.number ≡ n = ap (λ (q : PageId). q.number) i in
+    record {
+      id_is = i ∙ ap (λ (m : ℕ). heap_page table m) (sym number);
+      wrong = λ s. let is = t.1 (at_stands records table last given n id page i p (subst (λ (m : ℕ). StandsAt (images_of records) table last given m) number s)) in absurd (cc (is, e));
+      before = λ k less. h k (omega (arith, less, number));
+    }
 
 -- ---- the heap
 

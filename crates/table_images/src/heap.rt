@@ -3,7 +3,7 @@ ghost use Rattle.std.specs.List.{AllByRecursion};
 ghost use Rattle.ds_model.specs.RecordBytes.{IsAllowed};
 ghost use Rattle.page_format.specs.Header.{is_zeros};
 ghost use Rattle.page_chain.specs.Chains.{images_of};
-ghost use Rattle.table_heaps.specs.Stands.{Stands, IsTold, IsFoundUpTo};
+ghost use Rattle.table_images.specs.Stands.{Stands, IsTold, IsFoundUpTo};
 
 use crate::images::image_of;
 use disk_versions::{end_of, last_in_records};
