@@ -15,14 +15,14 @@ use Rattle.disk_versions.specs.Ends.{last_in_records, end_of}
 use Rattle.table_images.specs.Stands.{Stands, StandsAt, IsFirstWrong, IsFoundUpTo, given_by, IsWrong, IsTold}
 use Rattle.table_images.proofs.Untouched.{never_changed}
 
-decide : (b : Bool) (P : Type 0) → (b ≡ true → P) → (b ≡ false → P) → P
+pub decide : (b : Bool) (P : Type 0) → (b ≡ true → P) → (b ≡ false → P) → P
 decide true P f g = f refl
 decide false P f g = g refl
 
-below : (k n : ℕ) → nat_lt k n ≡ true → k < n
+pub below : (k n : ℕ) → nat_lt k n ≡ true → k < n
 below k n h = grind (arith, nat_tests)
 
-not_below : (k n : ℕ) → nat_lt k n ≡ false → n ≤ k
+pub not_below : (k n : ℕ) → nat_lt k n ≡ false → n ≤ k
 not_below k n h = grind (arith, nat_tests)
 
 -- ---- one page more
@@ -91,14 +91,14 @@ greater_first a b = grind (arith, nat_tests)
 greater_second : (a b : ℕ) → b ≤ (if nat_lt a b then b else a)
 greater_second a b = grind (arith, nat_tests)
 
-past_first : (a b n : ℕ) → a < 2 ^ 32 → b < 2 ^ 32 → end_of a b 0 ≤ n → a < n
+pub past_first : (a b n : ℕ) → a < 2 ^ 32 → b < 2 ^ 32 → end_of a b 0 ≤ n → a < n
 past_first a b n x y le =
     let f = greater_first a b in let s = greater_second a b in
     decide (nat_lt a b) (a < n)
     (λ e. let is : end_of a b 0 ≡ min (b + 0 + 1) (2 ^ 32) = ap (λ (c : Bool). min ((if c then b else a) + 0 + 1) (2 ^ 32)) e in let up = below a b e in omega (arith, is, le, up, y))
     (λ e. let is : end_of a b 0 ≡ min (a + 0 + 1) (2 ^ 32) = ap (λ (c : Bool). min ((if c then b else a) + 0 + 1) (2 ^ 32)) e in omega (arith, is, le, x))
 
-past_second : (a b n : ℕ) → a < 2 ^ 32 → b < 2 ^ 32 → end_of a b 0 ≤ n → b < n
+pub past_second : (a b n : ℕ) → a < 2 ^ 32 → b < 2 ^ 32 → end_of a b 0 ≤ n → b < n
 past_second a b n x y le =
     decide (nat_lt a b) (b < n)
     (λ e. let is : end_of a b 0 ≡ min (b + 0 + 1) (2 ^ 32) = ap (λ (c : Bool). min ((if c then b else a) + 0 + 1) (2 ^ 32)) e in omega (arith, is, le, y))

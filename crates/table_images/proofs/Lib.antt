@@ -1,2 +1,3 @@
 pub mod Untouched
 pub mod Heaps
+pub mod Indexes

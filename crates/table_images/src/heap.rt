@@ -1,11 +1,10 @@
 ghost use Rattle.std.specs.Prelude.{◌≡◌, ◌≤◌, ◌^◌, ◌↔◌, IfOk, IsTrue};
 ghost use Rattle.std.specs.List.{AllByRecursion};
 ghost use Rattle.ds_model.specs.RecordBytes.{IsAllowed};
-ghost use Rattle.page_format.specs.Header.{is_zeros};
 ghost use Rattle.page_chain.specs.Chains.{images_of};
 ghost use Rattle.table_images.specs.Stands.{Stands, IsTold, IsFoundUpTo};
 
-use crate::images::image_of;
+use crate::images::{image_of, is_blank};
 use disk_versions::{end_of, last_in_records};
 use ds_base::{NoMemory, PageId, TableId};
 use heap_space::last_page;
@@ -15,12 +14,6 @@ use page_format::Page;
 use page_images::header_laws;
 use std::alloc::Global;
 use table_pages::{count_in, given_in, is_heap_header, is_row_page};
-
-fn is_blank(page: &Page) -> bool
-    ensures { result ≡ is_zeros page.now }
-{
-    page.bytes().iter().all(|byte| *byte == 0)
-}
 
 // Whether the page is what it is to be in a heap with this last page and so many slots given in it.
 fn stands(page: &Page, id: PageId, last: u32, given: u16) -> bool
@@ -64,7 +57,7 @@ fn find_from(
 /// The first page of the table's heap that isn't right after these records.
 ///
 /// It takes time in the number of records for each page up to the last one that a record changes.
-pub fn find_wrong_page(
+pub fn find_wrong_heap_page(
     alloc: Global,
     table: TableId,
     records: &[LogRecord],

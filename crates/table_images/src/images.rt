@@ -1,6 +1,7 @@
 ghost use Rattle.std.specs.Prelude.{◌≡◌, IfOk};
 ghost use Rattle.std.specs.List.{AllByRecursion};
 ghost use Rattle.ds_model.specs.RecordBytes.{IsAllowed};
+ghost use Rattle.page_format.specs.Header.{is_zeros};
 ghost use Rattle.page_chain.specs.Chains.{version_of, version_from};
 
 use ds_base::{NoMemory, PageId};
@@ -27,4 +28,11 @@ pub fn image_of(alloc: Global, id: PageId, records: &[LogRecord]) -> Result<Page
     let mut page = Page::zero(alloc)?;
     apply_all(&mut page, id, records);
     Ok(page)
+}
+
+/// Whether all bytes of the page are zeros.
+pub fn is_blank(page: &Page) -> bool
+    ensures { result ≡ is_zeros page.now }
+{
+    page.bytes().iter().all(|byte| *byte == 0)
 }
