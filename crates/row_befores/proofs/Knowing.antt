@@ -1,6 +1,6 @@
 -- The map has the rows that the records so far left.
-use Rattle.std.proofs.Common.{◌≡◌, ◌↔◌, ℕ, Bool, true, false, cond, List, [], ◌∷◌, ◌++◌, Option, Some, None, Result, Ok, Err, refl, sym, ap, subst, ◌∙◌, arith}
-use Rattle.std.specs.Prelude.{◌==◌, ◌&&◌, IsTrue, IfOk, if◌then◌else◌}
+use Rattle.std.proofs.Common.{◌≡◌, ◌↔◌, ℕ, Bool, true, cond, List, [], ◌∷◌, ◌++◌, Option, Some, None, Result, Ok, Err, refl, sym, ap, subst, ◌∙◌, arith}
+use Rattle.std.specs.Prelude.{◌==◌, ◌&&◌, IsTrue, IfOk}
 use Rattle.std.specs.Str.{bytes_eq}
 use Rattle.std.specs.Global.{Vec}
 use Rattle.std.specs.Ordering.{nat_cmp, eq_by_cmp, is_eq, ordering_then}
@@ -10,12 +10,11 @@ use Rattle.std.specs.FinMap.{get, empty, get-insert, get-remove, get-empty}
 use Rattle.std.proofs.lemmas.Bool.Decides.{nat_tests}
 use Rattle.std.proofs.lemmas.Slice.Eq.{bytes_eq-Decides}
 use Rattle.ds_model.specs.declared.log.LogRecord.{LogRecord}
-use Rattle.ds_model.specs.declared.log.RowChange.{RowChange}
 use Rattle.ds_model.specs.declared.log.Body.{Body}
 use Rattle.ds_model.specs.declared.log.Body.TheVariants as body
 use Rattle.ds_model.specs.Rows.{Rows, spot_cmp, spot_cmp_total}
 use Rattle.ds_model.specs.Logs.{set_row}
-use Rattle.sound_disk.specs.Rows_there.{row_by, row_with, row_from, row_after}
+use Rattle.sound_disk.specs.Rows_there.{row_with, row_from, row_after}
 use Rattle.row_befores.specs.Befores.{RowBefore, AreBefores}
 use Rattle.row_befores.specs.Agreeing.{same_row, agrees, rows_with, agree_from}
 
