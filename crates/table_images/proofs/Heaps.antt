@@ -1,5 +1,5 @@
 -- From the pages of a heap to the heap.
-use Rattle.std.proofs.Common.{◌≡◌, ◌⊎◌, ◌↔◌, ℕ, ◌+◌, ◌^◌, ◌<◌, ◌≤◌, Bool, true, false, not, List, Option, Some, None, Result, Ok, Err, refl, sym, ap, subst, ◌∙◌, arith, inl, inr, min}
+use Rattle.std.proofs.Common.{◌≡◌, ◌⊎◌, ◌↔◌, ℕ, ◌+◌, ◌^◌, ◌<◌, ◌≤◌, Bool, true, false, List, Option, Some, None, Result, Ok, Err, refl, sym, ap, subst, ◌∙◌, arith, min}
 use Rattle.std.specs.Prelude.{nat_lt, IsTrue, IfOk, if◌then◌else◌}
 use Rattle.std.proofs.lemmas.Bool.Decides.{nat_tests}
 use Rattle.ds_base.specs.Pages.{heap_page, heap_set}
@@ -10,9 +10,9 @@ use Rattle.heap_space.specs.Next.{last_page_of, given_of}
 use Rattle.page_images.specs.Images.{Images, zeros}
 use Rattle.page_chain.specs.Chains.{images_of, LeavesOthers}
 use Rattle.sound_disk.specs.Layouts.{count_in}
-use Rattle.sound_disk.specs.Heaps.{IsHeapHeader, IsRowPage, heap_last, IsHeap}
+use Rattle.sound_disk.specs.Heaps.{IsHeapHeader, heap_last, IsHeap}
 use Rattle.disk_versions.specs.Ends.{last_in_records, end_of}
-use Rattle.table_images.specs.Stands.{Stands, StandsAt, IsFirstWrong, IsFoundUpTo, given_by, IsWrong, IsTold}
+use Rattle.table_images.specs.Stands.{Stands, StandsAt, IsFirstWrong, IsFoundUpTo, given_by, IsTold}
 use Rattle.table_images.proofs.Untouched.{never_changed}
 
 pub decide : (b : Bool) (P : Type 0) → (b ≡ true → P) → (b ≡ false → P) → P

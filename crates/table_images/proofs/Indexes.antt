@@ -10,13 +10,12 @@ use Rattle.page_format.specs.declared.header.NotAPage.{NotAPage}
 use Rattle.page_format.specs.declared.header.PageKind.{PageKind}
 use Rattle.page_format.specs.declared.header.PageKind.TheVariants as kind
 use Rattle.sound_disk.specs.Layouts.{IsOfKind}
-use Rattle.index_leaf.specs.Entries.{count_of}
-use Rattle.index_leaf.specs.Changes.{next_page_of, half}
-use Rattle.page_images.specs.Images.{Images, zeros}
+use Rattle.index_leaf.specs.Changes.{next_page_of}
+use Rattle.page_images.specs.Images.{Images}
 use Rattle.page_chain.specs.Chains.{images_of}
-use Rattle.sound_disk.specs.Indexes.{IsIndexHeader, IsNodePage, index_next, AreIndexPages}
+use Rattle.sound_disk.specs.Indexes.{IsIndexHeader, index_next, AreIndexPages}
 use Rattle.disk_versions.specs.Ends.{last_in_records, end_of}
-use Rattle.table_images.specs.Nodes.{NodeIn, NodeStands, NodeStandsAt, IsFirstWrongNode, AreNodesUpTo, IsUnformatted, is_formatted, IsWrongIndex, IsIndexTold}
+use Rattle.table_images.specs.Nodes.{NodeStands, NodeStandsAt, IsFirstWrongNode, AreNodesUpTo, IsUnformatted, is_formatted, IsIndexTold}
 use Rattle.table_images.proofs.Untouched.{never_changed}
 use Rattle.table_images.proofs.Heaps.{IsKnown, decide, below, not_below, past_first, past_second}
 

@@ -1,6 +1,5 @@
 -- Pages that no record changes.
-use Rattle.std.proofs.Common.{◌≡◌, ℕ, ◌<◌, ◌≤◌, Bool, true, false, cond, ◌&&◌, ◌||◌, List, [], ◌∷◌, replicate, refl, sym, ap, subst, ◌∙◌, arith}
-use Rattle.std.specs.Prelude.{◌==◌, nat_lt, if◌then◌else◌}
+use Rattle.std.proofs.Common.{◌≡◌, ℕ, ◌<◌, ◌≤◌, Bool, true, false, ◌||◌, List, [], ◌∷◌, replicate, refl, ap, ◌∙◌, arith}
 use Rattle.std.specs.List.{list_any}
 use Rattle.std.proofs.lemmas.Bool.Decides.{nat_tests}
 use Rattle.ds_base.specs.Pages.{same_page}
@@ -14,7 +13,7 @@ use Rattle.page_format.specs.declared.patch.Patch.{Patch}
 use Rattle.page_format.specs.Fields.{page_size}
 use Rattle.index_leaf.specs.Changes.{zeros as zero_bytes}
 use Rattle.page_images.specs.Images.{zeros}
-use Rattle.page_chain.specs.Chains.{changes_of, touches, after_record, version_from, version_of, LeavesOthers}
+use Rattle.page_chain.specs.Chains.{changes_of, after_record, version_from, version_of, LeavesOthers}
 use Rattle.disk_versions.specs.Ends.{page_of, last_with, last_in_patches, last_in_records}
 
 body_fits : (v : Version) (b : Body) → BodyIsAllowed v b → BodyFits v b

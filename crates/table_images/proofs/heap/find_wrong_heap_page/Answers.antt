@@ -1,4 +1,4 @@
-use Rattle.std.proofs.Common.{◌≡◌, ◌<◌, ◌^◌, ap, ◌∙◌, arith}
+use Rattle.std.proofs.Common.{◌<◌, ◌^◌, ap, ◌∙◌, arith}
 use Rattle.ds_base.specs.declared.names.PageId.{PageId}
 use Rattle.page_chain.specs.Chains.{version_of}
 use Rattle.disk_versions.specs.Ends.{last_in_records}
