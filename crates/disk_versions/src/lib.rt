@@ -6,7 +6,7 @@ mod page;
 mod set;
 mod sets;
 
-pub use ends::BEHIND;
+pub use ends::{BEHIND, end_of, last_in_records};
 pub use set::Placing;
 pub use sets::find_unplaced;
 

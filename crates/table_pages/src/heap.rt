@@ -14,7 +14,8 @@ use ds_base::PageId;
 use heap_space::{Slot, header_is_allowed, last_page, row, slot_is_allowed};
 use page_format::{Page, PageKind, SLOTS_PER_PAGE};
 
-fn given_in(page: &Page) -> u16
+/// How many slots of the last page are given, by a heap's header page.
+pub fn given_in(page: &Page) -> u16
     ensures { result ≡ given_of page.now }
 {
     read_u16(page, 36)

@@ -6,7 +6,8 @@ mod heap;
 mod index;
 mod node;
 
-pub use heap::{is_heap_header, is_row_page};
+pub use bytes::count_in;
+pub use heap::{given_in, is_heap_header, is_row_page};
 pub use index::is_index_header;
 pub use node::is_node_page;
 
