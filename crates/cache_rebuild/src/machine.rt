@@ -1,6 +1,5 @@
 use crate::stage::{Ended, Stage};
-use member_intents::Event;
-use rebuild_resources::{Rebuild, RebuildIntent, RebuildPolicy, RebuildTold};
+use rebuild_resources::{Event, Rebuild, RebuildIntent, RebuildPolicy, RebuildTold};
 
 /// The rebuild of the cache by a member: where it stands.
 #[derive(Clone, Copy)]
