@@ -4,8 +4,7 @@ use crate::frames::{last_frame, nth_frame};
 use ds_base::TableId;
 use member_intents::Intent;
 use member_marks::{Marks, Owner};
-use member_resources::Resources;
-use member_state::{Run, RunState, Work, fill_intent, test_intent};
+use member_state::{Resources, Run, RunState, Work, fill_intent, test_intent};
 use page_plans::Action;
 
 // The table in which the action is to be given a slot, where the page in hand is the header of its heap.

@@ -2,8 +2,9 @@
 
 use member_intents::Intent;
 use member_marks::{Marks, Owner};
-use member_resources::Resources;
-use member_state::{MemberState, SeatState, Standing, closing_intent, release_intent, test_intent};
+use member_state::{
+    MemberState, Resources, SeatState, Standing, closing_intent, release_intent, test_intent,
+};
 
 /// The bytes of a Commit record.
 const COMMIT_BYTES: u32 = 30;

@@ -12,9 +12,8 @@ use ds_model::{FailAt, Reads, TranList};
 use member_agents::{seat_intent, take_for_seat};
 use member_intents::{Event, Intent, Look, Outcome};
 use member_marks::Marks;
-use member_resources::{Policy, Resources};
 use member_retry::{retry_intent, take_for_retry};
-use member_state::{CASTOUT, CYCLES, DUTY, MemberState, PAGES, QUERY, RETRY};
+use member_state::{CASTOUT, CYCLES, DUTY, MemberState, PAGES, Policy, QUERY, RETRY, Resources};
 use std::alloc::Global;
 
 /// What a member of the group wants next: for its agents, for other members, and for room in its pool and in the cache.

@@ -7,8 +7,7 @@ use ds_base::NoMemory;
 use member_actions::run_intent;
 use member_intents::{Event, Intent, Outcome};
 use member_marks::Marks;
-use member_resources::Resources;
-use member_state::{MemberState, PAGES, Standing};
+use member_state::{MemberState, PAGES, Resources, Standing};
 use std::alloc::Global;
 
 fn next_intent(state: &MemberState, resources: &Resources) -> Intent {

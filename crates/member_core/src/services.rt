@@ -3,8 +3,7 @@
 use ds_base::PageId;
 use member_intents::{Intent, Outcome};
 use member_marks::Marks;
-use member_resources::Resources;
-use member_state::{MemberState, Service, write_intent};
+use member_state::{MemberState, Resources, Service, write_intent};
 use page_plans::table_of;
 
 // The changed frame that is written first, where this page is changed.

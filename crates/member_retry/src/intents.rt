@@ -2,8 +2,9 @@
 
 use member_intents::Intent;
 use member_marks::Owner;
-use member_resources::Resources;
-use member_state::{MemberState, RETRY, RetryState, Standing, closing_intent, release_intent};
+use member_state::{
+    MemberState, RETRY, Resources, RetryState, Standing, closing_intent, release_intent,
+};
 
 fn intent_of(state: &RetryState, owner: &Owner, resources: &Resources) -> Intent {
     match state {

@@ -19,6 +19,7 @@ pub use choices::{
 };
 pub use closing::{closing_intent, purge_after, release_intent};
 pub use frames::{fill_intent, find_for_reader, test_intent, unpin_for_reader, write_intent};
+pub use member_resources::{Policy, Resources};
 pub use points::Points;
 pub use queues::{next_run, submit, submit_first};
 pub use retry::{RetryState, Rollback};
