@@ -9,10 +9,8 @@ use Rattle.member_intents.specs.declared.outcome.Sent.TheVariants as sent
 use Rattle.member_intents.specs.declared.test.Test.{Test}
 use Rattle.member_intents.specs.declared.test.StepFault.{StepFault}
 use Rattle.member_intents.specs.declared.test.StepFault.TheVariants as stepping
-use Rattle.member_needs.specs.declared.plans.Plan.{Plan}
-use Rattle.member_effects.specs.declared.told.Told.{Told}
 use Rattle.member_resources.specs.Held.{Held}
-use Rattle.member_resources.specs.Events.{World, Runs, IsUnlawful, IsNotExecutable}
+use Rattle.member_resources.specs.Events.{Plan, Told, World, Runs, IsUnlawful, IsNotExecutable}
 use Rattle.rebuild_resources.specs.Events as rebuilding
 use Rattle.rebuild_resources.specs.State.{RebuildState}
 use Rattle.rebuild_resources.specs.declared.intent.RebuildFault.{RebuildFault}

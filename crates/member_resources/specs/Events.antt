@@ -26,8 +26,9 @@ use Rattle.member_intents.specs.declared.outcome.Answered.TheVariants as answere
 use Rattle.member_intents.specs.declared.test.Test.{Test}
 use Rattle.member_marks.specs.Local.{Reaches}
 use Rattle.member_needs.specs.declared.castout.Cast.{Cast}
-use Rattle.member_needs.specs.declared.plans.Plan.{Plan}
-use Rattle.member_effects.specs.declared.told.Told.{Told}
+-- given out again: what was planned, and what the policy is told
+pub use Rattle.member_needs.specs.declared.plans.Plan.{Plan}
+pub use Rattle.member_effects.specs.declared.told.Told.{Told}
 use Rattle.member_effects.specs.declared.told.Told.TheVariants as told
 use Rattle.member_resources.specs.declared.prepared.Prepared.{Prepared}
 use Rattle.member_resources.specs.Held.{Held, with_marks, begun}
