@@ -3,11 +3,10 @@ use Rattle.std.proofs.Common.{◌≡◌, ◌≢◌, ℕ, zero, suc, ◌<◌, ◌
 use Rattle.std.proofs.lemmas.List.{append-nil, drop_all, take_all, length-map}
 use Rattle.ds_base.specs.declared.names.Sizes.{Sizes}
 use Rattle.ds_model.specs.declared.script.Script.{Script}
-use Rattle.member_resources.specs.Events.{World}
 use Rattle.script_fates.specs.Fated.{FatesState}
 use Rattle.group_member.specs.declared.part.MemberPart.{MemberPart}
 use Rattle.group_member.specs.declared.stepped.Stepped.{Stepped}
-use Rattle.group_member.specs.Happening.{Comes}
+use Rattle.group_member.specs.Happening.{Comes, World}
 use Rattle.group_member.specs.Members.{Member, member_of}
 use Rattle.group_member.specs.Refusing.{IsRefused}
 use Rattle.group_crew.specs.Beginning.{Kept, kept_by}

@@ -11,8 +11,8 @@ use Rattle.list_structure.specs.States.{ListsState}
 use Rattle.list_structure.specs.Bells.{CanRing, rung}
 use Rattle.facility.specs.States.{PhaseBegun}
 use Rattle.script_fates.specs.Fated.{StopsOnly, has_tran}
-use Rattle.member_resources.specs.Held.{Held}
 use Rattle.group_member.specs.declared.part.MemberPart.{MemberPart}
+use Rattle.group_member.specs.Happening.{Held}
 use Rattle.group_member.specs.Members.{Member}
 use Rattle.group_member.specs.Restarting.{IsNew}
 use Rattle.script_phases.specs.Phases.{is_failed, is_left_out, last_raiser, raises_in, restarts_in}

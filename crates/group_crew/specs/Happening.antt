@@ -2,11 +2,10 @@
 use Rattle.std.specs.Prelude.{ℕ, List, Option, Some, None, option_map, slice_get}
 use Rattle.ds_base.specs.declared.names.Sizes.{Sizes}
 use Rattle.ds_model.specs.declared.script.Script.{Script}
-use Rattle.member_resources.specs.Events.{World}
 use Rattle.script_fates.specs.Fated.{FatesState}
 use Rattle.group_member.specs.declared.part.MemberPart.{MemberPart}
 use Rattle.group_member.specs.declared.stepped.Stepped.{Stepped}
-use Rattle.group_member.specs.Happening.{Comes}
+use Rattle.group_member.specs.Happening.{Comes, World}
 use Rattle.group_member.specs.Members.{Member, member_of}
 use Rattle.group_member.specs.Refusing.{IsRefused}
 

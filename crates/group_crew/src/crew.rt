@@ -12,10 +12,9 @@ use cache_structure::CacheFace;
 use ds_base::Volume;
 use ds_model::Script;
 use facility::Facility;
-use group_member::{GroupSizes, MemberPart, has_choice};
+use group_member::{GroupSizes, MemberPart, Policy, has_choice};
 use group_restart::GroupRestart;
 use member_intents::Look;
-use member_resources::Policy;
 use script_fates::Fates;
 use script_phases::{GROUP_RESTART, Progress};
 

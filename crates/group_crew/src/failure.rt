@@ -13,9 +13,8 @@ use crate::crew::Crew;
 use cache_structure::CacheFace;
 use ds_base::{Lrsn, NoMemory};
 use ds_disk::Disk;
-use group_member::{GroupSizes, MemberPart};
+use group_member::{GroupSizes, MemberPart, Policy};
 use group_restart::{Call, GroupRestart, State};
-use member_resources::Policy;
 use std::alloc::Global;
 
 // No member has anything ready.

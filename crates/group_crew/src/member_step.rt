@@ -2,7 +2,7 @@
 
 ghost use Rattle.std.specs.Prelude.{◌≡◌, ◌≢◌, ◌≤◌, ℕ, true, Err, IfOk, option_copied};
 ghost use Rattle.ds_base.specs.Causes.{Rose};
-ghost use Rattle.member_resources.specs.Events.{world_of};
+ghost use Rattle.group_member.specs.Happening.{world_of};
 ghost use Rattle.group_crew.specs.Crews.{Keeps};
 ghost use Rattle.group_crew.specs.Sendings.{command_of};
 ghost use Rattle.group_crew.specs.Happening.{ComesAt, IsRefusedAt, member_at};
@@ -15,9 +15,8 @@ use ds_base::MemberId;
 use ds_disk::Disk;
 use ds_model::Script;
 use facility::{Command, Facility};
-use group_member::{EventFault, GroupSizes, MemberPart, Stepped, step_one};
+use group_member::{EventFault, GroupSizes, MemberPart, Policy, Stepped, step_one};
 use member_intents::Sent;
-use member_resources::Policy;
 use rebuild_resources::RebuildSent;
 use restart_marks::RestartSent;
 use script_fates::Fates;

@@ -7,8 +7,11 @@ use Rattle.list_structure.specs.Standings.{status_of, is_live}
 use Rattle.member_intents.specs.declared.intent.Intent.{Intent}
 use Rattle.member_intents.specs.declared.outcome.Answered.{Answered}
 use Rattle.member_intents.specs.declared.outcome.Sent.{Sent}
-use Rattle.member_resources.specs.Held.{Held, begun}
-use Rattle.member_resources.specs.Events.{World, Happens, Ends}
+use Rattle.member_resources.specs.Held.{begun}
+use Rattle.member_resources.specs.Events.{Happens, Ends}
+-- given out again: what a member holds, and the world of its event
+pub use Rattle.member_resources.specs.Held.{Held}
+pub use Rattle.member_resources.specs.Events.{World, world_of}
 use Rattle.rebuild_resources.specs.Events as rebuilding
 use Rattle.rebuild_resources.specs.State.{IsNewRebuild}
 use Rattle.rebuild_resources.specs.declared.intent.RebuildSent.{RebuildSent}

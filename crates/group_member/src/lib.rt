@@ -21,6 +21,7 @@ mod tell;
 pub use choice_bits::{CHOICES, count_choices, has_choice, nth_choice};
 pub use event::step_one;
 pub use fault::EventFault;
+pub use member_resources::{Policy, Resources};
 pub use part::MemberPart;
 pub use rebuilding::Rebuilding;
 pub use restarting::Restarting;

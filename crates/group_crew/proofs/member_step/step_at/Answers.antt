@@ -1,8 +1,7 @@
 use Rattle.std.proofs.Common.{◌<◌, length, slice_set, slice_index_or, arith}
 use Rattle.std.proofs.lemmas.Result.{IfOk-weaker}
-use Rattle.member_resources.specs.Events.{World, world_of}
 use Rattle.group_member.specs.declared.stepped.Stepped.{Stepped}
-use Rattle.group_member.specs.Happening.{Comes}
+use Rattle.group_member.specs.Happening.{Comes, World, world_of}
 use Rattle.group_member.specs.Members.{member_of}
 use Rattle.group_crew.specs.Happening.{ComesAt, member_at}
 use Rattle.group_crew.proofs.Parts.{at_other, comes_at, none_at, refused_at}

@@ -1,5 +1,5 @@
 use Rattle.std.proofs.Common.{◌≡◌, ℕ, ◌∙◌, List, length, sym, ap, subst, arith}
-use Rattle.member_resources.specs.Events.{World, world_of}
+use Rattle.group_member.specs.Happening.{World, world_of}
 use Rattle.script_fates.specs.Fated.{FatesState}
 use Rattle.group_member.specs.declared.part.MemberPart.{MemberPart}
 use Rattle.group_crew.specs.Happening.{ComesAt, IsRefusedAt, member_at}
