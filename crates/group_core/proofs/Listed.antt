@@ -4,7 +4,7 @@ use Rattle.std.proofs.lemmas.Bool.{and_parts, cases_eq, cases_lt, eq-eqb, eqb-tr
 use Rattle.std.proofs.lemmas.List.{at_drop_more, at_drop_all, get_or-map, length-append, length-map, length-take}
 use Rattle.std.proofs.lemmas.List.Elements.{Contains-append_left, Contains-append_right}
 use Rattle.std.proofs.lemmas.Option.{slice_get-map}
-use Rattle.group_member.specs.declared.part.MemberPart.{MemberPart}
+use Rattle.group_crew.specs.Happening.{MemberPart}
 use Rattle.choice_bits.specs.Choices.{choices_from, choices_of, has_choice}
 use Rattle.group_crew.specs.Ready.{is_ready, ready_at, ready_for}
 use Rattle.group_core.specs.Events.{events_from}

@@ -3,9 +3,9 @@ use Rattle.std.proofs.Common.{◌≡◌, ℕ, ◌%◌, ◌<◌, true, false, not
 use Rattle.std.proofs.lemmas.Bool.{and_from, and_parts, cond-false, false_from_ne_true, or_parts}
 use Rattle.std.proofs.lemmas.List.{take-map}
 use Rattle.draw_generator.specs.Draws.{drawn}
-use Rattle.group_member.specs.declared.part.MemberPart.{MemberPart}
 use Rattle.group_crew.specs.declared.crew.Crew.{Crew}
 use Rattle.group_crew.specs.Crews.{is_ready_in}
+use Rattle.group_crew.specs.Happening.{MemberPart}
 use Rattle.script_phases.specs.Progresses.{is_at_end, own_choice}
 use Rattle.group_core.specs.declared.fault.RunFault.{RunFault}
 use Rattle.group_core.specs.declared.group.Group.{Group}

@@ -3,11 +3,13 @@ use Rattle.std.specs.Prelude.{ℕ, List, Option, Some, None, option_map, slice_g
 use Rattle.ds_base.specs.declared.names.Sizes.{Sizes}
 use Rattle.ds_model.specs.declared.script.Script.{Script}
 use Rattle.script_fates.specs.Fated.{FatesState}
-use Rattle.group_member.specs.declared.part.MemberPart.{MemberPart}
-use Rattle.group_member.specs.declared.stepped.Stepped.{Stepped}
 use Rattle.group_member.specs.Happening.{Comes, World}
 use Rattle.group_member.specs.Members.{Member, member_of}
 use Rattle.group_member.specs.Refusing.{IsRefused}
+-- given out again: a member, and what its event was
+pub use Rattle.group_member.specs.declared.part.MemberPart.{MemberPart}
+pub use Rattle.group_member.specs.declared.stepped.Stepped.{Stepped}
+pub use Rattle.group_member.specs.Stepping.{has_failed}
 
 abbrev pub member_at : {P : Type 0} → List (MemberPart P) → ℕ → Option Member
 member_at {P} parts at = option_map member_of (slice_get parts at)

@@ -1,5 +1,5 @@
 use Rattle.std.proofs.Common.{◌≡◌, ◌<◌, length, slice_index_or, ap, ◌∙◌, arith}
-use Rattle.group_member.specs.declared.part.MemberPart.{MemberPart}
+use Rattle.group_crew.specs.Happening.{MemberPart}
 use Rattle.choice_bits.specs.Choices.{choices_of}
 use Rattle.group_core.specs.Events.{events_from}
 use Rattle.group_core.proofs.Listed.{counts_all, counts_more, left_ready}

@@ -1,5 +1,5 @@
 use Rattle.std.proofs.Common.{◌≡◌, ◌+◌, ◌*◌, ◌<◌, ◌≤◌, ℕ, length, slice_get, slice_index_or, option_map, ap, ◌∙◌, arith}
-use Rattle.group_member.specs.declared.part.MemberPart.{MemberPart}
+use Rattle.group_crew.specs.Happening.{MemberPart}
 use Rattle.choice_bits.specs.Choices.{choices_of}
 use Rattle.group_core.proofs.Listed.{finds_here, finds_later, finds_none}
 use Rattle.group_core.proofs.schedule.nth_event.Goals as goal
