@@ -3,11 +3,10 @@ use Rattle.std.proofs.Common.{◌≡◌, ◌≢◌, ◌⊎◌, inl, inr, ℕ, ze
 use Rattle.std.proofs.lemmas.Bool.{cases_Bool, cases_eq}
 use Rattle.ds_disk.specs.Contents.{Contents}
 use Rattle.cache_structure.specs.Directory.{Directory}
-use Rattle.member_resources.specs.Events.{world_of}
 use Rattle.script_fates.specs.Fated.{FatesState}
 use Rattle.group_crew.specs.declared.crew.Crew.{Crew}
 use Rattle.group_crew.specs.Crews.{Keeps, Looks, unlooked}
-use Rattle.group_crew.specs.Happening.{ComesAt, MemberPart, Stepped, member_at}
+use Rattle.group_crew.specs.Happening.{ComesAt, MemberPart, Stepped, member_at, world_of}
 use Rattle.group_core.specs.declared.fault.RunFault.{RunFault}
 use Rattle.group_core.specs.declared.fault.RunFault.TheVariants as fault
 use Rattle.group_core.specs.declared.group.Group.{Group}

@@ -3,12 +3,11 @@ use Rattle.std.specs.Prelude.{◌≡◌, ◌≢◌, ℕ, ◌-◌, ◌/◌, ◌%�
 use Rattle.ds_base.specs.Causes.{Rose}
 use Rattle.ds_disk.specs.Contents.{Contents}
 use Rattle.cache_structure.specs.Directory.{Directory}
-use Rattle.member_resources.specs.Events.{world_of}
 use Rattle.group_crew.specs.declared.crew.Crew.{Crew}
 use Rattle.group_crew.specs.Beginning.{BeginsNext, CannotBegin}
 use Rattle.group_crew.specs.Crews.{Keeps}
 use Rattle.group_crew.specs.Failing.{GroupFails, fail_counted}
-use Rattle.group_crew.specs.Happening.{ComesAt, IsRefusedAt, Stepped, has_failed, member_at}
+use Rattle.group_crew.specs.Happening.{ComesAt, IsRefusedAt, Stepped, has_failed, member_at, world_of}
 use Rattle.group_crew.specs.States.{crew_state}
 use Rattle.group_core.specs.declared.fault.RunFault.{RunFault}
 use Rattle.group_core.specs.declared.fault.RunFault.TheVariants as fault

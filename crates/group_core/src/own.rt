@@ -15,9 +15,8 @@ use crate::lines::{note, note_silent};
 use cache_structure::CacheFace;
 use ds_base::NoMemory;
 use ds_disk::Disk;
-use group_crew::{GROUP_RESTART, NEXT_PHASE, step_restart};
+use group_crew::{GROUP_RESTART, NEXT_PHASE, Policy, step_restart};
 use group_restart::State;
-use member_resources::Policy;
 use std::alloc::Global;
 use trace_words::call_line;
 

@@ -13,8 +13,7 @@ use cache_structure::CacheFace;
 use draw_generator::Generator;
 use ds_base::NoMemory;
 use ds_disk::Disk;
-use group_crew::{CHOICES, MemberPart, count_choices, nth_choice};
-use member_resources::Policy;
+use group_crew::{CHOICES, MemberPart, Policy, count_choices, nth_choice};
 use std::alloc::Global;
 
 /// How many members the number of an event can name.

@@ -14,8 +14,7 @@ use disk_restart::{State, restart_disk};
 use ds_base::{Lrsn, Sizes};
 use ds_disk::Disk;
 use ds_model::Script;
-use group_crew::Crew;
-use member_resources::Policy;
+use group_crew::{Crew, Policy};
 use std::alloc::Global;
 
 // The greatest number that was drawn for a log record, where a group restart has ended well.

@@ -13,8 +13,7 @@ use crate::lines::{note_failure, note_silent, note_step, reserve};
 use cache_structure::CacheFace;
 use ds_base::{NoMemory, Volume};
 use ds_disk::Disk;
-use group_crew::{EventFault, Stepped};
-use member_resources::Policy;
+use group_crew::{EventFault, Policy, Stepped};
 use std::alloc::Global;
 
 // Why a run ends with this byte that can't stand there.

@@ -6,9 +6,10 @@ use Rattle.script_fates.specs.Fated.{FatesState}
 use Rattle.group_member.specs.Happening.{Comes, World}
 use Rattle.group_member.specs.Members.{Member, member_of}
 use Rattle.group_member.specs.Refusing.{IsRefused}
--- given out again: a member, and what its event was
+-- given out again: a member, its world, and what its event was
 pub use Rattle.group_member.specs.declared.part.MemberPart.{MemberPart}
 pub use Rattle.group_member.specs.declared.stepped.Stepped.{Stepped}
+pub use Rattle.group_member.specs.Happening.{world_of}
 pub use Rattle.group_member.specs.Stepping.{has_failed}
 
 abbrev pub member_at : {P : Type 0} → List (MemberPart P) → ℕ → Option Member

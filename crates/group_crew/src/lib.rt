@@ -11,8 +11,8 @@ mod member_step;
 pub use crew::{Crew, look_for};
 pub use failure::step_restart;
 pub use group_member::{
-    CHOICES, EventFault, GroupSizes, MemberPart, Rebuilding, Restarting, Stepped, count_choices,
-    has_choice, nth_choice,
+    CHOICES, EventFault, GroupSizes, MemberPart, Policy, Rebuilding, Restarting, Stepped,
+    count_choices, has_choice, nth_choice,
 };
 pub use member_step::command_of;
 pub use script_phases::{GROUP_FAILURE, GROUP_RESTART, NEXT_PHASE, Progress};
