@@ -10,7 +10,7 @@ use Rattle.claim_sights.specs.Dates.{sights_after}
 use Rattle.claim_sights.specs.Seen.{asks, seen_before, seen_behind}
 use Rattle.claim_sights.specs.declared.flag.Flag.{Flag}
 use Rattle.claim_sights.specs.declared.quest.Quest.{Quest}
-use Rattle.group_member.specs.declared.part.MemberPart.{MemberPart}
+use Rattle.group_core.specs.Takes.{MemberPart}
 use Rattle.group_core.specs.declared.group.Group.{Group}
 use Rattle.run_replay.specs.Follows.{Follows}
 

@@ -13,10 +13,8 @@ use claim_sights::follow_all;
 use ds_base::NoMemory;
 use ds_disk::Disk;
 use ds_model::EventLine;
-use group_core::Group;
-use group_crew::MemberPart;
+use group_core::{Group, MemberPart, Policy};
 use lock_sights::Sight;
-use member_resources::Policy;
 use std::alloc::Global;
 
 fn follow_on<P>(

@@ -9,8 +9,7 @@ use cache_structure::CacheFace;
 use ds_base::NoMemory;
 use ds_disk::Disk;
 use ds_model::EventLine;
-use group_core::{Group, Line};
-use member_resources::Policy;
+use group_core::{Group, Line, Policy};
 use std::alloc::Global;
 
 // The number of the event of a line.

@@ -4,7 +4,7 @@ ghost use Rattle.std.specs.Prelude.{◌≡◌, map, IfOk};
 ghost use Rattle.run_replay.specs.Seen as spec;
 
 use ds_base::NoMemory;
-use group_crew::MemberPart;
+use group_core::MemberPart;
 use member_marks::Marks;
 use std::alloc::Global;
 

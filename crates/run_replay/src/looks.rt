@@ -13,11 +13,9 @@ use claim_sights::{Flag, Quest, asks, look_at_failure, look_behind};
 use ds_base::NoMemory;
 use ds_disk::Disk;
 use ds_model::{EventLine, Tran};
-use group_core::Group;
-use group_crew::MemberPart;
+use group_core::{Group, MemberPart, Policy};
 use lock_sights::Sight;
 use member_intents::Intent;
-use member_resources::Policy;
 use std::alloc::Global;
 
 /// What is seen before an event.

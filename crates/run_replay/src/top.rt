@@ -18,9 +18,8 @@ use claim_sights::{Quest, quest_of};
 use ds_base::{Bytes, NoMemory, Sizes};
 use ds_disk::Disk;
 use ds_model::{EventLine, Script, Tran};
-use group_core::Group;
+use group_core::{Group, Policy};
 use lock_sights::{Sight, number_named, put_sights, roster_of};
-use member_resources::Policy;
 use std::alloc::Global;
 
 // Plays all events.
