@@ -7,10 +7,10 @@ use Rattle.group_crew.specs.declared.crew.Crew.{Crew}
 use Rattle.group_crew.specs.Beginning.{BeginsNext, CannotBegin}
 use Rattle.group_crew.specs.Crews.{Keeps}
 use Rattle.group_crew.specs.Failing.{GroupFails, fail_counted}
-use Rattle.group_crew.specs.Happening.{ComesAt, IsRefusedAt, Stepped, has_failed, member_at, world_of}
+use Rattle.group_crew.specs.Happening.{ComesAt, IsRefusedAt, Stepped, has_failed, member_at}
 use Rattle.group_crew.specs.States.{crew_state}
--- given out again: a member
-pub use Rattle.group_crew.specs.Happening.{MemberPart}
+-- given out again: a member and its world
+pub use Rattle.group_crew.specs.Happening.{MemberPart, world_of}
 use Rattle.group_core.specs.declared.fault.RunFault.{RunFault}
 use Rattle.group_core.specs.declared.fault.RunFault.TheVariants as fault
 use Rattle.group_core.specs.declared.group.Group.{Group}

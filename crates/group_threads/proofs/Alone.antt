@@ -8,7 +8,6 @@ use lib.ListN.{length-set, length-map}
 use Rattle.ds_base.specs.Causes.{Rose}
 use Rattle.ds_disk.specs.Contents.{Contents}
 use Rattle.cache_structure.specs.Directory.{Directory}
-use Rattle.member_resources.specs.Events.{world_of}
 use Rattle.group_member.specs.declared.part.MemberPart.{MemberPart}
 use Rattle.group_member.specs.declared.stepped.Stepped.{Stepped}
 use Rattle.group_member.specs.Happening.{Comes}
@@ -22,7 +21,7 @@ use Rattle.group_core.specs.declared.fault.RunFault.TheVariants as fault
 use Rattle.group_core.specs.declared.group.Group.{Group}
 use Rattle.group_core.specs.Events.{takes}
 use Rattle.group_core.specs.Goes.{noted}
-use Rattle.group_core.specs.Takes.{IsMade, StepsAt, Takes, TakesMember}
+use Rattle.group_core.specs.Takes.{IsMade, StepsAt, Takes, TakesMember, world_of}
 use Rattle.group_core.proofs.Taking.{member_moves}
 use Rattle.turn_story.specs.Chains.{part_of, with_part}
 use Rattle.group_threads.specs.declared.hand.Hand.{Hand}

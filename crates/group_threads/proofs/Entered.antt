@@ -3,7 +3,6 @@ use Rattle.std.proofs.Common.{◌≡◌, ℕ, ◌/◌, ◌≤◌, Bool, true, fa
 use Rattle.ds_base.specs.Causes.{Rose}
 use Rattle.ds_disk.specs.Contents.{Contents}
 use Rattle.cache_structure.specs.Directory.{Directory}
-use Rattle.member_resources.specs.Events.{world_of}
 use Rattle.group_member.specs.declared.part.MemberPart.{MemberPart}
 use Rattle.group_member.specs.declared.stepped.Stepped.{Stepped}
 use Rattle.group_member.specs.Happening.{Comes}
@@ -14,7 +13,7 @@ use Rattle.group_crew.specs.Crews.{unlooked}
 use Rattle.group_core.specs.declared.fault.RunFault.{RunFault}
 use Rattle.group_core.specs.declared.fault.RunFault.TheVariants as fault
 use Rattle.group_core.specs.Goes.{noted}
-use Rattle.group_core.specs.Takes.{is_read}
+use Rattle.group_core.specs.Takes.{is_read, world_of}
 use Rattle.group_threads.specs.declared.hand.Hand.{Hand}
 use Rattle.group_threads.specs.declared.shared.Shared.{Shared}
 use Rattle.group_threads.specs.Happening.{ByFault, MadeAlone, RefusedAlone, TakesAlone, Leaves, takes_alone}

@@ -2,10 +2,9 @@
 
 ghost use Rattle.std.specs.Prelude.{◌≡◌, ◌≤◌, ◌/◌, ◌&&◌, ℕ, true, false, not, None, Some, Err, is_some, length, IfOk, OnOk};
 ghost use Rattle.ds_base.specs.Causes.{Rose};
-ghost use Rattle.member_resources.specs.Events.{world_of};
 ghost use Rattle.group_member.specs.declared.fault.EventFault.TheVariants as faults;
 ghost use Rattle.group_crew.specs.Crews.{unlooked};
-ghost use Rattle.group_core.specs.Takes.{is_read};
+ghost use Rattle.group_core.specs.Takes.{is_read, world_of};
 ghost use Rattle.choice_bits.specs.Choices.{has_choice};
 ghost use Rattle.group_member.specs.Happening.{Comes};
 ghost use Rattle.group_member.specs.Members.{member_of};
@@ -21,11 +20,10 @@ use cache_structure::CacheFace;
 use ds_base::NoMemory;
 use ds_disk::Disk;
 use facility::Command;
-use group_core::{Group, RunFault, note, note_failure, note_silent, reserve, stepped_line};
+use group_core::{Group, Policy, RunFault, note, note_failure, note_silent, reserve, stepped_line};
 use group_crew::{Crew, command_of};
 use group_member::{EventFault, MemberPart, Stepped, has_choice, step_one};
 use member_intents::Intent;
-use member_resources::Policy;
 use std::alloc::Global;
 use turn_gate::Look;
 use turn_story::Stepping;

@@ -2,9 +2,9 @@ ghost use Rattle.std.specs.Prelude.{◌≡◌, ℕ, ◌+◌, ◌*◌, ◌/◌, �
 ghost use Rattle.choice_bits.specs.Choices.{has_choice};
 
 use crate::members::Members;
+use group_core::Policy;
 use group_member::{CHOICES, MemberPart, has_choice};
 use member_intents::Intent;
-use member_resources::Policy;
 
 /// What the thread of a member holds.
 #[derive(Drop)]

@@ -10,10 +10,10 @@ use crate::shared::Shared;
 use cache_structure::CacheFace;
 use ds_base::MemberId;
 use facility::Facility;
+use group_core::Policy;
 use group_crew::look_for;
 use group_member::MemberPart;
 use member_intents::Look as Seen;
-use member_resources::Policy;
 use turn_gate::Look;
 
 // The choices of the member that are ready. Of one that isn't live none is.
