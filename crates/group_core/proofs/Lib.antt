@@ -4,3 +4,4 @@ mod Listed
 pub mod Taking
 mod Owning
 mod Taken
+pub mod Crossing

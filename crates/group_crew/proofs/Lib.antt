@@ -4,3 +4,4 @@ pub mod Stops
 pub mod Begun
 pub mod Anew
 pub mod Made
+pub mod Crossing

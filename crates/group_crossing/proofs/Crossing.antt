@@ -7,16 +7,13 @@ use Rattle.std.proofs.MapsCrossing.{crosses as maps}
 use Rattle.list_structure.proofs.lists.Lists.TheSendSync.{the_send as lists}
 use Rattle.script_fates.proofs.fates.Fates.TheSendSync.{the_send as fates}
 use Rattle.ds_model.proofs.script.Script.TheSendSync.{the_field_send as script_field}
-use Rattle.trace_words.proofs.line.Line.TheSendSync.{the_send as line}
-use Rattle.group_member.proofs.rebuilding.Rebuilding.TheSendSync.{the_send as rebuilding}
-use Rattle.group_member.proofs.restarting.Restarting.TheSendSync.{the_send as restarting}
-use Rattle.group_member.proofs.sizes.GroupSizes.TheSendSync.{the_field_send as sizes_field}
 use Rattle.group_restart.proofs.machine.GroupRestart.TheSendSync.{the_send as group_restart}
 use Rattle.script_phases.proofs.progress.Progress.TheSendSync.{the_field_send as progress_field}
-use Rattle.member_resources.specs.contracts.resources.Resources as Resources
-use Rattle.group_member.specs.contracts.part.MemberPart as MemberPart
 use Rattle.facility.specs.contracts.facility.Facility as Facility
-use Rattle.group_crew.specs.contracts.crew.Crew as Crew
+use Rattle.group_core.proofs.Crossing.{line, rebuilding, restarting, sizes_field}
+use Rattle.group_core.proofs.Crossing.Resources as Resources
+use Rattle.group_core.proofs.Crossing.MemberPart as MemberPart
+use Rattle.group_core.proofs.Crossing.Crew as Crew
 use Rattle.group_core.specs.contracts.group.Group as Group
 use Rattle.group_crossing.proofs.Recorded.{structure_send as lock_structure}
 use Rattle.group_crossing.proofs.Marked.{marks_send as marks}
