@@ -7,8 +7,9 @@ use Rattle.disk_restart.specs.Keeping.{KeepsRecords}
 use Rattle.ds_model.specs.declared.script.Script.{Script}
 use Rattle.ds_model.specs.declared.report.Report.{Report}
 use Rattle.ds_model.specs.Rows.{AreSorted}
-use Rattle.group_core.specs.declared.fault.RunFault.{RunFault}
-use Rattle.group_core.specs.declared.fault.RunFault.TheVariants as fault
+-- given out again: why a run ends before its script
+pub use Rattle.group_core.specs.declared.fault.RunFault.{RunFault}
+pub use Rattle.group_core.specs.declared.fault.RunFault.TheVariants as fault
 use Rattle.opening_rows.specs.declared.opening.Opening.{Opening}
 use Rattle.opening_rows.specs.Opening.{OpensAs, OpensWith}
 use Rattle.checked_run.specs.declared.account.Account.{Account}

@@ -7,8 +7,7 @@ use Rattle.ds_model.specs.declared.script.Script.{Script}
 use Rattle.ds_model.specs.declared.report.Report.{Report}
 use Rattle.ds_model.specs.ScriptText.{script_text}
 use Rattle.work_maker.specs.Made.{made}
-use Rattle.group_core.specs.declared.fault.RunFault.{RunFault}
-use Rattle.group_core.specs.declared.fault.RunFault.TheVariants as fault
+use Rattle.checked_run.specs.Outcomes.fault as fault
 use Rattle.checked_run.specs.declared.ended.Ended.{Ended}
 use Rattle.checked_run.specs.declared.ended.Ended.TheVariants as ending
 use Rattle.checked_run.specs.declared.ended.Outcome.{Outcome}
@@ -16,7 +15,7 @@ use Rattle.checked_run.specs.declared.ended.Outcome.TheVariants as outcome
 use Rattle.checked_run.specs.Accounts.{no_account}
 use Rattle.checked_run.specs.Leading.{Came, Kind}
 use Rattle.checked_run.specs.declared.account.Account.{Account}
-use Rattle.checked_run.specs.Outcomes.{IsOpening, HasCause, Comes, Plays, Shows}
+use Rattle.checked_run.specs.Outcomes.{IsOpening, HasCause, Comes, Plays, RunFault, Shows}
 use Rattle.group_words.specs.Orders.{AreSizes}
 use Rattle.group_words.specs.declared.order.Order.{Order}
 use Rattle.group_words.specs.declared.order.Order.TheVariants as order

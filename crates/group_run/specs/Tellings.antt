@@ -5,8 +5,8 @@ use Rattle.ds_model.specs.declared.report.Report.{Report}
 use Rattle.ds_model.specs.ReportText.{report_text}
 use Rattle.ds_model.specs.ScriptText.{script_text}
 use Rattle.work_maker.specs.Made.{made}
-use Rattle.group_core.specs.declared.fault.RunFault.{RunFault}
-use Rattle.group_core.specs.declared.fault.RunFault.TheVariants as fault
+use Rattle.checked_run.specs.Outcomes.{RunFault}
+use Rattle.checked_run.specs.Outcomes.fault as fault
 use Rattle.checked_run.specs.declared.ended.Ended.{Ended}
 use Rattle.checked_run.specs.declared.ended.Ended.TheVariants as ending
 use Rattle.checked_run.specs.declared.ended.Outcome.{Outcome}

@@ -1,7 +1,7 @@
 use Rattle.std.proofs.Common.{◌≡◌, ℕ, Bool, false, Option, Some, refl, sym, subst}
 use Rattle.member_core.specs.declared.member.Member.{Member}
 use Rattle.ds_model.specs.declared.script.Script.{Script}
-use Rattle.group_core.specs.declared.fault.RunFault.TheVariants as fault
+use Rattle.checked_run.specs.Outcomes.fault as fault
 use Rattle.checked_run.specs.declared.account.Account.{Account}
 use Rattle.checked_run.specs.declared.ended.Outcome.TheVariants as outcome
 use Rattle.checked_run.specs.Accounts.{no_account}
