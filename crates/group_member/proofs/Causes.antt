@@ -27,8 +27,8 @@ use Rattle.restart_marks.specs.declared.intent.RestartSent.{RestartSent}
 use Rattle.restart_marks.specs.declared.intent.RestartSent.TheVariants as restart_sent
 use Rattle.restart_marks.specs.declared.intent.RestartTest.{RestartTest}
 use Rattle.restart_marks.specs.declared.told.RestartTold.{RestartTold}
-use Rattle.restart_resources.specs.Events as restarting
-use Rattle.restart_resources.specs.Held as held
+use Rattle.member_restart.specs.Events as restarting
+use Rattle.member_restart.specs.Held as held
 use Rattle.group_member.specs.declared.fault.EventFault.{EventFault}
 use Rattle.group_member.specs.declared.fault.EventFault.TheVariants as faults
 use Rattle.group_member.specs.declared.rebuilding.Rebuilding.{Rebuilding}

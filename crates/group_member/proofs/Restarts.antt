@@ -7,7 +7,7 @@ use Rattle.rebuild_resources.specs.declared.intent.RebuildSent.{RebuildSent}
 use Rattle.restart_marks.specs.Adopt.{adopted_told, adopted_after}
 use Rattle.restart_marks.specs.declared.adopt.Adopted.{Adopted}
 use Rattle.restart_marks.specs.declared.intent.RestartSent.{RestartSent}
-use Rattle.restart_resources.specs.Held as held
+use Rattle.member_restart.specs.Held as held
 use Rattle.group_member.specs.declared.rebuilding.Rebuilding.{Rebuilding}
 use Rattle.group_member.specs.declared.restarting.Restarting.{Restarting}
 use Rattle.group_member.specs.Happening.{AdoptsLeft, GoesOn, IsInHand, RebuildEnds, RebuildMakes, Rebuilds, RestartEnds, RestartMakes, Restarts, Takes, Tells}

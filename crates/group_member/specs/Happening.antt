@@ -18,8 +18,8 @@ use Rattle.rebuild_resources.specs.declared.intent.RebuildSent.{RebuildSent}
 use Rattle.restart_marks.specs.Adopt.{adopted_told, adopted_after}
 use Rattle.restart_marks.specs.declared.adopt.Adopted.{Adopted}
 use Rattle.restart_marks.specs.declared.intent.RestartSent.{RestartSent}
-use Rattle.restart_resources.specs.Events as restarting
-use Rattle.restart_resources.specs.Held.{with_marks}
+use Rattle.member_restart.specs.Events as restarting
+use Rattle.member_restart.specs.Held.{with_marks}
 use Rattle.script_fates.specs.Fated.{FatesState, StopsOnly}
 use Rattle.group_member.specs.declared.rebuilding.Rebuilding.{Rebuilding}
 use Rattle.group_member.specs.declared.restarting.Restarting.{Restarting}

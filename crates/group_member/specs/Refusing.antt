@@ -12,8 +12,8 @@ use Rattle.rebuild_resources.specs.State.{RebuildState}
 use Rattle.rebuild_resources.specs.declared.intent.RebuildTest.{RebuildTest}
 use Rattle.restart_marks.specs.declared.intent.RestartSent.{RestartSent}
 use Rattle.restart_marks.specs.declared.intent.RestartTest.{RestartTest}
-use Rattle.restart_resources.specs.Events as restarting
-use Rattle.restart_resources.specs.Held as held
+use Rattle.member_restart.specs.Events as restarting
+use Rattle.member_restart.specs.Held as held
 use Rattle.group_member.specs.declared.rebuilding.Rebuilding.{Rebuilding}
 use Rattle.group_member.specs.declared.restarting.Restarting.{Restarting}
 use Rattle.group_member.specs.declared.stepped.Stepped.{Stepped}

@@ -4,7 +4,7 @@ use Rattle.member_resources.specs.Held.{Held}
 use Rattle.restart_marks.specs.Adopt.{adopted_told}
 use Rattle.restart_marks.specs.declared.adopt.Adopted.{Adopted}
 -- given out again: nothing of a restart is done
-pub use Rattle.restart_resources.specs.Held.{IsNew}
+pub use Rattle.member_restart.specs.Held.{IsNew}
 use Rattle.group_member.specs.declared.restarting.Restarting.{Restarting}
 use Rattle.group_member.specs.Adopting.{MayNotAdopt}
 use Rattle.group_member.specs.Happening.{GoesOn, HandsOver, Takes}

@@ -1,13 +1,12 @@
 ghost use Rattle.std.specs.Prelude.{◌≡◌, IfOk};
-ghost use Rattle.restart_resources.specs.Held.{IsNew};
+ghost use Rattle.member_restart.specs.Held.{IsNew};
 ghost use Rattle.group_member.specs.Happening.{Takes};
 ghost use Rattle.group_member.specs.Queries.{is_claimed_in};
 
 use ds_base::{MemberId, NoMemory, Volume};
 use lock_names::Name;
-use member_restart::{Ended, MemberRestart};
+use member_restart::{Ended, MemberRestart, RestartResources};
 use restart_marks::Adopted;
-use restart_resources::RestartResources;
 use std::alloc::Global;
 
 /// The restart of a member: what it holds until the member is up, and what decides where it goes on.

@@ -1,0 +1,3 @@
+-- given out again: what a restart holds, and its events
+pub use Rattle.restart_resources.specs.Held
+pub use Rattle.restart_resources.specs.Events

@@ -15,4 +15,5 @@ mod restart;
 mod stage;
 
 pub use restart::MemberRestart;
+pub use restart_resources::RestartResources;
 pub use stage::{Ended, Stage};
