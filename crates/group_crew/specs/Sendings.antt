@@ -3,12 +3,11 @@ use Rattle.std.specs.Prelude.{Option, Some, None}
 use Rattle.facility.specs.declared.command.Command.{Command}
 use Rattle.member_intents.specs.declared.outcome.Sent.{Sent}
 use Rattle.member_intents.specs.declared.outcome.Sent.TheVariants as own
-use Rattle.restart_marks.specs.declared.intent.RestartSent.{RestartSent}
-use Rattle.restart_marks.specs.declared.intent.RestartSent.TheVariants as restart
-use Rattle.rebuild_resources.specs.declared.intent.RebuildSent.{RebuildSent}
-use Rattle.rebuild_resources.specs.declared.intent.RebuildSent.TheVariants as rebuild
 use Rattle.group_member.specs.declared.stepped.Stepped.{Stepped}
 use Rattle.group_member.specs.declared.stepped.Stepped.TheVariants as steps
+use Rattle.group_member.specs.Happening.{RebuildSent, RestartSent}
+use Rattle.group_member.specs.Happening.rebuild_sent as rebuild
+use Rattle.group_member.specs.Happening.restart_sent as restart
 
 abbrev pub of_own : Sent → Option Command
 of_own own.None = None

@@ -15,10 +15,10 @@ use ds_base::MemberId;
 use ds_disk::Disk;
 use ds_model::Script;
 use facility::{Command, Facility};
-use group_member::{EventFault, GroupSizes, MemberPart, Policy, Stepped, step_one};
+use group_member::{
+    EventFault, GroupSizes, MemberPart, Policy, RebuildSent, RestartSent, Stepped, step_one,
+};
 use member_intents::Sent;
-use rebuild_resources::RebuildSent;
-use restart_marks::RestartSent;
 use script_fates::Fates;
 use std::alloc::Global;
 

@@ -9,15 +9,17 @@ use Rattle.member_intents.specs.declared.outcome.Answered.{Answered}
 use Rattle.member_intents.specs.declared.outcome.Sent.{Sent}
 use Rattle.member_resources.specs.Held.{begun}
 use Rattle.member_resources.specs.Events.{Happens, Ends}
--- given out again: what a member holds, and the world of its event
+-- given out again: what a member holds, the world of its event, and what a restart and a rebuild send
 pub use Rattle.member_resources.specs.Held.{Held}
 pub use Rattle.member_resources.specs.Events.{World, world_of}
+pub use Rattle.restart_marks.specs.declared.intent.RestartSent.{RestartSent}
+pub use Rattle.restart_marks.specs.declared.intent.RestartSent.TheVariants as restart_sent
+pub use Rattle.rebuild_resources.specs.declared.intent.RebuildSent.{RebuildSent}
+pub use Rattle.rebuild_resources.specs.declared.intent.RebuildSent.TheVariants as rebuild_sent
 use Rattle.rebuild_resources.specs.Events as rebuilding
 use Rattle.rebuild_resources.specs.State.{IsNewRebuild}
-use Rattle.rebuild_resources.specs.declared.intent.RebuildSent.{RebuildSent}
 use Rattle.restart_marks.specs.Adopt.{adopted_told, adopted_after}
 use Rattle.restart_marks.specs.declared.adopt.Adopted.{Adopted}
-use Rattle.restart_marks.specs.declared.intent.RestartSent.{RestartSent}
 use Rattle.member_restart.specs.Events as restarting
 use Rattle.member_restart.specs.Held.{with_marks}
 use Rattle.script_fates.specs.Fated.{FatesState, StopsOnly}
