@@ -9,8 +9,9 @@ use Rattle.group_crew.specs.Crews.{Keeps}
 use Rattle.group_crew.specs.Failing.{GroupFails, fail_counted}
 use Rattle.group_crew.specs.Happening.{ComesAt, IsRefusedAt, Stepped, has_failed, member_at}
 use Rattle.group_crew.specs.States.{crew_state}
--- given out again: a member and its world
+-- given out again: a member and its world, and a line of the trace
 pub use Rattle.group_crew.specs.Happening.{MemberPart, world_of}
+pub use Rattle.trace_words.specs.declared.line.Line.{Line}
 use Rattle.group_core.specs.declared.fault.RunFault.{RunFault}
 use Rattle.group_core.specs.declared.fault.RunFault.TheVariants as fault
 use Rattle.group_core.specs.declared.group.Group.{Group}

@@ -4,8 +4,7 @@ ghost use Rattle.std.specs.Prelude.{◌≡◌, ◌<◌, vec_len, vec_capacity, O
 ghost use Rattle.group_core.specs.Goes.{noted};
 
 use ds_base::NoMemory;
-use group_crew::Stepped;
-use member_intents::{Answered, Sent};
+use group_crew::{Answered, Sent, Stepped};
 use trace_words::{Line, fail_line, line_of, rebuild_line, restart_line};
 
 /// Takes memory for the event's number, for its place among those of failed calls, and for its line.

@@ -14,5 +14,6 @@ pub use group_member::{
     CHOICES, EventFault, GroupSizes, MemberPart, Policy, Rebuilding, Restarting, Stepped,
     count_choices, has_choice, nth_choice,
 };
+pub use member_intents::{Answered, Sent};
 pub use member_step::command_of;
 pub use script_phases::{GROUP_FAILURE, GROUP_RESTART, NEXT_PHASE, Progress};

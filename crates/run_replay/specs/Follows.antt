@@ -6,10 +6,9 @@ use Rattle.std.specs.Str.{bytes_eq}
 use Rattle.ds_disk.specs.Contents.{Contents}
 use Rattle.cache_structure.specs.Directory.{Directory}
 use Rattle.ds_model.specs.declared.report.EventLine.{EventLine}
-use Rattle.trace_words.specs.declared.line.Line.{Line}
 use Rattle.group_core.specs.declared.group.Group.{Group}
 use Rattle.group_core.specs.Events.{takes}
-use Rattle.group_core.specs.Takes.{Takes}
+use Rattle.group_core.specs.Takes.{Line, Takes}
 use Rattle.run_replay.specs.declared.fault.ReplayFault.{ReplayFault}
 use Rattle.run_replay.specs.declared.fault.ReplayFault.TheVariants as faults
 
