@@ -15,11 +15,7 @@ use std::alloc::Global;
 
 // Where the first record of the log begins that doesn't fit.
 #[tactic(auto, using(disk_spots::proofs::Fitting::fits_of))]
-fn unfit_in(
-    alloc: Global,
-    seen: &mut Seen,
-    records: &[LogRecord],
-) -> Result<Option<u64>, NoMemory>
+fn unfit_in(alloc: Global, seen: &mut Seen, records: &[LogRecord]) -> Result<Option<u64>, NoMemory>
     requires { AllByRecursion IsAllowed records.now }
     ensures all { IfOk result (λ found. IfNone found (fitted_from seen.old 0 records.now ≡ Ok seen.new)) }
     ensures one { IfOk result (λ found. IfSome found (λ at. fitted_from seen.old 0 records.now ≡ Err at)) }
