@@ -204,15 +204,15 @@ is_followed (Some s) before r h e f = takes_by s (course_in new_course r.tran be
 
 pub stands_where_it_fits : (others before : List LogRecord) (seen : Seen) (r : LogRecord) → Knows others before seen → fits seen r ≡ true → MayStand others before r
 stands_where_it_fits others before seen r k h =
-    let more = and_right (is_new seen r) (is_home seen r && follows seen r) h in
+    let both = and_left (is_new seen r && is_home seen r) (follows seen r) h in
     record {
-      number = sym (new_is others before seen r k) ∙ and_left (is_new seen r) (is_home seen r && follows seen r) h;
-      home = sym (home_is others before seen r k) ∙ and_left (is_home seen r) (follows seen r) more;
-      follow = follows_is (get seen.trans r.tran) before r (k.spoken r.tran) (k.stands r.tran) (and_right (is_home seen r) (follows seen r) more);
+      number = sym (new_is others before seen r k) ∙ and_left (is_new seen r) (is_home seen r) both;
+      home = sym (home_is others before seen r k) ∙ and_right (is_new seen r) (is_home seen r) both;
+      follow = follows_is (get seen.trans r.tran) before r (k.spoken r.tran) (k.stands r.tran) (and_right (is_new seen r && is_home seen r) (follows seen r) h);
     }
 
 pub fits_where_it_stands : (others before : List LogRecord) (seen : Seen) (r : LogRecord) → Knows others before seen → MayStand others before r → fits seen r ≡ true
 fits_where_it_stands others before seen r k h =
-    and_both (is_new seen r) (is_home seen r && follows seen r) (new_is others before seen r k ∙ h.number)
-    (and_both (is_home seen r) (follows seen r) (home_is others before seen r k ∙ h.home)
-    (is_followed (get seen.trans r.tran) before r (k.spoken r.tran) (k.stands r.tran) h.follow))
+    and_both (is_new seen r && is_home seen r) (follows seen r)
+    (and_both (is_new seen r) (is_home seen r) (new_is others before seen r k ∙ h.number) (home_is others before seen r k ∙ h.home))
+    (is_followed (get seen.trans r.tran) before r (k.spoken r.tran) (k.stands r.tran) h.follow)

@@ -66,20 +66,20 @@ change_same t u k l p q s z b c a d h1 h2 h3 h4 h5 h6 = cc
 
 inverts_is : (a b : RowChange) → inverts a b ≡ true → a ≡ inverse b
 inverts_is a b h =
-    let h1 = and_right (a.table == b.table) _ h in
-    let h2 = and_right (a.key == b.key) _ h1 in
-    let h3 = and_right (a.place.page == b.place.page) _ h2 in
-    let h4 = and_right (a.place.slot == b.place.slot) _ h3 in
+    let h5 = and_left _ (same_row a.after b.before) h in
+    let h4 = and_left _ (same_row a.before b.after) h5 in
+    let h3 = and_left _ (a.place.slot == b.place.slot) h4 in
+    let h2 = and_left _ (a.place.page == b.place.page) h3 in
     change_same a.table b.table a.key b.key a.place.page b.place.page a.place.slot b.place.slot a.before b.after a.after b.before
-    (equal a.table b.table (and_left (a.table == b.table) _ h)) (equal a.key b.key (and_left (a.key == b.key) _ h1))
-    (equal a.place.page b.place.page (and_left (a.place.page == b.place.page) _ h2)) (equal a.place.slot b.place.slot (and_left (a.place.slot == b.place.slot) _ h3))
-    (row_same a.before b.after (and_left (same_row a.before b.after) _ h4)) (row_same a.after b.before (and_right (same_row a.before b.after) _ h4))
+    (equal a.table b.table (and_left (a.table == b.table) (a.key == b.key) h2)) (equal a.key b.key (and_right (a.table == b.table) (a.key == b.key) h2))
+    (equal a.place.page b.place.page (and_right _ (a.place.page == b.place.page) h3)) (equal a.place.slot b.place.slot (and_right _ (a.place.slot == b.place.slot) h4))
+    (row_same a.before b.after (and_right _ (same_row a.before b.after) h5)) (row_same a.after b.before (and_right _ (same_row a.after b.before) h))
 
 inverse_inverts : (b : RowChange) → inverts (inverse b) b ≡ true
 inverse_inverts b =
-    and_both (b.table == b.table) _ (itself b.table) (and_both (b.key == b.key) _ (itself b.key)
-    (and_both (b.place.page == b.place.page) _ (itself b.place.page) (and_both (b.place.slot == b.place.slot) _ (itself b.place.slot)
-    (and_both (same_row b.after b.after) _ (row_itself b.after) (row_itself b.before)))))
+    and_both _ (same_row b.before b.before) (and_both _ (same_row b.after b.after)
+    (and_both _ (b.place.slot == b.place.slot) (and_both _ (b.place.page == b.place.page) (and_both (b.table == b.table) (b.key == b.key) (itself b.table) (itself b.key)) (itself b.place.page))
+    (itself b.place.slot)) (row_itself b.after)) (row_itself b.before)
 
 body_inverts : (change : RowChange) (b : Body) → inverts_body change b ≡ true → InvertsBody change b
 body_inverts change (body.RowChange c) h = inverts_is change c h
@@ -136,11 +136,11 @@ pub record MayTake (c : Course) (r : LogRecord) (b : Body) : Type 0 where
 pub may_take_is : (c : Course) (r : LogRecord) (b : Body) → may_take (standing c) b ≡ true → MayTake c r b
 may_take_is c r (body.RowChange change) h = record { fits = unless_true (nothing_undone c) (tran_at r) h; takes_back = tt }
 may_take_is c r (body.Compensation change undone) h =
-    let more = and_right (not c.is_committed) (is_next undone c.undo && takes_last change c.undo) h in
+    let both = and_left (not c.is_committed && is_next undone c.undo) (takes_last change c.undo) h in
     record {
-      fits = free c.is_committed (is_next undone c.undo) (tran_at r) (undone_at r) (not_true c.is_committed (and_left (not c.is_committed) (is_next undone c.undo && takes_last change c.undo) h))
-        (and_left (is_next undone c.undo) (takes_last change c.undo) more);
-      takes_back = back_inverts change (slice_get c.undo (length c.undo - 1)) (and_right (is_next undone c.undo) (takes_last change c.undo) more);
+      fits = free c.is_committed (is_next undone c.undo) (tran_at r) (undone_at r) (not_true c.is_committed (and_left (not c.is_committed) (is_next undone c.undo) both))
+          (and_right (not c.is_committed) (is_next undone c.undo) both);
+      takes_back = back_inverts change (slice_get c.undo (length c.undo - 1)) (and_right (not c.is_committed && is_next undone c.undo) (takes_last change c.undo) h);
     }
 may_take_is c r (body.System patches) h = record { fits = refl; takes_back = tt }
 may_take_is c r body.Commit h = record { fits = unless_true (not c.is_committed && nothing_undone c) (tran_at r) h; takes_back = tt }
@@ -152,8 +152,8 @@ pub is_taken : (c : Course) (r : LogRecord) (b : Body) → MayTake c r b → may
 is_taken c r (body.RowChange change) h = unless_none (nothing_undone c) (tran_at r) h.fits
 is_taken c r (body.Compensation change undone) h =
     let both = freed c.is_committed (is_next undone c.undo) (tran_at r) (undone_at r) h.fits in
-    and_both (not c.is_committed) (is_next undone c.undo && takes_last change c.undo) (not_false c.is_committed both.0)
-    (and_both (is_next undone c.undo) (takes_last change c.undo) both.1 (inverted_back change (slice_get c.undo (length c.undo - 1)) h.takes_back))
+    and_both (not c.is_committed && is_next undone c.undo) (takes_last change c.undo)
+    (and_both (not c.is_committed) (is_next undone c.undo) (not_false c.is_committed both.0) both.1) (inverted_back change (slice_get c.undo (length c.undo - 1)) h.takes_back)
 is_taken c r (body.System patches) h = refl
 is_taken c r body.Commit h = unless_none (not c.is_committed && nothing_undone c) (tran_at r) h.fits
 is_taken c r body.Ended h = unless_none (c.is_committed || ((length c.undo == 0) && not (nothing_undone c))) (tran_at r) h.fits
