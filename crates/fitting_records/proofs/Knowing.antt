@@ -3,7 +3,7 @@ use Rattle.std.proofs.Common.{◌≡◌, ℕ, Bool, true, false, cond, List, [],
 use Rattle.std.specs.Prelude.{◌==◌, not, ◌||◌, ◌&&◌, is_some}
 use Rattle.std.specs.Ordering.{nat_cmp, eq_by_cmp}
 use Rattle.std.specs.Cmp.{nat_cmp_total}
-use Rattle.std.specs.FinMap.{FinMap, get, insert, empty, get-insert, get-empty}
+use Rattle.std.specs.FinMap.{FinMap, get, insert, get-insert, get-empty}
 use Rattle.std.proofs.lemmas.Bool.Decides.{nat_tests}
 use Rattle.std.proofs.lemmas.List.{append-nil}
 use Rattle.std.proofs.lemmas.List.Folds.{list_any-append}
@@ -12,11 +12,11 @@ use Rattle.log_record.specs.Changes.{is_drawn}
 use Rattle.log_trans.specs.declared.course.Course.{Course}
 use Rattle.log_trans.specs.Courses as courses
 use Rattle.log_trans.specs.Courses.{new_course}
-use Rattle.sound_disk.specs.Transactions.{drawn_numbers, is_among, speak_of, is_named, course_in, MayFollow}
+use Rattle.sound_disk.specs.Transactions.{drawn_numbers, is_among, speak_of, course_in, MayFollow}
 use Rattle.fitting_records.specs.declared.standing.Standing.{Standing}
 use Rattle.fitting_records.specs.declared.seen.Seen.{Seen}
 use Rattle.fitting_records.specs.Standings.{new_standing, may_take, after_body}
-use Rattle.fitting_records.specs.Fitting.{Numbers, nothing_seen, is_new, is_home, is_first, follows_on, follows, fits, standing_of, with_tran, seen_with, trans_of, behind_log}
+use Rattle.fitting_records.specs.Fitting.{Numbers, nothing_seen, is_new, is_home, is_first, follows_on, follows, fits, standing_of, seen_with, trans_of, behind_log}
 use Rattle.fitting_records.proofs.Taking.{and_left, and_right, and_both, standing, MayTake, may_take_is, is_taken, stands_after}
 
 -- ---- tests

@@ -1,10 +1,8 @@
 -- What the records of a transaction come to, as far as the next one must fit it.
-use Rattle.std.proofs.Common.{◌≡◌, ℕ, zero, suc, ◌+◌, ◌-◌, ◌<◌, Bool, true, false, cond, List, [], ◌∷◌, ◌++◌, length, drop, Option, Some, None, refl, sym, ap, ◌∙◌, arith, length-append, length-drop}
+use Rattle.std.proofs.Common.{◌≡◌, ℕ, ◌-◌, ◌<◌, Bool, true, false, cond, List, [], ◌∷◌, ◌++◌, length, drop, Option, Some, None, refl, sym, ap, ◌∙◌, arith, length-append, length-drop}
 use Rattle.std.specs.Prelude.{◌==◌, not, ◌||◌, ◌&&◌, slice_get}
-use Rattle.std.specs.Str.{bytes_eq}
 use Rattle.std.proofs.lemmas.Bool.Decides.{nat_tests}
 use Rattle.std.proofs.lemmas.Slice.Eq.{bytes_eq-Decides}
-use Rattle.ds_base.specs.declared.names.Place.{Place}
 use Rattle.ds_model.specs.declared.log.LogRecord.{LogRecord}
 use Rattle.ds_model.specs.declared.log.RowChange.{RowChange}
 use Rattle.ds_model.specs.declared.log.Body.{Body}
@@ -16,7 +14,7 @@ use Rattle.log_trans.specs.Courses.{is_next, undone_one}
 use Rattle.log_trans.specs.Damage.{tran_at, undone_at, unless, nothing_undone, body_fault}
 use Rattle.sound_disk.specs.Transactions.{InvertsBody, Inverts, TakesBack}
 use Rattle.fitting_records.specs.declared.standing.Standing.{Standing}
-use Rattle.fitting_records.specs.Standings.{same_row, inverts, inverts_body, takes_back, takes_last, may_take, taken_back, after_body}
+use Rattle.fitting_records.specs.Standings.{same_row, inverts, inverts_body, takes_back, takes_last, may_take, after_body}
 
 -- ---- tests
 
