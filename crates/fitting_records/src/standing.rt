@@ -9,7 +9,7 @@ use std::alloc::Global;
 use std::mem;
 
 /// What the records of a transaction come to, as far as the next one must fit it.
-#[derive(Debug, Drop)]
+#[derive(Drop)]
 pub struct Standing {
     /// Its row changes that aren't undone, in the order of the log.
     pub undo: RecordList,
