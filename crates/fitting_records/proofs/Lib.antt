@@ -1,0 +1,4 @@
+pub mod Taking
+pub mod Knowing
+pub mod Fronts
+pub mod Firsts
