@@ -22,7 +22,7 @@ use Rattle.member_marks.specs.State.{MarksState, slot_tran}
 use Rattle.member_resources.specs.Held.{Held}
 use Rattle.group_member.specs.Adopting.{Adopts, AdoptsAll, changes_left, rows_left}
 use Rattle.lock_protocol.specs.Machine.{Covers, World, entered}
-use Rattle.lock_protocol.specs.Moves.{Move, Run}
+use Rattle.lock_protocol.specs.Moves.{Run}
 use Rattle.lock_world.specs.Books.{EndLeaves, GivenEnters, HasEntered, HasHandedOn, HasLeft, IsBook, PostponedHandsOn, SlotHas}
 use Rattle.lock_world.specs.Numbers.{AreNumbered, name_at, number}
 use Rattle.lock_world.specs.Rollbacks.{HasClaimed, TakesOver as OwnerTakesOver, TakesOverMoves, claimed_spot, claimed_spots, demotions, row_of, space_of}
@@ -31,6 +31,7 @@ use Rattle.lock_world.specs.Tied.{Claims, Moved, Tied}
 use Rattle.lock_world.specs.Views.{claim_in, entry_in, rollback_owner}
 use Rattle.marks_law.specs.Slots.{SlotsAdopt, SlotsStand}
 use Rattle.group_locks.specs.Adopting.{AdoptionsGo, HaveClaimed, MayTakeOver, TakesOver, rows_of}
+use Rattle.group_locks.proofs.Moved.{run_on}
 
 -- what the crates below say
 pub record Facts : Type 0 where
@@ -321,10 +322,6 @@ before (x ∷ xs) r k id e = by (x.id == id) e (λ f. before xs r (k + 1) id f)
     by false e rest = rest e
 
 -- ---- all of them
-run_on : (entry : ℕ → ℕ) (w mid v : World) (xs ys : List Move) → Run entry w xs mid → Run entry mid ys v → Run entry w (xs ++ ys) v
-run_on entry w mid v [] ys a b = subst (λ z. Run entry z ys v) a b
-run_on entry w mid v (x ∷ xs) ys a b = (a.0, a.1, run_on entry a.0 mid v xs ys a.2 b)
-
 -- the claims once the member's are those of this lock manager
 abbrev with_book : Claims → ℕ → Book → Claims
 with_book held m b k o c = if k == m then claim_in b o c else held k o c

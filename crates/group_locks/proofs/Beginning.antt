@@ -11,6 +11,7 @@ use Rattle.lock_protocol.specs.Sound.{StartsSound}
 use Rattle.lock_world.specs.Failing.{KnowsNone, StartsTied as WorldStarts}
 use Rattle.lock_world.specs.Tied.{Tied}
 use Rattle.lock_world.specs.Views.{entry_in}
+use Rattle.marks_law.specs.Free.{FreeBegin}
 use Rattle.marks_law.specs.Slots.{SlotsBegin}
 use Rattle.group_locks.specs.Beginning.{StartsTied}
 use Rattle.group_locks.specs.Stands.{MemberStands, known, known_by}
@@ -20,6 +21,7 @@ use Rattle.group_locks.proofs.Whole.{up_or_down, within}
 pub record Facts : Type 0 where
   pub start : StartsSound
   pub begin : SlotsBegin
+  pub free : FreeBegin
   pub starts : WorldStarts
 
 so_many : {A : Type 0} → (n : ℕ) (a : A) → length (replicate n a) ≡ n
@@ -54,6 +56,6 @@ begins facts s b = record {
 
     stands_at : (at : ℕ) (x : Option Member) → slice_get s.members at ≡ x → IfSome x (IsDown s.sizes) → IfSome x (λ m. m.id ≡ at + 1) → IfSome x (MemberStands s.facility (at + 1))
     stands_at at None e down id = tt
-    stands_at at (Some m) e down id = down_stands facts.begin s.facility (at + 1) m s.sizes down id b.agents entries
+    stands_at at (Some m) e down id = down_stands facts.begin facts.free s.facility (at + 1) m s.sizes down id b.agents entries
         (up_or_down (nat_le (at + 1) s.facility.lists.members) (status_of s.facility.lists.statuses (at + 1))
         (subst (λ z. status_of s.facility.lists.statuses (at + 1) ≡ (if nat_le (at + 1) z then Up else Down)) (sym members) (b.facility.lists_new.statuses.each (at + 1) (within s.members at m s.facility.lists.members e b.count b.few))))

@@ -19,6 +19,7 @@ use Rattle.lock_world.specs.Books.{AreApart, IsBook}
 use Rattle.lock_world.specs.Numbers.{name_at}
 use Rattle.lock_world.specs.Views.{claims_from, is_slot}
 use Rattle.lock_members.specs.Known.{known_of, or_else, restart_claim}
+use Rattle.marks_law.specs.Free.{FreeBegin}
 use Rattle.marks_law.specs.Slots.{SlotsBegin}
 use Rattle.group_locks.specs.Stands.{ClaimsNothing, MemberStands, RestartInHand}
 
@@ -83,14 +84,14 @@ none_known m sizes down o c =
 never : false ≡ true → ⊥
 never e = cc
 
-pub down_stands : SlotsBegin → (f : Facility) (k : ℕ) (m : Member) (sizes : Sizes) → IsDown sizes m → m.id ≡ k → sizes.agents ≤ 16 → length f.locks.entries ≡ sizes.locks → status_of f.lists.statuses k ≢ Restarting → MemberStands f k m
-down_stands begin f k m sizes down id few entries other = record {
+pub down_stands : SlotsBegin → FreeBegin → (f : Facility) (k : ℕ) (m : Member) (sizes : Sizes) → IsDown sizes m → m.id ≡ k → sizes.agents ≤ 16 → length f.locks.entries ≡ sizes.locks → status_of f.lists.statuses k ≢ Restarting → MemberStands f k m
+down_stands begin free f k m sizes down id few entries other = record {
   id = id;
   member = down.holds.marks.member_is ∙ id;
   size = down.holds.marks.sizes.1 ∙ sym entries;
   book = new_book m.id sizes m.holds down.holds few;
   slots = begin m.id sizes m.holds down.holds;
-  free = λ slot c _ _. new_claims m.id sizes m.holds down.holds slot c;
+  free = free m.id sizes m.holds down.holds;
   up = λ _. down.rests;
   restarts = λ s. absurd (other s);
   rests = λ s. absurd (never (ap (λ (z : Option RestartHeld). is_some z) (sym down.rests) ∙ s));

@@ -35,6 +35,7 @@ none_of false b c x y e f = f
 
 pub hands_on : RunKeepsSound → HandsOnMoves
 hands_on law s w m owner to t one most dead slot ne free = record {
+  entries = refl;
   moves = Postpone m owner to ∷ [];
   world = v;
   run = run;

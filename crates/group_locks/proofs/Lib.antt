@@ -10,4 +10,6 @@ pub mod Restarts
 pub mod Answering
 pub mod RestingSteps
 pub mod Taken
+pub mod Agreeing
+pub mod Runs
 pub mod Handing

@@ -12,7 +12,7 @@ use Rattle.group_member.specs.declared.restarting.Restarting.{Restarting as Rest
 use Rattle.group_member.specs.Members.{Member}
 use Rattle.lock_protocol.specs.Sound.{RunKeepsSound}
 use Rattle.lock_members.specs.Known.{KnowsOwn, LeadsTo}
-use Rattle.lock_members.specs.Members.{MemberGoes, MemberIsUp, StepsGo}
+use Rattle.lock_members.specs.Members.{MemberGoes, MemberIsUp, StepsGo, StepsKeepFree}
 use Rattle.group_locks.specs.Members.{MemberStepsMoves}
 use Rattle.group_locks.specs.Stands.{MemberStands, RestartInHand, known, known_by}
 use Rattle.group_locks.proofs.Moved.{stands_on, still_sound}
@@ -21,6 +21,7 @@ use Rattle.group_locks.proofs.Whole.{within}
 pub record Facts : Type 0 where
   pub run : RunKeepsSound
   pub steps : StepsGo
+  pub keep : StepsKeepFree
 
 both_up : (s : MemberStatus) → s ≡ Up → s ≡ Restarting → ⊥
 both_up s a b = cc
@@ -36,6 +37,7 @@ numbered ms k x h = let a : k < length ms = slice_get_within ms k x h in omega (
 
 pub member_steps : Facts → MemberStepsMoves
 member_steps facts old new at m n w t e = record {
+  entries = goes.moved.same;
   moves = goes.moves;
   world = goes.moved.world;
   run = goes.moved.run;
@@ -109,7 +111,7 @@ member_steps facts old new at m n w t e = record {
       size = goes.stands.up.size;
       book = goes.stands.up.book;
       slots = goes.stands.slots;
-      free = e.free;
+      free = facts.keep m n (record { facility = old.facility; drive = e.drive }) (record { facility = new.facility; drive = e.left }) old.fates new.fates e.place e.stepped e.steps stood.free;
       up = λ _. goes.stands.rests;
       restarts = λ s. absurd (both_up (status_of new.facility.lists.statuses (at + 1)) now_up s);
       rests = λ s. absurd (none_some n.restart goes.stands.rests s);

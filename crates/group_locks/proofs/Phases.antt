@@ -1,5 +1,5 @@
 -- A phase begins, and with it the restarts of members that have failed.
-use Rattle.std.proofs.Common.{◌≡◌, ℕ, zero, suc, ◌+◌, ◌≤◌, ◌<◌, refl, sym, ◌∙◌, ap, subst, arith, Bool, true, false, inl, List, [], ◌∷◌, ◌++◌, length, Option, Some, None}
+use Rattle.std.proofs.Common.{◌≡◌, ℕ, zero, suc, ◌+◌, ◌≤◌, ◌<◌, refl, sym, ◌∙◌, ap, subst, arith, Bool, true, false, inl, List, [], ◌∷◌, length, Option, Some, None}
 use Rattle.std.specs.Prelude.{◌≢◌, ◌-◌, ◌==◌, if◌then◌else◌, IfSome, IsSomeAnd, is_some, slice_get, slice_index_or, slice_set}
 use Rattle.std.proofs.lemmas.Bool.{and_parts}
 use Rattle.ds_base.specs.Ids.{IsMember}
@@ -21,7 +21,7 @@ use Rattle.group_member.specs.Members.{Member}
 use Rattle.group_crew.specs.Beginning.{AllRestart, Restarts, begins_restart, restarting}
 use Rattle.group_crew.specs.States.{CrewState}
 use Rattle.lock_protocol.specs.Machine.{World}
-use Rattle.lock_protocol.specs.Moves.{Move, Restart, Run}
+use Rattle.lock_protocol.specs.Moves.{Move, Restart}
 use Rattle.lock_protocol.specs.Sound.{RunKeepsSound, Sound}
 use Rattle.lock_world.specs.Claims.{Restarts as WorldRestarts, RestartsMoves}
 use Rattle.lock_world.specs.Standing.{StaysTied}
@@ -31,7 +31,7 @@ use Rattle.lock_members.specs.Known.{known_of, or_else, page_claim, restart_clai
 use Rattle.lock_restarts.specs.Courses.{IsInOrder}
 use Rattle.group_locks.specs.Phases.{PhasesMove}
 use Rattle.group_locks.specs.Stands.{ClaimsNothing, MemberStands, known, known_by}
-use Rattle.group_locks.proofs.Moved.{stands_on, still_sound}
+use Rattle.group_locks.proofs.Moved.{run_on, stands_on, still_sound}
 
 pub record Facts : Type 0 where
   pub run : RunKeepsSound
@@ -193,10 +193,6 @@ record Begun (w : World) (f : Facility) (held : Claims) (lists now : ListsState)
   pub same : SameAll ms ns
   pub stand : StandAll (record f { lists = now }) k ns
 
-run_on : (entry : ℕ → ℕ) (w mid v : World) (xs ys : List Move) → Run entry w xs mid → Run entry mid ys v → Run entry w (xs ++ ys) v
-run_on entry w mid v [] ys a b = subst (λ z. Run entry z ys v) a b
-run_on entry w mid v (x ∷ xs) ys a b = (a.0, a.1, run_on entry a.0 mid v xs ys a.2 b)
-
 within : (k n members : ℕ) → k + suc n ≤ members + 1 → (k ≤ members) × (suc k + n ≤ members + 1)
 within k n members le = (omega (arith, le), omega (arith, le))
 
@@ -295,6 +291,7 @@ module _ (facts : Facts) (phase : Phase) (f : Facility) (held : Claims) (few : f
 -- ---- the group
 pub phases_move : Facts → PhasesMove
 phases_move facts phase old new w t p = record {
+  entries = moved.same;
   moves = begun.moves;
   world = moved.world;
   run = moved.run;

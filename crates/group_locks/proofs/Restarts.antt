@@ -10,12 +10,12 @@ use Rattle.ds_model.specs.Rows.{Spot}
 use Rattle.ds_model.specs.declared.lock.Name.TheVariants as name
 use Rattle.lock_names.specs.declared.mode.Mode.{Mode}
 use Rattle.lock_names.specs.declared.mode.Mode.TheVariants.{IX, X}
-use Rattle.lock_names.specs.Entries.{entry_number}
 use Rattle.lock_structure.specs.Locks.{Locks}
 use Rattle.list_structure.specs.declared.standing.MemberStatus.{MemberStatus}
 use Rattle.list_structure.specs.declared.standing.MemberStatus.TheVariants.{Down, Restarting, Up}
 use Rattle.list_structure.specs.Standings.{is_live, status_of}
 use Rattle.list_structure.specs.States.{ListsState}
+use Rattle.lock_manager.specs.declared.claim.Claim.{Claim}
 use Rattle.lock_manager.specs.Claims.{mode_in}
 use Rattle.lock_manager.specs.Managers.{Book}
 use Rattle.facility.specs.declared.command.Command.TheVariants as command
@@ -34,6 +34,7 @@ use Rattle.restart_marks.specs.declared.marks.KeptBy.{KeptBy}
 use Rattle.restart_marks.specs.State.{RestartState, with_trans}
 use Rattle.restart_records.specs.Trans.{TransState as Trans, no_trans, opened_among, page_undone}
 use Rattle.group_member.specs.declared.restarting.Restarting.{Restarting as RestartHeld}
+use Rattle.group_member.specs.declared.stepped.Stepped.TheVariants as steps
 use Rattle.group_member.specs.Adopting.{AdoptsAll}
 use Rattle.group_member.specs.Entering.{told_once}
 use Rattle.group_member.specs.Happening.{AdoptsLeft, GoesOn, HandsOver, RestartEnds, RestartGoesOn, Restarts, Takes, Tells, as_restarting}
@@ -51,8 +52,10 @@ use Rattle.lock_world.specs.Tied.{Claims, Moved, Tied, is_own}
 use Rattle.lock_world.specs.Views.{claim_in, entry_in, rollback_owner}
 use Rattle.lock_intents.specs.Stands.{Goes as UpGoes, IsUp, Leads as UpLeads}
 use Rattle.lock_events.specs.Events.{ToldGoes}
+use Rattle.marks_law.specs.Free.{FreeHoldNothing}
 use Rattle.marks_law.specs.Slots.{AreSlots, SlotsReach, SlotsStand, SlotsTell, has_own}
 use Rattle.lock_members.specs.Known.{known_of, or_else, page_claim, restart_claim}
+use Rattle.lock_members.specs.Members.{StepsKeepFree}
 use Rattle.lock_restarts.specs.Courses.{Follows, HasHandedOver, IsInOrder, RestartsFollow, Sets, StandingsFollow}
 use Rattle.lock_restarts.specs.Changes.{gone_by}
 use Rattle.lock_restarts.specs.Events.{EventsGo, FreesSent}
@@ -60,8 +63,8 @@ use Rattle.lock_restarts.specs.Stands as restart
 use Rattle.lock_restarts.specs.Stands.{IsRestarting, Leads, Spares, known_with}
 use Rattle.group_locks.specs.Adopting.{AdoptionsGo, HaveClaimed, MayTakeOver, TakesOver, rows_of}
 use Rattle.group_locks.specs.Restarts.{RestartStepsMove, freed_world}
-use Rattle.group_locks.specs.Stands.{ClaimsNothing, FreeClaimsNothing, MemberStands, RestartInHand, RestartStands, known, known_by}
-use Rattle.group_locks.proofs.Moved.{stands_on, still_sound}
+use Rattle.group_locks.specs.Stands.{ClaimsNothing, MemberStands, RestartInHand, RestartStands, known, known_by}
+use Rattle.group_locks.proofs.Moved.{run_on, same_entries, stands_on, still_sound}
 use Rattle.group_locks.proofs.Resting.{SameOwn, all_free, locals_rest}
 use Rattle.group_locks.proofs.Whole.{within}
 
@@ -79,6 +82,7 @@ pub record Facts : Type 0 where
   pub follow : RestartsFollow
   pub standings : StandingsFollow
   pub adopt : AdoptionsGo
+  pub keep : StepsKeepFree
 
 never : true ≡ false → ⊥
 never e = cc
@@ -290,7 +294,7 @@ record Stands (w : World) (f : Facility) (held : Claims) (id : ℕ) (h : Held) (
   pub may : MayTakeOver h.marks
   pub order : IsInOrder s
   pub left : ClaimsNothing h.marks.locks ⊎ HasHandedOver s
-  pub claimed : HaveClaimed w id (opened_among s.trans.list)
+  pub claimed : is_some (adopted_told s) ≡ true → HaveClaimed w id (opened_among s.trans.list)
 
 -- nothing is handed over
 keeps_all : Facts → (w : World) (f : Facility) (held : Claims) (id : ℕ) (h k : Held) (s : RestartState) → Stands w f held id h s → k ≡ h → Leaves w f held id h.marks k s
@@ -330,7 +334,7 @@ hands_all facts w f held id h k s handed st adopts = record {
     after = with_own held id (known_with (λ o c. claim_in k.marks.locks o c) s.claim)
 
     takes : TakesOver w f after h.marks k.marks
-    takes = facts.adopt w f before after h k id handed.by (opened_among s.trans.list) st.tied st.live st.may st.claimed
+    takes = facts.adopt w f before after h k id handed.by (opened_among s.trans.list) st.tied st.live st.may (st.claimed (ap (λ (z : Option Adopted). is_some z) handed.told))
         (λ o c. own_there held id (known_with (λ o c. claim_in h.marks.locks o c) s.claim) o c ∙ without_page (λ o c. claim_in h.marks.locks o c) s.claim handed.unclaimed o c) adopts
         (λ j o c ne. own_apart held id (known_with (λ o c. claim_in k.marks.locks o c) s.claim) j o c ne ∙ sym (own_apart held id (known_with (λ o c. claim_in h.marks.locks o c) s.claim) j o c ne))
         (λ o c. own_there held id (known_with (λ o c. claim_in k.marks.locks o c) s.claim) o c ∙ without_page (λ o c. claim_in k.marks.locks o c) s.claim handed.unclaimed o c)
@@ -392,9 +396,11 @@ told_none : (s : MarksState) (h : Held) → s ≡ (told_once h).marks → NoneIn
 told_none s h e none = subst (λ (z : MarksState). NoneInSlots z) (sym e) none
 
 -- slot 1 claims nothing, whether it is an agent's or isn't there
-slot_lends : (s : MarksState) → FreeClaimsNothing s → NoneInSlots s → (c : ℕ) → claim_in s.locks 1 c ≡ None
+slot_lends : (s : MarksState) → FreeHoldNothing s → NoneInSlots s → (c : ℕ) → claim_in s.locks 1 c ≡ None
 slot_lends s free none c = elim (cases_Bool (nat_lt 1 (s.locks.agents + 1))) [
-  | inl e ↦ let agent : is_agent s 1 ≡ true = there s.locks.agents (ltb-true 1 (s.locks.agents + 1) e) in free 1 c agent (none 1 agent)
+  | inl e ↦
+      let agent : is_agent s 1 ≡ true = there s.locks.agents (ltb-true 1 (s.locks.agents + 1) e) in
+      ap (λ (b : Bool). mode_in (if b then slice_index_or s.locks.holders 1 [] else []) (name_at c)) e ∙ ap (λ (z : List Claim). mode_in z (name_at c)) (free.none 1 agent (none 1 agent))
   | inr e ↦ ap (λ (b : Bool). mode_in (if b then slice_index_or s.locks.holders 1 [] else []) (name_at c)) e
 ]
   where
@@ -402,14 +408,6 @@ slot_lends s free none c = elim (cases_Bool (nat_lt 1 (s.locks.agents + 1))) [
     there agents lt = le-leb 1 agents (omega (arith, lt))
 
 -- ---- one after the other
-run_on : (entry : ℕ → ℕ) (w mid v : World) (xs ys : List Move) → Run entry w xs mid → Run entry mid ys v → Run entry w (xs ++ ys) v
-run_on entry w mid v [] ys a b = subst (λ z. Run entry z ys v) a b
-run_on entry w mid v (x ∷ xs) ys a b = (a.0, a.1, run_on entry a.0 mid v xs ys a.2 b)
-
-same_entries : (f g : Locks) → length g.entries ≡ length f.entries → entry_in g ≡ entry_in f
-same_entries f g e =
-    let entries : ℕ → ℕ → ℕ = λ n c. entry_number (name_at c) n in ap entries e
-
 moved_on : (w : World) (xs ys : List Move) (before locks : Locks) (lists : ListsState) (mid left : Claims) (a : Moved w xs before locks lists mid) → Moved a.world ys locks locks lists left → Moved w (xs ++ ys) before locks lists left
 moved_on w xs ys before locks lists mid left a b = record {
   same = a.same;
@@ -429,6 +427,7 @@ record Landed (w : World) (new : CrewState) (at : ℕ) (n : Member) : Type 0 whe
 
 pub restart_steps : Facts → RestartStepsMove
 restart_steps facts old new at m n w t e = record {
+  entries = moved.same;
   moves = event.moves ++ landed.moves;
   world = moved.world;
   run = moved.run;
@@ -476,6 +475,9 @@ restart_steps facts old new at m n w t e = record {
     -- ---- the member
     stood : MemberStands old.facility (at + 1) m
     stood = subst (λ (z : Option Member). IfSome z (MemberStands old.facility (at + 1))) e.had (t.stands at)
+
+    still_free : FreeHoldNothing n.holds.marks
+    still_free = facts.keep m n u v old.fates new.fates e.place (steps.Restart e.sent e.answered) e.made stood.free
 
     standing : RestartStands (at + 1) m s
     standing = subst (λ (z : Option RestartHeld). RestartInHand (at + 1) m z) made.makes.had stood.restart
@@ -588,7 +590,7 @@ restart_steps facts old new at m n w t e = record {
         size = ap (λ (z : Book). z.entries) n_locks ∙ goes.stands.size;
         book = subst IsBook (sym n_locks) goes.stands.book;
         slots = told_slots n.holds.marks ends.after n_marks (facts.reach (begun m.holds e.place).marks ends.after.marks tells.0 (begun_slots m.holds e.place stood.slots));
-        free = e.free;
+        free = still_free;
         up = λ _. no_restart;
         restarts = λ z. absurd (both_up (status_of new.facility.lists.statuses (at + 1)) now_up z);
         rests = λ z. absurd (never (sym z ∙ ap (λ (x : Option RestartHeld). is_some x) no_restart));
@@ -654,7 +656,7 @@ restart_steps facts old new at m n w t e = record {
         size = ap (λ (z : Book). z.entries) n_locks ∙ rests.entries ∙ handed.leaves.entries ∙ stood.size ∙ sym event.moved.same;
         book = subst IsBook (sym n_locks) rests.book;
         slots = told_slots n.holds.marks ends.after n_marks slots_after;
-        free = e.free;
+        free = still_free;
         up = λ z. absurd (both_up (status_of new.facility.lists.statuses (at + 1)) z still_restarts);
         restarts = λ _. ap (λ (z : Option RestartHeld). is_some z) some_restart;
         rests = λ _. told_none n.holds.marks ends.after n_marks none_after;
@@ -692,7 +694,7 @@ restart_steps facts old new at m n w t e = record {
             | inl nothing ↦ inl nothing
             | inr h ↦ inr (follows.handed standing.order h)
           ];
-          claimed = all_still facts.numbers w event.moved.world m.id e.sent (opened_among now.trans.list) (subst (λ z. Spares w event.moved.world z (λ c. gone_by e.sent c)) own_member event.spares) (e.opened on);
+          claimed = λ hands. all_still facts.numbers w event.moved.world m.id e.sent (opened_among now.trans.list) (subst (λ z. Spares w event.moved.world z (λ c. gone_by e.sent c)) own_member event.spares) (e.opened on hands);
         }
 
         handed : HandedOn event.moved.world new.facility held m.id marks ends.left over.rest now

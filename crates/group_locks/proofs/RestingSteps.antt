@@ -51,6 +51,7 @@ use Rattle.lock_world.specs.Tied.{Moved, Tied}
 use Rattle.lock_world.specs.Views.{claim_in}
 use Rattle.lock_events.specs.Quiet.{CommandsStay, Quiet, is_quiet}
 use Rattle.lock_members.specs.Known.{known_of, or_else, restart_claim}
+use Rattle.lock_members.specs.Members.{StepsKeepFree}
 use Rattle.group_locks.specs.Events.{Moves}
 use Rattle.group_locks.specs.Resting.{RestingStepsAt, RestingStepsMove, is_restart}
 use Rattle.group_locks.specs.Stands.{LocksTied, MemberStands, RestartInHand, known, known_by}
@@ -68,6 +69,7 @@ pub record Facts : Type 0 where
   pub reach : SlotsReach
   pub slots : SlotsStay
   pub command : CommandsStay
+  pub keep : StepsKeepFree
   pub answer : answering.Facts
 
 never : true ≡ false → ⊥
@@ -271,6 +273,7 @@ module _ (facts : Facts) (old new : CrewState) (at : ℕ) (m n : Member) (w : Wo
 
   moves_by : FacilityGoes w old.facility new.facility (known old.members) → Left m n → Moves old new w
   moves_by goes left = record {
+    entries = goes.moved.same;
     moves = goes.moves;
     world = goes.moved.world;
     run = goes.moved.run;
@@ -312,7 +315,7 @@ module _ (facts : Facts) (old new : CrewState) (at : ℕ) (m n : Member) (w : Wo
         size = left.own.entries ∙ stood.size ∙ sym goes.moved.same;
         book = left.own.book;
         slots = left.slots;
-        free = e.free;
+        free = facts.keep m n (record { facility = old.facility; drive = e.drive }) (record { facility = new.facility; drive = e.left }) old.fates new.fates e.place e.stepped e.made stood.free;
         up = λ z. absurd (both_up (status_of new.facility.lists.statuses (at + 1)) z now_restarting);
         restarts = λ _. ap (λ (z : Option RestartHeld). is_some z) left.restart ∙ stood.restarts is_restarting;
         rests = λ _. left.none;

@@ -13,6 +13,7 @@ use Rattle.list_structure.specs.declared.standing.MemberStatus.TheVariants as st
 use Rattle.list_structure.specs.Standings.{is_live, status_of}
 use Rattle.facility.specs.States.{Held as Facility, MemberFailed}
 use Rattle.member_resources.specs.Events.{World as Resources, world_of}
+use Rattle.script_fates.specs.Fated.{FatesState}
 use Rattle.script_phases.specs.declared.progress.Progress.{Progress}
 use Rattle.script_phases.specs.Progresses.{has_groupfail, has_phase, own_choice}
 use Rattle.group_restart.specs.Machine.{Restart}
@@ -25,7 +26,7 @@ use Rattle.group_member.specs.Happening.{Comes, Steps}
 use Rattle.group_member.specs.Members.{Member, member_of}
 use Rattle.group_member.specs.Stepping.{is_failure, is_over}
 use Rattle.group_crew.specs.Beginning.{PhaseBegins}
-use Rattle.group_crew.specs.Failing.{fail_counted}
+use Rattle.group_crew.specs.Failing.{GroupFails, fail_counted}
 use Rattle.group_crew.specs.Happening.{ComesAt, member_at}
 use Rattle.group_crew.specs.Crews.{is_ready_in}
 use Rattle.group_crew.specs.Ready.{is_own, ready_for}
@@ -42,8 +43,8 @@ use Rattle.group_locks.specs.Members.{MemberStepsMoves}
 use Rattle.group_locks.specs.Phases.{PhasesMove}
 use Rattle.group_locks.specs.Resting.{RestingStepsMove}
 use Rattle.group_locks.specs.Restarts.{RestartStepsMove}
-use Rattle.group_locks.specs.Stands.{FreeClaimsNothing, LocksTied, MemberStands}
-use Rattle.group_locks.specs.Taken.{EventsMove, Unsaid}
+use Rattle.group_locks.specs.Stands.{LocksTied}
+use Rattle.group_locks.specs.Taken.{AdoptedClaim, EventsMove}
 use Rattle.group_locks.specs.Whole.{AnewMoves, GroupFailsTied, MemberFailsMoves}
 
 pub record Facts : Type 0 where
@@ -59,21 +60,24 @@ never : true ≡ false → ⊥
 never e = cc
 
 -- ---- no move
-stays : (old new : CrewState) (w : World) → LocksTied new w → Moves old new w
-stays old new w t = record { moves = []; world = w; run = refl; tied = t }
+stays : (old new : CrewState) (w : World) → length new.facility.locks.entries ≡ length old.facility.locks.entries → LocksTied new w → Moves old new w
+stays old new w entries t = record { entries = entries; moves = []; world = w; run = refl; tied = t }
 
 as_it_was : (old new : CrewState) (w : World) → new ≡ old → LocksTied old w → Moves old new w
-as_it_was old new w e t = stays old new w (subst (λ (z : CrewState). LocksTied z w) (sym e) t)
+as_it_was old new w e t = stays old new w (ap (λ (z : CrewState). length z.facility.locks.entries) e) (subst (λ (z : CrewState). LocksTied z w) (sym e) t)
 
 -- ---- what the locks don't depend on
 with_restart : (s : CrewState) (x : Option Restart) (w : World) → LocksTied s w → LocksTied (record s { restart = x }) w
 with_restart s x w t = record { sound = t.sound; tied = t.tied; count = t.count; few = t.few; agents = t.agents; entries = t.entries; stands = t.stands }
 
+with_fates : (s : CrewState) (f : FatesState) (w : World) → LocksTied s w → LocksTied (record s { fates = f }) w
+with_fates s f w t = record { sound = t.sound; tied = t.tied; count = t.count; few = t.few; agents = t.agents; entries = t.entries; stands = t.stands }
+
 counted : (s : CrewState) (w : World) → LocksTied s w → LocksTied (fail_counted s) w
 counted s w t = record { sound = t.sound; tied = t.tied; count = t.count; few = t.few; agents = t.agents; entries = t.entries; stands = t.stands }
 
 from_restart : (old new : CrewState) (x : Option Restart) (w : World) → Moves (record old { restart = x }) new w → Moves old new w
-from_restart old new x w m = record { moves = m.moves; world = m.world; run = m.run; tied = m.tied }
+from_restart old new x w m = record { entries = m.entries; moves = m.moves; world = m.world; run = m.run; tied = m.tied }
 
 -- ---- which events are the group's own
 own_is : (choice : ℕ) (o : Option ℕ) (k : ℕ) → o ≡ Some k → is_own o choice ≡ true → choice ≡ k
@@ -97,14 +101,11 @@ own_number event choice rest is =
     omega (arith, whole, same, rest)
 
 -- ---- the group restart makes a call
-no_fault : (why : Option RunFault) (x : RunFault) → why ≡ None → why ≡ Some x → ⊥
-no_fault why x a b = cc
-
-enters : Facts → (s : State) (why : Option RunFault) (old new : CrewState) (w : World) → why ≡ None → LocksTied old w → EntersRestart s why old new → Moves old new w
-enters facts state.Going why old new w ok t e = as_it_was old new w e.1 t
-enters facts (state.Done counter) why old new w ok t e = facts.anew old new counter w t e.1
-enters facts (state.Damaged volume at) why old new w ok t e = absurd (no_fault why (fault.Damaged volume at) ok e.0)
-enters facts state.Failed why old new w ok t e = absurd (no_fault why fault.Failed ok e.0)
+enters : Facts → (s : State) (why : Option RunFault) (old new : CrewState) (w : World) → LocksTied old w → EntersRestart s why old new → Moves old new w
+enters facts state.Going why old new w t e = as_it_was old new w e.1 t
+enters facts (state.Done counter) why old new w t e = facts.anew old new counter w t e.1
+enters facts (state.Damaged volume at) why old new w t e = as_it_was old new w e.1 t
+enters facts state.Failed why old new w t e = stays old new w (ap (λ (z : CrewState). length z.facility.locks.entries) e.2) (subst (λ (z : CrewState). LocksTied z w) (sym e.2) (with_fates old new.fates w t))
 
 -- ---- members by their places
 some_at : {A : Type 0} → (xs ys : List A) → ((k : ℕ) → is_some (slice_get xs k) ≡ is_some (slice_get ys k)) → length xs ≡ length ys
@@ -131,7 +132,7 @@ record At (old new : CrewState) (at : ℕ) (m n : Member) : Type 0 where
   pub others : (k : ℕ) → k ≢ at → slice_get new.members k ≡ slice_get old.members k
   pub sizes : new.sizes ≡ old.sizes
 
-module _ (facts : Facts) (old new : CrewState) (w : World) (t : LocksTied old w) (unsaid : Unsaid old new w) (at : ℕ) (m n : Member) (here : At old new at m n) (u v : Resources) (place : ℕ) where
+module _ (facts : Facts) (old new : CrewState) (w : World) (t : LocksTied old w) (adopted : AdoptedClaim old new w) (at : ℕ) (m n : Member) (here : At old new at m n) (u v : Resources) (place : ℕ) where
   restarting : (stepped : Stepped) → u.facility ≡ old.facility → v.facility ≡ new.facility → status_of old.facility.lists.statuses m.id ≡ status.Restarting → is_over stepped ≡ false
       → Steps m (record { facility = old.facility; drive = u.drive }) old.fates place stepped n (record { facility = new.facility; drive = v.drive }) new.fates → Moves old new w
   restarting (steps.Restart sent answered) f g standing over made = facts.restarts old new at m n w t (record {
@@ -148,8 +149,7 @@ module _ (facts : Facts) (old new : CrewState) (w : World) (t : LocksTied old w)
     answered = answered;
     unfailed = unfailed (is_failure answered) over;
     made = made;
-    free = subst (λ (z : Option Member). IfSome z (λ m. FreeClaimsNothing m.holds.marks)) here.has (unsaid.free at);
-    opened = unsaid.opened at m n u.drive v.drive place sent answered here.had made;
+    opened = adopted at m n u.drive v.drive place sent answered here.had made;
   })
   restarting (steps.Sent sent answered) f g standing over made = facts.resting old new at m n w t (record {
     had = here.had;
@@ -164,7 +164,6 @@ module _ (facts : Facts) (old new : CrewState) (w : World) (t : LocksTied old w)
     stepped = steps.Sent sent answered;
     other = refl;
     made = made;
-    free = subst (λ (z : Option Member). IfSome z (λ m. FreeClaimsNothing m.holds.marks)) here.has (unsaid.free at);
   })
   restarting (steps.Rebuild sent answered) f g standing over made = facts.resting old new at m n w t (record {
     had = here.had;
@@ -179,7 +178,6 @@ module _ (facts : Facts) (old new : CrewState) (w : World) (t : LocksTied old w)
     stepped = steps.Rebuild sent answered;
     other = refl;
     made = made;
-    free = subst (λ (z : Option Member). IfSome z (λ m. FreeClaimsNothing m.holds.marks)) here.has (unsaid.free at);
   })
   restarting steps.Failed f g standing over made = absurd (never over)
 
@@ -199,7 +197,6 @@ module _ (facts : Facts) (old new : CrewState) (w : World) (t : LocksTied old w)
     place = place;
     stepped = stepped;
     steps = made;
-    free = subst (λ (z : Option Member). IfSome z (λ m. FreeClaimsNothing m.holds.marks)) here.has (unsaid.free at);
   })
 
   comes : (script : Script) (begun choice : ℕ) (stepped : Stepped) → u ≡ record { facility = old.facility; drive = u.drive } → v ≡ record { facility = new.facility; drive = v.drive }
@@ -212,7 +209,7 @@ module _ (facts : Facts) (old new : CrewState) (w : World) (t : LocksTied old w)
       has = here.has;
       count = here.count;
       others = here.others;
-      same = subst (λ (z : Option Member). IfSome z (λ x. x.id ≡ at + 1)) here.has (unsaid.numbered at) ∙ sym (subst (λ (z : Option Member). IfSome z (MemberStands old.facility (at + 1))) here.had (t.stands at)).id;
+      same = c.same;
       down = c.down over;
       failed = subst (λ (z : Facility). MemberFailed z m.id new.facility) (ap (λ (z : Resources). z.facility) f) (subst (λ (z : Facility). MemberFailed u.facility m.id z) (ap (λ (z : Resources). z.facility) g) (c.fails over));
       sizes = here.sizes;
@@ -224,11 +221,11 @@ module _ (facts : Facts) (old new : CrewState) (w : World) (t : LocksTied old w)
 
 -- ---- any event
 pub events_move : {C D : Type 0} → (P : Type 0) (directory : C → Directory) (alive : D → Bool) (contents : D → Option Contents) (count : D → ℕ) → Facts → EventsMove P directory alive contents count
-events_move {C} {D} P directory alive contents count facts old new event w taken ok t unsaid = elim (cases_Bool (takes old event)) [
+events_move {C} {D} P directory alive contents count facts old new event w taken lawful t adopted = elim (cases_Bool (takes old event)) [
   | inr isnt ↦ as_it_was before after w (ap (λ (z : Group D C P). crew_state directory z.crew) (taken.left isnt)) t
   | inl is ↦ elim (cases_eq (event % 64) 0) [
     | inl own ↦ own_goes (taken.own is own) (own_choices (is_some old.crew.restart) old.crew.progress old.crew.script (event / 64) (ready is own)) own
-    | inr member ↦ member_goes (subst (λ (z : Option RunFault). TakesMember directory alive contents z old.crew old.disk (event % 64 - 1) (event / 64) (length new.journal.items) taken.failed new.crew new.disk) ok (taken.member is member))
+    | inr member ↦ member_takes new.fault refl (taken.member is member)
   ]
 ]
   where
@@ -242,20 +239,26 @@ events_move {C} {D} P directory alive contents count facts old new event w taken
     ready is own = subst (λ z. ready_for (is_some old.crew.restart) (own_choice (is_some old.crew.restart) old.crew.progress old.crew.script) (map (λ (p : MemberPart P). p.ready) old.crew.parts.items) z (event / 64) ≡ true) own
         (and_parts (not (is_some old.fault)) (is_ready_in old.crew event) is).1
 
-    begins : BeginsOrNot directory None old.crew event (length new.journal.items) new.crew → Moves before after w
-    begins e = by (slice_get before.script.phases before.begun) e
-      where
-        by : (x : Option Phase) → IsSomeAnd x (λ phase. PhaseBegins phase before after) → Moves before after w
-        by None h = absurd h
-        by (Some phase) h = facts.phases phase before after w t h
+    next_phase : (x : Option Phase) → IsSomeAnd x (λ phase. PhaseBegins phase before after) → Moves before after w
+    next_phase None h = absurd h
+    next_phase (Some phase) h = facts.phases phase before after w t h
+
+    begins : (why : Option RunFault) → new.fault ≡ why → BeginsOrNot directory why old.crew event (length new.journal.items) new.crew → Moves before after w
+    begins None left e = next_phase (slice_get before.script.phases before.begun) e
+    begins (Some (fault.Unlawful place)) left e = absurd (lawful place left)
+    begins (Some fault.Failed) left e = absurd e
+    begins (Some (fault.Damaged volume offset)) left e = absurd e
+    begins (Some fault.NoMemory) left e = absurd e
 
     restarts : (x : Option Restart) → is_some x ≡ true → IfSome x (λ restart. RestartSteps alive contents new.fault before restart old.disk after new.disk) → Moves before after w
     restarts None there h = absurd (never (sym there))
-    restarts (Some restart) there h = from_restart before after (Some h.now) w (enters facts h.reached new.fault (record before { restart = Some h.now }) after w ok (with_restart before (Some h.now) w t) h.enters)
+    restarts (Some restart) there h = from_restart before after (Some h.now) w (enters facts h.reached new.fault (record before { restart = Some h.now }) after w (with_restart before (Some h.now) w t) h.enters)
 
     own_goes : TakesOwn directory alive contents new.fault old.crew old.disk event (length new.journal.items) taken.failed new.crew new.disk → (event / 64 ≡ 0) ⊎ ((event / 64 ≡ 1) ⊎ ((event / 64 ≡ 2) × (is_some old.crew.restart ≡ true))) → event % 64 ≡ 0 → Moves before after w
-    own_goes e (inl first) own = begins (subst (λ (z : Option RunFault). BeginsOrNot directory z old.crew event (length new.journal.items) new.crew) ok (e.begins (own_number event 0 own first)))
-    own_goes e (inr (inl second)) own = stays before after w (facts.fails (fail_counted before) after w (e.fails (own_number event 1 own second)).1 (counted before w t))
+    own_goes e (inl first) own = begins new.fault refl (e.begins (own_number event 0 own first))
+    own_goes e (inr (inl second)) own =
+        let fails : GroupFails (fail_counted before) after = (e.fails (own_number event 1 own second)).1 in
+        stays before after w (ap (λ (z : CrewState). length z.facility.locks.entries) fails.rest) (facts.fails (fail_counted before) after w fails (counted before w t))
     own_goes e (inr (inr third)) own = restarts old.crew.restart third.1 (e.goes (own_number event 2 own third.0))
 
     at : ℕ
@@ -283,7 +286,7 @@ events_move {C} {D} P directory alive contents count facts old new event w taken
             → ComesAt old.crew.script old.crew.progress.begun old.crew.sizes.sizes (event / 64) x u before.fates (length new.journal.items) e.stepped y v after.fates → Moves before after w
         by None y had has c = absurd c
         by (Some m) None had has c = absurd c
-        by (Some m) (Some n) had has c = comes facts before after w t unsaid at m n (record {
+        by (Some m) (Some n) had has c = comes facts before after w t adopted at m n (record {
           had = had;
           has = has;
           count = some_at after.members before.members each;
@@ -296,3 +299,10 @@ events_move {C} {D} P directory alive contents count facts old new event w taken
               | inl same ↦ subst (λ z. is_some (slice_get after.members z) ≡ is_some (slice_get before.members z)) (sym same) (ap (λ (z : Option Member). is_some z) has ∙ sym (ap (λ (z : Option Member). is_some z) had))
               | inr ne ↦ ap (λ (z : Option Member). is_some z) (others k ne)
             ]
+
+    member_takes : (why : Option RunFault) → new.fault ≡ why → TakesMember directory alive contents why old.crew old.disk at (event / 64) (length new.journal.items) taken.failed new.crew new.disk → Moves before after w
+    member_takes None left e = member_goes e
+    member_takes (Some (fault.Damaged volume offset)) left e = member_goes e
+    member_takes (Some (fault.Unlawful refused)) left e = absurd (lawful refused left)
+    member_takes (Some fault.Failed) left e = absurd e
+    member_takes (Some fault.NoMemory) left e = absurd e

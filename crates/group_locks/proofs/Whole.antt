@@ -21,6 +21,7 @@ use Rattle.lock_world.specs.Failing.{BeginsAnew, KnowsNone}
 use Rattle.lock_world.specs.Tied.{Moved}
 use Rattle.lock_members.specs.Known.{LeadsTo}
 use Rattle.lock_members.specs.Members.{FailuresGo}
+use Rattle.marks_law.specs.Free.{FreeBegin}
 use Rattle.marks_law.specs.Slots.{SlotsBegin}
 use Rattle.group_locks.specs.Stands.{LocksTied, MemberStands, known, known_by}
 use Rattle.group_locks.specs.Whole.{AnewMoves, GroupFailsTied, MemberFailsMoves}
@@ -67,10 +68,12 @@ up_or_down false s e r = cc
 pub record AnewFacts : Type 0 where
   pub run : RunKeepsSound
   pub begin : SlotsBegin
+  pub free : FreeBegin
   pub anew : BeginsAnew
 
 pub anew : AnewFacts → AnewMoves
 anew facts old new counter w t b = record {
+  entries = moved.same;
   moves = GroupFail ∷ [];
   world = moved.world;
   run = moved.run;
@@ -121,7 +124,7 @@ anew facts old new counter w t b = record {
 
     stands_at : (at : ℕ) (x : Option Member) → slice_get new.members at ≡ x → IfSome x (MemberStands new.facility (at + 1))
     stands_at at None e = tt
-    stands_at at (Some m) e = down_stands facts.begin new.facility (at + 1) m old.sizes (is_down at m e) (id_at at m e) t.agents (moved.same ∙ t.entries)
+    stands_at at (Some m) e = down_stands facts.begin facts.free new.facility (at + 1) m old.sizes (is_down at m e) (id_at at m e) t.agents (moved.same ∙ t.entries)
         (up_or_down (nat_le (at + 1) new.facility.lists.members) (status_of new.facility.lists.statuses (at + 1))
         (subst (λ z. status_of new.facility.lists.statuses (at + 1) ≡ (if nat_le (at + 1) z then Up else Down)) (sym members) (b.facility.lists_new.statuses.each (at + 1) (within new.members at m new.facility.lists.members e (long ∙ t.count ∙ sym members) few))))
 
@@ -148,10 +151,12 @@ less_one at id e = omega (arith, e)
 pub record FailFacts : Type 0 where
   pub run : RunKeepsSound
   pub begin : SlotsBegin
+  pub free : FreeBegin
   pub fails : FailuresGo
 
 pub member_fails : FailFacts → MemberFailsMoves
 member_fails facts old new at m n w t f = record {
+  entries = moved.same;
   moves = Fail m.id ∷ [];
   world = moved.world;
   run = moved.run;
@@ -212,7 +217,7 @@ member_fails facts old new at m n w t f = record {
     on k (Some x) ne h = stands_on old.facility new.facility (k + 1) x h f.failed.locks.same (status_apart k ne)
 
     here : MemberStands new.facility (at + 1) n
-    here = down_stands facts.begin new.facility (at + 1) n old.sizes f.down (f.same ∙ stood.id) t.agents (f.failed.locks.same ∙ t.entries) status_there
+    here = down_stands facts.begin facts.free new.facility (at + 1) n old.sizes f.down (f.same ∙ stood.id) t.agents (f.failed.locks.same ∙ t.entries) status_there
 
     stands_at : (k : ℕ) → IfSome (slice_get new.members k) (MemberStands new.facility (k + 1))
     stands_at k = elim (cases_eq k at) [

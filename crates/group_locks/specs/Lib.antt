@@ -8,4 +8,6 @@ pub mod Phases
 pub mod Restarts
 pub mod Resting
 pub mod Taken
+pub mod Agreeing
+pub mod Runs
 pub mod Handing

@@ -9,10 +9,9 @@ use Rattle.group_member.specs.Members.{Member}
 use Rattle.group_crew.specs.States.{CrewState}
 use Rattle.lock_protocol.specs.Machine.{World}
 use Rattle.group_locks.specs.Events.{Moves}
-use Rattle.group_locks.specs.Stands.{FreeClaimsNothing, LocksTied}
+use Rattle.group_locks.specs.Stands.{LocksTied}
 
--- The member at this place is up, and has made an event in which it didn't fail. No other has changed. Behind it a slot without a transaction
--- claims nothing.
+-- The member at this place is up, and has made an event in which it didn't fail. No other has changed.
 pub record StepsAt (old new : CrewState) (at : ℕ) (m n : Member) : Type 0 where
   pub had : slice_get old.members at ≡ Some m
   pub has : slice_get new.members at ≡ Some n
@@ -25,7 +24,6 @@ pub record StepsAt (old new : CrewState) (at : ℕ) (m n : Member) : Type 0 wher
   pub place : ℕ
   pub stepped : Stepped
   pub steps : Steps m (record { facility = old.facility; drive = drive }) old.fates place stepped n (record { facility = new.facility; drive = left }) new.fates
-  pub free : FreeClaimsNothing n.holds.marks
 
 abbrev pub MemberStepsMoves : Type 0
 MemberStepsMoves = (old new : CrewState) (at : ℕ) (m n : Member) (w : World) → LocksTied old w → StepsAt old new at m n → Moves old new w

@@ -1,9 +1,10 @@
 -- The events of a restart, in its group.
-use Rattle.std.specs.Prelude.{◌≡◌, ◌≢◌, ℕ, false, Some, length, slice_get}
+use Rattle.std.specs.Prelude.{◌≡◌, ◌≢◌, ℕ, true, false, Some, is_some, length, slice_get}
 use Rattle.list_structure.specs.declared.standing.MemberStatus.TheVariants.{Restarting}
 use Rattle.list_structure.specs.Standings.{status_of}
 use Rattle.member_intents.specs.declared.outcome.Answered.{Answered}
 use Rattle.member_resources.specs.Events.{Drive}
+use Rattle.restart_marks.specs.Adopt.{adopted_told}
 use Rattle.restart_marks.specs.declared.intent.RestartSent.{RestartSent}
 use Rattle.restart_records.specs.Trans.{opened_among}
 use Rattle.group_member.specs.declared.stepped.Stepped.TheVariants as steps
@@ -15,15 +16,15 @@ use Rattle.lock_protocol.specs.Machine.{World, given_up}
 use Rattle.lock_restarts.specs.Changes.{gone_by}
 use Rattle.group_locks.specs.Adopting.{HaveClaimed}
 use Rattle.group_locks.specs.Events.{Moves}
-use Rattle.group_locks.specs.Stands.{FreeClaimsNothing, LocksTied}
+use Rattle.group_locks.specs.Stands.{LocksTied}
 
 -- the world without the member's claims on names whose retained records the restart has freed
 abbrev pub freed_world : World → ℕ → RestartSent → World
 freed_world w m x = given_up w m (λ o c. gone_by x c)
 
--- The member at this place restarts, and its restart has made an event, in which no call of the disk failed. No other member has changed. Behind
--- it a slot without a transaction claims nothing. Where the restart isn't over, each transaction that it leaves open has claims in the world
--- on all that it has changed, and none of them on a name whose record the event has freed.
+-- The member at this place restarts, and its restart has made an event, in which no call of the disk failed. No other member has changed. Where
+-- the restart isn't over, and hands over to its member what it leaves open, each of these transactions has claims in the world on all that it
+-- has changed, and none of them on a name whose record the event has freed.
 pub record RestartStepsAt (old new : CrewState) (at : ℕ) (m n : Member) (w : World) : Type 0 where
   pub had : slice_get old.members at ≡ Some m
   pub has : slice_get new.members at ≡ Some n
@@ -38,8 +39,8 @@ pub record RestartStepsAt (old new : CrewState) (at : ℕ) (m n : Member) (w : W
   pub answered : Answered
   pub unfailed : is_failure answered ≡ false
   pub made : Steps m (record { facility = old.facility; drive = drive }) old.fates place (steps.Restart sent answered) n (record { facility = new.facility; drive = left }) new.fates
-  pub free : FreeClaimsNothing n.holds.marks
-  pub opened : made.makes.reached.resources.marks.is_up ≡ false → HaveClaimed (freed_world w m.id sent) m.id (opened_among made.makes.reached.resources.marks.trans.list)
+  pub opened : made.makes.reached.resources.marks.is_up ≡ false → is_some (adopted_told made.makes.reached.resources.marks) ≡ true
+      → HaveClaimed (freed_world w m.id sent) m.id (opened_among made.makes.reached.resources.marks.trans.list)
 
 abbrev pub RestartStepsMove : Type 0
 RestartStepsMove = (old new : CrewState) (at : ℕ) (m n : Member) (w : World) → LocksTied old w → RestartStepsAt old new at m n w → Moves old new w

@@ -5,9 +5,6 @@ use Rattle.list_structure.specs.declared.standing.MemberStatus.TheVariants.{Up, 
 use Rattle.list_structure.specs.Standings.{status_of, is_live}
 use Rattle.lock_manager.specs.Managers.{Book}
 use Rattle.facility.specs.States.{Held}
-use Rattle.member_trans.specs.Trans.{is_free}
-use Rattle.member_marks.specs.State.{MarksState, slot_tran}
-use Rattle.member_marks.specs.Claims.{is_agent}
 use Rattle.restart_marks.specs.State.{RestartState}
 use Rattle.group_member.specs.declared.restarting.Restarting.{Restarting as RestartHeld}
 use Rattle.group_member.specs.Members.{Member}
@@ -18,6 +15,7 @@ use Rattle.lock_protocol.specs.Sound.{Sound}
 use Rattle.lock_world.specs.Books.{IsBook}
 use Rattle.lock_world.specs.Tied.{Claims, Tied}
 use Rattle.lock_world.specs.Views.{entry_in, claim_in}
+use Rattle.marks_law.specs.Free.{FreeHoldNothing}
 use Rattle.marks_law.specs.Slots.{SlotsStand}
 use Rattle.lock_members.specs.Known.{known_of}
 use Rattle.lock_restarts.specs.Courses.{HasHandedOver, IsInOrder}
@@ -35,10 +33,6 @@ known members (suc at) o c = known_by (slice_get members at) o c
 
 abbrev pub ClaimsNothing : Book → Type 0
 ClaimsNothing b = (o c : ℕ) → claim_in b o c ≡ None
-
--- a slot without a transaction has no claims
-abbrev pub FreeClaimsNothing : MarksState → Type 0
-FreeClaimsNothing s = (slot c : ℕ) → is_agent s slot ≡ true → is_free (slot_tran s slot).stage ≡ true → claim_in s.locks slot c ≡ None
 
 -- The restart in hand isn't over. What it has taken out of itself is the member's rollbacks': then it has no open transaction left, and
 -- needs no page. As long as it has, the member's lock manager has nothing.
@@ -61,7 +55,7 @@ pub record MemberStands (f : Held) (k : ℕ) (m : Member) : Type 0 where
   pub size : m.holds.marks.locks.entries ≡ length f.locks.entries
   pub book : IsBook m.holds.marks.locks
   pub slots : SlotsStand m.holds.marks
-  pub free : FreeClaimsNothing m.holds.marks
+  pub free : FreeHoldNothing m.holds.marks
   pub up : status_of f.lists.statuses k ≡ Up → m.restart ≡ None
   pub restarts : status_of f.lists.statuses k ≡ Restarting → is_some m.restart ≡ true
   pub rests : RestsIdle m

@@ -6,26 +6,28 @@
 #![tactic(auto)]
 
 ghost use Rattle.group_locks.specs.Adopting.{AdoptionsGo};
+ghost use Rattle.group_locks.specs.Agreeing.{TiedAgree};
 ghost use Rattle.group_locks.specs.Beginning.{StartsTied};
 ghost use Rattle.group_locks.specs.Handing.{HandsOnMoves};
 ghost use Rattle.group_locks.specs.Members.{MemberStepsMoves};
 ghost use Rattle.group_locks.specs.Phases.{PhasesMove};
 ghost use Rattle.group_locks.specs.Resting.{RestingStepsMove};
 ghost use Rattle.group_locks.specs.Restarts.{RestartStepsMove};
+ghost use Rattle.group_locks.specs.Runs.{PlainRunsStand, RunsStand};
 ghost use Rattle.group_locks.specs.Taken.{EventsMove};
 ghost use Rattle.group_locks.specs.Whole.{AnewMoves, GroupFailsTied, MemberFailsMoves};
 
 use cache_structure::CacheFace;
 use ds_disk::Disk;
 use lock_events::{commands_stay, events_go};
-use lock_members::{members_fail, members_go};
-use lock_protocol::keeps_sound;
+use lock_members::{members_fail, members_go, members_keep_free};
+use lock_protocol::{claims_give, keeps_sound};
 use lock_restarts::{restarts_follow, restarts_go};
 use lock_world::{
     books_change, books_tell, failures_are_moves, groups_begin, names_have_numbers,
     queries_are_moves, rollbacks_are_moves, rollbacks_change,
 };
-use marks_law::{claims_stay, slots_stay};
+use marks_law::{claims_stay, free_slots_stay, slots_stay};
 use needs_law::sends_lawfully;
 
 /// A group that is as it was made stands beside the start of the world of locks.
@@ -33,6 +35,7 @@ pub fn groups_start()
     ensures { StartsTied }
 {
     slots_stay();
+    free_slots_stay();
     keeps_sound();
     groups_begin();
 }
@@ -43,6 +46,7 @@ pub fn groups_go()
     ensures anew { AnewMoves }
 {
     slots_stay();
+    free_slots_stay();
     keeps_sound();
     groups_begin();
 }
@@ -52,6 +56,7 @@ pub fn member_failures_go()
     ensures { MemberFailsMoves }
 {
     slots_stay();
+    free_slots_stay();
     keeps_sound();
     members_fail();
 }
@@ -62,6 +67,7 @@ pub fn member_steps_go()
 {
     keeps_sound();
     members_go();
+    members_keep_free();
 }
 
 /// The claims of a member that has failed may be handed on to the rollbacks that its transactions are from then on.
@@ -107,6 +113,7 @@ pub fn member_restarts_go()
     restarts_go();
     restarts_follow();
     adoptions_go();
+    members_keep_free();
 }
 
 /// Its other events while it restarts, in which it answers queries, asks and rebuilds the cache, are moves too.
@@ -123,10 +130,11 @@ pub fn resting_members_go()
     claims_stay();
     commands_stay();
     sends_lawfully();
+    members_keep_free();
 }
 
-/// Any event of a group, in which no fault is left, is moves, behind which the group still stands beside a sound world, given what no contract
-/// says yet.
+/// Any event of a group, unless it is refused, is moves, behind which the group still stands beside a sound world, given the claims of the
+/// transactions that a restart hands over to its member.
 pub fn groups_step<D: Disk, C: CacheFace, P>()
     ensures { EventsMove P C.directory D.alive D.contents D.faults }
 {
@@ -136,4 +144,23 @@ pub fn groups_step<D: Disk, C: CacheFace, P>()
     member_steps_go();
     member_restarts_go();
     resting_members_go();
+}
+
+/// In a group that stands beside a sound world no two claims that its members know of conflict, and each stands behind what the lock table
+/// has for its member.
+pub fn claims_agree()
+    ensures { TiedAgree }
+{
+    claims_give();
+}
+
+/// Wherever events lead a group that has just started, none refused, it stands beside a sound world that moves lead to from the start, and
+/// its claims agree: if its events find the claims of the transactions that restarts hand over, and so if no restart hands any over.
+pub fn groups_run<D: Disk, C: CacheFace, P>()
+    ensures runs { RunsStand P C.directory D.alive D.contents D.faults }
+    ensures plain { PlainRunsStand P C.directory D.alive D.contents D.faults }
+{
+    groups_start();
+    claims_agree();
+    groups_step::<D, C, P>();
 }

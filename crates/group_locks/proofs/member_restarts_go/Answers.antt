@@ -15,4 +15,5 @@ returns c = restart_steps (record {
   follow = c.restarts_follow.ensures.follows;
   standings = c.restarts_follow.ensures.standings;
   adopt = c.adoptions_go.ensures;
+  keep = c.members_keep_free.ensures;
 })

@@ -10,6 +10,7 @@ returns c = resting_steps (record {
   reach = c.slots_stay.ensures.local;
   slots = c.slots_stay.ensures.event;
   command = c.commands_stay.ensures.command;
+  keep = c.members_keep_free.ensures;
   answer = record {
     numbers = c.names_have_numbers.ensures;
     stay = c.groups_begin.ensures.stays;
