@@ -124,8 +124,8 @@ one_more at row table n id page b i p t e h k from lt =
     elim (cases_lt k n) as (λ _. PageHasAt at row table k) [
       | inl less ↦ h k from less
       | inr up ↦
-        let same : k ≡ n = omega (arith, lt, up) in
-        subst (λ (m : ℕ). PageHasAt at row table m) (sym same) (subst (λ (q : PageId). PageHas row (at q)) i (subst (λ (l : List ℕ). PageHas row l) p (t.0 e)))
+          let same : k ≡ n = omega (arith, lt, up) in
+          subst (λ (m : ℕ). PageHasAt at row table m) (sym same) (subst (λ (q : PageId). PageHas row (at q)) i (subst (λ (l : List ℕ). PageHas row l) p (t.0 e)))
     ]
 
 pub one_other : (at : Images) (row : ℕ → Option (List ℕ)) (table n : ℕ) (id : PageId) (page : List ℕ) (b : Bool) → id ≡ heap_page table n → page ≡ at id → IsTrue b ↔ PageHas row page → b ≡ false
@@ -135,8 +135,8 @@ one_other at row table n id page b i p t e h =
     record {
       id_is = i ∙ ap (λ (m : ℕ). heap_page table m) (sym number);
       other = λ s.
-        let there : PageHas row (at (heap_page table n)) = subst (λ (m : ℕ). PageHasAt at row table m) number s in
-        let is = t.1 (subst (λ (l : List ℕ). PageHas row l) (sym p) (subst (λ (q : PageId). PageHas row (at q)) (sym i) there)) in absurd (cc (is, e));
+          let there : PageHas row (at (heap_page table n)) = subst (λ (m : ℕ). PageHasAt at row table m) number s in
+          let is = t.1 (subst (λ (l : List ℕ). PageHas row l) (sym p) (subst (λ (q : PageId). PageHas row (at q)) (sym i) there)) in absurd (cc (is, e));
       before = λ k from less. h k from (omega (arith, less, number));
     }
 
@@ -147,11 +147,11 @@ page_same f g page same h s lt key e = h s lt key e ∙ ap (λ (o : Option (List
 
 one_told : (records : List LogRecord) (rows : Rows) (table last : ℕ) (found : Option PageId) → IsHeap (images_of records) table → AreRowsAfter records rows → last ≡ heap_last (images_of records) table
     → IsFoundFrom (images_of records) (rows_in rows table) table last found → IsTold (images_of records) records table found
-one_told records rows table last None heap same l h key place g =
+one_told records rows table last None heap same l h = λ key place g.
     of_pages (images_of records) (rows_in rows table) table heap (λ n from to. h n from (omega (arith, to, l))) key place g ∙ ap (λ (o : Option (List ℕ)). Some (key, o)) (same table key)
 one_told records rows table last (Some id) heap same l h =
     let back : (n : ℕ) → PageHasAt (images_of records) (row_after records table) table n → PageHasAt (images_of records) (rows_in rows table) table n =
-      λ n. page_same (row_after records table) (rows_in rows table) (images_of records (heap_page table n)) (λ key. sym (same table key)) in
+    λ n. page_same (row_after records table) (rows_in rows table) (images_of records (heap_page table n)) (λ key. sym (same table key)) in
     record {
       none = λ all. h.other (back id.number (page_of (images_of records) (row_after records table) table id.number all));
       first = record {

@@ -1,16 +1,18 @@
 -- The tests of slots, and how many a page can have.
-use Rattle.std.proofs.Common.{◌≡◌, ◌↔◌, ℕ, ◌+◌, ◌<◌, ◌≤◌, Bool, true, false, List, Option, Some, None, refl, sym, ap, subst, ◌∙◌, arith}
-use Rattle.std.specs.Prelude.{nat_lt, IsTrue, is_none}
+use Rattle.std.proofs.Common.{◌≡◌, ◌↔◌, ℕ, Bool, true, false, List, Option, Some, None, refl, sym, ap, subst, ◌∙◌, arith}
+use Rattle.std.specs.Prelude.{IsTrue, is_none}
 use Rattle.std.specs.Str.{bytes_eq}
 use Rattle.std.proofs.lemmas.Slice.Eq.{bytes_eq-Decides}
 use Rattle.heap_space.specs.Slots.{Content, content, slot_in}
 use Rattle.sound_disk.specs.Rows_there.{key_in}
-use Rattle.table_pages.proofs.Booleans.{decide, below, last_of}
 use Rattle.heap_rows.specs.Maps.{is_value, agrees}
 use Rattle.heap_rows.specs.Rows_left.{SlotHas}
 
 abbrev Row : Type 0
 Row = Option (List ℕ)
+
+abbrev filled : ℕ → Row → Content
+filled k row = Some (k, row)
 
 -- what the content of a slot is to be
 abbrev Has : (ℕ → Row) → Content → Type 0
@@ -30,17 +32,21 @@ is_itself value = (bytes_eq-Decides value value).1 refl
 same_key : (k key : ℕ) → Some k ≡ Some key → k ≡ key
 same_key k key e = cc
 
-same_row : (k j : ℕ) (a b : Row) → (Some (k, a) : Content) ≡ Some (j, b) → a ≡ b
-same_row k j a b e = cc
+abbrev row_in : Content → Row
+row_in None = None
+row_in (Some row) = row.1
+
+same_row : (k j : ℕ) (a b : Row) → filled k a ≡ filled j b → a ≡ b
+same_row k j a b e = ap row_in e
 
 has : (row : ℕ → Row) (c : Content) → agrees row c ≡ true → Has row c
 has row None h key e = absurd cc
 has row (Some (k, None)) h key e =
-    subst (λ (j : ℕ). (Some (k, None) : Content) ≡ Some (j, row j)) (same_key k key e)
-    (ap (λ (o : Row). (Some (k, o) : Content)) (sym (none_is (row k) h)))
+    subst (λ (j : ℕ). filled k None ≡ filled j (row j)) (same_key k key e)
+    (ap (filled k) (sym (none_is (row k) h)))
 has row (Some (k, Some v)) h key e =
-    subst (λ (j : ℕ). (Some (k, Some v) : Content) ≡ Some (j, row j)) (same_key k key e)
-    (ap (λ (o : Row). (Some (k, o) : Content)) (sym (value_is (row k) v h)))
+    subst (λ (j : ℕ). filled k (Some v) ≡ filled j (row j)) (same_key k key e)
+    (ap (filled k) (sym (value_is (row k) v h)))
 
 had : (row : ℕ → Row) (c : Content) → Has row c → agrees row c ≡ true
 had row None h = refl
@@ -51,9 +57,3 @@ pub slot_told : (row : ℕ → Row) (page : List ℕ) (slot : ℕ) (c : Content)
 slot_told row page slot c b e i =
     let told : b ≡ agrees row (content (slot_in page slot)) = e ∙ ap (agrees row) i in
     (λ t. has row (content (slot_in page slot)) (sym told ∙ t), λ h. told ∙ had row (content (slot_in page slot)) h)
-
-pub slots_more : (row : ℕ → Row) (page : List ℕ) (n : ℕ) (b : Bool) → IsTrue b ↔ SlotHas row page n → b ≡ true → ((s : ℕ) → s < n → SlotHas row page s) → (s : ℕ) → s < n + 1 → SlotHas row page s
-slots_more row page n b t e h s lt =
-    decide (nat_lt s n) (SlotHas row page s)
-    (λ l. h s (below s n l))
-    (λ l. subst (λ (m : ℕ). SlotHas row page m) (sym (last_of s n lt l)) (t.0 e))
