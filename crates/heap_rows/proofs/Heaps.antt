@@ -23,7 +23,7 @@ use Rattle.sound_disk.specs.Rows_there.{row_after, said_at, IsPlaceOf}
 use Rattle.table_pages.proofs.Booleans.{and_left, and_right, equal, le_of}
 use Rattle.table_pages.proofs.Kind_tests.{count_within}
 use Rattle.heap_rows.specs.Maps.{rows_in, AreRowsAfter}
-use Rattle.heap_rows.specs.Rows_left.{PageHas, PageHasAt, IsFirstOther, IsFoundFrom, HasRowsLeft, IsTold}
+use Rattle.heap_rows.specs.Rows_left.{PageHas, PageHasAt, IsFirstOther, IsFoundFrom, IsTold}
 
 -- ---- pages without slots
 

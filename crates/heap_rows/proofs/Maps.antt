@@ -1,5 +1,5 @@
 -- The map has the rows that the records left.
-use Rattle.std.proofs.Common.{◌≡◌, ℕ, Bool, cond, List, [], ◌∷◌, Option, Some, None, Result, Ok, Err, refl, sym, ap, ◌∙◌, arith}
+use Rattle.std.proofs.Common.{◌≡◌, ℕ, Bool, cond, List, [], ◌∷◌, Option, Some, None, Result, Ok, Err, refl, ap, ◌∙◌, arith}
 use Rattle.std.specs.Prelude.{◌==◌, ◌&&◌, IfOk}
 use Rattle.std.specs.Ordering.{nat_cmp, eq_by_cmp, is_eq, ordering_then}
 use Rattle.std.specs.declared.cmp.Ordering.{Ordering}
@@ -11,8 +11,8 @@ use Rattle.ds_model.specs.declared.log.Body.{Body}
 use Rattle.ds_model.specs.declared.log.Body.TheVariants as body
 use Rattle.ds_model.specs.Rows.{Rows, spot_cmp, spot_cmp_total}
 use Rattle.ds_model.specs.Logs.{set_row}
-use Rattle.sound_disk.specs.Rows_there.{row_with, row_from, row_after}
-use Rattle.heap_rows.specs.Maps.{rows_with, rows_from, rows_in, AreRowsAfter}
+use Rattle.sound_disk.specs.Rows_there.{row_with, row_from}
+use Rattle.heap_rows.specs.Maps.{rows_with, rows_from, AreRowsAfter}
 
 -- ---- spots
 

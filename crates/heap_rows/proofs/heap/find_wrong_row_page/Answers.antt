@@ -1,4 +1,4 @@
-use Rattle.std.proofs.Common.{List, ℕ, ap, ◌∙◌}
+use Rattle.std.proofs.Common.{ap, ◌∙◌}
 use Rattle.ds_base.specs.declared.names.PageId.{PageId}
 use Rattle.heap_space.specs.Next.{last_page_of}
 use Rattle.page_chain.specs.Chains.{version_of}
