@@ -16,6 +16,7 @@ use index_leaf::next_page;
 use log_record::LogRecord;
 use page_chain::chain_laws;
 use page_format::Page;
+use page_images::header_laws;
 use std::alloc::Global;
 use table_images::image_of;
 
@@ -64,6 +65,7 @@ pub fn find_wrong_link_page(
     ensures { IfOk result (λ found. IsTold (images_of records.now) records.now table found) }
 {
     chain_laws();
+    header_laws();
     let header = image_of(alloc, table.index_page(0), records)?;
     let next = next_page(&header);
     let nodes = read_nodes(alloc, table, records, next)?;
