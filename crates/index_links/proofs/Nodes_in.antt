@@ -1,7 +1,8 @@
 -- The nodes that are read, by page number.
-use Rattle.std.proofs.Common.{◌≡◌, ℕ, zero, suc, ◌+◌, ◌-◌, ◌<◌, ◌≤◌, Bool, true, false, ◌&&◌, List, [], ◌∷◌, ◌++◌, Option, Some, None, refl, sym, ap, subst, ◌∙◌, arith, inl, inr, append_assoc, append_nil}
+use Rattle.std.proofs.Common.{◌≡◌, ℕ, zero, suc, ◌+◌, ◌-◌, ◌<◌, ◌≤◌, Bool, true, false, ◌&&◌, List, [], ◌∷◌, ◌++◌, Option, Some, None, refl, sym, ap, subst, ◌∙◌, arith, inl, inr, append_assoc}
 use Rattle.std.specs.Prelude.{◌==◌, if◌then◌else◌, slice_get}
 use Rattle.std.proofs.lemmas.Bool.{cases_lt}
+use Rattle.std.proofs.lemmas.List.{append-nil}
 use Rattle.ds_base.specs.Pages.{index_page}
 use Rattle.index_leaf.specs.Entries.{low_of}
 use Rattle.index_leaf.specs.Search.{is_branch}
@@ -24,7 +25,7 @@ pub nodes_more : (at : Images) (table first next : ℕ) (nodes : List Node) (nod
     → nodes ++ nodes_from at table first (next - first) ≡ all → (nodes ++ node ∷ []) ++ nodes_from at table (first + 1) (next - (first + 1)) ≡ all
 nodes_more at table first next nodes node all lt e h =
     let rest : List Node = nodes_from at table (first + 1) (next - (first + 1)) in
-    append_assoc {a = nodes} {b = node ∷ []} {c = rest}
+    append_assoc nodes (node ∷ []) rest
     ∙ ap (λ (x : Node). nodes ++ x ∷ rest) e
     ∙ ap (λ (xs : List Node). nodes ++ xs) (sym (from_step at table first (next - first) (next - (first + 1)) (omega (arith, lt))))
     ∙ h
@@ -32,7 +33,7 @@ nodes_more at table first next nodes node all lt e h =
 pub nodes_read : (at : Images) (table first next : ℕ) (nodes all : List Node) → next ≤ first → nodes ++ nodes_from at table first (next - first) ≡ all → nodes ≡ all
 nodes_read at table first next nodes all le h =
     let none : next - first ≡ 0 = omega (arith, le) in
-    sym (ap (λ (m : ℕ). nodes ++ nodes_from at table first m) none ∙ append_nil nodes) ∙ h
+    sym (ap (λ (m : ℕ). nodes ++ nodes_from at table first m) none ∙ append-nil nodes) ∙ h
 
 -- ---- by number
 
