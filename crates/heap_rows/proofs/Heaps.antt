@@ -40,7 +40,7 @@ zero_from (suc n) i xs h =
     let none = zero-mul (256 ^ n) in
     ap (λ (b : ℕ). b * 256 ^ n + big_from (suc i) n xs) (h i) ∙ omega (arith, rest, none)
 
-blank_count : (page : List ℕ) → is_zeros page ≡ true → count_in page ≡ 0
+pub blank_count : (page : List ℕ) → is_zeros page ≡ true → count_in page ≡ 0
 blank_count page h = zero_from 2 0 (drop 26 page) (λ k. get_or-drop 26 page k 0 ∙ byte_none page (26 + k) h)
 
 none_first : (b : Bool) (at : ℕ) (rest : Option ℕ) → (if b then rest else Some at) ≡ None → b ≡ true
@@ -90,10 +90,10 @@ within id page h = count_within kind.Heap page id some_slots h.kind_is
 
 -- ---- the heap
 
-no_slot : (at : Images) (table key : ℕ) (place : Place) → IsPlaceOf at table key place → count_in (at (heap_page table place.page)) ≡ 0 → ⊥
+pub no_slot : (at : Images) (table key : ℕ) (place : Place) → IsPlaceOf at table key place → count_in (at (heap_page table place.page)) ≡ 0 → ⊥
 no_slot at table key place h e = let lt = h.given in absurd (omega (arith, lt, e))
 
-in_first : (at : Images) (table p : ℕ) → IsHeap at table → p < 1 → count_in (at (heap_page table p)) ≡ 0
+pub in_first : (at : Images) (table p : ℕ) → IsHeap at table → p < 1 → count_in (at (heap_page table p)) ≡ 0
 in_first at table p h lt =
     let z : p ≡ 0 = omega (arith, lt) in
     ap (λ (m : ℕ). count_in (at (heap_page table m))) z ∙ first_count (at (heap_page table 0)) (heap_page table 0) h.header
