@@ -1,6 +1,6 @@
 pub mod Chains
 pub mod Kinds_in
-pub mod Entries_in
+pub mod Found
 pub mod Nodes_in
 pub mod Rights
 pub mod Untouched

@@ -23,7 +23,7 @@ use Rattle.index_links.specs.Nodes.{node_of}
 use Rattle.index_links.specs.Links.{node_at, is_at, begins, goes_on, leads_on, has_right, rights_from, reached_in, node_stands, leads_down, starts, entries_stand, page_stands}
 use Rattle.index_links.proofs.Chains.{IsLinked, LeftOf, left_of}
 use Rattle.index_links.proofs.Kinds_in.{InIndex, named, named_made, branch_is, leaf_is, made_inside, inside_named, inside_made}
-use Rattle.index_links.proofs.Entries_in.{found, find_it, starts_found, found_starts, LedBy, led, led_any, none_led, no_lead}
+use Rattle.index_links.proofs.Found.{found, find_it, starts_found, found_starts, LedBy, led, led_any, none_led, no_lead}
 use Rattle.index_links.proofs.Nodes_in.{nodes_of, IsThere, there, is_there, kind_there, there_kind, got_in, got_is, get_in}
 use Rattle.index_links.proofs.Rights.{HasLeft, reached_left, left_reached}
 use Rattle.index_links.proofs.Untouched.{last_unmade, last_made}
