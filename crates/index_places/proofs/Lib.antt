@@ -1,3 +1,3 @@
-pub mod Slots
+pub mod Heap_slots
 pub mod Maps
 pub mod Whole

@@ -15,8 +15,8 @@ use Rattle.index_leaf.specs.Entries.{entries_of}
 use Rattle.index_leaf.specs.Search.{is_branch}
 use Rattle.page_images.specs.Images.{Images}
 use Rattle.table_pages.proofs.Booleans.{and_left, and_right, and_both, equal, itself}
-use Rattle.index_places.specs.declared.given.Given.{Given}
-use Rattle.index_places.specs.Given.{Places, places_from, same_place, is_place, entered_with, entered_by, entered_before}
+use Rattle.index_places.specs.declared.slots.Given.{Given}
+use Rattle.index_places.specs.Placing.{Places, places_from, same_place, is_place, entered_with, entered_by, entered_before}
 
 -- ---- places
 

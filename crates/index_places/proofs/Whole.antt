@@ -21,8 +21,8 @@ use Rattle.table_pages.proofs.Nodes.{each_passes, all_pass}
 use Rattle.index_links.specs.Opens.{Opens}
 use Rattle.index_links.proofs.Kinds_in.{InIndex, named, named_made, leaf_is, made_inside, inside_named}
 use Rattle.index_links.proofs.Found.{found, find_it}
-use Rattle.index_places.specs.declared.given.Given.{Given}
-use Rattle.index_places.specs.Given.{Places, places_from, is_place, leads, is_reached, leaf_leads, entered_before, AreGiven}
+use Rattle.index_places.specs.declared.slots.Given.{Given}
+use Rattle.index_places.specs.Placing.{Places, places_from, is_place, leads, is_reached, leaf_leads, entered_before, AreGiven}
 use Rattle.index_places.proofs.Maps.{place_is, is_it, slot_of, places_get, places_has, entry_at, IsEntered, entered_get, entered_has}
 
 -- ---- a key's leaf

@@ -4,11 +4,11 @@ ghost use Rattle.ds_model.specs.RecordBytes.{IsAllowed};
 ghost use Rattle.page_chain.specs.Chains.{images_of};
 ghost use Rattle.sound_disk.specs.Heaps.{IsHeap};
 ghost use Rattle.sound_disk.specs.Indexes.{AreIndexPages, index_next};
-ghost use Rattle.index_places.specs.Given.{AreGiven};
+ghost use Rattle.index_places.specs.Placing.{AreGiven};
 ghost use Rattle.index_places.specs.Whole.{IsWholeTold, IsIndexTold};
 ghost use Rattle.index_links.specs.Opens.{Opens};
 
-use crate::given::{Given, given_in, places_of};
+use crate::slots::{Given, given_in, places_of};
 use crate::leaves::{are_reached, entered_in};
 use ds_base::{NoMemory, PageId, TableId};
 use index_leaf::next_page;

@@ -4,9 +4,9 @@ ghost use Rattle.std.specs.FinMap as finite;
 ghost use Rattle.ds_model.specs.RecordBytes.{IsAllowed};
 ghost use Rattle.page_chain.specs.Chains.{images_of};
 ghost use Rattle.sound_disk.specs.Indexes.{AreIndexPages, IsNodePage, index_next};
-ghost use Rattle.index_places.specs.Given.{same_place, is_place, leads, entered_with, leaf_leads, entered_by, AreEntered, is_reached};
+ghost use Rattle.index_places.specs.Placing.{same_place, is_place, leads, entered_with, leaf_leads, entered_by, AreEntered, is_reached};
 
-use crate::given::Given;
+use crate::slots::Given;
 use ds_base::{NoMemory, PageId, Place, TableId};
 use index_leaf::Entry;
 use index_links::{entries_in, node_of};

@@ -2,11 +2,11 @@
 //! whether a table is whole.
 #![tactic(auto)]
 
-mod given;
 mod index;
 mod leaves;
+mod slots;
 mod tables;
 
-pub use given::{Given, given_in};
 pub use index::find_wrong_index;
+pub use slots::{Given, given_in};
 pub use tables::{find_unwhole, find_unwhole_page};

@@ -1,6 +1,6 @@
 use Rattle.std.proofs.Common.{◌≡◌, drop}
 use Rattle.std.specs.List.{list_all}
-use Rattle.index_places.specs.Given.{is_reached}
+use Rattle.index_places.specs.Placing.{is_reached}
 use Rattle.index_places.proofs.leaves.are_reached.Given as goal
 
 abbrev pub invariant-loop-one : goal.invariant-loop-one

@@ -1,7 +1,7 @@
 use Rattle.std.proofs.Common.{◌≡◌, ◌×◌, ℕ, ◌-◌, ◌<◌, ◌≤◌, true}
 use Rattle.ds_base.specs.Pages.{index_page}
 use Rattle.page_chain.specs.Chains.{images_of}
-use Rattle.index_places.specs.Given.{leaf_leads, entered_before}
+use Rattle.index_places.specs.Placing.{leaf_leads, entered_before}
 use Rattle.index_places.proofs.leaves.entered_in.Given as goal
 
 abbrev pub invariant-loop-number : goal.invariant-loop-number

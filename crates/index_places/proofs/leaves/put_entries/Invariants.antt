@@ -1,5 +1,5 @@
 use Rattle.std.proofs.Common.{◌≡◌, drop}
-use Rattle.index_places.specs.Given.{entered_with}
+use Rattle.index_places.specs.Placing.{entered_with}
 use Rattle.index_places.proofs.leaves.put_entries.Given as goal
 
 abbrev pub invariant-loop-entry : goal.invariant-loop-entry
