@@ -40,8 +40,11 @@ zero_from (suc n) i xs h =
     let none = zero-mul (256 ^ n) in
     ap (λ (b : ℕ). b * 256 ^ n + big_from (suc i) n xs) (h i) ∙ omega (arith, rest, none)
 
+pub blank_number : (page : List ℕ) (at width : ℕ) → is_zeros page ≡ true → number_in page at width ≡ 0
+blank_number page at width h = zero_from width 0 (drop at page) (λ k. get_or-drop at page k 0 ∙ byte_none page (at + k) h)
+
 pub blank_count : (page : List ℕ) → is_zeros page ≡ true → count_in page ≡ 0
-blank_count page h = zero_from 2 0 (drop 26 page) (λ k. get_or-drop 26 page k 0 ∙ byte_none page (26 + k) h)
+blank_count page h = blank_number page 26 2 h
 
 none_first : (b : Bool) (at : ℕ) (rest : Option ℕ) → (if b then rest else Some at) ≡ None → b ≡ true
 none_first true at rest h = refl
