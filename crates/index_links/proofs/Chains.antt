@@ -169,7 +169,7 @@ same_low d f k n q s ih lt e a b =
     is_first x leaf le =
         elim (cases_eq x 2) as (λ _. x ≡ 2) [
           | inl is ↦ is
-          | inr no ↦ let some = s.above_leaf x leaf no in absurd (omega (arith, some, le))
+          | inr other ↦ let some = s.above_leaf x leaf other in absurd (omega (arith, some, le))
         ]
 
 apart : (d : Disk) → IsLinked d → (f : ℕ) → Apart d f
@@ -243,6 +243,6 @@ left_by d n m (Some l) is s leaf some there low covers =
     ]
 
 pub left_of : (d : Disk) (n : ℕ) → IsSound d → d.kind n ≡ Leaf → n ≢ 2 → LeftOf d n
-left_of d n s leaf no =
-    let some = s.above_leaf n leaf no in
+left_of d n s leaf other =
+    let some = s.above_leaf n leaf other in
     left_by d n (d.home (d.low n - 1)) (d.link (d.home (d.low n - 1))) refl s leaf some (s.home_leaf (d.low n - 1)) (s.home_low (d.low n - 1)) (s.home_covers (d.low n - 1))

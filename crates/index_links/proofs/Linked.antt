@@ -1,5 +1,5 @@
 -- The tests of nodes and entries, and the index with which the machine opens.
-use Rattle.std.proofs.Common.{◌≡◌, ◌≢◌, ◌×◌, ℕ, zero, suc, ◌+◌, ◌<◌, ◌≤◌, Bool, true, false, not, ◌&&◌, ◌||◌, List, Option, Some, None, is_some, refl, sym, ap, subst, ◌∙◌, arith, inl, inr}
+use Rattle.std.proofs.Common.{◌≡◌, ◌≢◌, ℕ, zero, suc, ◌+◌, ◌<◌, ◌≤◌, Bool, true, false, not, ◌&&◌, ◌||◌, List, Option, Some, None, is_some, refl, sym, ap, subst, ◌∙◌, arith, inl, inr}
 use Rattle.std.specs.Prelude.{◌==◌, nat_lt, leb, if◌then◌else◌, Contains, slice_index}
 use Rattle.std.specs.List.{list_all}
 use Rattle.std.specs.FinMap.{empty}
@@ -136,14 +136,14 @@ leads_at at table n s i =
     (and_right (begins n node) (leads_on (nodes_of at table) node && (node.is_branch || ((n == 2) || reached_at at table n))) (s.nodes n i))
 
 reached_of : (at : Images) (table n : ℕ) → Stands at table → InIndex at table n → is_branch (page_of at table n) ≡ false → n ≢ 2 → reached_at at table n ≡ true
-reached_of at table n s i leaf no =
+reached_of at table n s i leaf differs =
     let node : Node = node_of (page_of at table n) in
     or_second (n == 2) (reached_at at table n)
     (or_second node.is_branch ((n == 2) || reached_at at table n)
     (and_right (leads_on (nodes_of at table) node) (node.is_branch || ((n == 2) || reached_at at table n))
     (and_right (begins n node) (leads_on (nodes_of at table) node && (node.is_branch || ((n == 2) || reached_at at table n))) (s.nodes n i)))
     leaf)
-    (differ n 2 no)
+    (differ n 2 differs)
 
 record LinkStands (at : Images) (table n : ℕ) (l : Link) : Type 0 where
   up : low_of (page_of at table n) < l.high
@@ -184,8 +184,8 @@ child_stands at table n k c s i b h =
 
 left_at : (at : Images) (records : List LogRecord) (table : ℕ) (home : ℕ → ℕ) (n : ℕ) → AreIndexPages at table → Stands at table → InIndex at table n → is_branch (page_of at table n) ≡ false → n ≢ 2
     → LeftOf (index_of at records table home) n
-left_at at records table home n p s i leaf no =
-    let l = reached_left table n (nodes_of at table) (reached_of at table n s i leaf no) in
+left_at at records table home n p s i leaf differs =
+    let l = reached_left table n (nodes_of at table) (reached_of at table n s i leaf differs) in
     let m : ℕ = 1 + l.i in
     let page : List ℕ = page_of at table m in
     let inside = got_in at table l.i l.node l.got in
@@ -219,19 +219,19 @@ linked_of k z records table home p s =
       leaf_low = second.1;
       unmade = λ n un. last_unmade (kind_in (page_of at table n)) (changes_in records table n) un;
       made = λ n made. last_made k z records table n made;
-      above_root = λ n b no.
+      above_root = λ n b differs.
         let i = made_inside at table n p (named_made true (kind_in (page_of at table n)) b) in
         let t = begins_at at table n s i in
         elim (cases_eq n 2) as (λ _. 0 < low_of (page_of at table n)) [
           | inl e ↦ let r = begins_second n (node_of (page_of at table n)) e t in absurd (not_both (is_branch (page_of at table n)) (branch_is (page_of at table n) b) r.0)
-          | inr other ↦ begins_low n (node_of (page_of at table n)) no other t
+          | inr other ↦ begins_low n (node_of (page_of at table n)) differs other t
         ];
-      above_leaf = λ n b no.
+      above_leaf = λ n b differs.
         let i = made_inside at table n p (named_made false (kind_in (page_of at table n)) b) in
         let t = begins_at at table n s i in
         elim (cases_eq n 1) as (λ _. 0 < low_of (page_of at table n)) [
           | inl e ↦ let r = begins_first n (node_of (page_of at table n)) e t in absurd (not_both (is_branch (page_of at table n)) r.0 (leaf_is (page_of at table n) b))
-          | inr other ↦ begins_low n (node_of (page_of at table n)) other no t
+          | inr other ↦ begins_low n (node_of (page_of at table n)) other differs t
         ];
       above = λ n l made is. (link_stands at table n l s (inside n made) is).up;
       right_low = λ n l made is. (link_stands at table n l s (inside n made) is).leads_to.low_is;
@@ -255,7 +255,7 @@ linked_of k z records table home p s =
         let f = found (entries_of page) key e.0 e.1 in
         let node = (p.pages n (leaf_in n b).from (leaf_in n b).to).node in
         beyond_link (high_of page) (right_field page) key (subst (λ (m : ℕ). is_beyond (high_of page) m ≡ false) f.key_is (node.below_high e.0 f.among));
-      left = λ n b no. left_at at records table home n p s (leaf_in n b) (leaf_is (page_of at table n) b) no;
+      left = λ n b differs. left_at at records table home n p s (leaf_in n b) (leaf_is (page_of at table n) b) differs;
     }
   where
     leaf_in : (n : ℕ) → kind_in (page_of (images_of records) table n) ≡ Leaf → InIndex (images_of records) table n
@@ -297,8 +297,8 @@ sound_goes at records table home n (Some x) p s i e =
     (is_there at table (right_field page) (is_branch page) x (there_kind at table (right_field page) (is_branch page) x p kind (s.right_low n l made is)))
 
 sound_reached : (at : Images) (records : List LogRecord) (table : ℕ) (home : ℕ → ℕ) (n : ℕ) → AreIndexPages at table → Opened at records table home → kind_in (page_of at table n) ≡ Leaf → n ≢ 2 → reached_at at table n ≡ true
-sound_reached at records table home n p s leaf no =
-    let l = left_of (index_of at records table home) n s leaf no in
+sound_reached at records table home n p s leaf differs =
+    let l = left_of (index_of at records table home) n s leaf differs in
     let page : List ℕ = page_of at table l.at in
     let i = made_inside at table l.at p (named_made false (kind_in page) l.leaf) in
     let f = link_some (high_of page) (right_field page) (record { high = l.high; right = n }) l.link in
@@ -323,7 +323,7 @@ sound_nodes at records table home n p s i =
     (or_either node.is_branch ((n == 2) || reached_at at table n) (λ leaf.
       elim (cases_eq n 2) as (λ _. ((n == 2) || reached_at at table n) ≡ true) [
         | inl e ↦ ap (λ (m : ℕ). (m == 2) || reached_at at table n) e
-        | inr no ↦ or_either (n == 2) (reached_at at table n) (λ _. sound_reached at records table home n p s (inside_named at table n p i ∙ ap named leaf) no)
+        | inr differs ↦ or_either (n == 2) (reached_at at table n) (λ _. sound_reached at records table home n p s (inside_named at table n p i ∙ ap named leaf) differs)
       ])))
 
 sound_down : (at : Images) (records : List LogRecord) (table : ℕ) (home : ℕ → ℕ) (n : ℕ) (e : Entry) → AreIndexPages at table → Opened at records table home → InIndex at table n → kind_in (page_of at table n) ≡ Branch

@@ -1,4 +1,4 @@
-ghost use Rattle.std.specs.Prelude.{◌≡◌, ◌<◌, ◌^◌, length, is_some, IfOk, OnOk};
+ghost use Rattle.std.specs.Prelude.{◌≡◌, ◌-◌, ◌<◌, ◌^◌, length, is_some, IfOk, OnOk};
 ghost use Rattle.std.specs.FinMap as finite;
 ghost use Rattle.table_pages.specs.Kinds.{both_or_neither};
 ghost use Rattle.index_links.specs.Links.{node_at, is_at, begins, leads_on, has_right, with_right, rights_from, reached_in, node_stands, first_unlinked};

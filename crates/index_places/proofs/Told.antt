@@ -1,5 +1,5 @@
 -- What the checks of an index's places and of tables tell.
-use Rattle.std.proofs.Common.{◌≡◌, ◌≢◌, ◌↔◌, ◌⊎◌, ◌×◌, ℕ, zero, suc, ◌+◌, ◌-◌, ◌<◌, ◌≤◌, Bool, true, false, List, [], ◌∷◌, Option, Some, None, Result, Ok, Err, refl, sym, ap, subst, ◌∙◌, arith, inl, inr}
+use Rattle.std.proofs.Common.{◌≡◌, ◌≢◌, ◌↔◌, ◌⊎◌, ℕ, zero, suc, ◌+◌, ◌-◌, ◌<◌, ◌≤◌, Bool, true, false, List, [], ◌∷◌, Option, Some, None, Result, Ok, Err, refl, sym, ap, subst, ◌∙◌, arith, inl, inr}
 use Rattle.std.specs.Prelude.{IfOk, Contains}
 use Rattle.std.specs.List.{list_all}
 use Rattle.std.specs.FinMap.{empty}
@@ -17,11 +17,9 @@ use Rattle.sound_disk.specs.Heaps.{IsHeap}
 use Rattle.sound_disk.specs.Indexes.{AreIndexPages, index_next}
 use Rattle.sound_disk.specs.Tables.{HasNoIndex, IsWholeIndex, IsWholeTable}
 use Rattle.table_images.specs.Nodes.{IsUnformatted, IsWrongIndex}
-use Rattle.table_images.specs.Nodes as nodes
 use Rattle.heap_rows.specs.Rows_left.{HasRowsLeft}
 use Rattle.heap_rows.proofs.Heaps.{blank_number}
 use Rattle.index_links.specs.Opens.{Opens, CannotOpen}
-use Rattle.index_links.specs.Opens as opens
 use Rattle.index_places.specs.declared.slots.Given.{Given}
 use Rattle.index_places.specs.Placing.{Places, places_from, is_reached, leaf_leads, entered_by, entered_before, AllLead, Misleads, AreGiven}
 use Rattle.index_places.specs.Whole.{IsWholeTold, IsIndexRight, IsIndexTold, IsTableTold, AreAllWhole, AreTablesTold}

@@ -1,4 +1,4 @@
-use Rattle.std.proofs.Common.{◌≡◌, ◌+◌, drop, ◌×◌}
+use Rattle.std.proofs.Common.{◌≡◌, ◌+◌, drop}
 use Rattle.index_links.specs.Links.{reached_in, first_unlinked}
 use Rattle.index_links.proofs.links.find_first.Given as goal
 

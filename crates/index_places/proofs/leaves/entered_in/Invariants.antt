@@ -1,4 +1,4 @@
-use Rattle.std.proofs.Common.{◌≡◌, ◌×◌, ℕ, ◌-◌, ◌<◌, ◌≤◌, true}
+use Rattle.std.proofs.Common.{◌≡◌, ℕ, ◌-◌, ◌<◌, ◌≤◌, true}
 use Rattle.ds_base.specs.Pages.{index_page}
 use Rattle.page_chain.specs.Chains.{images_of}
 use Rattle.index_places.specs.Placing.{leaf_leads, entered_before}
