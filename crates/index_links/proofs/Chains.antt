@@ -154,14 +154,14 @@ same_low : (d : Disk) (f k n q : ℕ) → IsLinked d → Apart d f → k < suc f
 same_low d f k n q s ih lt e a b =
     elim (cases_lt 0 (d.low n)) as (λ _. n ≡ q) [
       | inl some ↦
-        let some_q : 0 < d.low q = omega (arith, some, e) in
-        let upto = a.low in
-        let m = s.left n a.leaf (not_first d n s some) in
-        let r = s.left q b.leaf (not_first d q s some_q) in
-        let there : Covers d (d.low n - 1) r.at = subst (λ (x : ℕ). Covers d (x - 1) r.at) (sym e) (left_covers d q s some_q r) in
-        let same : m.at ≡ r.at = ih (d.low n - 1) m.at r.at (omega (arith, lt, upto, some)) (left_covers d n s some m) there in
-        let links : Some (record { high = m.high; right = n }) ≡ d.link r.at = sym m.link ∙ ap d.link same in
-        ap (λ (l : Link). l.right) (same_link (record { high = m.high; right = n }) (record { high = r.high; right = q }) (links ∙ r.link))
+          let some_q : 0 < d.low q = omega (arith, some, e) in
+          let upto = a.low in
+          let m = s.left n a.leaf (not_first d n s some) in
+          let r = s.left q b.leaf (not_first d q s some_q) in
+          let there : Covers d (d.low n - 1) r.at = subst (λ (x : ℕ). Covers d (x - 1) r.at) (sym e) (left_covers d q s some_q r) in
+          let same : m.at ≡ r.at = ih (d.low n - 1) m.at r.at (omega (arith, lt, upto, some)) (left_covers d n s some m) there in
+          let links : Some (record { high = m.high; right = n }) ≡ d.link r.at = sym m.link ∙ ap d.link same in
+          ap (λ (l : Link). l.right) (same_link (record { high = m.high; right = n }) (record { high = r.high; right = q }) (links ∙ r.link))
       | inr none ↦ is_first n a.leaf (omega (arith, none)) ∙ sym (is_first q b.leaf (omega (arith, none, e)))
     ]
   where
@@ -232,14 +232,14 @@ left_by d n m (Some l) is s leaf some there low covers =
     elim (cases_lt (d.low n) l.high) as (λ _. LeftOf d n) [
       | inl past ↦ absurd (cannot_cover d n m s leaf some there low (ap (λ (o : Option Link). beyond o (d.low n)) is ∙ is_covered l (d.low n) past))
       | inr upto ↦
-        let right_leaf : d.kind l.right ≡ Leaf = s.right_kind m l made is ∙ there in
-        let right_low : d.low l.right ≡ l.high = s.right_low m l made is in
-        let right_made = s.made l.right (leaf_made (d.kind l.right) right_leaf) in
-        let same_low : d.low l.right ≡ d.low n = omega (arith, right_low, up, upto, some) in
-        let own : beyond (d.link l.right) (d.low n) ≡ false = ap (beyond (d.link l.right)) (sym same_low) ∙ own_low d l.right (d.link l.right) refl s right_made in
-        let right_is : l.right ≡ n =
+          let right_leaf : d.kind l.right ≡ Leaf = s.right_kind m l made is ∙ there in
+          let right_low : d.low l.right ≡ l.high = s.right_low m l made is in
+          let right_made = s.made l.right (leaf_made (d.kind l.right) right_leaf) in
+          let same_low : d.low l.right ≡ d.low n = omega (arith, right_low, up, upto, some) in
+          let own : beyond (d.link l.right) (d.low n) ≡ false = ap (beyond (d.link l.right)) (sym same_low) ∙ own_low d l.right (d.link l.right) refl s right_made in
+          let right_is : l.right ≡ n =
           s.home_one (d.low n) l.right right_leaf (omega (arith, same_low)) own ∙ sym (s.home_one (d.low n) n leaf (omega arith) (own_low d n (d.link n) refl s (s.made n (leaf_made (d.kind n) leaf)))) in
-        record { at = m; high = l.high; leaf = there; link = is ∙ ap (λ (x : ℕ). Some (record { high = l.high; right = x })) right_is }
+          record { at = m; high = l.high; leaf = there; link = is ∙ ap (λ (x : ℕ). Some (record { high = l.high; right = x })) right_is }
     ]
 
 pub left_of : (d : Disk) (n : ℕ) → IsSound d → d.kind n ≡ Leaf → n ≢ 2 → LeftOf d n

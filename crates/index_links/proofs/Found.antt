@@ -1,5 +1,5 @@
 -- The entries of a page by their keys.
-use Rattle.std.proofs.Common.{◌≡◌, ◌≢◌, ℕ, zero, suc, ◌+◌, ◌<◌, ◌≤◌, Bool, true, false, ◌&&◌, List, [], ◌∷◌, ◌++◌, length, take, get_or, Option, Some, None, refl, sym, ap, subst, ◌∙◌, arith, inl, inr}
+use Rattle.std.proofs.Common.{◌≡◌, ◌≢◌, ℕ, zero, suc, ◌+◌, ◌<◌, ◌≤◌, Bool, true, false, List, [], ◌∷◌, ◌++◌, length, take, Option, Some, None, refl, sym, ap, subst, ◌∙◌, arith}
 use Rattle.std.specs.Prelude.{◌==◌, if◌then◌else◌, slice_get, Contains, unwrap_or}
 use Rattle.std.proofs.lemmas.Bool.Decides.{nat_tests}
 use Rattle.std.proofs.lemmas.List.{take_more, take_all}
@@ -8,7 +8,7 @@ use Rattle.ds_base.specs.declared.names.Place.{Place}
 use Rattle.index_leaf.specs.declared.layout.Entry.{Entry}
 use Rattle.index_leaf.specs.Entries.{entry_width, first_entry_at, count_of, entries_from, entries_of, AllAbove, IsRising}
 use Rattle.index_leaf.specs.Search.{find, pair_of}
-use Rattle.index_protocol.specs.Index.{Kind, Branch, Leaf, Unmade}
+use Rattle.index_protocol.specs.Index.{Kind, Branch}
 use Rattle.sound_disk.specs.Index_views.{leads}
 use Rattle.table_pages.proofs.Booleans.{equal, itself}
 use Rattle.index_links.specs.Links.{starts}

@@ -1,5 +1,5 @@
 -- Of which kind the pages of an index are.
-use Rattle.std.proofs.Common.{◌≡◌, ◌≢◌, ◌⊎◌, inl, inr, ℕ, zero, suc, ◌<◌, ◌≤◌, Bool, true, false, List, [], ◌∷◌, Option, Some, None, Result, Ok, Err, refl, sym, ap, subst, ◌∙◌, arith}
+use Rattle.std.proofs.Common.{◌≡◌, ◌≢◌, ◌⊎◌, inl, inr, ℕ, zero, suc, ◌<◌, ◌≤◌, Bool, true, false, List, [], ◌∷◌, Option, Some, None, Ok, refl, sym, ap, ◌∙◌, arith}
 use Rattle.std.specs.Prelude.{◌==◌, if◌then◌else◌, slice_index}
 use Rattle.std.proofs.lemmas.Bool.{cases_lt}
 use Rattle.ds_base.specs.Pages.{index_page}
@@ -62,7 +62,6 @@ of_kind k false (Some at) h some is = absurd is
 kind_read : (k : PageKind) (page : List ℕ) (id : PageId) → (k ≡ kind.Empty → ⊥) → IsOfKind k (header_of page id) → (header_in page).kind ≡ k
 unfolding header_of
 kind_read k page id some is = of_kind k (is_zeros page) (first_fault (fields page id)) (header_in page) some is
-
 
 header_byte : (page : List ℕ) (id : PageId) → IsOfKind kind.IndexHeader (header_of page id) → slice_index page 4 ≡ 3
 unfolding pick

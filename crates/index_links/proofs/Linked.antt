@@ -1,6 +1,6 @@
 -- The tests of nodes and entries, and the index with which the machine opens.
-use Rattle.std.proofs.Common.{◌≡◌, ◌≢◌, ℕ, zero, suc, ◌+◌, ◌<◌, ◌≤◌, Bool, true, false, not, ◌&&◌, ◌||◌, List, Option, Some, None, is_some, refl, sym, ap, subst, ◌∙◌, arith, inl, inr}
-use Rattle.std.specs.Prelude.{◌==◌, nat_lt, leb, if◌then◌else◌, Contains, slice_index}
+use Rattle.std.proofs.Common.{◌≡◌, ◌≢◌, ℕ, ◌+◌, ◌<◌, ◌≤◌, Bool, true, false, not, ◌&&◌, ◌||◌, List, Option, Some, None, is_some, refl, sym, ap, subst, ◌∙◌, arith, inl, inr}
+use Rattle.std.specs.Prelude.{◌==◌, nat_lt, if◌then◌else◌, Contains, slice_index}
 use Rattle.std.specs.List.{list_all}
 use Rattle.std.specs.FinMap.{empty}
 use Rattle.std.proofs.lemmas.Bool.{cases_eq}
@@ -11,21 +11,21 @@ use Rattle.index_leaf.specs.declared.layout.Entry.{Entry}
 use Rattle.index_leaf.specs.Entries.{low_of, high_of, right_field, entries_of}
 use Rattle.index_leaf.specs.Search.{is_branch, is_beyond, find}
 use Rattle.index_protocol.specs.Index.{Kind, Unmade, Leaf, Branch, Link, beyond}
-use Rattle.index_protocol.specs.Opening.{Disk, IsSound}
+use Rattle.index_protocol.specs.Opening.{IsSound}
 use Rattle.page_images.specs.Images.{Images, zeros}
 use Rattle.page_chain.specs.Chains.{images_of, LeavesOthers}
-use Rattle.sound_disk.specs.Indexes.{AreIndexPages, index_next}
+use Rattle.sound_disk.specs.Indexes.{AreIndexPages}
 use Rattle.sound_disk.specs.Index_views.{kind_in, link_to, link_in, leads, entry_of, changes_by, changes_in, index_of}
-use Rattle.table_pages.proofs.Booleans.{and_left, and_right, and_both, equal, itself, lt_of, of_lt}
+use Rattle.table_pages.proofs.Booleans.{and_left, and_right, and_both, equal, lt_of, of_lt}
 use Rattle.table_pages.proofs.Nodes.{each_passes, all_pass}
 use Rattle.index_links.specs.declared.nodes.Node.{Node}
 use Rattle.index_links.specs.Nodes.{node_of}
-use Rattle.index_links.specs.Links.{node_at, is_at, begins, goes_on, leads_on, has_right, rights_from, reached_in, node_stands, leads_down, starts, entries_stand, page_stands}
+use Rattle.index_links.specs.Links.{node_at, is_at, begins, goes_on, leads_on, has_right, rights_from, reached_in, node_stands, leads_down, starts, page_stands}
 use Rattle.index_links.proofs.Chains.{IsLinked, LeftOf, left_of}
 use Rattle.index_links.proofs.Kinds_in.{InIndex, named, named_made, branch_is, leaf_is, made_inside, inside_named, inside_made}
-use Rattle.index_links.proofs.Found.{found, find_it, starts_found, found_starts, LedBy, led, led_any, none_led, no_lead}
+use Rattle.index_links.proofs.Found.{found, find_it, starts_found, found_starts, led, led_any, none_led, no_lead}
 use Rattle.index_links.proofs.Nodes_in.{nodes_of, IsThere, there, is_there, kind_there, there_kind, got_in, got_is, get_in}
-use Rattle.index_links.proofs.Rights.{HasLeft, reached_left, left_reached}
+use Rattle.index_links.proofs.Rights.{reached_left, left_reached}
 use Rattle.index_links.proofs.Untouched.{last_unmade, last_made}
 
 abbrev page_of : Images → ℕ → ℕ → List ℕ
@@ -98,9 +98,9 @@ begins_sound n node f g h =
       | inr a ↦ elim (cases_eq n 2) as (λ _. begins n node ≡ true) [
         | inl e ↦ let t = g e in ap (λ (m : ℕ). begins m node) e ∙ and_both (not node.is_branch) (node.low == 0) (true_not node.is_branch t.0) (ap (λ (x : ℕ). x == 0) t.1)
         | inr b ↦
-          ap (λ (x : Bool). begins_test n x (n == 2) node) (differ n 1 a)
-          ∙ ap (λ (x : Bool). begins_test n false x node) (differ n 2 b)
-          ∙ of_lt 0 node.low (h a b)
+            ap (λ (x : Bool). begins_test n x (n == 2) node) (differ n 1 a)
+            ∙ ap (λ (x : Bool). begins_test n false x node) (differ n 2 b)
+            ∙ of_lt 0 node.low (h a b)
       ]
     ]
 
@@ -157,7 +157,7 @@ link_stands at table n l s i is =
     record {
       up = lt_of (low_of page) l.high (and_left (nat_lt (low_of page) l.high) (is_at (node_at (nodes_of at table) (right_field page)) (is_branch page) l.high) t);
       leads_to = subst (λ (r : ℕ). IsThere at table r (is_branch page) l.high) f.right_is
-      (there at table (right_field page) (is_branch page) l.high (and_right (nat_lt (low_of page) l.high) (is_at (node_at (nodes_of at table) (right_field page)) (is_branch page) l.high) t));
+          (there at table (right_field page) (is_branch page) l.high (and_right (nat_lt (low_of page) l.high) (is_at (node_at (nodes_of at table) (right_field page)) (is_branch page) l.high) t));
     }
 
 entries_at : (at : Images) (table n : ℕ) → Stands at table → InIndex at table n → is_branch (page_of at table n) ≡ true
@@ -179,7 +179,7 @@ child_stands at table n k c s i b h =
     let t = each_passes (leads_down (nodes_of at table)) es all by.entry f.among in
     record {
       leads_to = subst (λ (x : ℕ). IsThere at table c false x) f.key_is
-      (subst (λ (x : ℕ). IsThere at table x false by.entry.key) by.page_is (there at table by.entry.place.page false by.entry.key t));
+          (subst (λ (x : ℕ). IsThere at table x false by.entry.key) by.page_is (there at table by.entry.place.page false by.entry.key t));
     }
 
 left_at : (at : Images) (records : List LogRecord) (table : ℕ) (home : ℕ → ℕ) (n : ℕ) → AreIndexPages at table → Stands at table → InIndex at table n → is_branch (page_of at table n) ≡ false → n ≢ 2
@@ -220,41 +220,41 @@ linked_of k z records table home p s =
       unmade = λ n un. last_unmade (kind_in (page_of at table n)) (changes_in records table n) un;
       made = λ n made. last_made k z records table n made;
       above_root = λ n b differs.
-        let i = made_inside at table n p (named_made true (kind_in (page_of at table n)) b) in
-        let t = begins_at at table n s i in
-        elim (cases_eq n 2) as (λ _. 0 < low_of (page_of at table n)) [
-          | inl e ↦ let r = begins_second n (node_of (page_of at table n)) e t in absurd (not_both (is_branch (page_of at table n)) (branch_is (page_of at table n) b) r.0)
-          | inr other ↦ begins_low n (node_of (page_of at table n)) differs other t
-        ];
+          let i = made_inside at table n p (named_made true (kind_in (page_of at table n)) b) in
+          let t = begins_at at table n s i in
+          elim (cases_eq n 2) as (λ _. 0 < low_of (page_of at table n)) [
+            | inl e ↦ let r = begins_second n (node_of (page_of at table n)) e t in absurd (not_both (is_branch (page_of at table n)) (branch_is (page_of at table n) b) r.0)
+            | inr other ↦ begins_low n (node_of (page_of at table n)) differs other t
+          ];
       above_leaf = λ n b differs.
-        let i = made_inside at table n p (named_made false (kind_in (page_of at table n)) b) in
-        let t = begins_at at table n s i in
-        elim (cases_eq n 1) as (λ _. 0 < low_of (page_of at table n)) [
-          | inl e ↦ let r = begins_first n (node_of (page_of at table n)) e t in absurd (not_both (is_branch (page_of at table n)) r.0 (leaf_is (page_of at table n) b))
-          | inr other ↦ begins_low n (node_of (page_of at table n)) other differs t
-        ];
+          let i = made_inside at table n p (named_made false (kind_in (page_of at table n)) b) in
+          let t = begins_at at table n s i in
+          elim (cases_eq n 1) as (λ _. 0 < low_of (page_of at table n)) [
+            | inl e ↦ let r = begins_first n (node_of (page_of at table n)) e t in absurd (not_both (is_branch (page_of at table n)) r.0 (leaf_is (page_of at table n) b))
+            | inr other ↦ begins_low n (node_of (page_of at table n)) other differs t
+          ];
       above = λ n l made is. (link_stands at table n l s (inside n made) is).up;
       right_low = λ n l made is. (link_stands at table n l s (inside n made) is).leads_to.low_is;
       right_kind = λ n l made is.
-        kind_there at table l.right (is_branch (page_of at table n)) l.high p (link_stands at table n l s (inside n made) is).leads_to ∙ sym (inside_named at table n p (inside n made));
+          kind_there at table l.right (is_branch (page_of at table n)) l.high p (link_stands at table n l s (inside n made) is).leads_to ∙ sym (inside_named at table n p (inside n made));
       child = λ n key c b made is. kind_there at table c false key p (child_stands at table n key c s (inside n made) b is).leads_to;
       child_low = λ n key c b made is. (child_stands at table n key c s (inside n made) b is).leads_to.low_is;
       first = λ n b made none.
-        let page : List ℕ = page_of at table n in
-        let t = and_left (starts (low_of page) (entries_of page)) (list_all (leads_down (nodes_of at table)) (entries_of page)) (entries_at at table n s (inside n made) (branch_is page b)) in
-        starts_found (low_of page) (entries_of page) t (none_led (kind_in page) (find (entries_of page) (low_of page)) none);
+          let page : List ℕ = page_of at table n in
+          let t = and_left (starts (low_of page) (entries_of page)) (list_all (leads_down (nodes_of at table)) (entries_of page)) (entries_at at table n s (inside n made) (branch_is page b)) in
+          starts_found (low_of page) (entries_of page) t (none_led (kind_in page) (find (entries_of page) (low_of page)) none);
       from_low = λ n key x b is.
-        let page : List ℕ = page_of at table n in
-        let e = led_any (entries_of page) (kind_in page) key x is in
-        let f = found (entries_of page) key e.0 e.1 in
-        let node = (p.pages n (leaf_in n b).from (leaf_in n b).to).node in
-        subst (λ (m : ℕ). low_of page ≤ m) f.key_is (node.from_low e.0 f.among);
+          let page : List ℕ = page_of at table n in
+          let e = led_any (entries_of page) (kind_in page) key x is in
+          let f = found (entries_of page) key e.0 e.1 in
+          let node = (p.pages n (leaf_in n b).from (leaf_in n b).to).node in
+          subst (λ (m : ℕ). low_of page ≤ m) f.key_is (node.from_low e.0 f.among);
       in_high = λ n key x b is.
-        let page : List ℕ = page_of at table n in
-        let e = led_any (entries_of page) (kind_in page) key x is in
-        let f = found (entries_of page) key e.0 e.1 in
-        let node = (p.pages n (leaf_in n b).from (leaf_in n b).to).node in
-        beyond_link (high_of page) (right_field page) key (subst (λ (m : ℕ). is_beyond (high_of page) m ≡ false) f.key_is (node.below_high e.0 f.among));
+          let page : List ℕ = page_of at table n in
+          let e = led_any (entries_of page) (kind_in page) key x is in
+          let f = found (entries_of page) key e.0 e.1 in
+          let node = (p.pages n (leaf_in n b).from (leaf_in n b).to).node in
+          beyond_link (high_of page) (right_field page) key (subst (λ (m : ℕ). is_beyond (high_of page) m ≡ false) f.key_is (node.below_high e.0 f.among));
       left = λ n b differs. left_at at records table home n p s (leaf_in n b) (leaf_is (page_of at table n) b) differs;
     }
   where
@@ -321,10 +321,10 @@ sound_nodes at records table home n p s i =
     (and_both (leads_on (nodes_of at table) node) (node.is_branch || ((n == 2) || reached_at at table n))
     (sound_goes at records table home n (high_of (page_of at table n)) p s i refl)
     (or_either node.is_branch ((n == 2) || reached_at at table n) (λ leaf.
-      elim (cases_eq n 2) as (λ _. ((n == 2) || reached_at at table n) ≡ true) [
-        | inl e ↦ ap (λ (m : ℕ). (m == 2) || reached_at at table n) e
-        | inr differs ↦ or_either (n == 2) (reached_at at table n) (λ _. sound_reached at records table home n p s (inside_named at table n p i ∙ ap named leaf) differs)
-      ])))
+    elim (cases_eq n 2) as (λ _. ((n == 2) || reached_at at table n) ≡ true) [
+      | inl e ↦ ap (λ (m : ℕ). (m == 2) || reached_at at table n) e
+      | inr differs ↦ or_either (n == 2) (reached_at at table n) (λ _. sound_reached at records table home n p s (inside_named at table n p i ∙ ap named leaf) differs)
+    ])))
 
 sound_down : (at : Images) (records : List LogRecord) (table : ℕ) (home : ℕ → ℕ) (n : ℕ) (e : Entry) → AreIndexPages at table → Opened at records table home → InIndex at table n → kind_in (page_of at table n) ≡ Branch
     → Contains (entries_of (page_of at table n)) e → leads_down (nodes_of at table) e ≡ true
@@ -340,12 +340,12 @@ sound_pages at records table home n p s i =
     let page : List ℕ = page_of at table n in
     let es : List Entry = entries_of page in
     or_either (not (is_branch page)) (starts (low_of page) es && list_all (leads_down (nodes_of at table)) es) (λ branch.
-      let b : kind_in page ≡ Branch = inside_named at table n p i ∙ ap named (not_false (is_branch page) branch) in
-      let made = s.made n (inside_made at table n p i) in
-      let node = (p.pages n i.from i.to).node in
-      and_both (starts (low_of page) es) (list_all (leads_down (nodes_of at table)) es)
-      (found_starts (low_of page) es node.rising node.from_low (λ none. s.first n b made (no_lead (kind_in page) (find es (low_of page)) none)))
-      (all_pass (leads_down (nodes_of at table)) es (λ e c. sound_down at records table home n e p s i b c)))
+    let b : kind_in page ≡ Branch = inside_named at table n p i ∙ ap named (not_false (is_branch page) branch) in
+    let made = s.made n (inside_made at table n p i) in
+    let node = (p.pages n i.from i.to).node in
+    and_both (starts (low_of page) es) (list_all (leads_down (nodes_of at table)) es)
+    (found_starts (low_of page) es node.rising node.from_low (λ none. s.first n b made (no_lead (kind_in page) (find es (low_of page)) none)))
+    (all_pass (leads_down (nodes_of at table)) es (λ e c. sound_down at records table home n e p s i b c)))
   where
     not_false : (b : Bool) → not b ≡ false → b ≡ true
     not_false true h = refl

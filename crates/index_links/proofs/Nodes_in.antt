@@ -14,7 +14,7 @@ use Rattle.table_pages.proofs.Booleans.{and_left, and_right, and_both, equal, it
 use Rattle.index_links.specs.declared.nodes.Node.{Node}
 use Rattle.index_links.specs.Nodes.{node_of, nodes_from}
 use Rattle.index_links.specs.Links.{node_at, is_at, node_stands, first_unlinked}
-use Rattle.index_links.proofs.Kinds_in.{InIndex, named, is_named, named_made, named_is, made_inside, inside_named}
+use Rattle.index_links.proofs.Kinds_in.{InIndex, named, named_made, named_is, made_inside, inside_named}
 
 -- ---- reading
 

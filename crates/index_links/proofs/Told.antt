@@ -1,5 +1,5 @@
 -- What the check of an index tells.
-use Rattle.std.proofs.Common.{◌≡◌, ◌↔◌, ℕ, zero, suc, ◌+◌, ◌-◌, ◌^◌, ◌<◌, ◌≤◌, Bool, true, false, List, length, Option, Some, None, Result, Ok, Err, refl, sym, ap, subst, ◌∙◌, arith, inl, inr}
+use Rattle.std.proofs.Common.{◌≡◌, ℕ, zero, suc, ◌+◌, ◌-◌, ◌^◌, ◌<◌, ◌≤◌, Bool, true, false, List, length, Option, Some, None, Result, Ok, Err, refl, sym, ap, subst, ◌∙◌, arith, inl, inr}
 use Rattle.std.specs.Prelude.{IfOk, slice_index}
 use Rattle.std.specs.FinMap.{empty}
 use Rattle.std.proofs.lemmas.Bool.{cases_lt}
@@ -36,8 +36,8 @@ one_more at table n nodes id page b i e t h so_far k from lt =
     elim (cases_lt k n) as (λ _. page_stands nodes (at (index_page table k)) ≡ true) [
       | inl less ↦ so_far k from less
       | inr up ↦
-        let same : k ≡ n = omega (arith, lt, up) in
-        ap (λ (m : ℕ). page_stands nodes (at (index_page table m))) same ∙ ap (λ (q : PageId). page_stands nodes (at q)) (sym i) ∙ ap (page_stands nodes) (sym e) ∙ sym t ∙ h
+          let same : k ≡ n = omega (arith, lt, up) in
+          ap (λ (m : ℕ). page_stands nodes (at (index_page table m))) same ∙ ap (λ (q : PageId). page_stands nodes (at q)) (sym i) ∙ ap (page_stands nodes) (sym e) ∙ sym t ∙ h
     ]
 
 pub one_wrong : (at : Images) (table n next : ℕ) (nodes : List Node) (id : PageId) (page : List ℕ) (b : Bool) → 1 ≤ n → n < next → id ≡ index_page table n → page ≡ at id → b ≡ page_stands nodes page → b ≡ false
@@ -92,8 +92,8 @@ node_unlinked at records table m p u o =
     let is = got_is at table u.i u.node u.got in
     let s = stands_of at records table o.home p o.sound in
     let t : node_stands (nodes_of at table) (Reached table (nodes_of at table) m) m u.node ≡ true =
-      subst (λ (n : ℕ). node_stands (nodes_of at table) (Reached table (nodes_of at table) n) n u.node ≡ true) (sym u.number)
-      (subst (λ (x : Node). node_stands (nodes_of at table) (Reached table (nodes_of at table) (1 + u.i)) (1 + u.i) x ≡ true) (sym is) (s.nodes (1 + u.i) i)) in
+    subst (λ (n : ℕ). node_stands (nodes_of at table) (Reached table (nodes_of at table) n) n u.node ≡ true) (sym u.number)
+    (subst (λ (x : Node). node_stands (nodes_of at table) (Reached table (nodes_of at table) (1 + u.i)) (1 + u.i) x ≡ true) (sym is) (s.nodes (1 + u.i) i)) in
     not_both (node_stands (nodes_of at table) (Reached table (nodes_of at table) m) m u.node) t u.fails
 
 pub unlinked_told : (records : List LogRecord) (table next m : ℕ) (nodes : List Node) (id : PageId) → AreIndexPages (images_of records) table → next ≡ index_next (images_of records) table
@@ -113,10 +113,10 @@ page_told k z records table next nodes None p e are f h =
     (λ n from to. ap (λ (ns : List Node). page_stands ns (at (index_page table n))) (sym are) ∙ h n from (subst (λ (m : ℕ). n < m) (sym e) to))
 page_told k z records table next nodes (Some id) p e are f h = record {
   none = λ o.
-    let at : Images = images_of records in
-    let s = stands_of at records table o.home p o.sound in
-    let t = s.pages id.number (record { from = h.from_first; to = subst (λ (m : ℕ). id.number < m) e h.to_last }) in
-    not_both (page_stands nodes (at (index_page table id.number))) (ap (λ (ns : List Node). page_stands ns (at (index_page table id.number))) are ∙ t) h.wrong;
+      let at : Images = images_of records in
+      let s = stands_of at records table o.home p o.sound in
+      let t = s.pages id.number (record { from = h.from_first; to = subst (λ (m : ℕ). id.number < m) e h.to_last }) in
+      not_both (page_stands nodes (at (index_page table id.number))) (ap (λ (ns : List Node). page_stands ns (at (index_page table id.number))) are ∙ t) h.wrong;
   id_is = h.id_is;
 }
 

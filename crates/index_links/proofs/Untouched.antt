@@ -1,5 +1,5 @@
 -- A page of an index that isn't all zeros was changed by a record.
-use Rattle.std.proofs.Common.{◌≡◌, ◌≢◌, ℕ, zero, suc, ◌<◌, ◌≤◌, Bool, true, false, List, [], ◌∷◌, length, filter, refl, sym, ap, ◌∙◌, arith, inl, inr}
+use Rattle.std.proofs.Common.{◌≡◌, ◌≢◌, ℕ, ◌≤◌, Bool, true, false, List, [], ◌∷◌, length, filter, refl, ap, ◌∙◌, arith, inl, inr}
 use Rattle.std.specs.Prelude.{if◌then◌else◌, slice_index}
 use Rattle.std.proofs.lemmas.Bool.{cases_lt}
 use Rattle.ds_base.specs.Pages.{index_page}
@@ -7,7 +7,7 @@ use Rattle.ds_base.specs.declared.names.PageId.{PageId}
 use Rattle.ds_model.specs.declared.log.LogRecord.{LogRecord}
 use Rattle.index_protocol.specs.Index.{Kind, Unmade, Leaf, Branch}
 use Rattle.page_images.specs.Images.{zeros}
-use Rattle.page_chain.specs.Chains.{touches, after_record, version_from, images_of, LeavesOthers}
+use Rattle.page_chain.specs.Chains.{touches, version_from, images_of, LeavesOthers}
 use Rattle.sound_disk.specs.Index_views.{kind_in, changes_by, changes_in}
 use Rattle.index_links.proofs.Kinds_in.{byte_kind}
 
@@ -42,6 +42,6 @@ last_made k z records table n made =
     elim (cases_lt 0 (changes_in records table n)) as (λ _. 1 ≤ changes_by (kind_in (images_of records (index_page table n))) (changes_in records table n)) [
       | inl some ↦ omega (arith, is, some)
       | inr none ↦
-        let count : length (filter (touches (index_page table n)) records) ≡ 0 = omega (arith, none) in
-        absurd (made (ap kind_in (unchanged k (index_page table n) zeros records count) ∙ byte_kind zeros z))
+          let count : length (filter (touches (index_page table n)) records) ≡ 0 = omega (arith, none) in
+          absurd (made (ap kind_in (unchanged k (index_page table n) zeros records count) ∙ byte_kind zeros z))
     ]

@@ -3,9 +3,9 @@
 
 mod branches;
 mod entries;
+mod links;
 mod nodes;
 mod pages;
-mod links;
 
 pub use entries::entries_in;
 pub use nodes::{Node, node_of, read_nodes};

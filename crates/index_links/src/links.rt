@@ -88,13 +88,7 @@ fn is_reached(rights: &SpotMap<bool>, table: TableId, number: u32) -> bool
     rights.get(table, number as u64).is_some()
 }
 
-fn stands(
-    nodes: &[Node],
-    rights: &SpotMap<bool>,
-    table: TableId,
-    number: u32,
-    node: &Node,
-) -> bool
+fn stands(nodes: &[Node], rights: &SpotMap<bool>, table: TableId, number: u32, node: &Node) -> bool
     ensures { result ≡ node_stands nodes.now (reached_in rights.now table number) number node.now }
 {
     begins(number, node)
@@ -118,11 +112,7 @@ fn find_first(nodes: &[Node], rights: &SpotMap<bool>, table: TableId) -> Option<
 }
 
 /// The first page whose low key, link or place in the row of leaves is wrong.
-pub fn find_unlinked(
-    alloc: Global,
-    table: TableId,
-    nodes: &[Node],
-) -> Result<Option<u32>, NoMemory>
+pub fn find_unlinked(alloc: Global, table: TableId, nodes: &[Node]) -> Result<Option<u32>, NoMemory>
     requires { length nodes.now < 2 ^ 32 - 1 }
     ensures { IfOk result (λ found. found ≡ first_unlinked nodes.now (reached_in (rights_from table finite.empty nodes.now) table) 1 nodes.now) }
 {

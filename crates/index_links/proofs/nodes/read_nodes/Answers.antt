@@ -1,4 +1,4 @@
-use Rattle.std.proofs.Common.{◌≡◌, ◌+◌, ◌-◌, List, ◌++◌, ap, ◌∙◌}
+use Rattle.std.proofs.Common.{◌+◌, ◌-◌, List, ◌++◌, ap, ◌∙◌}
 use Rattle.ds_base.specs.Pages.{index_page}
 use Rattle.ds_base.specs.declared.names.PageId.{PageId}
 use Rattle.page_chain.specs.Chains.{images_of, version_of}

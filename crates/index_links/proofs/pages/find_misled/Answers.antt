@@ -1,6 +1,6 @@
 use Rattle.page_chain.specs.Chains.{images_of}
 use Rattle.std.proofs.Common.{◌<◌, subst, ℕ}
-use Rattle.index_links.proofs.Told.{node_page, one_more, one_wrong}
+use Rattle.index_links.proofs.Told.{node_page, one_more}
 use Rattle.index_links.proofs.pages.find_misled.Goals as goal
 
 pub page_stands-requires : goal.page_stands-requires
