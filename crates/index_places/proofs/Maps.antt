@@ -100,7 +100,10 @@ from_get table key q m (g ∷ gs) h =
       | inr there ↦ inr (later g gs (slot_of key q) there)
     ]
 
-none_in : (table key : ℕ) (q : Place) → get {X = Place} empty (table, key) ≡ Some q → ⊥
+abbrev told_at : Places → ℕ → ℕ → Option Place
+told_at m table key = get m (table, key)
+
+none_in : (table key : ℕ) (q : Place) → told_at empty table key ≡ Some q → ⊥
 none_in table key q h = absurd (cc (get-empty {X = Place} spot_cmp (table, key), h))
 
 pub places_get : (table key : ℕ) (q : Place) (gs : List Given) → get (places_from table empty gs) (table, key) ≡ Some q → Contains gs (slot_of key q)
