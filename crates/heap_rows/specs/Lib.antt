@@ -1,0 +1,2 @@
+pub mod Rows_left
+pub mod Maps

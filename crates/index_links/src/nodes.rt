@@ -1,0 +1,77 @@
+ghost use Rattle.std.specs.Prelude.{◌≡◌, ◌-◌, ◌≤◌, IfOk};
+ghost use Rattle.std.specs.List.{AllByRecursion};
+ghost use Rattle.ds_model.specs.RecordBytes.{IsAllowed};
+ghost use Rattle.index_leaf.specs.Entries.{right_field};
+ghost use Rattle.index_leaf.specs.Search.{is_branch};
+ghost use Rattle.page_chain.specs.Chains.{images_of, version_of};
+ghost use Rattle.index_links.specs.Nodes.{node_of, nodes_from};
+
+use ds_base::{Key, NoMemory, PageId, TableId};
+use index_leaf::{high_key, low_key, right};
+use log_record::LogRecord;
+use page_format::Page;
+use std::alloc::Global;
+use table_images::image_of;
+
+/// What a branch or a leaf says beside its entries.
+#[derive(Clone, Copy, Debug)]
+pub struct Node {
+    pub is_branch: bool,
+    pub low: Key,
+    pub high: Option<Key>,
+    /// The number of the page to the right, 0 where there is none.
+    pub right: u32,
+}
+
+fn is_branch(page: &Page) -> bool
+    ensures { result ≡ is_branch page.now }
+{
+    page.bytes()[4] == 4
+}
+
+fn right_number(page: &Page) -> u32
+    ensures { result ≡ right_field page.now }
+{
+    match right(page) {
+        None => 0,
+        Some(number) => number,
+    }
+}
+
+/// What the page says, if it is a branch or a leaf.
+pub fn node_of(page: &Page) -> Node
+    ensures { result ≡ node_of page.now }
+{
+    Node {
+        is_branch: is_branch(page),
+        low: low_key(page),
+        high: high_key(page),
+        right: right_number(page),
+    }
+}
+
+fn read_node(alloc: Global, id: PageId, records: &[LogRecord]) -> Result<Node, NoMemory>
+    requires { AllByRecursion IsAllowed records.now }
+    ensures { IfOk result (λ node. node ≡ node_of (version_of id records.now)) }
+{
+    let page = image_of(alloc, id, records)?;
+    Ok(node_of(&page))
+}
+
+/// What the pages of the table's index from page 1 on and before the next free one say after the records.
+pub fn read_nodes(
+    alloc: Global,
+    table: TableId,
+    records: &[LogRecord],
+    next: u32,
+) -> Result<Vec<Node>, NoMemory>
+    requires allowed { AllByRecursion IsAllowed records.now }
+    requires some { 1 ≤ next }
+    ensures { IfOk result (λ nodes. nodes.items ≡ nodes_from (images_of records.now) table 1 (next - 1)) }
+{
+    let mut nodes = Vec::new(alloc);
+    for number in 1..next {
+        nodes.push(read_node(alloc, table.index_page(number), records)?)?;
+    }
+    Ok(nodes)
+}

@@ -1,0 +1,76 @@
+ghost use Rattle.std.specs.Prelude.{◌≡◌, ◌-◌, ◌<◌, ◌≤◌, ◌^◌, IfOk};
+ghost use Rattle.std.specs.List.{AllByRecursion};
+ghost use Rattle.ds_model.specs.RecordBytes.{IsAllowed};
+ghost use Rattle.page_chain.specs.Chains.{images_of, version_of};
+ghost use Rattle.sound_disk.specs.Indexes.{IsNodePage, index_next, AreIndexPages};
+ghost use Rattle.index_links.specs.Links.{page_stands, IsFoundFrom};
+ghost use Rattle.index_links.specs.Nodes.{nodes_from};
+ghost use Rattle.index_links.specs.Opens.{IsTold};
+
+use crate::branches::entries_stand;
+use crate::entries::entries_in;
+use crate::links::find_unlinked;
+use crate::nodes::{Node, node_of, read_nodes};
+use ds_base::{NoMemory, PageId, TableId};
+use index_leaf::next_page;
+use log_record::LogRecord;
+use page_chain::chain_laws;
+use page_format::Page;
+use page_images::header_laws;
+use std::alloc::Global;
+use table_images::image_of;
+
+fn page_stands(alloc: Global, nodes: &[Node], id: PageId, page: &Page) -> Result<bool, NoMemory>
+    requires { IsNodePage id page.now }
+    ensures { IfOk result (λ stands. stands ≡ page_stands nodes.now page.now) }
+{
+    let node = node_of(page);
+    let entries = entries_in(alloc, page)?;
+    Ok(entries_stand(nodes, &node, &entries))
+}
+
+// The first branch whose entries don't lead where they are to.
+fn find_misled(
+    alloc: Global,
+    table: TableId,
+    records: &[LogRecord],
+    nodes: &[Node],
+    next: u32,
+) -> Result<Option<PageId>, NoMemory>
+    requires allowed { AllByRecursion IsAllowed records.now }
+    requires pages { AreIndexPages (images_of records.now) table }
+    requires next { next ≡ index_next (images_of records.now) table }
+    ensures { IfOk result (λ found. IsFoundFrom (images_of records.now) table nodes.now next found) }
+{
+    for number in 1..next {
+        let id = table.index_page(number);
+        let page = image_of(alloc, id, records)?;
+        if !page_stands(alloc, nodes, id, &page)? {
+            return Ok(Some(id));
+        }
+    }
+    Ok(None)
+}
+
+/// A page of the table's index whose links or entries don't lead where they are to, where its pages are right by themselves.
+///
+/// It takes time in the number of records for each page of the index.
+pub fn find_wrong_link_page(
+    alloc: Global,
+    table: TableId,
+    records: &[LogRecord],
+) -> Result<Option<PageId>, NoMemory>
+    requires allowed { AllByRecursion IsAllowed records.now }
+    requires pages { AreIndexPages (images_of records.now) table }
+    ensures { IfOk result (λ found. IsTold (images_of records.now) records.now table found) }
+{
+    chain_laws();
+    header_laws();
+    let header = image_of(alloc, table.index_page(0), records)?;
+    let next = next_page(&header);
+    let nodes = read_nodes(alloc, table, records, next)?;
+    match find_unlinked(alloc, table, &nodes)? {
+        Some(number) => Ok(Some(table.index_page(number))),
+        None => find_misled(alloc, table, records, &nodes, next),
+    }
+}
