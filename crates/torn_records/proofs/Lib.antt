@@ -1,0 +1,12 @@
+pub mod Mixing
+pub mod Numbers
+pub mod Changes
+pub mod Frames
+pub mod Completing
+pub mod Telling
+pub mod Texts
+pub mod Patches
+pub mod Sizes
+pub mod Shown
+pub mod Systems
+pub mod Sorts
