@@ -1,0 +1,6 @@
+pub mod Heads
+pub mod Chains
+pub mod Standing
+pub mod Freeing
+pub mod Testing
+pub mod Reading

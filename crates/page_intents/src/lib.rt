@@ -1,0 +1,37 @@
+//! The page intents of a member that is up, as moves in the world of pages: an intent that is lawful, whose command the facility has
+//! executed or whose disk call was done, and whose answer is settled, leads to a world that stands beside what is left.
+//!
+//! The crate has definitions and proofs alone. Its functions do nothing: their contracts are the theorems.
+#![tactic(auto)]
+
+ghost use Rattle.page_intents.specs.Frames.{FillGoes, FreeGoes, ReadGoes, TestGoes, TestTells, WriteGoes};
+
+use page_world::{copies_are_newest, frames_are_moves, pages_have_numbers, reads_are_moves, refusals_stay};
+
+/// A page that is read into a frame, whatever the reply, and one that the disk fills a frame with.
+pub fn reads_go()
+    ensures read { ReadGoes }
+    ensures fill { FillGoes }
+{
+    pages_have_numbers();
+    reads_are_moves();
+    refusals_stay();
+    frames_are_moves();
+}
+
+/// A page whose copy is tested: that is no move, and a copy that is valid and not changed is the group's.
+pub fn tests_go()
+    ensures test { TestGoes }
+    ensures tells { TestTells }
+{
+    pages_have_numbers();
+    copies_are_newest();
+}
+
+/// A frame that is made free.
+pub fn frees_go()
+    ensures { FreeGoes }
+{
+    pages_have_numbers();
+    frames_are_moves();
+}
