@@ -4,3 +4,4 @@ pub mod Standing
 pub mod Freeing
 pub mod Testing
 pub mod Reading
+pub mod Writing

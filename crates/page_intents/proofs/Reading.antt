@@ -9,6 +9,7 @@ use Rattle.cache_structure.specs.Directory.{bytes_of, is_full_for}
 use Rattle.cache_structure.specs.Replies.{read_reply}
 use Rattle.facility.specs.declared.command.Reply.{Reply}
 use Rattle.facility.specs.declared.command.Reply.TheVariants as reply
+use Rattle.facility.specs.States.{Held}
 use Rattle.facility.specs.CacheCommands.{ReadsPage, reply_to_read}
 use Rattle.member_pool.specs.declared.frame.Frame.{Frame}
 use Rattle.member_pool.specs.Heads.{HeadState}
@@ -17,7 +18,7 @@ use Rattle.member_marks.specs.Frames.{frame_in, is_placed, with_registered, with
 use Rattle.member_effects.specs.Kept.{Kept}
 use Rattle.member_effects.specs.Changes.{bytes_at}
 use Rattle.member_effects.specs.Frames.{read_after}
-use Rattle.page_protocol.specs.Moves.{At, Read, ReadDisk}
+use Rattle.page_protocol.specs.Moves.{World, At, Read, ReadDisk}
 use Rattle.page_world.specs.Numbers.{page_number, AreNumbered}
 use Rattle.page_world.specs.Holdings.{Copy, Holdings}
 use Rattle.page_world.specs.Cache.{entry_moves, found_copy, empty_copy, FindsMoves, RegistersMoves}
@@ -78,18 +79,16 @@ no_bytes page false true o e = absurd (cc e)
 no_bytes page false false None e = refl
 no_bytes page false false (Some x) e = absurd (cc e)
 
+abbrev Left : World → Holdings → (ℕ → ℕ → List ℕ) → (ℕ → ℕ) → Kept → ℕ → List ℕ → Held → Reply → Type 0
+Left w g content forced k at bytes v a = Goes w content forced (behind g v k.marks.member (read_kept k at a bytes)) k.marks (read_kept k at a bytes)
+
 pub read_goes : AreNumbered → FindsMoves → RegistersMoves → ReadRefused → ReadGoes
 read_goes numbers finds registers refused w g content forced k at out page bytes answer v b lawful lent r = by (read_reply g.facility.directory lawful.page) refl
   where
-    Left : Reply → Type 0
-    Left a = Goes w content forced (behind g v k.marks.member (read_kept k at a bytes)) k.marks (read_kept k at a bytes)
+    so : (a : Reply) → answer ≡ a → Left w g content forced k at bytes v a → Left w g content forced k at bytes v answer
+    so a e h = subst (λ z. Left w g content forced k at bytes v z) (sym e) h
 
-    so : (a : Reply) → answer ≡ a → Left a → Left answer
-    unfolding Left
-    so a e h = subst (λ z. Goes w content forced (behind g v k.marks.member (read_kept k at z bytes)) k.marks (read_kept k at z bytes)) (sym e) h
-
-    refuse : (a : Reply) → answer ≡ a → (a ≡ reply.CacheFull) ⊎ (a ≡ reply.Lost) → read_after k.marks at a ≡ k.marks → Left a
-    unfolding Left
+    refuse : (a : Reply) → answer ≡ a → (a ≡ reply.CacheFull) ⊎ (a ≡ reply.Lost) → read_after k.marks at a ≡ k.marks → Left w g content forced k at bytes v a
     refuse a e which same =
         let no = refused g.facility v k.marks.member at lawful.page page bytes answer (subst (λ z. (z ≡ reply.CacheFull) ⊎ (z ≡ reply.Lost)) (sym e) which) r in
         let n = page_number lawful.page in
@@ -100,8 +99,7 @@ read_goes numbers finds registers refused w g content forced k at out page bytes
         (quiet_by w g content forced v k (record { marks = k.marks; pages = read_pages k at bytes }) n b.tied b.numbered b.up
         (leaves_read numbers g k k.marks at f lawful.page (g.copies k.marks.member n) bytes b.up lawful.placed refl (sets_none k.marks.heads at) refl (ap (copy_with at f) old ∙ sym c)) no.0)
 
-    by : (x : ReadReply) → read_reply g.facility.directory lawful.page ≡ x → Left answer
-    unfolding Left
+    by : (x : ReadReply) → read_reply g.facility.directory lawful.page ≡ x → Left w g content forced k at bytes v answer
     by read.Found e =
         let n = page_number lawful.page in
         let m = k.marks.member in

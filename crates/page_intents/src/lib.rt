@@ -6,7 +6,7 @@
 
 ghost use Rattle.page_intents.specs.Frames.{FillGoes, FreeGoes, ReadGoes, TestGoes, TestTells, WriteGoes};
 
-use page_world::{copies_are_newest, frames_are_moves, pages_have_numbers, reads_are_moves, refusals_stay};
+use page_world::{copies_are_newest, frames_are_moves, pages_have_numbers, reads_are_moves, refusals_stay, writes_are_moves};
 
 /// A page that is read into a frame, whatever the reply, and one that the disk fills a frame with.
 pub fn reads_go()
@@ -26,6 +26,15 @@ pub fn tests_go()
 {
     pages_have_numbers();
     copies_are_newest();
+}
+
+/// A changed page that is written, whatever the reply, where the log of the member has all its changes.
+pub fn writes_go()
+    ensures { WriteGoes }
+{
+    pages_have_numbers();
+    writes_are_moves();
+    refusals_stay();
 }
 
 /// A frame that is made free.
