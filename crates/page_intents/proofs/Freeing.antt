@@ -31,15 +31,15 @@ free_goes numbers law w g content forced k at out answer v b lawful r =
     let t = with_marks k (with_heads k.marks (freed h at)) in
     let s = sets_free h at l in
     let is : freed_kept k at answer ≡ t = ap (freed_kept k at) r.0 ∙ ap (with_marks k) (cond-true (nat_lt at (length h.frames)) (with_heads k.marks (freed h at)) k.marks (below at (length h.frames) l)) in
-    let copy = has_copy numbers g k at lawful.page b.up lawful.placed in
+    let copy = has_copy numbers g forced k at lawful.page b.up lawful.placed in
     subst (λ (z : Kept). Goes w content forced (behind g v m z) k.marks z) (sym is)
     (goes_by w g content forced v k t n no_copy (At n (DropFrame m) ∷ []) b.numbered b.up
     (record {
-      member = refl;
+      rest = record { member = refl; locks = refl; log = refl };
       apart = free_apart h (freed h at) at s b.up.apart;
       each = b.up.each ∙ sym s.size;
       here = free_here numbers h (freed h at) k.pages at lawful.page s b.up.apart lawful.placed;
       there = free_there numbers h (freed h at) k.pages at lawful.page s b.up.apart lawful.placed;
     })
     (same_members g.facility v _ r.1 (record { members = refl; statuses = refl })) (at_one n (DropFrame m))
-    (law w g content m n at answer v b.tied (has_frame numbers g k at lawful.page b.up lawful.placed) (ap (λ (c : Copy). c.marked) copy ∙ lawful.unchanged) r))
+    (law w g content m n at answer v b.tied (has_frame numbers g forced k at lawful.page b.up lawful.placed) (ap (λ (c : Copy). c.marked) copy ∙ lawful.unchanged) r))

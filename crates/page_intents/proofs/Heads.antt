@@ -62,9 +62,21 @@ sets_as h u at f e is s = subst (λ z. Sets h u at z) is s
 pub sets_none : (h : HeadState) (at : ℕ) → Sets h h at (frame_in h at)
 sets_none h at = record { is = refl; others = λ q ne. refl; size = refl }
 
-pub head_member : (b : Bool) (s : MarksState) (u : HeadState) → (cond b (with_heads s u) s).member ≡ s.member
-head_member true s u = refl
-head_member false s u = refl
+-- all else of the marks that the pages know
+pub record SameRest (s t : MarksState) : Type 0 where
+  pub member : t.member ≡ s.member
+  pub locks : t.locks ≡ s.locks
+  pub log : t.log ≡ s.log
+
+pub rest_itself : (s : MarksState) → SameRest s s
+rest_itself s = record { member = refl; locks = refl; log = refl }
+
+pub rest_on : (s t u : MarksState) → SameRest s t → SameRest t u → SameRest s u
+rest_on s t u a b = record { member = b.member ∙ a.member; locks = b.locks ∙ a.locks; log = b.log ∙ a.log }
+
+pub head_rest : (b : Bool) (s : MarksState) (u : HeadState) → SameRest s (cond b (with_heads s u) s)
+head_rest true s u = record { member = refl; locks = refl; log = refl }
+head_rest false s u = rest_itself s
 
 -- where the frame has a page
 set_placed : (s : MarksState) (at : ℕ) (u : HeadState) (f : Frame) (id : PageId) → (frame_in s.heads at).page ≡ Some id → Sets s.heads u at f → Sets s.heads (cond (is_placed s.heads at) (with_heads s u) s).heads at f

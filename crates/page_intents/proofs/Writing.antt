@@ -32,7 +32,7 @@ use Rattle.page_world.specs.Cache.{entry_moves, written_copy, WritesMoves}
 use Rattle.page_world.specs.Refusals.{WriteRefused}
 use Rattle.page_intents.specs.Stands.{copy_at, IsUp, behind, Goes}
 use Rattle.page_intents.specs.Frames.{Begins, written_kept, WriteGoes}
-use Rattle.page_intents.proofs.Heads.{Sets, sets_written, sets_none, copy_with, head_member}
+use Rattle.page_intents.proofs.Heads.{Sets, rest_itself, sets_written, sets_none, copy_with, head_rest}
 use Rattle.page_intents.proofs.Chains.{at_entry}
 use Rattle.page_intents.proofs.Standing.{Leaves, is_live_up, goes_by, quiet_by, same_members, has_copy, has_frame, leaves_set}
 
@@ -60,9 +60,9 @@ coherent : (w : World) (g : Group) (p : Page) (b : Bool) → b ≡ false → Sta
 coherent w g p true e s = absurd (cc e)
 coherent w g p false e s = s
 
-pub all_stable : Numbers → (w : World) (g : Holdings) (content : ℕ → ℕ → List ℕ) (forced : ℕ → ℕ) (k : Kept) (at : ℕ) (out : Sent) → Begins w g content forced k → forced k.marks.member ≡ k.marks.log.stable
+pub all_stable : Numbers → (w : World) (g : Holdings) (content : ℕ → ℕ → List ℕ) (forced : ℕ → ℕ) (k : Kept) (at : ℕ) (out : Sent) → Begins w g content forced k
     → (lawful : WritesFrame k.marks k.pages at out) → AllStable w.group (w.pages (page_number lawful.page)) (w.pages (page_number lawful.page)).last
-all_stable numbers w g content forced k at out b known lawful i l = elim (cases_lt i p.shared) [
+all_stable numbers w g content forced k at out b lawful i l = elim (cases_lt i p.shared) [
   | inl less ↦ co.stable i less
   | inr le ↦ b.numbered.stable n i l (subst (λ z. p.lrsn i ≤ forced z) (sym (author le)) (below le))
 ]
@@ -80,7 +80,7 @@ all_stable numbers w g content forced k at out b known lawful i l = elim (cases_
     co = coherent w w.group p w.down b.tied.running (b.good.stands n)
 
     copy : g.copies m n ≡ copy_at k.marks.heads k.pages at
-    copy = has_copy numbers g k at lawful.page b.up lawful.placed
+    copy = has_copy numbers g forced k at lawful.page b.up lawful.placed
 
     marked : (p.frame m).marked ≡ true
     marked = sym ((b.tied.pages n).marked m) ∙ ap (λ (z : Copy). z.marked) copy ∙ lawful.changed
@@ -98,14 +98,14 @@ all_stable numbers w g content forced k at out b known lawful i l = elim (cases_
         let shows : lrsn_of (bytes_at k.pages at) ≡ p.lrsn j.0 = ap lrsn_of (bytes ∙ ap (content n) j.1) ∙ b.numbered.shown n j.0 short in
         let limit = told k.marks.log.stable k.pages at lawful.stable in
         let least = no_greater p.lrsn p.last i j.0 (b.good.numbered n).rise j.2 short in
-        omega (arith, shows, limit, least, known)
+        omega (arith, shows, limit, least, b.up.log)
 
 -- ---- the reply
 abbrev Left : World → Holdings → (ℕ → ℕ → List ℕ) → (ℕ → ℕ) → Kept → ℕ → Held → Reply → Type 0
 Left w g content forced k at v a = Goes w content forced (behind g v k.marks.member (written_kept k at a)) k.marks (written_kept k at a)
 
 pub write_goes : Numbers → WritesMoves → WriteRefused → WriteGoes
-write_goes numbers writes refused w g content forced k at out answer v b known lawful r = by (write_reply g.facility.directory lawful.page) refl
+write_goes numbers writes refused w g content forced k at out answer v b lawful r = by (write_reply g.facility.directory lawful.page) refl
   where
     so : (a : Reply) → answer ≡ a → Left w g content forced k at v a → Left w g content forced k at v answer
     so a e h = subst (λ z. Left w g content forced k at v z) (sym e) h
@@ -114,24 +114,24 @@ write_goes numbers writes refused w g content forced k at out answer v b known l
     refuse a e which same =
         let no = refused g.facility v k.marks.member at lawful.page (bytes_at k.pages at) answer (subst (λ z. (z ≡ reply.CacheFull) ⊎ (z ≡ reply.Lost)) (sym e) which) r in
         let n = page_number lawful.page in
-        let c = has_copy numbers g k at lawful.page b.up lawful.placed in
+        let c = has_copy numbers g forced k at lawful.page b.up lawful.placed in
         subst (λ (z : MarksState). Goes w content forced (behind g v k.marks.member (with_marks k z)) k.marks (with_marks k z)) (sym same)
         (quiet_by w g content forced v k k n b.tied b.numbered b.up
-        (leaves_set numbers g k k at (frame_in k.marks.heads at) lawful.page (g.copies k.marks.member n) b.up lawful.placed refl (sets_none k.marks.heads at) refl refl (λ q _. refl) (sym c)) no)
+        (leaves_set numbers g forced k k at (frame_in k.marks.heads at) lawful.page (g.copies k.marks.member n) b.up lawful.placed (rest_itself k.marks) (sets_none k.marks.heads at) refl refl (λ q _. refl) (sym c)) no)
 
     by : (x : WriteReply) → write_reply g.facility.directory lawful.page ≡ x → Left w g content forced k at v answer
     by write.Written e =
         let n = page_number lawful.page in
         let m = k.marks.member in
         let is : answer ≡ reply.Written = r.0 ∙ ap reply_to_write e in
-        let c = has_copy numbers g k at lawful.page b.up lawful.placed in
+        let c = has_copy numbers g forced k at lawful.page b.up lawful.placed in
         let f : Frame = record (frame_in k.marks.heads at) { changed = false; registered = true } in
         so reply.Written is
         (goes_by w g content forced v k (written_kept k at reply.Written) n (written_copy (g.copies m n)) (entry_moves g.facility.directory lawful.page ++ At n (Write m) ∷ []) b.numbered b.up
-        (leaves_set numbers g k (written_kept k at reply.Written) at f lawful.page (written_copy (g.copies m n)) b.up lawful.placed (head_member (is_placed k.marks.heads at) k.marks (with_registered (written k.marks.heads at) at true))
+        (leaves_set numbers g forced k (written_kept k at reply.Written) at f lawful.page (written_copy (g.copies m n)) b.up lawful.placed (head_rest (is_placed k.marks.heads at) k.marks (with_registered (written k.marks.heads at) at true))
         (sets_written k.marks at lawful.page lawful.placed) refl refl (λ q _. refl) (ap written_copy (sym c)))
         (same_members g.facility v _ r.1 (record { members = refl; statuses = refl })) (at_entry g.facility.directory lawful.page n (Write m))
-        (writes w g content m at lawful.page (bytes_at k.pages at) v b.good b.tied b.sound (is_live_up g k b.up) (has_frame numbers g k at lawful.page b.up lawful.placed)
-        (ap (λ (z : Copy). z.marked) c ∙ lawful.changed) (ap (λ (z : Copy). z.bytes) c) (all_stable numbers w g content forced k at out b known lawful) (subst (λ z. WritesPage g.facility m lawful.page at (bytes_at k.pages at) z v) is r)))
+        (writes w g content m at lawful.page (bytes_at k.pages at) v b.good b.tied b.sound (is_live_up g forced k b.up) (has_frame numbers g forced k at lawful.page b.up lawful.placed)
+        (ap (λ (z : Copy). z.marked) c ∙ lawful.changed) (ap (λ (z : Copy). z.bytes) c) (all_stable numbers w g content forced k at out b lawful) (subst (λ z. WritesPage g.facility m lawful.page at (bytes_at k.pages at) z v) is r)))
     by write.CacheFull e = let is : answer ≡ reply.CacheFull = r.0 ∙ ap reply_to_write e in so reply.CacheFull is (refuse reply.CacheFull is (inl refl) refl)
     by write.Lost e = let is : answer ≡ reply.Lost = r.0 ∙ ap reply_to_write e in so reply.Lost is (refuse reply.Lost is (inr refl) refl)

@@ -26,7 +26,7 @@ pub record Begins (w : World) (g : Holdings) (content : ℕ → ℕ → List ℕ
   pub tied : Tied w g content
   pub numbered : AreNumbered w content forced
   pub sound : IsSound g.facility.directory
-  pub up : IsUp g k
+  pub up : IsUp g forced k
 
 -- ---- a page is read
 
@@ -74,10 +74,9 @@ TestTells = (w : World) (g : Holdings) (content : ℕ → ℕ → List ℕ) (for
 abbrev pub written_kept : Kept → ℕ → Reply → Kept
 written_kept k at answer = with_marks k (written_after k.marks at answer)
 
--- the log of the member stands on disk up to the number that its marks know
 abbrev pub WriteGoes : Type 0
 WriteGoes = (w : World) (g : Holdings) (content : ℕ → ℕ → List ℕ) (forced : ℕ → ℕ) (k : Kept) (at : ℕ) (out : Sent) (answer : Reply) (v : Held)
-    → Begins w g content forced k → forced k.marks.member ≡ k.marks.log.stable → (lawful : WritesFrame k.marks k.pages at out)
+    → Begins w g content forced k → (lawful : WritesFrame k.marks k.pages at out)
     → WritesPage g.facility k.marks.member lawful.page at (bytes_at k.pages at) answer v
     → Goes w content forced (behind g v k.marks.member (written_kept k at answer)) k.marks (written_kept k at answer)
 

@@ -1,5 +1,5 @@
 -- A member that is up, beside the pages of the group: what it has of them is in its frames.
-use Rattle.std.specs.Prelude.{◌≡◌, ℕ, ◌≤◌, ◌==◌, ◌||◌, true, if◌then◌else◌, List, length, Option, Some, None}
+use Rattle.std.specs.Prelude.{◌≡◌, ◌≢◌, ℕ, ◌≤◌, ◌==◌, ◌||◌, true, false, if◌then◌else◌, List, length, Option, Some, None}
 use Rattle.list_structure.specs.declared.standing.MemberStatus.TheVariants.{Up}
 use Rattle.list_structure.specs.Standings.{status_of}
 use Rattle.facility.specs.States.{Held}
@@ -7,6 +7,7 @@ use Rattle.page_index.specs.Places.{AreApart}
 use Rattle.member_pool.specs.Frames.{find_page, page_of}
 use Rattle.member_pool.specs.Heads.{HeadState}
 use Rattle.member_marks.specs.State.{MarksState}
+use Rattle.member_marks.specs.Claims.{has_page}
 use Rattle.member_marks.specs.Frames.{frame_in}
 use Rattle.member_effects.specs.Kept.{Kept}
 use Rattle.member_effects.specs.Changes.{bytes_at}
@@ -39,14 +40,18 @@ copy_of heads pages n = copy_in heads pages (find_page heads.frames (page_at n))
 
 -- ---- the member
 
--- it is up, no page stands in two of its frames, each frame has bytes, and its copies are what is in its frames
-pub record IsUp (g : Holdings) (k : Kept) : Type 0 where
+-- it is up, and its log stands on disk up to the number that its marks know. No page stands in two of its frames, each frame has bytes,
+-- its copies are what is in its frames, and its page locks are those that its lock manager claims
+pub record IsUp (g : Holdings) (forced : ℕ → ℕ) (k : Kept) : Type 0 where
   pub least : 1 ≤ k.marks.member
   pub among : k.marks.member ≤ g.facility.lists.members
   pub up : status_of g.facility.lists.statuses k.marks.member ≡ Up
+  pub log : forced k.marks.member ≡ k.marks.log.stable
   pub apart : AreApart page_of k.marks.heads.frames
   pub each : length k.pages ≡ length k.marks.heads.frames
   pub copies : (n : ℕ) → g.copies k.marks.member n ≡ copy_of k.marks.heads k.pages n
+  pub owns : (n : ℕ) → has_page k.marks (page_at n) ≡ true → g.owner n ≡ Some k.marks.member
+  pub no_more : (n : ℕ) → has_page k.marks (page_at n) ≡ false → g.owner n ≢ Some k.marks.member
 
 -- what the group holds behind an event of the member that leaves this of the facility, and this in its frames
 abbrev pub behind : Holdings → Held → ℕ → Kept → Holdings
@@ -62,4 +67,4 @@ pub record Goes (w : World) (content : ℕ → ℕ → List ℕ) (forced : ℕ �
   pub moved : Moved w moves left content
   pub numbered : AreNumbered moved.world content forced
   pub same : t.marks.member ≡ s.member
-  pub stands : IsUp left t
+  pub stands : IsUp left forced t
