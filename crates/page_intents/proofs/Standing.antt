@@ -90,12 +90,12 @@ copies_same : (g : Holdings) (forced : ℕ → ℕ) (v : Held) (k t : Kept) (n :
 copies_same g forced v k t n c up left p j = elim (cases_eq p k.marks.member) [
   | inl e ↦ elim (cases_eq j n) [
     | inl f ↦ cond-true ((p == k.marks.member) && (j == n)) c (g.copies p j) (and_from (p == k.marks.member) (j == n) (eq-eqb p k.marks.member e) (eq-eqb j n f))
-      ∙ sym left.here ∙ sym (ap (copy_of t.marks.heads t.pages) f) ∙ sym (cond-true (p == k.marks.member) (copy_of t.marks.heads t.pages j) (g.copies p j) (eq-eqb p k.marks.member e))
+        ∙ sym left.here ∙ sym (ap (copy_of t.marks.heads t.pages) f) ∙ sym (cond-true (p == k.marks.member) (copy_of t.marks.heads t.pages j) (g.copies p j) (eq-eqb p k.marks.member e))
     | inr ne ↦ cond-false ((p == k.marks.member) && (j == n)) c (g.copies p j) (false_from_ne_true ((p == k.marks.member) && (j == n)) (λ b. ne (eqb-true j n (and_parts (p == k.marks.member) (j == n) b).1)))
-      ∙ ap (λ z. g.copies z j) e ∙ up.copies j ∙ sym (left.there j ne) ∙ sym (cond-true (p == k.marks.member) (copy_of t.marks.heads t.pages j) (g.copies p j) (eq-eqb p k.marks.member e))
+        ∙ ap (λ z. g.copies z j) e ∙ up.copies j ∙ sym (left.there j ne) ∙ sym (cond-true (p == k.marks.member) (copy_of t.marks.heads t.pages j) (g.copies p j) (eq-eqb p k.marks.member e))
   ]
   | inr ne ↦ cond-false ((p == k.marks.member) && (j == n)) c (g.copies p j) (false_from_ne_true ((p == k.marks.member) && (j == n)) (λ b. ne (eqb-true p k.marks.member (and_parts (p == k.marks.member) (j == n) b).0)))
-    ∙ sym (cond-false (p == k.marks.member) (copy_of t.marks.heads t.pages j) (g.copies p j) (ne_eqb p k.marks.member ne))
+      ∙ sym (cond-false (p == k.marks.member) (copy_of t.marks.heads t.pages j) (g.copies p j) (ne_eqb p k.marks.member ne))
 ]
 
 same_holdings : (g : Holdings) (forced : ℕ → ℕ) (v : Held) (k t : Kept) (n : ℕ) (c : Copy) → IsUp g forced k → Leaves k t n c → with_facility (with_copy g k.marks.member n c) v ≡ behind g v k.marks.member t

@@ -78,5 +78,5 @@ test_tells numbers law w g content forced k at slot gives out v b lawful r uncha
     let c = has_copy numbers g forced k at lawful.page b.up lawful.placed in
     sym (ap (λ (x : Copy). x.bytes) c)
     ∙ law w g content k.marks.member (page_number lawful.page) at b.good b.tied (has_frame numbers g forced k at lawful.page b.up lawful.placed)
-      (ap (λ (x : Copy). x.noted) c ∙ or_true (frame_in k.marks.heads at).registered (frame_in k.marks.heads at).filled lawful.filled) (ap (λ (x : Copy). x.filled) c ∙ lawful.filled) (ap (λ (x : Copy). x.marked) c ∙ unchanged)
-      (is_set (bit g.facility.directory k.marks.member at) r.0)
+    (ap (λ (x : Copy). x.noted) c ∙ or_true (frame_in k.marks.heads at).registered (frame_in k.marks.heads at).filled lawful.filled) (ap (λ (x : Copy). x.filled) c ∙ lawful.filled) (ap (λ (x : Copy). x.marked) c ∙ unchanged)
+    (is_set (bit g.facility.directory k.marks.member at) r.0)

@@ -6,7 +6,10 @@
 
 ghost use Rattle.page_intents.specs.Frames.{FillGoes, FreeGoes, ReadGoes, TestGoes, TestTells, WriteGoes};
 
-use page_world::{copies_are_newest, frames_are_moves, pages_have_numbers, reads_are_moves, refusals_stay, writes_are_moves};
+use page_world::{
+    copies_are_newest, frames_are_moves, pages_have_numbers, reads_are_moves, refusals_stay,
+    writes_are_moves,
+};
 
 /// A page that is read into a frame, whatever the reply, and one that the disk fills a frame with.
 pub fn reads_go()
