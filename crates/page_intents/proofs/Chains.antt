@@ -1,6 +1,6 @@
 -- Moves of pages leave the chains of changes, and so the numbers that versions show.
 use Rattle.std.proofs.Common.{◌≡◌, ℕ, ◌<◌, ◌≤◌, refl, sym, ap, subst, ◌∙◌, Bool, true, false, inl, inr, List, [], ◌∷◌, ◌++◌, Option, Some, None}
-use Rattle.std.specs.Prelude.{◌≢◌, ◌==◌, ◌+◌, ◌||◌, if◌then◌else◌, is_some}
+use Rattle.std.specs.Prelude.{◌==◌, ◌+◌, ◌||◌, if◌then◌else◌, is_some}
 use Rattle.std.proofs.lemmas.Bool.{cond-true, cond-false, cases_eq, eq-eqb, ne_eqb}
 use Rattle.ds_base.specs.declared.names.PageId.{PageId}
 use Rattle.cache_structure.specs.Entries.{Entry, entry_of}
@@ -50,10 +50,11 @@ Shows content c = (i : ℕ) → i < c.last → lrsn_of (content (i + 1)) ≡ c.l
 abbrev Stands : (ℕ → ℕ) → (ℕ → ℕ) → Chain → Type 0
 Stands forced stable c = (i : ℕ) → i < c.last → c.lrsn i ≤ forced (c.author i) → c.place i < stable (c.author i)
 
-numbered_along : (w v : World) (content : ℕ → ℕ → List ℕ) (forced : ℕ → ℕ) → ((n : ℕ) → chain_of (v.pages n) ≡ chain_of (w.pages n)) → v.group.stable ≡ w.group.stable → AreNumbered w content forced → AreNumbered v content forced
-numbered_along w v content forced same stable t = record {
+numbered_along : (w v : World) (content : ℕ → ℕ → List ℕ) (forced : ℕ → ℕ) → ((n : ℕ) → chain_of (v.pages n) ≡ chain_of (w.pages n)) → v.group.stable ≡ w.group.stable → v.group.counter ≡ w.group.counter → AreNumbered w content forced → AreNumbered v content forced
+numbered_along w v content forced same stable counter t = record {
   shown = λ n. subst (Shows (content n)) (sym (same n)) (t.shown n);
   stable = λ n. subst (λ f. Stands forced f (chain_of (v.pages n))) (sym stable) (subst (Stands forced w.group.stable) (sym (same n)) (t.stable n));
+  drawn = λ m. subst (λ z. forced m ≤ z) (sym counter) (t.drawn m);
 }
 
 -- ---- lists of such moves
@@ -84,7 +85,7 @@ at_entry d id n e = by (is_some (entry_of d.entries id) || has_free_place d)
 at_step : (w v : World) (n : ℕ) (e : PageMove) (content : ℕ → ℕ → List ℕ) (forced : ℕ → ℕ) → Step set_of w (At n e) v → AreNumbered w content forced → AreNumbered v content forced
 at_step w v n e content forced s t =
     subst (λ x. AreNumbered x content forced) (sym s.1.2)
-    (numbered_along w (record { down = false; group = w.group; pages = put w.pages n s.1.0 }) content forced (put_chain w.pages n s.1.0 (step_chain w.group (w.pages n) s.1.0 e s.1.1)) refl t)
+    (numbered_along w (record { down = false; group = w.group; pages = put w.pages n s.1.0 }) content forced (put_chain w.pages n s.1.0 (step_chain w.group (w.pages n) s.1.0 e s.1.1)) refl refl t)
 
 pub numbered_on : (w v : World) (es : List Move) (content : ℕ → ℕ → List ℕ) (forced : ℕ → ℕ) → AtPages es → Run set_of w es v → AreNumbered w content forced → AreNumbered v content forced
 unfolding AtPages

@@ -1,10 +1,9 @@
 -- A frame is made free.
-use Rattle.std.proofs.Common.{◌≡◌, ℕ, refl, sym, ap, subst, ◌∙◌, Bool, true, false, List, [], ◌∷◌, length}
+use Rattle.std.proofs.Common.{◌≡◌, ℕ, refl, sym, ap, subst, ◌∙◌, true, [], ◌∷◌, length}
 use Rattle.std.specs.Prelude.{nat_lt}
 use Rattle.std.proofs.lemmas.Bool.{cond-true}
 use Rattle.std.proofs.Common.{◌<◌, arith}
 use Rattle.std.proofs.lemmas.Grind.{common_steps}
-use Rattle.facility.specs.declared.command.Reply.TheVariants as reply
 use Rattle.member_pool.specs.Heads.{freed}
 use Rattle.member_marks.specs.State.{with_heads}
 use Rattle.member_effects.specs.Kept.{Kept}
@@ -15,9 +14,9 @@ use Rattle.page_world.specs.Holdings.{Copy, no_copy}
 use Rattle.page_world.specs.Frames.{UnregistersMoves}
 use Rattle.page_intents.specs.Stands.{behind, Goes}
 use Rattle.page_intents.specs.Frames.{freed_kept, FreeGoes}
-use Rattle.page_intents.proofs.Heads.{Sets, within, sets_free, free_apart, free_here, free_there}
+use Rattle.page_intents.proofs.Heads.{within, sets_free, free_apart, free_here, free_there}
 use Rattle.page_intents.proofs.Chains.{at_one}
-use Rattle.page_intents.proofs.Standing.{Leaves, goes_by, same_members, has_copy, has_frame}
+use Rattle.page_intents.proofs.Standing.{goes_by, same_members, has_copy, has_frame}
 
 below : (a b : ℕ) → a < b → nat_lt a b ≡ true
 below a b l = grind (arith, common_steps)
@@ -41,5 +40,5 @@ free_goes numbers law w g content forced k at out answer v b lawful r =
       here = free_here numbers h (freed h at) k.pages at lawful.page s b.up.apart lawful.placed;
       there = free_there numbers h (freed h at) k.pages at lawful.page s b.up.apart lawful.placed;
     })
-    (same_members g.facility v _ r.1 (record { members = refl; statuses = refl })) (at_one n (DropFrame m))
+    (same_members g.facility v _ r.1 (record { members = refl; statuses = refl; counter = refl })) (at_one n (DropFrame m))
     (law w g content m n at answer v b.tied (has_frame numbers g forced k at lawful.page b.up lawful.placed) (ap (λ (c : Copy). c.marked) copy ∙ lawful.unchanged) r))

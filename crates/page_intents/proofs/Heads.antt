@@ -12,7 +12,7 @@ use Rattle.member_pool.specs.declared.frame.Frame.{Frame}
 use Rattle.member_pool.specs.Frames.{free_frame, frame_at, find_page, page_of}
 use Rattle.member_pool.specs.Heads.{HeadState, with_head, written, freed}
 use Rattle.member_marks.specs.State.{MarksState, with_heads}
-use Rattle.member_marks.specs.Frames.{frame_in, is_placed, with_registered, with_filled, after_registered, after_filled, after_written, after_unregister}
+use Rattle.member_marks.specs.Frames.{frame_in, is_placed, with_registered, with_filled, after_registered, after_filled, after_written}
 use Rattle.member_effects.specs.Changes.{bytes_at}
 use Rattle.page_world.specs.Numbers.{page_number, page_at, AreNumbered}
 use Rattle.page_world.specs.Holdings.{Copy, no_copy}

@@ -12,7 +12,6 @@ use Rattle.facility.specs.declared.command.Reply.TheVariants as reply
 use Rattle.facility.specs.States.{Held}
 use Rattle.facility.specs.CacheCommands.{ReadsPage, reply_to_read}
 use Rattle.member_pool.specs.declared.frame.Frame.{Frame}
-use Rattle.member_pool.specs.Heads.{HeadState}
 use Rattle.member_marks.specs.State.{MarksState}
 use Rattle.member_marks.specs.Frames.{frame_in, is_placed, with_registered, with_filled, after_registered, after_filled}
 use Rattle.member_effects.specs.Kept.{Kept}
@@ -110,7 +109,7 @@ read_goes numbers finds registers refused w g content forced k at out page bytes
         (goes_by w g content forced v k (read_kept k at reply.Found bytes) n (found_copy (g.copies m n) bytes) (entry_moves g.facility.directory lawful.page ++ At n (Read m false) ∷ []) b.numbered b.up
         (leaves_read numbers g forced k (read_after k.marks at reply.Found) at f lawful.page (found_copy (g.copies m n) bytes) bytes b.up lawful.placed (both_rest k.marks at true) (sets_both k.marks at true lawful.page lawful.placed) refl
         (ap (λ (z : Copy). found_copy z bytes) (sym c)))
-        (same_members g.facility v _ r.1 (record { members = refl; statuses = refl })) (at_entry g.facility.directory lawful.page n (Read m false))
+        (same_members g.facility v _ r.1 (record { members = refl; statuses = refl; counter = refl })) (at_entry g.facility.directory lawful.page n (Read m false))
         (finds w g content m at lawful.page page bytes v b.good b.tied b.sound (is_live_up g forced k b.up) (has_frame numbers g forced k at lawful.page b.up lawful.placed) (subst (λ z. ReadsPage g.facility m lawful.page at page z v bytes) is r)))
     by read.NoData e =
         let n = page_number lawful.page in
@@ -130,7 +129,7 @@ read_goes numbers finds registers refused w g content forced k at out page bytes
         (goes_by w g content forced v k (read_kept k at reply.NoData bytes) n (empty_copy (g.copies m n)) (entry_moves d lawful.page ++ At n (Read m false) ∷ []) b.numbered b.up
         (leaves_read numbers g forced k (read_after k.marks at reply.NoData) at f lawful.page (empty_copy (g.copies m n)) bytes b.up lawful.placed (both_rest k.marks at filled) (sets_both k.marks at filled lawful.page lawful.placed) refl
         (copy ∙ ap empty_copy (sym c)))
-        (same_members g.facility v _ r.1 (record { members = refl; statuses = refl })) (at_entry d lawful.page n (Read m false))
+        (same_members g.facility v _ r.1 (record { members = refl; statuses = refl; counter = refl })) (at_entry d lawful.page n (Read m false))
         (registers w g content m at lawful.page page bytes v b.good b.tied b.sound (is_live_up g forced k b.up) (has_frame numbers g forced k at lawful.page b.up lawful.placed) (subst (λ z. ReadsPage g.facility m lawful.page at page z v bytes) is r)))
     by read.CacheFull e = let is : answer ≡ reply.CacheFull = r.0 ∙ ap reply_to_read e in so reply.CacheFull is (refuse reply.CacheFull is (inl refl) refl)
     by read.Lost e = let is : answer ≡ reply.Lost = r.0 ∙ ap reply_to_read e in so reply.Lost is (refuse reply.Lost is (inr refl) refl)
@@ -156,5 +155,5 @@ fill_goes numbers fills w g content forced k at out b lawful =
     (leaves_set numbers g forced k (filled_kept k at bytes) at f lawful.page (filled_copy (g.copies m n) bytes) b.up lawful.placed (head_rest (is_placed k.marks.heads at) k.marks (with_filled k.marks.heads at true))
     (sets_filled k.marks at true lawful.page lawful.placed) refl (length-set k.pages at bytes) (λ q ne. set_other k.pages at q bytes ne)
     (copy ∙ ap (λ (z : Copy). filled_copy z bytes) (sym c)))
-    (record { members = refl; statuses = refl }) (at_one n (ReadDisk m))
+    (record { members = refl; statuses = refl; counter = refl }) (at_one n (ReadDisk m))
     (fills w g content m n b.tied (is_live_up g forced k b.up) (ap (λ (z : Copy). z.filled) c ∙ lawful.unfilled))

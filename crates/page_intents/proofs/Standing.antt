@@ -1,10 +1,8 @@
 -- A member that is still up behind an event, with what is in its frames.
-use Rattle.std.proofs.Common.{◌≡◌, ℕ, ◌≤◌, refl, sym, ap, subst, ◌∙◌, Bool, true, false, inl, inr, List, [], ◌∷◌, length, Some}
+use Rattle.std.proofs.Common.{◌≡◌, ℕ, ◌≤◌, refl, sym, ap, subst, ◌∙◌, inl, inr, List, [], length, Some}
 use Rattle.std.specs.Prelude.{◌≢◌, ◌==◌, ◌&&◌, if◌then◌else◌, is_some}
 use Rattle.std.proofs.lemmas.Bool.{cond-true, cond-false, cases_eq, eq-eqb, ne_eqb, and_from, false_from_ne_true, and_parts, eqb-true}
 use Rattle.ds_base.specs.declared.names.PageId.{PageId}
-use Rattle.list_structure.specs.declared.standing.MemberStatus.{MemberStatus}
-use Rattle.list_structure.specs.declared.standing.MemberStatus.TheVariants.{Up}
 use Rattle.list_structure.specs.Standings.{status_of, is_live}
 use Rattle.facility.specs.States.{Held}
 use Rattle.page_index.specs.Places.{AreApart}
@@ -18,7 +16,7 @@ use Rattle.page_world.specs.Tied.{Tied, Moved}
 use Rattle.page_world.specs.Cache.{IsLive, HasFrame}
 use Rattle.page_world.specs.Numbers.{page_number, page_at, AreNumbered as Numbers}
 use Rattle.page_intents.specs.Numbers.{AreNumbered}
-use Rattle.page_intents.specs.Stands.{copy_at, copy_of, IsUp, behind, Goes}
+use Rattle.page_intents.specs.Stands.{AreBehind, copy_at, copy_of, IsUp, behind, Goes}
 use Rattle.ds_model.specs.declared.lock.Name.TheVariants as name
 use Rattle.lock_manager.specs.Managers.{Book, held_by}
 use Rattle.member_log.specs.Buffers.{LogBuffer}
@@ -61,10 +59,11 @@ leaves_set numbers g forced k t at f id c up placed rest s page size bytes copy 
       there = kept_there numbers k.marks.heads t.marks.heads k.pages t.pages at f id s page up.apart placed bytes;
     }
 
--- it leaves these members and standings
+-- it leaves these members and standings, and what was drawn
 pub record SameMembers (f v : Held) : Type 0 where
   pub members : v.lists.members ≡ f.lists.members
   pub statuses : v.lists.statuses ≡ f.lists.statuses
+  pub counter : v.counter ≡ f.counter
 
 pub same_members : (f v z : Held) → v ≡ z → SameMembers f z → SameMembers f v
 same_members f v z e s = subst (λ x. SameMembers f x) (sym e) s
@@ -78,6 +77,8 @@ still_up g forced v k t n c up left same =
       among = subst (λ m. m ≤ v.lists.members) (sym member) (subst (λ z. k.marks.member ≤ z) (sym same.members) up.among);
       up = ap (λ z. status_of z t.marks.member) same.statuses ∙ ap (status_of g.facility.lists.statuses) member ∙ up.up;
       log = ap forced member ∙ up.log ∙ sym (ap (λ (z : LogBuffer). z.stable) left.rest.log);
+      last = subst (λ z. t.marks.log.last ≤ z) (sym same.counter) (subst (λ (z : LogBuffer). z.last ≤ g.facility.counter) (sym left.rest.log) up.last);
+      pending = subst (λ m. AreBehind (g.stable m) (g.written m) t.marks.log.pending) (sym member) (subst (λ (z : LogBuffer). AreBehind (g.stable k.marks.member) (g.written k.marks.member) z.pending) (sym left.rest.log) up.pending);
       apart = left.apart;
       each = left.each;
       copies = λ j. cond-true (t.marks.member == k.marks.member) (copy_of t.marks.heads t.pages j) (g.copies t.marks.member j) (eq-eqb t.marks.member k.marks.member member);
@@ -124,5 +125,5 @@ pub quiet_by : (w : World) (g : Holdings) (content : ℕ → ℕ → List ℕ) (
     → Tied w g content → AreNumbered w content forced → IsUp g forced k → Leaves k t n (g.copies k.marks.member n) → v ≡ g.facility → Goes w content forced (behind g v k.marks.member t) k.marks t
 quiet_by w g content forced v k t n tied numbered up left e =
     let same : with_facility (with_copy g k.marks.member n (g.copies k.marks.member n)) v ≡ g = ap (λ (f : Held). with_facility (with_copy g k.marks.member n (g.copies k.marks.member n)) f) e ∙ same_copy g k.marks.member n in
-    goes_by w g content forced v k t n (g.copies k.marks.member n) [] numbered up left (same_members g.facility v g.facility e (record { members = refl; statuses = refl })) at_none
+    goes_by w g content forced v k t n (g.copies k.marks.member n) [] numbered up left (same_members g.facility v g.facility e (record { members = refl; statuses = refl; counter = refl })) at_none
     (record { world = w; run = refl; tied = subst (λ z. Tied w z content) (sym same) tied })

@@ -1,24 +1,20 @@
 -- A page is tested: its copy stays as it is.
-use Rattle.std.proofs.Common.{◌≡◌, ℕ, refl, sym, ap, subst, ◌∙◌, Bool, true, false, List, length, Option, Some, None}
+use Rattle.std.proofs.Common.{◌≡◌, ℕ, refl, sym, ap, subst, ◌∙◌, Bool, true, false, List, Option, Some, None}
 use Rattle.std.specs.Prelude.{◌||◌, if◌then◌else◌}
 use Rattle.ds_base.specs.declared.names.PageId.{PageId}
 use Rattle.cache_structure.specs.Directory.{bit}
-use Rattle.facility.specs.declared.command.Reply.{Reply}
 use Rattle.facility.specs.declared.command.Reply.TheVariants as reply
-use Rattle.facility.specs.States.{Held}
 use Rattle.member_pool.specs.declared.frame.Frame.{Frame}
-use Rattle.member_pool.specs.Heads.{HeadState}
-use Rattle.member_marks.specs.State.{MarksState, with_heads}
+use Rattle.member_marks.specs.State.{MarksState}
 use Rattle.member_marks.specs.Frames.{frame_in, is_placed, with_registered, after_registered}
 use Rattle.member_effects.specs.Kept.{Kept}
 use Rattle.member_effects.specs.Changes.{bytes_at, with_marks}
 use Rattle.member_effects.specs.Frames.{valid_after, full_at}
-use Rattle.page_protocol.specs.Moves.{World}
 use Rattle.page_world.specs.Numbers.{page_number, AreNumbered}
 use Rattle.page_world.specs.Holdings.{Copy, Holdings}
 use Rattle.page_world.specs.Newest.{ValidIsNewest}
-use Rattle.page_intents.specs.Stands.{copy_at, IsUp, behind, Goes}
-use Rattle.page_intents.specs.Frames.{Begins, tested_kept, TestGoes, TestTells}
+use Rattle.page_intents.specs.Stands.{IsUp, behind, Goes}
+use Rattle.page_intents.specs.Frames.{tested_kept, TestGoes, TestTells}
 use Rattle.page_intents.proofs.Heads.{Sets, SameRest, sets_registered, copy_with, head_rest}
 use Rattle.page_intents.proofs.Standing.{Leaves, leaves_set, quiet_by, has_copy, has_frame}
 

@@ -1,8 +1,8 @@
 -- A changed page is written.
-use Rattle.std.proofs.Common.{◌≡◌, ◌≢◌, ℕ, zero, suc, ◌+◌, ◌<◌, ◌≤◌, refl, sym, ap, subst, ◌∙◌, Bool, true, false, inl, inr, List, [], ◌∷◌, length, Option, Some, None, slice_get, arith}
+use Rattle.std.proofs.Common.{◌≡◌, ℕ, zero, suc, ◌+◌, ◌<◌, ◌≤◌, refl, sym, ap, subst, ◌∙◌, Bool, true, false, inl, inr, List, [], ◌∷◌, slice_get, arith}
 use Rattle.std.specs.Prelude.{◌⊎◌, ◌++◌, nat_le}
 use Rattle.std.proofs.lemmas.Grind.{common_steps}
-use Rattle.std.proofs.lemmas.Bool.{cases_eq, cases_lt, both_ways}
+use Rattle.std.proofs.lemmas.Bool.{cases_eq, cases_lt}
 use Rattle.std.proofs.lemmas.Option.{same_Some}
 use Rattle.cache_structure.specs.declared.face.WriteReply.{WriteReply}
 use Rattle.cache_structure.specs.declared.face.WriteReply.TheVariants as write
@@ -15,7 +15,7 @@ use Rattle.page_format.specs.Fields.{lrsn_of}
 use Rattle.member_pool.specs.declared.frame.Frame.{Frame}
 use Rattle.member_intents.specs.declared.outcome.Sent.{Sent}
 use Rattle.member_marks.specs.State.{MarksState}
-use Rattle.member_marks.specs.Frames.{frame_in, is_placed, with_registered, after_written}
+use Rattle.member_marks.specs.Frames.{frame_in, is_placed, with_registered}
 use Rattle.member_pool.specs.Heads.{written}
 use Rattle.member_needs.specs.Frames.{stable_in}
 use Rattle.member_effects.specs.Kept.{Kept}
@@ -30,11 +30,11 @@ use Rattle.page_world.specs.Numbers.{page_number, AreNumbered as Numbers}
 use Rattle.page_world.specs.Holdings.{Copy, Holdings}
 use Rattle.page_world.specs.Cache.{entry_moves, written_copy, WritesMoves}
 use Rattle.page_world.specs.Refusals.{WriteRefused}
-use Rattle.page_intents.specs.Stands.{copy_at, IsUp, behind, Goes}
+use Rattle.page_intents.specs.Stands.{copy_at, behind, Goes}
 use Rattle.page_intents.specs.Frames.{Begins, written_kept, WriteGoes}
-use Rattle.page_intents.proofs.Heads.{Sets, rest_itself, sets_written, sets_none, copy_with, head_rest}
+use Rattle.page_intents.proofs.Heads.{rest_itself, sets_written, sets_none, head_rest}
 use Rattle.page_intents.proofs.Chains.{at_entry}
-use Rattle.page_intents.proofs.Standing.{Leaves, is_live_up, goes_by, quiet_by, same_members, has_copy, has_frame, leaves_set}
+use Rattle.page_intents.proofs.Standing.{is_live_up, goes_by, quiet_by, same_members, has_copy, has_frame, leaves_set}
 
 -- ---- its changes are stable
 at_most : (a b : ℕ) → nat_le a b ≡ true → a ≤ b
@@ -130,7 +130,7 @@ write_goes numbers writes refused w g content forced k at out answer v b lawful 
         (goes_by w g content forced v k (written_kept k at reply.Written) n (written_copy (g.copies m n)) (entry_moves g.facility.directory lawful.page ++ At n (Write m) ∷ []) b.numbered b.up
         (leaves_set numbers g forced k (written_kept k at reply.Written) at f lawful.page (written_copy (g.copies m n)) b.up lawful.placed (head_rest (is_placed k.marks.heads at) k.marks (with_registered (written k.marks.heads at) at true))
         (sets_written k.marks at lawful.page lawful.placed) refl refl (λ q _. refl) (ap written_copy (sym c)))
-        (same_members g.facility v _ r.1 (record { members = refl; statuses = refl })) (at_entry g.facility.directory lawful.page n (Write m))
+        (same_members g.facility v _ r.1 (record { members = refl; statuses = refl; counter = refl })) (at_entry g.facility.directory lawful.page n (Write m))
         (writes w g content m at lawful.page (bytes_at k.pages at) v b.good b.tied b.sound (is_live_up g forced k b.up) (has_frame numbers g forced k at lawful.page b.up lawful.placed)
         (ap (λ (z : Copy). z.marked) c ∙ lawful.changed) (ap (λ (z : Copy). z.bytes) c) (all_stable numbers w g content forced k at out b lawful) (subst (λ z. WritesPage g.facility m lawful.page at (bytes_at k.pages at) z v) is r)))
     by write.CacheFull e = let is : answer ≡ reply.CacheFull = r.0 ∙ ap reply_to_write e in so reply.CacheFull is (refuse reply.CacheFull is (inl refl) refl)

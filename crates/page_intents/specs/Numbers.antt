@@ -9,3 +9,5 @@ pub record AreNumbered (w : World) (content : ℕ → ℕ → List ℕ) (forced 
   pub shown : (n i : ℕ) → i < (w.pages n).last → lrsn_of (content n (i + 1)) ≡ (w.pages n).lrsn i
   -- a change that its log has up to that number is on disk
   pub stable : (n i : ℕ) → i < (w.pages n).last → (w.pages n).lrsn i ≤ forced ((w.pages n).author i) → (w.pages n).place i < w.group.stable ((w.pages n).author i)
+  -- and that number was drawn
+  pub drawn : (m : ℕ) → forced m ≤ w.group.counter

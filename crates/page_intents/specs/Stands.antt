@@ -1,5 +1,10 @@
 -- A member that is up, beside the pages of the group: what it has of them is in its frames.
-use Rattle.std.specs.Prelude.{◌≡◌, ◌≢◌, ℕ, ◌≤◌, ◌==◌, ◌||◌, true, false, if◌then◌else◌, List, length, Option, Some, None}
+use Rattle.std.specs.Prelude.{◌≡◌, ◌≢◌, ℕ, ◌+◌, Bool, ◌≤◌, ◌==◌, ◌||◌, true, false, if◌then◌else◌, List, length, Option, Some, None}
+use Rattle.std.specs.List.{flat_map, count_by}
+use Rattle.ds_model.specs.declared.log.LogRecord.{LogRecord}
+use Rattle.ds_model.specs.declared.log.Body.{Body}
+use Rattle.ds_model.specs.declared.log.Body.TheVariants as body
+use Rattle.ds_model.specs.RecordBytes.{record_bytes}
 use Rattle.list_structure.specs.declared.standing.MemberStatus.TheVariants.{Up}
 use Rattle.list_structure.specs.Standings.{status_of}
 use Rattle.facility.specs.States.{Held}
@@ -40,13 +45,32 @@ copy_of heads pages n = copy_in heads pages (find_page heads.frames (page_at n))
 
 -- ---- the member
 
--- it is up, and its log stands on disk up to the number that its marks know. No page stands in two of its frames, each frame has bytes,
--- its copies are what is in its frames, and its page locks are those that its lock manager claims
+-- a number was drawn for the record
+abbrev pub is_drawn : Body → Bool
+is_drawn (body.RowChange c) = true
+is_drawn (body.Compensation c undone) = true
+is_drawn (body.System patches) = true
+is_drawn body.Commit = true
+is_drawn body.Ended = false
+is_drawn (body.Checkpoint offset) = false
+is_drawn body.RestartEnd = false
+
+-- these bytes are records that stand behind so many drawn ones, with which they are so many
+pub record AreBehind (stable written : ℕ) (bytes : List ℕ) : Type 0 where
+  pub records : List LogRecord
+  pub spelled : bytes ≡ flat_map record_bytes records
+  pub counted : written ≡ stable + count_by (λ (r : LogRecord). is_drawn r.body) records
+
+-- it is up; its log stands on disk up to the number that its marks know, and behind that its log buffer has the rest of what was
+-- written; no page stands in two of its frames, each frame has bytes, and its copies are what is in its frames; and its page locks are
+-- those that its lock manager claims
 pub record IsUp (g : Holdings) (forced : ℕ → ℕ) (k : Kept) : Type 0 where
   pub least : 1 ≤ k.marks.member
   pub among : k.marks.member ≤ g.facility.lists.members
   pub up : status_of g.facility.lists.statuses k.marks.member ≡ Up
   pub log : forced k.marks.member ≡ k.marks.log.stable
+  pub last : k.marks.log.last ≤ g.facility.counter
+  pub pending : AreBehind (g.stable k.marks.member) (g.written k.marks.member) k.marks.log.pending
   pub apart : AreApart page_of k.marks.heads.frames
   pub each : length k.pages ≡ length k.marks.heads.frames
   pub copies : (n : ℕ) → g.copies k.marks.member n ≡ copy_of k.marks.heads k.pages n
