@@ -5,3 +5,5 @@ pub mod Freeing
 pub mod Testing
 pub mod Reading
 pub mod Writing
+pub mod Appending
+pub mod Casting

@@ -56,7 +56,7 @@ no_greater lrsn last i j rise le l = elim (cases_eq i j) [
   | inr ne ↦ (let less = rise i j (omega (arith, le, ne)) l in omega (arith, less))
 ]
 
-coherent : (w : World) (g : Group) (p : Page) (b : Bool) → b ≡ false → Stands b g p → Coherent g p
+pub coherent : (w : World) (g : Group) (p : Page) (b : Bool) → b ≡ false → Stands b g p → Coherent g p
 coherent w g p true e s = absurd (cc e)
 coherent w g p false e s = s
 

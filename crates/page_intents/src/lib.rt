@@ -4,11 +4,13 @@
 //! The crate has definitions and proofs alone. Its functions do nothing: their contracts are the theorems.
 #![tactic(auto)]
 
+ghost use Rattle.page_intents.specs.Castouts.{CastDoneGoes, CastReadGoes, CastWriteGoes};
 ghost use Rattle.page_intents.specs.Frames.{FillGoes, FreeGoes, ReadGoes, TestGoes, TestTells, WriteGoes};
+ghost use Rattle.page_intents.specs.Logs.{AppendGoes};
 
 use page_world::{
-    copies_are_newest, frames_are_moves, pages_have_numbers, reads_are_moves, refusals_stay,
-    writes_are_moves,
+    castouts_are_moves, copies_are_newest, frames_are_moves, owners_are_moves, pages_have_numbers,
+    reads_are_moves, refusals_stay, writes_are_moves,
 };
 
 /// A page that is read into a frame, whatever the reply, and one that the disk fills a frame with.
@@ -46,4 +48,22 @@ pub fn frees_go()
 {
     pages_have_numbers();
     frames_are_moves();
+}
+
+/// The append of a log buffer, behind which all records of the member's log are on disk.
+pub fn appends_go()
+    ensures { AppendGoes }
+{
+    owners_are_moves();
+}
+
+/// A page that is cast out: it is read under its castout lock, whatever the reply, and written to disk while the member has that lock;
+/// and the castout is done where the page was written, or the lock is another's or nobody's by now.
+pub fn castouts_go()
+    ensures read { CastReadGoes }
+    ensures write { CastWriteGoes }
+    ensures done { CastDoneGoes }
+{
+    pages_have_numbers();
+    castouts_are_moves();
 }
