@@ -1,0 +1,5 @@
+pub mod Stands
+pub mod Numbers
+pub mod Frames
+pub mod Logs
+pub mod Castouts

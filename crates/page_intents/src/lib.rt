@@ -1,0 +1,69 @@
+//! The page intents of a member that is up, as moves in the world of pages: an intent that is lawful, whose command the facility has
+//! executed or whose disk call was done, and whose answer is settled, leads to a world that stands beside what is left.
+//!
+//! The crate has definitions and proofs alone. Its functions do nothing: their contracts are the theorems.
+#![tactic(auto)]
+
+ghost use Rattle.page_intents.specs.Castouts.{CastDoneGoes, CastReadGoes, CastWriteGoes};
+ghost use Rattle.page_intents.specs.Frames.{FillGoes, FreeGoes, ReadGoes, TestGoes, TestTells, WriteGoes};
+ghost use Rattle.page_intents.specs.Logs.{AppendGoes};
+
+use page_world::{
+    castouts_are_moves, copies_are_newest, frames_are_moves, owners_are_moves, pages_have_numbers,
+    reads_are_moves, refusals_stay, writes_are_moves,
+};
+
+/// A page that is read into a frame, whatever the reply, and one that the disk fills a frame with.
+pub fn reads_go()
+    ensures read { ReadGoes }
+    ensures fill { FillGoes }
+{
+    pages_have_numbers();
+    reads_are_moves();
+    refusals_stay();
+    frames_are_moves();
+}
+
+/// A page whose copy is tested: that is no move, and a copy that is valid and not changed is the group's.
+pub fn tests_go()
+    ensures test { TestGoes }
+    ensures tells { TestTells }
+{
+    pages_have_numbers();
+    copies_are_newest();
+}
+
+/// A changed page that is written, whatever the reply, where the log of the member has all its changes.
+pub fn writes_go()
+    ensures { WriteGoes }
+{
+    pages_have_numbers();
+    writes_are_moves();
+    refusals_stay();
+}
+
+/// A frame that is made free.
+pub fn frees_go()
+    ensures { FreeGoes }
+{
+    pages_have_numbers();
+    frames_are_moves();
+}
+
+/// The append of a log buffer, behind which all records of the member's log are on disk.
+pub fn appends_go()
+    ensures { AppendGoes }
+{
+    owners_are_moves();
+}
+
+/// A page that is cast out: it is read under its castout lock, whatever the reply, and written to disk while the member has that lock;
+/// and the castout is done where the page was written, or the lock is another's or nobody's by now.
+pub fn castouts_go()
+    ensures read { CastReadGoes }
+    ensures write { CastWriteGoes }
+    ensures done { CastDoneGoes }
+{
+    pages_have_numbers();
+    castouts_are_moves();
+}
