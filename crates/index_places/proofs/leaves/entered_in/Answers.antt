@@ -10,8 +10,9 @@ take_page-requires c =
     c.index_page-id.ensures c.in_ok-page.ensures
 
 pub loop-number-preserved : goal.loop-number-preserved
-loop-number-preserved c =
-    (leads_more (images_of c.args.records.now) c.args.table c.loop-number.number c.args.places.now c.index_page-id.result c.in_ok-page.page c.in_ok-take_page.field-0 c.index_page-id.ensures c.in_ok-page.ensures
+loop-number-preserved c = (
+  leads_more (images_of c.args.records.now) c.args.table c.loop-number.number c.args.places.now c.index_page-id.result c.in_ok-page.page c.in_ok-take_page.field-0 c.index_page-id.ensures c.in_ok-page.ensures
       c.in_ok-take_page.ensures.leads c.if-not-branch.false c.loop-number.invariant.0,
-     entered_more (images_of c.args.records.now) c.args.table c.loop-number.number _ _ c.index_page-id.result c.in_ok-page.page c.loop-number.auto.number c.index_page-id.ensures c.in_ok-page.ensures c.loop-number.invariant.1
-      c.in_ok-take_page.ensures.entered)
+  entered_more (images_of c.args.records.now) c.args.table c.loop-number.number _ _ c.index_page-id.result c.in_ok-page.page c.loop-number.auto.number c.index_page-id.ensures c.in_ok-page.ensures c.loop-number.invariant.1
+      c.in_ok-take_page.ensures.entered,
+)
