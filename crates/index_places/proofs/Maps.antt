@@ -1,11 +1,11 @@
 -- What the maps of places have.
-use Rattle.std.proofs.Common.{◌≡◌, ◌⊎◌, ℕ, zero, suc, ◌+◌, ◌<◌, ◌≤◌, Bool, true, false, ◌&&◌, ◌||◌, cond, List, [], ◌∷◌, Option, Some, None, is_some, refl, sym, ap, subst, ◌∙◌, arith, inl, inr}
+use Rattle.std.proofs.Common.{◌≡◌, ◌⊎◌, ℕ, zero, suc, ◌≤◌, Bool, true, false, ◌&&◌, cond, List, [], ◌∷◌, Option, Some, None, is_some, refl, sym, ap, subst, ◌∙◌, arith, inl, inr}
 use Rattle.std.specs.Prelude.{◌==◌, if◌then◌else◌, Contains}
 use Rattle.std.specs.Ordering.{nat_cmp, eq_by_cmp, is_eq, ordering_then}
 use Rattle.std.specs.declared.cmp.Ordering.{Ordering}
 use Rattle.std.specs.declared.cmp.Ordering.TheVariants.{Less, Equal, Greater}
 use Rattle.std.specs.FinMap.{get, insert, empty, get-insert, get-empty}
-use Rattle.std.proofs.lemmas.Bool.{cond_both, cases_lt}
+use Rattle.std.proofs.lemmas.Bool.{cases_lt}
 use Rattle.std.proofs.lemmas.Bool.Decides.{nat_tests}
 use Rattle.ds_base.specs.Pages.{index_page}
 use Rattle.ds_base.specs.declared.names.Place.{Place}
@@ -16,7 +16,7 @@ use Rattle.index_leaf.specs.Search.{is_branch}
 use Rattle.page_images.specs.Images.{Images}
 use Rattle.table_pages.proofs.Booleans.{and_left, and_right, and_both, equal, itself}
 use Rattle.index_places.specs.declared.slots.Given.{Given}
-use Rattle.index_places.specs.Placing.{Places, places_from, same_place, is_place, entered_with, entered_by, entered_before}
+use Rattle.index_places.specs.Placing.{Places, places_from, same_place, is_place, entered_with, entered_before}
 
 -- ---- places
 
@@ -191,8 +191,8 @@ entered_has at table zero p e from to leaf c = absurd (omega (arith, from, to))
 entered_has at table (suc n) p e from to leaf c =
     elim (cases_lt n p) as (λ _. Has (entered_before at table (suc n)) table e.key ≡ true) [
       | inl last ↦
-        let same : p ≡ suc n = omega (arith, last, to) in
-        by_has (is_branch (at (index_page table (suc n)))) table e (entered_before at table n) (entries_of (at (index_page table (suc n))))
-        (subst (λ (x : ℕ). is_branch (at (index_page table x)) ≡ false) same leaf) (subst (λ (x : ℕ). Contains (entries_of (at (index_page table x))) e) same c)
+          let same : p ≡ suc n = omega (arith, last, to) in
+          by_has (is_branch (at (index_page table (suc n)))) table e (entered_before at table n) (entries_of (at (index_page table (suc n))))
+          (subst (λ (x : ℕ). is_branch (at (index_page table x)) ≡ false) same leaf) (subst (λ (x : ℕ). Contains (entries_of (at (index_page table x))) e) same c)
       | inr up ↦ by_still (is_branch (at (index_page table (suc n)))) table e.key (entered_before at table n) (entries_of (at (index_page table (suc n)))) (entered_has at table n p e from up leaf c)
     ]

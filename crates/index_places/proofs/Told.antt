@@ -1,28 +1,25 @@
 -- What the checks of an index's places and of tables tell.
-use Rattle.std.proofs.Common.{◌≡◌, ◌≢◌, ◌↔◌, ◌⊎◌, ℕ, zero, suc, ◌+◌, ◌-◌, ◌<◌, ◌≤◌, Bool, true, false, List, [], ◌∷◌, Option, Some, None, Result, Ok, Err, refl, sym, ap, subst, ◌∙◌, arith, inl, inr}
+use Rattle.std.proofs.Common.{◌≡◌, ◌≢◌, ◌⊎◌, ℕ, suc, ◌+◌, ◌-◌, ◌<◌, ◌≤◌, Bool, true, false, List, [], ◌∷◌, Option, Some, None, Result, Ok, Err, refl, sym, ap, subst, ◌∙◌, arith, inl, inr}
 use Rattle.std.specs.Prelude.{IfOk, Contains}
 use Rattle.std.specs.List.{list_all}
 use Rattle.std.specs.FinMap.{empty}
 use Rattle.std.proofs.lemmas.Bool.{cases_lt}
-use Rattle.ds_base.specs.Ids.{IsTable}
 use Rattle.ds_base.specs.Pages.{index_page}
 use Rattle.ds_base.specs.declared.names.PageId.{PageId}
-use Rattle.ds_base.specs.declared.names.Place.{Place}
 use Rattle.ds_model.specs.declared.log.LogRecord.{LogRecord}
 use Rattle.page_format.specs.Header.{is_zeros}
 use Rattle.index_leaf.specs.Changes.{next_page_of}
 use Rattle.page_images.specs.Images.{Images}
-use Rattle.page_chain.specs.Chains.{images_of}
 use Rattle.sound_disk.specs.Heaps.{IsHeap}
 use Rattle.sound_disk.specs.Indexes.{AreIndexPages, index_next}
-use Rattle.sound_disk.specs.Tables.{HasNoIndex, IsWholeIndex, IsWholeTable}
+use Rattle.sound_disk.specs.Tables.{IsWholeIndex, IsWholeTable}
 use Rattle.table_images.specs.Nodes.{IsUnformatted, IsWrongIndex}
 use Rattle.heap_rows.specs.Rows_left.{HasRowsLeft}
 use Rattle.heap_rows.proofs.Heaps.{blank_number}
 use Rattle.index_links.specs.Opens.{Opens, CannotOpen}
 use Rattle.index_places.specs.declared.slots.Given.{Given}
 use Rattle.index_places.specs.Placing.{Places, places_from, is_reached, leaf_leads, entered_by, entered_before, AllLead, Misleads, AreGiven}
-use Rattle.index_places.specs.Whole.{IsWholeTold, IsIndexRight, IsIndexTold, IsTableTold, AreAllWhole, AreTablesTold}
+use Rattle.index_places.specs.Whole.{IsWholeTold, IsIndexRight, IsIndexTold, IsTableTold}
 use Rattle.index_places.proofs.Whole.{whole_of, whole_leads, whole_reached}
 
 not_both : (b : Bool) → b ≡ true → b ≡ false → ⊥
@@ -40,8 +37,8 @@ leads_more at table n places id page b i e t h so_far k from lt =
     elim (cases_lt k n) as (λ _. leaf_leads places table (at (index_page table k)) ≡ true) [
       | inl less ↦ so_far k from less
       | inr up ↦
-        let same : k ≡ n = omega (arith, lt, up) in
-        ap (λ (m : ℕ). leaf_leads places table (at (index_page table m))) same ∙ ap (λ (q : PageId). leaf_leads places table (at q)) (sym i) ∙ ap (leaf_leads places table) (sym e) ∙ sym t ∙ h
+          let same : k ≡ n = omega (arith, lt, up) in
+          ap (λ (m : ℕ). leaf_leads places table (at (index_page table m))) same ∙ ap (λ (q : PageId). leaf_leads places table (at q)) (sym i) ∙ ap (leaf_leads places table) (sym e) ∙ sym t ∙ h
     ]
 
 pub entered_more : (at : Images) (table n : ℕ) (before after : Places) (id : PageId) (page : List ℕ) → 1 ≤ n → id ≡ index_page table n → page ≡ at id → before ≡ entered_before at table (n - 1) → after ≡ entered_by table before page

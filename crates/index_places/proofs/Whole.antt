@@ -1,5 +1,5 @@
 -- The tests of leaves and slots, and an index that is whole.
-use Rattle.std.proofs.Common.{◌≡◌, ◌↔◌, ◌⊎◌, ℕ, zero, suc, ◌+◌, ◌-◌, ◌<◌, ◌≤◌, Bool, true, false, List, [], ◌∷◌, length, get_or, Option, Some, None, is_some, refl, sym, ap, subst, ◌∙◌, arith, inl, inr}
+use Rattle.std.proofs.Common.{◌≡◌, ℕ, zero, suc, ◌-◌, ◌<◌, ◌≤◌, Bool, true, false, List, [], ◌∷◌, Option, Some, None, is_some, refl, sym, ap, subst, ◌∙◌, arith}
 use Rattle.std.specs.Prelude.{if◌then◌else◌, Contains}
 use Rattle.std.specs.List.{list_all}
 use Rattle.std.specs.FinMap.{get, empty}
@@ -9,7 +9,7 @@ use Rattle.ds_model.specs.declared.log.LogRecord.{LogRecord}
 use Rattle.index_leaf.specs.declared.layout.Entry.{Entry}
 use Rattle.index_leaf.specs.Entries.{entries_of}
 use Rattle.index_leaf.specs.Search.{is_branch, find}
-use Rattle.index_protocol.specs.Index.{Kind, Leaf}
+use Rattle.index_protocol.specs.Index.{Leaf}
 use Rattle.index_protocol.specs.Opening.{IsSound}
 use Rattle.page_images.specs.Images.{Images}
 use Rattle.sound_disk.specs.Indexes.{AreIndexPages, index_next}
@@ -22,8 +22,8 @@ use Rattle.index_links.specs.Opens.{Opens}
 use Rattle.index_links.proofs.Kinds_in.{InIndex, named, named_made, leaf_is, made_inside, inside_named}
 use Rattle.index_links.proofs.Found.{found, find_it}
 use Rattle.index_places.specs.declared.slots.Given.{Given}
-use Rattle.index_places.specs.Placing.{Places, places_from, is_place, leads, is_reached, leaf_leads, entered_before, AreGiven}
-use Rattle.index_places.proofs.Maps.{place_is, is_it, slot_of, places_get, places_has, entry_at, IsEntered, entered_get, entered_has}
+use Rattle.index_places.specs.Placing.{Places, places_from, leads, is_reached, leaf_leads, entered_before, AreGiven}
+use Rattle.index_places.proofs.Maps.{place_is, is_it, slot_of, places_get, places_has, entry_at, entered_get, entered_has}
 
 -- ---- a key's leaf
 
@@ -76,18 +76,18 @@ whole_of at records table given p o g leads_all reached_all = record {
   home = o.home;
   opens = o.sound;
   leads = λ e h.
-    let i = home_in at records table o.home e.key p o.sound in
-    let page : List ℕ = at (index_page table (o.home e.key)) in
-    let f = found (entries_of page) e.key e h in
-    let all = leaf_all (is_branch page) (places_from table empty given) table (entries_of page) (leaf_is page (o.sound.home_leaf e.key)) (leads_all (o.home e.key) i.from i.to) in
-    let t = each_passes (leads (places_from table empty given) table) (entries_of page) all e f.among in
-    (g e.key e.place).1 (places_get table e.key e.place given (place_is (get (places_from table empty given) (table, e.key)) e.place t));
+      let i = home_in at records table o.home e.key p o.sound in
+      let page : List ℕ = at (index_page table (o.home e.key)) in
+      let f = found (entries_of page) e.key e h in
+      let all = leaf_all (is_branch page) (places_from table empty given) table (entries_of page) (leaf_is page (o.sound.home_leaf e.key)) (leads_all (o.home e.key) i.from i.to) in
+      let t = each_passes (leads (places_from table empty given) table) (entries_of page) all e f.among in
+      (g e.key e.place).1 (places_get table e.key e.place given (place_is (get (places_from table empty given) (table, e.key)) e.place t));
   reached = λ e h.
-    let t = each_given (is_reached (entered_before at table (index_next at table - 1)) table) given reached_all (slot_of e.key e.place) ((g e.key e.place).0 h) in
-    let q = entered_get at table (index_next at table - 1) e.key e.place (place_is (get (entered_before at table (index_next at table - 1)) (table, e.key)) e.place t) in
-    let to = q.to in
-    let from = q.from in
-    entry_home at records table o.home q.page (entry_at e.key e.place) p o.sound (record { from = from; to = omega (arith, to, from) }) q.leaf q.among;
+      let t = each_given (is_reached (entered_before at table (index_next at table - 1)) table) given reached_all (slot_of e.key e.place) ((g e.key e.place).0 h) in
+      let q = entered_get at table (index_next at table - 1) e.key e.place (place_is (get (entered_before at table (index_next at table - 1)) (table, e.key)) e.place t) in
+      let to = q.to in
+      let from = q.from in
+      entry_home at records table o.home q.page (entry_at e.key e.place) p o.sound (record { from = from; to = omega (arith, to, from) }) q.leaf q.among;
 }
 
 -- ---- and where the index is whole they hold

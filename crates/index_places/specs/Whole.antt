@@ -1,7 +1,6 @@
 -- Whether an index, a table and all tables are whole.
-use Rattle.std.specs.Prelude.{◌≡◌, ◌⊎◌, ℕ, List, Option, None, Some}
+use Rattle.std.specs.Prelude.{◌⊎◌, ℕ, List, Option, None, Some}
 use Rattle.ds_base.specs.Ids.{IsTable}
-use Rattle.ds_base.specs.Pages.{index_page}
 use Rattle.ds_base.specs.declared.names.PageId.{PageId}
 use Rattle.ds_model.specs.declared.log.LogRecord.{LogRecord}
 use Rattle.page_images.specs.Images.{Images}

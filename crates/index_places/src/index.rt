@@ -8,8 +8,8 @@ ghost use Rattle.index_places.specs.Placing.{AreGiven};
 ghost use Rattle.index_places.specs.Whole.{IsWholeTold, IsIndexTold};
 ghost use Rattle.index_links.specs.Opens.{Opens};
 
-use crate::slots::{Given, given_in, places_of};
 use crate::leaves::{are_reached, entered_in};
+use crate::slots::{Given, given_in, places_of};
 use ds_base::{NoMemory, PageId, TableId};
 use index_leaf::next_page;
 use index_links::find_wrong_link_page;

@@ -5,8 +5,8 @@ ghost use Rattle.page_chain.specs.Chains.{images_of};
 ghost use Rattle.heap_rows.specs.Maps.{AreRowsAfter};
 ghost use Rattle.index_places.specs.Whole.{IsTableTold, AreTablesTold};
 
-use crate::slots::given_in;
 use crate::index::find_wrong_index;
+use crate::slots::given_in;
 use ds_base::{NoMemory, PageId, TableId, Value};
 use heap_rows::{find_wrong_row_page, rows_after};
 use log_record::LogRecord;
