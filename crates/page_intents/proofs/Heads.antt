@@ -116,17 +116,17 @@ Apart h = AreApart page_of h.frames
 pub one_frame : (h : HeadState) → Apart h → (p q : ℕ) (id : PageId) → (frame_in h p).page ≡ Some id → (frame_in h q).page ≡ Some id → p ≡ q
 one_frame h apart p q id a b = apart p q id (placed_is h.frames p ∙ a) (placed_is h.frames q ∙ b)
 
-found : (h : HeadState) (q : ℕ) (id : PageId) → Apart h → (frame_in h q).page ≡ Some id → find_page h.frames id ≡ Some q
+pub found : (h : HeadState) (q : ℕ) (id : PageId) → Apart h → (frame_in h q).page ≡ Some id → find_page h.frames id ≡ Some q
 found h q id apart e = found_at page_of h.frames apart q id (placed_is h.frames q ∙ e)
 
-is_found : (h : HeadState) (q : ℕ) (id : PageId) → find_page h.frames id ≡ Some q → (frame_in h q).page ≡ Some id
+pub is_found : (h : HeadState) (q : ℕ) (id : PageId) → find_page h.frames id ≡ Some q → (frame_in h q).page ≡ Some id
 is_found h q id e = sym (placed_is h.frames q) ∙ finds page_of h.frames id q e
 
 is_missed : (h : HeadState) (q : ℕ) (id : PageId) → find_page h.frames id ≡ None → (frame_in h q).page ≡ Some id → ⊥
 is_missed h q id none e = misses page_of h.frames id q none (placed_is h.frames q ∙ e)
 
 -- the same frame has the page
-found_same : (h u : HeadState) (id : PageId) → Apart u → ((q : ℕ) → (frame_in u q).page ≡ Some id → (frame_in h q).page ≡ Some id) → ((q : ℕ) → (frame_in h q).page ≡ Some id → (frame_in u q).page ≡ Some id)
+pub found_same : (h u : HeadState) (id : PageId) → Apart u → ((q : ℕ) → (frame_in u q).page ≡ Some id → (frame_in h q).page ≡ Some id) → ((q : ℕ) → (frame_in h q).page ≡ Some id → (frame_in u q).page ≡ Some id)
     → find_page u.frames id ≡ find_page h.frames id
 found_same h u id apart was now = by (find_page h.frames id) (find_page u.frames id) refl refl
   where

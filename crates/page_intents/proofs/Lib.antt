@@ -7,3 +7,4 @@ pub mod Reading
 pub mod Writing
 pub mod Appending
 pub mod Casting
+pub mod Drawing

@@ -3,3 +3,4 @@ pub mod Numbers
 pub mod Frames
 pub mod Logs
 pub mod Castouts
+pub mod Draws

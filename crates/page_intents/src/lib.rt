@@ -5,12 +5,13 @@
 #![tactic(auto)]
 
 ghost use Rattle.page_intents.specs.Castouts.{CastDoneGoes, CastReadGoes, CastWriteGoes};
+ghost use Rattle.page_intents.specs.Draws.{ChangeGoes};
 ghost use Rattle.page_intents.specs.Frames.{FillGoes, FreeGoes, ReadGoes, TestGoes, TestTells, WriteGoes};
 ghost use Rattle.page_intents.specs.Logs.{AppendGoes};
 
 use page_world::{
-    castouts_are_moves, copies_are_newest, frames_are_moves, owners_are_moves, pages_have_numbers,
-    reads_are_moves, refusals_stay, writes_are_moves,
+    castouts_are_moves, copies_are_newest, draws_are_moves, frames_are_moves, owners_are_moves,
+    pages_have_numbers, reads_are_moves, refusals_stay, writes_are_moves,
 };
 
 /// A page that is read into a frame, whatever the reply, and one that the disk fills a frame with.
@@ -66,4 +67,12 @@ pub fn castouts_go()
 {
     pages_have_numbers();
     castouts_are_moves();
+}
+
+/// A number that is drawn for a change.
+pub fn draws_go()
+    ensures { ChangeGoes }
+{
+    pages_have_numbers();
+    draws_are_moves();
 }
