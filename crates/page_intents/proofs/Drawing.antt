@@ -61,12 +61,12 @@ pub record Draws (g : Holdings) (k t : Kept) (is : ℕ → Bool) (indexes : Inde
   pub pending : AreBehind (g.stable k.marks.member) (g.written k.marks.member + 1) t.marks.log.pending
 
 -- ---- the frame of a copy
-record Located (g : Holdings) (k : Kept) (n : ℕ) : Type 0 where
+pub record Located (g : Holdings) (k : Kept) (n : ℕ) : Type 0 where
   pub at : ℕ
   pub copy : g.copies k.marks.member n ≡ copy_at k.marks.heads k.pages at
   pub page : (frame_in k.marks.heads at).page ≡ Some (page_at n)
 
-located : (g : Holdings) (forced : ℕ → ℕ) (k : Kept) (n : ℕ) → IsUp g forced k → (g.copies k.marks.member n).placed ≡ true → Located g k n
+pub located : (g : Holdings) (forced : ℕ → ℕ) (k : Kept) (n : ℕ) → IsUp g forced k → (g.copies k.marks.member n).placed ≡ true → Located g k n
 located g forced k n up placed = by (find_page k.marks.heads.frames (page_at n)) refl
   where
     by : (o : Option ℕ) → find_page k.marks.heads.frames (page_at n) ≡ o → Located g k n

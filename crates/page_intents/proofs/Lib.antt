@@ -8,3 +8,7 @@ pub mod Writing
 pub mod Appending
 pub mod Casting
 pub mod Drawing
+pub mod Patching
+pub mod Undoing
+pub mod Owning
+pub mod Placing

@@ -4,3 +4,5 @@ pub mod Frames
 pub mod Logs
 pub mod Castouts
 pub mod Draws
+pub mod Owners
+pub mod Locals
