@@ -12,13 +12,13 @@ use Rattle.page_world.specs.Numbers.{set_of}
 use Rattle.page_world.specs.Cache.{reclaim_of, entry_moves}
 use Rattle.page_intents.specs.Numbers.{AreNumbered}
 
-record Chain : Type 0 where
+pub record Chain : Type 0 where
   pub last : ℕ
   pub author : ℕ → ℕ
   pub place : ℕ → ℕ
   pub lrsn : ℕ → ℕ
 
-abbrev chain_of : Page → Chain
+abbrev pub chain_of : Page → Chain
 chain_of p = record { last = p.last; author = p.author; place = p.place; lrsn = p.lrsn }
 
 step_chain : (g : Group) (p q : Page) (e : PageMove) → PageStep g p e q → chain_of q ≡ chain_of p
@@ -50,7 +50,7 @@ Shows content c = (i : ℕ) → i < c.last → lrsn_of (content (i + 1)) ≡ c.l
 abbrev Stands : (ℕ → ℕ) → (ℕ → ℕ) → Chain → Type 0
 Stands forced stable c = (i : ℕ) → i < c.last → c.lrsn i ≤ forced (c.author i) → c.place i < stable (c.author i)
 
-numbered_along : (w v : World) (content : ℕ → ℕ → List ℕ) (forced : ℕ → ℕ) → ((n : ℕ) → chain_of (v.pages n) ≡ chain_of (w.pages n)) → v.group.stable ≡ w.group.stable → v.group.counter ≡ w.group.counter → AreNumbered w content forced → AreNumbered v content forced
+pub numbered_along : (w v : World) (content : ℕ → ℕ → List ℕ) (forced : ℕ → ℕ) → ((n : ℕ) → chain_of (v.pages n) ≡ chain_of (w.pages n)) → v.group.stable ≡ w.group.stable → v.group.counter ≡ w.group.counter → AreNumbered w content forced → AreNumbered v content forced
 numbered_along w v content forced same stable counter t = record {
   shown = λ n. subst (Shows (content n)) (sym (same n)) (t.shown n);
   stable = λ n. subst (λ f. Stands forced f (chain_of (v.pages n))) (sym stable) (subst (Stands forced w.group.stable) (sym (same n)) (t.stable n));

@@ -27,7 +27,7 @@ frame_is (x ∷ frames) (suc f) = frame_is frames f
 at_same : (frames : List Frame) (f : ℕ) (x : Frame) → f < length frames → frame_at (slice_set frames f x) f ≡ x
 at_same frames f x l = frame_is (slice_set frames f x) f ∙ get_or-set_same frames f x free_frame l
 
-at_other : (frames : List Frame) (f g : ℕ) (x : Frame) → g ≢ f → frame_at (slice_set frames f x) g ≡ frame_at frames g
+pub at_other : (frames : List Frame) (f g : ℕ) (x : Frame) → g ≢ f → frame_at (slice_set frames f x) g ≡ frame_at frames g
 at_other frames f g x ne = frame_is (slice_set frames f x) g ∙ get_or-set_other frames f g x free_frame ne ∙ sym (frame_is frames g)
 
 pub placed_is : (frames : List Frame) (f : ℕ) → placed_at page_of frames f ≡ (frame_at frames f).page
@@ -79,7 +79,7 @@ head_rest true s u = record { member = refl; locks = refl; log = refl }
 head_rest false s u = rest_itself s
 
 -- where the frame has a page
-set_placed : (s : MarksState) (at : ℕ) (u : HeadState) (f : Frame) (id : PageId) → (frame_in s.heads at).page ≡ Some id → Sets s.heads u at f → Sets s.heads (cond (is_placed s.heads at) (with_heads s u) s).heads at f
+pub set_placed : (s : MarksState) (at : ℕ) (u : HeadState) (f : Frame) (id : PageId) → (frame_in s.heads at).page ≡ Some id → Sets s.heads u at f → Sets s.heads (cond (is_placed s.heads at) (with_heads s u) s).heads at f
 set_placed s at u f id e sets = subst (λ (t : MarksState). Sets s.heads t.heads at f) (sym (cond-true (is_placed s.heads at) (with_heads s u) s (ap is_some e))) sets
 
 pub sets_registered : (s : MarksState) (at : ℕ) (b : Bool) (id : PageId) → (frame_in s.heads at).page ≡ Some id → Sets s.heads (after_registered s at b).heads at (record (frame_in s.heads at) { registered = b })
@@ -110,23 +110,23 @@ sets_written s at id e =
 abbrev page_in : HeadState → ℕ → Option PageId
 page_in h q = (frame_in h q).page
 
-abbrev Apart : HeadState → Type 0
+abbrev pub Apart : HeadState → Type 0
 Apart h = AreApart page_of h.frames
 
 pub one_frame : (h : HeadState) → Apart h → (p q : ℕ) (id : PageId) → (frame_in h p).page ≡ Some id → (frame_in h q).page ≡ Some id → p ≡ q
 one_frame h apart p q id a b = apart p q id (placed_is h.frames p ∙ a) (placed_is h.frames q ∙ b)
 
-found : (h : HeadState) (q : ℕ) (id : PageId) → Apart h → (frame_in h q).page ≡ Some id → find_page h.frames id ≡ Some q
+pub found : (h : HeadState) (q : ℕ) (id : PageId) → Apart h → (frame_in h q).page ≡ Some id → find_page h.frames id ≡ Some q
 found h q id apart e = found_at page_of h.frames apart q id (placed_is h.frames q ∙ e)
 
-is_found : (h : HeadState) (q : ℕ) (id : PageId) → find_page h.frames id ≡ Some q → (frame_in h q).page ≡ Some id
+pub is_found : (h : HeadState) (q : ℕ) (id : PageId) → find_page h.frames id ≡ Some q → (frame_in h q).page ≡ Some id
 is_found h q id e = sym (placed_is h.frames q) ∙ finds page_of h.frames id q e
 
-is_missed : (h : HeadState) (q : ℕ) (id : PageId) → find_page h.frames id ≡ None → (frame_in h q).page ≡ Some id → ⊥
+pub is_missed : (h : HeadState) (q : ℕ) (id : PageId) → find_page h.frames id ≡ None → (frame_in h q).page ≡ Some id → ⊥
 is_missed h q id none e = misses page_of h.frames id q none (placed_is h.frames q ∙ e)
 
 -- the same frame has the page
-found_same : (h u : HeadState) (id : PageId) → Apart u → ((q : ℕ) → (frame_in u q).page ≡ Some id → (frame_in h q).page ≡ Some id) → ((q : ℕ) → (frame_in h q).page ≡ Some id → (frame_in u q).page ≡ Some id)
+pub found_same : (h u : HeadState) (id : PageId) → Apart u → ((q : ℕ) → (frame_in u q).page ≡ Some id → (frame_in h q).page ≡ Some id) → ((q : ℕ) → (frame_in h q).page ≡ Some id → (frame_in u q).page ≡ Some id)
     → find_page u.frames id ≡ find_page h.frames id
 found_same h u id apart was now = by (find_page h.frames id) (find_page u.frames id) refl refl
   where

@@ -7,3 +7,8 @@ pub mod Reading
 pub mod Writing
 pub mod Appending
 pub mod Casting
+pub mod Drawing
+pub mod Patching
+pub mod Undoing
+pub mod Owning
+pub mod Placing

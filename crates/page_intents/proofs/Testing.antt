@@ -23,7 +23,7 @@ or_true true b e = refl
 or_true false b e = e
 
 -- the member and its heads are those behind the test
-record IsTested (s t : MarksState) (at : ℕ) (b : Bool) : Type 0 where
+pub record IsTested (s t : MarksState) (at : ℕ) (b : Bool) : Type 0 where
   pub rest : SameRest s t
   pub heads : t.heads ≡ (after_registered s at b).heads
 
@@ -34,7 +34,7 @@ valid_tested : (s : MarksState) (at slot place : ℕ) (full : Option (ℕ × ℕ
 valid_tested s at slot place None = record { rest = registered_rest s at true; heads = refl }
 valid_tested s at slot place (Some x) = let r = registered_rest s at true in record { rest = record { member = r.member; locks = r.locks; log = r.log }; heads = refl }
 
-invalid_tested : (s : MarksState) (at : ℕ) → IsTested s (after_registered s at false) at false
+pub invalid_tested : (s : MarksState) (at : ℕ) → IsTested s (after_registered s at false) at false
 invalid_tested s at = record { rest = registered_rest s at false; heads = refl }
 
 -- a filled frame counts as registered all along
@@ -43,7 +43,7 @@ copy_tested f bytes at b filled =
     let noted : (b || f.filled) ≡ (f.registered || f.filled) = or_true b f.filled filled ∙ sym (or_true f.registered f.filled filled) in
     λ i. record { placed = true; index = at; filled = f.filled; marked = f.changed; noted = noted i; bytes = bytes }
 
-leaves_tested : AreNumbered → (g : Holdings) (forced : ℕ → ℕ) (k : Kept) (t : MarksState) (at : ℕ) (b : Bool) (id : PageId) → IsUp g forced k → (frame_in k.marks.heads at).page ≡ Some id → (frame_in k.marks.heads at).filled ≡ true → IsTested k.marks t at b
+pub leaves_tested : AreNumbered → (g : Holdings) (forced : ℕ → ℕ) (k : Kept) (t : MarksState) (at : ℕ) (b : Bool) (id : PageId) → IsUp g forced k → (frame_in k.marks.heads at).page ≡ Some id → (frame_in k.marks.heads at).filled ≡ true → IsTested k.marks t at b
     → Leaves k (with_marks k t) (page_number id) (g.copies k.marks.member (page_number id))
 leaves_tested numbers g forced k t at b id up placed filled tested =
     let h = k.marks.heads in

@@ -3,3 +3,6 @@ pub mod Numbers
 pub mod Frames
 pub mod Logs
 pub mod Castouts
+pub mod Draws
+pub mod Owners
+pub mod Locals

@@ -5,12 +5,15 @@
 #![tactic(auto)]
 
 ghost use Rattle.page_intents.specs.Castouts.{CastDoneGoes, CastReadGoes, CastWriteGoes};
+ghost use Rattle.page_intents.specs.Draws.{ChangeGoes, CommitGoes, UndoGoes};
 ghost use Rattle.page_intents.specs.Frames.{FillGoes, FreeGoes, ReadGoes, TestGoes, TestTells, WriteGoes};
+ghost use Rattle.page_intents.specs.Locals.{LoseGoes, PinGoes, PlaceGoes, StaleGoes, UnpinGoes};
 ghost use Rattle.page_intents.specs.Logs.{AppendGoes};
+ghost use Rattle.page_intents.specs.Owners.{GrantGoes, ObtainGoes, ReleaseGoes, StayGoes};
 
 use page_world::{
-    castouts_are_moves, copies_are_newest, frames_are_moves, owners_are_moves, pages_have_numbers,
-    reads_are_moves, refusals_stay, writes_are_moves,
+    castouts_are_moves, copies_are_newest, draws_are_moves, frames_are_moves, losses_are_moves,
+    owners_are_moves, pages_have_numbers, reads_are_moves, refusals_stay, writes_are_moves,
 };
 
 /// A page that is read into a frame, whatever the reply, and one that the disk fills a frame with.
@@ -66,4 +69,50 @@ pub fn castouts_go()
 {
     pages_have_numbers();
     castouts_are_moves();
+}
+
+/// A number that is drawn for a change, for a compensation, and for a commit.
+pub fn draws_go()
+    ensures change { ChangeGoes }
+    ensures undo { UndoGoes }
+    ensures commit { CommitGoes }
+{
+    draws_are_moves();
+}
+
+/// A page lock that is granted, at once or behind the answers of others, and one that is given up.
+pub fn owners_go()
+    ensures obtain { ObtainGoes }
+    ensures grant { GrantGoes }
+    ensures release { ReleaseGoes }
+{
+    pages_have_numbers();
+    owners_are_moves();
+    losses_are_moves();
+}
+
+/// An event that leaves the frames, the log and the page claims of the member, and of the facility what pages know of, is no move.
+pub fn others_stay()
+    ensures { StayGoes }
+{
+    losses_are_moves();
+}
+
+/// Local moves that change frames are no moves: a page that is placed in a free frame, and a frame that is pinned more or less. Nor
+/// is it one that a draw finds a copy stale.
+pub fn locals_stay()
+    ensures place { PlaceGoes }
+    ensures pin { PinGoes }
+    ensures unpin { UnpinGoes }
+    ensures stale { StaleGoes }
+{
+    pages_have_numbers();
+    frames_are_moves();
+}
+
+/// The loss of the cache structure on the word of a member, which is no move where it is lost already.
+pub fn losses_go()
+    ensures { LoseGoes }
+{
+    losses_are_moves();
 }
