@@ -101,7 +101,7 @@ in_hand g m c buffer has =
     has n ∙ cond-true (n == n) (record { taken = true; sent = c.is_written; bytes = buffer }) no_cast (eq-eqb n n refl)
 
 -- ---- the member is still up
-up_beside : (g : Holdings) (forced : ℕ → ℕ) (k : Kept) (v : Held) (now : ℕ → ℕ → Cast) (disk : ℕ → List ℕ) → IsUp g forced k → SameMembers g.facility v → IsUp (record g { facility = v; casts = now; disk = disk }) forced k
+pub up_beside : (g : Holdings) (forced : ℕ → ℕ) (k : Kept) (v : Held) (now : ℕ → ℕ → Cast) (disk : ℕ → List ℕ) → IsUp g forced k → SameMembers g.facility v → IsUp (record g { facility = v; casts = now; disk = disk }) forced k
 up_beside g forced k v now disk up same = record {
   least = up.least;
   among = subst (λ z. k.marks.member ≤ z) (sym same.members) up.among;

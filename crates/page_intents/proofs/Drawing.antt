@@ -1,8 +1,8 @@
 -- A number is drawn for a log record that changes the pages in some frames.
 use Rattle.std.proofs.Common.{◌≡◌, ◌≢◌, ℕ, ◌+◌, ◌<◌, ◌≤◌, refl, sym, ap, subst, ◌∙◌, Bool, true, false, inl, inr, List, [], ◌∷◌, length, Option, Some, None, arith}
-use Rattle.std.specs.Prelude.{◌⊎◌, ◌==◌, ◌&&◌, ◌||◌, if◌then◌else◌, is_some}
+use Rattle.std.specs.Prelude.{◌==◌, ◌&&◌, ◌||◌, if◌then◌else◌, is_some}
 use Rattle.std.specs.List.{list_any}
-use Rattle.std.proofs.lemmas.Bool.{cond-true, cond-false, both_ways, cases_eq, and_parts, and_from, eq-eqb, eqb-true, ne_eqb, false_from_ne_true}
+use Rattle.std.proofs.lemmas.Bool.{cond-true, cond-false, both_ways, cases_eq, and_parts, eq-eqb, eqb-true, ne_eqb, false_from_ne_true}
 use Rattle.std.proofs.lemmas.Option.{same_Some}
 use Rattle.ds_base.specs.declared.names.PageId.{PageId}
 use Rattle.ds_model.specs.declared.lock.Name.TheVariants as name
@@ -13,7 +13,6 @@ use Rattle.facility.specs.Counting.{given}
 use Rattle.lock_manager.specs.Managers.{Book, held_by}
 use Rattle.page_format.specs.Fields.{lrsn_of}
 use Rattle.page_index.specs.Places.{AreApart}
-use Rattle.member_pool.specs.declared.frame.Frame.{Frame}
 use Rattle.member_pool.specs.Frames.{find_page, page_of}
 use Rattle.member_marks.specs.State.{MarksState}
 use Rattle.member_marks.specs.Claims.{has_page}
@@ -22,8 +21,8 @@ use Rattle.member_effects.specs.Kept.{Kept}
 use Rattle.member_effects.specs.Changes.{bytes_at}
 use Rattle.page_protocol.specs.Page.{put, change}
 use Rattle.page_protocol.specs.Moves.{World, Draw, drawn as group_drawn}
-use Rattle.page_world.specs.Numbers.{page_at, AreNumbered as Numbers}
-use Rattle.page_world.specs.Holdings.{Copy, no_copy, Holdings, with_facility}
+use Rattle.page_world.specs.Numbers.{page_at}
+use Rattle.page_world.specs.Holdings.{Copy, Holdings, with_facility}
 use Rattle.page_world.specs.Tied.{Moved}
 use Rattle.page_world.specs.Draws.{MayChange, changed_copy, drawn, content_behind}
 use Rattle.page_intents.specs.Numbers.{AreNumbered}

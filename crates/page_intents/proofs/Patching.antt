@@ -1,13 +1,12 @@
 -- A change patches the pages in its frames, and its record is put.
 use Rattle.std.proofs.Common.{◌≡◌, ◌≢◌, ℕ, zero, suc, ◌+◌, ◌<◌, refl, sym, ap, subst, ◌∙◌, Bool, true, false, inl, inr, List, [], ◌∷◌, ◌++◌, length, Option, Some, None, slice_get, slice_set, take, arith}
 use Rattle.std.specs.Prelude.{◌==◌, ◌&&◌, ◌||◌, not, nat_lt, if◌then◌else◌}
-use Rattle.std.specs.List.{list_any, flat_map, count_by, sum_by}
+use Rattle.std.specs.List.{list_any, flat_map, count_by}
 use Rattle.std.proofs.lemmas.Grind.{common_steps, flat_map-append}
-use Rattle.std.proofs.lemmas.Bool.{cond-true, cond-false, cases_eq, eqb-true}
+use Rattle.std.proofs.lemmas.Bool.{cond-true, cases_eq, eqb-true}
 use Rattle.std.proofs.lemmas.List.{length-set, append-nil}
 use Rattle.std.proofs.lemmas.List.Sums.{sum_by-append}
 use Rattle.ds_base.specs.declared.names.PageId.{PageId}
-use Rattle.ds_base.specs.Pages.{same_page}
 use Rattle.ds_model.specs.declared.log.LogRecord.{LogRecord}
 use Rattle.ds_model.specs.declared.log.RowChange.{RowChange}
 use Rattle.ds_model.specs.RecordBytes.{record_bytes}
@@ -18,14 +17,12 @@ use Rattle.page_index.proofs.CallerLemmas.{same_name}
 use Rattle.page_plans.specs.declared.action.Action.{Action}
 use Rattle.page_plans.specs.Names.{action_page}
 use Rattle.page_plans.specs.Rows.{after_row}
-use Rattle.facility.specs.declared.command.Reply.{Reply}
 use Rattle.facility.specs.declared.command.Reply.TheVariants as reply
 use Rattle.facility.specs.States.{Held}
 use Rattle.facility.specs.declared.command.Indexes.{Indexes}
 use Rattle.facility.specs.Counting.{given, limit, first_stale, draw_reply, drawn_to, DrawsNumber}
 use Rattle.write_order.specs.declared.rank.Rank.{Rank}
 use Rattle.write_order.specs.Ranks.{rank_of}
-use Rattle.lock_manager.specs.Managers.{Book}
 use Rattle.member_pool.specs.declared.frame.Frame.{Frame}
 use Rattle.member_pool.specs.Heads.{HeadState, with_head, marked}
 use Rattle.member_log.specs.Buffers.{LogBuffer, after_put}
@@ -36,13 +33,12 @@ use Rattle.member_marks.specs.State.{MarksState, with_heads, slot_tran}
 use Rattle.member_marks.specs.Claims.{has_page}
 use Rattle.member_marks.specs.Frames.{frame_in, is_placed, after_marked}
 use Rattle.member_marks.specs.Records.{fits_in, row_record, may_change, is_at_row, body_noted, row_noted}
-use Rattle.member_needs.specs.declared.plans.Plan.{Plan}
 use Rattle.member_needs.specs.declared.plans.Plan.TheVariants as plan
 use Rattle.member_needs.specs.Records.{frame_of, indexes_of, place_by}
 use Rattle.member_effects.specs.Kept.{Kept}
-use Rattle.member_effects.specs.Changes.{bytes_at, with_marks, system_logged, row_logged, put_page, patched_page, patched_frame, patched_nth, patched_frames, row_page, row_frame, row_nth, system_record, drawn_after}
+use Rattle.member_effects.specs.Changes.{bytes_at, with_marks, system_logged, row_logged, put_page, patched_page, patched_nth, patched_frames, row_page, row_nth, system_record, drawn_after}
 use Rattle.member_intents.specs.declared.outcome.Sent.{Sent}
-use Rattle.needs_law.specs.Lawful.{HoldsPage, HoldsNth, HoldsPages, Changes}
+use Rattle.needs_law.specs.Lawful.{HoldsPage, HoldsNth, Changes}
 use Rattle.page_world.specs.Holdings.{Holdings}
 use Rattle.page_protocol.specs.Moves.{World}
 use Rattle.page_world.specs.Draws.{content_behind, DrawsMoves}

@@ -11,11 +11,11 @@ use Rattle.member_pool.specs.declared.frame.Frame.{Frame}
 use Rattle.member_pool.specs.Frames.{free_frame, frame_at, holding, find_page, page_of, is_free, is_unpinned}
 use Rattle.member_pool.specs.Heads.{HeadState, head_of, with_head, placed_in, pinned_to, free_in}
 use Rattle.member_marks.specs.State.{MarksState, with_heads}
-use Rattle.member_marks.specs.Frames.{frame_in, is_placed, may_pin, may_unpin, after_place, placed_at, after_registered}
+use Rattle.member_marks.specs.Frames.{frame_in, is_placed, may_pin, may_unpin, placed_at, after_registered}
 use Rattle.member_effects.specs.Kept.{Kept}
 use Rattle.member_effects.specs.Changes.{bytes_at, with_marks}
 use Rattle.page_protocol.specs.Page.{Page}
-use Rattle.page_protocol.specs.Moves.{World, Move, Lose, Step}
+use Rattle.page_protocol.specs.Moves.{World, Lose, Step}
 use Rattle.page_world.specs.Numbers.{page_number, page_at, set_of, AreNumbered as Numbers}
 use Rattle.page_world.specs.Holdings.{Copy, no_copy, Holdings, held_of, with_copy, with_facility}
 use Rattle.page_world.specs.Tied.{PageTied, bit_in, Tied, Moved}
@@ -23,16 +23,16 @@ use Rattle.page_world.specs.Frames.{placed_copy, PlacesStays}
 use Rattle.page_world.specs.Losses.{LosesMoves}
 use Rattle.cache_structure.specs.Directory.{Directory, bit, is_registered}
 use Rattle.page_intents.specs.Numbers.{AreNumbered}
-use Rattle.page_intents.specs.Stands.{copy_at, copy_in, copy_of, IsUp, behind, Goes}
+use Rattle.page_intents.specs.Stands.{copy_in, copy_of, IsUp, behind, Goes}
 use Rattle.page_intents.specs.Frames.{Begins}
 use Rattle.page_intents.specs.Locals.{PlaceGoes, PinGoes, UnpinGoes, StaleGoes, LoseGoes}
 use Rattle.page_intents.proofs.Heads.{Sets, SameRest, rest_itself, put_head, at_other, copy_with, placed_is, one_frame, found, is_found, is_missed, found_same}
 use Rattle.page_intents.proofs.Chains.{at_none, numbered_on, numbered_along}
-use Rattle.page_intents.proofs.Standing.{SameMembers, same_members, Leaves, goes_by, quiet_by, has_copy}
+use Rattle.page_intents.proofs.Standing.{same_members, Leaves, goes_by, quiet_by}
 use Rattle.page_intents.proofs.Testing.{leaves_tested, invalid_tested}
 use Rattle.page_intents.proofs.Patching.{all_same}
 use Rattle.page_intents.proofs.Casting.{up_beside}
-use Rattle.page_intents.proofs.Drawing.{Located, located}
+use Rattle.page_intents.proofs.Drawing.{located}
 
 -- ---- frames that the pages can't tell apart
 record SameFrames (h u : HeadState) : Type 0 where
@@ -306,13 +306,13 @@ placed_goes numbers law w g content forced k at id b l free missed =
     goes_by w g content forced g.facility k (with_marks k (with_heads k.marks (placed_in k.marks.heads at id))) n c [] b.numbered b.up (place_leaves numbers g forced k at id b.up l free missed) (record { members = refl; statuses = refl; counter = refl }) at_none
     (record { world = moved.world; run = moved.run; tied = tied_loose moved.world (with_copy g m n (placed_copy at)) content (with_copy g m n c).copies moved.tied (λ p j. loosened g m n at id (bytes_at k.pages at) p j) })
 
+passes_by : (p : ℕ → Bool) (x at : ℕ) (rest : Option ℕ) (b : Bool) → (rest ≡ Some at → p at ≡ true) → p x ≡ b → (if b then Some x else rest) ≡ Some at → p at ≡ true
+passes_by p x at rest true ih is f = ap p (sym (same_Some x at f)) ∙ is
+passes_by p x at rest false ih is f = ih f
+
 found_passes : (p : ℕ → Bool) (xs : List ℕ) (at : ℕ) → find p xs ≡ Some at → p at ≡ true
 found_passes p [] at e = absurd (cc e)
-found_passes p (x ∷ xs) at e = by (p x) refl e
-  where
-    by : (b : Bool) → p x ≡ b → (if b then Some x else find p xs) ≡ Some at → p at ≡ true
-    by true is f = ap p (sym (same_Some x at f)) ∙ is
-    by false is f = found_passes p xs at f
+found_passes p (x ∷ xs) at e = passes_by p x at (find p xs) (p x) (found_passes p xs at) refl e
 
 free_is : (f : Frame) → is_free f ≡ true → f.page ≡ None
 free_is f e = by f.page e

@@ -1,6 +1,5 @@
 -- The intents that draw a number for a log record, of a member that is up.
 use Rattle.std.specs.Prelude.{◌≡◌, ℕ, ◌+◌, ◌==◌, Bool, true, false, ◌&&◌, ◌||◌, List, [], ◌∷◌, Option, Some, None}
-use Rattle.ds_model.specs.declared.log.RowChange.{RowChange}
 use Rattle.page_format.specs.Fields.{lrsn_of}
 use Rattle.facility.specs.declared.command.Reply.TheVariants as reply
 use Rattle.facility.specs.States.{Held}

@@ -1,5 +1,5 @@
 -- The local moves of a member that is up that change its frames, and what else changes them without a move of the facility.
-use Rattle.std.specs.Prelude.{◌≡◌, ℕ, true, false, List}
+use Rattle.std.specs.Prelude.{ℕ, false, List}
 use Rattle.ds_base.specs.declared.names.PageId.{PageId}
 use Rattle.facility.specs.declared.command.Reply.{Reply}
 use Rattle.facility.specs.States.{Held}
