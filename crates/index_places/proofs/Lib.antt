@@ -1,4 +1,0 @@
-pub mod Heap_slots
-pub mod Maps
-pub mod Whole
-pub mod Told
