@@ -42,7 +42,8 @@ use Rattle.needs_law.specs.Lawful.{HoldsPage, HoldsNth, Changes}
 use Rattle.page_world.specs.Holdings.{Holdings}
 use Rattle.page_protocol.specs.Moves.{World}
 use Rattle.page_world.specs.Draws.{content_behind, DrawsMoves}
-use Rattle.page_intents.specs.Stands.{is_drawn, AreBehind, Goes}
+use Rattle.log_record.specs.Changes.{is_drawn}
+use Rattle.page_intents.specs.Stands.{AreBehind, Goes}
 use Rattle.page_intents.specs.Frames.{Begins}
 use Rattle.page_intents.specs.Draws.{is_frame, in_frames, touched_in, new_bytes, drawn_behind, ShowNumber, ChangeGoes}
 use Rattle.page_intents.proofs.Heads.{Sets, sets_none, put_head, set_placed, within}

@@ -31,7 +31,8 @@ use Rattle.needs_law.specs.Lawful.{Undoes, Commits}
 use Rattle.page_protocol.specs.Moves.{World}
 use Rattle.page_world.specs.Holdings.{Holdings}
 use Rattle.page_world.specs.Draws.{content_behind, DrawsMoves, UndoesMoves}
-use Rattle.page_intents.specs.Stands.{is_drawn, AreBehind, Goes}
+use Rattle.log_record.specs.Changes.{is_drawn}
+use Rattle.page_intents.specs.Stands.{AreBehind, Goes}
 use Rattle.page_intents.specs.Frames.{Begins}
 use Rattle.page_intents.specs.Draws.{is_frame, touched_in, new_bytes, drawn_behind, ShowNumber, UndoGoes, CommitGoes}
 use Rattle.page_intents.proofs.Standing.{is_live_up}

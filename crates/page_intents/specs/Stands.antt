@@ -1,10 +1,9 @@
 -- A member that is up, beside the pages of the group: what it has of them is in its frames.
-use Rattle.std.specs.Prelude.{◌≡◌, ◌≢◌, ℕ, ◌+◌, Bool, ◌≤◌, ◌==◌, ◌||◌, true, false, if◌then◌else◌, List, length, Option, Some, None}
+use Rattle.std.specs.Prelude.{◌≡◌, ◌≢◌, ℕ, ◌+◌, ◌≤◌, ◌==◌, ◌||◌, true, false, if◌then◌else◌, List, length, Option, Some, None}
 use Rattle.std.specs.List.{flat_map, count_by}
 use Rattle.ds_model.specs.declared.log.LogRecord.{LogRecord}
-use Rattle.ds_model.specs.declared.log.Body.{Body}
-use Rattle.ds_model.specs.declared.log.Body.TheVariants as body
 use Rattle.ds_model.specs.RecordBytes.{record_bytes}
+use Rattle.log_record.specs.Changes.{is_drawn}
 use Rattle.list_structure.specs.declared.standing.MemberStatus.TheVariants.{Up}
 use Rattle.list_structure.specs.Standings.{status_of}
 use Rattle.facility.specs.States.{Held}
@@ -44,16 +43,6 @@ abbrev pub copy_of : HeadState → List (List ℕ) → ℕ → Copy
 copy_of heads pages n = copy_in heads pages (find_page heads.frames (page_at n))
 
 -- ---- the member
-
--- a number was drawn for the record
-abbrev pub is_drawn : Body → Bool
-is_drawn (body.RowChange c) = true
-is_drawn (body.Compensation c undone) = true
-is_drawn (body.System patches) = true
-is_drawn body.Commit = true
-is_drawn body.Ended = false
-is_drawn (body.Checkpoint offset) = false
-is_drawn body.RestartEnd = false
 
 -- these bytes are records that stand behind so many drawn ones, with which they are so many
 pub record AreBehind (stable written : ℕ) (bytes : List ℕ) : Type 0 where
