@@ -1,16 +1,22 @@
 -- Logs that are read one after the other.
-use Rattle.std.proofs.Common.{◌≡◌, ℕ, zero, suc, ◌+◌, ◌-◌, ◌<◌, ◌≤◌, List, [], ◌∷◌, ◌++◌, length, take, drop, get_or, Option, Some, None, refl, sym, ap, subst, ◌∙◌, append_assoc, arith}
-use Rattle.std.proofs.lemmas.List.{take_more, take_all, drop_more, take-append-drop, length-take-le}
+use Rattle.std.proofs.Common.{◌≡◌, ◌↔◌, Bool, true, false, Result, Ok, Err, ℕ, zero, suc, ◌+◌, ◌-◌, ◌<◌, ◌≤◌, List, [], ◌∷◌, ◌++◌, length, take, drop, get_or, Option, Some, None, refl, sym, ap, subst, ◌∙◌, append_assoc, length-append, arith}
+use Rattle.std.proofs.lemmas.List.{take_more, take_all, drop_more, take-append-drop, length-take-le, take_rest}
+use Rattle.std.specs.Prelude.{IfOk, IsTrue}
+use Rattle.std.specs.Option.{SomeIff}
+use Rattle.ds_base.specs.Ids.{IsMember}
+use Rattle.ds_base.specs.declared.fault.NoMemory.{NoMemory}
+use Rattle.ds_disk.specs.declared.disk.DiskError.{DiskError}
+use Rattle.ds_model.specs.Logs.{IsTorn}
 use Rattle.ds_disk.specs.Contents.{Contents, log_of, WhenTold, Becomes, Same}
 use Rattle.log_record.specs.declared.log.Log.{Log}
 use Rattle.sound_disk.specs.Whole_logs.{IsWholeLog, AreWholeLogs}
 use Rattle.whole_logs.specs.Breaks.{BreaksOff}
-use Rattle.std.specs.List.{AllByRecursion}
-use Rattle.ds_model.specs.RecordBytes.{IsAllowed}
+use Rattle.disk_logs.specs.Broken.{IsFirstBroken}
 use Rattle.disk_logs.specs.declared.log.Looked.{Looked}
 use Rattle.disk_logs.specs.declared.log.Looked.TheVariants as looked
-use Rattle.disk_logs.specs.Broken.{IsFirstBroken}
-use Rattle.disk_logs.specs.Looking.{IsLooked, IsLookedAllowed, IsOfSome, IsLookedOfSome, AreOfSome}
+use Rattle.disk_logs.specs.declared.logs.Found.{Found}
+use Rattle.disk_logs.specs.declared.logs.Found.TheVariants as found
+use Rattle.disk_logs.specs.Looking.{Reads, IsLooked, IsOfSome, IsLookedOfSome, AreOfSome, AreFound}
 
 -- ---- a disk that stays as it was
 
@@ -37,38 +43,6 @@ whole_more m (b ∷ front) [] bytes log h k = absurd h
 whole_more m (b ∷ front) (l ∷ whole) bytes log h k =
     let e : m + suc (length front) ≡ m + 1 + length front = omega arith in
     (h.0, whole_more (m + 1) front whole bytes log h.1 (subst (λ (n : ℕ). IsWholeLog n bytes log) e k))
-
-as_many : (m : ℕ) (bytes : List (List ℕ)) (logs : List Log) → AreWholeLogs m bytes logs → length bytes ≡ length logs
-as_many m [] [] h = refl
-as_many m [] (l ∷ logs) h = absurd h
-as_many m (b ∷ bytes) [] h = absurd h
-as_many m (b ∷ bytes) (l ∷ logs) h = ap suc (as_many (m + 1) bytes logs h.1)
-
--- ---- of some bytes
-
-pub looked_allowed : (member : ℕ) (bytes : List ℕ) (l : Looked) → IsLooked member bytes l → IsLookedAllowed l
-looked_allowed member bytes (looked.Whole log) h = h.records_are.allowed
-looked_allowed member bytes (looked.Broken at) h = tt
-
-pub looked_some : (member : ℕ) (bytes : List ℕ) (l : Looked) → IsLooked member bytes l → IsLookedOfSome member l
-looked_some member bytes (looked.Whole log) h = record { bytes = bytes; is = h }
-looked_some member bytes (looked.Broken at) h = tt
-
-pub looked_told : (start : Option Contents) (member : ℕ) (bytes : List ℕ) (l : Looked) → WhenTold start (λ (c : Contents). bytes ≡ log_of c.logs member) → IsLooked member bytes l
-    → WhenTold start (λ (c : Contents). IsLooked member (log_of c.logs member) l)
-looked_told None member bytes l e h = tt
-looked_told (Some c) member bytes l e h = subst (λ (b : List ℕ). IsLooked member b l) e h
-
-pub none_some : AreOfSome []
-none_some = record { bytes = []; are = tt }
-
-pub more_some : (logs : List Log) (i : ℕ) (log : Log) → AreOfSome logs → length logs ≡ i → IsOfSome (i + 1) log → AreOfSome (logs ++ log ∷ [])
-more_some logs i log h count k =
-    let long = as_many 1 h.bytes logs h.are in
-    let at : i + 1 ≡ 1 + length h.bytes = omega (arith, long, count) in
-    record { bytes = h.bytes ++ k.bytes ∷ []; are = whole_more 1 h.bytes logs k.bytes log h.are (subst (λ (n : ℕ). IsWholeLog n k.bytes log) at k.is) }
-
--- ---- of the bytes of a disk
 
 more_in : (logs : List (List ℕ)) (i : ℕ) (whole : List Log) (log : Log) → length logs ≡ 32 → i < 32 → AreWholeLogs 1 (take i logs) whole → IsWholeLog (i + 1) (log_of logs (i + 1)) log
     → AreWholeLogs 1 (take (i + 1) logs) (whole ++ log ∷ [])
@@ -113,3 +87,75 @@ pub all_told : (start : Option Contents) (i : ℕ) (whole : List Log) → Has32 
     → WhenTold start (λ (c : Contents). AreWholeLogs 1 c.logs whole)
 all_told None i whole has le h = tt
 all_told (Some c) i whole has le h = subst (λ (l : List (List ℕ)). AreWholeLogs 1 l whole) (take_all i c.logs (let long = has c refl in omega (arith, long, le))) h
+
+-- ---- a member's log
+
+pub member_is : (o : Option ℕ) (n member : ℕ) → SomeIff o (IsMember n) n → o ≡ Some member → member ≡ n
+member_is None n member h e = absurd cc
+member_is (Some m) n member h e = let same : m ≡ member = cc in sym same ∙ h.1
+
+pub not_torn : (bytes : List ℕ) (at : ℕ) (result : Result Bool NoMemory) (torn : Bool) → IfOk result (λ t. IsTrue t ↔ IsTorn (take (length bytes - at) (drop at bytes))) → result ≡ Ok torn → torn ≡ false → IsTorn (drop at bytes) → ⊥
+not_torn bytes at (Ok t) torn h was is tail =
+    let yes : t ≡ true = h.1 (subst IsTorn (sym (take_rest bytes at)) tail) in
+    let same : t ≡ torn = cc in
+    cc
+not_torn bytes at (Err e) torn h was is tail = absurd cc
+
+-- ---- where the disk is read on
+
+pub found_broken : (start now end : Option Contents) (f0 f1 f2 i member at : ℕ) (whole : List Log) (result : Result Looked DiskError) → Has32 start → i < 32 → member ≡ i + 1
+    → WhenTold start (λ (c : Contents). AreWholeLogs 1 (take i c.logs) whole) → Becomes start now Same → f0 ≤ f1
+    → Reads now end f1 f2 (λ x (c : Contents). IsLooked member (log_of c.logs member) x) result → result ≡ Ok (looked.Broken at)
+    → Reads start end f0 f2 (λ x (c : Contents). AreFound c.logs x) (Ok (found.Broken member at))
+found_broken start now end f0 f1 f2 i member at whole result has lt is held same le read was =
+    let here : WhenTold now (λ (c : Contents). BreaksOff (log_of c.logs member) at) = subst (λ (r : Result Looked DiskError). IfOk r (λ x. WhenTold now (λ (c : Contents). IsLooked member (log_of c.logs member) x))) was read.ok in
+    let told : WhenTold start (λ (c : Contents). BreaksOff (log_of c.logs (i + 1)) at) = subst (λ (m : ℕ). WhenTold start (λ (c : Contents). BreaksOff (log_of c.logs m) at)) is (on_start start now (λ (c : Contents). BreaksOff (log_of c.logs member) at) same here) in
+    let first : WhenTold start (λ (c : Contents). IsFirstBroken c.logs (i + 1) at) = broken_told start i at whole has lt held told in
+    let later = read.later in
+    record {
+      ok = subst (λ (m : ℕ). WhenTold start (λ (c : Contents). IsFirstBroken c.logs m at)) (sym is) first;
+      failed = λ e. absurd cc;
+      same = same_on start now end same read.same;
+      later = omega arith;
+    }
+
+pub found_more : (start now end : Option Contents) (f0 f1 f2 i member : ℕ) (whole more : List Log) (log : Log) (result : Result Looked DiskError) → Has32 start → i < 32 → member ≡ i + 1
+    → WhenTold start (λ (c : Contents). AreWholeLogs 1 (take i c.logs) whole) → Becomes start now Same → f0 ≤ f1
+    → Reads now end f1 f2 (λ x (c : Contents). IsLooked member (log_of c.logs member) x) result → result ≡ Ok (looked.Whole log) → more ≡ whole ++ log ∷ []
+    → WhenTold start (λ (c : Contents). AreWholeLogs 1 (take (i + 1) c.logs) more) × Becomes start end Same × (f0 ≤ f2)
+found_more start now end f0 f1 f2 i member whole more log result has lt is held same le read was put =
+    let here : WhenTold now (λ (c : Contents). IsWholeLog member (log_of c.logs member) log) = subst (λ (r : Result Looked DiskError). IfOk r (λ x. WhenTold now (λ (c : Contents). IsLooked member (log_of c.logs member) x))) was read.ok in
+    let told : WhenTold start (λ (c : Contents). IsWholeLog (i + 1) (log_of c.logs (i + 1)) log) = subst (λ (m : ℕ). WhenTold start (λ (c : Contents). IsWholeLog m (log_of c.logs m) log)) is (on_start start now (λ (c : Contents). IsWholeLog member (log_of c.logs member) log) same here) in
+    let on : WhenTold start (λ (c : Contents). AreWholeLogs 1 (take (i + 1) c.logs) (whole ++ log ∷ [])) = more_told start i whole log has lt held told in
+    let later = read.later in
+    (subst (λ (l : List Log). WhenTold start (λ (c : Contents). AreWholeLogs 1 (take (i + 1) c.logs) l)) (sym put) on, same_on start now end same read.same, omega arith)
+
+-- ---- of some bytes, whether the disk tells them or not
+
+as_many : (m : ℕ) (bytes : List (List ℕ)) (logs : List Log) → AreWholeLogs m bytes logs → length bytes ≡ length logs
+as_many m [] [] h = refl
+as_many m [] (l ∷ logs) h = absurd h
+as_many m (b ∷ bytes) [] h = absurd h
+as_many m (b ∷ bytes) (l ∷ logs) h = ap suc (as_many (m + 1) bytes logs h.1)
+
+pub looked_some : (member : ℕ) (bytes : List ℕ) (l : Looked) → IsLooked member bytes l → IsLookedOfSome member l
+looked_some member bytes (looked.Whole log) h = record { bytes = bytes; is = h }
+looked_some member bytes (looked.Broken at) h = tt
+
+pub none_some : (logs : List Log) → logs ≡ [] → AreOfSome logs
+none_some logs e = subst AreOfSome (sym e) (record { bytes = []; are = tt })
+
+one_more : (logs : List Log) (i : ℕ) (log : Log) → AreOfSome logs → length logs ≡ i → IsOfSome (i + 1) log → AreOfSome (logs ++ log ∷ [])
+one_more logs i log h count k =
+    let long = as_many 1 h.bytes logs h.are in
+    let at : i + 1 ≡ 1 + length h.bytes = omega (arith, long, count) in
+    record { bytes = h.bytes ++ k.bytes ∷ []; are = whole_more 1 h.bytes logs k.bytes log h.are (subst (λ (n : ℕ). IsWholeLog n k.bytes log) at k.is) }
+
+pub more_some : (i member : ℕ) (whole more : List Log) (log : Log) (result : Result Looked DiskError) → AreOfSome whole → length whole ≡ i → member ≡ i + 1 → IfOk result (λ l. IsLookedOfSome member l)
+    → result ≡ Ok (looked.Whole log) → more ≡ whole ++ log ∷ [] → AreOfSome more
+more_some i member whole more log result h count is k was put =
+    let one : IsOfSome member log = subst (λ (r : Result Looked DiskError). IfOk r (λ l. IsLookedOfSome member l)) was k in
+    subst AreOfSome (sym put) (one_more whole i log h count (subst (λ (m : ℕ). IsOfSome m log) is one))
+
+pub count_more : (i : ℕ) (whole more : List Log) (log : Log) → length whole ≡ i → more ≡ whole ++ log ∷ [] → length more ≡ i + 1
+count_more i whole more log count put = ap length put ∙ length-append whole (log ∷ []) ∙ ap (λ (n : ℕ). n + 1) count

@@ -1,8 +1,8 @@
 -- From the clauses of a sound disk to what is told of it.
-use Rattle.std.proofs.Common.{◌≡◌, ℕ, List, length, Option, Some, None, Result, Ok, Err, inl, inr, refl}
+use Rattle.std.proofs.Common.{◌≡◌, ℕ, List, length, Option, Some, None, Result, Ok, Err, inl, inr, refl, subst}
 use Rattle.std.specs.Prelude.{IfOk}
 use Rattle.ds_base.specs.declared.names.PageId.{PageId}
-use Rattle.ds_disk.specs.Contents.{Contents, WhenTold, Becomes, Same}
+use Rattle.ds_disk.specs.Contents.{Contents}
 use Rattle.ds_disk.specs.Pages.{page_at}
 use Rattle.ds_model.specs.declared.log.LogRecord.{LogRecord}
 use Rattle.ds_model.specs.Rows.{listed}
@@ -17,20 +17,21 @@ use Rattle.sound_disk.specs.Whole_logs.{AreWholeLogs}
 use Rattle.sound_disk.specs.Transactions.{AreTransactions}
 use Rattle.sound_disk.specs.Tables.{AreWholeTables, AreTables}
 use Rattle.sound_disk.specs.Turns.{ChangeInTurn}
-use Rattle.sound_disk.specs.Numbers_left.{NumbersAreLeft}
-use Rattle.sound_disk.specs.Checkpoints.{AreCheckpointed}
-use Rattle.fitting_records.specs.Breaches.{IsRecordOf}
+use Rattle.fitting_records.specs.Breaches.{IsRecordOf, IsFirstBreach}
 use Rattle.disk_logs.specs.Broken.{IsFirstBroken}
-use Rattle.disk_versions.specs.Told.{AreAllPlaced}
-use Rattle.index_places.specs.Whole.{AreAllWhole}
-use Rattle.kept_pages.specs.Unkept.{AreKept}
+use Rattle.disk_versions.specs.Told.{AreAllPlaced, IsFirstUnplaced}
+use Rattle.index_places.specs.Whole.{AreAllWhole, AreTablesTold}
+use Rattle.kept_pages.specs.Unkept.{IsUnkept}
+use Rattle.row_turns.specs.Out.{IsOutOfTurn}
+use Rattle.settled_changes.specs.Spots.{LackNumbers}
 use Rattle.stood_rows.specs.Standing.{AreTold}
+use Rattle.space_check.specs.declared.verdict.Clause.{Clause}
 use Rattle.space_check.specs.declared.verdict.Clause.TheVariants as clause
 use Rattle.space_check.specs.declared.verdict.Breach.{Breach}
 use Rattle.space_check.specs.declared.verdict.Verdict.{Verdict}
 use Rattle.space_check.specs.declared.verdict.Verdict.TheVariants as verdict
-use Rattle.space_check.specs.Clauses.{ArePlaced, IsBreach}
-use Rattle.space_check.specs.Judging.{AreTablesJudged, IsRestJudged, IsPlacedJudged, AreRight, IsJudged}
+use Rattle.space_check.specs.Clauses.{IsBreach}
+use Rattle.space_check.specs.Judging.{AreTablesJudged, IsLaterBreach, AreRecordsJudged, IsRestJudged, IsPlacedJudged, IsJudged}
 use Rattle.space_check.specs.Verdicts.{IsTold}
 
 -- ---- the fourth clause
@@ -44,6 +45,36 @@ pub tables_judged : {E : Type 0} (records : List LogRecord) (result : Result (Op
 tables_judged records (Ok found) whole told = tables_by records found whole told
 tables_judged records (Err e) whole told = tt
 
+-- all tables are whole, or not, by what was found of them
+pub whole_none : (records : List LogRecord) (found : Option PageId) → AreTablesTold (images_of records) records found → found ≡ None → AreAllWhole (images_of records) records
+whole_none records found told is = subst (λ (f : Option PageId). AreTablesTold (images_of records) records f) is told
+
+pub whole_some : (records : List LogRecord) (found : Option PageId) (id : PageId) → AreTablesTold (images_of records) records found → found ≡ Some id → AreWholeTables records → ⊥
+whole_some records found id told is w = subst (λ (f : Option PageId). AreTablesTold (images_of records) records f) is told w.tables
+
+-- ---- each clause that fails where those before it hold
+
+abbrev breach_of : Clause → Spot → Breach
+breach_of name s = record { clause = name; at = s }
+
+pub unfit_breach : (at : Images) (logs : List Log) (behind : ℕ) (s : Spot) → IsRecordOf (IsFirstBreach AreTransactions logs) s → IsBreach at logs behind (breach_of clause.Transactions s)
+unfit_breach at logs behind s first = record { before = tt; fails = first }
+
+pub unplaced_breach : (at : Images) (logs : List Log) (behind : ℕ) (id : PageId) → AreTransactions logs → IsFirstUnplaced at logs behind id → IsBreach at logs behind (breach_of clause.Versions (spot.Page id))
+unplaced_breach at logs behind id trans first = record { before = trans; fails = first }
+
+pub tables_breach : (logs : List Log) (id : PageId) → (AreTables logs → ⊥) → (at : Images) → IsLaterBreach at logs (breach_of clause.Tables (spot.Page id))
+tables_breach logs id wrong = λ at behind trans placed. record { before = (trans, placed); fails = (wrong, tt) }
+
+pub turns_breach : (logs : List Log) (s : Spot) → AreTables logs → IsOutOfTurn logs s → (at : Images) → IsLaterBreach at logs (breach_of clause.Turns s)
+turns_breach logs s tables out = λ at behind trans placed. record { before = (trans, placed, tables); fails = out }
+
+pub numbers_breach : (logs : List Log) (s : Spot) → AreTables logs → ChangeInTurn logs → LackNumbers logs s → (at : Images) → IsLaterBreach at logs (breach_of clause.Numbers s)
+numbers_breach logs s tables turns lack = λ at behind trans placed. record { before = (trans, placed, tables, turns); fails = lack }
+
+pub unkept_breach : (at : Images) (logs : List Log) (s : Spot) → AreRecordsJudged logs None → IsUnkept at logs s → IsLaterBreach at logs (breach_of clause.Checkpoints s)
+unkept_breach at logs s rest unkept = λ behind trans placed. record { before = (trans, placed, rest.0, rest.1, rest.2); fails = unkept }
+
 -- ---- the verdict
 
 abbrev Rows : List Log → ℕ → Type 0
@@ -54,9 +85,9 @@ right_by at logs pages rows is rest = λ behind trans placed. record {
   transactions = trans;
   placed = placed;
   tables = rest.0;
-  turns = rest.1.0;
-  numbers = rest.1.1.0;
-  checkpoints = rest.1.1.1;
+  turns = rest.1;
+  numbers = rest.2;
+  checkpoints = rest.3;
   rows_are = is;
 }
 

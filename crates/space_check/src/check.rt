@@ -26,7 +26,8 @@ fn check_logs<D: Disk>(
     ensures { Reads (D.contents disk.old) (D.contents disk.new) (D.faults disk.old) (D.faults disk.new) (λ v c. IsJudged (page_at c.pages) logs.now behind v) result }
 {
     page_laws();
-    match find_unfit(alloc, logs.as_slice())? {
+    let spot = find_unfit(alloc, logs.as_slice())?;
+    match spot {
         None => check_pages(alloc, disk, logs, behind),
         Some(at) => Ok(Verdict::Unsound {
             breach: Breach {
@@ -41,7 +42,8 @@ fn check_logs<D: Disk>(
 pub fn check_behind<D: Disk>(alloc: Global, disk: &mut D, behind: u32) -> Result<Verdict, DiskError>
     ensures { Reads (D.contents disk.old) (D.contents disk.new) (D.faults disk.old) (D.faults disk.new) (λ v c. IsTold c behind v) result }
 {
-    match read_logs(alloc, disk)? {
+    let found = read_logs(alloc, disk)?;
+    match found {
         Found::Whole(logs) => check_logs(alloc, disk, &logs, behind),
         Found::Broken { member, at } => Ok(Verdict::Unsound {
             breach: Breach {

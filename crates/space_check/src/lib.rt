@@ -4,6 +4,8 @@
 mod check;
 mod pages;
 mod records;
+#[cfg(test)]
+mod tests;
 mod verdict;
 
 pub use check::{check_behind, check_disk};
