@@ -1,6 +1,6 @@
 -- From the clauses of a sound disk to what is told of it.
-use Rattle.std.proofs.Common.{◌≡◌, ℕ, List, length, Option, Some, None, Result, Ok, Err, inl, inr, refl, subst}
-use Rattle.std.specs.Prelude.{IfOk}
+use Rattle.std.proofs.Common.{◌≡◌, ℕ, List, length, Option, Some, None, Result, Ok, Err, inl, inr, refl, sym, subst}
+use Rattle.std.specs.Prelude.{IfOk, IfNone, IfSome}
 use Rattle.ds_base.specs.declared.names.PageId.{PageId}
 use Rattle.ds_disk.specs.Contents.{Contents}
 use Rattle.ds_disk.specs.Pages.{page_at}
@@ -15,13 +15,18 @@ use Rattle.page_chain.specs.Chains.{images_of}
 use Rattle.sound_disk.specs.Laws.{records_of}
 use Rattle.sound_disk.specs.Whole_logs.{AreWholeLogs}
 use Rattle.sound_disk.specs.Transactions.{AreTransactions}
+use Rattle.sound_disk.specs.Versions.{merged}
+use Rattle.sound_disk.specs.Checkpoints.{AreCheckpointed}
 use Rattle.sound_disk.specs.Tables.{AreWholeTables, AreTables}
 use Rattle.sound_disk.specs.Turns.{ChangeInTurn}
 use Rattle.fitting_records.specs.Breaches.{IsRecordOf, IsFirstBreach}
 use Rattle.disk_logs.specs.Broken.{IsFirstBroken}
-use Rattle.disk_versions.specs.Told.{AreAllPlaced, IsFirstUnplaced}
+use Rattle.disk_logs.specs.declared.logs.Found.{Found}
+use Rattle.disk_logs.specs.Looking.{AreFound, AreFoundOfSome}
+use Rattle.disk_versions.specs.declared.set.Placing.{Placing}
+use Rattle.disk_versions.specs.Told.{AreAllPlaced, IsFirstUnplaced, IsTold as Told}
 use Rattle.index_places.specs.Whole.{AreAllWhole, AreTablesTold}
-use Rattle.kept_pages.specs.Unkept.{IsUnkept}
+use Rattle.kept_pages.specs.Unkept.{IsUnkept, AreKept}
 use Rattle.row_turns.specs.Out.{IsOutOfTurn}
 use Rattle.settled_changes.specs.Spots.{LackNumbers}
 use Rattle.stood_rows.specs.Standing.{AreTold}
@@ -51,6 +56,47 @@ whole_none records found told is = subst (λ (f : Option PageId). AreTablesTold 
 
 pub whole_some : (records : List LogRecord) (found : Option PageId) (id : PageId) → AreTablesTold (images_of records) records found → found ≡ Some id → AreWholeTables records → ⊥
 whole_some records found id told is w = subst (λ (f : Option PageId). AreTablesTold (images_of records) records f) is told w.tables
+
+-- the same of the merged records of logs
+pub whole_tables : (logs : List Log) (records : List LogRecord) (page : Option PageId) → records ≡ merged logs → AreTablesJudged records page → page ≡ None → AreTables logs
+whole_tables logs records page are told is = subst (λ (rs : List LogRecord). AreWholeTables rs) are (subst (λ (p : Option PageId). AreTablesJudged records p) is told)
+
+pub wrong_tables : (logs : List Log) (records : List LogRecord) (page : Option PageId) (id : PageId) → records ≡ merged logs → AreTablesJudged records page → page ≡ Some id → AreTables logs → ⊥
+wrong_tables logs records page id are told is w =
+    let wrong : AreWholeTables records → ⊥ = subst (λ (p : Option PageId). AreTablesJudged records p) is told in
+    wrong (subst (λ (rs : List LogRecord). AreWholeTables rs) (sym are) w)
+
+-- ---- what was found, or nothing
+
+pub nothing : (P : Type 0) (found : Option Spot) → IfNone found P → found ≡ None → P
+nothing P found h is = subst (λ (f : Option Spot). IfNone f P) is h
+
+pub something : (P : Spot → Type 0) (found : Option Spot) (s : Spot) → IfSome found P → found ≡ Some s → P s
+something P found s h is = subst (λ (f : Option Spot). IfSome f P) is h
+
+pub kept_none : (at : Images) (logs : List Log) (found : Option Spot) → found ≡ None → AreKept at logs found → AreCheckpointed at logs
+kept_none at logs found is h = subst (λ (f : Option Spot). AreKept at logs f) is h
+
+pub kept_some : (at : Images) (logs : List Log) (found : Option Spot) (s : Spot) → found ≡ Some s → AreKept at logs found → IsUnkept at logs s
+kept_some at logs found s is h = subst (λ (f : Option Spot). AreKept at logs f) is h
+
+pub records_none : (logs : List Log) (found : Option Breach) → found ≡ None → AreRecordsJudged logs found → AreRecordsJudged logs None
+records_none logs found is h = subst (λ (f : Option Breach). AreRecordsJudged logs f) is h
+
+pub records_some : (logs : List Log) (found : Option Breach) (b : Breach) → found ≡ Some b → AreRecordsJudged logs found → (at : Images) → IsLaterBreach at logs b
+records_some logs found b is h = subst (λ (f : Option Breach). AreRecordsJudged logs f) is h
+
+pub rest_at : (at : Images) (logs : List Log) (found other : Option Breach) → found ≡ other → IsRestJudged at logs found → IsRestJudged at logs other
+rest_at at logs found other is h = subst (λ (f : Option Breach). IsRestJudged at logs f) is h
+
+pub placed_at : (at : Images) (logs : List Log) (behind : ℕ) (found other : Placing) → found ≡ other → Told at logs behind found → Told at logs behind other
+placed_at at logs behind found other is h = subst (λ (f : Placing). Told at logs behind f) is h
+
+pub logs_at : (logs : List (List ℕ)) (found other : Found) → found ≡ other → AreFound logs found → AreFound logs other
+logs_at logs found other is h = subst (λ (f : Found). AreFound logs f) is h
+
+pub some_at : (found other : Found) → found ≡ other → AreFoundOfSome found → AreFoundOfSome other
+some_at found other is h = subst AreFoundOfSome is h
 
 -- ---- each clause that fails where those before it hold
 

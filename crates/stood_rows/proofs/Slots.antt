@@ -6,12 +6,15 @@ use Rattle.std.proofs.lemmas.Bool.Decides.{nat_tests}
 use Rattle.std.proofs.lemmas.Slice.Eq.{bytes_eq-Decides}
 use Rattle.ds_base.specs.Pages.{heap_page}
 use Rattle.ds_base.specs.declared.names.PageId.{PageId}
+use Rattle.ds_model.specs.declared.log.LogRecord.{LogRecord}
 use Rattle.ds_model.specs.declared.log.RowChange.{RowChange}
 use Rattle.page_format.specs.Header.{header_of}
 use Rattle.page_format.specs.declared.header.Header.{Header}
 use Rattle.page_format.specs.declared.header.NotAPage.{NotAPage}
 use Rattle.heap_space.specs.Slots.{Content, fault_in, content, slot_in}
 use Rattle.page_redo.specs.Rows.{or_fault, slot_fault, headed_fault, row_fault, change_fault, kind_fault, key_fault}
+use Rattle.page_chain.specs.Chains.{version_of}
+use Rattle.sound_disk.specs.Rows_there.{row_after, Stood}
 use Rattle.stood_rows.specs.Standing.{same_value, says, StandsIn}
 
 -- ---- a page that has the row
@@ -86,3 +89,23 @@ stands_if page c b fault is = (
   λ t. record { slot = fault; there = said_when _ _ _ (sym is ∙ t) },
   λ s. is ∙ (subst (λ (x : Content). says x c.key c.before ≡ true) (sym s.there) (says_it c.key c.before)),
 )
+
+pub stands_not : (page : List ℕ) (c : RowChange) (fault : Option ℕ) → fault ≡ change_fault (heap_page c.table c.place.page) c page → (fault ≡ None → ⊥) → IsTrue false ↔ StandsIn page c
+stands_not page c fault is some = (λ t. absurd cc, λ s. some (is ∙ s.slot))
+
+-- ---- a change in its page
+
+pub stood : (earlier : List LogRecord) (c : RowChange) (id : PageId) (page : List ℕ) → page ≡ version_of id earlier → id ≡ heap_page c.table c.place.page → row_after earlier c.table c.key ≡ c.before → StandsIn page c → Stood earlier c
+stood earlier c id page is name tells s =
+    let same : page ≡ version_of (heap_page c.table c.place.page) earlier = is ∙ ap (λ (i : PageId). version_of i earlier) name in
+    let there : StandsIn (version_of (heap_page c.table c.place.page) earlier) c = subst (λ (p : List ℕ). StandsIn p c) same s in
+    record { slot = there.slot; there = there.there; before = tells }
+
+pub not_stood : (earlier : List LogRecord) (c : RowChange) (id : PageId) (page : List ℕ) → page ≡ version_of id earlier → id ≡ heap_page c.table c.place.page → (StandsIn page c → ⊥) → Stood earlier c → ⊥
+not_stood earlier c id page is name no s =
+    let same : page ≡ version_of (heap_page c.table c.place.page) earlier = is ∙ ap (λ (i : PageId). version_of i earlier) name in
+    no (subst (λ (p : List ℕ). StandsIn p c) (sym same) (record { slot = s.slot; there = s.there }))
+
+-- a test of the fact that is false
+pub fails : (b : Bool) (P : Type 0) → IsTrue b ↔ P → b ≡ false → P → ⊥
+fails b P h is p = let yes : b ≡ true = h.1 p in absurd cc

@@ -13,7 +13,23 @@ use row_befores::befores_of;
 use std::alloc::Global;
 use table_images::image_of;
 
-// The page of the change, if it didn't meet the row that it tells there, or doesn't tell the row that the records before it left.
+// The page of a change that tells the row that the records before it left, if it didn't meet that row there.
+fn unmet_change(
+    alloc: Global,
+    earlier: &[LogRecord],
+    change: &RowChange,
+) -> Result<Option<PageId>, NoMemory>
+    requires allowed { AllByRecursion IsAllowed earlier.now }
+    requires tells { row_after earlier.now change.now.table change.now.key ≡ change.now.before }
+    ensures { IfOk result (λ found. IsChangeTold earlier.now change.now found) }
+{
+    let id = page_changed(change);
+    let page = image_of(alloc, id, earlier)?;
+    let there = stands(&page, change);
+    if there { Ok(None) } else { Ok(Some(id)) }
+}
+
+// The page of the change, if it tells another row than the records before it left, or didn't meet that row there.
 fn unstood_change(
     alloc: Global,
     earlier: &[LogRecord],
@@ -24,12 +40,10 @@ fn unstood_change(
     requires tells { IsTrue tells ↔ (row_after earlier.now change.now.table change.now.key ≡ change.now.before) }
     ensures { IfOk result (λ found. IsChangeTold earlier.now change.now found) }
 {
-    let id = page_changed(change);
-    let page = image_of(alloc, id, earlier)?;
-    if tells && stands(&page, change) {
-        Ok(None)
+    if tells {
+        unmet_change(alloc, earlier, change)
     } else {
-        Ok(Some(id))
+        Ok(Some(page_changed(change)))
     }
 }
 
@@ -65,8 +79,9 @@ pub fn find_unstood(alloc: Global, records: &[LogRecord]) -> Result<Option<PageI
 {
     let agree = befores_of(alloc, records)?;
     for at in 0..records.len() {
-        if let Some(id) = unstood(alloc, &records[..at], &records[at], agree[at])? {
-            return Ok(Some(id));
+        let found = unstood(alloc, &records[..at], &records[at], agree[at])?;
+        if found.is_some() {
+            return Ok(found);
         }
     }
     Ok(None)

@@ -41,8 +41,10 @@ pub fn stands(page: &Page, change: &RowChange) -> bool
     ensures { IsTrue result ↔ StandsIn page.now change.now }
 {
     let slot = change.place.slot;
-    if row_fault(page, page_changed(change), slot, change.key).is_some() {
-        return false;
+    let id = page_changed(change);
+    let fault = row_fault(page, id, slot, change.key);
+    match fault {
+        None => slot_says(page, slot, change.key, change.before),
+        Some(_) => false,
     }
-    slot_says(page, slot, change.key, change.before)
 }
