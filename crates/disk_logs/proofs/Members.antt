@@ -1,5 +1,5 @@
 -- Logs that are read one after the other.
-use Rattle.std.proofs.Common.{◌≡◌, ◌↔◌, Bool, true, false, Result, Ok, Err, ℕ, zero, suc, ◌+◌, ◌-◌, ◌<◌, ◌≤◌, List, [], ◌∷◌, ◌++◌, length, take, drop, get_or, Option, Some, None, refl, sym, ap, subst, ◌∙◌, append_assoc, arith}
+use Rattle.std.proofs.Common.{◌≡◌, ◌↔◌, Bool, true, false, Result, Ok, Err, ℕ, zero, suc, ◌+◌, ◌-◌, ◌<◌, ◌≤◌, List, [], ◌∷◌, ◌++◌, length, take, drop, get_or, Option, Some, None, refl, sym, ap, subst, ◌∙◌, append_assoc, length-append, arith}
 use Rattle.std.proofs.lemmas.List.{take_more, take_all, drop_more, take-append-drop, length-take-le, take_rest}
 use Rattle.std.specs.Prelude.{IfOk, IsTrue}
 use Rattle.std.specs.Option.{SomeIff}
@@ -16,7 +16,7 @@ use Rattle.disk_logs.specs.declared.log.Looked.{Looked}
 use Rattle.disk_logs.specs.declared.log.Looked.TheVariants as looked
 use Rattle.disk_logs.specs.declared.logs.Found.{Found}
 use Rattle.disk_logs.specs.declared.logs.Found.TheVariants as found
-use Rattle.disk_logs.specs.Looking.{Reads, IsLooked, AreFound}
+use Rattle.disk_logs.specs.Looking.{Reads, IsLooked, IsOfSome, IsLookedOfSome, AreOfSome, AreFound}
 
 -- ---- a disk that stays as it was
 
@@ -129,3 +129,33 @@ found_more start now end f0 f1 f2 i member whole more log result has lt is held 
     let on : WhenTold start (λ (c : Contents). AreWholeLogs 1 (take (i + 1) c.logs) (whole ++ log ∷ [])) = more_told start i whole log has lt held told in
     let later = read.later in
     (subst (λ (l : List Log). WhenTold start (λ (c : Contents). AreWholeLogs 1 (take (i + 1) c.logs) l)) (sym put) on, same_on start now end same read.same, omega arith)
+
+-- ---- of some bytes, whether the disk tells them or not
+
+as_many : (m : ℕ) (bytes : List (List ℕ)) (logs : List Log) → AreWholeLogs m bytes logs → length bytes ≡ length logs
+as_many m [] [] h = refl
+as_many m [] (l ∷ logs) h = absurd h
+as_many m (b ∷ bytes) [] h = absurd h
+as_many m (b ∷ bytes) (l ∷ logs) h = ap suc (as_many (m + 1) bytes logs h.1)
+
+pub looked_some : (member : ℕ) (bytes : List ℕ) (l : Looked) → IsLooked member bytes l → IsLookedOfSome member l
+looked_some member bytes (looked.Whole log) h = record { bytes = bytes; is = h }
+looked_some member bytes (looked.Broken at) h = tt
+
+pub none_some : (logs : List Log) → logs ≡ [] → AreOfSome logs
+none_some logs e = subst AreOfSome (sym e) (record { bytes = []; are = tt })
+
+one_more : (logs : List Log) (i : ℕ) (log : Log) → AreOfSome logs → length logs ≡ i → IsOfSome (i + 1) log → AreOfSome (logs ++ log ∷ [])
+one_more logs i log h count k =
+    let long = as_many 1 h.bytes logs h.are in
+    let at : i + 1 ≡ 1 + length h.bytes = omega (arith, long, count) in
+    record { bytes = h.bytes ++ k.bytes ∷ []; are = whole_more 1 h.bytes logs k.bytes log h.are (subst (λ (n : ℕ). IsWholeLog n k.bytes log) at k.is) }
+
+pub more_some : (i member : ℕ) (whole more : List Log) (log : Log) (result : Result Looked DiskError) → AreOfSome whole → length whole ≡ i → member ≡ i + 1 → IfOk result (λ l. IsLookedOfSome member l)
+    → result ≡ Ok (looked.Whole log) → more ≡ whole ++ log ∷ [] → AreOfSome more
+more_some i member whole more log result h count is k was put =
+    let one : IsOfSome member log = subst (λ (r : Result Looked DiskError). IfOk r (λ l. IsLookedOfSome member l)) was k in
+    subst AreOfSome (sym put) (one_more whole i log h count (subst (λ (m : ℕ). IsOfSome m log) is one))
+
+pub count_more : (i : ℕ) (whole more : List Log) (log : Log) → length whole ≡ i → more ≡ whole ++ log ∷ [] → length more ≡ i + 1
+count_more i whole more log count put = ap length put ∙ length-append whole (log ∷ []) ∙ ap (λ (n : ℕ). n + 1) count

@@ -7,6 +7,7 @@ use Rattle.ds_disk.specs.declared.disk.DiskError.{DiskError}
 use Rattle.ds_disk.specs.declared.disk.DiskError.TheVariants.{Failed}
 use Rattle.ds_model.specs.RecordBytes.{IsAllowed}
 use Rattle.sound_disk.specs.Whole_logs.{IsWholeLog, AreWholeLogs}
+use Rattle.log_record.specs.declared.log.Log.{Log}
 use Rattle.whole_logs.specs.Breaks.{BreaksOff}
 use Rattle.disk_logs.specs.declared.log.Looked.{Looked}
 use Rattle.disk_logs.specs.declared.log.Looked.TheVariants as looked
@@ -29,6 +30,24 @@ IsLooked member bytes (looked.Broken at) = BreaksOff bytes at
 abbrev pub IsLookedAllowed : Looked → Type 0
 IsLookedAllowed (looked.Whole log) = AllByRecursion IsAllowed log.records
 IsLookedAllowed (looked.Broken at) = Unit {0}
+
+-- a log is the whole log of the member for some bytes, whether the disk tells them or not
+pub record IsOfSome (member : ℕ) (log : Log) : Type 0 where
+  pub bytes : List ℕ
+  pub is : IsWholeLog member bytes log
+
+abbrev pub IsLookedOfSome : ℕ → Looked → Type 0
+IsLookedOfSome member (looked.Whole log) = IsOfSome member log
+IsLookedOfSome member (looked.Broken at) = Unit {0}
+
+-- these are whole logs of the members 1, 2, .. for some bytes
+pub record AreOfSome (logs : List Log) : Type 0 where
+  pub bytes : List (List ℕ)
+  pub are : AreWholeLogs 1 bytes logs
+
+abbrev pub AreFoundOfSome : Found → Type 0
+AreFoundOfSome (found.Whole whole) = AreOfSome whole
+AreFoundOfSome (found.Broken member at) = Unit {0}
 
 -- these are whole logs of the members 1, 2, .., or the first that isn't whole breaks off there
 abbrev pub AreFound : List (List ℕ) → Found → Type 0

@@ -1,6 +1,6 @@
 ghost use Rattle.std.specs.Prelude.{◌≡◌, length, IfOk};
 ghost use Rattle.ds_disk.specs.Contents.{log_of};
-ghost use Rattle.disk_logs.specs.Looking.{Reads, IsLooked, IsLookedAllowed, AreFound};
+ghost use Rattle.disk_logs.specs.Looking.{Reads, IsLooked, IsLookedAllowed, IsLookedOfSome, AreFound, AreFoundOfSome};
 
 use crate::log::{Looked, whole_log};
 use ds_base::{MemberId, NoMemory};
@@ -37,6 +37,7 @@ fn read_bytes<D: Disk>(alloc: Global, disk: &mut D, member: MemberId) -> Result<
 fn look<D: Disk>(alloc: Global, disk: &mut D, member: MemberId) -> Result<Looked, DiskError>
     ensures reads { Reads (D.contents disk.old) (D.contents disk.new) (D.faults disk.old) (D.faults disk.new) (λ looked c. IsLooked member (log_of c.logs member) looked) result }
     ensures allowed { IfOk result IsLookedAllowed }
+    ensures some { IfOk result (λ looked. IsLookedOfSome member looked) }
 {
     let bytes = read_bytes(alloc, disk, member)?;
     let looked = whole_log(alloc, member, &bytes)?;
@@ -45,7 +46,8 @@ fn look<D: Disk>(alloc: Global, disk: &mut D, member: MemberId) -> Result<Looked
 
 /// The logs of all members, in their order, or where the first of them breaks off.
 pub fn read_logs<D: Disk>(alloc: Global, disk: &mut D) -> Result<Found, DiskError>
-    ensures { Reads (D.contents disk.old) (D.contents disk.new) (D.faults disk.old) (D.faults disk.new) (λ found c. AreFound c.logs found) result }
+    ensures reads { Reads (D.contents disk.old) (D.contents disk.new) (D.faults disk.old) (D.faults disk.new) (λ found c. AreFound c.logs found) result }
+    ensures some { IfOk result AreFoundOfSome }
 {
     let mut logs = Logs::new(alloc);
     for index in 0..32u64 {

@@ -1,0 +1,26 @@
+use Rattle.std.proofs.Common.{List, subst}
+use Rattle.ds_disk.specs.Contents.{Contents}
+use Rattle.ds_disk.specs.Pages.{page_at}
+use Rattle.disk_spots.specs.declared.spot.Spot.{Spot}
+use Rattle.log_record.specs.declared.log.Log.{Log}
+use Rattle.sound_disk.specs.Transactions.{AreTransactions}
+use Rattle.fitting_records.specs.Breaches.{IsRecordOf, IsFirstBreach}
+use Rattle.space_check.specs.declared.verdict.Verdict.{Verdict}
+use Rattle.space_check.specs.Judging.{IsJudged}
+use Rattle.space_check.proofs.Reading.{no_read}
+use Rattle.space_check.proofs.Steps.{nothing, something, unfit_breach}
+use Rattle.space_check.proofs.check.check_logs.Goals as goal
+
+pub check_pages-requires : goal.check_pages-requires
+check_pages-requires g c =
+    let fits : AreTransactions c.args.logs.now = subst AreTransactions c.as_slice.ensures.value (nothing (AreTransactions c.as_slice.result.now) c.in_ok-spot.spot c.in_ok-spot.ensures.none c.in-None.is) in
+    let of = c.requires in
+    record { records = c.page_laws.ensures.merged of.bytes c.args.logs.now of.are fits; transactions = fits }
+
+pub returns-in-Some : goal.returns-in-Some
+returns-in-Some g c =
+    let first : IsRecordOf (IsFirstBreach AreTransactions c.as_slice.result.now) c.in-Some.at =
+    something (λ (s : Spot). IsRecordOf (IsFirstBreach AreTransactions c.as_slice.result.now) s) c.in_ok-spot.spot c.in-Some.at c.in_ok-spot.ensures.first c.in-Some.is
+    in
+    no_read _ _ (λ (v : Verdict) (d : Contents). IsJudged (page_at d.pages) c.args.logs.now c.args.behind v) _
+    (λ (d : Contents). unfit_breach (page_at d.pages) c.args.logs.now c.args.behind c.in-Some.at (subst (λ (l : List Log). IsRecordOf (IsFirstBreach AreTransactions l) c.in-Some.at) c.as_slice.ensures.value first))

@@ -1,0 +1,13 @@
+//! Whether a disk is sound, told by reading all of it and writing nothing.
+#![tactic(auto)]
+
+mod check;
+mod pages;
+mod records;
+#[cfg(test)]
+mod tests;
+mod verdict;
+
+pub use check::{check_behind, check_disk};
+pub use disk_spots::Spot;
+pub use verdict::{Breach, Clause, Verdict};

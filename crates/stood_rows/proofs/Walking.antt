@@ -1,0 +1,46 @@
+-- Records that are gone through one after the other.
+use Rattle.std.proofs.Common.{◌≡◌, ◌↔◌, ℕ, zero, suc, ◌+◌, ◌<◌, Bool, List, [], ◌∷◌, ◌++◌, length, get_or, take, refl, sym, ap, subst, ◌∙◌, append_assoc, arith}
+use Rattle.std.specs.Prelude.{IsTrue}
+use Rattle.std.specs.List.{AllByRecursion}
+use Rattle.std.proofs.lemmas.List.{take_more, take_all, append-nil}
+use Rattle.ds_model.specs.declared.log.LogRecord.{LogRecord}
+use Rattle.ds_model.specs.RecordBytes.{IsAllowed}
+use Rattle.sound_disk.specs.Rows_there.{BodyStood, BeforesAgree}
+use Rattle.row_befores.specs.Befores.{RowBefore, AreBefores}
+
+pub as_long : (e rs : List LogRecord) (bs : List Bool) → AreBefores e rs bs → length bs ≡ length rs
+as_long e [] [] h = refl
+as_long e [] (b ∷ bs) h = absurd h
+as_long e (r ∷ rs) [] h = absurd h
+as_long e (r ∷ rs) (b ∷ bs) h = ap suc (as_long (e ++ r ∷ []) rs bs h.1)
+
+next : (e rs : List LogRecord) (r : LogRecord) (k : ℕ) → (e ++ r ∷ []) ++ take k rs ≡ e ++ (r ∷ take k rs)
+next e rs r k = append_assoc e (r ∷ []) (take k rs)
+
+pub tells_at : (e rs : List LogRecord) (bs : List Bool) (k : ℕ) (r : LogRecord) (b : Bool) → AreBefores e rs bs → k < length rs → IsTrue (get_or bs k b) ↔ RowBefore (e ++ take k rs) (get_or rs k r).body
+tells_at e [] bs k r b h lt = absurd (omega arith)
+tells_at e (x ∷ rs) [] k r b h lt = absurd h
+tells_at e (x ∷ rs) (y ∷ bs) zero r b h lt = subst (λ (l : List LogRecord). IsTrue y ↔ RowBefore l x.body) (sym (append-nil e)) h.0
+tells_at e (x ∷ rs) (y ∷ bs) (suc k) r b h lt =
+    subst (λ (l : List LogRecord). IsTrue (get_or bs k b) ↔ RowBefore l (get_or rs k r).body) (next e rs x k) (tells_at (e ++ x ∷ []) rs bs k r b h.1 (omega arith))
+
+pub agrees_at : (e rs : List LogRecord) (k : ℕ) (r : LogRecord) → BeforesAgree e rs → k < length rs → BodyStood (e ++ take k rs) (get_or rs k r).body
+agrees_at e [] k r h lt = absurd (omega arith)
+agrees_at e (x ∷ rs) zero r h lt = subst (λ (l : List LogRecord). BodyStood l x.body) (sym (append-nil e)) h.0
+agrees_at e (x ∷ rs) (suc k) r h lt = subst (λ (l : List LogRecord). BodyStood l (get_or rs k r).body) (next e rs x k) (agrees_at (e ++ x ∷ []) rs k r h.1 (omega arith))
+
+agree_push : (e xs : List LogRecord) (r : LogRecord) → BeforesAgree e xs → BodyStood (e ++ xs) r.body → BeforesAgree e (xs ++ r ∷ [])
+agree_push e [] r h s = (subst (λ (l : List LogRecord). BodyStood l r.body) (append-nil e) s, tt)
+agree_push e (x ∷ xs) r h s = (h.0, agree_push (e ++ x ∷ []) xs r h.1 (subst (λ (l : List LogRecord). BodyStood l r.body) (sym (append_assoc e (x ∷ []) xs)) s))
+
+pub agree_more : (rs : List LogRecord) (k : ℕ) (r : LogRecord) → k < length rs → BeforesAgree [] (take k rs) → BodyStood (take k rs) (get_or rs k r).body → BeforesAgree [] (take (k + 1) rs)
+agree_more rs k r lt h s = subst (λ (l : List LogRecord). BeforesAgree [] l) (sym (take_more rs k r lt)) (agree_push [] (take k rs) (get_or rs k r) h s)
+
+pub agree_all : (rs : List LogRecord) (k : ℕ) → k ≡ length rs → BeforesAgree [] (take k rs) → BeforesAgree [] rs
+agree_all rs k e h = subst (λ (l : List LogRecord). BeforesAgree [] l) (take_all k rs (omega (arith, e))) h
+
+pub allowed_before : (rs : List LogRecord) (k : ℕ) → AllByRecursion IsAllowed rs → AllByRecursion IsAllowed (take k rs)
+allowed_before [] zero h = tt
+allowed_before [] (suc k) h = tt
+allowed_before (r ∷ rs) zero h = tt
+allowed_before (r ∷ rs) (suc k) h = (h.0, allowed_before rs k h.1)

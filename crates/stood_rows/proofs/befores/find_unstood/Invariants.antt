@@ -1,0 +1,6 @@
+use Rattle.std.proofs.Common.{[], take}
+use Rattle.sound_disk.specs.Rows_there.{BeforesAgree}
+use Rattle.stood_rows.proofs.befores.find_unstood.Given as goal
+
+abbrev pub invariant-loop-at : goal.invariant-loop-at
+invariant-loop-at l = BeforesAgree [] (take l.at l.records)

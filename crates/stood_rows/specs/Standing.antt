@@ -1,0 +1,39 @@
+-- Whether a change met its row.
+use Rattle.std.specs.Prelude.{◌≡◌, ℕ, ◌==◌, Bool, false, ◌&&◌, List, [], Option, None, Some, is_none}
+use Rattle.std.specs.Str.{bytes_eq}
+use Rattle.ds_base.specs.Pages.{heap_page}
+use Rattle.ds_base.specs.declared.names.PageId.{PageId}
+use Rattle.ds_model.specs.declared.log.LogRecord.{LogRecord}
+use Rattle.ds_model.specs.declared.log.RowChange.{RowChange}
+use Rattle.ds_model.specs.declared.log.Body.{Body}
+use Rattle.heap_space.specs.Slots.{Content, content, slot_in}
+use Rattle.page_redo.specs.Rows.{change_fault}
+use Rattle.sound_disk.specs.Rows_there.{Stood, BodyStood, BeforesAgree}
+
+abbrev pub same_value : Option (List ℕ) → List ℕ → Bool
+same_value None value = false
+same_value (Some row) value = bytes_eq row value
+
+-- the slot was given to the key, and has this row, or none
+abbrev pub says : Content → ℕ → Option (List ℕ) → Bool
+says None key row = false
+says (Some (its, None)) key row = (its == key) && is_none row
+says (Some (its, Some value)) key row = (its == key) && same_value row value
+
+-- the slot of the change is there and the key's, and has the row before the change
+pub record StandsIn (page : List ℕ) (c : RowChange) : Type 0 where
+  pub slot : change_fault (heap_page c.table c.place.page) c page ≡ None
+  pub there : content (slot_in page c.place.slot) ≡ Some (c.key, c.before)
+
+abbrev pub IsChangeTold : List LogRecord → RowChange → Option PageId → Type 0
+IsChangeTold earlier c None = Stood earlier c
+IsChangeTold earlier c (Some id) = Stood earlier c → ⊥
+
+abbrev pub IsBodyTold : List LogRecord → Body → Option PageId → Type 0
+IsBodyTold earlier b None = BodyStood earlier b
+IsBodyTold earlier b (Some id) = BodyStood earlier b → ⊥
+
+-- each record tells the row that it met, and that those before it left; or one doesn't
+abbrev pub AreTold : List LogRecord → Option PageId → Type 0
+AreTold records None = BeforesAgree [] records
+AreTold records (Some id) = BeforesAgree [] records → ⊥
