@@ -1,7 +1,8 @@
 use Rattle.std.proofs.Common.{◌≡◌, false, drop}
 use Rattle.std.specs.Str.{bytes_eq}
-use Rattle.page_versions.specs.Fronts.{is_later}
+use Rattle.page_versions.specs.Own.{is_later_at}
 use Rattle.page_versions.proofs.front.is_from.Given as goal
 
-abbrev pub invariant-loop-record : goal.invariant-loop-record
-invariant-loop-record l = (bytes_eq l.image l.page ≡ false) × (is_later l.id l.page l.image (drop l.record-index l.records) ≡ is_later l.id l.page l.fn.image l.records)
+abbrev pub invariant-loop-place : goal.invariant-loop-place
+invariant-loop-place l =
+    (bytes_eq l.image l.page ≡ false) × (is_later_at l.id l.records l.page l.image (drop l.place-index l.places) ≡ is_later_at l.id l.records l.page l.fn.image l.places)
