@@ -6,7 +6,7 @@ ghost use Rattle.sound_disk.specs.Versions.{current};
 ghost use Rattle.page_chain.specs.Chains.{version_of, IsVersion};
 ghost use Rattle.page_records.specs.Places.{by_page};
 ghost use Rattle.page_versions.specs.Fronts.{has_header, IsPlaced, PlacedMayStand};
-ghost use Rattle.page_versions.specs.Own.{is_from_at};
+ghost use Rattle.page_versions.specs.Own.{places_at, is_later_at, is_from_at};
 
 use crate::places::{apply_all, apply_at, places_at};
 use ds_base::{NoMemory, PageId};
@@ -22,8 +22,8 @@ fn is_same(a: &Page, b: &Page) -> bool
     a.bytes().as_slice() == b.bytes().as_slice()
 }
 
-// By the records at these places.
-fn is_from(
+// By the records at these places, from the first on.
+fn is_later(
     id: PageId,
     records: &[LogRecord],
     places: &[usize],
@@ -31,11 +31,8 @@ fn is_from(
     page: &Page,
 ) -> bool
     requires { AllByRecursion IsAllowed records.now }
-    ensures { result ≡ is_from_at id records.now page.now image.old places.now }
+    ensures { result ≡ is_later_at id records.now page.now image.old places.now }
 {
-    if is_same(image, page) {
-        return true;
-    }
     for place in places {
         apply_at(image, id, records, *place);
         if is_same(image, page) {
@@ -43,6 +40,20 @@ fn is_from(
         }
     }
     false
+}
+
+// A page that is the image already isn't looked up.
+fn is_from(
+    id: PageId,
+    records: &[LogRecord],
+    changed: &[PageRecords],
+    image: &mut Page,
+    page: &Page,
+) -> bool
+    requires { AllByRecursion IsAllowed records.now }
+    ensures { result ≡ is_from_at id records.now page.now image.old (places_at id changed.now) }
+{
+    is_same(image, page) || is_later(id, records, places_at(id, changed), image, page)
 }
 
 /// The page of this name as the records make it of a page of zeros. `changed` are the pages that they change.
@@ -65,7 +76,7 @@ pub fn image_of(
 
 /// Whether the page is a version: what a front of these records makes of a page of zeros. `changed` are the pages that they change.
 ///
-/// It takes time in the number of these pages and of the page's own records.
+/// It takes time in the number of these pages and of the page's own records, but a page of zeros is told at once.
 pub fn is_version(
     alloc: Global,
     id: PageId,
@@ -79,7 +90,7 @@ pub fn is_version(
 {
     chain_laws();
     let mut image = Page::zero(alloc)?;
-    Ok(is_from(id, records, places_at(id, changed), &mut image, page))
+    Ok(is_from(id, records, changed, &mut image, page))
 }
 
 fn has_header(id: PageId, renews: bool, page: &Page) -> bool

@@ -9,5 +9,5 @@ pub returns : goal.returns
 returns c =
     told c.args.id c.args.page.now c.in_ok-image.image c.args.records.now c.is_from.result c.in_ok-image.ensures
     (c.is_from.ensures
-    ∙ ap (λ (ns : List ℕ). is_from_at c.args.id c.args.records.now c.args.page.now c.in_ok-image.image ns) (c.places_at.ensures ∙ ap (λ (ps : List PageRecords). places_at c.args.id ps) c.requires.changed_pages)
+    ∙ ap (λ (ps : List PageRecords). is_from_at c.args.id c.args.records.now c.args.page.now c.in_ok-image.image (places_at c.args.id ps)) c.requires.changed_pages
     ∙ from_by_page c.chain_laws.ensures.others c.args.id c.args.records.now c.args.page.now c.in_ok-image.image)
