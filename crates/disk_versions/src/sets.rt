@@ -64,5 +64,12 @@ pub fn find_unplaced<D: Disk>(
     let plan = plan_of(alloc, logs)?;
     let records = plan.merged.records();
     let changed = by_page(alloc, records)?;
-    check_sets(alloc, disk, records, changed.as_slice(), plan.renews, behind)
+    check_sets(
+        alloc,
+        disk,
+        records,
+        changed.as_slice(),
+        plan.renews,
+        behind,
+    )
 }
