@@ -2,6 +2,7 @@ ghost use Rattle.std.specs.Prelude.{◌≡◌, ◌≤◌, ◌^◌, IfOk};
 ghost use Rattle.std.specs.List.{AllByRecursion};
 ghost use Rattle.ds_disk.specs.Pages.{page_at};
 ghost use Rattle.ds_model.specs.RecordBytes.{IsAllowed};
+ghost use Rattle.page_records.specs.Places.{by_page};
 ghost use Rattle.disk_versions.specs.Reading.{Reads};
 ghost use Rattle.disk_versions.specs.Ends.{pages_read};
 ghost use Rattle.disk_versions.specs.Placing.{count_with, IsSetTold, IsCountUpTo};
@@ -12,6 +13,7 @@ use ds_base::PageId;
 use ds_disk::{Disk, DiskError};
 use log_record::LogRecord;
 use page_format::Page;
+use page_records::PageRecords;
 use std::alloc::Global;
 
 /// What is found of the pages of a disk.
@@ -37,9 +39,11 @@ fn check_pages<D: Disk>(
     set: u16,
     end: u64,
     records: &[LogRecord],
+    changed: &[PageRecords],
     renews: bool,
 ) -> Result<Placing, DiskError>
     requires allowed { AllByRecursion IsAllowed records.now }
+    requires changed_pages { changed.now ≡ by_page records.now }
     requires end_in { end ≤ 2 ^ 32 }
     ensures told { Reads (D.contents disk.old) (D.contents disk.new) (D.faults disk.old) (D.faults disk.new) (λ found c. IsSetTold (page_at c.pages) records.now renews set end found) result }
     ensures bound { IfOk result (λ found. IsCountUpTo (2 ^ 32) found) }
@@ -51,7 +55,7 @@ fn check_pages<D: Disk>(
             set,
             number: number as u32,
         };
-        let judged = judge(alloc, disk, &mut page, id, records, renews)?;
+        let judged = judge(alloc, disk, &mut page, id, records, changed, renews)?;
         if !judged.is_placed {
             return Ok(Placing::Unplaced { id });
         }
@@ -79,19 +83,21 @@ fn pages_read<D: Disk>(
     Ok(end_of(by_header, by_records, behind))
 }
 
-/// What is found of the pages of the set.
+/// What is found of the pages of the set. `changed` are the pages that the records change.
 pub fn check_set<D: Disk>(
     alloc: Global,
     disk: &mut D,
     set: u16,
     records: &[LogRecord],
+    changed: &[PageRecords],
     renews: bool,
     behind: u32,
 ) -> Result<Placing, DiskError>
     requires allowed { AllByRecursion IsAllowed records.now }
+    requires changed_pages { changed.now ≡ by_page records.now }
     ensures told { Reads (D.contents disk.old) (D.contents disk.new) (D.faults disk.old) (D.faults disk.new) (λ found c. IsSetTold (page_at c.pages) records.now renews set (pages_read (page_at c.pages) records.now behind set) found) result }
     ensures bound { IfOk result (λ found. IsCountUpTo (2 ^ 32) found) }
 {
     let end = pages_read(alloc, disk, set, records, behind)?;
-    check_pages(alloc, disk, set, end, records, renews)
+    check_pages(alloc, disk, set, end, records, changed, renews)
 }

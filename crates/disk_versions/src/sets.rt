@@ -4,6 +4,7 @@ ghost use Rattle.ds_disk.specs.Pages.{page_at};
 ghost use Rattle.ds_model.specs.RecordBytes.{IsAllowed};
 ghost use Rattle.page_chain.specs.Chains.{AreRecords};
 ghost use Rattle.sound_disk.specs.Versions.{merged};
+ghost use Rattle.page_records.specs.Places.{by_page};
 ghost use Rattle.disk_versions.specs.Reading.{Reads};
 ghost use Rattle.disk_versions.specs.Placing.{AreSetsTold};
 ghost use Rattle.disk_versions.specs.Told.{IsTold};
@@ -12,6 +13,7 @@ use crate::set::{Placing, check_set};
 use ds_disk::{Disk, DiskError};
 use log_record::LogRecord;
 use page_images::header_laws;
+use page_records::{PageRecords, by_page};
 use page_versions::version_laws;
 use restart_plan::{Logs, plan_of};
 use std::alloc::Global;
@@ -23,15 +25,17 @@ fn check_sets<D: Disk>(
     alloc: Global,
     disk: &mut D,
     records: &[LogRecord],
+    changed: &[PageRecords],
     renews: bool,
     behind: u32,
 ) -> Result<Placing, DiskError>
-    requires { AllByRecursion IsAllowed records.now }
+    requires allowed { AllByRecursion IsAllowed records.now }
+    requires changed_pages { changed.now ≡ by_page records.now }
     ensures { Reads (D.contents disk.old) (D.contents disk.new) (D.faults disk.old) (D.faults disk.new) (λ found c. AreSetsTold (page_at c.pages) records.now renews behind 128 found) result }
 {
     let mut pages = 0u64;
     for before in 0..PAGE_SETS {
-        let found = check_set(alloc, disk, before + 1, records, renews, behind)?;
+        let found = check_set(alloc, disk, before + 1, records, changed, renews, behind)?;
         match found {
             Placing::All { pages: more } => pages += more,
             Placing::Unplaced { id } => return Ok(Placing::Unplaced { id }),
@@ -44,7 +48,8 @@ fn check_sets<D: Disk>(
 /// how many aren't all zeros. Of each page set so many pages are read behind the last one that its header page or a record
 /// names.
 ///
-/// The pages are read one at a time. A page that isn't all zeros takes time in the number of records.
+/// The pages are read one at a time. A page that isn't all zeros takes time in the number of pages that the records change,
+/// and of those records that change it.
 pub fn find_unplaced<D: Disk>(
     alloc: Global,
     disk: &mut D,
@@ -57,5 +62,14 @@ pub fn find_unplaced<D: Disk>(
     header_laws();
     version_laws();
     let plan = plan_of(alloc, logs)?;
-    check_sets(alloc, disk, plan.merged.records(), plan.renews, behind)
+    let records = plan.merged.records();
+    let changed = by_page(alloc, records)?;
+    check_sets(
+        alloc,
+        disk,
+        records,
+        changed.as_slice(),
+        plan.renews,
+        behind,
+    )
 }

@@ -1,4 +1,7 @@
 -- A record that a log may hold has a length.
+use Rattle.std.proofs.Common.{◌≡◌, ℕ, List, [], ◌∷◌, subst}
+use Rattle.std.specs.Prelude.{zero, suc, Some, slice_get}
+use Rattle.std.specs.List.{AllByRecursion}
 use Rattle.ds_model.specs.declared.log.LogRecord.{LogRecord}
 use Rattle.ds_model.specs.declared.log.Version.{Version}
 use Rattle.ds_model.specs.declared.log.Body.{Body}
@@ -16,3 +19,8 @@ body_fits v body.RestartEnd h = tt
 
 pub fits_of : (r : LogRecord) → IsAllowed r → BodyFits r.version r.body
 fits_of r h = body_fits r.version r.body h.body_is
+
+pub fits_at : (rs : List LogRecord) (k : ℕ) (r : LogRecord) → AllByRecursion IsAllowed rs → slice_get rs k ≡ Some r → BodyFits r.version r.body
+fits_at [] k r h e = absurd cc
+fits_at (x ∷ rs) zero r h e = let same : x ≡ r = cc in subst (λ (y : LogRecord). BodyFits y.version y.body) same (fits_of x h.0)
+fits_at (x ∷ rs) (suc k) r h e = fits_at rs k r h.1 e

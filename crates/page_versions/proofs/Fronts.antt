@@ -81,7 +81,7 @@ front_of id page (r ∷ first) rest h = or_second (bytes_eq zeros page) _ (is_re
 version_is : (id : PageId) (page : List ℕ) (rs : List LogRecord) → IsVersion id rs page → is_from id page zeros rs ≡ true
 version_is id page rs v = ap (λ (l : List LogRecord). is_from id page zeros l) v.whole ∙ front_of id page v.first v.rest v.bytes
 
-blank : (image : List ℕ) → image ≡ replicate page_size 0 → image ≡ zeros
+pub blank : (image : List ℕ) → image ≡ replicate page_size 0 → image ≡ zeros
 unfolding zero_bytes
 blank image h = h
 

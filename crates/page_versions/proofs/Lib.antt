@@ -1,2 +1,4 @@
 pub mod Fitting
 pub mod Fronts
+pub mod Listed
+pub mod Touching

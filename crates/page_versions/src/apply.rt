@@ -1,11 +1,9 @@
 ghost use Rattle.std.specs.Prelude.{◌≡◌, [], ◌∷◌, ◌<◌};
-ghost use Rattle.std.specs.List.{AllByRecursion, list_any};
-ghost use Rattle.ds_base.specs.Pages.{same_page};
+ghost use Rattle.std.specs.List.{AllByRecursion};
 ghost use Rattle.ds_model.specs.RecordBytes.{BodyFits, PatchIsAllowed};
 ghost use Rattle.page_format.specs.Header.{slots_per_page};
-ghost use Rattle.page_format.specs.declared.patch.Patch.{Patch};
 ghost use Rattle.heap_space.specs.Written.{written};
-ghost use Rattle.page_chain.specs.Chains.{row_patch, after_record, touches};
+ghost use Rattle.page_chain.specs.Chains.{row_patch, after_record};
 
 use ds_base::{Lrsn, PageId};
 use ds_model::{Body, LogRecord, RowChange};
@@ -49,29 +47,5 @@ pub fn apply_record(page: &mut Page, id: PageId, it: &LogRecord)
         }
         Body::System { patches } => apply_patches(page, id, patches.as_slice(), it.lrsn),
         Body::Commit | Body::Ended | Body::Checkpoint { .. } | Body::RestartEnd => {}
-    }
-}
-
-fn any_for(id: PageId, patches: &[Patch]) -> bool
-    ensures { result ≡ list_any (λ (p : Patch). same_page p.page id) patches.now }
-{
-    for patch in patches {
-        if patch.page.is_same(id) {
-            return true;
-        }
-    }
-    false
-}
-
-/// Whether the record changes the page.
-pub fn touches(id: PageId, it: &LogRecord) -> bool
-    ensures { result ≡ touches id it.now }
-{
-    match &it.body {
-        Body::RowChange { change } | Body::Compensation { change, .. } => {
-            page_changed(change).is_same(id)
-        }
-        Body::System { patches } => any_for(id, patches.as_slice()),
-        Body::Commit | Body::Ended | Body::Checkpoint { .. } | Body::RestartEnd => false,
     }
 }

@@ -3,9 +3,10 @@
 
 mod apply;
 mod front;
+mod places;
 
 pub use apply::apply_record;
-pub use front::{is_placed, is_version, version_laws};
+pub use front::{image_of, is_placed, is_version, version_laws};
 
 #[cfg(test)]
 mod tests;

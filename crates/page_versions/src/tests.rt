@@ -6,6 +6,7 @@ use ds_base::{Bytes, Lrsn, PageId, Sequence};
 use ds_model::{Body, LogRecord, Version};
 use log_record::is_allowed;
 use page_format::{Page, Patch};
+use page_records::by_page;
 use std::alloc::Global;
 use std::test::Fail;
 
@@ -41,14 +42,16 @@ fn a_page_is_a_version_by_a_front_of_the_records(rt: HostRuntime) -> Result<(), 
         record(alloc, 4, 8)?,
         record(alloc, 5, 7)?,
     ];
+    let changed = by_page(alloc, &records)?;
+    let changed = changed.as_slice();
     let mut page = Page::zero(alloc)?;
-    assert!(rt; is_version(alloc, ID, &records, &page)?);
+    assert!(rt; is_version(alloc, ID, &records, changed, &page)?);
     apply_record(&mut page, ID, &records[0]);
-    assert!(rt; is_version(alloc, ID, &records, &page)?);
+    assert!(rt; is_version(alloc, ID, &records, changed, &page)?);
     let other = [record(alloc, 3, 8)?];
-    assert!(rt; !is_version(alloc, ID, &other, &page)?);
-    assert!(rt; !is_placed(alloc, ID, &records, false, &mut page)?);
+    assert!(rt; !is_version(alloc, ID, &other, by_page(alloc, &other)?.as_slice(), &page)?);
+    assert!(rt; !is_placed(alloc, ID, &records, changed, false, &mut page)?);
     apply_record(&mut page, ID, &records[2]);
-    assert!(rt; is_version(alloc, ID, &records, &page)?);
+    assert!(rt; is_version(alloc, ID, &records, changed, &page)?);
     Ok(())
 }

@@ -5,9 +5,9 @@ mod heap;
 mod images;
 mod index;
 
-pub use heap::find_wrong_heap_page;
+pub use heap::{find_wrong_heap_page, find_wrong_heap_page_by};
 pub use images::image_of;
-pub use index::find_wrong_index_page;
+pub use index::{find_wrong_index_page, find_wrong_index_page_by};
 
 #[cfg(test)]
 mod tests;

@@ -5,8 +5,8 @@ use Rattle.ds_model.specs.RecordBytes.{IsAllowed}
 use Rattle.disk_versions.proofs.Versions.{told, merged_in, renews_in}
 use Rattle.disk_versions.proofs.sets.find_unplaced.Goals as goal
 
-pub check_sets-requires : goal.check_sets-requires
-check_sets-requires g c = subst (λ (rs : List LogRecord). AllByRecursion IsAllowed rs) (sym (c.records.ensures ∙ merged_in c.args.logs.now c.in_ok-plan.plan c.in_ok-plan.ensures)) c.requires.0
+pub check_sets-requires-clause-allowed : goal.check_sets-requires-clause-allowed
+check_sets-requires-clause-allowed g c = subst (λ (rs : List LogRecord). AllByRecursion IsAllowed rs) (sym (c.records.ensures ∙ merged_in c.args.logs.now c.in_ok-plan.plan c.in_ok-plan.ensures)) c.requires.0
 
 pub returns : goal.returns
 returns g c = record {

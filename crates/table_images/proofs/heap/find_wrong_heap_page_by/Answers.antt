@@ -3,7 +3,7 @@ use Rattle.ds_base.specs.declared.names.PageId.{PageId}
 use Rattle.page_chain.specs.Chains.{version_of}
 use Rattle.disk_versions.specs.Ends.{last_in_records}
 use Rattle.table_images.proofs.Heaps.{told}
-use Rattle.table_images.proofs.heap.find_wrong_heap_page.Goals as goal
+use Rattle.table_images.proofs.heap.find_wrong_heap_page_by.Goals as goal
 
 pub returns : goal.returns
 returns c =
