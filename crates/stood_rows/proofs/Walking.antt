@@ -1,12 +1,16 @@
 -- Records that are gone through one after the other.
-use Rattle.std.proofs.Common.{◌≡◌, ◌↔◌, ℕ, zero, suc, ◌+◌, ◌<◌, Bool, List, [], ◌∷◌, ◌++◌, length, get_or, take, refl, sym, ap, subst, ◌∙◌, append_assoc, arith}
+use Rattle.std.proofs.Common.{◌≡◌, ◌↔◌, ℕ, zero, suc, ◌+◌, ◌<◌, Bool, List, [], ◌∷◌, ◌++◌, length, get_or, take, drop, refl, sym, ap, subst, ◌∙◌, append_assoc, arith}
 use Rattle.std.specs.Prelude.{IsTrue}
 use Rattle.std.specs.List.{AllByRecursion}
-use Rattle.std.proofs.lemmas.List.{take_more, take_all, append-nil}
+use Rattle.std.proofs.lemmas.List.{take_more, take_all, append-nil, take-append-drop, drop_more}
 use Rattle.ds_model.specs.declared.log.LogRecord.{LogRecord}
 use Rattle.ds_model.specs.RecordBytes.{IsAllowed}
+use Rattle.ds_base.specs.declared.names.PageId.{PageId}
+use Rattle.ds_model.specs.declared.log.Body.{Body}
+use Rattle.ds_model.specs.declared.log.Body.TheVariants as body
 use Rattle.sound_disk.specs.Rows_there.{BodyStood, BeforesAgree}
 use Rattle.row_befores.specs.Befores.{RowBefore, AreBefores}
+use Rattle.stood_rows.specs.Standing.{IsUnstood, IsFirstUnstood}
 
 pub as_long : (e rs : List LogRecord) (bs : List Bool) → AreBefores e rs bs → length bs ≡ length rs
 as_long e [] [] h = refl
@@ -44,3 +48,25 @@ allowed_before [] zero h = tt
 allowed_before [] (suc k) h = tt
 allowed_before (r ∷ rs) zero h = tt
 allowed_before (r ∷ rs) (suc k) h = (h.0, allowed_before rs k h.1)
+
+-- ---- the first that doesn't
+
+unmet : (earlier : List LogRecord) (b : Body) (id : PageId) → IsUnstood earlier b id → BodyStood earlier b → ⊥
+unmet earlier (body.RowChange c) id w s = w.0 s
+unmet earlier (body.Compensation c undone) id w s = w.0 s
+unmet earlier (body.System patches) id w s = w
+unmet earlier body.Commit id w s = w
+unmet earlier body.Ended id w s = w
+unmet earlier (body.Checkpoint offset) id w s = w
+unmet earlier body.RestartEnd id w s = w
+
+pub first_unstood : (rs : List LogRecord) (k : ℕ) (r : LogRecord) (id : PageId) → k < length rs → BeforesAgree [] (take k rs) → IsUnstood (take k rs) (get_or rs k r).body id → IsFirstUnstood rs id
+first_unstood rs k r id lt h w = record {
+  first = take k rs;
+  it = get_or rs k r;
+  rest = drop (k + 1) rs;
+  split = sym (take-append-drop k rs) ∙ ap (λ (l : List LogRecord). take k rs ++ l) (drop_more rs k r lt);
+  before = h;
+  wrong = w;
+  lacking = λ agree. unmet (take k rs) (get_or rs k r).body id w (agrees_at [] rs k r agree lt);
+}

@@ -79,9 +79,8 @@ pub fn find_unstood(alloc: Global, records: &[LogRecord]) -> Result<Option<PageI
 {
     let agree = befores_of(alloc, records)?;
     for at in 0..records.len() {
-        let found = unstood(alloc, &records[..at], &records[at], agree[at])?;
-        if found.is_some() {
-            return Ok(found);
+        if let Some(id) = unstood(alloc, &records[..at], &records[at], agree[at])? {
+            return Ok(Some(id));
         }
     }
     Ok(None)
