@@ -48,18 +48,18 @@ rest_same xs ys zs e = sym (drop_at xs ys (length xs) refl) ∙ ap (λ (t : List
 -- the bytes are not these records with nothing that may follow them, and also whole records with a torn tail
 not_both : Again → Cut → (low : ℕ) (rs ss : List LogRecord) (rest tail : List ℕ) → log_bytes rs ++ rest ≡ log_bytes ss ++ tail → AllByRecursion IsAllowed rs → AllByRecursion IsAllowed ss → IsTorn tail
     → (IsTorn rest → ⊥) → ((r : LogRecord) (more : List ℕ) → IsAllowed r → rest ≡ record_bytes r ++ more → RisesFrom low (rs ++ r ∷ []) → ⊥) → RisesFrom low ss → ⊥
-not_both again cut low [] [] rest tail e ha hb torn no none rises = no (subst IsTorn (sym e) torn)
-not_both again cut low [] (s ∷ ss) rest tail e ha hb torn no none rises = none s (log_bytes ss ++ tail) hb.0 (e ∙ behind s ss tail) (rises.0, tt)
-not_both again cut low (r ∷ rs) [] rest tail e ha hb torn no none rises =
+not_both again cut low [] [] rest tail e ha hb torn untorn none rises = untorn (subst IsTorn (sym e) torn)
+not_both again cut low [] (s ∷ ss) rest tail e ha hb torn untorn none rises = none s (log_bytes ss ++ tail) hb.0 (e ∙ behind s ss tail) (rises.0, tt)
+not_both again cut low (r ∷ rs) [] rest tail e ha hb torn untorn none rises =
     let read = again r (log_bytes rs ++ rest) ha.0 in
     let here : record_in tail ≡ Ok (r, length (record_bytes r)) = ap record_in (sym e ∙ behind r rs rest) ∙ read in
     let cut_short = torn_read cut tail torn in
     cc
-not_both again cut low (r ∷ rs) (s ∷ ss) rest tail e ha hb torn no none rises =
+not_both again cut low (r ∷ rs) (s ∷ ss) rest tail e ha hb torn untorn none rises =
     let front = sym (behind r rs rest) ∙ e ∙ behind s ss tail in
     let same : r ≡ s = same_pair r s (length (record_bytes r)) (length (record_bytes s)) _ _ (ap record_in front) (again r (log_bytes rs ++ rest) ha.0) (again s (log_bytes ss ++ tail) hb.0) in
     let one : record_bytes r ++ (log_bytes rs ++ rest) ≡ record_bytes r ++ (log_bytes ss ++ tail) = front ∙ ap (λ (q : LogRecord). record_bytes q ++ (log_bytes ss ++ tail)) (sym same) in
-    not_both again cut r.lrsn rs ss rest tail (rest_same (record_bytes r) (log_bytes rs ++ rest) (log_bytes ss ++ tail) one) ha.1 hb.1 torn no
+    not_both again cut r.lrsn rs ss rest tail (rest_same (record_bytes r) (log_bytes rs ++ rest) (log_bytes ss ++ tail) one) ha.1 hb.1 torn untorn
     (λ q more is at up. none q more is at (subst (λ (n : ℕ). low ≤ n) (ap (λ (q : LogRecord). q.lrsn) (sym same)) rises.0, up))
     (subst (λ (n : ℕ). RisesFrom n ss) (ap (λ (q : LogRecord). q.lrsn) (sym same)) rises.1)
 
@@ -69,10 +69,10 @@ not_whole again cut member bytes at log off h =
     not_both again cut 0 off.records log.records off.rest are.tail (sym off.split ∙ are.whole) off.allowed are.allowed are.torn off.not_torn off.no_record h.rising
 
 none_whole : (m : ℕ) (front : List (List ℕ)) (bytes : List ℕ) (back : List (List ℕ)) (whole : List Log) → ((n : ℕ) (log : Log) → IsWholeLog n bytes log → ⊥) → AreWholeLogs m (front ++ bytes ∷ back) whole → ⊥
-none_whole m [] bytes back [] no h = h
-none_whole m [] bytes back (l ∷ ls) no h = no m l h.0
-none_whole m (b ∷ front) bytes back [] no h = h
-none_whole m (b ∷ front) bytes back (l ∷ ls) no h = none_whole (m + 1) front bytes back ls no h.1
+none_whole m [] bytes back [] apart h = h
+none_whole m [] bytes back (l ∷ ls) apart h = apart m l h.0
+none_whole m (b ∷ front) bytes back [] apart h = h
+none_whole m (b ∷ front) bytes back (l ∷ ls) apart h = none_whole (m + 1) front bytes back ls apart h.1
 
 pub broken_apart : Again → Cut → (logs : List (List ℕ)) (member at : ℕ) (whole : List Log) → IsFirstBroken logs member at → AreWholeLogs 1 logs whole → ⊥
 broken_apart again cut logs member at whole b h =
