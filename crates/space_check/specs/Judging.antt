@@ -6,26 +6,23 @@ use Rattle.ds_model.specs.Rows.{listed}
 use Rattle.ds_model.specs.Logs.{rows_of_logs}
 use Rattle.log_record.specs.declared.log.Log.{Log}
 use Rattle.page_images.specs.Images.{Images}
-use Rattle.page_chain.specs.Chains.{images_of}
 use Rattle.sound_disk.specs.Laws.{records_of}
 use Rattle.sound_disk.specs.Transactions.{AreTransactions}
 use Rattle.sound_disk.specs.Tables.{AreWholeTables, AreTables}
 use Rattle.sound_disk.specs.Turns.{ChangeInTurn}
 use Rattle.sound_disk.specs.Numbers_left.{NumbersAreLeft}
 use Rattle.sound_disk.specs.Checkpoints.{AreCheckpointed}
-use Rattle.index_places.specs.Whole.{AreAllWhole}
-use Rattle.stood_rows.specs.Standing.{IsFirstUnstood}
 use Rattle.disk_versions.specs.Told.{AreAllPlaced}
 use Rattle.space_check.specs.declared.verdict.Breach.{Breach}
 use Rattle.space_check.specs.declared.verdict.Verdict.{Verdict}
 use Rattle.space_check.specs.declared.verdict.Verdict.TheVariants as verdict
-use Rattle.space_check.specs.Clauses.{ArePlaced, IsBreach}
+use Rattle.space_check.specs.Clauses.{ArePlaced, IsTablesPage, IsBreach}
 
 -- ---- the clauses from the fourth on
 
 abbrev pub AreTablesJudged : List LogRecord → Option PageId → Type 0
 AreTablesJudged records None = AreWholeTables records
-AreTablesJudged records (Some id) = (AreWholeTables records → ⊥) × (AreAllWhole (images_of records) records → IsFirstUnstood records id)
+AreTablesJudged records (Some id) = (AreWholeTables records → ⊥) × IsTablesPage records id
 
 -- this is the first clause that fails, where the second and the third hold
 abbrev pub IsLaterBreach : Images → List Log → Breach → Type 0

@@ -91,7 +91,7 @@ stands_if page c b fault is = (
 )
 
 pub stands_not : (page : List ℕ) (c : RowChange) (fault : Option ℕ) → fault ≡ change_fault (heap_page c.table c.place.page) c page → (fault ≡ None → ⊥) → IsTrue false ↔ StandsIn page c
-stands_not page c fault is some = (λ t. absurd cc, λ s. some (is ∙ s.slot))
+stands_not page c fault is some = (λ t. absurd cc, λ s. absurd (some (is ∙ s.slot)))
 
 -- ---- a change in its page
 

@@ -79,8 +79,10 @@ pub fn find_unstood(alloc: Global, records: &[LogRecord]) -> Result<Option<PageI
 {
     let agree = befores_of(alloc, records)?;
     for at in 0..records.len() {
-        if let Some(id) = unstood(alloc, &records[..at], &records[at], agree[at])? {
-            return Ok(Some(id));
+        let found = unstood(alloc, &records[..at], &records[at], agree[at])?;
+        match found {
+            None => {}
+            Some(id) => return Ok(Some(id)),
         }
     }
     Ok(None)
