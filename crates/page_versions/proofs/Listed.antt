@@ -48,7 +48,7 @@ tie_then Less s = refl
 tie_then Equal s = refl
 tie_then Greater s = refl
 
-same_by_order : (a b : PageId) → eq_by_cmp page_cmp a b ≡ same_page b a
+pub same_by_order : (a b : PageId) → eq_by_cmp page_cmp a b ≡ same_page b a
 same_by_order a b =
     tie_then (nat_cmp a.set b.set) (nat_cmp a.number b.number)
     ∙ ap (λ (x : Bool). x && is_eq (nat_cmp a.number b.number)) (tie a.set b.set)
