@@ -1,6 +1,6 @@
 -- A page in a list whose pages rise.
 use Rattle.std.proofs.Common.{◌≡◌, ℕ, ◌+◌, ◌<◌, Bool, true, false, cond, T, List, [], ◌∷◌, map, length, get_or, take, drop, add-one, refl, sym, ap, subst, ◌∙◌, arith}
-use Rattle.std.specs.Prelude.{zero, suc, ◌&&◌}
+use Rattle.std.specs.Prelude.{zero, suc, ◌&&◌, ◌==◌}
 use Rattle.std.specs.FinMap as finite
 use Rattle.std.specs.FinMap.{entries_sorted}
 use Rattle.std.specs.FinMap.Entries.{below_all, is_sorted}
@@ -107,6 +107,10 @@ here id (p ∷ ps) (suc m) d h lt e =
     here id ps m d h.1 (omega arith) e ∙ sym (skips id p ps Greater (same ∙ turned_less p.page (get_or ps m d).page (above_at p.page ps m d h.0 (omega arith))) refl)
 
 -- ---- in the middle of the list
+
+pub some_page : (ps : List PageRecords) (b : Bool) → b ≡ (length ps == 0) → b ≡ false → 0 < length ps
+some_page [] b e f = absurd cc
+some_page (p ∷ ps) b e f = omega arith
 
 pub left_half : (id : PageId) (ps : List PageRecords) (m : ℕ) (p : PageRecords) (found : List ℕ) → Rise ps → m < length ps → p ≡ get_or ps m p → page_cmp id p.page ≡ Less → found ≡ places_at id (take m ps) → found ≡ places_at id ps
 left_half id ps m p found h lt is e f = f ∙ in_front id ps m p h lt (subst (λ (q : PageRecords). page_cmp id q.page ≡ Less) is e)

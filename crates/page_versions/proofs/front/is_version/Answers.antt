@@ -1,4 +1,4 @@
-use Rattle.std.proofs.Common.{List, ℕ, sym, ap, subst, ◌∙◌}
+use Rattle.std.proofs.Common.{List, sym, ap, subst, ◌∙◌}
 use Rattle.page_records.specs.declared.places.PageRecords.{PageRecords}
 use Rattle.page_versions.specs.Own.{Rise, places_at, is_from_at}
 use Rattle.page_versions.proofs.Fronts.{told}
