@@ -1,5 +1,5 @@
 -- What the checks of an index's places and of tables tell.
-use Rattle.std.proofs.Common.{◌≡◌, ◌≢◌, ◌⊎◌, ℕ, zero, suc, ◌+◌, ◌<◌, ◌≤◌, Bool, true, false, List, [], ◌∷◌, Option, Some, None, Result, Ok, Err, refl, sym, ap, subst, ◌∙◌, arith, inl, inr}
+use Rattle.std.proofs.Common.{◌≡◌, ◌≢◌, ◌⊎◌, ℕ, ◌+◌, ◌<◌, ◌≤◌, Bool, true, false, List, [], ◌∷◌, Option, Some, None, Result, Ok, Err, refl, sym, ap, subst, ◌∙◌, arith, inl, inr}
 use Rattle.std.specs.Prelude.{IfOk, Contains}
 use Rattle.std.specs.FinMap.{empty}
 use Rattle.std.proofs.lemmas.Bool.{cases_lt}
@@ -13,15 +13,14 @@ use Rattle.page_images.specs.Images.{Images}
 use Rattle.sound_disk.specs.Heaps.{IsHeap}
 use Rattle.sound_disk.specs.Indexes.{AreIndexPages, index_next}
 use Rattle.sound_disk.specs.Tables.{IsWholeIndex, IsWholeTable}
-use Rattle.table_images.specs.Stands.{IsWrong}
-use Rattle.table_images.specs.Nodes.{IsUnformatted, IsWrongIndex}
-use Rattle.heap_rows.specs.Rows_left.{HasRowsLeft, HasOtherRow}
+use Rattle.table_images.specs.Nodes.{IsUnformatted}
+use Rattle.heap_rows.specs.Rows_left.{HasRowsLeft}
 use Rattle.heap_rows.proofs.Heaps.{blank_number}
-use Rattle.index_links.specs.Opens.{Opens, CannotOpen}
+use Rattle.index_links.specs.Opens.{Opens}
 use Rattle.index_places.specs.declared.slots.Given.{Given}
 use Rattle.index_places.specs.Placing.{Places, places_from, leaf_stands, AreGiven, IsFirstFallen, AreLeavesTold}
-use Rattle.index_places.specs.Whole.{IsFirstWrongLeaf, ArePlacesTold, IsMisled, IsWholeTold, IsNamedInIndex, IsIndexRight, IsIndexTold, IsNamed, IsTableTold, IsFirstUnwhole, IsFirstTold, AreAllWhole, AreTablesTold}
-use Rattle.index_places.proofs.Whole.{Stands, home_in, right_of, whole_of, right_stands}
+use Rattle.index_places.specs.Whole.{IsFirstWrongLeaf, ArePlacesTold, IsMisled, IsWholeTold, IsNamedInIndex, IsIndexRight, IsIndexTold, IsNamed, IsTableTold, IsFirstUnwhole, IsFirstTold, AreTablesTold}
+use Rattle.index_places.proofs.Whole.{home_in, right_of, whole_of, right_stands}
 
 not_both : (b : Bool) → b ≡ true → b ≡ false → ⊥
 not_both true t f = absurd cc

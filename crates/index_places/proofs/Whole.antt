@@ -16,7 +16,7 @@ use Rattle.index_protocol.specs.Index.{Leaf, beyond}
 use Rattle.index_protocol.specs.Opening.{IsSound}
 use Rattle.page_images.specs.Images.{Images}
 use Rattle.sound_disk.specs.Indexes.{AreIndexPages, index_next}
-use Rattle.sound_disk.specs.Index_views.{kind_in, link_to, link_in, led_by, leads as led_to, index_of}
+use Rattle.sound_disk.specs.Index_views.{kind_in, link_to, led_by, leads as led_to, index_of}
 use Rattle.sound_disk.specs.Rows_there.{IsPlaceOf}
 use Rattle.sound_disk.specs.Tables.{leaf_entry, IsWholeIndex}
 use Rattle.table_pages.proofs.Booleans.{and_left, and_right, and_both}
@@ -25,7 +25,7 @@ use Rattle.index_links.specs.Opens.{Opens}
 use Rattle.index_links.proofs.Kinds_in.{InIndex, named, named_made, leaf_is, made_inside, inside_named}
 use Rattle.index_links.proofs.Found.{found, find_it}
 use Rattle.index_places.specs.declared.slots.Given.{Given}
-use Rattle.index_places.specs.Placing.{Places, places_from, leads, lands_at, has_place, leaf_stands, AreGiven}
+use Rattle.index_places.specs.Placing.{places_from, leads, lands_at, has_place, leaf_stands, AreGiven}
 use Rattle.index_places.specs.Whole.{IsRightLeaf}
 use Rattle.index_places.proofs.Maps.{same_is, same_itself, place_is, is_it, slot_of, places_get, places_has, entry_at}
 
