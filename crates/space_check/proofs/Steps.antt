@@ -1,5 +1,5 @@
 -- From the clauses of a sound disk to what is told of it.
-use Rattle.std.proofs.Common.{◌≡◌, ℕ, List, length, Option, Some, None, Result, Ok, Err, inl, inr, refl, sym, subst}
+use Rattle.std.proofs.Common.{◌≡◌, ℕ, List, length, Option, Some, None, Result, Ok, Err, inl, inr, refl, subst}
 use Rattle.std.specs.Prelude.{IfOk, IfNone, IfSome}
 use Rattle.ds_base.specs.declared.names.PageId.{PageId}
 use Rattle.ds_disk.specs.Contents.{Contents}
@@ -24,7 +24,7 @@ use Rattle.disk_logs.specs.Broken.{IsFirstBroken}
 use Rattle.disk_logs.specs.declared.logs.Found.{Found}
 use Rattle.disk_logs.specs.Looking.{AreFound, AreFoundOfSome}
 use Rattle.disk_versions.specs.declared.set.Placing.{Placing}
-use Rattle.disk_versions.specs.Told.{AreAllPlaced, IsFirstUnplaced, IsTold as Told}
+use Rattle.disk_versions.specs.Told.{IsFirstUnplaced, IsTold as Told}
 use Rattle.index_places.specs.Whole.{AreAllWhole, IsFirstUnwhole, IsFirstTold}
 use Rattle.kept_pages.specs.Unkept.{IsUnkept, AreKept}
 use Rattle.row_turns.specs.Out.{IsOutOfTurn}

@@ -1,5 +1,5 @@
 -- What a verdict says of a disk.
-use Rattle.std.proofs.Common.{◌≡◌, ℕ, List, inl, inr, sym, subst}
+use Rattle.std.proofs.Common.{◌≡◌, ℕ, List, inl, inr, subst}
 use Rattle.std.specs.Prelude.{◌⊎◌}
 use Rattle.ds_disk.specs.Contents.{Contents}
 use Rattle.ds_disk.specs.Pages.{page_at}
@@ -10,7 +10,7 @@ use Rattle.page_images.specs.Images.{Images}
 use Rattle.sound_disk.specs.Laws.{AreTold}
 use Rattle.sound_disk.specs.Whole_logs.{AreWholeLogs}
 use Rattle.sound_disk.specs.Versions.{AreVersions}
-use Rattle.sound_disk.specs.Sound.{IsSoundWith, IsSoundDisk}
+use Rattle.sound_disk.specs.Sound.{IsSoundWith}
 use Rattle.fitting_records.specs.Breaches.{IsRecordOf}
 use Rattle.disk_logs.specs.Broken.{IsFirstBroken, BrokenArentWhole}
 use Rattle.disk_versions.specs.Told.{IsFirstUnplaced}
@@ -18,9 +18,9 @@ use Rattle.space_check.specs.declared.verdict.Clause.{Clause}
 use Rattle.space_check.specs.declared.verdict.Clause.TheVariants as clause
 use Rattle.space_check.specs.declared.verdict.Breach.{Breach}
 use Rattle.space_check.specs.declared.verdict.Verdict.TheVariants as verdict
-use Rattle.space_check.specs.Clauses.{IsPageOf, Fails, IsBreach}
-use Rattle.space_check.specs.Verdicts.{IsFoundSound, IsBrokenLog, IsBreachBehind, IsTold}
-use Rattle.space_check.specs.Laws.{HasZerosBehind, SoundIsSound, UnsoundIsNot}
+use Rattle.space_check.specs.Clauses.{IsPageOf, Fails}
+use Rattle.space_check.specs.Verdicts.{IsBrokenLog, IsBreachBehind}
+use Rattle.space_check.specs.Laws.{SoundIsSound, UnsoundIsNot}
 
 pub sound_is : SoundIsSound
 sound_is c behind pages rows zeros told = record { logs = told.logs; sound = told.sound (zeros told.logs told.whole) }

@@ -12,7 +12,7 @@ use Rattle.page_format.specs.Header.{header_of}
 use Rattle.page_format.specs.declared.header.Header.{Header}
 use Rattle.page_format.specs.declared.header.NotAPage.{NotAPage}
 use Rattle.heap_space.specs.Slots.{Content, fault_in, content, slot_in}
-use Rattle.page_redo.specs.Rows.{or_fault, slot_fault, headed_fault, row_fault, change_fault, kind_fault, key_fault}
+use Rattle.page_redo.specs.Rows.{or_fault, slot_fault, headed_fault, row_fault, change_fault, kind_fault}
 use Rattle.page_chain.specs.Chains.{version_of}
 use Rattle.sound_disk.specs.Rows_there.{row_after, Stood}
 use Rattle.stood_rows.specs.Standing.{same_value, says, StandsIn}
