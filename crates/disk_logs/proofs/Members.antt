@@ -1,5 +1,5 @@
 -- Logs that are read one after the other.
-use Rattle.std.proofs.Common.{◌≡◌, ◌↔◌, Bool, true, false, Result, Ok, Err, ℕ, zero, suc, ◌+◌, ◌-◌, ◌<◌, ◌≤◌, List, [], ◌∷◌, ◌++◌, length, take, drop, get_or, Option, Some, None, refl, sym, ap, subst, ◌∙◌, append_assoc, length-append, arith}
+use Rattle.std.proofs.Common.{◌≡◌, ◌↔◌, Bool, true, false, Result, Ok, Err, ℕ, zero, suc, ◌+◌, ◌-◌, ◌<◌, ◌≤◌, List, [], ◌∷◌, ◌++◌, length, take, drop, get_or, Option, Some, None, refl, sym, ap, subst, ◌∙◌, length-append, arith}
 use Rattle.std.proofs.lemmas.List.{take_more, take_all, drop_more, take-append-drop, length-take-le, take_rest}
 use Rattle.std.specs.Prelude.{IfOk, IsTrue}
 use Rattle.std.specs.Option.{SomeIff}
@@ -14,7 +14,6 @@ use Rattle.whole_logs.specs.Breaks.{BreaksOff}
 use Rattle.disk_logs.specs.Broken.{IsFirstBroken}
 use Rattle.disk_logs.specs.declared.log.Looked.{Looked}
 use Rattle.disk_logs.specs.declared.log.Looked.TheVariants as looked
-use Rattle.disk_logs.specs.declared.logs.Found.{Found}
 use Rattle.disk_logs.specs.declared.logs.Found.TheVariants as found
 use Rattle.disk_logs.specs.Looking.{Reads, IsLooked, IsOfSome, IsLookedOfSome, AreOfSome, AreFound}
 

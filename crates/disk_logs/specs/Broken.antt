@@ -14,3 +14,7 @@ pub record IsFirstBroken (logs : List (List ℕ)) (member at : ℕ) : Type 0 whe
   pub are : AreWholeLogs 1 front whole
   pub member_is : member ≡ length front + 1
   pub off : BreaksOff bytes at
+
+-- then there are no whole logs of these bytes
+abbrev pub BrokenArentWhole : Type 0
+BrokenArentWhole = (logs : List (List ℕ)) (member at : ℕ) (whole : List Log) → IsFirstBroken logs member at → AreWholeLogs 1 logs whole → ⊥

@@ -2,8 +2,10 @@
 //! one.
 #![tactic(auto)]
 
+mod laws;
 mod log;
 mod logs;
 
+pub use laws::broken_laws;
 pub use log::{Looked, whole_log};
 pub use logs::{Found, read_logs};

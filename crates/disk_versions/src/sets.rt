@@ -48,8 +48,8 @@ fn check_sets<D: Disk>(
 /// how many aren't all zeros. Of each page set so many pages are read behind the last one that its header page or a record
 /// names.
 ///
-/// The pages are read one at a time. A page that isn't all zeros takes time in the number of pages that the records change,
-/// and of those records that change it.
+/// The pages are read one at a time. A page that isn't all zeros takes time in the number of the records that change it, and
+/// in the logarithm of that of all changed pages.
 pub fn find_unplaced<D: Disk>(
     alloc: Global,
     disk: &mut D,

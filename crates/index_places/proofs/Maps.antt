@@ -1,32 +1,27 @@
 -- What the maps of places have.
-use Rattle.std.proofs.Common.{◌≡◌, ◌⊎◌, ℕ, zero, suc, ◌≤◌, Bool, true, false, ◌&&◌, cond, List, [], ◌∷◌, Option, Some, None, is_some, refl, sym, ap, subst, ◌∙◌, arith, inl, inr}
-use Rattle.std.specs.Prelude.{◌==◌, if◌then◌else◌, Contains}
+use Rattle.std.proofs.Common.{◌≡◌, ◌⊎◌, ℕ, zero, suc, Bool, true, false, ◌&&◌, cond, List, [], ◌∷◌, Option, Some, None, is_some, refl, sym, ap, subst, ◌∙◌, arith, inl, inr}
+use Rattle.std.specs.Prelude.{◌==◌, Contains}
 use Rattle.std.specs.Ordering.{nat_cmp, eq_by_cmp, is_eq, ordering_then}
 use Rattle.std.specs.declared.cmp.Ordering.{Ordering}
 use Rattle.std.specs.declared.cmp.Ordering.TheVariants.{Less, Equal, Greater}
 use Rattle.std.specs.FinMap.{get, insert, empty, get-insert, get-empty}
-use Rattle.std.proofs.lemmas.Bool.{cases_lt}
 use Rattle.std.proofs.lemmas.Bool.Decides.{nat_tests}
-use Rattle.ds_base.specs.Pages.{index_page}
 use Rattle.ds_base.specs.declared.names.Place.{Place}
 use Rattle.ds_model.specs.Rows.{spot_cmp, spot_cmp_total}
 use Rattle.index_leaf.specs.declared.layout.Entry.{Entry}
-use Rattle.index_leaf.specs.Entries.{entries_of}
-use Rattle.index_leaf.specs.Search.{is_branch}
-use Rattle.page_images.specs.Images.{Images}
 use Rattle.table_pages.proofs.Booleans.{and_left, and_right, and_both, equal, itself}
 use Rattle.index_places.specs.declared.slots.Given.{Given}
-use Rattle.index_places.specs.Placing.{Places, places_from, same_place, is_place, entered_with, entered_before}
+use Rattle.index_places.specs.Placing.{Places, places_from, same_place, is_place}
 
 -- ---- places
 
-same_is : (a b : Place) → same_place a b ≡ true → a ≡ b
+pub same_is : (a b : Place) → same_place a b ≡ true → a ≡ b
 same_is a b h =
     let p : a.page ≡ b.page = equal a.page b.page (and_left (a.page == b.page) (a.slot == b.slot) h) in
     let s : a.slot ≡ b.slot = equal a.slot b.slot (and_right (a.page == b.page) (a.slot == b.slot) h) in
     ap (λ (x : ℕ). record { page = x; slot = a.slot }) p ∙ ap (λ (x : ℕ). record { page = b.page; slot = x }) s
 
-same_itself : (a : Place) → same_place a a ≡ true
+pub same_itself : (a : Place) → same_place a a ≡ true
 same_itself a = and_both (a.page == a.page) (a.slot == a.slot) (itself a.page) (itself a.slot)
 
 pub place_is : (o : Option Place) (p : Place) → is_place o p ≡ true → o ≡ Some p
@@ -127,72 +122,7 @@ from_has table g m (x ∷ xs) (suc k, lt, same) = from_has table g (insert m (ta
 pub places_has : (table : ℕ) (g : Given) (gs : List Given) → Contains gs g → Has (places_from table empty gs) table g.key ≡ true
 places_has table g gs c = from_has table g empty gs c
 
--- ---- from the entries of leaves
+-- ---- entries
 
 abbrev pub entry_at : ℕ → Place → Entry
 entry_at key place = record { key = key; place = place }
-
-with_get : (table key : ℕ) (q : Place) (m : Places) (es : List Entry) → get (entered_with table m es) (table, key) ≡ Some q → (get m (table, key) ≡ Some q) ⊎ Contains es (entry_at key q)
-with_get table key q m [] h = inl h
-with_get table key q m (e ∷ es) h =
-    elim (with_get table key q (insert m (table, e.key) e.place) es h) as (λ _. (get m (table, key) ≡ Some q) ⊎ Contains (e ∷ es) (entry_at key q)) [
-      | inl now ↦ elim (put_cases (e.key == key) e.key key e.place q (get m (table, key)) refl (sym (put_told m table e.key key e.place) ∙ now)) as (λ _. (get m (table, key) ≡ Some q) ⊎ Contains (e ∷ es) (entry_at key q)) [
-        | inl old ↦ inl old
-        | inr new ↦ inr (first_in e (entry_at key q) es (ap (λ (k : ℕ). entry_at k e.place) new.0 ∙ ap (entry_at key) new.1))
-      ]
-      | inr there ↦ inr (later e es (entry_at key q) there)
-    ]
-
-with_still : (table key : ℕ) (m : Places) (es : List Entry) → Has m table key ≡ true → Has (entered_with table m es) table key ≡ true
-with_still table key m [] h = h
-with_still table key m (e ∷ es) h = with_still table key (insert m (table, e.key) e.place) es (put_still m table e.key key e.place h)
-
-with_has : (table : ℕ) (e : Entry) (m : Places) (es : List Entry) → Contains es e → Has (entered_with table m es) table e.key ≡ true
-with_has table e m [] (k, lt, same) = absurd (omega arith)
-with_has table e m (x ∷ xs) (zero, lt, same) =
-    with_still table e.key (insert m (table, x.key) x.place) xs
-    (subst (λ (y : Entry). Has (insert m (table, x.key) x.place) table y.key ≡ true) same (put_has m table x.key x.place))
-with_has table e m (x ∷ xs) (suc k, lt, same) = with_has table e (insert m (table, x.key) x.place) xs (k, omega arith, same)
-
-pub record IsEntered (at : Images) (table n key : ℕ) (q : Place) : Type 0 where
-  pub page : ℕ
-  pub from : 1 ≤ page
-  pub to : page ≤ n
-  pub leaf : is_branch (at (index_page table page)) ≡ false
-  pub among : Contains (entries_of (at (index_page table page))) (entry_at key q)
-
-further : (at : Images) (table n key : ℕ) (q : Place) → IsEntered at table n key q → IsEntered at table (suc n) key q
-further at table n key q h = let to = h.to in record { page = h.page; from = h.from; to = omega (arith, to); leaf = h.leaf; among = h.among }
-
-by_get : (at : Images) (table n key : ℕ) (q : Place) (b : Bool) (m : Places) → is_branch (at (index_page table (suc n))) ≡ b → (get m (table, key) ≡ Some q → IsEntered at table n key q)
-    → get (if b then m else entered_with table m (entries_of (at (index_page table (suc n))))) (table, key) ≡ Some q → IsEntered at table (suc n) key q
-by_get at table n key q true m is ih h = further at table n key q (ih h)
-by_get at table n key q false m is ih h =
-    elim (with_get table key q m (entries_of (at (index_page table (suc n)))) h) as (λ _. IsEntered at table (suc n) key q) [
-      | inl old ↦ further at table n key q (ih old)
-      | inr new ↦ record { page = suc n; from = omega arith; to = omega arith; leaf = is; among = new }
-    ]
-
-pub entered_get : (at : Images) (table n key : ℕ) (q : Place) → get (entered_before at table n) (table, key) ≡ Some q → IsEntered at table n key q
-entered_get at table zero key q h = absurd (none_in table key q h)
-entered_get at table (suc n) key q h =
-    by_get at table n key q (is_branch (at (index_page table (suc n)))) (entered_before at table n) refl (entered_get at table n key q) h
-
-by_still : (b : Bool) (table key : ℕ) (m : Places) (es : List Entry) → Has m table key ≡ true → Has (if b then m else entered_with table m es) table key ≡ true
-by_still true table key m es h = h
-by_still false table key m es h = with_still table key m es h
-
-by_has : (b : Bool) (table : ℕ) (e : Entry) (m : Places) (es : List Entry) → b ≡ false → Contains es e → Has (if b then m else entered_with table m es) table e.key ≡ true
-by_has true table e m es h c = absurd cc
-by_has false table e m es h c = with_has table e m es c
-
-pub entered_has : (at : Images) (table n p : ℕ) (e : Entry) → 1 ≤ p → p ≤ n → is_branch (at (index_page table p)) ≡ false → Contains (entries_of (at (index_page table p))) e → Has (entered_before at table n) table e.key ≡ true
-entered_has at table zero p e from to leaf c = absurd (omega (arith, from, to))
-entered_has at table (suc n) p e from to leaf c =
-    elim (cases_lt n p) as (λ _. Has (entered_before at table (suc n)) table e.key ≡ true) [
-      | inl last ↦
-          let same : p ≡ suc n = omega (arith, last, to) in
-          by_has (is_branch (at (index_page table (suc n)))) table e (entered_before at table n) (entries_of (at (index_page table (suc n))))
-          (subst (λ (x : ℕ). is_branch (at (index_page table x)) ≡ false) same leaf) (subst (λ (x : ℕ). Contains (entries_of (at (index_page table x))) e) same c)
-      | inr up ↦ by_still (is_branch (at (index_page table (suc n)))) table e.key (entered_before at table n) (entries_of (at (index_page table (suc n)))) (entered_has at table n p e from up leaf c)
-    ]

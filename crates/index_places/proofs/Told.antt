@@ -1,9 +1,9 @@
 -- What the checks of an index's places and of tables tell.
-use Rattle.std.proofs.Common.{◌≡◌, ◌≢◌, ◌⊎◌, ℕ, suc, ◌+◌, ◌-◌, ◌<◌, ◌≤◌, Bool, true, false, List, [], ◌∷◌, Option, Some, None, Result, Ok, Err, refl, sym, ap, subst, ◌∙◌, arith, inl, inr}
+use Rattle.std.proofs.Common.{◌≡◌, ◌≢◌, ◌⊎◌, ℕ, ◌+◌, ◌<◌, ◌≤◌, Bool, true, false, List, [], ◌∷◌, Option, Some, None, Result, Ok, Err, refl, sym, ap, subst, ◌∙◌, arith, inl, inr}
 use Rattle.std.specs.Prelude.{IfOk, Contains}
-use Rattle.std.specs.List.{list_all}
 use Rattle.std.specs.FinMap.{empty}
 use Rattle.std.proofs.lemmas.Bool.{cases_lt}
+use Rattle.ds_base.specs.Ids.{IsTable}
 use Rattle.ds_base.specs.Pages.{index_page}
 use Rattle.ds_base.specs.declared.names.PageId.{PageId}
 use Rattle.ds_model.specs.declared.log.LogRecord.{LogRecord}
@@ -13,14 +13,14 @@ use Rattle.page_images.specs.Images.{Images}
 use Rattle.sound_disk.specs.Heaps.{IsHeap}
 use Rattle.sound_disk.specs.Indexes.{AreIndexPages, index_next}
 use Rattle.sound_disk.specs.Tables.{IsWholeIndex, IsWholeTable}
-use Rattle.table_images.specs.Nodes.{IsUnformatted, IsWrongIndex}
+use Rattle.table_images.specs.Nodes.{IsUnformatted}
 use Rattle.heap_rows.specs.Rows_left.{HasRowsLeft}
 use Rattle.heap_rows.proofs.Heaps.{blank_number}
-use Rattle.index_links.specs.Opens.{Opens, CannotOpen}
+use Rattle.index_links.specs.Opens.{Opens}
 use Rattle.index_places.specs.declared.slots.Given.{Given}
-use Rattle.index_places.specs.Placing.{Places, places_from, is_reached, leaf_leads, entered_by, entered_before, AllLead, Misleads, AreGiven}
-use Rattle.index_places.specs.Whole.{IsWholeTold, IsIndexRight, IsIndexTold, IsTableTold}
-use Rattle.index_places.proofs.Whole.{whole_of, whole_leads, whole_reached}
+use Rattle.index_places.specs.Placing.{Places, places_from, leaf_stands, AreGiven, IsFirstFallen, AreLeavesTold}
+use Rattle.index_places.specs.Whole.{IsFirstWrongLeaf, ArePlacesTold, IsMisled, IsWholeTold, IsNamedInIndex, IsIndexRight, IsIndexTold, IsNamed, IsTableTold, IsFirstUnwhole, IsFirstTold, AreTablesTold}
+use Rattle.index_places.proofs.Whole.{home_in, right_of, whole_of, right_stands}
 
 not_both : (b : Bool) → b ≡ true → b ≡ false → ⊥
 not_both true t f = absurd cc
@@ -28,69 +28,83 @@ not_both false t f = absurd cc
 
 -- ---- leaf by leaf
 
-abbrev LeadBefore : Images → ℕ → Places → ℕ → Type 0
-LeadBefore at table places n = (k : ℕ) → 1 ≤ k → k < n → leaf_leads places table (at (index_page table k)) ≡ true
+abbrev StandBefore : Images → ℕ → Places → List Given → ℕ → Type 0
+StandBefore at table places given n = (k : ℕ) → 1 ≤ k → k < n → leaf_stands places table given (at (index_page table k)) ≡ true
 
-pub leads_more : (at : Images) (table n : ℕ) (places : Places) (id : PageId) (page : List ℕ) (b : Bool) → id ≡ index_page table n → page ≡ at id → b ≡ leaf_leads places table page → b ≡ true → LeadBefore at table places n
-    → LeadBefore at table places (n + 1)
-leads_more at table n places id page b i e t h so_far k from lt =
-    elim (cases_lt k n) as (λ _. leaf_leads places table (at (index_page table k)) ≡ true) [
+pub one_more : (at : Images) (table n : ℕ) (places : Places) (given : List Given) (id : PageId) (page : List ℕ) (b : Bool) → id ≡ index_page table n → page ≡ at id → b ≡ leaf_stands places table given page → b ≡ true
+    → StandBefore at table places given n → StandBefore at table places given (n + 1)
+one_more at table n places given id page b i e t h so_far k from lt =
+    elim (cases_lt k n) as (λ _. leaf_stands places table given (at (index_page table k)) ≡ true) [
       | inl less ↦ so_far k from less
       | inr up ↦
           let same : k ≡ n = omega (arith, lt, up) in
-          ap (λ (m : ℕ). leaf_leads places table (at (index_page table m))) same ∙ ap (λ (q : PageId). leaf_leads places table (at q)) (sym i) ∙ ap (leaf_leads places table) (sym e) ∙ sym t ∙ h
+          ap (λ (m : ℕ). leaf_stands places table given (at (index_page table m))) same
+          ∙ ap (λ (q : PageId). leaf_stands places table given (at q)) (sym i)
+          ∙ ap (leaf_stands places table given) (sym e)
+          ∙ sym t
+          ∙ h
     ]
 
-pub entered_more : (at : Images) (table n : ℕ) (before after : Places) (id : PageId) (page : List ℕ) → 1 ≤ n → id ≡ index_page table n → page ≡ at id → before ≡ entered_before at table (n - 1) → after ≡ entered_by table before page
-    → after ≡ entered_before at table (n + 1 - 1)
-entered_more at table n before after id page from i e b a =
-    let here : n ≡ suc (n - 1) = omega (arith, from) in
-    let next : suc (n - 1) ≡ n + 1 - 1 = omega (arith, from) in
-    let there : page ≡ at (index_page table (suc (n - 1))) = e ∙ ap at i ∙ ap (λ (m : ℕ). at (index_page table m)) here in
-    a ∙ ap (λ (m : Places). entered_by table m page) b ∙ ap (entered_by table (entered_before at table (n - 1))) there ∙ ap (entered_before at table) next
-
-pub misleads : (at : Images) (table n next : ℕ) (places : Places) (id : PageId) (page : List ℕ) (b : Bool) → 1 ≤ n → n < next → id ≡ index_page table n → page ≡ at id → b ≡ leaf_leads places table page → b ≡ false
-    → Misleads at table places next id
-misleads at table n next places id page b from to i e t h =
+pub one_fallen : (at : Images) (table n next : ℕ) (places : Places) (given : List Given) (id : PageId) (page : List ℕ) (b : Bool) → 1 ≤ n → n < next → id ≡ index_page table n → page ≡ at id
+    → b ≡ leaf_stands places table given page → b ≡ false → StandBefore at table places given n → IsFirstFallen at table places given next id
+one_fallen at table n next places given id page b from to i e t h so_far =
     let number : id.number ≡ n = ap (λ (q : PageId). q.number) i in
     record {
       id_is = i ∙ ap (λ (m : ℕ). index_page table m) (sym number);
       from_first = omega (arith, from, number);
       to_last = omega (arith, to, number);
-      wrong = ap (λ (m : ℕ). leaf_leads places table (at (index_page table m))) number ∙ ap (λ (q : PageId). leaf_leads places table (at q)) (sym i) ∙ ap (leaf_leads places table) (sym e) ∙ sym t ∙ h;
+      falls =
+          ap (λ (m : ℕ). leaf_stands places table given (at (index_page table m))) number
+          ∙ ap (λ (q : PageId). leaf_stands places table given (at q)) (sym i)
+          ∙ ap (leaf_stands places table given) (sym e)
+          ∙ sym t
+          ∙ h;
+      before = λ k least lt. so_far k least (omega (arith, lt, number));
     }
 
-pub all_lead : (at : Images) (table n next : ℕ) (places entered : Places) → n ≡ next → LeadBefore at table places n → entered ≡ entered_before at table (n - 1) → AllLead at table places next entered
-all_lead at table n next places entered same l e = record {
-  leads_all = λ k from lt. l k from (omega (arith, lt, same));
-  entered_is = e ∙ ap (λ (m : ℕ). entered_before at table (m - 1)) same;
+pub all_stand : (at : Images) (table n next : ℕ) (places : Places) (given : List Given) → n ≡ next → StandBefore at table places given n → StandBefore at table places given next
+all_stand at table n next places given same h k from lt = h k from (omega (arith, lt, same))
+
+-- ---- the places of an index
+
+first_wrong : (at : Images) (records : List LogRecord) (table : ℕ) (given : List Given) (id : PageId) → AreIndexPages at table → AreGiven at table given → IsFirstFallen at table (places_from table empty given) given (index_next at table) id
+    → IsFirstWrongLeaf at records table id
+first_wrong at records table given id p g f = record {
+  id_is = f.id_is;
+  wrong = λ home s r.
+      not_both (leaf_stands (places_from table empty given) table given (at (index_page table id.number)))
+      (right_stands at records table home id.number given p s g (record { from = f.from_first; to = f.to_last }) r) f.falls;
+  before = λ home s n lt.
+      right_of at records table home n given s g
+      (λ key here. let i = home_in at records table home key p s in let from = i.from in f.before (home key) from (omega (arith, lt, here)));
 }
 
--- ---- the index
+places_found : (at : Images) (records : List LogRecord) (table : ℕ) (given : List Given) (found : Option PageId) → AreIndexPages at table → Opens at records table → AreGiven at table given
+    → AreLeavesTold at table (places_from table empty given) given (index_next at table) found → ArePlacesTold at records table found
+places_found at records table given None p o g h = whole_of at records table given p o g h
+places_found at records table given (Some id) p o g h = first_wrong at records table given id p g h
 
-pub index_misled : (at : Images) (records : List LogRecord) (table next : ℕ) (places : Places) (given : List Given) (id : PageId) → next ≡ index_next at table → places ≡ places_from table empty given → AreGiven at table given
-    → Misleads at table places next id → IsWholeIndex at records table → ⊥
-index_misled at records table next places given id n p g m w =
-    let t = whole_leads at records table id.number given g w (record { from = m.from_first; to = subst (λ (x : ℕ). id.number < x) n m.to_last }) in
-    not_both (leaf_leads places table (at (index_page table id.number))) (ap (λ (x : Places). leaf_leads x table (at (index_page table id.number))) p ∙ t) m.wrong
+pub places_told : {E : Type 0} (at : Images) (records : List LogRecord) (table next : ℕ) (places : Places) (given : List Given) (result : Result (Option PageId) E) → AreIndexPages at table → next ≡ index_next at table → Opens at records table
+    → AreGiven at table given → places ≡ places_from table empty given → IfOk result (λ found. AreLeavesTold at table places given next found) → IfOk result (λ found. ArePlacesTold at records table found)
+places_told at records table next places given (Ok found) p n o g e h =
+    places_found at records table given found p o g
+    (subst (λ (m : ℕ). AreLeavesTold at table (places_from table empty given) given m found) n (subst (λ (x : Places). AreLeavesTold at table x given next found) e h))
+places_told at records table next places given (Err x) p n o g e h = tt
 
-entered_all : (at : Images) (table next : ℕ) (places entered : Places) → next ≡ index_next at table → AllLead at table places next entered → entered ≡ entered_before at table (index_next at table - 1)
-entered_all at table next places entered n l = l.entered_is ∙ ap (λ (m : ℕ). entered_before at table (m - 1)) n
+-- ---- where an index leads
 
-pub index_lacks : (at : Images) (records : List LogRecord) (table next : ℕ) (places entered : Places) (given : List Given) (b : Bool) → next ≡ index_next at table → AreGiven at table given → AllLead at table places next entered
-    → b ≡ list_all (is_reached entered table) given → b ≡ false → IsWholeIndex at records table → ⊥
-index_lacks at records table next places entered given b n g l t f w =
-    not_both b (t ∙ ap (λ (m : Places). list_all (is_reached m table) given) (entered_all at table next places entered n l) ∙ whole_reached at records table given g w) f
+misplaced_found : (at : Images) (records : List LogRecord) (table : ℕ) (found : Option PageId) → Opens at records table → ArePlacesTold at records table found → IsWholeTold at records table found
+misplaced_found at records table None o h = h
+misplaced_found at records table (Some id) o h = inr (o, h)
 
-pub index_whole : (at : Images) (records : List LogRecord) (table next : ℕ) (places entered : Places) (given : List Given) (b : Bool) → AreIndexPages at table → Opens at records table → next ≡ index_next at table
-    → places ≡ places_from table empty given → AreGiven at table given → AllLead at table places next entered → b ≡ list_all (is_reached entered table) given → b ≡ true → IsWholeIndex at records table
-index_whole at records table next places entered given b p o n e g l t h =
-    whole_of at records table given p o g
-    (λ k from to. ap (λ (x : Places). leaf_leads x table (at (index_page table k))) (sym e) ∙ l.leads_all k from (subst (λ (m : ℕ). k < m) (sym n) to))
-    (ap (λ (m : Places). list_all (is_reached m table) given) (sym (entered_all at table next places entered n l)) ∙ sym t ∙ h)
+pub misplaced_told : {E : Type 0} (at : Images) (records : List LogRecord) (table : ℕ) (result : Result (Option PageId) E) → Opens at records table → IfOk result (λ found. ArePlacesTold at records table found)
+    → IfOk result (λ found. IsWholeTold at records table found)
+misplaced_told at records table (Ok found) o h = misplaced_found at records table found o h
+misplaced_told at records table (Err e) o h = tt
 
-pub cannot_open : (at : Images) (records : List LogRecord) (table : ℕ) (id : PageId) → CannotOpen at records table id → IsWholeIndex at records table → ⊥
-cannot_open at records table id c w = c.none (record { home = w.home; sound = w.opens })
+misled : (at : Images) (records : List LogRecord) (table : ℕ) (id : PageId) → IsMisled at records table id → IsWholeIndex at records table → ⊥
+misled at records table id (inl c) w = c.none (record { home = w.home; sound = w.opens })
+misled at records table id (inr (o, f)) w = f.wrong w.home w.opens (record { leads = λ e here h. w.leads e h; reached = λ e here h. w.reached e h })
 
 -- ---- whether there is an index
 
@@ -98,30 +112,25 @@ blank_next : (at : Images) (table : ℕ) → is_zeros (at (index_page table 0)) 
 unfolding next_page_of
 blank_next at table z = blank_number (at (index_page table 0)) 32 4 z
 
+some_next : (at : Images) (table : ℕ) → AreIndexPages at table → index_next at table ≡ 0 → ⊥
+some_next at table p none = let from = p.header.next_from in omega (arith, from, none)
+
 pub formatted : (at : Images) (table : ℕ) → index_next at table ≢ 0 → IsUnformatted at table ⊎ AreIndexPages at table → AreIndexPages at table
 formatted at table some (inl u) = absurd (some (blank_next at table (u 0)))
 formatted at table some (inr p) = p
 
 unformatted : (at : Images) (table : ℕ) → index_next at table ≡ 0 → IsUnformatted at table ⊎ AreIndexPages at table → IsUnformatted at table
 unformatted at table none (inl u) = u
-unformatted at table none (inr p) = let from = p.header.next_from in absurd (omega (arith, from, none))
+unformatted at table none (inr p) = absurd (some_next at table p none)
 
-pub wrong_pages : (at : Images) (records : List LogRecord) (table : ℕ) (id : PageId) → IsWrongIndex at table id → IsIndexRight at records table → ⊥
-wrong_pages at records table id h (inl n) = h.no_zeros n.zeros
-wrong_pages at records table id h (inr w) = h.no_pages w.pages
+found_told : (at : Images) (records : List LogRecord) (table : ℕ) (found : Option PageId) → AreIndexPages at table → IsWholeTold at records table found → IsIndexTold at records table found
+found_told at records table None p h = inr h
+found_told at records table (Some id) p h = inr (inr (p, h))
 
-found_told : (at : Images) (records : List LogRecord) (table : ℕ) (found : Option PageId) → index_next at table ≢ 0 → IsWholeTold at records table found → IsIndexTold at records table found
-found_told at records table None some h = inr h
-found_told at records table (Some id) some h = not_right
-  where
-    not_right : IsIndexRight at records table → ⊥
-    not_right (inl n) = some (blank_next at table (n.zeros 0))
-    not_right (inr w) = h w
-
-pub index_told : {E : Type 0} (at : Images) (records : List LogRecord) (table : ℕ) (result : Result (Option PageId) E) → index_next at table ≢ 0 → IfOk result (λ found. IsWholeTold at records table found)
+pub index_told : {E : Type 0} (at : Images) (records : List LogRecord) (table : ℕ) (result : Result (Option PageId) E) → AreIndexPages at table → IfOk result (λ found. IsWholeTold at records table found)
     → IfOk result (λ found. IsIndexTold at records table found)
-index_told at records table (Ok found) some h = found_told at records table found some h
-index_told at records table (Err e) some h = tt
+index_told at records table (Ok found) p h = found_told at records table found p h
+index_told at records table (Err e) p h = tt
 
 no_member : (g : Given) → Contains [] g → ⊥
 no_member g (k, lt, same) = absurd (omega arith)
@@ -133,21 +142,48 @@ no_index at records table given none p g e =
       no_key = λ key place h. no_member (record { key = key; place = place }) (subst (λ (gs : List Given). Contains gs (record { key = key; place = place })) e ((g key place).0 h));
     })
 
-pub no_index_lacks : (at : Images) (records : List LogRecord) (table : ℕ) (given : List Given) → index_next at table ≡ 0 → AreGiven at table given → given ≢ [] → IsIndexRight at records table → ⊥
-no_index_lacks at records table [] none g some h = absurd (some refl)
-no_index_lacks at records table (x ∷ xs) none g some (inl n) = n.no_key x.key x.place ((g x.key x.place).1 (0, omega arith, refl))
-no_index_lacks at records table (x ∷ xs) none g some (inr w) = let from = w.pages.header.next_from in absurd (omega (arith, from, none))
+pub never_formatted : (at : Images) (records : List LogRecord) (table : ℕ) (given : List Given) (id : PageId) → index_next at table ≡ 0 → IsUnformatted at table ⊎ AreIndexPages at table → AreGiven at table given → given ≢ [] → id ≡ index_page table 1
+    → IsNamedInIndex at records table id
+never_formatted at records table [] id none p g some i = absurd (some refl)
+never_formatted at records table (x ∷ xs) id none p g some i =
+    inr (inl (record {
+      zeros = unformatted at table none p;
+      some_key = λ no_key. no_key x.key x.place ((g x.key x.place).1 (0, omega arith, refl));
+      id_is = i;
+    }))
+
+not_right : (at : Images) (records : List LogRecord) (table : ℕ) (id : PageId) → IsNamedInIndex at records table id → IsIndexRight at records table → ⊥
+not_right at records table id (inl h) (inl n) = h.no_zeros n.zeros
+not_right at records table id (inl h) (inr w) = h.no_pages w.pages
+not_right at records table id (inr (inl h)) (inl n) = h.some_key n.no_key
+not_right at records table id (inr (inl h)) (inr w) = some_next at table w.pages (blank_next at table (h.zeros 0))
+not_right at records table id (inr (inr (p, h))) (inl n) = some_next at table p (blank_next at table (n.zeros 0))
+not_right at records table id (inr (inr (p, h))) (inr w) = misled at records table id h w
 
 -- ---- tables
 
 table_found : (at : Images) (records : List LogRecord) (table : ℕ) (found : Option PageId) → IsHeap at table → HasRowsLeft at records table → IsIndexTold at records table found → IsTableTold at records table found
 table_found at records table None heap rows h = record { heap = heap; index = h; rows = rows }
-table_found at records table (Some id) heap rows h = λ w. h w.index
+table_found at records table (Some id) heap rows h = inr (inr (heap, rows, h))
 
 pub table_told : {E : Type 0} (at : Images) (records : List LogRecord) (table : ℕ) (result : Result (Option PageId) E) → IsHeap at table → HasRowsLeft at records table → IfOk result (λ found. IsIndexTold at records table found)
     → IfOk result (λ found. IsTableTold at records table found)
 table_told at records table (Ok found) heap rows h = table_found at records table found heap rows h
 table_told at records table (Err e) heap rows h = tt
+
+not_whole : (at : Images) (records : List LogRecord) (table : ℕ) (id : PageId) → IsNamed at records table id → IsWholeTable at records table → ⊥
+not_whole at records table id (inl h) w = h.heap w.heap
+not_whole at records table id (inr (inl (heap, h))) w = h.none w.rows
+not_whole at records table id (inr (inr (heap, (rows, h)))) w = not_right at records table id h w.index
+
+pub first_unwhole : (at : Images) (records : List LogRecord) (table n : ℕ) (id : PageId) → table ≡ n → IsTable table → IsNamed at records table id → ((k : ℕ) → 1 ≤ k → k < n → IsWholeTable at records k) → IsFirstUnwhole at records id
+first_unwhole at records table n id e is named before = record {
+  table = table;
+  is_table = is;
+  unwhole = λ w. not_whole at records table id named w;
+  before = λ k from lt. before k from (omega (arith, lt, e));
+  page = named;
+}
 
 pub tables_more : (at : Images) (records : List LogRecord) (table n : ℕ) → table ≡ n → IsWholeTable at records table → ((k : ℕ) → 1 ≤ k → k < n → IsWholeTable at records k) → (k : ℕ) → 1 ≤ k → k < n + 1 → IsWholeTable at records k
 tables_more at records table n e w h k from lt =
@@ -155,3 +191,11 @@ tables_more at records table n e w h k from lt =
       | inl less ↦ h k from less
       | inr up ↦ let same : table ≡ k = omega (arith, e, lt, up) in subst (λ (m : ℕ). IsWholeTable at records m) same w
     ]
+
+tables_found : (at : Images) (records : List LogRecord) (found : Option PageId) → IsFirstTold at records found → AreTablesTold at records found
+tables_found at records None h = h
+tables_found at records (Some id) h = λ w. h.unwhole (w h.table h.is_table)
+
+pub tables_told : {E : Type 0} (at : Images) (records : List LogRecord) (result : Result (Option PageId) E) → IfOk result (λ found. IsFirstTold at records found) → IfOk result (λ found. AreTablesTold at records found)
+tables_told at records (Ok found) h = tables_found at records found h
+tables_told at records (Err e) h = tt

@@ -1,19 +1,22 @@
--- The tests of leaves and slots, and an index that is whole.
-use Rattle.std.proofs.Common.{◌≡◌, ℕ, zero, suc, ◌-◌, ◌<◌, ◌≤◌, Bool, true, false, List, [], ◌∷◌, Option, Some, None, is_some, refl, sym, ap, subst, ◌∙◌, arith}
-use Rattle.std.specs.Prelude.{if◌then◌else◌, Contains}
+-- The tests of leaves, and leaves that are right.
+use Rattle.std.proofs.Common.{◌≡◌, ℕ, zero, suc, ◌<◌, ◌≤◌, Bool, true, false, ◌&&◌, List, [], ◌∷◌, Option, Some, None, is_some, refl, sym, ap, subst, ◌∙◌, arith}
+use Rattle.std.specs.Prelude.{nat_lt, ◌||◌, if◌then◌else◌, Contains}
 use Rattle.std.specs.List.{list_all}
 use Rattle.std.specs.FinMap.{get, empty}
+use Rattle.std.proofs.lemmas.Bool.Decides.{nat_tests}
 use Rattle.ds_base.specs.Pages.{index_page}
 use Rattle.ds_base.specs.declared.names.Place.{Place}
 use Rattle.ds_model.specs.declared.log.LogRecord.{LogRecord}
 use Rattle.index_leaf.specs.declared.layout.Entry.{Entry}
-use Rattle.index_leaf.specs.Entries.{entries_of}
-use Rattle.index_leaf.specs.Search.{is_branch, find}
-use Rattle.index_protocol.specs.Index.{Leaf}
+use Rattle.index_leaf.specs.declared.step.Look.{Look}
+use Rattle.index_leaf.specs.declared.step.Look.TheVariants.{Right}
+use Rattle.index_leaf.specs.Entries.{low_of, high_of, right_field, entries_of}
+use Rattle.index_leaf.specs.Search.{is_branch, is_beyond, find, floor, down_to, found_at, look_of}
+use Rattle.index_protocol.specs.Index.{Leaf, beyond}
 use Rattle.index_protocol.specs.Opening.{IsSound}
 use Rattle.page_images.specs.Images.{Images}
 use Rattle.sound_disk.specs.Indexes.{AreIndexPages, index_next}
-use Rattle.sound_disk.specs.Index_views.{kind_in, led_by, leads as led_to, index_of}
+use Rattle.sound_disk.specs.Index_views.{kind_in, link_to, led_by, leads as led_to, index_of}
 use Rattle.sound_disk.specs.Rows_there.{IsPlaceOf}
 use Rattle.sound_disk.specs.Tables.{leaf_entry, IsWholeIndex}
 use Rattle.table_pages.proofs.Booleans.{and_left, and_right, and_both}
@@ -22,35 +25,110 @@ use Rattle.index_links.specs.Opens.{Opens}
 use Rattle.index_links.proofs.Kinds_in.{InIndex, named, named_made, leaf_is, made_inside, inside_named}
 use Rattle.index_links.proofs.Found.{found, find_it}
 use Rattle.index_places.specs.declared.slots.Given.{Given}
-use Rattle.index_places.specs.Placing.{Places, places_from, leads, is_reached, leaf_leads, entered_before, AreGiven}
-use Rattle.index_places.proofs.Maps.{place_is, is_it, slot_of, places_get, places_has, entry_at, entered_get, entered_has}
+use Rattle.index_places.specs.Placing.{places_from, leads, lands_at, has_place, leaf_stands, AreGiven}
+use Rattle.index_places.specs.Whole.{IsRightLeaf}
+use Rattle.index_places.proofs.Maps.{same_is, same_itself, place_is, is_it, slot_of, places_get, places_has, entry_at}
 
 -- ---- a key's leaf
 
-abbrev Sound : Images → List LogRecord → ℕ → (ℕ → ℕ) → Type 0
+abbrev pub Sound : Images → List LogRecord → ℕ → (ℕ → ℕ) → Type 0
 Sound at records table home = IsSound (index_of at records table home)
 
-home_in : (at : Images) (records : List LogRecord) (table : ℕ) (home : ℕ → ℕ) (key : ℕ) → AreIndexPages at table → Sound at records table home → InIndex at table (home key)
+pub home_in : (at : Images) (records : List LogRecord) (table : ℕ) (home : ℕ → ℕ) (key : ℕ) → AreIndexPages at table → Sound at records table home → InIndex at table (home key)
 home_in at records table home key p s = made_inside at table (home key) p (named_made false (kind_in (at (index_page table (home key)))) (s.home_leaf key))
 
--- an entry of a leaf is that of its key's leaf
+leaf_kind : (at : Images) (table n : ℕ) → AreIndexPages at table → InIndex at table n → is_branch (at (index_page table n)) ≡ false → kind_in (at (index_page table n)) ≡ Leaf
+leaf_kind at table n p i leaf = inside_named at table n p i ∙ ap named leaf
+
+-- an entry of a leaf is of one of its keys
 entry_home : (at : Images) (records : List LogRecord) (table : ℕ) (home : ℕ → ℕ) (n : ℕ) (e : Entry) → AreIndexPages at table → Sound at records table home → InIndex at table n → is_branch (at (index_page table n)) ≡ false
-    → Contains (entries_of (at (index_page table n))) e → leaf_entry at table home e.key ≡ Some e
+    → Contains (entries_of (at (index_page table n))) e → home e.key ≡ n
 entry_home at records table home n e p s i leaf c =
     let page : List ℕ = at (index_page table n) in
-    let kind : kind_in page ≡ Leaf = inside_named at table n p i ∙ ap named leaf in
     let finds : find (entries_of page) e.key ≡ Some e = find_it (entries_of page) e ((p.pages n i.from i.to).node.rising) c in
-    let is = s.no_other e.key n (led_by (kind_in page) e) kind (ap (led_to (kind_in page)) finds) in
-    ap (λ (m : ℕ). find (entries_of (at (index_page table m))) e.key) (sym is) ∙ finds
+    sym (s.no_other e.key n (led_by (kind_in page) e) (leaf_kind at table n p i leaf) (ap (led_to (kind_in page)) finds))
 
-entry_same : (a b : Entry) → Some a ≡ Some b → a ≡ b
-entry_same a b q = cc
+entry_found : (at : Images) (table : ℕ) (home : ℕ → ℕ) (n : ℕ) (e : Entry) → AreIndexPages at table → InIndex at table n → home e.key ≡ n → Contains (entries_of (at (index_page table n))) e → leaf_entry at table home e.key ≡ Some e
+entry_found at table home n e p i here c =
+    ap (λ (m : ℕ). find (entries_of (at (index_page table m))) e.key) here ∙ find_it (entries_of (at (index_page table n))) e ((p.pages n i.from i.to).node.rising) c
 
--- ---- where the tests hold
+beyond_is : (o : Option ℕ) (right key : ℕ) → beyond (link_to right o) key ≡ is_beyond o key
+unfolding beyond
+beyond_is None right key = refl
+beyond_is (Some high) right key = refl
 
-some_is : (o : Option Place) → is_some o ≡ true → (p : Place) × (o ≡ Some p)
-some_is None h = absurd cc
-some_is (Some p) h = (p, refl)
+-- a key from the low key on and not beyond the page is one of its keys
+key_home : (at : Images) (records : List LogRecord) (table : ℕ) (home : ℕ → ℕ) (n key : ℕ) → AreIndexPages at table → Sound at records table home → InIndex at table n → is_branch (at (index_page table n)) ≡ false
+    → low_of (at (index_page table n)) ≤ key → is_beyond (high_of (at (index_page table n))) key ≡ false → home key ≡ n
+key_home at records table home n key p s i leaf low high =
+    let page : List ℕ = at (index_page table n) in
+    sym (s.home_one key n (leaf_kind at table n p i leaf) low (beyond_is (high_of page) (right_field page) key ∙ high))
+
+home_high : (at : Images) (records : List LogRecord) (table : ℕ) (home : ℕ → ℕ) (key : ℕ) → Sound at records table home → is_beyond (high_of (at (index_page table (home key)))) key ≡ false
+home_high at records table home key s =
+    let page : List ℕ = at (index_page table (home key)) in
+    sym (beyond_is (high_of page) (right_field page) key) ∙ s.home_covers key
+
+-- ---- tests
+
+not_below : (m n : ℕ) → n ≤ m → nat_lt m n ≡ false
+not_below m n le = grind (arith, nat_tests)
+
+upto_of : (m n : ℕ) → nat_lt m n ≡ false → n ≤ m
+upto_of m n h = grind (arith, nat_tests)
+
+or_right : (a b : Bool) → a ≡ false → (a || b) ≡ true → b ≡ true
+or_right true b f h = absurd cc
+or_right false b f h = h
+
+or_by : (a b : Bool) → (a ≡ false → b ≡ true) → (a || b) ≡ true
+or_by true b h = refl
+or_by false b h = h refl
+
+leaf_both : (b l h : Bool) → b ≡ false → (if b then true else l && h) ≡ true → (l && h) ≡ true
+leaf_both true l h leaf t = absurd cc
+leaf_both false l h leaf t = t
+
+leaf_by : (b l h : Bool) → (b ≡ false → l ≡ true) → (b ≡ false → h ≡ true) → (if b then true else l && h) ≡ true
+leaf_by true l h x y = refl
+leaf_by false l h x y = and_both l h (x refl) (y refl)
+
+entry_is : (e : Entry) (key : ℕ) (place : Place) → e.key ≡ key → e.place ≡ place → e ≡ entry_at key place
+entry_is e key place k p = ap (λ (x : ℕ). entry_at x e.place) k ∙ ap (entry_at key) p
+
+found_is : (es : List Entry) (key : ℕ) (place : Place) (o : Option Entry) → find es key ≡ o → lands_at (found_at o) place ≡ true → find es key ≡ Some (entry_at key place)
+found_is es key place None is t = absurd cc
+found_is es key place (Some e) is t =
+    let f = found es key e is in
+    is ∙ ap (λ (x : Entry). Some x) (entry_is e key place f.key_is (same_is e.place place t))
+
+went : (a b : Bool) (x y z : Look) → a ≡ false → b ≡ false → (if a then x else if b then y else z) ≡ z
+went true b x y z f g = absurd cc
+went false true x y z f g = absurd cc
+went false false x y z f g = refl
+
+look_leaf : (page : List ℕ) (key : ℕ) → is_beyond (high_of page) key ≡ false → is_branch page ≡ false → look_of page key ≡ found_at (find (entries_of page) key)
+look_leaf page key high leaf =
+    went (is_beyond (high_of page) key) (is_branch page) (Right (right_field page)) (down_to (floor (entries_of page) key)) (found_at (find (entries_of page) key)) high leaf
+
+-- the place stands in the leaf, if the key is the leaf's
+place_found : (page : List ℕ) (g : Given) → low_of page ≤ g.key → is_beyond (high_of page) g.key ≡ false → is_branch page ≡ false → has_place page g ≡ true → find (entries_of page) g.key ≡ Some (entry_at g.key g.place)
+place_found page g low high leaf h =
+    let lands = or_right (nat_lt g.key (low_of page)) (lands_at (look_of page g.key) g.place) (not_below g.key (low_of page) low) h in
+    found_is (entries_of page) g.key g.place (find (entries_of page) g.key) refl (ap (λ (x : Look). lands_at x g.place) (sym (look_leaf page g.key high leaf)) ∙ lands)
+
+lands_in : (out branch : Bool) (right : ℕ) (down : Look) (o : Option Entry) (key : ℕ) (place : Place) → branch ≡ false → (out ≡ false → o ≡ Some (entry_at key place))
+    → lands_at (if out then Right right else if branch then down else found_at o) place ≡ true
+lands_in true branch right down o key place leaf h = refl
+lands_in false true right down o key place leaf h = absurd cc
+lands_in false false right down o key place leaf h = ap (λ (x : Option Entry). lands_at (found_at x) place) (h refl) ∙ same_itself place
+
+found_place : (page : List ℕ) (g : Given) → is_branch page ≡ false → (low_of page ≤ g.key → is_beyond (high_of page) g.key ≡ false → find (entries_of page) g.key ≡ Some (entry_at g.key g.place)) → has_place page g ≡ true
+found_place page g leaf h =
+    or_by (nat_lt g.key (low_of page)) (lands_at (look_of page g.key) g.place)
+    (λ low. lands_in (is_beyond (high_of page) g.key) (is_branch page) (right_field page) (down_to (floor (entries_of page) g.key)) (find (entries_of page) g.key) g.key g.place leaf (h (upto_of g.key (low_of page) low)))
+
+-- ---- of all slots
 
 each_given : (f : Given → Bool) (gs : List Given) → list_all f gs ≡ true → (x : Given) → Contains gs x → f x ≡ true
 each_given f [] h x (k, lt, same) = absurd (omega arith)
@@ -64,77 +142,88 @@ all_given : (f : Given → Bool) (gs : List Given) → ((x : Given) → Contains
 all_given f [] h = refl
 all_given f (y ∷ ys) h = and_both (f y) (list_all f ys) (h y (zero, omega arith, refl)) (all_given f ys (λ x c. h x (given_later y ys x c)))
 
-leaf_all : (b : Bool) (places : Places) (table : ℕ) (es : List Entry) → b ≡ false → (if b then true else list_all (leads places table) es) ≡ true → list_all (leads places table) es ≡ true
-leaf_all true places table es leaf h = absurd cc
-leaf_all false places table es leaf h = h
+-- ---- a leaf that passes the test is right
 
-pub whole_of : (at : Images) (records : List LogRecord) (table : ℕ) (given : List Given) → AreIndexPages at table → Opens at records table → AreGiven at table given
-    → ((n : ℕ) → 1 ≤ n → n < index_next at table → leaf_leads (places_from table empty given) table (at (index_page table n)) ≡ true)
-    → list_all (is_reached (entered_before at table (index_next at table - 1)) table) given ≡ true → IsWholeIndex at records table
-whole_of at records table given p o g leads_all reached_all = record {
-  pages = p;
-  home = o.home;
-  opens = o.sound;
-  leads = λ e h.
-      let i = home_in at records table o.home e.key p o.sound in
-      let page : List ℕ = at (index_page table (o.home e.key)) in
-      let f = found (entries_of page) e.key e h in
-      let all = leaf_all (is_branch page) (places_from table empty given) table (entries_of page) (leaf_is page (o.sound.home_leaf e.key)) (leads_all (o.home e.key) i.from i.to) in
-      let t = each_passes (leads (places_from table empty given) table) (entries_of page) all e f.among in
-      (g e.key e.place).1 (places_get table e.key e.place given (place_is (get (places_from table empty given) (table, e.key)) e.place t));
-  reached = λ e h.
-      let t = each_given (is_reached (entered_before at table (index_next at table - 1)) table) given reached_all (slot_of e.key e.place) ((g e.key e.place).0 h) in
-      let q = entered_get at table (index_next at table - 1) e.key e.place (place_is (get (entered_before at table (index_next at table - 1)) (table, e.key)) e.place t) in
-      let to = q.to in
-      let from = q.from in
-      entry_home at records table o.home q.page (entry_at e.key e.place) p o.sound (record { from = from; to = omega (arith, to, from) }) q.leaf q.among;
+abbrev pub Stands : Images → ℕ → List Given → ℕ → Type 0
+Stands at table given n = leaf_stands (places_from table empty given) table given (at (index_page table n)) ≡ true
+
+both_pass : (at : Images) (records : List LogRecord) (table : ℕ) (home : ℕ → ℕ) (key : ℕ) (given : List Given) → Sound at records table home → Stands at table given (home key)
+    → (list_all (leads (places_from table empty given) table) (entries_of (at (index_page table (home key)))) && list_all (has_place (at (index_page table (home key)))) given) ≡ true
+both_pass at records table home key given s t =
+    let page : List ℕ = at (index_page table (home key)) in
+    leaf_both (is_branch page) (list_all (leads (places_from table empty given) table) (entries_of page)) (list_all (has_place page) given) (leaf_is page (s.home_leaf key)) t
+
+entry_leads : (at : Images) (records : List LogRecord) (table : ℕ) (home : ℕ → ℕ) (given : List Given) (e : Entry) → Sound at records table home → AreGiven at table given → Stands at table given (home e.key)
+    → leaf_entry at table home e.key ≡ Some e → IsPlaceOf at table e.key e.place
+entry_leads at records table home given e s g t h =
+    let page : List ℕ = at (index_page table (home e.key)) in
+    let f = found (entries_of page) e.key e h in
+    let all = and_left (list_all (leads (places_from table empty given) table) (entries_of page)) (list_all (has_place page) given) (both_pass at records table home e.key given s t) in
+    let q = each_passes (leads (places_from table empty given) table) (entries_of page) all e f.among in
+    (g e.key e.place).1 (places_get table e.key e.place given (place_is (get (places_from table empty given) (table, e.key)) e.place q))
+
+slot_reached : (at : Images) (records : List LogRecord) (table : ℕ) (home : ℕ → ℕ) (given : List Given) (e : Entry) → Sound at records table home → AreGiven at table given → Stands at table given (home e.key)
+    → IsPlaceOf at table e.key e.place → leaf_entry at table home e.key ≡ Some e
+slot_reached at records table home given e s g t h =
+    let page : List ℕ = at (index_page table (home e.key)) in
+    let all = and_right (list_all (leads (places_from table empty given) table) (entries_of page)) (list_all (has_place page) given) (both_pass at records table home e.key given s t) in
+    let q = each_given (has_place page) given all (slot_of e.key e.place) ((g e.key e.place).0 h) in
+    place_found page (slot_of e.key e.place) (s.home_low e.key) (home_high at records table home e.key s) (leaf_is page (s.home_leaf e.key)) q
+
+pub right_of : (at : Images) (records : List LogRecord) (table : ℕ) (home : ℕ → ℕ) (n : ℕ) (given : List Given) → Sound at records table home → AreGiven at table given → ((key : ℕ) → home key ≡ n → Stands at table given (home key))
+    → IsRightLeaf at table home n
+right_of at records table home n given s g t = record {
+  leads = λ e here h. entry_leads at records table home given e s g (t e.key here) h;
+  reached = λ e here h. slot_reached at records table home given e s g (t e.key here) h;
 }
 
--- ---- and where the index is whole they hold
+pub whole_of : (at : Images) (records : List LogRecord) (table : ℕ) (given : List Given) → AreIndexPages at table → Opens at records table → AreGiven at table given → ((n : ℕ) → 1 ≤ n → n < index_next at table → Stands at table given n)
+    → IsWholeIndex at records table
+whole_of at records table given p o g t =
+    let all : (key : ℕ) → Stands at table given (o.home key) = λ key. let i = home_in at records table o.home key p o.sound in t (o.home key) i.from i.to in
+    record {
+      pages = p;
+      home = o.home;
+      opens = o.sound;
+      leads = λ e h. entry_leads at records table o.home given e o.sound g (all e.key) h;
+      reached = λ e h. slot_reached at records table o.home given e o.sound g (all e.key) h;
+    }
+
+-- ---- and one that is right passes it
+
+some_is : (o : Option Place) → is_some o ≡ true → (p : Place) × (o ≡ Some p)
+some_is None h = absurd cc
+some_is (Some p) h = (p, refl)
+
+entry_same : (a b : Entry) → Some a ≡ Some b → a ≡ b
+entry_same a b q = cc
 
 place_eq : (a b : Place) (key : ℕ) → Some (entry_at key a) ≡ Some (entry_at key b) → a ≡ b
 place_eq a b key q = ap (λ (e : Entry). e.place) (entry_same (entry_at key a) (entry_at key b) q)
 
-leads_one : (at : Images) (records : List LogRecord) (table n : ℕ) (given : List Given) (e : Entry) → AreGiven at table given → IsWholeIndex at records table → InIndex at table n → is_branch (at (index_page table n)) ≡ false
-    → Contains (entries_of (at (index_page table n))) e → leads (places_from table empty given) table e ≡ true
-leads_one at records table n given e g w i leaf c =
-    let here = entry_home at records table w.home n e w.pages w.opens i leaf c in
-    let has = places_has table (slot_of e.key e.place) given ((g e.key e.place).0 (w.leads e here)) in
+leads_one : (at : Images) (records : List LogRecord) (table : ℕ) (home : ℕ → ℕ) (n : ℕ) (given : List Given) (e : Entry) → AreIndexPages at table → Sound at records table home → AreGiven at table given → IsRightLeaf at table home n
+    → InIndex at table n → is_branch (at (index_page table n)) ≡ false → Contains (entries_of (at (index_page table n))) e → leads (places_from table empty given) table e ≡ true
+leads_one at records table home n given e p s g r i leaf c =
+    let home_is = entry_home at records table home n e p s i leaf c in
+    let here = entry_found at table home n e p i home_is c in
+    let has = places_has table (slot_of e.key e.place) given ((g e.key e.place).0 (r.leads e home_is here)) in
     let q = some_is (get (places_from table empty given) (table, e.key)) has in
-    let there = w.reached (entry_at e.key q.0) ((g e.key q.0).1 (places_get table e.key q.0 given q.1)) in
+    let there = r.reached (entry_at e.key q.0) home_is ((g e.key q.0).1 (places_get table e.key q.0 given q.1)) in
     let same : q.0 ≡ e.place = place_eq q.0 e.place e.key (sym there ∙ here) in
     is_it (get (places_from table empty given) (table, e.key)) e.place (q.1 ∙ ap (λ (x : Place). Some x) same)
 
-leads_by : (b : Bool) (places : Places) (table : ℕ) (es : List Entry) → (b ≡ false → list_all (leads places table) es ≡ true) → (if b then true else list_all (leads places table) es) ≡ true
-leads_by true places table es h = refl
-leads_by false places table es h = h refl
+has_one : (at : Images) (records : List LogRecord) (table : ℕ) (home : ℕ → ℕ) (n : ℕ) (given : List Given) (x : Given) → AreIndexPages at table → Sound at records table home → AreGiven at table given → IsRightLeaf at table home n
+    → InIndex at table n → is_branch (at (index_page table n)) ≡ false → Contains given x → has_place (at (index_page table n)) x ≡ true
+has_one at records table home n given x p s g r i leaf c =
+    found_place (at (index_page table n)) x leaf
+    (λ low high.
+    let home_is = key_home at records table home n x.key p s i leaf low high in
+    subst (λ (m : ℕ). find (entries_of (at (index_page table m))) x.key ≡ Some (entry_at x.key x.place)) home_is (r.reached (entry_at x.key x.place) home_is ((g x.key x.place).1 c)))
 
-pub whole_leads : (at : Images) (records : List LogRecord) (table n : ℕ) (given : List Given) → AreGiven at table given → IsWholeIndex at records table → InIndex at table n
-    → leaf_leads (places_from table empty given) table (at (index_page table n)) ≡ true
-whole_leads at records table n given g w i =
+pub right_stands : (at : Images) (records : List LogRecord) (table : ℕ) (home : ℕ → ℕ) (n : ℕ) (given : List Given) → AreIndexPages at table → Sound at records table home → AreGiven at table given → InIndex at table n
+    → IsRightLeaf at table home n → Stands at table given n
+right_stands at records table home n given p s g i r =
     let page : List ℕ = at (index_page table n) in
-    leads_by (is_branch page) (places_from table empty given) table (entries_of page)
-    (λ leaf. all_pass (leads (places_from table empty given) table) (entries_of page) (λ e c. leads_one at records table n given e g w i leaf c))
-
-reached_one : (at : Images) (records : List LogRecord) (table : ℕ) (given : List Given) (x : Given) → AreGiven at table given → IsWholeIndex at records table → Contains given x
-    → is_reached (entered_before at table (index_next at table - 1)) table x ≡ true
-reached_one at records table given x g w c =
-    let entered : Places = entered_before at table (index_next at table - 1) in
-    let h : IsPlaceOf at table x.key x.place = (g x.key x.place).1 c in
-    let here = w.reached (entry_at x.key x.place) h in
-    let i = home_in at records table w.home x.key w.pages w.opens in
-    let page : List ℕ = at (index_page table (w.home x.key)) in
-    let f = found (entries_of page) x.key (entry_at x.key x.place) here in
-    let to = i.to in
-    let has = entered_has at table (index_next at table - 1) (w.home x.key) (entry_at x.key x.place) i.from (omega (arith, to)) (leaf_is page (w.opens.home_leaf x.key)) f.among in
-    let q = some_is (get entered (table, x.key)) has in
-    let r = entered_get at table (index_next at table - 1) x.key q.0 q.1 in
-    let r_to = r.to in
-    let r_from = r.from in
-    let there = entry_home at records table w.home r.page (entry_at x.key q.0) w.pages w.opens (record { from = r_from; to = omega (arith, r_to, r_from) }) r.leaf r.among in
-    let same : q.0 ≡ x.place = place_eq q.0 x.place x.key (sym there ∙ here) in
-    is_it (get entered (table, x.key)) x.place (q.1 ∙ ap (λ (p : Place). Some p) same)
-
-pub whole_reached : (at : Images) (records : List LogRecord) (table : ℕ) (given : List Given) → AreGiven at table given → IsWholeIndex at records table
-    → list_all (is_reached (entered_before at table (index_next at table - 1)) table) given ≡ true
-whole_reached at records table given g w = all_given (is_reached (entered_before at table (index_next at table - 1)) table) given (λ x c. reached_one at records table given x g w c)
+    leaf_by (is_branch page) (list_all (leads (places_from table empty given) table) (entries_of page)) (list_all (has_place page) given)
+    (λ leaf. all_pass (leads (places_from table empty given) table) (entries_of page) (λ e c. leads_one at records table home n given e p s g r i leaf c))
+    (λ leaf. all_given (has_place page) given (λ x c. has_one at records table home n given x p s g r i leaf c))

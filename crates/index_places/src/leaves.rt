@@ -1,14 +1,14 @@
-ghost use Rattle.std.specs.Prelude.{◌≡◌, ◌≤◌, IfOk, OnOk};
+ghost use Rattle.std.specs.Prelude.{◌≡◌, IfOk};
 ghost use Rattle.std.specs.List.{AllByRecursion, list_all};
-ghost use Rattle.std.specs.FinMap as finite;
 ghost use Rattle.ds_model.specs.RecordBytes.{IsAllowed};
+ghost use Rattle.index_leaf.specs.Nodes.{IsNode};
 ghost use Rattle.page_chain.specs.Chains.{images_of};
 ghost use Rattle.sound_disk.specs.Indexes.{AreIndexPages, IsNodePage, index_next};
-ghost use Rattle.index_places.specs.Placing.{same_place, is_place, leads, entered_with, leaf_leads, entered_by, AreEntered, is_reached};
+ghost use Rattle.index_places.specs.Placing.{same_place, is_place, leads, lands_at, has_place, leaf_stands, AreLeavesTold};
 
 use crate::slots::Given;
 use ds_base::{NoMemory, PageId, Place, TableId};
-use index_leaf::Entry;
+use index_leaf::{Entry, Look, look, low_key};
 use index_links::{entries_in, node_of};
 use log_record::LogRecord;
 use page_format::Page;
@@ -42,72 +42,78 @@ fn all_lead(table: TableId, places: &SpotMap<Place>, entries: &[Entry]) -> bool
     true
 }
 
-fn put_entries(
-    table: TableId,
-    entered: &mut SpotMap<Place>,
-    entries: &[Entry],
-) -> Result<(), NoMemory>
-    ensures { OnOk result (entered.new ≡ entered_with table entered.old entries.now) }
+// Whether the search from a leaf ends at the place, if it doesn't go on to another page.
+fn lands_at(went: Look, place: Place) -> bool
+    ensures { result ≡ lands_at went place }
 {
-    for entry in entries {
-        entered.insert(table, entry.key, entry.place)?;
+    match went {
+        Look::Right(_) | Look::Down(_) => true,
+        Look::Found(found) => same_place(found, place),
+        Look::Absent => false,
     }
-    Ok(())
 }
 
-// Whether the page is no leaf, or all its entries lead to the places of their keys; a leaf's entries are put into the map.
-fn take_page(
+// Whether the leaf has the place of the slot, if the slot was given to one of its keys.
+fn has_place(page: &Page, one: Given) -> bool
+    requires { IsNode page.now }
+    ensures { result ≡ has_place page.now one }
+{
+    one.key < low_key(page) || lands_at(look(page, one.key), one.place)
+}
+
+fn has_places(page: &Page, given: &[Given]) -> bool
+    requires { IsNode page.now }
+    ensures { result ≡ list_all (has_place page.now) given.now }
+{
+    for one in given {
+        if !has_place(page, *one) {
+            return false;
+        }
+    }
+    true
+}
+
+// Whether the page is no leaf, or its entries are the places of the slots that were given to its keys.
+fn stands(
     alloc: Global,
     table: TableId,
     id: PageId,
     page: &Page,
     places: &SpotMap<Place>,
-    entered: &mut SpotMap<Place>,
+    given: &[Given],
 ) -> Result<bool, NoMemory>
     requires { IsNodePage id page.now }
-    ensures leads { IfOk result (λ leads. leads ≡ leaf_leads places.now table page.now) }
-    ensures entered { OnOk result (entered.new ≡ entered_by table entered.old page.now) }
+    ensures { IfOk result (λ stands. stands ≡ leaf_stands places.now table given.now page.now) }
 {
-    let entries = entries_in(alloc, page)?;
     if node_of(page).is_branch {
         return Ok(true);
     }
-    put_entries(table, entered, &entries)?;
-    Ok(all_lead(table, places, &entries))
+    let entries = entries_in(alloc, page)?;
+    Ok(all_lead(table, places, &entries) && has_places(page, given))
 }
 
-/// The places that the leaves have, by key, or the first leaf with an entry that doesn't lead to the place of its key.
-pub fn entered_in(
+/// The first leaf whose entries aren't the places of the slots that were given to its keys.
+///
+/// It takes time in the number of records and in that of the slots for each page of the index.
+pub fn find_wrong_leaf(
     alloc: Global,
     table: TableId,
     records: &[LogRecord],
     places: &SpotMap<Place>,
+    given: &[Given],
     next: u32,
-) -> Result<Result<SpotMap<Place>, PageId>, NoMemory>
+) -> Result<Option<PageId>, NoMemory>
     requires allowed { AllByRecursion IsAllowed records.now }
     requires pages { AreIndexPages (images_of records.now) table }
     requires next { next ≡ index_next (images_of records.now) table }
-    ensures { IfOk result (λ entered. AreEntered (images_of records.now) table places.now next entered) }
+    ensures { IfOk result (λ found. AreLeavesTold (images_of records.now) table places.now given.now next found) }
 {
-    let mut entered = SpotMap::new(alloc);
     for number in 1..next {
         let id = table.index_page(number);
         let page = image_of(alloc, id, records)?;
-        if !take_page(alloc, table, id, &page, places, &mut entered)? {
-            return Ok(Err(id));
+        if !stands(alloc, table, id, &page, places, given)? {
+            return Ok(Some(id));
         }
     }
-    Ok(Ok(entered))
-}
-
-/// Whether the leaves have the place of each slot that was given.
-pub fn are_reached(table: TableId, entered: &SpotMap<Place>, given: &[Given]) -> bool
-    ensures { result ≡ list_all (is_reached entered.now table) given.now }
-{
-    for one in given {
-        if !is_place(entered.get(table, one.key), one.place) {
-            return false;
-        }
-    }
-    true
+    Ok(None)
 }

@@ -1,6 +1,6 @@
 -- The places that the list by page has for a page are those of the records that change it.
-use Rattle.std.proofs.Common.{◌≡◌, ℕ, ◌+◌, Bool, true, false, cond, List, [], ◌∷◌, ◌++◌, map, Option, None, Some, refl, sym, ap, ◌∙◌, arith, append_assoc}
-use Rattle.std.specs.Prelude.{◌||◌, ◌&&◌, ◌==◌, slice_get}
+use Rattle.std.proofs.Common.{◌≡◌, ℕ, ◌+◌, Bool, true, false, cond, List, [], ◌∷◌, ◌++◌, map, Option, Some, refl, sym, ap, ◌∙◌, arith, append_assoc}
+use Rattle.std.specs.Prelude.{◌||◌, ◌&&◌, ◌==◌}
 use Rattle.std.specs.FinMap as finite
 use Rattle.std.specs.FinMap.{find, get-insert, get-entries, get-empty}
 use Rattle.std.specs.List.{list_any}
@@ -48,7 +48,7 @@ tie_then Less s = refl
 tie_then Equal s = refl
 tie_then Greater s = refl
 
-same_by_order : (a b : PageId) → eq_by_cmp page_cmp a b ≡ same_page b a
+pub same_by_order : (a b : PageId) → eq_by_cmp page_cmp a b ≡ same_page b a
 same_by_order a b =
     tie_then (nat_cmp a.set b.set) (nat_cmp a.number b.number)
     ∙ ap (λ (x : Bool). x && is_eq (nat_cmp a.number b.number)) (tie a.set b.set)

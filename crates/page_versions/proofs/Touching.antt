@@ -1,5 +1,5 @@
 -- What all records make of a page is what those make of it that change it.
-use Rattle.std.proofs.Common.{◌≡◌, ℕ, ◌+◌, Bool, true, false, cond, List, [], ◌∷◌, ◌++◌, Option, None, Some, refl, sym, ap, ◌∙◌, arith}
+use Rattle.std.proofs.Common.{◌≡◌, ℕ, ◌+◌, Bool, true, false, cond, List, [], ◌∷◌, ◌++◌, Option, Some, refl, sym, ap, ◌∙◌, arith}
 use Rattle.std.specs.Prelude.{suc, ◌||◌, slice_get}
 use Rattle.std.specs.Str.{bytes_eq}
 use Rattle.ds_base.specs.declared.names.PageId.{PageId}

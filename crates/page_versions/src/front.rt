@@ -6,7 +6,7 @@ ghost use Rattle.sound_disk.specs.Versions.{current};
 ghost use Rattle.page_chain.specs.Chains.{version_of, IsVersion};
 ghost use Rattle.page_records.specs.Places.{by_page};
 ghost use Rattle.page_versions.specs.Fronts.{has_header, IsPlaced, PlacedMayStand};
-ghost use Rattle.page_versions.specs.Own.{places_at, is_later_at, is_from_at};
+ghost use Rattle.page_versions.specs.Own.{Rise, places_at, is_later_at, is_from_at};
 
 use crate::places::{apply_all, apply_at, places_at};
 use ds_base::{NoMemory, PageId};
@@ -50,7 +50,8 @@ fn is_from(
     image: &mut Page,
     page: &Page,
 ) -> bool
-    requires { AllByRecursion IsAllowed records.now }
+    requires allowed { AllByRecursion IsAllowed records.now }
+    requires rise { Rise changed.now }
     ensures { result ≡ is_from_at id records.now page.now image.old (places_at id changed.now) }
 {
     is_same(image, page) || is_later(id, records, places_at(id, changed), image, page)
@@ -58,7 +59,7 @@ fn is_from(
 
 /// The page of this name as the records make it of a page of zeros. `changed` are the pages that they change.
 ///
-/// It takes time in the number of these pages and of the page's own records.
+/// It takes time in the logarithm of their number, and in the number of the page's own records.
 pub fn image_of(
     alloc: Global,
     id: PageId,
@@ -76,7 +77,7 @@ pub fn image_of(
 
 /// Whether the page is a version: what a front of these records makes of a page of zeros. `changed` are the pages that they change.
 ///
-/// It takes time in the number of these pages and of the page's own records, but a page of zeros is told at once.
+/// It takes time in the logarithm of their number, and in the number of the page's own records.
 pub fn is_version(
     alloc: Global,
     id: PageId,

@@ -3,7 +3,7 @@ ghost use Rattle.std.specs.List.{AllByRecursion};
 ghost use Rattle.ds_model.specs.RecordBytes.{IsAllowed};
 ghost use Rattle.page_chain.specs.Chains.{version_from};
 ghost use Rattle.page_records.specs.Places.{by_page};
-ghost use Rattle.page_versions.specs.Own.{places_at, after_place, version_at};
+ghost use Rattle.page_versions.specs.Own.{Rise, places_at, after_place, version_at};
 
 use crate::apply::apply_record;
 use ds_base::PageId;
@@ -11,17 +11,25 @@ use ds_model::LogRecord;
 use page_chain::chain_laws;
 use page_format::Page;
 use page_records::PageRecords;
+use std::cmp::Ordering;
 
-/// The places that the list has for the page.
+/// The places that the list, whose pages rise, has for the page.
+///
+/// It takes time in the logarithm of their number.
 pub fn places_at<'a>(id: PageId, pages: &'a [PageRecords]) -> &'a [usize]
+    requires { Rise pages.now }
     ensures { result.now ≡ places_at id pages.now }
 {
-    for own in pages {
-        if own.page.is_same(id) {
-            return own.places.as_slice();
-        }
+    if pages.is_empty() {
+        return &[];
     }
-    &[]
+    let middle = pages.len() / 2;
+    let own = &pages[middle];
+    match id.cmp(&own.page) {
+        Ordering::Less => places_at(id, &pages[..middle]),
+        Ordering::Equal => own.places.as_slice(),
+        Ordering::Greater => places_at(id, &pages[middle + 1..]),
+    }
 }
 
 /// The page of this name after the record at this place, where there is one.

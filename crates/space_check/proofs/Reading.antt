@@ -1,5 +1,5 @@
 -- What one reading after another says of a disk.
-use Rattle.std.proofs.Common.{◌≡◌, ℕ, ◌+◌, ◌≤◌, Option, Some, None, Result, Ok, Err, refl, subst, ◌∙◌, arith}
+use Rattle.std.proofs.Common.{ℕ, ◌≤◌, Option, Some, None, Result, Ok, Err, refl, subst, ◌∙◌, arith}
 use Rattle.ds_base.specs.Causes.{Rose}
 use Rattle.ds_disk.specs.declared.disk.DiskError.{DiskError}
 use Rattle.disk_versions.specs.Reading.{Reads}

@@ -1,5 +1,5 @@
 -- From the clauses of a sound disk to what is told of it.
-use Rattle.std.proofs.Common.{◌≡◌, ℕ, List, length, Option, Some, None, Result, Ok, Err, inl, inr, refl, sym, subst}
+use Rattle.std.proofs.Common.{◌≡◌, ℕ, List, length, Option, Some, None, Result, Ok, Err, inl, inr, refl, subst}
 use Rattle.std.specs.Prelude.{IfOk, IfNone, IfSome}
 use Rattle.ds_base.specs.declared.names.PageId.{PageId}
 use Rattle.ds_disk.specs.Contents.{Contents}
@@ -24,8 +24,8 @@ use Rattle.disk_logs.specs.Broken.{IsFirstBroken}
 use Rattle.disk_logs.specs.declared.logs.Found.{Found}
 use Rattle.disk_logs.specs.Looking.{AreFound, AreFoundOfSome}
 use Rattle.disk_versions.specs.declared.set.Placing.{Placing}
-use Rattle.disk_versions.specs.Told.{AreAllPlaced, IsFirstUnplaced, IsTold as Told}
-use Rattle.index_places.specs.Whole.{AreAllWhole, AreTablesTold}
+use Rattle.disk_versions.specs.Told.{IsFirstUnplaced, IsTold as Told}
+use Rattle.index_places.specs.Whole.{AreAllWhole, IsFirstUnwhole, IsFirstTold}
 use Rattle.kept_pages.specs.Unkept.{IsUnkept, AreKept}
 use Rattle.row_turns.specs.Out.{IsOutOfTurn}
 use Rattle.settled_changes.specs.Spots.{LackNumbers}
@@ -35,7 +35,7 @@ use Rattle.space_check.specs.declared.verdict.Clause.TheVariants as clause
 use Rattle.space_check.specs.declared.verdict.Breach.{Breach}
 use Rattle.space_check.specs.declared.verdict.Verdict.{Verdict}
 use Rattle.space_check.specs.declared.verdict.Verdict.TheVariants as verdict
-use Rattle.space_check.specs.Clauses.{IsBreach}
+use Rattle.space_check.specs.Clauses.{IsBreach, IsTablesPage}
 use Rattle.space_check.specs.Judging.{AreTablesJudged, IsLaterBreach, AreRecordsJudged, IsRestJudged, IsPlacedJudged, IsJudged}
 use Rattle.space_check.specs.Verdicts.{IsTold}
 
@@ -43,7 +43,7 @@ use Rattle.space_check.specs.Verdicts.{IsTold}
 
 tables_by : (records : List LogRecord) (found : Option PageId) → AreAllWhole (images_of records) records → AreTold records found → AreTablesJudged records found
 tables_by records None whole told = record { tables = whole; befores = told }
-tables_by records (Some id) whole told = λ w. told w.befores
+tables_by records (Some id) whole told = (λ w. told.lacking w.befores, inr (whole, told))
 
 pub tables_judged : {E : Type 0} (records : List LogRecord) (result : Result (Option PageId) E) → AreAllWhole (images_of records) records → IfOk result (λ found. AreTold records found)
     → IfOk result (λ found. AreTablesJudged records found)
@@ -51,20 +51,21 @@ tables_judged records (Ok found) whole told = tables_by records found whole told
 tables_judged records (Err e) whole told = tt
 
 -- all tables are whole, or not, by what was found of them
-pub whole_none : (records : List LogRecord) (found : Option PageId) → AreTablesTold (images_of records) records found → found ≡ None → AreAllWhole (images_of records) records
-whole_none records found told is = subst (λ (f : Option PageId). AreTablesTold (images_of records) records f) is told
+pub whole_none : (records : List LogRecord) (found : Option PageId) → IsFirstTold (images_of records) records found → found ≡ None → AreAllWhole (images_of records) records
+whole_none records found told is = subst (λ (f : Option PageId). IsFirstTold (images_of records) records f) is told
 
-pub whole_some : (records : List LogRecord) (found : Option PageId) (id : PageId) → AreTablesTold (images_of records) records found → found ≡ Some id → AreWholeTables records → ⊥
-whole_some records found id told is w = subst (λ (f : Option PageId). AreTablesTold (images_of records) records f) is told w.tables
+pub whole_some : (records : List LogRecord) (found : Option PageId) (id : PageId) → IsFirstTold (images_of records) records found → found ≡ Some id → AreTablesJudged records (Some id)
+whole_some records found id told is =
+    let first : IsFirstUnwhole (images_of records) records id = subst (λ (f : Option PageId). IsFirstTold (images_of records) records f) is told in
+    (λ w. first.unwhole (w.tables first.table first.is_table), inl first)
 
 -- the same of the merged records of logs
 pub whole_tables : (logs : List Log) (records : List LogRecord) (page : Option PageId) → records ≡ merged logs → AreTablesJudged records page → page ≡ None → AreTables logs
 whole_tables logs records page are told is = subst (λ (rs : List LogRecord). AreWholeTables rs) are (subst (λ (p : Option PageId). AreTablesJudged records p) is told)
 
-pub wrong_tables : (logs : List Log) (records : List LogRecord) (page : Option PageId) (id : PageId) → records ≡ merged logs → AreTablesJudged records page → page ≡ Some id → AreTables logs → ⊥
-wrong_tables logs records page id are told is w =
-    let wrong : AreWholeTables records → ⊥ = subst (λ (p : Option PageId). AreTablesJudged records p) is told in
-    wrong (subst (λ (rs : List LogRecord). AreWholeTables rs) (sym are) w)
+pub wrong_tables : (logs : List Log) (records : List LogRecord) (page : Option PageId) (id : PageId) → records ≡ merged logs → AreTablesJudged records page → page ≡ Some id
+    → (AreTables logs → ⊥) × IsTablesPage (merged logs) id
+wrong_tables logs records page id are told is = subst (λ (rs : List LogRecord). AreTablesJudged rs (Some id)) are (subst (λ (p : Option PageId). AreTablesJudged records p) is told)
 
 -- ---- what was found, or nothing
 
@@ -103,14 +104,14 @@ some_at found other is h = subst AreFoundOfSome is h
 abbrev breach_of : Clause → Spot → Breach
 breach_of name s = record { clause = name; at = s }
 
-pub unfit_breach : (at : Images) (logs : List Log) (behind : ℕ) (s : Spot) → IsRecordOf (IsFirstBreach AreTransactions logs) s → IsBreach at logs behind (breach_of clause.Transactions s)
-unfit_breach at logs behind s first = record { before = tt; fails = first }
+pub unfit_breach : (at : Images) (logs : List Log) (behind : ℕ) (s : Spot) → (AreTransactions logs → ⊥) → IsRecordOf (IsFirstBreach AreTransactions logs) s → IsBreach at logs behind (breach_of clause.Transactions s)
+unfit_breach at logs behind s lacking first = record { before = tt; fails = (lacking, first) }
 
 pub unplaced_breach : (at : Images) (logs : List Log) (behind : ℕ) (id : PageId) → AreTransactions logs → IsFirstUnplaced at logs behind id → IsBreach at logs behind (breach_of clause.Versions (spot.Page id))
 unplaced_breach at logs behind id trans first = record { before = trans; fails = first }
 
-pub tables_breach : (logs : List Log) (id : PageId) → (AreTables logs → ⊥) → (at : Images) → IsLaterBreach at logs (breach_of clause.Tables (spot.Page id))
-tables_breach logs id wrong = λ at behind trans placed. record { before = (trans, placed); fails = (wrong, tt) }
+pub tables_breach : (logs : List Log) (id : PageId) → (AreTables logs → ⊥) × IsTablesPage (merged logs) id → (at : Images) → IsLaterBreach at logs (breach_of clause.Tables (spot.Page id))
+tables_breach logs id wrong = λ at behind trans placed. record { before = (trans, placed); fails = wrong }
 
 pub turns_breach : (logs : List Log) (s : Spot) → AreTables logs → IsOutOfTurn logs s → (at : Images) → IsLaterBreach at logs (breach_of clause.Turns s)
 turns_breach logs s tables out = λ at behind trans placed. record { before = (trans, placed, tables); fails = out }

@@ -16,13 +16,13 @@ use Rattle.disk_versions.specs.Told.{AreAllPlaced}
 use Rattle.space_check.specs.declared.verdict.Breach.{Breach}
 use Rattle.space_check.specs.declared.verdict.Verdict.{Verdict}
 use Rattle.space_check.specs.declared.verdict.Verdict.TheVariants as verdict
-use Rattle.space_check.specs.Clauses.{ArePlaced, IsBreach}
+use Rattle.space_check.specs.Clauses.{ArePlaced, IsTablesPage, IsBreach}
 
 -- ---- the clauses from the fourth on
 
 abbrev pub AreTablesJudged : List LogRecord → Option PageId → Type 0
 AreTablesJudged records None = AreWholeTables records
-AreTablesJudged records (Some id) = AreWholeTables records → ⊥
+AreTablesJudged records (Some id) = (AreWholeTables records → ⊥) × IsTablesPage records id
 
 -- this is the first clause that fails, where the second and the third hold
 abbrev pub IsLaterBreach : Images → List Log → Breach → Type 0

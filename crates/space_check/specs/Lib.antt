@@ -1,3 +1,4 @@
 pub mod Clauses
 pub mod Judging
 pub mod Verdicts
+pub mod Laws

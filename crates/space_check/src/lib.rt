@@ -2,12 +2,14 @@
 #![tactic(auto)]
 
 mod check;
+mod laws;
 mod pages;
 mod records;
 #[cfg(test)]
 mod tests;
 mod verdict;
 
-pub use check::{check_behind, check_disk};
+pub use check::check_disk;
 pub use disk_spots::Spot;
+pub use laws::verdict_laws;
 pub use verdict::{Breach, Clause, Verdict};

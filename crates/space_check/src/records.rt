@@ -17,7 +17,7 @@ use crate::verdict::{Breach, Clause};
 use disk_spots::Spot;
 use ds_base::{NoMemory, PageId};
 use ds_model::LogRecord;
-use index_places::find_unwhole;
+use index_places::find_first_unwhole;
 use log_merge::merge;
 use log_record::Log;
 use report_check::rows_of;
@@ -26,12 +26,13 @@ use settled_changes::find_last_number;
 use std::alloc::Global;
 use stood_rows::find_unstood;
 
-// A page of a table that isn't whole after the records, or of a row that isn't the one before a change of it.
+// The page that is named of the first table that isn't whole after the records, or that of the first record that didn't meet its
+// row.
 fn find_wrong_table(alloc: Global, records: &[LogRecord]) -> Result<Option<PageId>, NoMemory>
     requires { AllByRecursion IsAllowed records.now }
     ensures { IfOk result (λ found. AreTablesJudged records.now found) }
 {
-    let found = find_unwhole(alloc, records)?;
+    let found = find_first_unwhole(alloc, records)?;
     match found {
         Some(id) => Ok(Some(id)),
         None => find_unstood(alloc, records),

@@ -1,4 +1,5 @@
 use super::*;
+use crate::check::check_behind;
 use ds_base::PageId;
 use ds_disk::{Disk, MemoryDisk};
 use std::test::Fail;

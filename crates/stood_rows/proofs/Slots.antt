@@ -12,7 +12,7 @@ use Rattle.page_format.specs.Header.{header_of}
 use Rattle.page_format.specs.declared.header.Header.{Header}
 use Rattle.page_format.specs.declared.header.NotAPage.{NotAPage}
 use Rattle.heap_space.specs.Slots.{Content, fault_in, content, slot_in}
-use Rattle.page_redo.specs.Rows.{or_fault, slot_fault, headed_fault, row_fault, change_fault, kind_fault, key_fault}
+use Rattle.page_redo.specs.Rows.{or_fault, slot_fault, headed_fault, row_fault, change_fault, kind_fault}
 use Rattle.page_chain.specs.Chains.{version_of}
 use Rattle.sound_disk.specs.Rows_there.{row_after, Stood}
 use Rattle.stood_rows.specs.Standing.{same_value, says, StandsIn}
@@ -91,7 +91,7 @@ stands_if page c b fault is = (
 )
 
 pub stands_not : (page : List ℕ) (c : RowChange) (fault : Option ℕ) → fault ≡ change_fault (heap_page c.table c.place.page) c page → (fault ≡ None → ⊥) → IsTrue false ↔ StandsIn page c
-stands_not page c fault is some = (λ t. absurd cc, λ s. some (is ∙ s.slot))
+stands_not page c fault is some = (λ t. absurd cc, λ s. absurd (some (is ∙ s.slot)))
 
 -- ---- a change in its page
 
@@ -102,9 +102,9 @@ stood earlier c id page is name tells s =
     record { slot = there.slot; there = there.there; before = tells }
 
 pub not_stood : (earlier : List LogRecord) (c : RowChange) (id : PageId) (page : List ℕ) → page ≡ version_of id earlier → id ≡ heap_page c.table c.place.page → (StandsIn page c → ⊥) → Stood earlier c → ⊥
-not_stood earlier c id page is name no s =
+not_stood earlier c id page is name apart s =
     let same : page ≡ version_of (heap_page c.table c.place.page) earlier = is ∙ ap (λ (i : PageId). version_of i earlier) name in
-    no (subst (λ (p : List ℕ). StandsIn p c) (sym same) (record { slot = s.slot; there = s.there }))
+    apart (subst (λ (p : List ℕ). StandsIn p c) (sym same) (record { slot = s.slot; there = s.there }))
 
 -- a test of the fact that is false
 pub fails : (b : Bool) (P : Type 0) → IsTrue b ↔ P → b ≡ false → P → ⊥

@@ -1,11 +1,12 @@
 -- Whether a change met its row.
-use Rattle.std.specs.Prelude.{◌≡◌, ℕ, ◌==◌, Bool, false, ◌&&◌, List, [], Option, None, Some, is_none}
+use Rattle.std.specs.Prelude.{◌≡◌, ℕ, ◌==◌, Bool, false, ◌&&◌, List, [], ◌∷◌, ◌++◌, Option, None, Some, is_none}
 use Rattle.std.specs.Str.{bytes_eq}
 use Rattle.ds_base.specs.Pages.{heap_page}
 use Rattle.ds_base.specs.declared.names.PageId.{PageId}
 use Rattle.ds_model.specs.declared.log.LogRecord.{LogRecord}
 use Rattle.ds_model.specs.declared.log.RowChange.{RowChange}
 use Rattle.ds_model.specs.declared.log.Body.{Body}
+use Rattle.ds_model.specs.declared.log.Body.TheVariants as body
 use Rattle.heap_space.specs.Slots.{Content, content, slot_in}
 use Rattle.page_redo.specs.Rows.{change_fault}
 use Rattle.sound_disk.specs.Rows_there.{Stood, BodyStood, BeforesAgree}
@@ -25,15 +26,38 @@ pub record StandsIn (page : List ℕ) (c : RowChange) : Type 0 where
   pub slot : change_fault (heap_page c.table c.place.page) c page ≡ None
   pub there : content (slot_in page c.place.slot) ≡ Some (c.key, c.before)
 
+-- the change didn't meet the row that it tells, or tells another than was left; this is the page of the row
+abbrev pub IsUnstoodChange : List LogRecord → RowChange → PageId → Type 0
+IsUnstoodChange earlier c id = (Stood earlier c → ⊥) × (id ≡ heap_page c.table c.place.page)
+
+abbrev pub IsUnstood : List LogRecord → Body → PageId → Type 0
+IsUnstood earlier (body.RowChange c) id = IsUnstoodChange earlier c id
+IsUnstood earlier (body.Compensation c undone) id = IsUnstoodChange earlier c id
+IsUnstood earlier (body.System patches) id = ⊥
+IsUnstood earlier body.Commit id = ⊥
+IsUnstood earlier body.Ended id = ⊥
+IsUnstood earlier (body.Checkpoint offset) id = ⊥
+IsUnstood earlier body.RestartEnd id = ⊥
+
 abbrev pub IsChangeTold : List LogRecord → RowChange → Option PageId → Type 0
 IsChangeTold earlier c None = Stood earlier c
-IsChangeTold earlier c (Some id) = Stood earlier c → ⊥
+IsChangeTold earlier c (Some id) = IsUnstoodChange earlier c id
 
 abbrev pub IsBodyTold : List LogRecord → Body → Option PageId → Type 0
 IsBodyTold earlier b None = BodyStood earlier b
-IsBodyTold earlier b (Some id) = BodyStood earlier b → ⊥
+IsBodyTold earlier b (Some id) = IsUnstood earlier b id
 
--- each record tells the row that it met, and that those before it left; or one doesn't
+-- the page of the first record whose change didn't meet its row, or tells another than was left
+pub record IsFirstUnstood (records : List LogRecord) (id : PageId) : Type 0 where
+  pub first : List LogRecord
+  pub it : LogRecord
+  pub rest : List LogRecord
+  pub split : records ≡ first ++ it ∷ rest
+  pub before : BeforesAgree [] first
+  pub wrong : IsUnstood first it.body id
+  pub lacking : BeforesAgree [] records → ⊥
+
+-- each record tells the row that it met, and that those before it left; or this is the page of the first that doesn't
 abbrev pub AreTold : List LogRecord → Option PageId → Type 0
 AreTold records None = BeforesAgree [] records
-AreTold records (Some id) = BeforesAgree [] records → ⊥
+AreTold records (Some id) = IsFirstUnstood records id

@@ -80,8 +80,9 @@ pub fn find_unstood(alloc: Global, records: &[LogRecord]) -> Result<Option<PageI
     let agree = befores_of(alloc, records)?;
     for at in 0..records.len() {
         let found = unstood(alloc, &records[..at], &records[at], agree[at])?;
-        if found.is_some() {
-            return Ok(found);
+        match found {
+            None => {}
+            Some(id) => return Ok(Some(id)),
         }
     }
     Ok(None)

@@ -61,8 +61,8 @@ fn find_from(
 
 /// The first page of the table's heap that isn't right after these records. `changed` are the pages that they change.
 ///
-/// It goes over all records once, and takes time in the number of these pages, and of a page's own records, for each page up
-/// to the last one that a record changes.
+/// It goes over all records once, and takes time in the number of a page's own records for each page up to the last one that
+/// a record changes.
 pub fn find_wrong_heap_page_by(
     alloc: Global,
     table: TableId,

@@ -65,8 +65,8 @@ fn find_from(
 /// The first page of the table's index that isn't right by itself after these records. Where its links and entries lead isn't
 /// asked. `changed` are the pages that the records change.
 ///
-/// It goes over all records once, and takes time in the number of these pages, and of a page's own records, for each page up
-/// to the last one that a record changes.
+/// It goes over all records once, and takes time in the number of a page's own records for each page up to the last one that
+/// a record changes.
 pub fn find_wrong_index_page_by(
     alloc: Global,
     table: TableId,

@@ -1,9 +1,13 @@
-use Rattle.std.proofs.Common.{List, ℕ, ap, ◌∙◌}
+use Rattle.std.proofs.Common.{List, sym, ap, subst, ◌∙◌}
 use Rattle.page_records.specs.declared.places.PageRecords.{PageRecords}
-use Rattle.page_versions.specs.Own.{places_at, is_from_at}
+use Rattle.page_versions.specs.Own.{Rise, places_at, is_from_at}
 use Rattle.page_versions.proofs.Fronts.{told}
+use Rattle.page_versions.proofs.Search.{rise}
 use Rattle.page_versions.proofs.Touching.{from_by_page}
 use Rattle.page_versions.proofs.front.is_version.Goals as goal
+
+pub is_from-requires-clause-rise : goal.is_from-requires-clause-rise
+is_from-requires-clause-rise c = subst Rise (sym c.requires.changed_pages) (rise c.args.records.now)
 
 pub returns : goal.returns
 returns c =

@@ -22,5 +22,8 @@ returns-in-Some g c =
     let first : IsRecordOf (IsFirstBreach AreTransactions c.as_slice.result.now) c.in-Some.at =
     something (λ (s : Spot). IsRecordOf (IsFirstBreach AreTransactions c.as_slice.result.now) s) c.in_ok-spot.spot c.in-Some.at c.in_ok-spot.ensures.first c.in-Some.is
     in
+    let lacking : AreTransactions c.as_slice.result.now → ⊥ = something (λ (s : Spot). AreTransactions c.as_slice.result.now → ⊥) c.in_ok-spot.spot c.in-Some.at c.in_ok-spot.ensures.some c.in-Some.is in
     no_read _ _ (λ (v : Verdict) (d : Contents). IsJudged (page_at d.pages) c.args.logs.now c.args.behind v) _
-    (λ (d : Contents). unfit_breach (page_at d.pages) c.args.logs.now c.args.behind c.in-Some.at (subst (λ (l : List Log). IsRecordOf (IsFirstBreach AreTransactions l) c.in-Some.at) c.as_slice.ensures.value first))
+    (λ (d : Contents).
+    unfit_breach (page_at d.pages) c.args.logs.now c.args.behind c.in-Some.at (subst (λ (l : List Log). AreTransactions l → ⊥) c.as_slice.ensures.value lacking)
+    (subst (λ (l : List Log). IsRecordOf (IsFirstBreach AreTransactions l) c.in-Some.at) c.as_slice.ensures.value first))

@@ -1,7 +1,6 @@
-use Rattle.std.proofs.Common.{Option, Some, None}
+use Rattle.std.proofs.Common.{Option}
 use Rattle.ds_disk.specs.Contents.{Contents}
 use Rattle.ds_disk.specs.Pages.{page_at}
-use Rattle.disk_spots.specs.declared.spot.Spot.{Spot}
 use Rattle.kept_pages.specs.Unkept.{AreKept}
 use Rattle.space_check.specs.declared.verdict.Breach.{Breach}
 use Rattle.space_check.specs.Judging.{IsRestJudged}

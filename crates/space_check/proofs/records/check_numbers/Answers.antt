@@ -1,4 +1,3 @@
-use Rattle.std.proofs.Common.{List}
 use Rattle.disk_spots.specs.declared.spot.Spot.{Spot}
 use Rattle.sound_disk.specs.Numbers_left.{NumbersAreLeft}
 use Rattle.settled_changes.specs.Spots.{LackNumbers}
