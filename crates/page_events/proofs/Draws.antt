@@ -148,44 +148,35 @@ holds_stale s pages most slot a frames out f i lawful few e =
 pub change_leads : Facts → (w : World) (g : Holdings) (content : ℕ → ℕ → List ℕ) (forced : ℕ → ℕ) (h k : Held) (d : Drive) (v : event.World) (slot : ℕ) (act : Action) (frames : Frames) (out : Sent) (p : Plan) (place : ℕ) (a : Answered) (told : Told)
     → Now w g content forced h d → Changes h.marks h.pages h.limit slot act frames out → ((number : ℕ) → a ≡ answered.Reply (reply.Drawn number) → IsRecorded h (intent.Change slot act frames) p number place) → v.drive ≡ d
     → RunsCommand g.facility h (intent.Change slot act frames) (command.Draw (indexes_of frames)) p place a told v.facility k → Leads w v g content forced h k
-change_leads facts w g content forced h k d v slot act frames out p place a told b lawful recorded drive r = by (first_stale f.directory m (given indexes)) refl
+change_leads facts w g content forced h k d v slot act frames out p place a told b lawful recorded drive r = by (first_stale g.facility.directory h.marks.member (given (indexes_of frames))) refl
   where
-    abbrev f : Facility
-    f = g.facility
-
-    abbrev m : ℕ
-    m = h.marks.member
-
-    abbrev indexes : Indexes
-    indexes = indexes_of frames
-
-    draws : DrawsNumber f m indexes r.answer v.facility
+    draws : DrawsNumber g.facility h.marks.member (indexes_of frames) r.answer v.facility
     draws = r.gives.executed.executes.0
 
     is : (x : Reply) → r.answer ≡ x → k ≡ drawn (record h { spare = r.after.spare }) slot frames p x place
     is x e = r.settles.1 ∙ ap (λ (z : Held). drawn z slot frames p r.answer place) r.gives.executed.back ∙ ap (λ z. drawn (record h { spare = r.after.spare }) slot frames p z place) e
 
-    counted : (b : Bool) → nat_lt f.counter limit ≡ b → first_stale f.directory m (given indexes) ≡ None → Leads w v g content forced h k
+    counted : (b : Bool) → nat_lt g.facility.counter limit ≡ b → first_stale g.facility.directory h.marks.member (given (indexes_of frames)) ≡ None → Leads w v g content forced h k
     counted true l e =
-        let number = f.counter + 1 in
-        let answer : r.answer ≡ reply.Drawn number = draws.0 ∙ ap (λ z. draw_reply z f.counter) e ∙ cond-true (nat_lt f.counter limit) (reply.Drawn number) (reply.LrsnEnd f.counter) l in
-        let so : v.facility ≡ record f { counter = number } = draws.1 ∙ ap (λ z. record f { counter = drawn_to z f.counter }) e ∙ ap (λ z. record f { counter = z }) (cond-true (nat_lt f.counter limit) number f.counter l) in
+        let number = g.facility.counter + 1 in
+        let answer : r.answer ≡ reply.Drawn number = draws.0 ∙ ap (λ z. draw_reply z g.facility.counter) e ∙ cond-true (nat_lt g.facility.counter limit) (reply.Drawn number) (reply.LrsnEnd g.facility.counter) l in
+        let so : v.facility ≡ record g.facility { counter = number } = draws.1 ∙ ap (λ z. record g.facility { counter = drawn_to z g.facility.counter }) e ∙ ap (λ z. record g.facility { counter = z }) (cond-true (nat_lt g.facility.counter limit) number g.facility.counter l) in
         let t = drawn_after (kept_of h) slot frames p (reply.Drawn number) place in
         let known = recorded number (r.is ∙ ap answered.Reply answer) in
-        let touched = touched_in g m (changes_in p frames) in
+        let touched = touched_in g h.marks.member (changes_in p frames) in
         drawn_leads facts w g content (content_behind w touched (new_bytes t) content) forced h k d v t r.after.spare b
-        (facts.change w g content forced (kept_of h) h.limit slot act frames p number place out v.facility b.begins lawful known.0 known.1 (subst (λ z. DrawsNumber f m indexes z v.facility) answer draws))
+        (facts.change w g content forced (kept_of h) h.limit slot act frames p number place out v.facility b.begins lawful known.0 known.1 (subst (λ z. DrawsNumber g.facility h.marks.member (indexes_of frames) z v.facility) answer draws))
         so drive (is (reply.Drawn number) answer) (λ n i l. old_version w touched (new_bytes t) content n i l)
     counted false l e =
-        let answer : r.answer ≡ reply.LrsnEnd f.counter = draws.0 ∙ ap (λ z. draw_reply z f.counter) e ∙ cond-false (nat_lt f.counter limit) (reply.Drawn (f.counter + 1)) (reply.LrsnEnd f.counter) l in
-        let so : v.facility ≡ f = draws.1 ∙ ap (λ z. record f { counter = drawn_to z f.counter }) e ∙ ap (λ z. record f { counter = z }) (cond-false (nat_lt f.counter limit) (f.counter + 1) f.counter l) in
-        late_leads facts w g content forced h k d v (owner.Slot slot) (refusal.LrsnEnd f.counter) place r.after.spare b so drive (is (reply.LrsnEnd f.counter) answer)
+        let answer : r.answer ≡ reply.LrsnEnd g.facility.counter = draws.0 ∙ ap (λ z. draw_reply z g.facility.counter) e ∙ cond-false (nat_lt g.facility.counter limit) (reply.Drawn (g.facility.counter + 1)) (reply.LrsnEnd g.facility.counter) l in
+        let so : v.facility ≡ g.facility = draws.1 ∙ ap (λ z. record g.facility { counter = drawn_to z g.facility.counter }) e ∙ ap (λ z. record g.facility { counter = z }) (cond-false (nat_lt g.facility.counter limit) (g.facility.counter + 1) g.facility.counter l) in
+        late_leads facts w g content forced h k d v (owner.Slot slot) (refusal.LrsnEnd g.facility.counter) place r.after.spare b so drive (is (reply.LrsnEnd g.facility.counter) answer)
 
-    by : (x : Option ℕ) → first_stale f.directory m (given indexes) ≡ x → Leads w v g content forced h k
-    by None e = counted (nat_lt f.counter limit) refl e
+    by : (x : Option ℕ) → first_stale g.facility.directory h.marks.member (given (indexes_of frames)) ≡ x → Leads w v g content forced h k
+    by None e = counted (nat_lt g.facility.counter limit) refl e
     by (Some i) e =
-        let answer : r.answer ≡ reply.Stale i = draws.0 ∙ ap (λ z. draw_reply z f.counter) e in
-        let so : v.facility ≡ f = draws.1 ∙ ap (λ z. record f { counter = drawn_to z f.counter }) e in
+        let answer : r.answer ≡ reply.Stale i = draws.0 ∙ ap (λ z. draw_reply z g.facility.counter) e in
+        let so : v.facility ≡ g.facility = draws.1 ∙ ap (λ z. record g.facility { counter = drawn_to z g.facility.counter }) e in
         let holds = holds_stale h.marks h.pages h.limit slot act frames out _ i lawful r.gives.can.few e in
         stale_leads facts w g content forced h k d v i holds.0 r.after.spare b holds.1 so drive (is (reply.Stale i) answer)
 
@@ -193,18 +184,9 @@ change_leads facts w g content forced h k d v slot act frames out p place a told
 pub undo_leads : Facts → (w : World) (g : Holdings) (content : ℕ → ℕ → List ℕ) (forced : ℕ → ℕ) (h k : Held) (d : Drive) (v : event.World) (o : Owner) (at : ℕ) (out : Sent) (p : Plan) (place : ℕ) (a : Answered) (told : Told)
     → Now w g content forced h d → (lawful : Undoes h.marks o at out) → ((number : ℕ) → a ≡ answered.Reply (reply.Drawn number) → IsRecorded h (intent.Undo o at) p number place) → v.drive ≡ d
     → RunsCommand g.facility h (intent.Undo o at) (command.DrawUndo (record { count = 1; at = at ∷ 0 ∷ 0 ∷ [] })) p place a told v.facility k → Leads w v g content forced h k
-undo_leads facts w g content forced h k d v o at out p place a told b lawful recorded drive r = by (first_stale f.directory m (given indexes)) refl
+undo_leads facts w g content forced h k d v o at out p place a told b lawful recorded drive r = by (first_stale g.facility.directory h.marks.member (given (record { count = 1; at = at ∷ 0 ∷ 0 ∷ [] }))) refl
   where
-    abbrev f : Facility
-    f = g.facility
-
-    abbrev m : ℕ
-    m = h.marks.member
-
-    abbrev indexes : Indexes
-    indexes = record { count = 1; at = at ∷ 0 ∷ 0 ∷ [] }
-
-    draws : DrawsUndo f m indexes r.answer v.facility
+    draws : DrawsUndo g.facility h.marks.member (record { count = 1; at = at ∷ 0 ∷ 0 ∷ [] }) r.answer v.facility
     draws = r.gives.executed.executes.0
 
     is : (x : Reply) → r.answer ≡ x → k ≡ undone (record h { spare = r.after.spare }) o at p x place
@@ -214,20 +196,20 @@ undo_leads facts w g content forced h k d v o at out p place a told b lawful rec
     only zero i e = same_Some at i e
     only (suc j) i e = absurd (none-some i e)
 
-    by : (x : Option ℕ) → first_stale f.directory m (given indexes) ≡ x → Leads w v g content forced h k
+    by : (x : Option ℕ) → first_stale g.facility.directory h.marks.member (given (record { count = 1; at = at ∷ 0 ∷ 0 ∷ [] })) ≡ x → Leads w v g content forced h k
     by None e =
-        let number = f.counter + 1 in
-        let answer : r.answer ≡ reply.Drawn number = draws.0 ∙ ap (λ z. number_drawn z f.counter) e in
-        let so : v.facility ≡ record f { counter = number } = draws.1 ∙ ap (λ z. record f { counter = counter_after z f.counter }) e in
+        let number = g.facility.counter + 1 in
+        let answer : r.answer ≡ reply.Drawn number = draws.0 ∙ ap (λ z. number_drawn z g.facility.counter) e in
+        let so : v.facility ≡ record g.facility { counter = number } = draws.1 ∙ ap (λ z. record g.facility { counter = counter_after z g.facility.counter }) e in
         let t = undone_after (kept_of h) o at p (reply.Drawn number) place in
         let known = recorded number (r.is ∙ ap answered.Reply answer) in
-        let touched = touched_in g m (is_frame (Some at)) in
+        let touched = touched_in g h.marks.member (is_frame (Some at)) in
         drawn_leads facts w g content (content_behind w touched (new_bytes t) content) forced h k d v t r.after.spare b
-        (facts.undo w g content forced (kept_of h) o at p number place out v.facility b.begins lawful known.0 known.1 (subst (λ z. DrawsUndo f m indexes z v.facility) answer draws))
+        (facts.undo w g content forced (kept_of h) o at p number place out v.facility b.begins lawful known.0 known.1 (subst (λ z. DrawsUndo g.facility h.marks.member (record { count = 1; at = at ∷ 0 ∷ 0 ∷ [] }) z v.facility) answer draws))
         so drive (is (reply.Drawn number) answer) (λ n i l. old_version w touched (new_bytes t) content n i l)
     by (Some i) e =
-        let answer : r.answer ≡ reply.Stale i = draws.0 ∙ ap (λ z. number_drawn z f.counter) e in
-        let so : v.facility ≡ f = draws.1 ∙ ap (λ z. record f { counter = counter_after z f.counter }) e in
+        let answer : r.answer ≡ reply.Stale i = draws.0 ∙ ap (λ z. number_drawn z g.facility.counter) e in
+        let so : v.facility ≡ g.facility = draws.1 ∙ ap (λ z. record g.facility { counter = counter_after z g.facility.counter }) e in
         let found = found_at _ (at ∷ []) i e in
         stale_leads facts w g content forced h k d v i _ r.after.spare b (subst (λ z. HoldsPage h.marks z _) (only found.0 i found.1) lawful.holds) so drive (is (reply.Stale i) answer)
 
@@ -235,34 +217,25 @@ undo_leads facts w g content forced h k d v o at out p place a told b lawful rec
 pub commit_leads : Facts → (w : World) (g : Holdings) (content : ℕ → ℕ → List ℕ) (forced : ℕ → ℕ) (h k : Held) (d : Drive) (v : event.World) (slot : ℕ) (out : Sent) (p : Plan) (place : ℕ) (a : Answered) (told : Told)
     → Now w g content forced h d → Commits h.marks slot out → ((number : ℕ) → a ≡ answered.Reply (reply.Drawn number) → IsRecorded h (intent.Commit slot) p number place) → v.drive ≡ d
     → RunsCommand g.facility h (intent.Commit slot) (command.Draw (record { count = 0; at = 0 ∷ 0 ∷ 0 ∷ [] })) p place a told v.facility k → Leads w v g content forced h k
-commit_leads facts w g content forced h k d v slot out p place a told b lawful recorded drive r = by (nat_lt f.counter limit) refl
+commit_leads facts w g content forced h k d v slot out p place a told b lawful recorded drive r = by (nat_lt g.facility.counter limit) refl
   where
-    abbrev f : Facility
-    f = g.facility
-
-    abbrev m : ℕ
-    m = h.marks.member
-
-    abbrev indexes : Indexes
-    indexes = record { count = 0; at = 0 ∷ 0 ∷ 0 ∷ [] }
-
-    draws : DrawsNumber f m indexes r.answer v.facility
+    draws : DrawsNumber g.facility h.marks.member (record { count = 0; at = 0 ∷ 0 ∷ 0 ∷ [] }) r.answer v.facility
     draws = r.gives.executed.executes.0
 
     is : (x : Reply) → r.answer ≡ x → k ≡ with_marks (record h { spare = r.after.spare }) (committed_after h.marks slot x place)
     is x e = r.settles.1 ∙ ap (λ (z : Held). with_marks z (committed_after z.marks slot r.answer place)) r.gives.executed.back
         ∙ ap (λ z. with_marks (record h { spare = r.after.spare }) (committed_after h.marks slot z place)) e
 
-    by : (x : Bool) → nat_lt f.counter limit ≡ x → Leads w v g content forced h k
+    by : (x : Bool) → nat_lt g.facility.counter limit ≡ x → Leads w v g content forced h k
     by true l =
-        let number = f.counter + 1 in
-        let answer : r.answer ≡ reply.Drawn number = draws.0 ∙ cond-true (nat_lt f.counter limit) (reply.Drawn number) (reply.LrsnEnd f.counter) l in
-        let so : v.facility ≡ record f { counter = number } = draws.1 ∙ ap (λ z. record f { counter = z }) (cond-true (nat_lt f.counter limit) number f.counter l) in
+        let number = g.facility.counter + 1 in
+        let answer : r.answer ≡ reply.Drawn number = draws.0 ∙ cond-true (nat_lt g.facility.counter limit) (reply.Drawn number) (reply.LrsnEnd g.facility.counter) l in
+        let so : v.facility ≡ record g.facility { counter = number } = draws.1 ∙ ap (λ z. record g.facility { counter = z }) (cond-true (nat_lt g.facility.counter limit) number g.facility.counter l) in
         let t = kept_with (kept_of h) (committed_after h.marks slot (reply.Drawn number) place) in
         drawn_leads facts w g content content forced h k d v t r.after.spare b
-        (facts.commit w g content forced (kept_of h) slot number place out v.facility b.begins lawful (recorded number (r.is ∙ ap answered.Reply answer)) (subst (λ z. DrawsNumber f m indexes z v.facility) answer draws))
+        (facts.commit w g content forced (kept_of h) slot number place out v.facility b.begins lawful (recorded number (r.is ∙ ap answered.Reply answer)) (subst (λ z. DrawsNumber g.facility h.marks.member (record { count = 0; at = 0 ∷ 0 ∷ 0 ∷ [] }) z v.facility) answer draws))
         so drive (is (reply.Drawn number) answer) (λ n i l. refl)
     by false l =
-        let answer : r.answer ≡ reply.LrsnEnd f.counter = draws.0 ∙ cond-false (nat_lt f.counter limit) (reply.Drawn (f.counter + 1)) (reply.LrsnEnd f.counter) l in
-        let so : v.facility ≡ f = draws.1 ∙ ap (λ z. record f { counter = z }) (cond-false (nat_lt f.counter limit) (f.counter + 1) f.counter l) in
-        late_leads facts w g content forced h k d v (owner.Slot slot) (refusal.LrsnEnd f.counter) place r.after.spare b so drive (is (reply.LrsnEnd f.counter) answer)
+        let answer : r.answer ≡ reply.LrsnEnd g.facility.counter = draws.0 ∙ cond-false (nat_lt g.facility.counter limit) (reply.Drawn (g.facility.counter + 1)) (reply.LrsnEnd g.facility.counter) l in
+        let so : v.facility ≡ g.facility = draws.1 ∙ ap (λ z. record g.facility { counter = z }) (cond-false (nat_lt g.facility.counter limit) (g.facility.counter + 1) g.facility.counter l) in
+        late_leads facts w g content forced h k d v (owner.Slot slot) (refusal.LrsnEnd g.facility.counter) place r.after.spare b so drive (is (reply.LrsnEnd g.facility.counter) answer)

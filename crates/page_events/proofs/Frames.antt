@@ -56,22 +56,16 @@ pub read_leads : Facts → (w : World) (g : Holdings) (content : ℕ → ℕ →
     → Now w g content forced h d → (lawful : ReadsFrame h.marks at out) → v.drive ≡ d → RunsCommand g.facility h (intent.Read at) (command.Read lawful.page at) p place a told v.facility k → Leads w v g content forced h k
 read_leads facts w g content forced h k d v at out p place a told b lawful drive r = by (frame_in h.marks.heads at).changed refl
   where
-    abbrev changed : Bool
-    changed = (frame_in h.marks.heads at).changed
+    ran : (x : Lent) → lent_of h (command.Read lawful.page at) ≡ x → Executed h g.facility (command.Read lawful.page at) x r.answer r.after v.facility
+    ran x e = subst (λ l. Executed h g.facility (command.Read lawful.page at) l r.answer r.after v.facility) e r.gives.executed
 
-    abbrev asked : Command
-    asked = command.Read lawful.page at
-
-    ran : (x : Lent) → lent_of h asked ≡ x → Executed h g.facility asked x r.answer r.after v.facility
-    ran x e = subst (λ l. Executed h g.facility asked l r.answer r.after v.facility) e r.gives.executed
-
-    by : (x : Bool) → changed ≡ x → Leads w v g content forced h k
+    by : (x : Bool) → (frame_in h.marks.heads at).changed ≡ x → Leads w v g content forced h k
     by true e =
-        let it = ran lent.Spare (cond-true changed lent.Spare (framed h at) e) in
+        let it = ran lent.Spare (cond-true (frame_in h.marks.heads at).changed lent.Spare (framed h at) e) in
         let end = with_marks (record h { spare = r.after.spare }) (read_after h.marks at r.answer) in
         let is : k ≡ end = r.settles.1 ∙ ap (λ (z : Held). with_marks z (read_after z.marks at r.answer)) it.back in
-        let pages : read_pages (kept_of h) at r.after.spare ≡ h.pages = cond-true changed h.pages (slice_set h.pages at r.after.spare) e in
-        let goes = facts.read w g content forced (kept_of h) at out h.spare r.after.spare r.answer v.facility b.begins lawful (λ z. absurd (both_ways changed z e)) it.executes in
+        let pages : read_pages (kept_of h) at r.after.spare ≡ h.pages = cond-true (frame_in h.marks.heads at).changed h.pages (slice_set h.pages at r.after.spare) e in
+        let goes = facts.read w g content forced (kept_of h) at out h.spare r.after.spare r.answer v.facility b.begins lawful (λ z. absurd (both_ways (frame_in h.marks.heads at).changed z e)) it.executes in
         subst (λ z. Leads w v g content forced h z) (sym is)
         (behind_leads facts w g content forced h end d v b
         (subst (λ ps. Goes w content forced (behind g v.facility h.marks.member (record { marks = read_after h.marks at r.answer; pages = ps })) h.marks (record { marks = read_after h.marks at r.answer; pages = ps })) pages goes)
@@ -80,11 +74,11 @@ read_leads facts w g content forced h k d v at out p place a told b lawful drive
         (drive_on d v.drive g.disk drive b.drive) refl refl)
     by false e =
         let l = is_within h at lawful.page b.begins.up.each lawful.placed in
-        let it = ran (lent.Frame at) (cond-false changed lent.Spare (framed h at) e ∙ framed_is h at l) in
+        let it = ran (lent.Frame at) (cond-false (frame_in h.marks.heads at).changed lent.Spare (framed h at) e ∙ framed_is h at l) in
         let bytes = bytes_in r.after at in
         let end = with_marks (with_page h at bytes) (read_after h.marks at r.answer) in
         let is : k ≡ end = r.settles.1 ∙ ap (λ (z : Held). with_marks z (read_after z.marks at r.answer)) it.back in
-        let pages : read_pages (kept_of h) at bytes ≡ slice_set h.pages at bytes = cond-false changed h.pages (slice_set h.pages at bytes) e in
+        let pages : read_pages (kept_of h) at bytes ≡ slice_set h.pages at bytes = cond-false (frame_in h.marks.heads at).changed h.pages (slice_set h.pages at bytes) e in
         let goes = facts.read w g content forced (kept_of h) at out (bytes_in h at) bytes r.answer v.facility b.begins lawful (λ z. refl) it.executes in
         subst (λ z. Leads w v g content forced h z) (sym is)
         (behind_leads facts w g content forced h end d v b
