@@ -39,9 +39,9 @@ use Rattle.page_world.specs.Holdings.{Holdings}
 use Rattle.page_intents.specs.Stands.{behind, Goes}
 use Rattle.page_intents.specs.Frames.{filled_kept}
 use Rattle.page_intents.specs.Logs.{all_forced}
-use Rattle.page_events.specs.Beside.{Shows, KeepsStandings, SameOthers, Leads}
+use Rattle.page_events.specs.Beside.{Shows, SameOthers, Leads}
 use Rattle.page_events.proofs.Facts.{Facts}
-use Rattle.page_events.proofs.Made.{Now, made, behind_leads, put_other, standings_same}
+use Rattle.page_events.proofs.Made.{KeepsStandings, Now, made, behind_leads, put_other, standings_same}
 
 -- ---- frames that have a page
 pub is_within : (h : Held) (at : ℕ) (id : PageId) → length h.pages ≡ length h.marks.heads.frames → (frame_in h.marks.heads at).page ≡ Some id → at < length h.pages
@@ -139,7 +139,9 @@ fill_leads facts w g content forced h k d v at out a told b lawful works same r 
 -- ---- the log is appended
 others_forced : (g : Holdings) (forced : ℕ → ℕ) (m last : ℕ) → SameOthers g (all_forced g m) forced (put forced m last) m
 others_forced g forced m last = record {
-  standings = standings_same g.facility;
+  members = refl;
+  statuses = λ k l ne. refl;
+  counter = omega arith;
   log = λ k ne. put_other forced m k last ne;
   stable = λ k ne. put_other g.stable m k (g.written m) ne;
   written = λ k ne. refl;

@@ -34,9 +34,9 @@ use Rattle.page_protocol.specs.Moves.{World}
 use Rattle.page_world.specs.Numbers.{page_number}
 use Rattle.page_world.specs.Holdings.{Holdings}
 use Rattle.page_intents.specs.Castouts.{HasCast, cast_behind, taken_cast}
-use Rattle.page_events.specs.Beside.{KeepsStandings, Leads}
+use Rattle.page_events.specs.Beside.{Leads}
 use Rattle.page_events.proofs.Facts.{Facts}
-use Rattle.page_events.proofs.Made.{Now, cast_left, cast_stays, made, others_cast, standings_same}
+use Rattle.page_events.proofs.Made.{KeepsStandings, Now, cast_left, cast_stays, made, others_cast, standings_same}
 use Rattle.page_events.proofs.Calls.{shows_put, was_done, went_on}
 use Rattle.page_events.proofs.Frames.{directory_sound, directory_standings, drive_on}
 

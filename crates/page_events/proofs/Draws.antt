@@ -12,6 +12,7 @@ use Rattle.facility.specs.declared.command.Indexes.{Indexes}
 use Rattle.facility.specs.declared.command.Reply.{Reply}
 use Rattle.facility.specs.declared.command.Reply.TheVariants as reply
 use Rattle.facility.specs.Counting.{DrawsNumber, DrawsUndo, counter_after, draw_reply, drawn as number_drawn, drawn_to, first_stale, given, limit}
+use Rattle.list_structure.specs.Standings.{status_of}
 use Rattle.facility.specs.States.{Held as Facility}
 use Rattle.page_plans.specs.declared.action.Action.{Action}
 use Rattle.member_intents.specs.declared.intent.Frames.{Frames}
@@ -41,10 +42,10 @@ use Rattle.page_world.specs.Holdings.{Holdings, KeepsPages}
 use Rattle.page_intents.specs.Stands.{behind, copy_of, Goes}
 use Rattle.page_intents.specs.Draws.{changes_in, drawn_behind, is_frame, new_bytes, touched_in}
 use Rattle.page_intents.specs.Owners.{LeavesPages}
-use Rattle.page_events.specs.Beside.{KeepsStandings, Leads, SameOthers}
+use Rattle.page_events.specs.Beside.{Leads, SameOthers}
 use Rattle.page_events.specs.Events.{IsRecorded}
 use Rattle.page_events.proofs.Facts.{Facts}
-use Rattle.page_events.proofs.Made.{Now, Stays, behind_leads, made, put_other, stay_leads}
+use Rattle.page_events.proofs.Made.{KeepsStandings, Now, Stays, behind_leads, made, put_other, stay_leads}
 use Rattle.page_events.proofs.Calls.{same_standings}
 use Rattle.page_events.proofs.Frames.{drive_on}
 use Rattle.page_events.proofs.Quiet.{keeps_itself}
@@ -52,7 +53,9 @@ use Rattle.page_events.proofs.Quiet.{keeps_itself}
 -- ---- a number is drawn
 others_drawn : (g : Holdings) (f : Facility) (forced : ℕ → ℕ) (m : ℕ) (t : Kept) → KeepsStandings g.facility f → SameOthers g (drawn_behind g f m t) forced forced m
 others_drawn g f forced m t s = record {
-  standings = s;
+  members = s.members;
+  statuses = λ k l ne. ap (λ z. status_of z k) s.statuses;
+  counter = s.counter;
   log = λ k ne. refl;
   stable = λ k ne. refl;
   written = λ k ne. put_other g.written m k (g.written m + 1) ne;

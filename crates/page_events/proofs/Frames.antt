@@ -27,9 +27,9 @@ use Rattle.page_protocol.specs.Moves.{World}
 use Rattle.page_world.specs.Holdings.{Holdings}
 use Rattle.page_intents.specs.Stands.{behind, Goes}
 use Rattle.page_intents.specs.Frames.{read_pages}
-use Rattle.page_events.specs.Beside.{Shows, KeepsStandings, Leads}
+use Rattle.page_events.specs.Beside.{Shows, Leads}
 use Rattle.page_events.proofs.Facts.{Facts}
-use Rattle.page_events.proofs.Made.{Now, behind_leads}
+use Rattle.page_events.proofs.Made.{KeepsStandings, Now, behind_leads}
 use Rattle.page_events.proofs.Calls.{is_within, same_standings}
 
 -- ---- the directory alone changes

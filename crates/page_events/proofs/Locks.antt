@@ -22,6 +22,7 @@ use Rattle.facility.specs.declared.command.Command.TheVariants as command
 use Rattle.facility.specs.declared.command.Reply.{Reply}
 use Rattle.facility.specs.declared.command.Reply.TheVariants as reply
 use Rattle.facility.specs.LockCommands.{GrantsLock, ObtainsLock}
+use Rattle.list_structure.specs.Standings.{status_of}
 use Rattle.facility.specs.States.{Held as Facility}
 use Rattle.member_intents.specs.declared.intent.Intent.{Intent}
 use Rattle.member_intents.specs.declared.intent.Intent.TheVariants as intent
@@ -54,11 +55,11 @@ use Rattle.page_world.specs.Holdings.{Holdings, KeepsPages, with_facility}
 use Rattle.page_intents.specs.Stands.{Goes}
 use Rattle.page_intents.specs.Owners.{LeavesPages, owned_by}
 use Rattle.page_policies.specs.Locals.{TransLeavePages}
-use Rattle.page_events.specs.Beside.{KeepsStandings, Leads, SameOthers}
+use Rattle.page_events.specs.Beside.{Leads, SameOthers}
 use Rattle.page_events.specs.Events.{page_named, page_taken}
 use Rattle.page_events.specs.Quiet.{leaves_pages}
 use Rattle.page_events.proofs.Facts.{Facts}
-use Rattle.page_events.proofs.Made.{Now, Stays, made, others_facility, put_other, standings_of, stay_leads}
+use Rattle.page_events.proofs.Made.{KeepsStandings, Now, Stays, made, others_facility, put_other, standings_of, stay_leads}
 use Rattle.page_events.proofs.Frames.{directory_sound, directory_standings, drive_on}
 use Rattle.page_events.proofs.Quiet.{quiet_commands}
 
@@ -146,7 +147,9 @@ agent_leaves law s t (owner.Rollback id) n m place e = subst (λ z. LeavesPages 
 -- ---- the page's owner
 others_owned : (g : Holdings) (f : Facility) (forced : ℕ → ℕ) (m n : ℕ) (now : Option ℕ) → KeepsStandings g.facility f → ((k : ℕ) → k ≢ m → g.owner n ≢ Some k) → ((k : ℕ) → k ≢ m → now ≢ Some k) → SameOthers g (owned_by g f n now) forced forced m
 others_owned g f forced m n now s was is = record {
-  standings = s;
+  members = s.members;
+  statuses = λ k l ne. ap (λ z. status_of z k) s.statuses;
+  counter = s.counter;
   log = λ k ne. refl;
   stable = λ k ne. refl;
   written = λ k ne. refl;

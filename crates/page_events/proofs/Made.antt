@@ -3,6 +3,7 @@ use Rattle.std.proofs.Common.{◌≡◌, ◌≢◌, ℕ, ◌≤◌, refl, sym, �
 use Rattle.std.specs.Prelude.{◌==◌, if◌then◌else◌}
 use Rattle.std.proofs.lemmas.Bool.{cond-true, cond-false, eq-eqb, ne_eqb}
 use Rattle.cache_structure.specs.Sound.{IsSound}
+use Rattle.list_structure.specs.Standings.{status_of}
 use Rattle.facility.specs.States.{Held as Facility}
 use Rattle.member_needs.specs.declared.castout.Cast.{Cast as InHand}
 use Rattle.member_marks.specs.Local.{Reaches}
@@ -17,11 +18,11 @@ use Rattle.page_protocol.specs.Page.{put}
 use Rattle.page_protocol.specs.Always.{AlwaysGood}
 use Rattle.page_world.specs.Numbers.{set_of}
 use Rattle.page_world.specs.Holdings.{Cast, Holdings, KeepsPages, with_facility}
-use Rattle.page_intents.specs.Stands.{copy_of, behind, Goes}
+use Rattle.page_intents.specs.Stands.{AreBehind, copy_of, behind, Goes}
 use Rattle.page_intents.specs.Frames.{Begins}
 use Rattle.page_intents.specs.Castouts.{cast_of, cast_behind, HasCast}
 use Rattle.page_intents.specs.Owners.{LeavesPages}
-use Rattle.page_events.specs.Beside.{Shows, Beside, KeepsStandings, SameOthers, Leads}
+use Rattle.page_events.specs.Beside.{Shows, Beside, SameOthers, OthersStayUp, Leads}
 use Rattle.page_events.proofs.Facts.{Facts}
 
 -- where the facility is what the group holds of it
@@ -53,12 +54,20 @@ made law w v g left content versions forced force h k b goes facility drive cast
 
 -- ---- what stays of the others
 
+-- nobody's standing changes, and the counter doesn't fall
+pub record KeepsStandings (f after : Facility) : Type 0 where
+  pub members : after.lists.members ≡ f.lists.members
+  pub statuses : after.lists.statuses ≡ f.lists.statuses
+  pub counter : f.counter ≤ after.counter
+
 pub standings_of : (f after : Facility) → KeepsPages f after → KeepsStandings f after
 standings_of f after k = record { members = k.members; statuses = k.statuses; counter = (let e = k.counter in omega (arith, e)) }
 
 pub others_facility : (g : Holdings) (f : Facility) (forced : ℕ → ℕ) (m : ℕ) → KeepsStandings g.facility f → SameOthers g (with_facility g f) forced forced m
 others_facility g f forced m s = record {
-  standings = s;
+  members = s.members;
+  statuses = λ k l ne. ap (λ z. status_of z k) s.statuses;
+  counter = s.counter;
   log = λ k ne. refl;
   stable = λ k ne. refl;
   written = λ k ne. refl;
@@ -73,7 +82,9 @@ put_other f m k x ne = cond-false (k == m) x (f k) (ne_eqb k m ne)
 
 pub others_behind : (g : Holdings) (f : Facility) (forced : ℕ → ℕ) (m : ℕ) (t : Kept) → KeepsStandings g.facility f → SameOthers g (behind g f m t) forced forced m
 others_behind g f forced m t s = record {
-  standings = s;
+  members = s.members;
+  statuses = λ k l ne. ap (λ z. status_of z k) s.statuses;
+  counter = s.counter;
   log = λ k ne. refl;
   stable = λ k ne. refl;
   written = λ k ne. refl;
@@ -85,7 +96,9 @@ others_behind g f forced m t s = record {
 
 pub others_cast : (g : Holdings) (f : Facility) (forced : ℕ → ℕ) (m : ℕ) (cast : Option InHand) (buffer : List ℕ) (disk : ℕ → List ℕ) → KeepsStandings g.facility f → SameOthers g (record (cast_behind g f m cast buffer) { disk = disk }) forced forced m
 others_cast g f forced m cast buffer disk s = record {
-  standings = s;
+  members = s.members;
+  statuses = λ k l ne. ap (λ z. status_of z k) s.statuses;
+  counter = s.counter;
   log = λ k ne. refl;
   stable = λ k ne. refl;
   written = λ k ne. refl;
@@ -97,11 +110,9 @@ others_cast g f forced m cast buffer disk s = record {
 
 others_on : (g mid left : Holdings) (forced between force : ℕ → ℕ) (m p : ℕ) → p ≡ m → SameOthers g mid forced between m → SameOthers mid left between force p → SameOthers g left forced force m
 others_on g mid left forced between force m p same a b = record {
-  standings = record {
-    members = b.standings.members ∙ a.standings.members;
-    statuses = b.standings.statuses ∙ a.standings.statuses;
-    counter = (let x = a.standings.counter in let y = b.standings.counter in omega (arith, x, y));
-  };
+  members = b.members ∙ a.members;
+  statuses = λ k l ne. b.statuses k l (away k ne) ∙ a.statuses k l ne;
+  counter = (let x = a.counter in let y = b.counter in omega (arith, x, y));
   log = λ k ne. b.log k (away k ne) ∙ a.log k ne;
   stable = λ k ne. b.stable k (away k ne) ∙ a.stable k ne;
   written = λ k ne. b.written k (away k ne) ∙ a.written k ne;
@@ -113,6 +124,28 @@ others_on g mid left forced between force m p same a b = record {
   where
     away : (k : ℕ) → k ≢ m → k ≢ p
     away k ne e = ne (e ∙ same)
+
+-- ---- they are still up
+pub others_stay_up : OthersStayUp
+others_stay_up g left forced force m h same ne up cast =
+    let k = h.marks.member in
+    let counter = same.counter in
+    let last = up.last in (
+      record {
+        least = up.least;
+        among = subst (λ z. k ≤ z) (sym same.members) up.among;
+        up = same.statuses k up.least ne ∙ up.up;
+        log = same.log k ne ∙ up.log;
+        last = omega (arith, counter, last);
+        pending = subst (λ z. AreBehind z (left.written k) h.marks.log.pending) (sym (same.stable k ne)) (subst (λ z. AreBehind (g.stable k) z h.marks.log.pending) (sym (same.written k ne)) up.pending);
+        apart = up.apart;
+        each = up.each;
+        copies = λ n. same.copies k n ne ∙ up.copies n;
+        owns = λ n e. same.keeps k n ne (up.owns n e);
+        no_more = λ n e x. up.no_more n e (same.takes k n ne x);
+      },
+      λ n. same.casts k n ne ∙ cast n,
+    )
 
 -- ---- the castout in hand
 

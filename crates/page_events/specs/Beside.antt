@@ -2,7 +2,7 @@
 use Rattle.std.specs.Prelude.{◌≡◌, ◌≢◌, ℕ, ◌≤◌, List, Option, Some}
 use Rattle.ds_disk.specs.Contents.{Contents}
 use Rattle.ds_disk.specs.Pages as disk
-use Rattle.facility.specs.States.{Held as Facility}
+use Rattle.list_structure.specs.Standings.{status_of}
 use Rattle.member_resources.specs.Held.{Held}
 use Rattle.member_resources.specs.Settled.{kept_of}
 use Rattle.member_resources.specs.Events as event
@@ -10,6 +10,7 @@ use Rattle.member_resources.specs.Events.{Drive}
 use Rattle.page_protocol.specs.Moves.{World, Move, Run}
 use Rattle.page_world.specs.Numbers.{page_at, set_of}
 use Rattle.page_world.specs.Holdings.{Holdings}
+use Rattle.page_intents.specs.Stands.{IsUp}
 use Rattle.page_intents.specs.Frames.{Begins}
 use Rattle.page_intents.specs.Castouts.{HasCast}
 
@@ -28,15 +29,11 @@ pub record Beside (w : World) (u : event.World) (g : Holdings) (content : ℕ �
 
 -- ---- what an event of one member leaves of the others
 
--- nobody's standing changes, and the counter doesn't fall
-pub record KeepsStandings (f after : Facility) : Type 0 where
-  pub members : after.lists.members ≡ f.lists.members
-  pub statuses : after.lists.statuses ≡ f.lists.statuses
-  pub counter : f.counter ≤ after.counter
-
--- the logs, frames, castouts and page locks of all members but this one
+-- the standings, logs, frames, castouts and page locks of all members but this one; and the counter doesn't fall
 pub record SameOthers (g left : Holdings) (forced force : ℕ → ℕ) (m : ℕ) : Type 0 where
-  pub standings : KeepsStandings g.facility left.facility
+  pub members : left.facility.lists.members ≡ g.facility.lists.members
+  pub statuses : (k : ℕ) → 1 ≤ k → k ≢ m → status_of left.facility.lists.statuses k ≡ status_of g.facility.lists.statuses k
+  pub counter : g.facility.counter ≤ left.facility.counter
   pub log : (k : ℕ) → k ≢ m → force k ≡ forced k
   pub stable : (k : ℕ) → k ≢ m → left.stable k ≡ g.stable k
   pub written : (k : ℕ) → k ≢ m → left.written k ≡ g.written k
@@ -44,6 +41,11 @@ pub record SameOthers (g left : Holdings) (forced force : ℕ → ℕ) (m : ℕ)
   pub casts : (k n : ℕ) → k ≢ m → left.casts k n ≡ g.casts k n
   pub keeps : (k n : ℕ) → k ≢ m → g.owner n ≡ Some k → left.owner n ≡ Some k
   pub takes : (k n : ℕ) → k ≢ m → left.owner n ≡ Some k → g.owner n ≡ Some k
+
+-- each other member that was up still is, with what it casts out
+abbrev pub OthersStayUp : Type 0
+OthersStayUp = (g left : Holdings) (forced force : ℕ → ℕ) (m : ℕ) (h : Held) → SameOthers g left forced force m → h.marks.member ≢ m → IsUp g forced (kept_of h) → HasCast g h.marks.member h.cast h.buffer
+    → IsUp left force (kept_of h) × HasCast left h.marks.member h.cast h.buffer
 
 -- ---- what an event leads to
 

@@ -4,6 +4,7 @@
 //! The crate has definitions and proofs alone. Its functions do nothing: their contracts are the theorems.
 #![tactic(auto)]
 
+ghost use Rattle.page_events.specs.Beside.{OthersStayUp};
 ghost use Rattle.page_events.specs.Events.{EventGoes, ToldGoes};
 ghost use Rattle.page_events.specs.Quiet.{CommandsLeave};
 
@@ -41,6 +42,11 @@ pub fn events_go()
     transactions_leave();
     policies_go();
 }
+
+/// Where an event of one member leaves what the group holds of all others, each of them that was up still is.
+pub fn others_stay_up()
+    ensures { OthersStayUp }
+{}
 
 /// A command that neither reads, writes, unregisters, casts out, loses or rebuilds pages, draws no number and sets no standing leaves all
 /// that pages know of the facility.
