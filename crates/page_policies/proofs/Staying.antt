@@ -69,7 +69,8 @@ first_kept (x ∷ xs) zero ne = absurd (ne refl)
 first_kept (x ∷ xs) (suc j) ne = refl
 
 first_left : (xs : List (List Claim)) (i : ℕ) → i ≢ 0 → slice_index_or (remove xs i) 0 [] ≡ slice_index_or xs 0 []
-first_left [] i ne = refl
+first_left [] zero ne = absurd (ne refl)
+first_left [] (suc j) ne = refl
 first_left (x ∷ xs) zero ne = absurd (ne refl)
 first_left (x ∷ xs) (suc j) ne = refl
 
