@@ -1,6 +1,6 @@
 -- Disk calls that were done: a page is read into its frame, and the log buffer is appended; and what the disk then shows.
 use Rattle.std.proofs.Common.{◌≡◌, ◌≢◌, ℕ, ◌<◌, refl, sym, ◌∙◌, ap, subst, Bool, true, false, inl, inr, List, ◌++◌, length, Option, Some, None, Result, Ok, Err, arith, cond}
-use Rattle.std.specs.Prelude.{◌==◌, ◌&&◌, if◌then◌else◌, nat_lt, unwrap_or, replicate}
+use Rattle.std.specs.Prelude.{◌==◌, ◌&&◌, if◌then◌else◌, nat_lt, unwrap_or, replicate, slice_get}
 use Rattle.std.specs.Ordering.{nat_cmp, eq_by_cmp, is_eq, ordering_then}
 use Rattle.std.specs.declared.cmp.Ordering.{Ordering}
 use Rattle.std.specs.declared.cmp.Ordering.TheVariants.{Less, Equal, Greater}

@@ -101,8 +101,8 @@ not_held h f hand taken e own = both_ways (is_holder h (holder_in f h.cast)) e (
 
 pub may_end : (h : Held) (f : Facility) (hand : Cast) → h.cast ≡ Some hand → (hand.is_written || not (is_holder h (holder_in f h.cast))) ≡ true → (hand.is_written ≡ true) ⊎ (castout_member f hand.page ≢ Some h.marks.member)
 may_end h f hand taken e = elim (or_cases hand.is_written (not (is_holder h (holder_in f h.cast))) e) [
-  | inl yes ↦ inl yes
-  | inr no ↦ inr (not_held h f hand taken (turned (is_holder h (holder_in f h.cast)) no))
+  | inl written ↦ inl written
+  | inr other ↦ inr (not_held h f hand taken (turned (is_holder h (holder_in f h.cast)) other))
 ]
   where
     turned : (x : Bool) → not x ≡ true → x ≡ false

@@ -26,7 +26,7 @@ use Rattle.member_marks.specs.State.{MarksState}
 use Rattle.member_marks.specs.Claims.{offered}
 use Rattle.member_marks.specs.Frames.{after_registered}
 use Rattle.member_needs.specs.declared.plans.Plan.{Plan}
-use Rattle.member_needs.specs.Records.{frame_of, indexes_of}
+use Rattle.member_needs.specs.Records.{change_page, frame_of, indexes_of}
 use Rattle.member_effects.specs.Kept.{Kept}
 use Rattle.member_effects.specs.Changes.{committed_after, drawn_after, undone_after, with_marks as kept_with}
 use Rattle.member_effects.specs.declared.told.Told.{Told}
@@ -214,7 +214,7 @@ undo_leads facts w g content forced h k d v o at out p place a told b lawful rec
         let answer : r.answer ≡ reply.Stale i = draws.0 ∙ ap (λ z. number_drawn z g.facility.counter) e in
         let so : v.facility ≡ g.facility = draws.1 ∙ ap (λ z. record g.facility { counter = counter_after z g.facility.counter }) e in
         let found = found_at _ (at ∷ []) i e in
-        stale_leads facts w g content forced h k d v i _ r.after.spare b (subst (λ z. HoldsPage h.marks z _) (only found.0 i found.1) lawful.holds) so drive (is (reply.Stale i) answer)
+        stale_leads facts w g content forced h k d v i (change_page lawful.newest.change) r.after.spare b (subst (λ z. HoldsPage h.marks z (change_page lawful.newest.change)) (only found.0 i found.1) lawful.holds) so drive (is (reply.Stale i) answer)
 
 -- ---- a commit
 pub commit_leads : Facts → (w : World) (g : Holdings) (content : ℕ → ℕ → List ℕ) (forced : ℕ → ℕ) (h k : Held) (d : Drive) (v : event.World) (slot : ℕ) (out : Sent) (p : Plan) (place : ℕ) (a : Answered) (told : Told)
