@@ -90,10 +90,10 @@ pub now_room : (w : World) (g : Holdings) (content : ℕ → ℕ → List ℕ) (
 now_room w g content forced h slot d b = now_with w g content forced h (with_change_room h slot) d b (up_room g forced h slot b.begins.up) refl refl refl
 
 -- ---- what is wanted is lawful still
-pub reads_on : (h : Held) (place at : ℕ) (out : Sent) (x : ReadsFrame h.marks at out) → ReadsFrame (begun h place).marks at out
+abbrev pub reads_on : (h : Held) (place at : ℕ) (out : Sent) (x : ReadsFrame h.marks at out) → ReadsFrame (begun h place).marks at out
 reads_on h place at out x = record { page = x.page; placed = x.placed; is = x.is }
 
-pub fills_on : (h : Held) (place at : ℕ) (out : Sent) (x : FillsFrame h.marks at out) → FillsFrame (begun h place).marks at out
+abbrev pub fills_on : (h : Held) (place at : ℕ) (out : Sent) (x : FillsFrame h.marks at out) → FillsFrame (begun h place).marks at out
 fills_on h place at out x = record { page = x.page; placed = x.placed; registered = x.registered; unfilled = x.unfilled; is = x.is }
 
 gives_on : (h : Held) (place : ℕ) (page : PageId) (slot : ℕ) (gives : Option ℕ) → MayGive h.marks page slot gives → MayGive (begun h place).marks page slot gives
@@ -103,7 +103,7 @@ gives_on h place page slot (Some table) x = record { forward = x.forward; header
 pub tests_on : (h : Held) (place at slot : ℕ) (gives : Option ℕ) (out : Sent) → TestsFrame h.marks at slot gives out → TestsFrame (begun h place).marks at slot gives out
 tests_on h place at slot gives out x = record { page = x.page; placed = x.placed; filled = x.filled; may = gives_on h place x.page slot gives x.may; is = x.is }
 
-pub writes_on : (h : Held) (place at : ℕ) (out : Sent) (x : WritesFrame h.marks h.pages at out) → WritesFrame (begun h place).marks h.pages at out
+abbrev pub writes_on : (h : Held) (place at : ℕ) (out : Sent) (x : WritesFrame h.marks h.pages at out) → WritesFrame (begun h place).marks h.pages at out
 writes_on h place at out x = record { page = x.page; placed = x.placed; changed = x.changed; stable = x.stable; first = x.first; is = x.is }
 
 pub frees_on : (h : Held) (place at : ℕ) (out : Sent) → FreesFrame h.marks at out → FreesFrame (begun h place).marks at out

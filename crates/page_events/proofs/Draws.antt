@@ -1,11 +1,12 @@
 -- Numbers that are drawn for log records, and draws that are refused.
 use Rattle.std.proofs.Common.{◌≡◌, ◌≢◌, ℕ, zero, suc, ◌+◌, ◌<◌, ◌≤◌, refl, sym, ◌∙◌, ap, subst, Bool, true, false, List, [], ◌∷◌, Option, Some, None, take, arith}
-use Rattle.std.specs.Prelude.{◌==◌, ◌&&◌, if◌then◌else◌, nat_lt, find, slice_get}
+use Rattle.std.specs.Prelude.{◌==◌, ◌&&◌, if◌then◌else◌, nat_lt, not, find, slice_get}
 use Rattle.std.proofs.lemmas.Bool.{and_parts, cond-false, cond-true, eqb-true, false_from_ne_true, lt-ltb, ne_eqb}
 use Rattle.std.proofs.lemmas.Option.{none-some, same_Some}
 use Rattle.ds_base.specs.declared.names.PageId.{PageId}
 use Rattle.ds_model.specs.declared.fate.Refusal.{Refusal}
 use Rattle.ds_model.specs.declared.fate.Refusal.TheVariants as refusal
+use Rattle.cache_structure.specs.Directory.{bit}
 use Rattle.cache_structure.specs.Sound.{IsSound}
 use Rattle.facility.specs.declared.command.Command.TheVariants as command
 use Rattle.facility.specs.declared.command.Indexes.{Indexes}
@@ -213,7 +214,7 @@ undo_leads facts w g content forced h k d v o at out p place a told b lawful rec
     by (Some i) e =
         let answer : r.answer ≡ reply.Stale i = draws.0 ∙ ap (λ z. number_drawn z g.facility.counter) e in
         let so : v.facility ≡ g.facility = draws.1 ∙ ap (λ z. record g.facility { counter = counter_after z g.facility.counter }) e in
-        let found = found_at _ (at ∷ []) i e in
+        let found = found_at (λ index. not (bit g.facility.directory h.marks.member index)) (at ∷ []) i e in
         stale_leads facts w g content forced h k d v i (change_page lawful.newest.change) r.after.spare b (subst (λ z. HoldsPage h.marks z (change_page lawful.newest.change)) (only found.0 i found.1) lawful.holds) so drive (is (reply.Stale i) answer)
 
 -- ---- a commit
