@@ -41,7 +41,7 @@ use Rattle.page_protocol.specs.Moves.{World}
 use Rattle.page_world.specs.Draws.{content_behind}
 use Rattle.page_world.specs.Holdings.{Holdings, KeepsPages}
 use Rattle.page_intents.specs.Stands.{behind, copy_of, Goes}
-use Rattle.page_intents.specs.Draws.{changes_in, drawn_behind, is_frame, new_bytes, touched_in}
+use Rattle.page_intents.specs.Draws.{IsPut, ShowNumber, changes_in, drawn_behind, is_frame, new_bytes, touched_in}
 use Rattle.page_intents.specs.Owners.{LeavesPages}
 use Rattle.page_events.specs.Beside.{Leads, SameOthers}
 use Rattle.page_events.specs.Events.{IsRecorded}
@@ -50,6 +50,7 @@ use Rattle.page_events.proofs.Made.{KeepsStandings, Now, Stays, behind_leads, ma
 use Rattle.page_events.proofs.Calls.{same_standings}
 use Rattle.page_events.proofs.Frames.{drive_on}
 use Rattle.page_events.proofs.Quiet.{keeps_itself}
+use Rattle.page_events.proofs.Recorded.{commit_put}
 
 -- ---- a number is drawn
 others_drawn : (g : Holdings) (f : Facility) (forced : ℕ → ℕ) (m : ℕ) (t : Kept) → KeepsStandings g.facility f → SameOthers g (drawn_behind g f m t) forced forced m
@@ -150,7 +151,7 @@ holds_stale s pages most slot a frames out f i lawful few e =
 
 -- ---- a change
 pub change_leads : Facts → (w : World) (g : Holdings) (content : ℕ → ℕ → List ℕ) (forced : ℕ → ℕ) (h k : Held) (d : Drive) (v : event.World) (slot : ℕ) (act : Action) (frames : Frames) (out : Sent) (p : Plan) (place : ℕ) (a : Answered) (told : Told)
-    → Now w g content forced h d → Changes h.marks h.pages h.limit slot act frames out → ((number : ℕ) → a ≡ answered.Reply (reply.Drawn number) → IsRecorded h (intent.Change slot act frames) p number place) → v.drive ≡ d
+    → Now w g content forced h d → Changes h.marks h.pages h.limit slot act frames out → ((number : ℕ) → a ≡ answered.Reply (reply.Drawn number) → IsPut h.marks slot p number × ShowNumber (drawn_after (kept_of h) slot frames p (reply.Drawn number) place) (changes_in p frames) number) → v.drive ≡ d
     → RunsCommand g.facility h (intent.Change slot act frames) (command.Draw (indexes_of frames)) p place a told v.facility k → Leads w v g content forced h k
 change_leads facts w g content forced h k d v slot act frames out p place a told b lawful recorded drive r = by (first_stale g.facility.directory h.marks.member (given (indexes_of frames))) refl
   where
@@ -218,10 +219,13 @@ undo_leads facts w g content forced h k d v o at out p place a told b lawful rec
         stale_leads facts w g content forced h k d v i (change_page lawful.newest.change) r.after.spare b (subst (λ z. HoldsPage h.marks z (change_page lawful.newest.change)) (only found.0 i found.1) lawful.holds) so drive (is (reply.Stale i) answer)
 
 -- ---- a commit
+above : (n : ℕ) → n + 1 ≢ 0
+above n e = omega (arith, e)
+
 pub commit_leads : Facts → (w : World) (g : Holdings) (content : ℕ → ℕ → List ℕ) (forced : ℕ → ℕ) (h k : Held) (d : Drive) (v : event.World) (slot : ℕ) (out : Sent) (p : Plan) (place : ℕ) (a : Answered) (told : Told)
-    → Now w g content forced h d → Commits h.marks slot out → ((number : ℕ) → a ≡ answered.Reply (reply.Drawn number) → IsRecorded h (intent.Commit slot) p number place) → v.drive ≡ d
+    → Now w g content forced h d → Commits h.marks slot out → v.drive ≡ d
     → RunsCommand g.facility h (intent.Commit slot) (command.Draw (record { count = 0; at = 0 ∷ 0 ∷ 0 ∷ [] })) p place a told v.facility k → Leads w v g content forced h k
-commit_leads facts w g content forced h k d v slot out p place a told b lawful recorded drive r = by (nat_lt g.facility.counter limit) refl
+commit_leads facts w g content forced h k d v slot out p place a told b lawful drive r = by (nat_lt g.facility.counter limit) refl
   where
     draws : DrawsNumber g.facility h.marks.member (record { count = 0; at = 0 ∷ 0 ∷ 0 ∷ [] }) r.answer v.facility
     draws = r.gives.executed.executes.0
@@ -237,7 +241,7 @@ commit_leads facts w g content forced h k d v slot out p place a told b lawful r
         let so : v.facility ≡ record g.facility { counter = number } = draws.1 ∙ ap (λ z. record g.facility { counter = z }) (cond-true (nat_lt g.facility.counter limit) number g.facility.counter l) in
         let t = kept_with (kept_of h) (committed_after h.marks slot (reply.Drawn number) place) in
         drawn_leads facts w g content content forced h k d v t r.after.spare b
-        (facts.commit w g content forced (kept_of h) slot number place out v.facility b.begins lawful (recorded number (r.is ∙ ap answered.Reply answer)) (subst (λ z. DrawsNumber g.facility h.marks.member (record { count = 0; at = 0 ∷ 0 ∷ 0 ∷ [] }) z v.facility) answer draws))
+        (facts.commit w g content forced (kept_of h) slot number place out v.facility b.begins lawful (commit_put h.marks slot number out lawful (above g.facility.counter)) (subst (λ z. DrawsNumber g.facility h.marks.member (record { count = 0; at = 0 ∷ 0 ∷ 0 ∷ [] }) z v.facility) answer draws))
         so drive (is (reply.Drawn number) answer) (λ n i l. refl)
     by false l =
         let answer : r.answer ≡ reply.LrsnEnd g.facility.counter = draws.0 ∙ cond-false (nat_lt g.facility.counter limit) (reply.Drawn (g.facility.counter + 1)) (reply.LrsnEnd g.facility.counter) l in

@@ -50,6 +50,7 @@ use Rattle.page_events.proofs.Draws.{change_leads, commit_leads, undo_leads}
 use Rattle.page_events.proofs.Locks.{answered_leaves, cycle_leaves, grant_leads, leaves_itself, lose_leads, obtain_leads, quiet_leads, release_leads, stays_as}
 use Rattle.page_events.proofs.Begun.{appends_on, changes_on, claims_on, commits_on, fills_on, frees_on, now_begun, now_room, now_spare, reads_on, tests_on, undoes_on, writes_on}
 use Rattle.page_events.proofs.Quiet.{keeps_itself}
+use Rattle.page_events.proofs.Recorded.{change_put}
 
 -- ---- what is sent passed its tests
 abbrev sent_in : Result Prepared Test → Result Sent Test
@@ -60,6 +61,15 @@ needs_sent : (x : Result Sent Test) (y : Result Plan Test) (s : Sent) (p : Plan)
 needs_sent (Err test) y s p e = absurd cc
 needs_sent (Ok t) (Err test) s p e = absurd cc
 needs_sent (Ok t) (Ok q) s p e = ap sent_in e
+
+abbrev plan_in : Result Prepared Test → Result Plan Test
+plan_in (Ok x) = Ok x.plan
+plan_in (Err test) = Err test
+
+needs_plan : (x : Result Sent Test) (y : Result Plan Test) (s : Sent) (p : Plan) → needed x y ≡ Ok (record { sent = s; plan = p }) → y ≡ Ok p
+needs_plan (Err test) y s p e = absurd cc
+needs_plan (Ok t) (Err test) s p e = absurd cc
+needs_plan (Ok t) (Ok q) s p e = ap plan_in e
 
 -- ---- the member as the event finds it
 rebased : (w : World) (v : event.World) (g : Holdings) (content : ℕ → ℕ → List ℕ) (forced : ℕ → ℕ) (h now k : Held) → now.marks.member ≡ h.marks.member → Leads w v g content forced now k → Leads w v g content forced h k
@@ -189,97 +199,98 @@ module _ (facts : Facts) (w : World) (g : Holdings) (content : ℕ → ℕ → L
       back (cast_over facts w g content forced now k d v hand intent.CastoutDone p place a told here lawful.taken (may_end now g.facility hand lawful.taken lawful.ends) q.1 q.0 q.0.settles.1)
 
   -- ---- any intent
-  run_leads : (i : Intent) → Lawful h.marks h.pages (setting_of h (holder_in g.facility h.cast) place) i s → Reserves i h ready → Supplied g h ready i p place a → Runs u (begun ready place) i s p place a told v k → Leads w v g content forced h k
-  run_leads intent.Step lawful e sup x = step_goes lawful e x
-  run_leads (intent.Obtain o n m) lawful e sup x =
+  run_leads : (i : Intent) → intent_plan h.marks h.pages h.limit i ≡ Ok p → Lawful h.marks h.pages (setting_of h (holder_in g.facility h.cast) place) i s → Reserves i h ready → Supplied g h ready i p place a → Runs u (begun ready place) i s p place a told v k → Leads w v g content forced h k
+  run_leads intent.Step planned lawful e sup x = step_goes lawful e x
+  run_leads (intent.Obtain o n m) planned lawful e sup x =
       let spare = ready.marks.locks.spare in
       let q = ran u v (with_spare h spare) ready k (intent.Obtain o n m) s (sent.Command (command.Obtain n m)) p place a told e.2 lawful.is x in
       let start = now_begun w g content forced (with_spare h spare) place d (now_spare w g content forced h spare d b) in
       rebased w v g content forced h (begun (with_spare h spare) place) k refl
       (obtain_leads facts w g content forced (begun (with_spare h spare) place) k d v start q.1 o n m p place a told (claims_on h spare place o n m lawful.lawful) sup.free q.0)
-  run_leads (intent.Grant o n m) lawful e sup x =
+  run_leads (intent.Grant o n m) planned lawful e sup x =
       let spare = ready.marks.locks.spare in
       let q = ran u v (with_spare h spare) ready k (intent.Grant o n m) s (sent.Command (command.Grant (cell_slot o n) n m)) p place a told e.2 lawful.is x in
       let start = now_begun w g content forced (with_spare h spare) place d (now_spare w g content forced h spare d b) in
       rebased w v g content forced h (begun (with_spare h spare) place) k refl
       (grant_leads facts w g content forced (begun (with_spare h spare) place) k d v start q.1 o n m p place a told (claims_on h spare place o n m lawful.lawful) sup.free q.0)
-  run_leads (intent.Ask o to n m) lawful e sup x =
+  run_leads (intent.Ask o to n m) planned lawful e sup x =
       let q = ran u v h ready k (intent.Ask o to n m) s (sent.Command (command.Ask (cell_slot o n) to n m)) p place a told e lawful x in
       quiet_goes (intent.Ask o to n m) (command.Ask (cell_slot o n) to n m) refl q.0 q.1 q.0.settles.1 q.0.gives.executed.back
-  run_leads (intent.Answers o n m asked) lawful e sup x = answers_go o n m asked lawful e x
-  run_leads (intent.Status member) lawful e sup x =
+  run_leads (intent.Answers o n m asked) planned lawful e sup x = answers_go o n m asked lawful e x
+  run_leads (intent.Status member) planned lawful e sup x =
       let q = ran u v h ready k (intent.Status member) s (sent.Command (command.Status member)) p place a told e lawful x in
       quiet_goes (intent.Status member) (command.Status member) refl q.0 q.1 q.0.settles.1 q.0.gives.executed.back
-  run_leads (intent.Take past) lawful e sup x =
+  run_leads (intent.Take past) planned lawful e sup x =
       let q = ran u v h ready k (intent.Take past) s (sent.Command (command.Take past)) p place a told e lawful x in
       quiet_goes (intent.Take past) (command.Take past) refl q.0 q.1 q.0.settles.1 q.0.gives.executed.back
-  run_leads (intent.Answer asker n m) lawful e sup x =
+  run_leads (intent.Answer asker n m) planned lawful e sup x =
       let q = ran u v h ready k (intent.Answer asker n m) s (sent.Command (command.Answer asker n m (answer_to h.marks n m) place)) p place a told e lawful.is x in
       quiet_goes (intent.Answer asker n m) (command.Answer asker n m (answer_to h.marks n m) place) refl q.0 q.1 q.0.settles.1 q.0.gives.executed.back
-  run_leads (intent.ReleaseLock o) lawful e sup x = release_goes o lawful e x
-  run_leads (intent.ReleasePage page) lawful e sup x =
+  run_leads (intent.ReleaseLock o) planned lawful e sup x = release_goes o lawful e x
+  run_leads (intent.ReleasePage page) planned lawful e sup x =
       let q = ran u v h ready k (intent.ReleasePage page) s (sent.Command (command.Release lawful.told.0 lawful.told.1)) p place a told e lawful.is x in
       back (release_leads facts w g content forced now k d v here q.1 page s p place a told sup.distinct (record { told = lawful.told; next = lawful.next; unchanged = lawful.unchanged; is = lawful.is }) q.0)
-  run_leads (intent.Purge n) lawful e sup x = purge_goes n lawful e x
-  run_leads (intent.End o) lawful e sup x = end_goes o lawful e x
-  run_leads (intent.Wait slot holder flag) lawful e sup x =
+  run_leads (intent.Purge n) planned lawful e sup x = purge_goes n lawful e x
+  run_leads (intent.End o) planned lawful e sup x = end_goes o lawful e x
+  run_leads (intent.Wait slot holder flag) planned lawful e sup x =
       let q = ran u v h ready k (intent.Wait slot holder flag) s (sent.Command (command.Wait (slot_id h.marks slot) holder flag)) p place a told e lawful.is x in
       quiet_goes (intent.Wait slot holder flag) (command.Wait (slot_id h.marks slot) holder flag) refl q.0 q.1 q.0.settles.1 q.0.gives.executed.back
-  run_leads (intent.Unwait slot) lawful e sup x =
+  run_leads (intent.Unwait slot) planned lawful e sup x =
       let q = ran u v h ready k (intent.Unwait slot) s (sent.Command (command.Unwait (slot_id h.marks slot))) p place a told e lawful.is x in
       quiet_goes (intent.Unwait slot) (command.Unwait (slot_id h.marks slot)) refl q.0 q.1 q.0.settles.1 q.0.gives.executed.back
-  run_leads (intent.Waits slots) lawful e sup x = waits_go slots lawful e x
-  run_leads (intent.Flag flag) lawful e sup x =
+  run_leads (intent.Waits slots) planned lawful e sup x = waits_go slots lawful e x
+  run_leads (intent.Flag flag) planned lawful e sup x =
       let q = ran u v h ready k (intent.Flag flag) s (sent.Command (command.Flag flag)) p place a told e lawful x in
       quiet_goes (intent.Flag flag) (command.Flag flag) refl q.0 q.1 q.0.settles.1 q.0.gives.executed.back
-  run_leads (intent.Raise flag) lawful e sup x =
+  run_leads (intent.Raise flag) planned lawful e sup x =
       let q = ran u v h ready k (intent.Raise flag) s (sent.Command (command.Raise flag)) p place a told e lawful x in
       quiet_goes (intent.Raise flag) (command.Raise flag) refl q.0 q.1 q.0.settles.1 q.0.gives.executed.back
-  run_leads intent.LoseCache lawful e sup x =
+  run_leads intent.LoseCache planned lawful e sup x =
       let q = ran u v h ready k intent.LoseCache s (sent.Command command.Lose) p place a told e lawful x in
       back (lose_leads facts w g content forced now k d v here q.1 p place a told q.0)
-  run_leads (intent.Read at) lawful e sup x =
+  run_leads (intent.Read at) planned lawful e sup x =
       let q = ran u v h ready k (intent.Read at) s (sent.Command (command.Read lawful.page at)) p place a told e lawful.is x in
       back (read_leads facts w g content forced now k d v at s p place a told here (reads_on h place at s lawful) q.1 q.0)
-  run_leads (intent.ReadPage at) lawful e sup x =
+  run_leads (intent.ReadPage at) planned lawful e sup x =
       let q = ran u v h ready k (intent.ReadPage at) s (sent.ReadPage lawful.page) p place a told e lawful.is x in
       back (fill_leads facts w g content forced now k d v at s a told here (fills_on h place at s lawful) sup.works q.1 q.0)
-  run_leads (intent.Test at slot gives) lawful e sup x =
+  run_leads (intent.Test at slot gives) planned lawful e sup x =
       let q = ran u v h ready k (intent.Test at slot gives) s (sent.Command (command.Test at)) p place a told e lawful.is x in
       back (test_leads facts w g content forced now k d v at slot gives s p place a told here (tests_on h place at slot gives s lawful) q.1 q.0)
-  run_leads (intent.WritePage at) lawful e sup x =
+  run_leads (intent.WritePage at) planned lawful e sup x =
       let q = ran u v h ready k (intent.WritePage at) s (sent.Command (command.Write lawful.page at)) p place a told e lawful.is x in
       back (write_leads facts w g content forced now k d v at s p place a told here (writes_on h place at s lawful) q.1 q.0)
-  run_leads (intent.Unregister at) lawful e sup x =
+  run_leads (intent.Unregister at) planned lawful e sup x =
       let q = ran u v h ready k (intent.Unregister at) s (sent.Command (command.Unregister at)) p place a told e lawful.is x in
       back (free_leads facts w g content forced now k d v at s p place a told here (frees_on h place at s lawful) q.1 q.0)
-  run_leads (intent.Change slot action frames) lawful e sup x =
+  run_leads (intent.Change slot action frames) planned lawful e sup x =
       let room = with_change_room h slot in
       let q = ran u v room ready k (intent.Change slot action frames) s (sent.Command (command.Draw (indexes_of frames))) p place a told e lawful.is x in
       let start = now_begun w g content forced room place d (now_room w g content forced h slot d b) in
       rebased w v g content forced h (begun room place) k refl
       (change_leads facts w g content forced (begun room place) k d v slot action frames s p place a told start (changes_on h place h.limit slot action frames s lawful)
-      (λ number y. subst (λ z. IsRecorded (begun z place) (intent.Change slot action frames) p number place) e (sup.recorded number y)) q.1 q.0)
-  run_leads (intent.Undo o at) lawful e sup x =
+      (λ number y.
+      let known = subst (λ z. IsRecorded (begun z place) (intent.Change slot action frames) p number place) e (sup.recorded number y) in
+      (change_put h.marks (begun room place).marks h.pages h.limit slot number action frames p refl planned known.0, known.1)) q.1 q.0)
+  run_leads (intent.Undo o at) planned lawful e sup x =
       let q = ran u v h ready k (intent.Undo o at) s (sent.Command (command.DrawUndo (record { count = 1; at = at ∷ 0 ∷ 0 ∷ [] }))) p place a told e lawful.is x in
       back (undo_leads facts w g content forced now k d v o at s p place a told here (undoes_on h place o at s lawful)
       (λ number y. subst (λ z. IsRecorded (begun z place) (intent.Undo o at) p number place) e (sup.recorded number y)) q.1 q.0)
-  run_leads (intent.Commit slot) lawful e sup x =
+  run_leads (intent.Commit slot) planned lawful e sup x =
       let q = ran u v h ready k (intent.Commit slot) s (sent.Command (command.Draw (record { count = 0; at = 0 ∷ 0 ∷ 0 ∷ [] }))) p place a told e lawful.is x in
-      back (commit_leads facts w g content forced now k d v slot s p place a told here (commits_on h place slot s lawful)
-      (λ number y. subst (λ z. IsRecorded (begun z place) (intent.Commit slot) p number place) e (sup.recorded number y)) q.1 q.0)
-  run_leads intent.Append lawful e sup x =
+      back (commit_leads facts w g content forced now k d v slot s p place a told here (commits_on h place slot s lawful) q.1 q.0)
+  run_leads intent.Append planned lawful e sup x =
       let q = ran u v h ready k intent.Append s sent.AppendLog p place a told e lawful.is x in
       back (append_leads facts w g content forced now k d v s a told here (appends_on h place s lawful) sup.works q.1 q.0)
-  run_leads (intent.NextChanged past) lawful e sup x =
+  run_leads (intent.NextChanged past) planned lawful e sup x =
       let q = ran u v h ready k (intent.NextChanged past) s (sent.Command (command.NextChanged past)) p place a told e lawful x in
       quiet_goes (intent.NextChanged past) (command.NextChanged past) refl q.0 q.1 q.0.settles.1 q.0.gives.executed.back
-  run_leads (intent.CastoutRead page) lawful e sup x =
+  run_leads (intent.CastoutRead page) planned lawful e sup x =
       let q = ran u v h ready k (intent.CastoutRead page) s (sent.Command (command.CastoutRead page)) p place a told e lawful x in
       back (cast_read_leads facts w g content forced now k d v page p place a told here q.1 q.0)
-  run_leads intent.CastoutWrite lawful e sup x = cast_write_goes lawful sup.works e x
-  run_leads intent.CastoutDone lawful e sup x = cast_done_goes lawful e x
-  run_leads intent.PhaseDone lawful e sup x =
+  run_leads intent.CastoutWrite planned lawful e sup x = cast_write_goes lawful sup.works e x
+  run_leads intent.CastoutDone planned lawful e sup x = cast_done_goes lawful e x
+  run_leads intent.PhaseDone planned lawful e sup x =
       let q = ran u v h ready k intent.PhaseDone s (sent.Command command.PhaseDone) p place a told e lawful x in
       quiet_goes intent.PhaseDone command.PhaseDone refl q.0 q.1 q.0.settles.1 q.0.gives.executed.back
 
@@ -288,12 +299,13 @@ pub events_go : Facts → EventGoes
 events_go facts w u v g content forced h k i place s a b happens sup =
     let now : Now w g content forced h u.drive = record { begins = b.begins; drive = b.drive; cast = b.cast } in
     let sent = needs_sent (need_of h.marks h.pages (setting_of h (holder_in u.facility h.cast) place) i) (intent_plan h.marks h.pages h.limit i) s happens.plan happens.lawful in
+    let planned = needs_plan (need_of h.marks h.pages (setting_of h (holder_in u.facility h.cast) place) i) (intent_plan h.marks h.pages h.limit i) s happens.plan happens.lawful in
     let may : Lawful h.marks h.pages (setting_of h (holder_in g.facility h.cast) place) i s =
     subst (λ f. Lawful h.marks h.pages (setting_of h (holder_in f h.cast) place) i s) (sym b.facility) (facts.lawful h.marks h.pages (setting_of h (holder_in u.facility h.cast) place) i s sent) in
     let runs : Runs (there g u.drive) (begun happens.ready place) i s happens.plan place a happens.said v happens.after =
     subst (λ f. Runs (record { facility = f; drive = u.drive }) (begun happens.ready place) i s happens.plan place a happens.said v happens.after) (sym b.facility) happens.runs in
     ended facts w v g content forced h happens.after k
-    (run_leads facts w g content forced h happens.ready happens.after u.drive v s happens.plan place a happens.said now i may happens.reserves sup runs) happens.ends.0 happens.ends.1
+    (run_leads facts w g content forced h happens.ready happens.after u.drive v s happens.plan place a happens.said now i planned may happens.reserves sup runs) happens.ends.0 happens.ends.1
 
 pub told_goes : Facts → ToldGoes
 told_goes facts w u g content forced h k place b ends =

@@ -4,6 +4,7 @@ pub mod Made
 pub mod Calls
 pub mod Frames
 pub mod Castouts
+pub mod Recorded
 pub mod Draws
 pub mod Locks
 pub mod Begun
