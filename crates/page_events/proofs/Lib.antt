@@ -1,0 +1,11 @@
+pub mod Facts
+pub mod Quiet
+pub mod Made
+pub mod Calls
+pub mod Frames
+pub mod Castouts
+pub mod Recorded
+pub mod Draws
+pub mod Locks
+pub mod Begun
+pub mod Events

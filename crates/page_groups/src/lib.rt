@@ -1,0 +1,40 @@
+//! The events of the members of a group, as moves in the world of pages: of those that are up, whatever their policies, and their
+//! failures. What a group does between, as a restart or a rebuild, isn't among them.
+//!
+//! The crate has definitions and proofs alone. Its functions do nothing: their contracts are the theorems.
+#![tactic(auto)]
+
+ghost use Rattle.page_groups.specs.Groups.{GroupsStart, MembersFail, MembersGo, ToldGo};
+
+use cache_structure::keeps_entries_apart;
+use page_events::{events_go, others_stay_up};
+use page_members::failures_go;
+use page_protocol::coherent_pages;
+use page_world::groups_begin;
+
+/// Where a group stands beside its good world of pages, any event of any of its members that is up is moves, behind which it stands
+/// beside a good world again, with all that are up. So is what a member is told of its restart or its rebuild.
+pub fn members_go()
+    ensures event { MembersGo }
+    ensures told { ToldGo }
+{
+    events_go();
+    others_stay_up();
+}
+
+/// So is the failure of any member.
+pub fn members_fail()
+    ensures { MembersFail }
+{
+    failures_go();
+    others_stay_up();
+}
+
+/// A group as it was made, over a disk without logs, stands beside the start of the world.
+pub fn groups_start()
+    ensures { GroupsStart }
+{
+    groups_begin();
+    coherent_pages();
+    keeps_entries_apart();
+}
