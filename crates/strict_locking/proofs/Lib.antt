@@ -1,0 +1,5 @@
+pub mod Keeping
+pub mod Taking
+pub mod Leaving
+pub mod Moving
+pub mod Events
