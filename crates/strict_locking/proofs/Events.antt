@@ -89,7 +89,7 @@ releasing_new h place (owner.Rollback id) x e = e
 from_new : (h : Held) (place : ℕ) (t : MarksState) → KeepsOpen (new h place) t → KeepsOpen h.marks t
 from_new h place t k = record {
   book = k.book;
-  rows = λ id spot ne l open. k.rows id spot ne (record { by = l.by; taken = taken_new h place l.by l.taken; named = named_new h place l.by id l.named; space = l.space; row = l.row }) (over_new h place l.by false open);
+  rows = λ id spot ne l going. k.rows id spot ne (record { by = l.by; taken = taken_new h place l.by l.taken; named = named_new h place l.by id l.named; space = l.space; row = l.row }) (over_new h place l.by false going);
 }
 
 -- what is settled is settled of the marks that the reply found
@@ -199,11 +199,11 @@ run_keeps facts w v h ready k c intent.CastoutDone s p place a told book lawful 
 run_keeps facts w v h ready k c intent.PhaseDone s p place a told book lawful e r = quiet_run facts w v h ready k intent.PhaseDone s p place a told book refl e r
 
 -- what is sent passed its tests
-abbrev sent_in : Result Prepared Test → Result Sent Test
+abbrev pub sent_in : Result Prepared Test → Result Sent Test
 sent_in (Ok x) = Ok x.sent
 sent_in (Err test) = Err test
 
-needs_sent : (x : Result Sent Test) (y : Result Plan Test) (s : Sent) (p : Plan) → needed x y ≡ Ok (record { sent = s; plan = p }) → x ≡ Ok s
+pub needs_sent : (x : Result Sent Test) (y : Result Plan Test) (s : Sent) (p : Plan) → needed x y ≡ Ok (record { sent = s; plan = p }) → x ≡ Ok s
 needs_sent (Err test) y s p e = absurd cc
 needs_sent (Ok t) (Err test) s p e = absurd cc
 needs_sent (Ok t) (Ok q) s p e = ap sent_in e

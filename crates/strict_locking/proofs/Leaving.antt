@@ -83,18 +83,18 @@ agent_within : (s : MarksState) (slot : ℕ) → is_agent s slot ≡ true → sl
 agent_within s slot a = leb-true slot (agents_of s) (and_parts (nat_lt 0 slot) (nat_le slot (agents_of s)) a).1
 
 apart : (s : MarksState) (o p : Owner) → s.locks.agents ≤ 16 → IsOwner s o → (IsTaken s o → is_over s o ≡ true) → IsTaken s p → is_over s p ≡ false → number_of p ≢ number_of o
-apart s (owner.Slot a) (owner.Slot b) few own over taken open e =
-    both_ways (is_over s (owner.Slot a)) (subst (λ z. is_over s (owner.Slot z) ≡ false) e open) (over (subst (λ z. IsTaken s (owner.Slot z)) e taken))
-apart s (owner.Slot a) (owner.Rollback b) few own over taken open e = slot_apart a b s.locks.agents (agent_within s a own) few (sym e)
-apart s (owner.Rollback a) (owner.Slot b) few own over taken open e = slot_apart b a s.locks.agents (agent_within s b taken.0) few e
-apart s (owner.Rollback a) (owner.Rollback b) few own over taken open e =
+apart s (owner.Slot a) (owner.Slot b) few own over taken going e =
+    both_ways (is_over s (owner.Slot a)) (subst (λ z. is_over s (owner.Slot z) ≡ false) e going) (over (subst (λ z. IsTaken s (owner.Slot z)) e taken))
+apart s (owner.Slot a) (owner.Rollback b) few own over taken going e = slot_apart a b s.locks.agents (agent_within s a own) few (sym e)
+apart s (owner.Rollback a) (owner.Slot b) few own over taken going e = slot_apart b a s.locks.agents (agent_within s b taken.0) few e
+apart s (owner.Rollback a) (owner.Rollback b) few own over taken going e =
     let same : b ≡ a = omega (arith, e) in
-    both_ways (is_over s (owner.Rollback a)) (subst (λ z. is_over s (owner.Rollback z) ≡ false) same open) (over (subst (λ z. IsTaken s (owner.Rollback z)) same taken))
+    both_ways (is_over s (owner.Rollback a)) (subst (λ z. is_over s (owner.Rollback z) ≡ false) same going) (over (subst (λ z. IsTaken s (owner.Rollback z)) same taken))
 
 keeps_others : (s t : MarksState) (o : Owner) → IsBook s.locks → IsOwner s o → (IsTaken s o → is_over s o ≡ true) → Leaves s t (number_of o) → KeepsOpen s t
 keeps_others s t o book own over leaves = record {
   book = leaves.book;
-  rows = λ id spot ne l open. locked_other s t (number_of o) leaves id spot ne l.by (apart s o l.by book.few own over l.taken open) l.taken l.named l.space l.row;
+  rows = λ id spot ne l going. locked_other s t (number_of o) leaves id spot ne l.by (apart s o l.by book.few own over l.taken going) l.taken l.named l.space l.row;
 }
 
 -- ---- a lock is given up

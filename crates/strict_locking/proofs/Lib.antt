@@ -3,3 +3,4 @@ pub mod Taking
 pub mod Leaving
 pub mod Moving
 pub mod Events
+pub mod Changing

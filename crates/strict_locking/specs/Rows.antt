@@ -1,7 +1,9 @@
 -- The rows that a transaction of a member has locked, to change them.
-use Rattle.std.specs.Prelude.{◌≡◌, ℕ, Bool, true}
+use Rattle.std.specs.Prelude.{◌≡◌, ℕ, Bool, true, Option, Some, None}
 use Rattle.ds_model.specs.Rows.{Spot}
 use Rattle.lock_names.specs.declared.mode.Mode.TheVariants.{IX, X}
+use Rattle.page_plans.specs.declared.action.Action.{Action}
+use Rattle.page_plans.specs.declared.action.Action.TheVariants as action
 use Rattle.member_trans.specs.declared.fate.Owner.{Owner}
 use Rattle.member_trans.specs.declared.fate.Owner.TheVariants as owner
 use Rattle.member_trans.specs.Trans.{is_over_at, is_undoing}
@@ -38,3 +40,12 @@ pub record HasLocked (s : MarksState) (id : ℕ) (spot : Spot) : Type 0 where
 -- the owner's transaction is decided, or taken back with its last record on disk
 abbrev pub is_over : MarksState → Owner → Bool
 is_over s o = is_over_at (tran_of s o) s.log.stable
+
+-- the row for which pages are changed by the action, if it is for one
+abbrev pub row_for : Action → Option Spot
+row_for (action.RowChange table key place value) = Some (table, key)
+row_for (action.GiveSlot table key leaf) = Some (table, key)
+row_for (action.FormatIndex table) = None
+row_for (action.FormatHeap table) = None
+row_for (action.Split table left) = None
+row_for (action.BranchEntry table branch low child) = None
