@@ -134,10 +134,13 @@ module _ {C D P : Type 0} (directory : C → Directory) (alive : D → Bool) (co
       → Reached (crew_state directory old.crew) → StaysSafe HandsNoneOver directory alive contents count old events new runs
   stays agree law [] old new runs here =
       is_safe agree (crew_state directory new.crew) (subst (λ (z : CrewState). Reached z) (sym (looked_state old new runs)) here)
-  stays agree law (event ∷ events) old new runs here = (is_safe agree (crew_state directory old.crew) here, λ lawful none.
-      let first = runs.1 in
-      stays agree law events runs.0 new runs.2
-          (event_goes law first.mid runs.0 event first.takes lawful (found_in (crew_state directory old.crew) (crew_state directory first.mid.crew) (crew_state directory runs.0.crew) (looked_state old first.mid first.looked) none here)))
+  stays agree law (event ∷ events) old new runs here = (
+    is_safe agree (crew_state directory old.crew) here,
+    λ lawful none.
+        let first = runs.1 in
+        stays agree law events runs.0 new runs.2
+        (event_goes law first.mid runs.0 event first.takes lawful (found_in (crew_state directory old.crew) (crew_state directory first.mid.crew) (crew_state directory runs.0.crew) (looked_state old first.mid first.looked) none here)),
+  )
 
 pub record Facts : Type 0 where
   pub start : StartsTied

@@ -1,5 +1,5 @@
 -- What a log record leaves of the slots.
-use Rattle.std.proofs.Common.{◌≡◌, ℕ, refl, ◌∙◌, subst, true, false, inl, inr, Bool, List, [], ◌∷◌, Option, Some, None}
+use Rattle.std.proofs.Common.{◌≡◌, ℕ, refl, true, false, inl, inr, Bool, List, [], ◌∷◌, Option, Some, None}
 use Rattle.std.specs.Prelude.{◌≢◌, ◌⊎◌, ◌-◌, ◌==◌, ◌++◌, if◌then◌else◌, length, slice_set, take}
 use Rattle.std.proofs.lemmas.Bool.{cond_both, eqb-true}
 use Rattle.ds_base.specs.Pages.{heap_set}
@@ -10,7 +10,6 @@ use Rattle.member_log.specs.Buffers.{after_put, after_force}
 use Rattle.member_trans.specs.declared.fate.Change.{Change}
 use Rattle.member_trans.specs.declared.fate.Owner.{Owner}
 use Rattle.member_trans.specs.declared.fate.Owner.TheVariants as owner
-use Rattle.member_trans.specs.declared.fate.Stage.{Stage}
 use Rattle.member_trans.specs.Lists.{pushed}
 use Rattle.member_trans.specs.Trans.{TransState, TranState, tran_of as tran_in, tran_at, with_tran, with_tran_of, with_set, changed, drawn, first_with, with_undone, newest_of, is_empty, is_forward, after_draw, after_decide}
 use Rattle.member_marks.specs.State.{MarksState, tran_of, slot_tran}

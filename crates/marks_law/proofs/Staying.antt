@@ -1,6 +1,6 @@
 -- Transactions that stay, as a change of a slot or of a rollback leaves them.
-use Rattle.std.proofs.Common.{◌≡◌, ℕ, zero, suc, ◌+◌, refl, sym, ◌∙◌, ap, subst, inl, inr, Bool, true, false, List, [], ◌∷◌, Option, Some, None}
-use Rattle.std.specs.Prelude.{◌⊎◌, ◌==◌, if◌then◌else◌, is_some, slice_index_or, slice_set}
+use Rattle.std.proofs.Common.{◌≡◌, ℕ, zero, suc, refl, sym, ◌∙◌, subst, inl, inr, true, List, [], ◌∷◌, Option, Some, None}
+use Rattle.std.specs.Prelude.{◌⊎◌, slice_index_or, slice_set}
 use Rattle.member_trans.specs.declared.fate.Owner.{Owner}
 use Rattle.member_trans.specs.declared.fate.Owner.TheVariants as owner
 use Rattle.member_trans.specs.declared.fate.Stage.{Stage}

@@ -1,6 +1,6 @@
 -- Rows for which pages are changed.
-use Rattle.std.proofs.Common.{◌≡◌, ℕ, ◌<◌, refl, sym, ◌∙◌, ap, subst, Bool, true, false, Option, Some, None}
-use Rattle.std.specs.Prelude.{◌≢◌, ◌&&◌, nat_le, nat_lt, if◌then◌else◌, IfSome}
+use Rattle.std.proofs.Common.{◌≡◌, ℕ, refl, sym, ◌∙◌, subst, true, false, Option, Some, None}
+use Rattle.std.specs.Prelude.{◌&&◌, nat_le, nat_lt, IfSome}
 use Rattle.std.proofs.lemmas.Bool.{and_parts, cond-true}
 use Rattle.ds_model.specs.Rows.{Spot}
 use Rattle.ds_model.specs.declared.lock.Name.{Name}
@@ -23,7 +23,7 @@ use Rattle.member_needs.specs.Records.{allows_row, allows_space}
 use Rattle.member_needs.specs.declared.needs.Setting.{Setting}
 use Rattle.member_intents.specs.declared.intent.Intent.TheVariants as intent
 use Rattle.needs_law.specs.Lawful.{Lawful, MayChange, MayChangeRow}
-use Rattle.member_resources.specs.Events.{Happens, holder_in}
+use Rattle.member_resources.specs.Events.{holder_in}
 use Rattle.member_resources.specs.Prepared.{setting_of}
 use Rattle.marks_law.specs.Slots.{SlotsTell}
 use Rattle.marks_law.specs.Transactions.{MarksStay, has_tran}

@@ -1,5 +1,5 @@
 -- Any event of a member, by its intent: what is run and settled, and then the policy's local moves.
-use Rattle.std.proofs.Common.{◌≡◌, ℕ, refl, sym, ◌∙◌, ap, subst, Bool, true, false, Option, Some, None, Result, Ok, Err}
+use Rattle.std.proofs.Common.{◌≡◌, ℕ, refl, ◌∙◌, ap, subst, Bool, true, false, Option, Some, Result, Ok, Err}
 use Rattle.std.specs.Prelude.{◌==◌, if◌then◌else◌}
 use Rattle.ds_base.specs.declared.names.PageId.{PageId}
 use Rattle.ds_model.specs.declared.lock.Name.{Name}
@@ -15,7 +15,7 @@ use Rattle.member_intents.specs.declared.outcome.Sent.TheVariants as sent
 use Rattle.member_intents.specs.declared.test.Test.{Test}
 use Rattle.member_trans.specs.declared.fate.Owner.{Owner}
 use Rattle.member_trans.specs.declared.fate.Owner.TheVariants as owner
-use Rattle.member_trans.specs.Trans.{is_over_at, was_postponed}
+use Rattle.member_trans.specs.Trans.{was_postponed}
 use Rattle.member_marks.specs.State.{MarksState, id_of, tran_of}
 use Rattle.member_marks.specs.Claims.{after_end_of, releasing}
 use Rattle.member_needs.specs.Closing.{end_sent}
@@ -28,7 +28,7 @@ use Rattle.member_effects.specs.Claims.{Claims as SettlesClaims}
 use Rattle.member_effects.specs.Closing.{ended_after, page_released_after, released_after}
 use Rattle.needs_law.specs.Lawful.{Lawful, MayEnd, SendsLawfully}
 use Rattle.member_resources.specs.declared.prepared.Prepared.{Prepared}
-use Rattle.member_resources.specs.Events.{Happens, Runs, World, holder_in}
+use Rattle.member_resources.specs.Events.{Runs, World, holder_in}
 use Rattle.member_resources.specs.Held.{Held, begun, with_marks, with_spare}
 use Rattle.member_resources.specs.Prepared.{Reserves, needed, setting_of}
 use Rattle.marks_law.specs.Claims.{changes_claims}
@@ -36,7 +36,7 @@ use Rattle.marks_law.specs.Transactions.{EventsStay}
 use Rattle.marks_law.proofs.Staying.{stay_same}
 use Rattle.lock_world.specs.Books.{IsBook}
 use Rattle.strict_locking.specs.Keeping.{EventsKeep, KeepsAll, KeepsOpen, MovesKeep}
-use Rattle.strict_locking.specs.Rows.{HasLocked, IsTaken, is_over, name_of}
+use Rattle.strict_locking.specs.Rows.{IsTaken, is_over, name_of}
 use Rattle.strict_locking.proofs.Keeping.{all_locks, all_on, keeps_all, open_all, open_as, open_on}
 use Rattle.strict_locking.proofs.Leaving as leaving
 use Rattle.strict_locking.proofs.Leaving.{all_page_released, may_end, open_ended, open_released, open_unsent}

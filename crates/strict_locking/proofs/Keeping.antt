@@ -11,13 +11,12 @@ use Rattle.member_trans.specs.declared.fate.Owner.TheVariants as owner
 use Rattle.member_trans.specs.Trans.{TransState}
 use Rattle.member_marks.specs.State.{MarksState, slot_tran, with_trans}
 use Rattle.marks_law.specs.Transactions.{TransStay}
-
 use Rattle.lock_protocol.specs.Machine.{Covers}
 use Rattle.lock_world.specs.Books.{IsBook}
 use Rattle.lock_world.specs.Rollbacks.{row_of, space_of}
 use Rattle.lock_world.specs.Views.{claim_in, rollback_owner}
 use Rattle.strict_locking.specs.Keeping.{KeepsAll, KeepsOpen}
-use Rattle.strict_locking.specs.Rows.{HasLocked, IsTaken, is_over, name_of, number_of}
+use Rattle.strict_locking.specs.Rows.{HasLocked, IsTaken, name_of, number_of}
 
 -- each claim stays, or is in a mode that needs nothing more for what it covered
 abbrev pub CoversStay : Book → Book → Type 0

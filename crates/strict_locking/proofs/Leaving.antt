@@ -1,14 +1,13 @@
 -- Locks that are given up, and transactions that end: all but that owner keep theirs.
-use Rattle.std.proofs.Common.{◌≡◌, ℕ, ◌+◌, ◌≤◌, ◌<◌, refl, sym, ◌∙◌, ap, subst, arith, inl, Bool, true, false, List, [], Option, Some, None}
+use Rattle.std.proofs.Common.{◌≡◌, ℕ, ◌+◌, ◌≤◌, refl, sym, ◌∙◌, ap, subst, arith, Bool, true, false, [], Option, Some, None}
 use Rattle.std.specs.Prelude.{◌≢◌, ◌-◌, ◌==◌, ◌&&◌, nat_le, nat_lt, is_some, slice_index_or, if◌then◌else◌}
-use Rattle.std.proofs.lemmas.Bool.{and_parts, both_ways, cases_eq, cond-true, cond-false, leb-true, ne_eqb}
+use Rattle.std.proofs.lemmas.Bool.{and_parts, both_ways, cond-true, cond-false, leb-true, ne_eqb}
 use Rattle.std.proofs.lemmas.List.{get_or-set_other}
 use Rattle.ds_base.specs.declared.names.PageId.{PageId}
 use Rattle.ds_model.specs.Rows.{Spot}
 use Rattle.ds_model.specs.declared.lock.Name.{Name}
 use Rattle.ds_model.specs.declared.lock.Name.TheVariants as name
 use Rattle.lock_names.specs.declared.mode.Interest.{Interest}
-use Rattle.lock_names.specs.declared.mode.Mode.{Mode}
 use Rattle.lock_names.specs.declared.mode.Mode.TheVariants.{IX, X}
 use Rattle.lock_manager.specs.Claims.{mode_in, without}
 use Rattle.lock_manager.specs.Managers.{Book, after_page_release, after_postponed_release, after_release, claims_of, dropped, ended, place_in, postponed_told, release_told, slots, with_claims}
@@ -18,14 +17,14 @@ use Rattle.member_trans.specs.declared.fate.Owner.{Owner}
 use Rattle.member_trans.specs.declared.fate.Owner.TheVariants as owner
 use Rattle.member_trans.specs.declared.fate.Stage.{Stage}
 use Rattle.member_trans.specs.declared.fate.Stage.TheVariants as stage
-use Rattle.member_trans.specs.Trans.{TransState, TranState, free_tran, is_undoing, place_of, rollback_ended, slot_ended, tran_at, tran_of as tran_in, was_postponed, with_released}
+use Rattle.member_trans.specs.Trans.{TransState, free_tran, is_undoing, place_of, rollback_ended, slot_ended, tran_at, tran_of as tran_in, was_postponed, with_released}
 use Rattle.member_marks.specs.State.{MarksState, agents_of, slot_tran, tran_of, with_locks}
 use Rattle.member_marks.specs.Claims.{after_end_of, after_release_of, after_release_page, has_page, is_agent, lock_place, noted_released, releasing, rollback_over, rollback_releasing, rollback_released, slot_released}
 use Rattle.member_effects.specs.Closing.{ended_after, page_released_after, released_after}
-use Rattle.needs_law.specs.Lawful.{MayClose, MayEnd}
+use Rattle.needs_law.specs.Lawful.{MayEnd}
 use Rattle.marks_law.specs.Transactions.{GoesOn, TransStay, has_tran}
 use Rattle.marks_law.proofs.Found.{first_at, from_list, to_list, undoes_left}
-use Rattle.marks_law.proofs.Staying.{goes_itself, stay_itself, stay_of}
+use Rattle.marks_law.proofs.Staying.{goes_itself, stay_of}
 use Rattle.lock_protocol.specs.Machine.{Covers}
 use Rattle.lock_world.proofs.Distinct.{distinct_without}
 use Rattle.lock_world.proofs.Owners.{slot_set, slot_stands}
@@ -35,7 +34,7 @@ use Rattle.lock_world.specs.Rollbacks.{row_of, space_of}
 use Rattle.lock_world.specs.Views.{claim_in, claims_by, rollback_owner}
 use Rattle.strict_locking.specs.Keeping.{KeepsAll, KeepsOpen}
 use Rattle.strict_locking.specs.Rows.{HasLocked, IsTaken, is_over, name_of, number_of}
-use Rattle.strict_locking.proofs.Keeping.{all_as, all_if, all_itself, keeps_all, open_all, open_as, renamed}
+use Rattle.strict_locking.proofs.Keeping.{all_if, all_itself, open_all, open_as, renamed}
 use Rattle.strict_locking.proofs.Taking.{agent_below}
 
 -- what the crates below say

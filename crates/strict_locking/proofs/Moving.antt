@@ -1,6 +1,6 @@
 -- Local moves: whatever a transaction has locked, it still has, or its rollback has it where it is postponed.
-use Rattle.std.proofs.Common.{◌≡◌, ℕ, ◌+◌, ◌≤◌, ◌<◌, refl, sym, ◌∙◌, ap, subst, arith, inl, inr, Bool, true, false, List, [], ◌∷◌, Option, Some, None}
-use Rattle.std.specs.Prelude.{◌≢◌, ◌-◌, ◌==◌, ◌&&◌, not, nat_le, nat_lt, is_none, is_some, if◌then◌else◌}
+use Rattle.std.proofs.Common.{◌≡◌, ℕ, ◌+◌, ◌≤◌, refl, sym, ◌∙◌, ap, subst, arith, inl, inr, Bool, true, false, List, [], ◌∷◌, Option, Some, None}
+use Rattle.std.specs.Prelude.{◌≢◌, ◌-◌, ◌==◌, ◌&&◌, not, nat_le, nat_lt, is_none}
 use Rattle.std.proofs.lemmas.Bool.{and_parts, cases_eq, cond-true, leb-true}
 use Rattle.std.proofs.lemmas.List.{get_or-set_other}
 use Rattle.ds_base.specs.declared.names.PageId.{PageId}
@@ -8,20 +8,20 @@ use Rattle.ds_model.specs.Rows.{Spot}
 use Rattle.ds_model.specs.declared.fate.Refusal.TheVariants as refusal
 use Rattle.lock_names.specs.declared.mode.Mode.{Mode}
 use Rattle.lock_names.specs.declared.mode.Mode.TheVariants.{IX, X}
-use Rattle.lock_manager.specs.Managers.{Book, after_postpone as claims_postponed, is_postponed, slots, waiting_at}
+use Rattle.lock_manager.specs.Managers.{after_postpone as claims_postponed, is_postponed, waiting_at}
 use Rattle.member_pool.specs.Frames.{find_page, is_unpinned}
 use Rattle.member_pool.specs.Heads.{HeadState, free_in, head_of, pinned_to, placed_in, with_head}
 use Rattle.member_trans.specs.declared.fate.Owner.{Owner}
 use Rattle.member_trans.specs.declared.fate.Owner.TheVariants as owner
 use Rattle.member_trans.specs.Trans.{TransState, TranState, after_refuse, free_tran, has_rollback, has_room_for, is_empty, is_new, is_undoing, left_behind, may_begin, may_postpone as may_postpone_tran, refused_for, with_postponed as tran_with_postponed, without_offer}
-use Rattle.member_marks.specs.State.{MarksState, agents_of, slot_tran, tran_of, with_heads, with_trans}
+use Rattle.member_marks.specs.State.{MarksState, agents_of, slot_tran, with_heads, with_trans}
 use Rattle.member_marks.specs.Claims.{is_agent, lock_place}
 use Rattle.member_marks.specs.Frames.{may_pin, may_unpin, placed_at}
 use Rattle.member_marks.specs.Local.{Local, Claim, Begin, Refuse, Abort, RefuseForMemory, Place, Pin, Unpin, Postpone, WaitFor, Reaches, all_moved, begun_with, moved, with_lock_room}
-use Rattle.member_marks.specs.Rollbacks.{after_postpone, after_wait, can_postpone, postponed_for_member, retainer, waiting_for, with_postponed}
-use Rattle.marks_law.specs.Transactions.{GoesOn, MovesStay, TransStay, has_tran}
+use Rattle.member_marks.specs.Rollbacks.{can_postpone, postponed_for_member, retainer, waiting_for, with_postponed}
+use Rattle.marks_law.specs.Transactions.{MovesStay, TransStay, has_tran}
 use Rattle.marks_law.proofs.Found.{from_list, to_list, undoes_more, undoes_new}
-use Rattle.marks_law.proofs.Staying.{goes_itself, stay_itself, stay_same}
+use Rattle.marks_law.proofs.Staying.{stay_itself, stay_same}
 use Rattle.lock_protocol.specs.Machine.{Covers}
 use Rattle.lock_world.specs.Books.{HasHandedOn, IsBook, PostponedHandsOn, RollbackWaits}
 use Rattle.lock_world.specs.Rollbacks.{row_of, space_of}
@@ -104,19 +104,19 @@ on_slot : (s : MarksState) (slot by : ℕ) → IsBook s.locks → MayGo s slot �
     → HasLocked (handed_on s slot by) id spot
 on_slot s slot by book may h id spot a taken named space row = elim (cases_eq a slot) [
   | inl e ↦ record {
-      by = owner.Rollback (slot_tran s slot).first;
-      taken = from_list (handed_on s slot by).trans (slot_tran s slot).first (undoes_new s.trans.rollbacks 0 (slot_tran s slot) may.unnamed may.undoing);
-      named = ap (λ z. (slot_tran s z).first) (sym e) ∙ named;
-      space = subst (λ z. Covers z IX) (ap (λ z. claim_in s.locks z (space_of spot)) e ∙ sym (h.given (space_of spot))) space;
-      row = subst (λ z. Covers z X) (ap (λ z. claim_in s.locks z (row_of spot)) e ∙ sym (h.given (row_of spot))) row;
-    }
+    by = owner.Rollback (slot_tran s slot).first;
+    taken = from_list (handed_on s slot by).trans (slot_tran s slot).first (undoes_new s.trans.rollbacks 0 (slot_tran s slot) may.unnamed may.undoing);
+    named = ap (λ z. (slot_tran s z).first) (sym e) ∙ named;
+    space = subst (λ z. Covers z IX) (ap (λ z. claim_in s.locks z (space_of spot)) e ∙ sym (h.given (space_of spot))) space;
+    row = subst (λ z. Covers z X) (ap (λ z. claim_in s.locks z (row_of spot)) e ∙ sym (h.given (row_of spot))) row;
+  }
   | inr ne ↦ record {
-      by = owner.Slot a;
-      taken = (taken.0, subst (λ (z : TranState). has_tran z.stage ≡ true) (sym (other ne)) taken.1);
-      named = ap (λ (z : TranState). z.first) (other ne) ∙ named;
-      space = subst (λ z. Covers z IX) (sym (h.rest a (space_of spot) ne far)) space;
-      row = subst (λ z. Covers z X) (sym (h.rest a (row_of spot) ne far)) row;
-    }
+    by = owner.Slot a;
+    taken = (taken.0, subst (λ (z : TranState). has_tran z.stage ≡ true) (sym (other ne)) taken.1);
+    named = ap (λ (z : TranState). z.first) (other ne) ∙ named;
+    space = subst (λ z. Covers z IX) (sym (h.rest a (space_of spot) ne far)) space;
+    row = subst (λ z. Covers z X) (sym (h.rest a (row_of spot) ne far)) row;
+  }
 ]
   where
     other : a ≢ slot → slot_tran (handed_on s slot by) a ≡ slot_tran s a
