@@ -40,11 +40,12 @@ use Rattle.member_effects.specs.Cycles.{RefusesCycle, cycle_after}
 use Rattle.member_effects.specs.Frames.{read_after, valid_after, tested_after, written_after, unregistered_after, full_at}
 use Rattle.member_effects.specs.Kept as bytes
 use Rattle.marks_law.proofs.Kept.{Kept, kept_itself, kept_as, kept_on, kept_if, kept_heads, kept_names, kept_trans, same_slots}
+use Rattle.marks_law.proofs.Staying.{stay_same}
 use Rattle.marks_law.proofs.Records.{kept_change, kept_system, kept_undo, kept_commit}
 
 -- ---- refusals
 pub kept_offered : (s : MarksState) (o : Owner) (r : Refusal) (place : ℕ) → Kept s (offered s o r place)
-kept_offered s o r place = kept_trans s (after_offer s.trans o r place) (λ h. same_slots s.trans (after_offer s.trans o r place) s.locks.agents h refl refl) (λ slot f. f)
+kept_offered s o r place = kept_trans s (after_offer s.trans o r place) (λ h. same_slots s.trans (after_offer s.trans o r place) s.locks.agents h refl refl) (λ slot f. f) (stay_same s.trans (after_offer s.trans o r place) refl refl)
 
 in_the_way : (s : MarksState) (o : Owner) (n : Name) (a : CellAnswer) (event : ℕ) → Kept s (in_the_way_after s o n a event)
 in_the_way s o n cell_answer.Clean event = kept_itself s

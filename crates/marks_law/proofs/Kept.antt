@@ -10,16 +10,19 @@ use Rattle.member_marks.specs.Names.{NameSet}
 use Rattle.member_marks.specs.State.{MarksState, with_heads, with_kept, with_locks, with_trans}
 use Rattle.marks_law.specs.Free.{FreeHoldNothing}
 use Rattle.marks_law.specs.Slots.{AreSlots, has_own}
+use Rattle.marks_law.specs.Transactions.{TransStay}
 use Rattle.marks_law.proofs.Free.{FreesNone, LeavesNone, free_left, left_same}
+use Rattle.marks_law.proofs.Staying.{stay_itself, stay_on}
 
 pub record Kept (s t : MarksState) : Type 0 where
   pub locks : t.locks ≡ s.locks
   pub member : t.member ≡ s.member
   pub slots : AreSlots s.trans s.locks.agents → AreSlots t.trans s.locks.agents
   pub frees : FreesNone s.trans t.trans
+  pub stays : TransStay s.trans t.trans
 
 pub kept_itself : (s : MarksState) → Kept s s
-kept_itself s = record { locks = refl; member = refl; slots = λ h. h; frees = λ slot f. f }
+kept_itself s = record { locks = refl; member = refl; slots = λ h. h; frees = λ slot f. f; stays = stay_itself s.trans }
 
 pub kept_as : (s t u : MarksState) → t ≡ u → Kept s u → Kept s t
 kept_as s t u e k = subst (λ z. Kept s z) (sym e) k
@@ -30,6 +33,7 @@ kept_on s t u a b = record {
   member = b.member ∙ a.member;
   slots = λ h. subst (λ (z : Book). AreSlots u.trans z.agents) a.locks (b.slots (subst (λ (z : Book). AreSlots t.trans z.agents) (sym a.locks) (a.slots h)));
   frees = λ slot f. a.frees slot (b.frees slot f);
+  stays = stay_on s.trans t.trans u.trans a.stays b.stays;
 }
 
 pub kept_if : (s x y : MarksState) (b : Bool) → (b ≡ true → Kept s x) → (b ≡ false → Kept s y) → Kept s (if b then x else y)
@@ -37,16 +41,16 @@ kept_if s x y b p q = cond_both b x y (λ z. Kept s z) p q
 
 -- ---- one part is changed
 pub kept_heads : (s : MarksState) (h : HeadState) → Kept s (with_heads s h)
-kept_heads s h = record { locks = refl; member = refl; slots = λ a. a; frees = λ slot f. f }
+kept_heads s h = record { locks = refl; member = refl; slots = λ a. a; frees = λ slot f. f; stays = stay_itself s.trans }
 
 pub kept_names : (s : MarksState) (k : NameSet) → Kept s (with_kept s k)
-kept_names s k = record { locks = refl; member = refl; slots = λ a. a; frees = λ slot f. f }
+kept_names s k = record { locks = refl; member = refl; slots = λ a. a; frees = λ slot f. f; stays = stay_itself s.trans }
 
-pub kept_trans : (s : MarksState) (t : TransState) → (AreSlots s.trans s.locks.agents → AreSlots t s.locks.agents) → FreesNone s.trans t → Kept s (with_trans s t)
-kept_trans s t a frees = record { locks = refl; member = refl; slots = a; frees = frees }
+pub kept_trans : (s : MarksState) (t : TransState) → (AreSlots s.trans s.locks.agents → AreSlots t s.locks.agents) → FreesNone s.trans t → TransStay s.trans t → Kept s (with_trans s t)
+kept_trans s t a frees stays = record { locks = refl; member = refl; slots = a; frees = frees; stays = stays }
 
-pub kept_logged : (s : MarksState) (l : LogBuffer) (t : TransState) → (AreSlots s.trans s.locks.agents → AreSlots t s.locks.agents) → FreesNone s.trans t → Kept s (record s { log = l; trans = t })
-kept_logged s l t a frees = record { locks = refl; member = refl; slots = a; frees = frees }
+pub kept_logged : (s : MarksState) (l : LogBuffer) (t : TransState) → (AreSlots s.trans s.locks.agents → AreSlots t s.locks.agents) → FreesNone s.trans t → TransStay s.trans t → Kept s (record s { log = l; trans = t })
+kept_logged s l t a frees stays = record { locks = refl; member = refl; slots = a; frees = frees; stays = stays }
 
 -- the transactions stay, but for what this event has made of them
 pub same_slots : (t u : TransState) (agents : ℕ) → AreSlots t agents → u.slots ≡ t.slots → u.commits ≡ t.commits → AreSlots u agents

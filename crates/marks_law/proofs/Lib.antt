@@ -1,5 +1,7 @@
 pub mod Slots
 pub mod Free
+pub mod Found
+pub mod Staying
 pub mod Kept
 pub mod Records
 pub mod Effects

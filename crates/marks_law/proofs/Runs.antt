@@ -1,5 +1,5 @@
 -- What an event leaves of the claims and of the slots, by its intent.
-use Rattle.std.proofs.Common.{◌≡◌, ℕ, refl, ap, subst, Bool, true, false, List, Option, Some, None, Result, Ok, Err}
+use Rattle.std.proofs.Common.{◌≡◌, ℕ, refl, sym, ◌∙◌, ap, subst, Bool, true, false, List, Option, Some, None, Result, Ok, Err}
 use Rattle.std.specs.Prelude.{nat_lt, length}
 use Rattle.ds_base.specs.declared.names.PageId.{PageId}
 use Rattle.ds_disk.specs.declared.disk.DiskError.{DiskError}
@@ -29,7 +29,9 @@ use Rattle.member_resources.specs.Settled.{Settles, cast_read, kept_of, settled,
 use Rattle.marks_law.specs.Claims.{ClaimsStay, changes_claims}
 use Rattle.marks_law.specs.Free.{FreeHoldNothing, FreeReach, FreeStay}
 use Rattle.marks_law.specs.Slots.{SlotsReach, SlotsStay}
+use Rattle.marks_law.specs.Transactions.{EventsStay, MarksStay}
 use Rattle.marks_law.proofs.Free.{frees_kept}
+use Rattle.marks_law.proofs.Staying.{stay_itself, stay_kept, stay_on, stay_same}
 use Rattle.marks_law.proofs.Kept.{Kept, Stands, kept_itself, kept_as, kept_trans, same_slots, stands_as, stands_itself, stands_kept, stands_slots}
 use Rattle.marks_law.proofs.Slots.{set_kept}
 use Rattle.marks_law.proofs.Records.{kept_append}
@@ -349,7 +351,7 @@ reserved (intent.WritePage at) h k e = reserves_none h k e
 reserved (intent.Unregister at) h k e = reserves_none h k e
 reserved (intent.Change slot action frames) h k e = stands_as h.marks k.marks (with_change_room h slot).marks (ap (λ (z : Held). z.marks) e)
     (stands_kept h.marks (with_change_room h slot).marks (kept_trans h.marks (with_tran h.marks.trans slot (with_room (slot_tran h.marks slot)))
-    (λ a. set_kept h.marks.trans h.marks.locks.agents slot (with_room (slot_tran h.marks slot)) a refl) (frees_kept h.marks.trans slot (with_room (slot_tran h.marks slot)) refl)))
+    (λ a. set_kept h.marks.trans h.marks.locks.agents slot (with_room (slot_tran h.marks slot)) a refl) (frees_kept h.marks.trans slot (with_room (slot_tran h.marks slot)) refl) (stay_kept h.marks.trans slot (with_room (slot_tran h.marks slot)) refl refl)))
 reserved (intent.Undo o at) h k e = reserves_none h k e
 reserved (intent.Commit slot) h k e = reserves_none h k e
 reserved intent.Append h k e = reserves_none h k e
@@ -370,3 +372,50 @@ free_stay reach w v h k i place s a happens free =
     let ready : FreeHoldNothing happens.ready.marks = (reserved i h happens.ready happens.reserves).free free in
     let new : FreeHoldNothing (begun happens.ready place).marks = record { lists = ready.lists; none = ready.none } in
     reach happens.after.marks k.marks happens.ends.0 ((any_stand w v (begun happens.ready place) happens.after i s happens.plan place a happens.said happens.runs).free new)
+
+-- ---- transactions stay
+reserves_same : (h k : Held) → k ≡ h → MarksStay h.marks k.marks
+reserves_same h k e = subst (λ (z : Held). MarksStay h.marks z.marks) (sym e) (record { locks = refl; trans = stay_itself h.marks.trans })
+
+reserves_stay : (i : Intent) (h k : Held) → changes_claims i ≡ false → Reserves i h k → MarksStay h.marks k.marks
+reserves_stay intent.Step h k quiet e = reserves_same h k e
+reserves_stay (intent.Obtain o n m) h k quiet e = absurd cc
+reserves_stay (intent.Grant o n m) h k quiet e = absurd cc
+reserves_stay (intent.Ask o to n m) h k quiet e = reserves_same h k e
+reserves_stay (intent.Answers o n m asked) h k quiet e = reserves_same h k e
+reserves_stay (intent.Status member) h k quiet e = reserves_same h k e
+reserves_stay (intent.Take past) h k quiet e = reserves_same h k e
+reserves_stay (intent.Answer asker n m) h k quiet e = reserves_same h k e
+reserves_stay (intent.ReleaseLock o) h k quiet e = absurd cc
+reserves_stay (intent.ReleasePage page) h k quiet e = absurd cc
+reserves_stay (intent.Purge n) h k quiet e = reserves_same h k e
+reserves_stay (intent.End o) h k quiet e = absurd cc
+reserves_stay (intent.Wait slot holder flag) h k quiet e = reserves_same h k e
+reserves_stay (intent.Unwait slot) h k quiet e = reserves_same h k e
+reserves_stay (intent.Waits slots) h k quiet e = reserves_same h k e
+reserves_stay (intent.Flag flag) h k quiet e = reserves_same h k e
+reserves_stay (intent.Raise flag) h k quiet e = reserves_same h k e
+reserves_stay intent.LoseCache h k quiet e = reserves_same h k e
+reserves_stay (intent.Read at) h k quiet e = reserves_same h k e
+reserves_stay (intent.ReadPage at) h k quiet e = reserves_same h k e
+reserves_stay (intent.Test at slot gives) h k quiet e = reserves_same h k e
+reserves_stay (intent.WritePage at) h k quiet e = reserves_same h k e
+reserves_stay (intent.Unregister at) h k quiet e = reserves_same h k e
+reserves_stay (intent.Change slot action frames) h k quiet e = subst (λ (z : Held). MarksStay h.marks z.marks) (sym e) (record { locks = refl; trans = stay_kept h.marks.trans slot (with_room (slot_tran h.marks slot)) refl refl })
+reserves_stay (intent.Undo o at) h k quiet e = reserves_same h k e
+reserves_stay (intent.Commit slot) h k quiet e = reserves_same h k e
+reserves_stay intent.Append h k quiet e = reserves_same h k e
+reserves_stay (intent.NextChanged past) h k quiet e = reserves_same h k e
+reserves_stay (intent.CastoutRead page) h k quiet e = reserves_same h k e
+reserves_stay intent.CastoutWrite h k quiet e = reserves_same h k e
+reserves_stay intent.CastoutDone h k quiet e = reserves_same h k e
+reserves_stay intent.PhaseDone h k quiet e = reserves_same h k e
+
+pub events_stay : EventsStay
+events_stay w v h ready k i s p place a told quiet e r =
+    let first = reserves_stay i h ready quiet e in
+    let kept = runs_kept w v (begun ready place) k i s p place a told quiet r in record {
+      locks = kept.locks ∙ first.locks;
+      trans = stay_on h.marks.trans ready.marks.trans k.marks.trans first.trans
+          (stay_on ready.marks.trans (begun ready place).marks.trans k.marks.trans (stay_same ready.marks.trans (begun ready place).marks.trans refl refl) kept.stays);
+    }

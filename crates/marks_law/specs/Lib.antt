@@ -1,3 +1,4 @@
 pub mod Slots
 pub mod Claims
 pub mod Free
+pub mod Transactions

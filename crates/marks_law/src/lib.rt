@@ -7,6 +7,7 @@
 ghost use Rattle.marks_law.specs.Claims.{ClaimsStay};
 ghost use Rattle.marks_law.specs.Free.{FreeAdopt, FreeBegin, FreeReach, FreeStay};
 ghost use Rattle.marks_law.specs.Slots.{SlotsAdopt, SlotsBegin, SlotsReach, SlotsStay, SlotsTell};
+ghost use Rattle.marks_law.specs.Transactions.{EventsStay, MovesStay};
 
 /// Slot 0 of a member, which is its own, is always free, so a slot with a transaction is an agent's.
 pub fn slots_stay()
@@ -29,4 +30,11 @@ pub fn free_slots_stay()
 /// An event in which no lock is taken or given up leaves the claims as they were, but for the local moves that follow it.
 pub fn claims_stay()
     ensures { ClaimsStay }
+{}
+
+/// Where no lock is taken or given up, and no transaction ends or is postponed, each slot keeps its transaction, by the number of its first
+/// record, and each rollback stays.
+pub fn transactions_stay()
+    ensures event { EventsStay }
+    ensures local { MovesStay }
 {}
