@@ -10,7 +10,7 @@ use Rattle.page_images.specs.Images.{Images}
 use Rattle.sound_disk.specs.Laws.{AreTold}
 use Rattle.sound_disk.specs.Whole_logs.{AreWholeLogs}
 use Rattle.sound_disk.specs.Versions.{AreVersions}
-use Rattle.sound_disk.specs.Sound.{IsSoundWith}
+use Rattle.sound_disk.specs.Sound.{IsSoundWith, IsSoundDisk}
 use Rattle.fitting_records.specs.Breaches.{IsRecordOf}
 use Rattle.disk_logs.specs.Broken.{IsFirstBroken, BrokenArentWhole}
 use Rattle.disk_versions.specs.Told.{IsFirstUnplaced}
@@ -19,11 +19,14 @@ use Rattle.space_check.specs.declared.verdict.Clause.TheVariants as clause
 use Rattle.space_check.specs.declared.verdict.Breach.{Breach}
 use Rattle.space_check.specs.declared.verdict.Verdict.TheVariants as verdict
 use Rattle.space_check.specs.Clauses.{IsPageOf, Fails}
-use Rattle.space_check.specs.Verdicts.{IsBrokenLog, IsBreachBehind}
-use Rattle.space_check.specs.Laws.{SoundIsSound, UnsoundIsNot}
+use Rattle.space_check.specs.Verdicts.{IsFoundSound, IsBrokenLog, IsBreachBehind}
+use Rattle.space_check.specs.Laws.{HasZerosBehind, SoundIsSound, UnsoundIsNot}
+
+found_is : (c : Contents) (behind pages rows : ℕ) → HasZerosBehind c behind → IsFoundSound c behind pages rows → IsSoundDisk c
+found_is c behind pages rows zeros found = record { logs = found.logs; sound = found.sound (zeros found.logs found.whole) }
 
 pub sound_is : SoundIsSound
-sound_is c behind pages rows zeros told = record { logs = told.logs; sound = told.sound (zeros told.logs told.whole) }
+sound_is c behind pages rows zeros told = found_is c behind pages rows zeros told
 
 broken_spot : BrokenArentWhole → (bytes : List (List ℕ)) (whole : List Log) (s : Spot) → IsRecordOf (IsFirstBroken bytes) s → AreWholeLogs 1 bytes whole → ⊥
 broken_spot apart bytes whole (spot.Log member at) off are = apart bytes member at whole off are
