@@ -4,5 +4,5 @@
 mod heap;
 mod rows;
 
-pub use heap::find_wrong_row_page;
+pub use heap::{find_wrong_row_page, find_wrong_row_page_by};
 pub use rows::rows_after;
