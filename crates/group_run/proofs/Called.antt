@@ -2,6 +2,7 @@
 use Rattle.std.proofs.Common.{◌≡◌, ◌⊎◌, inl, inr, ℕ, Bool, true, false, cond, nat_eq, List, [], Option, Some, None, refl, sym, ap, subst, ◌∙◌}
 use Rattle.std.specs.Io.KnownBytes.{Appends}
 use Rattle.ds_base.specs.declared.row.Row.{Row}
+use Rattle.ds_disk.specs.Contents.{Contents, Becomes, Same}
 use Rattle.ds_base.specs.declared.names.Sizes.{Sizes}
 use Rattle.ds_model.specs.declared.script.Script.{Script}
 use Rattle.ds_model.specs.declared.report.Report.{Report}
@@ -16,6 +17,9 @@ use Rattle.checked_run.specs.Accounts.{no_account}
 use Rattle.checked_run.specs.Leading.{Came, Kind}
 use Rattle.checked_run.specs.declared.account.Account.{Account}
 use Rattle.checked_run.specs.Outcomes.{IsOpening, HasCause, Comes, Plays, RunFault, Shows}
+use Rattle.disk_orders.specs.Checks.{Holds, IsChecked}
+use Rattle.disk_orders.specs.declared.checks.Checked.{Checked}
+use Rattle.disk_orders.specs.declared.checks.Checked.TheVariants as checked
 use Rattle.group_words.specs.Orders.{AreSizes}
 use Rattle.group_words.specs.declared.order.Order.{Order}
 use Rattle.group_words.specs.declared.order.Order.TheVariants as order
@@ -29,8 +33,8 @@ use Rattle.group_run.specs.Prepares.{IsPrepared, ReadsNothing, setting_of}
 use Rattle.group_run.specs.Reports.{empty_report}
 use Rattle.group_run.specs.Statuses.{short_text}
 use Rattle.group_run.specs.Read.{IsRead}
-use Rattle.group_run.specs.Tellings.{short_telling, script_telling, met_by, told_text, telling_of, fault_status, IsOrWanting, TellsOutcome}
-use Rattle.group_run.specs.Ends.{MetByDisk, MetBy, RunsTo, PlaysFrom, RanBy, work_of, run_text, text_for, text_by, TouchesNoDisk, PlaysNothing, Tells, Meets, Works}
+use Rattle.group_run.specs.Tellings.{short_telling, script_telling, met_by, told_text, telling_of, fault_status, checked_status, IsOrWanting, TellsOutcome}
+use Rattle.group_run.specs.Ends.{MetByDisk, MetByCheck, MetBy, RunsTo, PlaysFrom, RanBy, work_of, run_text, text_for, text_by, TouchesNoDisk, WritesNothing, PlaysNothing, Tells, Meets, Works, Checks}
 
 -- ---- a call that opened no disk
 
@@ -40,12 +44,22 @@ no_text (Some (order.Play sizes seed trace)) = refl
 no_text (Some order.Show) = refl
 no_text (Some (order.Make n)) = refl
 no_text (Some (order.Work n sizes)) = refl
+no_text (Some order.Check) = refl
+
+as_before : (a b : Option Contents) → b ≡ a → Becomes a b Same
+as_before None b e = tt
+as_before (Some c) None e = cc
+as_before (Some c) (Some d) e = cc
+
+-- where no call of the disk was made, what it tells is as before
+unmoved : (before after : Outside) → DiskIsUntouched before after → Becomes before.contents after.contents Same
+unmoved before after untouched = as_before before.contents after.contents untouched.0
 
 -- a status was met, and no disk opened
 meets_short : (kind : Kind) (o : Option Order) (before after : Outside) (met : Status) (text : List ℕ) (n : ℕ)
-    → ((met ≡ status.NoMemory → ⊥) → MetBy o met before after) → text ≡ text_for o met → (TouchesNoDisk o → DiskIsUntouched before after) → (ReadsNothing o → after.left ≡ before.left)
+    → ((met ≡ status.NoMemory → ⊥) → MetBy o met before after) → text ≡ text_for o met → (TouchesNoDisk o → DiskIsUntouched before after) → (WritesNothing o → Becomes before.contents after.contents Same) → (ReadsNothing o → after.left ≡ before.left)
     → Meets kind o before after met text false [] no_account (empty_report n)
-meets_short kind o before after met text n is its untouched unread = record {
+meets_short kind o before after met text n is its untouched unwritten unread = record {
   ran = λ e. let f : false ≡ true = e in cc;
   short = λ e not. is not;
   text_is = its;
@@ -54,28 +68,29 @@ meets_short kind o before after met text n is its untouched unread = record {
   unfailed = λ done. refl;
   unplayed = λ none. refl;
   untouched = untouched;
+  unwritten = unwritten;
   unread = unread;
 }
 
-meets_wanting : (kind : Kind) (o : Option Order) (before after : Outside) → (TouchesNoDisk o → DiskIsUntouched before after) → (ReadsNothing o → after.left ≡ before.left)
+meets_wanting : (kind : Kind) (o : Option Order) (before after : Outside) → (TouchesNoDisk o → DiskIsUntouched before after) → (WritesNothing o → Becomes before.contents after.contents Same) → (ReadsNothing o → after.left ≡ before.left)
     → Meets kind o before after status.NoMemory [] false [] no_account (empty_report 6)
-meets_wanting kind o before after untouched unread = meets_short kind o before after status.NoMemory [] 6 (λ not. absurd (not refl)) (no_text o) untouched unread
+meets_wanting kind o before after untouched unwritten unread = meets_short kind o before after status.NoMemory [] 6 (λ not. absurd (not refl)) (no_text o) untouched unwritten unread
 
 -- what is told where no disk opened
 abbrev pub MeetsUnopened : Kind → Option Order → Outside → Outside → Telling → Type 0
 MeetsUnopened kind o before after t = Meets kind o before after t.status t.text false [] no_account t.report
 
-meets_or_wanting : (kind : Kind) (o : Option Order) (before after : Outside) (wanted told : Telling) → (TouchesNoDisk o → DiskIsUntouched before after) → (ReadsNothing o → after.left ≡ before.left)
+meets_or_wanting : (kind : Kind) (o : Option Order) (before after : Outside) (wanted told : Telling) → (TouchesNoDisk o → DiskIsUntouched before after) → (WritesNothing o → Becomes before.contents after.contents Same) → (ReadsNothing o → after.left ≡ before.left)
     → MeetsUnopened kind o before after wanted → IsOrWanting wanted told → MeetsUnopened kind o before after told
-meets_or_wanting kind o before after wanted told untouched unread meets is = elim is [
+meets_or_wanting kind o before after wanted told untouched unwritten unread meets is = elim is [
   | inl e ↦ subst (MeetsUnopened kind o before after) (sym e) meets
-  | inr e ↦ subst (MeetsUnopened kind o before after) (sym e) (meets_wanting kind o before after untouched unread)
+  | inr e ↦ subst (MeetsUnopened kind o before after) (sym e) (meets_wanting kind o before after untouched unwritten unread)
 ]
 
 pub wanted : (kind : Kind) (o : Option Order) (before after : Outside) (told : Telling) → DiskIsUntouched before after → (ReadsNothing o → after.left ≡ before.left)
     → IsOrWanting (short_telling status.NoMemory) told → MeetsUnopened kind o before after told
 wanted kind o before after told untouched unread is =
-    meets_or_wanting kind o before after (short_telling status.NoMemory) told (λ t. untouched) unread (meets_wanting kind o before after (λ t. untouched) unread) is
+    meets_or_wanting kind o before after (short_telling status.NoMemory) told (λ t. untouched) (λ w. unmoved before after untouched) unread (meets_wanting kind o before after (λ t. untouched) (λ w. unmoved before after untouched) unread) is
 
 -- ---- by what was prepared
 
@@ -85,6 +100,7 @@ met_by_order (Some (order.Play sizes seed trace)) met before after h untouched =
 met_by_order (Some order.Show) met before after h untouched = let f : prepared.Ended met ≡ prepared.Show = h in cc
 met_by_order (Some (order.Make n)) met before after h untouched = let f : prepared.Ended met ≡ prepared.Make n = h in cc
 met_by_order (Some (order.Work n sizes)) met before after h untouched = let f : prepared.Ended met ≡ prepared.Work n (setting_of sizes (Some n) false) = h.0 in cc
+met_by_order (Some order.Check) met before after h untouched = let f : prepared.Ended met ≡ prepared.Check = h in cc
 
 text_by_order : (o : Option Order) (met : Status) (a b : Option (List ℕ)) (f g : ℕ) → IsPrepared o (prepared.Ended met) a b f g → short_text met ≡ text_for o met
 text_by_order None met a b f g h = refl
@@ -92,14 +108,15 @@ text_by_order (Some (order.Play sizes seed trace)) met a b f g h = refl
 text_by_order (Some order.Show) met a b f g h = refl
 text_by_order (Some (order.Make n)) met a b f g h = let f : prepared.Ended met ≡ prepared.Make n = h in cc
 text_by_order (Some (order.Work n sizes)) met a b f g h = let f : prepared.Ended met ≡ prepared.Work n (setting_of sizes (Some n) false) = h.0 in cc
+text_by_order (Some order.Check) met a b f g h = refl
 
 pub ended : (kind : Kind) (o : Option Order) (before after : Outside) (met : Status) (told : Telling)
     → IsPrepared o (prepared.Ended met) before.left after.left before.source_faults after.source_faults → DiskIsUntouched before after → (ReadsNothing o → after.left ≡ before.left)
     → IsOrWanting (short_telling met) told → MeetsUnopened kind o before after told
 ended kind o before after met told h untouched unread is =
     let meets : MeetsUnopened kind o before after (short_telling met) =
-    meets_short kind o before after met (short_text met) _ (λ not. met_by_order o met before after h untouched) (text_by_order o met before.left after.left before.source_faults after.source_faults h) (λ t. untouched) unread in
-    meets_or_wanting kind o before after (short_telling met) told (λ t. untouched) unread meets is
+    meets_short kind o before after met (short_text met) _ (λ not. met_by_order o met before after h untouched) (text_by_order o met before.left after.left before.source_faults after.source_faults h) (λ t. untouched) (λ w. unmoved before after untouched) unread in
+    meets_or_wanting kind o before after (short_telling met) told (λ t. untouched) (λ w. unmoved before after untouched) unread meets is
 
 same_number : (n k : ℕ) → prepared.Make n ≡ prepared.Make k → n ≡ k
 same_number n k e = cc
@@ -110,14 +127,15 @@ made_by (Some (order.Play sizes seed trace)) n before after h = absurd h
 made_by (Some order.Show) n before after h = let f : prepared.Make n ≡ prepared.Show = h in cc
 made_by (Some (order.Make k)) n before after h = (refl, ap (λ i. script_text (made i)) (same_number n k h))
 made_by (Some (order.Work k sizes)) n before after h = let f : prepared.Make n ≡ prepared.Work k (setting_of sizes (Some k) false) = h.0 in cc
+made_by (Some order.Check) n before after h = let f : prepared.Make n ≡ prepared.Check = h in cc
 
 pub is_made : (kind : Kind) (o : Option Order) (before after : Outside) (n : ℕ) (told : Telling)
     → IsPrepared o (prepared.Make n) before.left after.left before.source_faults after.source_faults → DiskIsUntouched before after → (ReadsNothing o → after.left ≡ before.left)
     → IsOrWanting (script_telling n) told → MeetsUnopened kind o before after told
 is_made kind o before after n told h untouched unread is =
     let by = made_by o n before after h in
-    let meets : MeetsUnopened kind o before after (script_telling n) = meets_short kind o before after status.Done (script_text (made n)) 0 (λ not. by.0) by.1 (λ t. untouched) unread in
-    meets_or_wanting kind o before after (script_telling n) told (λ t. untouched) unread meets is
+    let meets : MeetsUnopened kind o before after (script_telling n) = meets_short kind o before after status.Done (script_text (made n)) 0 (λ not. by.0) by.1 (λ t. untouched) (λ w. unmoved before after untouched) unread in
+    meets_or_wanting kind o before after (script_telling n) told (λ t. untouched) (λ w. unmoved before after untouched) unread meets is
 
 -- ---- by what became of a disk
 
@@ -156,6 +174,8 @@ unfailed Keeps account status.SinkFailed report is runs e = absurd runs
 unfailed Keeps account status.DiskFailed report is runs e = cc
 unfailed Keeps account status.NoMemory report is runs e = cc
 unfailed Keeps account (status.Damaged volume at) report is runs e = cc
+unfailed Keeps account (status.Sound pages rows) report is runs e = absurd runs
+unfailed Keeps account (status.Unsound breach) report is runs e = absurd runs
 unfailed Keeps account (status.SelfCheckFailed event) report is runs e = cc
 
 text_when : (work : Option ℕ) (b : Bool) (report : Report) → told_text work report ≡ run_text work (cond b status.DiskFailed status.Done) report
@@ -177,6 +197,7 @@ record Opens (kind : Kind) (o : Option Order) (before after : Outside) (account 
   unfailed : (rows : List Row) → IsUnfailed (Keeps rows) account
   unplayed : PlaysNothing o → account ≡ no_account
   touches : TouchesNoDisk o → ⊥
+  writes : WritesNothing o → ⊥
   unread : ReadsNothing o → after.left ≡ before.left
 
 abbrev MeetsOpened : Kind → Option Order → Outside → Outside → List Row → Account → Telling → Type 0
@@ -193,6 +214,7 @@ meets_opened kind o before after account Keeps rows t opens opening runs its = r
   unfailed = unfailed (Keeps rows) account t.status t.report (opens.unfailed rows) runs;
   unplayed = opens.unplayed;
   untouched = λ none. absurd (opens.touches none);
+  unwritten = λ none. absurd (opens.writes none);
   unread = opens.unread;
 }
 
@@ -201,9 +223,10 @@ of_outcome : (kind : Kind) (o : Option Order) (before after : Outside) (account 
     → Meets kind o before after t.status t.text opened opening account t.report
 of_outcome kind o before after account Keeps (outcome.Unopened why) opened opening t opens comes told =
     let untouched : TouchesNoDisk o → DiskIsUntouched before after = λ none. absurd (opens.touches none) in
+    let unwritten : WritesNothing o → Becomes before.contents after.contents Same = λ none. absurd (opens.writes none) in
     let short : MeetsUnopened kind o before after (short_telling (fault_status why)) =
-    meets_short kind o before after (fault_status why) (short_text (fault_status why)) _ (λ not. opens.met (fault_status why) (disk_met why before after comes.0)) (opens.texts (fault_status why)) untouched opens.unread in
-    let meets : MeetsUnopened kind o before after t = meets_or_wanting kind o before after (short_telling (fault_status why)) t untouched opens.unread short told.2 in
+    meets_short kind o before after (fault_status why) (short_text (fault_status why)) _ (λ not. opens.met (fault_status why) (disk_met why before after comes.0)) (opens.texts (fault_status why)) untouched unwritten opens.unread in
+    let meets : MeetsUnopened kind o before after t = meets_or_wanting kind o before after (short_telling (fault_status why)) t untouched unwritten opens.unread short told.2 in
     subst (λ (a : Account). Meets kind o before after t.status t.text opened opening a t.report) (sym comes.1)
     (subst (λ (rows : List Row). Meets kind o before after t.status t.text opened rows no_account t.report) (sym told.1) (subst (λ (b : Bool). Meets kind o before after t.status t.text b [] no_account t.report) (sym told.0) meets))
 of_outcome kind o before after account Keeps (outcome.Opened rows end) opened opening t opens comes told =
@@ -238,6 +261,7 @@ sizes_by (Some (order.Play sizes seed trace)) script given a b f g h = subst (λ
 sizes_by (Some order.Show) script given a b f g h = let f : prepared.Play script given ≡ prepared.Show = h in cc
 sizes_by (Some (order.Make n)) script given a b f g h = let f : prepared.Play script given ≡ prepared.Make n = h in cc
 sizes_by (Some (order.Work n sizes)) script given a b f g h = let f : prepared.Play script given ≡ prepared.Work n (setting_of sizes (Some n) false) = h.0 in cc
+sizes_by (Some order.Check) script given a b f g h = let f : prepared.Play script given ≡ prepared.Check = h in cc
 
 same_work : (n k : ℕ) (given setting : Setting) → prepared.Work n given ≡ prepared.Work k setting → n ≡ k
 same_work n k given setting e = cc
@@ -253,6 +277,7 @@ work_by (Some (order.Make k)) n given a b f g h = let f : prepared.Work n given 
 work_by (Some (order.Work k sizes)) n given a b f g h =
     let e = same_setting n k given (setting_of sizes (Some k) false) h.0 in
     (subst (λ (s : Setting). AreSizes s.sizes) (sym e) h.1, (ap (λ (s : Setting). s.trace) e, ap (λ (s : Setting). s.seed) e ∙ ap Some (sym (same_work n k given (setting_of sizes (Some k) false) h.0))))
+work_by (Some order.Check) n given a b f g h = let f : prepared.Work n given ≡ prepared.Check = h in cc
 
 play_opens : (kind : Kind) (sizes : Sizes) (seed : Option ℕ) (trace : Bool) (before after : Outside) (account : Account) (script : Script) → IsRead sizes.members before.left after.left script
     → Opens kind (Some (order.Play sizes seed trace)) before after account (PlaysFrom kind script seed trace before after account)
@@ -264,6 +289,7 @@ play_opens kind sizes seed trace before after account script ready = record {
   unfailed = played_unfailed kind script seed trace before after account;
   unplayed = λ none. absurd none;
   touches = λ none. none;
+  writes = λ none. none;
   unread = λ none. absurd none;
 }
 
@@ -276,6 +302,7 @@ show_opens kind before after account none same = record {
   unfailed = λ rows report is zero. ap (λ (a : Account). a.faults) none;
   unplayed = λ nothing. none;
   touches = λ none. none;
+  writes = λ none. none;
   unread = λ none. same;
 }
 
@@ -289,6 +316,7 @@ work_opens kind n sizes before after account same = record {
   unfailed = played_unfailed kind (made n) (Some n) false before after account;
   unplayed = λ none. absurd none;
   touches = λ none. none;
+  writes = λ none. none;
   unread = λ none. same;
 }
 
@@ -307,6 +335,7 @@ plays kind (Some (order.Play sizes seed trace)) before after account script give
 plays kind (Some order.Show) before after account script given out opened opening t h comes told = let f : prepared.Play script given ≡ prepared.Show = h in cc
 plays kind (Some (order.Make n)) before after account script given out opened opening t h comes told = let f : prepared.Play script given ≡ prepared.Make n = h in cc
 plays kind (Some (order.Work n sizes)) before after account script given out opened opening t h comes told = let f : prepared.Play script given ≡ prepared.Work n (setting_of sizes (Some n) false) = h.0 in cc
+plays kind (Some order.Check) before after account script given out opened opening t h comes told = let f : prepared.Play script given ≡ prepared.Check = h in cc
 
 pub shows : (kind : Kind) (o : Option Order) (before after : Outside) (account : Account) (out : Outcome) (opened : Bool) (opening : List Row) (t : Telling)
     → IsPrepared o prepared.Show before.left after.left before.source_faults after.source_faults → (ReadsNothing o → after.left ≡ before.left) → account ≡ no_account
@@ -318,6 +347,7 @@ shows kind (Some order.Show) before after account out opened opening t h unread 
     of_outcome kind (Some order.Show) before after account (Shows before.disk_faults after.disk_faults) out opened opening t (show_opens kind before after account none (unread tt)) comes told
 shows kind (Some (order.Make n)) before after account out opened opening t h unread none comes told = let f : prepared.Show ≡ prepared.Make n = h in cc
 shows kind (Some (order.Work n sizes)) before after account out opened opening t h unread none comes told = let f : prepared.Show ≡ prepared.Work n (setting_of sizes (Some n) false) = h.0 in cc
+shows kind (Some order.Check) before after account out opened opening t h unread none comes told = let f : prepared.Show ≡ prepared.Check = h in cc
 
 pub works : (kind : Kind) (o : Option Order) (before after : Outside) (account : Account) (n : ℕ) (given : Setting) (opened : Bool) (opening : List Row) (t : Telling)
     → IsPrepared o (prepared.Work n given) before.left after.left before.source_faults after.source_faults → (ReadsNothing o → after.left ≡ before.left)
@@ -331,6 +361,34 @@ works kind (Some (order.Work k sizes)) before after account n given opened openi
     let its = subst (λ (i : ℕ). CameOf kind (made i) (Some i) false before after account does.outcome) e does.comes in
     let told = subst (λ (i : ℕ). TellsOutcome (Some i) does.outcome opened opening t) e does.told_is in
     of_outcome kind (Some (order.Work k sizes)) before after account (PlaysFrom kind (made k) (Some k) false before after account) does.outcome opened opening t (work_opens kind k sizes before after account (unread tt)) its told
+works kind (Some order.Check) before after account n given opened opening t h unread does = let f : prepared.Work n given ≡ prepared.Check = h in cc
+
+-- ---- by what the check of a disk came to
+
+check_met : (came : Checked) (before after : Outside) → Holds before.contents before.disk_faults after.disk_faults came → MetByCheck (checked_status came) before after
+check_met (checked.Sound pages rows) before after holds = holds
+check_met (checked.Unsound breach) before after holds = holds
+check_met checked.Failed before after holds = holds
+check_met checked.NoMemory before after holds = tt
+
+meets_checked : (kind : Kind) (before after : Outside) (came : Checked) (t : Telling) → after.left ≡ before.left
+    → IsChecked before.contents after.contents before.disk_faults after.disk_faults came → IsOrWanting (short_telling (checked_status came)) t → MeetsUnopened kind (Some order.Check) before after t
+meets_checked kind before after came t same is told =
+    let o : Option Order = Some order.Check in
+    let untouched : TouchesNoDisk o → DiskIsUntouched before after = λ none. absurd none in
+    let meets : MeetsUnopened kind o before after (short_telling (checked_status came)) =
+    meets_short kind o before after (checked_status came) (short_text (checked_status came)) _ (λ not. check_met came before after is.holds) refl untouched (λ w. is.same) (λ r. same) in
+    meets_or_wanting kind o before after (short_telling (checked_status came)) t untouched (λ w. is.same) (λ r. same) meets told
+
+pub checks : (kind : Kind) (o : Option Order) (before after : Outside) (t : Telling)
+    → IsPrepared o prepared.Check before.left after.left before.source_faults after.source_faults → (ReadsNothing o → after.left ≡ before.left)
+    → Checks before.contents after.contents before.disk_faults after.disk_faults t → MeetsUnopened kind o before after t
+checks kind None before after t h unread does = let f : prepared.Check ≡ prepared.Ended status.WordsRefused = h in cc
+checks kind (Some (order.Play sizes seed trace)) before after t h unread does = absurd h
+checks kind (Some order.Show) before after t h unread does = let f : prepared.Check ≡ prepared.Show = h in cc
+checks kind (Some (order.Make n)) before after t h unread does = let f : prepared.Check ≡ prepared.Make n = h in cc
+checks kind (Some (order.Work n sizes)) before after t h unread does = let f : prepared.Check ≡ prepared.Work n (setting_of sizes (Some n) false) = h.0 in cc
+checks kind (Some order.Check) before after t h unread does = meets_checked kind before after does.came t (unread tt) does.checked does.told_is
 
 -- ---- no call meets a failed sink
 
@@ -340,6 +398,7 @@ short_no_sink (Some (order.Play sizes seed trace)) before after h = elim h [ inl
 short_no_sink (Some order.Show) before after h = h
 short_no_sink (Some (order.Make n)) before after h = let f : status.SinkFailed ≡ status.Done = h in cc
 short_no_sink (Some (order.Work n sizes)) before after h = h
+short_no_sink (Some order.Check) before after h = h
 
 ran_no_sink : (kind : Kind) (o : Option Order) (before after : Outside) (opening : List Row) (account : Account) (report : Report) → RanBy kind o status.SinkFailed before after opening account report → ⊥
 ran_no_sink kind None before after opening account report h = h
@@ -347,6 +406,7 @@ ran_no_sink kind (Some (order.Play sizes seed trace)) before after opening accou
 ran_no_sink kind (Some order.Show) before after opening account report h = h
 ran_no_sink kind (Some (order.Make n)) before after opening account report h = h
 ran_no_sink kind (Some (order.Work n sizes)) before after opening account report h = h
+ran_no_sink kind (Some order.Check) before after opening account report h = h
 
 pub no_sink : (kind : Kind) (o : Option Order) (before after : Outside) (met : Status) (text : List ℕ) (opened : Bool) (opening : List Row) (account : Account) (report : Report)
     → Meets kind o before after met text opened opening account report → met ≡ status.SinkFailed → ⊥

@@ -3,7 +3,7 @@ use Rattle.std.specs.Prelude.{◌≡◌, ◌⊎◌, ℕ, ◌<◌, Bool, true, fa
 use Rattle.std.specs.Io.KnownBytes.{Appends}
 use Rattle.ds_base.specs.Causes.{Rose}
 use Rattle.ds_base.specs.declared.row.Row.{Row}
-use Rattle.ds_disk.specs.Contents.{Contents}
+use Rattle.ds_disk.specs.Contents.{Contents, Becomes, Same}
 use Rattle.ds_model.specs.declared.script.Script.{Script}
 use Rattle.ds_model.specs.declared.report.Report.{Report}
 use Rattle.ds_model.specs.ScriptText.{script_text}
@@ -15,6 +15,8 @@ use Rattle.checked_run.specs.declared.ended.Ended.{Ended}
 use Rattle.checked_run.specs.declared.ended.Ended.TheVariants as ending
 use Rattle.checked_run.specs.declared.ended.Outcome.{Outcome}
 use Rattle.checked_run.specs.Outcomes.{Comes, IsOpening, Plays, Shows}
+use Rattle.disk_orders.specs.Checks.{IsSound, IsUnsound, IsChecked}
+use Rattle.disk_orders.specs.declared.checks.Checked.{Checked}
 use Rattle.group_words.specs.declared.order.Order.{Order}
 use Rattle.group_words.specs.declared.order.Order.TheVariants as order
 use Rattle.group_run.specs.declared.status.Status.{Status}
@@ -24,7 +26,7 @@ use Rattle.group_run.specs.Outside.{Outside, DiskIsUntouched}
 use Rattle.group_run.specs.Read.{IsRead}
 use Rattle.group_run.specs.Prepares.{MetBySource, ReadsNothing}
 use Rattle.group_run.specs.Reports.{empty_report}
-use Rattle.group_run.specs.Tellings.{told_text, TellsOutcome}
+use Rattle.group_run.specs.Tellings.{told_text, short_telling, checked_status, IsOrWanting, TellsOutcome}
 use Rattle.group_run.specs.declared.telling.Telling.{Telling}
 
 -- ---- what holds where a call meets a status and opens no disk
@@ -39,7 +41,23 @@ MetByDisk status.SinkFailed before after = ⊥
 MetByDisk status.DiskFailed before after = Rose before.disk_faults after.disk_faults
 MetByDisk status.NoMemory before after = Unit {0}
 MetByDisk (status.Damaged volume at) before after = Unit {0}
+MetByDisk (status.Sound pages rows) before after = ⊥
+MetByDisk (status.Unsound breach) before after = ⊥
 MetByDisk (status.SelfCheckFailed event) before after = ⊥
+
+-- the disk was checked: it is sound, with so many pages and rows, or this clause is the first that doesn't hold
+abbrev pub MetByCheck : Status → Outside → Outside → Type 0
+MetByCheck status.Done before after = ⊥
+MetByCheck status.WordsRefused before after = ⊥
+MetByCheck (status.ScriptRefused fault) before after = ⊥
+MetByCheck status.SourceFailed before after = ⊥
+MetByCheck status.SinkFailed before after = ⊥
+MetByCheck status.DiskFailed before after = Rose before.disk_faults after.disk_faults
+MetByCheck status.NoMemory before after = Unit {0}
+MetByCheck (status.Damaged volume at) before after = ⊥
+MetByCheck (status.Sound pages rows) before after = IsSound before.contents pages rows
+MetByCheck (status.Unsound breach) before after = IsUnsound before.contents breach
+MetByCheck (status.SelfCheckFailed event) before after = ⊥
 
 -- the source gave no script, and the disk wasn't touched; or it gave one
 abbrev pub MetByPlay : ℕ → Status → Outside → Outside → Type 0
@@ -54,6 +72,7 @@ MetBy (Some (order.Play sizes seed trace)) met before after = MetByPlay sizes.me
 MetBy (Some order.Show) met before after = MetByDisk met before after
 MetBy (Some (order.Make n)) met before after = met ≡ status.Done
 MetBy (Some (order.Work n sizes)) met before after = MetByDisk met before after
+MetBy (Some order.Check) met before after = MetByCheck met before after
 
 -- ---- what holds where a call has opened the disk and meets a status
 
@@ -67,6 +86,8 @@ RunsTo Keeps status.SinkFailed report = ⊥
 RunsTo Keeps status.DiskFailed report = Keeps (ending.Told report) × (report.status ≡ 5)
 RunsTo Keeps status.NoMemory report = report ≡ empty_report 6
 RunsTo Keeps (status.Damaged volume at) report = Keeps (ending.Damaged volume at) × (report ≡ empty_report 7)
+RunsTo Keeps (status.Sound pages rows) report = ⊥
+RunsTo Keeps (status.Unsound breach) report = ⊥
 RunsTo Keeps (status.SelfCheckFailed event) report = Keeps (ending.Unsound event) × (report ≡ empty_report 11)
 
 -- what a script comes to that is played by this seed from these rows
@@ -83,6 +104,7 @@ RanBy kind (Some (order.Play sizes seed trace)) met before after opening account
 RanBy kind (Some order.Show) met before after opening account report = RunsTo (Shows before.disk_faults after.disk_faults opening) met report
 RanBy kind (Some (order.Make n)) met before after opening account report = ⊥
 RanBy kind (Some (order.Work n sizes)) met before after opening account report = RunsTo (PlaysFrom kind (made n) (Some n) false before after account opening) met report
+RanBy kind (Some order.Check) met before after opening account report = ⊥
 
 -- ---- what is written
 
@@ -93,6 +115,7 @@ work_of (Some (order.Play sizes seed trace)) = None
 work_of (Some order.Show) = None
 work_of (Some (order.Make n)) = None
 work_of (Some (order.Work n sizes)) = Some n
+work_of (Some order.Check) = None
 
 -- where the disk was opened: the report, or its line for the work of a number; or the text of a status without one
 abbrev pub run_text : Option ℕ → Status → Report → List ℕ
@@ -104,6 +127,8 @@ run_text work status.SinkFailed report = short_text status.SinkFailed
 run_text work status.DiskFailed report = told_text work report
 run_text work status.NoMemory report = short_text status.NoMemory
 run_text work (status.Damaged volume at) report = short_text (status.Damaged volume at)
+run_text work (status.Sound pages rows) report = short_text (status.Sound pages rows)
+run_text work (status.Unsound breach) report = short_text (status.Unsound breach)
 run_text work (status.SelfCheckFailed event) report = short_text (status.SelfCheckFailed event)
 
 -- where it wasn't: the script of a number, or the text of the status
@@ -128,6 +153,14 @@ pub record Works (kind : Kind) (n : ℕ) (was : Option Contents) (before now : �
   pub comes : Comes was before now account (Plays kind (made n) (Some n) false was before now after account) outcome
   pub told_is : TellsOutcome (Some n) outcome opened opening told
 
+-- ---- the check of a disk
+
+-- what the check of a disk came to that told this and had failed so often, and what is told of it
+pub record Checks (before after : Option Contents) (faults faults_now : ℕ) (told : Telling) : Type 0 where
+  pub came : Checked
+  pub checked : IsChecked before after faults faults_now came
+  pub told_is : IsOrWanting (short_telling (checked_status came)) told
+
 -- ---- how a call ends
 
 -- the order is one for which no disk is touched
@@ -137,6 +170,16 @@ TouchesNoDisk (Some (order.Play sizes seed trace)) = ⊥
 TouchesNoDisk (Some order.Show) = ⊥
 TouchesNoDisk (Some (order.Make n)) = Unit {0}
 TouchesNoDisk (Some (order.Work n sizes)) = ⊥
+TouchesNoDisk (Some order.Check) = ⊥
+
+-- the order is one for which nothing is written to a disk
+abbrev pub WritesNothing : Option Order → Type 0
+WritesNothing None = Unit {0}
+WritesNothing (Some (order.Play sizes seed trace)) = ⊥
+WritesNothing (Some order.Show) = ⊥
+WritesNothing (Some (order.Make n)) = Unit {0}
+WritesNothing (Some (order.Work n sizes)) = ⊥
+WritesNothing (Some order.Check) = Unit {0}
 
 -- the order is one for which nothing is played
 abbrev pub PlaysNothing : Option Order → Type 0
@@ -145,6 +188,7 @@ PlaysNothing (Some (order.Play sizes seed trace)) = ⊥
 PlaysNothing (Some order.Show) = Unit {0}
 PlaysNothing (Some (order.Make n)) = Unit {0}
 PlaysNothing (Some (order.Work n sizes)) = ⊥
+PlaysNothing (Some order.Check) = Unit {0}
 
 -- over a kind of disks: which status a call meets with which text, by what the words order and by whether the disk was opened, and what is
 -- kept of the events of a run
@@ -157,6 +201,7 @@ pub record Meets (kind : Kind) (o : Option Order) (before after : Outside) (met 
   pub unfailed : met ≡ status.Done → account.faults ≡ []
   pub unplayed : PlaysNothing o → account ≡ no_account
   pub untouched : TouchesNoDisk o → DiskIsUntouched before after
+  pub unwritten : WritesNothing o → Becomes before.contents after.contents Same
   pub unread : ReadsNothing o → after.left ≡ before.left
 
 -- the same, and it is told; where memory is wanting nothing is written

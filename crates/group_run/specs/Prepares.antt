@@ -38,6 +38,8 @@ MetBySource members status.SinkFailed left left_now faults faults_now = ⊥
 MetBySource members status.DiskFailed left left_now faults faults_now = ⊥
 MetBySource members status.NoMemory left left_now faults faults_now = ⊥
 MetBySource members (status.Damaged volume at) left left_now faults faults_now = ⊥
+MetBySource members (status.Sound pages rows) left left_now faults faults_now = ⊥
+MetBySource members (status.Unsound breach) left left_now faults faults_now = ⊥
 MetBySource members (status.SelfCheckFailed event) left left_now faults faults_now = ⊥
 
 abbrev pub IsPreparedToPlay : Setting → Prepared → Option (List ℕ) → Option (List ℕ) → ℕ → ℕ → Type 0
@@ -45,6 +47,7 @@ IsPreparedToPlay setting (prepared.Play script given) left left_now faults fault
 IsPreparedToPlay setting prepared.Show left left_now faults faults_now = ⊥
 IsPreparedToPlay setting (prepared.Make n) left left_now faults faults_now = ⊥
 IsPreparedToPlay setting (prepared.Work n given) left left_now faults faults_now = ⊥
+IsPreparedToPlay setting prepared.Check left left_now faults faults_now = ⊥
 IsPreparedToPlay setting (prepared.Ended met) left left_now faults faults_now = MetBySource setting.sizes.members met left left_now faults faults_now
 
 -- what is ready to run by what the words order
@@ -54,6 +57,7 @@ IsPrepared (Some (order.Play sizes seed trace)) p left left_now faults faults_no
 IsPrepared (Some order.Show) p left left_now faults faults_now = p ≡ prepared.Show
 IsPrepared (Some (order.Make n)) p left left_now faults faults_now = p ≡ prepared.Make n
 IsPrepared (Some (order.Work n sizes)) p left left_now faults faults_now = (p ≡ prepared.Work n (setting_of sizes (Some n) false)) × AreSizes sizes
+IsPrepared (Some order.Check) p left left_now faults faults_now = p ≡ prepared.Check
 
 -- the order is one for which nothing is read
 abbrev pub ReadsNothing : Option Order → Type 0
@@ -62,3 +66,4 @@ ReadsNothing (Some (order.Play sizes seed trace)) = ⊥
 ReadsNothing (Some order.Show) = Unit {0}
 ReadsNothing (Some (order.Make n)) = Unit {0}
 ReadsNothing (Some (order.Work n sizes)) = Unit {0}
+ReadsNothing (Some order.Check) = Unit {0}

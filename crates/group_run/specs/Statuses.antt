@@ -6,6 +6,7 @@ use Rattle.ds_model.specs.declared.script.ScriptFault.{ScriptFault}
 use Rattle.ds_model.specs.ScriptText.{line}
 use Rattle.ds_base.specs.declared.names.Volume.{Volume}
 use Rattle.ds_base.specs.declared.names.Volume.TheVariants as volume
+use Rattle.disk_orders.specs.Texts.{sound_text, breach_text}
 use Rattle.group_run.specs.declared.status.Status.{Status}
 use Rattle.group_run.specs.declared.status.Status.TheVariants as status
 
@@ -18,6 +19,8 @@ number_of status.SinkFailed = 4
 number_of status.DiskFailed = 5
 number_of status.NoMemory = 6
 number_of (status.Damaged v at) = 7
+number_of (status.Sound pages rows) = 0
+number_of (status.Unsound breach) = 10
 number_of (status.SelfCheckFailed event) = 11
 
 abbrev pub kind_word : FaultKind → List ℕ
@@ -59,4 +62,6 @@ short_text status.SinkFailed = []
 short_text status.DiskFailed = line (codes "disk failed")
 short_text status.NoMemory = []
 short_text (status.Damaged v at) = damage_text v at
+short_text (status.Sound pages rows) = sound_text pages rows
+short_text (status.Unsound breach) = breach_text breach
 short_text (status.SelfCheckFailed event) = check_text event

@@ -11,6 +11,8 @@ use Rattle.checked_run.specs.declared.ended.Ended.{Ended}
 use Rattle.checked_run.specs.declared.ended.Ended.TheVariants as ending
 use Rattle.checked_run.specs.declared.ended.Outcome.{Outcome}
 use Rattle.checked_run.specs.declared.ended.Outcome.TheVariants as outcome
+use Rattle.disk_orders.specs.declared.checks.Checked.{Checked}
+use Rattle.disk_orders.specs.declared.checks.Checked.TheVariants as checked
 use Rattle.group_run.specs.declared.status.Status.{Status}
 use Rattle.group_run.specs.declared.status.Status.TheVariants as status
 use Rattle.group_run.specs.declared.telling.Telling.{Telling}
@@ -48,6 +50,13 @@ fault_status fault.Failed = status.DiskFailed
 fault_status (fault.Damaged volume at) = status.Damaged volume at
 fault_status (fault.Unlawful place) = status.SelfCheckFailed place
 fault_status fault.NoMemory = status.NoMemory
+
+-- what the check of a disk came to
+abbrev pub checked_status : Checked → Status
+checked_status (checked.Sound pages rows) = status.Sound pages rows
+checked_status (checked.Unsound breach) = status.Unsound breach
+checked_status checked.Failed = status.DiskFailed
+checked_status checked.NoMemory = status.NoMemory
 
 -- it is this that is told; or memory is wanting
 abbrev pub IsOrWanting : Telling → Telling → Type 0

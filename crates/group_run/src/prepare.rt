@@ -31,6 +31,8 @@ pub enum Prepared {
     Make(u64),
     /// The script of this number is to be played, and the line of its fates written.
     Work(u64, Setting),
+    /// The disk is to be checked.
+    Check,
     Ended(Status),
 }
 
@@ -79,6 +81,7 @@ pub fn prepare<S: Source>(
         }
         Ok(Order::Show) => Ok(Prepared::Show),
         Ok(Order::Make { n }) => Ok(Prepared::Make(n)),
+        Ok(Order::Check) => Ok(Prepared::Check),
         Ok(Order::Work { n, sizes }) => Ok(Prepared::Work(n, setting_of(sizes, Some(n), false))),
     }
 }

@@ -1,6 +1,7 @@
 ghost use Rattle.std.specs.Prelude.{◌≡◌, ℕ, ◌++◌, OnOk, IfOk, decimal};
 ghost use Rattle.group_run.specs.Statuses.{kind_word, place_text, fault_text, volume_text, damage_text, check_text, short_text};
 
+use disk_orders::{Breach, put_breach, put_sound};
 use ds_base::{Bytes, NoMemory, Volume};
 use ds_model::{FaultKind, ScriptFault};
 use std::alloc::Global;
@@ -24,6 +25,10 @@ pub enum Status {
     NoMemory,
     /// The byte of a page or a log at this offset can't stand there.
     Damaged { volume: Volume, at: u64 },
+    /// The disk was checked, and is sound: so many pages aren't all zeros, and the logs stand for so many rows.
+    Sound { pages: u64, rows: u64 },
+    /// The disk was checked. This is the first clause of a sound disk that doesn't hold, and its first spot.
+    Unsound(Breach),
     /// What was wanted in this event may not be done; or, where it is 0, the report isn't sound. It is a defect of the program,
     /// or of a disk that doesn't give back what was written.
     SelfCheckFailed { event: u64 },
@@ -37,7 +42,7 @@ impl Status {
         ensures { result ≡ number_of self.now }
     {
         match self {
-            Status::Done => 0,
+            Status::Done | Status::Sound { .. } => 0,
             Status::WordsRefused => 1,
             Status::ScriptRefused(_) => 2,
             Status::SourceFailed => 3,
@@ -45,6 +50,7 @@ impl Status {
             Status::DiskFailed => 5,
             Status::NoMemory => 6,
             Status::Damaged { .. } => 7,
+            Status::Unsound(_) => 10,
             Status::SelfCheckFailed { .. } => 11,
         }
     }
@@ -123,6 +129,8 @@ fn put_check(alloc: Global, out: &mut Bytes, event: u64) -> Result<(), NoMemory>
 fn fixed_text(status: &Status) -> &'static [u8]
     requires unrefused { (f : ScriptFault) → status.now ≡ Status.ScriptRefused f → ⊥ }
     requires undamaged { (v : Volume) (at : ℕ) → status.now ≡ Status.Damaged v at → ⊥ }
+    requires sound { (pages rows : ℕ) → status.now ≡ Status.Sound pages rows → ⊥ }
+    requires whole { (breach : Breach) → status.now ≡ Status.Unsound breach → ⊥ }
     requires checked { (event : ℕ) → status.now ≡ Status.SelfCheckFailed event → ⊥ }
     ensures { result.now ≡ short_text status.now }
 {
@@ -135,6 +143,8 @@ fn fixed_text(status: &Status) -> &'static [u8]
         | Status::NoMemory
         | Status::ScriptRefused(_)
         | Status::Damaged { .. }
+        | Status::Sound { .. }
+        | Status::Unsound(_)
         | Status::SelfCheckFailed { .. } => b"",
     }
 }
@@ -147,6 +157,8 @@ pub fn text_of(alloc: Global, status: &Status) -> Result<Bytes, NoMemory>
     match status {
         Status::ScriptRefused(fault) => put_fault(alloc, &mut out, *fault)?,
         Status::Damaged { volume, at } => put_damage(alloc, &mut out, volume, *at)?,
+        Status::Sound { pages, rows } => put_sound(alloc, &mut out, *pages, *rows)?,
+        Status::Unsound(breach) => put_breach(alloc, &mut out, breach)?,
         Status::SelfCheckFailed { event } => put_check(alloc, &mut out, *event)?,
         other => out.extend(fixed_text(other))?,
     }

@@ -2,11 +2,12 @@
 
 ghost use Rattle.std.specs.Prelude.{◌≡◌, IfOk};
 ghost use Rattle.group_run.specs.Reports.{empty_report};
-ghost use Rattle.group_run.specs.Tellings.{short_telling, script_telling, met_by, told_text, telling_of, fault_status, IsOrWanting};
+ghost use Rattle.group_run.specs.Tellings.{short_telling, script_telling, met_by, told_text, telling_of, fault_status, checked_status, IsOrWanting};
 
 use crate::status::{Status, text_of};
 use crate::summary::write_summary;
 use checked_run::{Ended, RunFault, plain_report};
+use disk_orders::Checked;
 use ds_base::{Bytes, NoMemory, RowList};
 use ds_model::Report;
 use report_text::write_report;
@@ -105,6 +106,18 @@ pub fn fault_status(why: RunFault) -> Status
         RunFault::Damaged { volume, at } => Status::Damaged { volume, at },
         RunFault::Unlawful { place } => Status::SelfCheckFailed { event: place },
         RunFault::NoMemory => Status::NoMemory,
+    }
+}
+
+/// The status of a disk that was checked.
+pub fn checked_status(told: Checked) -> Status
+    ensures { result ≡ checked_status told }
+{
+    match told {
+        Checked::Sound { pages, rows } => Status::Sound { pages, rows },
+        Checked::Unsound(breach) => Status::Unsound(breach),
+        Checked::Failed => Status::DiskFailed,
+        Checked::NoMemory => Status::NoMemory,
     }
 }
 

@@ -9,17 +9,18 @@ ghost use Rattle.group_run.specs.Outside.{outside};
 ghost use Rattle.group_run.specs.Prepares.{ordered};
 ghost use Rattle.group_run.specs.Tellings.{TellsOutcome};
 ghost use Rattle.group_words.specs.Orders.{AreSizes};
-ghost use Rattle.group_run.specs.Ends.{Tells, Meets, Works, Ends};
+ghost use Rattle.group_run.specs.Ends.{Tells, Meets, Works, Checks, Ends};
 
 use crate::prepare::{Prepared, Setting, prepare};
 use crate::run::run;
 use crate::status::Status;
 use crate::telling::{
-    Telling, fault_status, or_wanting, script_telling, short_telling, telling_of,
+    Telling, checked_status, fault_status, or_wanting, script_telling, short_telling, telling_of,
 };
 use checked_run::{
     Account, CauseList, FailList, Gate, Journal, Outcome, Ran, no_account, show_disk,
 };
+use disk_orders::check;
 use disk_restart::keeping_laws;
 use ds_base::{NoMemory, RowList, Sink, Source};
 use ds_disk::Disk;
@@ -142,6 +143,18 @@ fn perform_work<R: Threads + Wait + Sync, D: Disk + Send, G: Gate + Sync>(
     }
 }
 
+// Checks a disk.
+fn perform_check<D: Disk>(alloc: Global, mut disk: D) -> Came<D>
+    ensures checks { Checks (D.contents disk) (D.contents result.disk) (D.faults disk) (D.faults result.disk) result.telling }
+    ensures unopened { (result.opened ≡ false) × (result.opening ≡ []) × (result.account ≡ no_account) }
+    ensures left { Becomes (D.contents disk) (D.contents result.disk) KeepsRecords }
+{
+    keeping_laws();
+    let told = check(alloc, &mut disk);
+    let telling = short_telling(alloc, checked_status(told));
+    unopened(alloc, disk, or_wanting(alloc, telling))
+}
+
 // All that a call does but tell it.
 fn perform<R: Threads + Wait + Sync, S: Source, D: Disk + Send, G: Gate + Sync>(
     rt: &R,
@@ -173,11 +186,13 @@ fn perform<R: Threads + Wait + Sync, S: Source, D: Disk + Send, G: Gate + Sync>(
             came_of(alloc, None, run(rt, alloc, disk, &script, &setting, gate))
         }
         Ok(Prepared::Work(n, setting)) => perform_work(rt, alloc, disk, n, &setting, gate),
+        Ok(Prepared::Check) => perform_check(alloc, disk),
     }
 }
 
 /// Does what the words order: plays the script of the source on the disk, or shows the disk, and writes the report to the sink;
-/// or plays the script of a number, and writes how many transactions met which fate; or writes the script of a number.
+/// or plays the script of a number, and writes how many transactions met which fate; or writes the script of a number; or checks the
+/// disk, and writes whether it is sound.
 ///
 /// The words are the command line without the program's name. For a script the source is read to its end, or to the first byte past
 /// the longest script. Then the logs of the disk are read, and a group restart opens it; the script is run; another group restart

@@ -5,7 +5,7 @@ use Rattle.std.specs.List.{list_all}
 use Rattle.std.specs.Str.{bytes_eq}
 use Rattle.number_text.specs.Numbers.{number_of}
 use Rattle.group_words.specs.Options.{rule_of, given_of, is_for, is_in_range, number_for, are_allowed, suits_work}
-use Rattle.group_words.specs.Orders.{sizes_of, play_with, play_order, show_order, make_order, work_with, work_given, work_order, order_under, order_of, AreSizes, HasSizes}
+use Rattle.group_words.specs.Orders.{sizes_of, play_with, play_order, show_order, check_order, make_order, work_with, work_given, work_order, order_under, order_of, AreSizes, HasSizes}
 use Rattle.group_words.specs.declared.given.Given.{Given}
 use Rattle.group_words.specs.declared.setting.Setting.{Setting}
 use Rattle.group_words.specs.declared.setting.Setting.TheVariants.{Members, Agents, Locks, Records, Cache, Pool, Pages, Seed, Trace}
@@ -74,6 +74,10 @@ there_show : (words : List (List ℕ)) → IfThere (show_order words)
 there_show [] = tt
 there_show (word ∷ words) = tt
 
+there_check : (words : List (List ℕ)) → IfThere (check_order words)
+there_check [] = tt
+there_check (word ∷ words) = tt
+
 there_number : (o : Option ℕ) → IfThere (option_map Make o)
 there_number None = tt
 there_number (Some n) = tt
@@ -87,7 +91,8 @@ there_under : (command : List ℕ) (words : List (List ℕ)) → IfThere (order_
 there_under command words = either (bytes_eq command (codes "play")) _ _ (there_play words)
     (either (bytes_eq command (codes "show")) _ _ (there_show words)
     (either (bytes_eq command (codes "make")) _ _ (there_make words)
-    (either (bytes_eq command (codes "work")) _ _ (there_work words) tt)))
+    (either (bytes_eq command (codes "work")) _ _ (there_work words)
+    (either (bytes_eq command (codes "check")) _ _ (there_check words) tt))))
 
 there : (words : List (List ℕ)) → IfThere (order_of words)
 there [] = tt

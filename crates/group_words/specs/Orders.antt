@@ -13,7 +13,7 @@ use Rattle.group_words.specs.Parsed.{is_well_formed}
 use Rattle.group_words.specs.declared.given.Given.{Given}
 use Rattle.group_words.specs.declared.setting.Setting.TheVariants.{Members, Agents, Locks, Records, Cache, Pool, Pages, Seed, Trace}
 use Rattle.group_words.specs.declared.order.Order.{Order}
-use Rattle.group_words.specs.declared.order.Order.TheVariants.{Play, Show, Make, Work}
+use Rattle.group_words.specs.declared.order.Order.TheVariants.{Play, Show, Make, Work, Check}
 
 abbrev pub sizes_of : List Given → Sizes
 sizes_of given = record {
@@ -36,6 +36,10 @@ abbrev pub show_order : List (List ℕ) → Option Order
 show_order [] = Some Show
 show_order (word ∷ words) = None
 
+abbrev pub check_order : List (List ℕ) → Option Order
+check_order [] = Some Check
+check_order (word ∷ words) = None
+
 abbrev pub make_order : List (List ℕ) → Option Order
 make_order (number ∷ []) = option_map Make (number_of number)
 make_order _ = None
@@ -56,6 +60,7 @@ order_under command words =
     else if bytes_eq command (codes "show") then show_order words
     else if bytes_eq command (codes "make") then make_order words
     else if bytes_eq command (codes "work") then work_order words
+    else if bytes_eq command (codes "check") then check_order words
     else None
 
 -- the order that the words of a command line give, without the program's name
@@ -89,6 +94,7 @@ HasSizes (Play sizes seed trace) = AreSizes sizes
 HasSizes Show = Unit {0}
 HasSizes (Make n) = Unit {0}
 HasSizes (Work n sizes) = AreSizes sizes
+HasSizes Check = Unit {0}
 
 -- the words are those of a command that takes options, and words that may be options stand behind it
 abbrev pub may_have_options : List (List ℕ) → Bool

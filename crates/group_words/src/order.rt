@@ -25,6 +25,8 @@ pub enum Order {
         n: u64,
         sizes: Sizes,
     },
+    /// Whether the disk is sound is told.
+    Check,
 }
 
 /// Why the words gave no order.

@@ -52,6 +52,15 @@ fn show_order(words: &[String]) -> Option<Order>
     }
 }
 
+fn check_order(words: &[String]) -> Option<Order>
+    ensures { result ≡ spec.check_order (spec.texts words.now) }
+{
+    match words {
+        [] => Some(Order::Check),
+        _ => None,
+    }
+}
+
 fn make_order(words: &[String]) -> Option<Order>
     ensures { result ≡ spec.make_order (spec.texts words.now) }
 {
@@ -108,6 +117,8 @@ fn order_under(alloc: Global, command: &[u8], words: &[String]) -> Result<Order,
         make_order(words).ok_or(WordsFault::Refused)
     } else if command == b"work".as_slice() {
         work_order(alloc, words)
+    } else if command == b"check".as_slice() {
+        check_order(words).ok_or(WordsFault::Refused)
     } else {
         Err(WordsFault::Refused)
     }
@@ -120,7 +131,8 @@ fn order_under(alloc: Global, command: &[u8], words: &[String]) -> Result<Order,
 /// - `play` with options: a script is played;
 /// - `show` with nothing more;
 /// - `make N` with nothing more;
-/// - `work N` with options: measured work.
+/// - `work N` with options: measured work;
+/// - `check` with nothing more: whether the disk is sound.
 ///
 /// Options stand at most once each, in any order, as `--name N` or as `--name=N`: `--members` 1 to 32 (4 where it
 /// is not given), `--agents` 1 to 16 (8), `--locks` 1 to 65,536 (4,096), `--records` 2 to 65,536 (16,384), `--cache`

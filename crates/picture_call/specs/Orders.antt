@@ -73,6 +73,7 @@ sizes_of (plays.Play sizes seed trace) = Some sizes
 sizes_of plays.Show = None
 sizes_of (plays.Make n) = None
 sizes_of (plays.Work n sizes) = None
+sizes_of plays.Check = None
 
 -- those that `play` takes from these options
 abbrev pub sizes_in : List (List ℕ) → Option Sizes

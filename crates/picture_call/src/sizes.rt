@@ -28,7 +28,7 @@ fn sizes_of(order: Order) -> Option<Sizes>
 {
     match order {
         Order::Play { sizes, .. } => Some(sizes),
-        Order::Show | Order::Make { .. } | Order::Work { .. } => None,
+        Order::Show | Order::Make { .. } | Order::Work { .. } | Order::Check => None,
     }
 }
 

@@ -1,4 +1,5 @@
-use Rattle.std.proofs.Common.{refl, sym, subst, ◌∙◌}
+use Rattle.std.proofs.Common.{Bool, false, List, [], refl, sym, subst, ◌∙◌}
+use Rattle.ds_base.specs.declared.row.Row.{Row}
 use Rattle.member_core.specs.declared.member.Member.{Member}
 use Rattle.checked_run.specs.Leading.{kind_of}
 use Rattle.checked_run.specs.declared.account.Account.{Account}
@@ -8,7 +9,7 @@ use Rattle.group_run.specs.Prepares.{ordered}
 use Rattle.group_run.specs.Tellings.{short_telling, script_telling}
 use Rattle.group_run.specs.declared.status.Status.TheVariants as status
 use Rattle.group_run.specs.Ends.{Meets}
-use Rattle.group_run.proofs.Called.{CameOf, wanted, ended, is_made, shows, plays, works, sizes_by, work_by}
+use Rattle.group_run.proofs.Called.{CameOf, wanted, ended, is_made, shows, plays, works, checks, sizes_by, work_by}
 use Rattle.ds_disk.specs.Contents.{Becomes}
 use Rattle.disk_restart.specs.Keeping.{KeepsRecords}
 use Rattle.group_run.proofs.top.perform.Goals as goal
@@ -88,6 +89,21 @@ returns-in-Ok-Work-clause-meets g c =
     let prepared = rw c.in-Ok-Work.field-0-is at c.in-Ok-Work.ensures.prepared in
     let came = c.perform_work.result in
     works (kind_of Member g.D.Disk.alive g.D.Disk.contents g.D.Disk.faults) (ordered c.args.words.now) before (outside left faults (g.D.Disk.contents came.disk) (g.D.Disk.alive came.disk) (g.D.Disk.faults came.disk)) came.account c.in-Ok-Work.n c.in-Ok-Work.setting came.opened came.opening came.telling prepared c.prepare.ensures.unread c.perform_work.ensures.works
+
+pub returns-in-Ok-Check-clause-meets : goal.returns-in-Ok-Check-clause-meets
+returns-in-Ok-Check-clause-meets g c =
+    let kind = kind_of Member g.D.Disk.alive g.D.Disk.contents g.D.Disk.faults in
+    let before = outside (g.S.Source.left c.args.source.now) (g.S.Source.faults c.args.source.now) (g.D.Disk.contents c.args.disk) (g.D.Disk.alive c.args.disk) (g.D.Disk.faults c.args.disk) in
+    let left = g.S.Source.left c.prepare.new.source in
+    let faults = g.S.Source.faults c.prepare.new.source in
+    let prepared = rw c.in-Ok-Check.field-0-is at c.in-Ok-Check.ensures.prepared in
+    let came = c.perform_check.result in
+    let after = outside left faults (g.D.Disk.contents came.disk) (g.D.Disk.alive came.disk) (g.D.Disk.faults came.disk) in
+    let meets = checks kind (ordered c.args.words.now) before after came.telling prepared c.prepare.ensures.unread c.perform_check.ensures.checks in
+    let its = c.perform_check.ensures.unopened in
+    subst (λ (b : Bool). Meets kind (ordered c.args.words.now) before after came.telling.status came.telling.text b came.opening came.account came.telling.report) (sym its.0)
+    (subst (λ (rows : List Row). Meets kind (ordered c.args.words.now) before after came.telling.status came.telling.text false rows came.account came.telling.report) (sym its.1)
+    (subst (λ (a : Account). Meets kind (ordered c.args.words.now) before after came.telling.status came.telling.text false [] a came.telling.report) (sym its.2) meets))
 
 pub returns-in-Err-clause-left : goal.returns-in-Err-clause-left
 returns-in-Err-clause-left g c = λ closed. subst (λ x. Becomes (g.D.Disk.contents c.args.disk) (g.D.Disk.contents x.disk) KeepsRecords) (sym c.unopened.ensures) (c.keeping_laws.ensures.itself (g.D.Disk.contents c.args.disk))

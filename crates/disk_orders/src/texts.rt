@@ -1,0 +1,52 @@
+//! The lines that are told of a check.
+
+ghost use Rattle.std.specs.Prelude.{◌≡◌, ◌++◌, decimal, OnOk};
+ghost use Rattle.disk_orders.specs.Texts.{sound_text, spot_text, breach_text};
+
+use disk_spots::Spot;
+use ds_base::{Bytes, NoMemory};
+use space_check::Breach;
+use std::alloc::Global;
+
+fn put_number(alloc: Global, out: &mut Bytes, text: &[u8], number: u64) -> Result<(), NoMemory>
+    ensures { OnOk result (out.new ≡ out.old ++ (text.now ++ decimal number)) }
+{
+    out.extend(text)?;
+    out.extend_number(alloc, number)
+}
+
+/// The line for a sound disk.
+#[tactic(auto, unfolding(crate::specs::Texts::sound_text))]
+pub fn put_sound(alloc: Global, out: &mut Bytes, pages: u64, rows: u64) -> Result<(), NoMemory>
+    ensures { OnOk result (out.new ≡ out.old ++ sound_text pages rows) }
+{
+    put_number(alloc, out, b"sound pages ", pages)?;
+    put_number(alloc, out, b" rows ", rows)?;
+    out.extend(b"\n")
+}
+
+#[tactic(auto, unfolding(crate::specs::Texts::spot_text))]
+fn put_spot(alloc: Global, out: &mut Bytes, spot: &Spot) -> Result<(), NoMemory>
+    ensures { OnOk result (out.new ≡ out.old ++ spot_text spot.now) }
+{
+    match spot {
+        Spot::Log { member, at } => {
+            put_number(alloc, out, b" log M", member.number())?;
+            put_number(alloc, out, b" at ", *at)
+        }
+        Spot::Page { id } => {
+            put_number(alloc, out, b" page ", id.set as u64)?;
+            put_number(alloc, out, b" ", id.number as u64)
+        }
+    }
+}
+
+/// The line for a disk of which a clause doesn't hold.
+#[tactic(auto, unfolding(crate::specs::Texts::breach_text))]
+pub fn put_breach(alloc: Global, out: &mut Bytes, breach: &Breach) -> Result<(), NoMemory>
+    ensures { OnOk result (out.new ≡ out.old ++ breach_text breach.now) }
+{
+    put_number(alloc, out, b"unsound ", breach.clause.number() as u64)?;
+    put_spot(alloc, out, &breach.at)?;
+    out.extend(b"\n")
+}
