@@ -1,0 +1,4 @@
+pub mod Pages
+pub mod Image
+pub mod Faults
+pub mod Laws
