@@ -9,4 +9,4 @@ mod pages;
 
 pub use entries::entries_in;
 pub use nodes::{Node, node_of, read_nodes};
-pub use pages::find_wrong_link_page;
+pub use pages::{find_wrong_link_page, find_wrong_link_page_by};

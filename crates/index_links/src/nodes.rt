@@ -4,14 +4,16 @@ ghost use Rattle.ds_model.specs.RecordBytes.{IsAllowed};
 ghost use Rattle.index_leaf.specs.Entries.{right_field};
 ghost use Rattle.index_leaf.specs.Search.{is_branch};
 ghost use Rattle.page_chain.specs.Chains.{images_of, version_of};
+ghost use Rattle.page_records.specs.Places.{by_page};
 ghost use Rattle.index_links.specs.Nodes.{node_of, nodes_from};
 
 use ds_base::{Key, NoMemory, PageId, TableId};
 use index_leaf::{high_key, low_key, right};
 use log_record::LogRecord;
 use page_format::Page;
+use page_records::PageRecords;
+use page_versions::image_of;
 use std::alloc::Global;
-use table_images::image_of;
 
 /// What a branch or a leaf says beside its entries.
 #[derive(Clone, Copy, Debug)]
@@ -50,28 +52,37 @@ pub fn node_of(page: &Page) -> Node
     }
 }
 
-fn read_node(alloc: Global, id: PageId, records: &[LogRecord]) -> Result<Node, NoMemory>
-    requires { AllByRecursion IsAllowed records.now }
+fn read_node(
+    alloc: Global,
+    id: PageId,
+    records: &[LogRecord],
+    changed: &[PageRecords],
+) -> Result<Node, NoMemory>
+    requires allowed { AllByRecursion IsAllowed records.now }
+    requires changed_pages { changed.now ≡ by_page records.now }
     ensures { IfOk result (λ node. node ≡ node_of (version_of id records.now)) }
 {
-    let page = image_of(alloc, id, records)?;
+    let page = image_of(alloc, id, records, changed)?;
     Ok(node_of(&page))
 }
 
-/// What the pages of the table's index from page 1 on and before the next free one say after the records.
+/// What the pages of the table's index from page 1 on and before the next free one say after the records. `changed` are the
+/// pages that they change.
 pub fn read_nodes(
     alloc: Global,
     table: TableId,
     records: &[LogRecord],
+    changed: &[PageRecords],
     next: u32,
 ) -> Result<Vec<Node>, NoMemory>
     requires allowed { AllByRecursion IsAllowed records.now }
+    requires changed_pages { changed.now ≡ by_page records.now }
     requires some { 1 ≤ next }
     ensures { IfOk result (λ nodes. nodes.items ≡ nodes_from (images_of records.now) table 1 (next - 1)) }
 {
     let mut nodes = Vec::new(alloc);
     for number in 1..next {
-        nodes.push(read_node(alloc, table.index_page(number), records)?)?;
+        nodes.push(read_node(alloc, table.index_page(number), records, changed)?)?;
     }
     Ok(nodes)
 }

@@ -2,6 +2,7 @@ ghost use Rattle.std.specs.Prelude.{◌≡◌, ◌-◌, ◌<◌, ◌≤◌, ◌^
 ghost use Rattle.std.specs.List.{AllByRecursion};
 ghost use Rattle.ds_model.specs.RecordBytes.{IsAllowed};
 ghost use Rattle.page_chain.specs.Chains.{images_of, version_of};
+ghost use Rattle.page_records.specs.Places.{by_page};
 ghost use Rattle.sound_disk.specs.Indexes.{IsNodePage, index_next, AreIndexPages};
 ghost use Rattle.index_links.specs.Links.{page_stands, IsFoundFrom};
 ghost use Rattle.index_links.specs.Nodes.{nodes_from};
@@ -17,8 +18,9 @@ use log_record::LogRecord;
 use page_chain::chain_laws;
 use page_format::Page;
 use page_images::header_laws;
+use page_records::{PageRecords, by_page};
+use page_versions::image_of;
 use std::alloc::Global;
-use table_images::image_of;
 
 fn page_stands(alloc: Global, nodes: &[Node], id: PageId, page: &Page) -> Result<bool, NoMemory>
     requires { IsNodePage id page.now }
@@ -34,17 +36,19 @@ fn find_misled(
     alloc: Global,
     table: TableId,
     records: &[LogRecord],
+    changed: &[PageRecords],
     nodes: &[Node],
     next: u32,
 ) -> Result<Option<PageId>, NoMemory>
     requires allowed { AllByRecursion IsAllowed records.now }
+    requires changed_pages { changed.now ≡ by_page records.now }
     requires pages { AreIndexPages (images_of records.now) table }
     requires next { next ≡ index_next (images_of records.now) table }
     ensures { IfOk result (λ found. IsFoundFrom (images_of records.now) table nodes.now next found) }
 {
     for number in 1..next {
         let id = table.index_page(number);
-        let page = image_of(alloc, id, records)?;
+        let page = image_of(alloc, id, records, changed)?;
         if !page_stands(alloc, nodes, id, &page)? {
             return Ok(Some(id));
         }
@@ -53,8 +57,35 @@ fn find_misled(
 }
 
 /// A page of the table's index whose links or entries don't lead where they are to, where its pages are right by themselves.
+/// `changed` are the pages that the records change.
 ///
-/// It takes time in the number of records for each page of the index.
+/// It takes time in the logarithm of the number of these pages, and in the number of a page's own records, for each page of
+/// the index.
+pub fn find_wrong_link_page_by(
+    alloc: Global,
+    table: TableId,
+    records: &[LogRecord],
+    changed: &[PageRecords],
+) -> Result<Option<PageId>, NoMemory>
+    requires allowed { AllByRecursion IsAllowed records.now }
+    requires changed_pages { changed.now ≡ by_page records.now }
+    requires pages { AreIndexPages (images_of records.now) table }
+    ensures { IfOk result (λ found. IsTold (images_of records.now) records.now table found) }
+{
+    chain_laws();
+    header_laws();
+    let header = image_of(alloc, table.index_page(0), records, changed)?;
+    let next = next_page(&header);
+    let nodes = read_nodes(alloc, table, records, changed, next)?;
+    match find_unlinked(alloc, table, &nodes)? {
+        Some(number) => Ok(Some(table.index_page(number))),
+        None => find_misled(alloc, table, records, changed, &nodes, next),
+    }
+}
+
+/// A page of the table's index whose links or entries don't lead where they are to, where its pages are right by themselves.
+///
+/// It finds the pages that the records change first: of several tables, do so once, and call `find_wrong_link_page_by`.
 pub fn find_wrong_link_page(
     alloc: Global,
     table: TableId,
@@ -64,13 +95,6 @@ pub fn find_wrong_link_page(
     requires pages { AreIndexPages (images_of records.now) table }
     ensures { IfOk result (λ found. IsTold (images_of records.now) records.now table found) }
 {
-    chain_laws();
-    header_laws();
-    let header = image_of(alloc, table.index_page(0), records)?;
-    let next = next_page(&header);
-    let nodes = read_nodes(alloc, table, records, next)?;
-    match find_unlinked(alloc, table, &nodes)? {
-        Some(number) => Ok(Some(table.index_page(number))),
-        None => find_misled(alloc, table, records, &nodes, next),
-    }
+    let changed = by_page(alloc, records)?;
+    find_wrong_link_page_by(alloc, table, records, changed.as_slice())
 }

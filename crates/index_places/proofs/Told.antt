@@ -1,6 +1,6 @@
 -- What the checks of an index's places and of tables tell.
-use Rattle.std.proofs.Common.{◌≡◌, ◌≢◌, ◌⊎◌, ℕ, ◌+◌, ◌<◌, ◌≤◌, Bool, true, false, List, [], ◌∷◌, Option, Some, None, Result, Ok, Err, refl, sym, ap, subst, ◌∙◌, arith, inl, inr}
-use Rattle.std.specs.Prelude.{IfOk, Contains}
+use Rattle.std.proofs.Common.{◌≡◌, ◌≢◌, ◌⊎◌, ℕ, ◌+◌, ◌<◌, ◌≤◌, Bool, true, false, List, [], ◌∷◌, length, Option, Some, None, Result, Ok, Err, refl, sym, ap, subst, ◌∙◌, arith, inl, inr}
+use Rattle.std.specs.Prelude.{◌==◌, IfOk, Contains}
 use Rattle.std.specs.FinMap.{empty}
 use Rattle.std.proofs.lemmas.Bool.{cases_lt}
 use Rattle.ds_base.specs.Ids.{IsTable}
@@ -13,7 +13,8 @@ use Rattle.page_images.specs.Images.{Images}
 use Rattle.sound_disk.specs.Heaps.{IsHeap}
 use Rattle.sound_disk.specs.Indexes.{AreIndexPages, index_next}
 use Rattle.sound_disk.specs.Tables.{IsWholeIndex, IsWholeTable}
-use Rattle.table_images.specs.Nodes.{IsUnformatted}
+use Rattle.table_images.specs.Nodes.{IsUnformatted, IsIndexTold as AreNodesTold}
+use Rattle.table_pages.proofs.Booleans.{equal, itself}
 use Rattle.heap_rows.specs.Rows_left.{HasRowsLeft}
 use Rattle.heap_rows.proofs.Heaps.{blank_number}
 use Rattle.index_links.specs.Opens.{Opens}
@@ -115,6 +116,9 @@ blank_next at table z = blank_number (at (index_page table 0)) 32 4 z
 some_next : (at : Images) (table : ℕ) → AreIndexPages at table → index_next at table ≡ 0 → ⊥
 some_next at table p none = let from = p.header.next_from in omega (arith, from, none)
 
+pub by_itself : (at : Images) (table : ℕ) (found : Option PageId) → found ≡ None → AreNodesTold at table found → IsUnformatted at table ⊎ AreIndexPages at table
+by_itself at table found is h = subst (λ (f : Option PageId). AreNodesTold at table f) is h
+
 pub formatted : (at : Images) (table : ℕ) → index_next at table ≢ 0 → IsUnformatted at table ⊎ AreIndexPages at table → AreIndexPages at table
 formatted at table some (inl u) = absurd (some (blank_next at table (u 0)))
 formatted at table some (inr p) = p
@@ -134,6 +138,13 @@ index_told at records table (Err e) p h = tt
 
 no_member : (g : Given) → Contains [] g → ⊥
 no_member g (k, lt, same) = absurd (omega arith)
+
+pub none_given : (gs : List Given) (b : Bool) → b ≡ (length gs == 0) → b ≡ true → gs ≡ []
+none_given [] b e t = refl
+none_given (x ∷ xs) b e t = let none : length (x ∷ xs) ≡ 0 = equal (length (x ∷ xs)) 0 (sym e ∙ t) in absurd (omega (arith, none))
+
+pub some_given : (gs : List Given) (b : Bool) → b ≡ (length gs == 0) → b ≡ false → gs ≢ []
+some_given gs b e f n = let t : (length gs == 0) ≡ true = ap (λ (xs : List Given). length xs == 0) n ∙ itself 0 in not_both b (e ∙ t) f
 
 pub no_index : (at : Images) (records : List LogRecord) (table : ℕ) (given : List Given) → index_next at table ≡ 0 → IsUnformatted at table ⊎ AreIndexPages at table → AreGiven at table given → given ≡ [] → IsIndexRight at records table
 no_index at records table given none p g e =
@@ -174,16 +185,22 @@ table_told at records table (Err e) heap rows h = tt
 not_whole : (at : Images) (records : List LogRecord) (table : ℕ) (id : PageId) → IsNamed at records table id → IsWholeTable at records table → ⊥
 not_whole at records table id (inl h) w = h.heap w.heap
 not_whole at records table id (inr (inl (heap, h))) w = h.none w.rows
-not_whole at records table id (inr (inr (heap, (rows, h)))) w = not_right at records table id h w.index
+not_whole at records table id (inr (inr (heap, rows, h))) w = not_right at records table id h w.index
 
-pub first_unwhole : (at : Images) (records : List LogRecord) (table n : ℕ) (id : PageId) → table ≡ n → IsTable table → IsNamed at records table id → ((k : ℕ) → 1 ≤ k → k < n → IsWholeTable at records k) → IsFirstUnwhole at records id
-first_unwhole at records table n id e is named before = record {
-  table = table;
-  is_table = is;
-  unwhole = λ w. not_whole at records table id named w;
-  before = λ k from lt. before k from (omega (arith, lt, e));
-  page = named;
-}
+pub first_unwhole : (at : Images) (records : List LogRecord) (table n : ℕ) (found : Option PageId) (id : PageId) → IsTable n → table ≡ n → found ≡ Some id → IsTableTold at records table found
+    → ((k : ℕ) → 1 ≤ k → k < n → IsWholeTable at records k) → IsFirstUnwhole at records id
+first_unwhole at records table n found id is e some told before =
+    let named : IsNamed at records table id = subst (λ (f : Option PageId). IsTableTold at records table f) some told in
+    record {
+      table = table;
+      is_table = subst IsTable (sym e) is;
+      unwhole = λ w. not_whole at records table id named w;
+      before = λ k from lt. before k from (omega (arith, lt, e));
+      page = named;
+    }
+
+pub whole : (at : Images) (records : List LogRecord) (table : ℕ) (found : Option PageId) → found ≡ None → IsTableTold at records table found → IsWholeTable at records table
+whole at records table found is told = subst (λ (f : Option PageId). IsTableTold at records table f) is told
 
 pub tables_more : (at : Images) (records : List LogRecord) (table n : ℕ) → table ≡ n → IsWholeTable at records table → ((k : ℕ) → 1 ≤ k → k < n → IsWholeTable at records k) → (k : ℕ) → 1 ≤ k → k < n + 1 → IsWholeTable at records k
 tables_more at records table n e w h k from lt =

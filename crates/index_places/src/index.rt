@@ -12,21 +12,24 @@ use crate::leaves::find_wrong_leaf;
 use crate::slots::{Given, places_of};
 use ds_base::{NoMemory, PageId, TableId};
 use index_leaf::next_page;
-use index_links::find_wrong_link_page;
+use index_links::find_wrong_link_page_by;
 use log_record::LogRecord;
 use page_images::header_laws;
 use page_records::PageRecords;
+use page_versions::image_of;
 use std::alloc::Global;
-use table_images::{find_wrong_index_page_by, image_of};
+use table_images::find_wrong_index_page_by;
 
 fn find_misplaced(
     alloc: Global,
     table: TableId,
     records: &[LogRecord],
+    changed: &[PageRecords],
     next: u32,
     given: &[Given],
 ) -> Result<Option<PageId>, NoMemory>
     requires allowed { AllByRecursion IsAllowed records.now }
+    requires changed_pages { changed.now ≡ by_page records.now }
     requires pages { AreIndexPages (images_of records.now) table }
     requires next { next ≡ index_next (images_of records.now) table }
     requires opens { Opens (images_of records.now) records.now table }
@@ -34,25 +37,27 @@ fn find_misplaced(
     ensures { IfOk result (λ found. ArePlacesTold (images_of records.now) records.now table found) }
 {
     let places = places_of(alloc, table, given)?;
-    find_wrong_leaf(alloc, table, records, &places, given, next)
+    find_wrong_leaf(alloc, table, records, changed, &places, given, next)
 }
 
 fn find_misled(
     alloc: Global,
     table: TableId,
     records: &[LogRecord],
+    changed: &[PageRecords],
     next: u32,
     given: &[Given],
 ) -> Result<Option<PageId>, NoMemory>
     requires allowed { AllByRecursion IsAllowed records.now }
+    requires changed_pages { changed.now ≡ by_page records.now }
     requires pages { AreIndexPages (images_of records.now) table }
     requires next { next ≡ index_next (images_of records.now) table }
     requires given { AreGiven (images_of records.now) table given.now }
     ensures { IfOk result (λ found. IsWholeTold (images_of records.now) records.now table found) }
 {
-    match find_wrong_link_page(alloc, table, records)? {
+    match find_wrong_link_page_by(alloc, table, records, changed)? {
         Some(id) => Ok(Some(id)),
-        None => find_misplaced(alloc, table, records, next, given),
+        None => find_misplaced(alloc, table, records, changed, next, given),
     }
 }
 
@@ -78,9 +83,9 @@ pub fn find_wrong_index(
     if let Some(id) = find_wrong_index_page_by(alloc, table, records, changed)? {
         return Ok(Some(id));
     }
-    let header = image_of(alloc, table.index_page(0), records)?;
+    let header = image_of(alloc, table.index_page(0), records, changed)?;
     if next_page(&header) != 0 {
-        return find_misled(alloc, table, records, next_page(&header), given);
+        return find_misled(alloc, table, records, changed, next_page(&header), given);
     }
     if given.is_empty() {
         Ok(None)

@@ -9,7 +9,7 @@ ghost use Rattle.index_places.specs.Whole.{IsTableTold, IsFirstTold, AreTablesTo
 use crate::index::find_wrong_index;
 use crate::slots::given_in;
 use ds_base::{NoMemory, PageId, TableId, Value};
-use heap_rows::{find_wrong_row_page, rows_after};
+use heap_rows::{find_wrong_row_page_by, rows_after};
 use log_record::LogRecord;
 use page_records::{PageRecords, by_page};
 use spot_map::SpotMap;
@@ -36,10 +36,10 @@ pub fn find_unwhole_page(
     if let Some(id) = find_wrong_heap_page_by(alloc, table, records, changed)? {
         return Ok(Some(id));
     }
-    if let Some(id) = find_wrong_row_page(alloc, table, records, rows)? {
+    if let Some(id) = find_wrong_row_page_by(alloc, table, records, changed, rows)? {
         return Ok(Some(id));
     }
-    let given = given_in(alloc, table, records)?;
+    let given = given_in(alloc, table, records, changed)?;
     find_wrong_index(alloc, table, records, changed, &given)
 }
 

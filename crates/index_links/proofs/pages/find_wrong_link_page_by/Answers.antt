@@ -6,7 +6,7 @@ use Rattle.page_chain.specs.Chains.{images_of, version_of}
 use Rattle.index_links.specs.declared.nodes.Node.{Node}
 use Rattle.index_links.specs.Links.{rights_from, reached_in, first_unlinked}
 use Rattle.index_links.proofs.Told.{few, unlinked_told, pages_told}
-use Rattle.index_links.proofs.pages.find_wrong_link_page.Goals as goal
+use Rattle.index_links.proofs.pages.find_wrong_link_page_by.Goals as goal
 
 pub find_unlinked-requires : goal.find_unlinked-requires
 find_unlinked-requires c =
