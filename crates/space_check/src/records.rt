@@ -78,8 +78,8 @@ pub fn check_records(alloc: Global, logs: &[Log]) -> Result<Option<Breach>, NoMe
     requires records { AreRecords (merged logs.now) }
     ensures { IfOk result (λ found. AreRecordsJudged logs.now found) }
 {
-    let records = merge(alloc, logs)?;
-    let page = find_wrong_table(alloc, records.records())?;
+    let merged = merge(alloc, logs)?;
+    let page = find_wrong_table(alloc, merged.records())?;
     match page {
         Some(id) => Ok(Some(Breach {
             clause: Clause::Tables,
