@@ -25,7 +25,7 @@ use Rattle.lock_world.specs.Views.{entry_in}
 use Rattle.group_locks.specs.Agreeing.{TiedAgree}
 use Rattle.group_locks.specs.Beginning.{StartsTied}
 use Rattle.group_locks.specs.Events.{Moves}
-use Rattle.group_locks.specs.Runs.{AllEvents, AreCounted, Finds, FindsClaims, HandsNoneOver, PlainRunsStand, RunsStand, StandsBeside}
+use Rattle.group_locks.specs.Runs.{AllEvents, AreCounted, Finds, FindsClaims, HandsNoneOver, IsSafe, PlainRunsStand, PlainRunsStay, RunsStand, StandsBeside, StaysSafe}
 use Rattle.group_locks.specs.Taken.{EventsMove}
 use Rattle.group_locks.proofs.Moved.{run_on}
 
@@ -123,6 +123,25 @@ module _ {C D P : Type 0} (directory : C → Directory) (alive : D → Bool) (co
   all_find [] old new runs all = tt
   all_find (event ∷ events) old new runs all = (none_handed (crew_state directory old.crew) (crew_state directory runs.0.crew) all.0, all_find events runs.0 new runs.2 all.1)
 
+  -- ---- behind each event
+  is_safe : TiedAgree → (s : CrewState) → Reached s → IsSafe s
+  is_safe agree s here = record { world = here.world; stands = here.stands; agree = agree s here.world here.stands.tied }
+
+  found_in : (old mid new : CrewState) → mid ≡ old → HandsNoneOver old new → (here : Reached old) → Finds mid new
+  found_in old mid new same none here = subst (λ (z : CrewState). Finds z new) (sym same) (none_handed old new none here.world here.stands)
+
+  stays : TiedAgree → EventsMove P directory alive contents count → (events : List ℕ) (old new : Group D C P) (runs : RunsFresh directory alive contents count old events new)
+      → Reached (crew_state directory old.crew) → StaysSafe HandsNoneOver directory alive contents count old events new runs
+  stays agree law [] old new runs here =
+      is_safe agree (crew_state directory new.crew) (subst (λ (z : CrewState). Reached z) (sym (looked_state old new runs)) here)
+  stays agree law (event ∷ events) old new runs here = (
+    is_safe agree (crew_state directory old.crew) here,
+    λ lawful none.
+        let first = runs.1 in
+        stays agree law events runs.0 new runs.2
+        (event_goes law first.mid runs.0 event first.takes lawful (found_in (crew_state directory old.crew) (crew_state directory first.mid.crew) (crew_state directory runs.0.crew) (looked_state old first.mid first.looked) none here)),
+  )
+
 pub record Facts : Type 0 where
   pub start : StartsTied
   pub agree : TiedAgree
@@ -136,3 +155,7 @@ runs_stand {C} {D} P directory alive contents count facts law first events last 
 pub plain_runs_stand : {C D : Type 0} → (P : Type 0) (directory : C → Directory) (alive : D → Bool) (contents : D → Option Contents) (count : D → ℕ) → Facts → EventsMove P directory alive contents count → PlainRunsStand P directory alive contents count
 plain_runs_stand {C} {D} P directory alive contents count facts law first events last fresh counted runs none lawful =
     runs_stand P directory alive contents count facts law first events last fresh counted runs (all_find directory alive contents count events first last runs none) lawful
+
+pub plain_runs_stay : {C D : Type 0} → (P : Type 0) (directory : C → Directory) (alive : D → Bool) (contents : D → Option Contents) (count : D → ℕ) → Facts → EventsMove P directory alive contents count → PlainRunsStay P directory alive contents count
+plain_runs_stay {C} {D} P directory alive contents count facts law first events last fresh counted runs =
+    stays directory alive contents count facts.agree law events first last runs (record { world = start; stands = starts directory alive contents count facts.start first fresh counted })

@@ -69,6 +69,14 @@ AllEvents {C} {D} {P} Holds directory alive contents count old [] new runs = Uni
 AllEvents {C} {D} {P} Holds directory alive contents count old (event ∷ events) new runs =
     Holds (crew_state directory old.crew) (crew_state directory runs.0.crew) × AllEvents Holds directory alive contents count runs.0 events new runs.2
 
+-- The group is safe. So it is behind the next event, and goes on so, if this holds of that event and it isn't refused.
+abbrev pub StaysSafe : {C D P : Type 0} → (CrewState → CrewState → Type 0) → (directory : C → Directory) (alive : D → Bool) (contents : D → Option Contents) (count : D → ℕ)
+    → (old : Group D C P) (events : List ℕ) (new : Group D C P) → RunsFresh directory alive contents count old events new → Type 0
+StaysSafe {C} {D} {P} Holds directory alive contents count old [] new runs = IsSafe (crew_state directory new.crew)
+StaysSafe {C} {D} {P} Holds directory alive contents count old (event ∷ events) new runs =
+    IsSafe (crew_state directory old.crew)
+    × (((at : ℕ) → runs.0.fault ≢ Some (fault.Unlawful at)) → Holds (crew_state directory old.crew) (crew_state directory runs.0.crew) → StaysSafe Holds directory alive contents count runs.0 events new runs.2)
+
 -- ---- the theorems
 
 -- wherever events lead a group that has just started, none of which was refused, if they find the claims of the transactions that restarts hand over
@@ -82,3 +90,8 @@ abbrev pub PlainRunsStand : {C D : Type 0} → (P : Type 0) → (C → Directory
 PlainRunsStand {C} {D} P directory alive contents count = (first : Group D C P) (events : List ℕ) (last : Group D C P) → IsFresh directory first → AreCounted (crew_state directory first.crew)
     → (runs : RunsFresh directory alive contents count first events last) → AllEvents HandsNoneOver directory alive contents count first events last runs → ((at : ℕ) → last.fault ≢ Some (fault.Unlawful at))
     → IsSafe (crew_state directory last.crew)
+
+-- it is so behind each of its events, as long as none is refused and no restart hands any over
+abbrev pub PlainRunsStay : {C D : Type 0} → (P : Type 0) → (C → Directory) → (D → Bool) → (D → Option Contents) → (D → ℕ) → Type 0
+PlainRunsStay {C} {D} P directory alive contents count = (first : Group D C P) (events : List ℕ) (last : Group D C P) → IsFresh directory first → AreCounted (crew_state directory first.crew)
+    → (runs : RunsFresh directory alive contents count first events last) → StaysSafe HandsNoneOver directory alive contents count first events last runs

@@ -13,7 +13,7 @@ ghost use Rattle.group_locks.specs.Members.{MemberStepsMoves};
 ghost use Rattle.group_locks.specs.Phases.{PhasesMove};
 ghost use Rattle.group_locks.specs.Resting.{RestingStepsMove};
 ghost use Rattle.group_locks.specs.Restarts.{RestartStepsMove};
-ghost use Rattle.group_locks.specs.Runs.{PlainRunsStand, RunsStand};
+ghost use Rattle.group_locks.specs.Runs.{PlainRunsStand, PlainRunsStay, RunsStand};
 ghost use Rattle.group_locks.specs.Taken.{EventsMove};
 ghost use Rattle.group_locks.specs.Whole.{AnewMoves, GroupFailsTied, MemberFailsMoves};
 
@@ -155,10 +155,12 @@ pub fn claims_agree()
 }
 
 /// Wherever events lead a group that has just started, none refused, it stands beside a sound world that moves lead to from the start, and
-/// its claims agree: if its events find the claims of the transactions that restarts hand over, and so if no restart hands any over.
+/// its claims agree: if its events find the claims of the transactions that restarts hand over, and so if no restart hands any over. So it
+/// is behind each event, as long as no restart has handed any over.
 pub fn groups_run<D: Disk, C: CacheFace, P>()
     ensures runs { RunsStand P C.directory D.alive D.contents D.faults }
     ensures plain { PlainRunsStand P C.directory D.alive D.contents D.faults }
+    ensures stays { PlainRunsStay P C.directory D.alive D.contents D.faults }
 {
     groups_start();
     claims_agree();
