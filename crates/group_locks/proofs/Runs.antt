@@ -54,6 +54,12 @@ record Reached (s : CrewState) : Type 0 where
   pub world : World
   pub stands : StandsBeside s world
 
+is_safe : TiedAgree → (s : CrewState) → Reached s → IsSafe s
+is_safe agree s here = record { world = here.world; stands = here.stands; agree = agree s here.world here.stands.tied }
+
+found_in : (old mid new : CrewState) → mid ≡ old → HandsNoneOver old new → (here : Reached old) → Finds mid new
+found_in old mid new same none here = subst (λ (z : CrewState). Finds z new) (sym same) (none_handed old new none here.world here.stands)
+
 -- ---- what is ready
 from_unlooked : {P : Type 0} → (parts : List (MemberPart P)) → map member_of (map unlooked parts) ≡ map member_of parts
 from_unlooked [] = refl
@@ -124,12 +130,6 @@ module _ {C D P : Type 0} (directory : C → Directory) (alive : D → Bool) (co
   all_find (event ∷ events) old new runs all = (none_handed (crew_state directory old.crew) (crew_state directory runs.0.crew) all.0, all_find events runs.0 new runs.2 all.1)
 
   -- ---- behind each event
-  is_safe : TiedAgree → (s : CrewState) → Reached s → IsSafe s
-  is_safe agree s here = record { world = here.world; stands = here.stands; agree = agree s here.world here.stands.tied }
-
-  found_in : (old mid new : CrewState) → mid ≡ old → HandsNoneOver old new → (here : Reached old) → Finds mid new
-  found_in old mid new same none here = subst (λ (z : CrewState). Finds z new) (sym same) (none_handed old new none here.world here.stands)
-
   stays : TiedAgree → EventsMove P directory alive contents count → (events : List ℕ) (old new : Group D C P) (runs : RunsFresh directory alive contents count old events new)
       → Reached (crew_state directory old.crew) → StaysSafe HandsNoneOver directory alive contents count old events new runs
   stays agree law [] old new runs here =
