@@ -23,6 +23,8 @@ use Rattle.member_resources.specs.Held.{Held}
 use Rattle.group_member.specs.Adopting.{Adopts, AdoptsAll, changes_left, rows_left}
 use Rattle.lock_protocol.specs.Machine.{Covers, World, entered}
 use Rattle.lock_protocol.specs.Moves.{Run}
+use Rattle.lock_protocol.specs.Own.{AreOf}
+use Rattle.lock_protocol.proofs.Own.{both_are_of}
 use Rattle.lock_world.specs.Books.{EndLeaves, GivenEnters, HasEntered, HasHandedOn, HasLeft, IsBook, PostponedHandsOn, SlotHas}
 use Rattle.lock_world.specs.Numbers.{AreNumbered, name_at, number}
 use Rattle.lock_world.specs.Rollbacks.{HasClaimed, TakesOver as OwnerTakesOver, TakesOverMoves, claimed_spot, claimed_spots, demotions, row_of, space_of}
@@ -334,7 +336,7 @@ other_book held m b k o c ne = cond-false (k == m) (claim_in b o c) (held k o c)
 
 -- moves, and the world that they lead to; it has kept the claims of owners that are no rollbacks of the member
 pub record Went (w : World) (f : Facility) (left : Claims) (m : ℕ) (s t : MarksState) : Type 0 where
-  pub goes : TakesOver w f left s t
+  pub goes : TakesOver w f left m s t
   pub live : goes.moved.world.live m ≡ w.live m
   pub kept : (id : ℕ) → is_postponed t.locks id ≡ false → (c : ℕ) → goes.moved.world.claims m (rollback_owner id) c ≡ w.claims m (rollback_owner id) c
 
@@ -351,11 +353,16 @@ no_zero id e = let is : id + 17 ≡ 0 = e in omega (arith, is)
 low : (o id : ℕ) → o ≤ 16 → o ≢ rollback_owner id
 low o id le e = let is : o ≡ id + 17 = e in omega (arith, le, is)
 
+demotions_of : (m owner : ℕ) (ss : List Spot) → AreOf m (demotions m owner ss)
+demotions_of m owner [] = tt
+demotions_of m owner (s ∷ ss) = (refl, (refl, demotions_of m owner ss))
+
 went_on : Facts → (w : World) (f : Facility) (held left : Claims) (h mid k : Held) (m by : ℕ) (t : OpenTran) → w.live m ≡ true → HasClaimed w m (rollback_owner t.id) (rows_of t) → Adopts mid by t k
     → ((j o c : ℕ) → j ≢ m → left j o c ≡ held j o c) → ((o c : ℕ) → left m o c ≡ claim_in k.marks.locks o c) → Went w f (with_book held m mid.marks.locks) m h.marks mid.marks → Went w f left m h.marks k.marks
 went_on facts w f held left h mid k m by t live claimed_last adopts_last others own first = record {
   goes = record {
     moves = first.goes.moves ++ demotions m owner (rows_of t);
+    by = both_are_of m first.goes.moves (demotions m owner (rows_of t)) first.goes.by (demotions_of m owner (rows_of t));
     moved = record {
       same = last.same;
       world = last.world;
@@ -415,6 +422,7 @@ went : Facts → (w : World) (f : Facility) (held left : Claims) (h k : Held) (m
 went facts w f held left h k m by [] tied live may has knows is others own = record {
   goes = record {
     moves = [];
+    by = tt;
     moved = moved;
     took = record {
       stands = subst (λ (z : Held). MayTakeOver z.marks) (sym is) may;

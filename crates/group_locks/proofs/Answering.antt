@@ -55,6 +55,7 @@ use Rattle.group_member.specs.Resting.{changes_locks}
 use Rattle.marks_law.specs.Claims.{ClaimsStay, changes_claims}
 use Rattle.lock_protocol.specs.Machine.{Empty, World}
 use Rattle.lock_protocol.specs.Moves.{AnswerClean, AnswerConflict, Ask, Move}
+use Rattle.lock_protocol.specs.Own.{AreOf}
 use Rattle.lock_world.specs.Answers.{AnswersClean, AnswersConflict}
 use Rattle.lock_world.specs.Books.{AnswersTell}
 use Rattle.lock_world.specs.Cells.{AsksMoves}
@@ -80,8 +81,9 @@ never : true ≡ false → ⊥
 never e = cc
 
 -- ---- moves behind which the claims are as they were
-pub record FacilityGoes (w : World) (f g : Facility) (held : Claims) : Type 0 where
+pub record FacilityGoes (m : ℕ) (w : World) (f g : Facility) (held : Claims) : Type 0 where
   pub moves : List Move
+  pub by : AreOf m moves
   pub moved : Moved w moves f.locks g.locks g.lists held
   pub statuses : g.lists.statuses ≡ f.lists.statuses
   pub members : g.lists.members ≡ f.lists.members
@@ -89,9 +91,10 @@ pub record FacilityGoes (w : World) (f g : Facility) (held : Claims) : Type 0 wh
 quiet_same : (f g : Facility) → g ≡ f → Quiet f g
 quiet_same f g e = subst (λ z. Quiet f z) (sym e) (record { locks = refl; lists = record { cells = refl; statuses = refl; members = refl } })
 
-pub by_quiet : Facts → (w : World) (f g : Facility) (held : Claims) → Tied w f.locks f.lists held → Quiet f g → FacilityGoes w f g held
-by_quiet facts w f g held tied q = record {
+pub by_quiet : Facts → (m : ℕ) (w : World) (f g : Facility) (held : Claims) → Tied w f.locks f.lists held → Quiet f g → FacilityGoes m w f g held
+by_quiet facts m w f g held tied q = record {
   moves = [];
+  by = tt;
   moved = subst (λ (z : Locks). Moved w [] f.locks z g.lists held) (sym q.locks)
       (facts.stay w f.locks f.lists g.lists held held tied (record { cells = q.lists.cells; statuses = q.lists.statuses; members = q.lists.members; claims = λ k o c. refl }));
   statuses = q.lists.statuses;
@@ -99,9 +102,10 @@ by_quiet facts w f g held tied q = record {
 }
 
 -- only cells change
-by_cells : (w : World) (f g : Facility) (held : Claims) (moves : List Move) → g ≡ record f { lists = record f.lists { cells = g.lists.cells } } → Moved w moves f.locks f.locks g.lists held → FacilityGoes w f g held
-by_cells w f g held moves same moved = record {
+by_cells : (m : ℕ) (w : World) (f g : Facility) (held : Claims) (moves : List Move) → AreOf m moves → g ≡ record f { lists = record f.lists { cells = g.lists.cells } } → Moved w moves f.locks f.locks g.lists held → FacilityGoes m w f g held
+by_cells m w f g held moves by same moved = record {
   moves = moves;
+  by = by;
   moved = subst (λ (z : Locks). Moved w moves f.locks z g.lists held) (sym (ap (λ (z : Facility). z.locks) same)) moved;
   statuses = ap (λ (z : Facility). z.lists.statuses) same;
   members = ap (λ (z : Facility). z.lists.members) same;
@@ -153,13 +157,13 @@ none_to asker to other a k am km = and_right (same_asker a asker) (k == to) (ne_
 none_of : (asker : Asker) (to : ℕ) → ((j : ℕ) → IsMember j → j ≢ asker.member) → IsNone asker to
 none_of asker to other a k am km = and_left (same_asker a asker) (k == to) (and_left (a.member == asker.member) (a.slot == asker.slot) (ne_eqb a.member asker.member (other a.member am)))
 
-strangers : Facts → (w : World) (f g : Facility) (held : Claims) (asker : Asker) (to : ℕ) (c : Cell) → Tied w f.locks f.lists held → IsNone asker to
-    → AreCells g.lists.cells (with_cell f.lists.cells asker to c) → g ≡ record f { lists = record f.lists { cells = g.lists.cells } } → FacilityGoes w f g held
-strangers facts w f g held asker to c tied none are same =
+strangers : Facts → (m : ℕ) (w : World) (f g : Facility) (held : Claims) (asker : Asker) (to : ℕ) (c : Cell) → Tied w f.locks f.lists held → IsNone asker to
+    → AreCells g.lists.cells (with_cell f.lists.cells asker to c) → g ≡ record f { lists = record f.lists { cells = g.lists.cells } } → FacilityGoes m w f g held
+strangers facts m w f g held asker to c tied none are same =
     let lists : g.lists ≡ record f.lists { cells = g.lists.cells } = ap (λ (z : Facility). z.lists) same in
     let cells : (a o k : ℕ) → cell_in g.lists a o k ≡ cell_in f.lists a o k = cells_as f.lists g.lists (with_cell f.lists.cells asker to c) are (λ a k am km. cond-false (same_asker a asker && (k == to)) c (cell_of f.lists.cells a k) (none a k am km)) in
     let now : Tied w f.locks g.lists held = same_cells w f.locks f.lists g.lists held tied cells (ap (λ (z : ListsState). z.statuses) lists) (ap (λ (z : ListsState). z.members) lists) in
-    by_cells w f g held [] same (facts.stay w f.locks g.lists g.lists held held now (record { cells = refl; statuses = refl; members = refl; claims = λ k o c. refl }))
+    by_cells m w f g held [] tt same (facts.stay w f.locks g.lists g.lists held held now (record { cells = refl; statuses = refl; members = refl; claims = λ k o c. refl }))
 
 -- ---- a page whose lock the restart has
 is_itself : (p : PageId) → is_same p p ≡ true
@@ -201,14 +205,14 @@ pub record Stands (w : World) (f : Facility) (held : Claims) (m : ℕ) (s : Mark
 
 module _ (facts : Facts) (w : World) (f g : Facility) (held : Claims) (m : ℕ) (s : MarksState) (x : Option RestartHeld) (asker : Asker) (n : Name) (mode : Mode) (event : ℕ) where
   conflicts : (said : CellAnswer) → Stands w f held m s x → said ≢ cell.Clean → IsMember asker.member → asker.slot ≤ 16
-      → AreCells g.lists.cells (with_cell f.lists.cells asker m (answered_cell f n mode said event)) → g ≡ record f { lists = record f.lists { cells = g.lists.cells } } → FacilityGoes w f g held
-  conflicts said st other is few are same = by_cells w f g held (AnswerConflict m asker.member asker.slot (number n) mode ∷ []) same
+      → AreCells g.lists.cells (with_cell f.lists.cells asker m (answered_cell f n mode said event)) → g ≡ record f { lists = record f.lists { cells = g.lists.cells } } → FacilityGoes m w f g held
+  conflicts said st other is few are same = by_cells m w f g held (AnswerConflict m asker.member asker.slot (number n) mode ∷ []) (refl, tt) same
       (facts.conflict w f.locks f.lists g.lists held m asker.member asker.slot (entry_for f.locks n).version event n mode said st.tied is few st.member other are (ap (λ (z : Facility). z.lists) same))
 
   answered : Stands w f held m s x → is_held x n ≡ false → IsMember asker.member → asker.slot ≤ 16
       → AreCells g.lists.cells (with_cell f.lists.cells asker m (answered_cell f n mode (cell_for s (answer_of s.locks n mode)) event)) → g ≡ record f { lists = record f.lists { cells = g.lists.cells } }
-      → (a : LockAnswer) → answer_of s.locks n mode ≡ a → FacilityGoes w f g held
-  answered st free is few are same answer.Clean e = by_cells w f g held (AnswerClean m asker.member asker.slot (number n) mode ∷ []) same
+      → (a : LockAnswer) → answer_of s.locks n mode ≡ a → FacilityGoes m w f g held
+  answered st free is few are same answer.Clean e = by_cells m w f g held (AnswerClean m asker.member asker.slot (number n) mode ∷ []) (refl, tt) same
       (facts.clean w f.locks f.lists g.lists held m asker.member asker.slot event n mode st.tied is few st.member st.live st.among
       (λ q. subst (λ (z : Option Mode). is_in_way z mode ≡ false) (sym (st.knows q (number n))) (or_way (claim_in s.locks q (number n)) (restart_claim x q (number n)) mode (facts.tells s.locks n mode e q) (restart_free facts.numbers x n free q)))
       (subst (λ z. AreCells g.lists.cells (with_cell f.lists.cells asker m (answered_cell f n mode (cell_for s z) event))) e are) (ap (λ (z : Facility). z.lists) same))
@@ -218,13 +222,13 @@ module _ (facts : Facts) (w : World) (f g : Facility) (held : Claims) (m : ℕ) 
       (subst (λ z. AreCells g.lists.cells (with_cell f.lists.cells asker m (answered_cell f n mode (cell_for s z) event))) e are) same
 
   by_asker : Stands w f held m s x → is_held x n ≡ false → asker.slot ≤ 16
-      → AreCells g.lists.cells (with_cell f.lists.cells asker m (answered_cell f n mode (answer_to s n mode) event)) → g ≡ record f { lists = record f.lists { cells = g.lists.cells } } → FacilityGoes w f g held
+      → AreCells g.lists.cells (with_cell f.lists.cells asker m (answered_cell f n mode (answer_to s n mode) event)) → g ≡ record f { lists = record f.lists { cells = g.lists.cells } } → FacilityGoes m w f g held
   by_asker st free few are same = elim (member_or asker.member) [
     | inl is ↦ answered st free is few are same (answer_of s.locks n mode) refl
-    | inr other ↦ strangers facts w f g held asker m (answered_cell f n mode (answer_to s n mode) event) st.tied (none_of asker m other) are same
+    | inr other ↦ strangers facts m w f g held asker m (answered_cell f n mode (answer_to s n mode) event) st.tied (none_of asker m other) are same
   ]
 
-  by_reply : (a : Reply) → Stands w f held m s x → is_held x n ≡ false → asker.slot ≤ 16 → AnswersQuery f m asker n mode (answer_to s n mode) event a g → FacilityGoes w f g held
+  by_reply : (a : Reply) → Stands w f held m s x → is_held x n ≡ false → asker.slot ≤ 16 → AnswersQuery f m asker n mode (answer_to s n mode) event a g → FacilityGoes m w f g held
   by_reply (reply.Granted version) st free few e = absurd e
   by_reply (reply.Retained by) st free few e = absurd e
   by_reply (reply.RecordsFull limit) st free few e = absurd e
@@ -246,7 +250,7 @@ module _ (facts : Facts) (w : World) (f g : Facility) (held : Claims) (m : ℕ) 
   by_reply reply.NotHeld st free few e = absurd e
   by_reply (reply.ChangedPage page) st free few e = absurd e
   by_reply (reply.Query query) st free few e = absurd e
-  by_reply reply.Gone st free few e = by_quiet facts w f g held st.tied (quiet_same f g e.1)
+  by_reply reply.Gone st free few e = by_quiet facts m w f g held st.tied (quiet_same f g e.1)
   by_reply reply.Cells st free few e = absurd e
   by_reply reply.Waits st free few e = absurd e
   by_reply reply.Raised st free few e = absurd e
@@ -347,8 +351,8 @@ not_held x asker n m e = by (is_held x n) e
     by false e = refl
 
 module _ (facts : Facts) (w : World) (u v : Resources) (held : Claims) (m : ℕ) (h ready k : Held) (x : Option RestartHeld) (c : Setting) (plan : Plan) (place : ℕ) (a : Answered) (said : Told) (st : Stands w u.facility held m h.marks x) (same : ready.marks.member ≡ h.marks.member) where
-  quiet : (i : Intent) (s : Sent) → QuietSent s → Runs u ready i s plan place a said v k → FacilityGoes w u.facility v.facility held
-  quiet i s q r = by_quiet facts w u.facility v.facility held st.tied (quiet_runs s q r)
+  quiet : (i : Intent) (s : Sent) → QuietSent s → Runs u ready i s plan place a said v k → FacilityGoes m w u.facility v.facility held
+  quiet i s q r = by_quiet facts m w u.facility v.facility held st.tied (quiet_runs s q r)
     where
       quiet_runs : (s : Sent) → QuietSent s → Runs u ready i s plan place a said v k → Quiet u.facility v.facility
       quiet_runs sent.None q r = quiet_same u.facility v.facility (ap (λ (z : Resources). z.facility) r.world)
@@ -360,22 +364,22 @@ module _ (facts : Facts) (w : World) (u v : Resources) (held : Claims) (m : ℕ)
   own : ready.marks.member ≡ m
   own = same ∙ st.own
 
-  asks : (o : Owner) (to : ℕ) (n : Name) (mode : Mode) → Runs u ready (intent.Ask o to n mode) (sent.Command (command.Ask (cell_slot o n) to n mode)) plan place a said v k → FacilityGoes w u.facility v.facility held
+  asks : (o : Owner) (to : ℕ) (n : Name) (mode : Mode) → Runs u ready (intent.Ask o to n mode) (sent.Command (command.Ask (cell_slot o n) to n mode)) plan place a said v k → FacilityGoes m w u.facility v.facility held
   asks o to n mode r =
       let only = r.0.gives.executed.executes.0.1.1 in
       let are = subst (λ z. AreCells v.facility.lists.cells (with_cell u.facility.lists.cells (slot_of z (cell_slot o n)) to (Asked n mode))) own r.0.gives.executed.executes.0.1.0 in
       elim (member_or to) [
-        | inl is ↦ by_cells w u.facility v.facility held (Ask m (cell_slot o n) to (number n) mode ∷ []) only
+        | inl is ↦ by_cells m w u.facility v.facility held (Ask m (cell_slot o n) to (number n) mode ∷ []) (refl, tt) only
             (facts.ask w u.facility.locks u.facility.lists v.facility.lists held m (cell_slot o n) to n mode st.tied st.member r.0.gives.can is are (ap (λ (z : Facility). z.lists) only))
-        | inr other ↦ strangers facts w u.facility v.facility held (slot_of m (cell_slot o n)) to (Asked n mode) st.tied (none_to (slot_of m (cell_slot o n)) to other) are only
+        | inr other ↦ strangers facts m w u.facility v.facility held (slot_of m (cell_slot o n)) to (Asked n mode) st.tied (none_to (slot_of m (cell_slot o n)) to other) are only
       ]
 
-  answers : (asker : Asker) (n : Name) (mode : Mode) → answers_held x (intent.Answer asker n mode) ≡ false → Runs u ready (intent.Answer asker n mode) (sent.Command (command.Answer asker n mode (answer_to h.marks n mode) c.place)) plan place a said v k → FacilityGoes w u.facility v.facility held
+  answers : (asker : Asker) (n : Name) (mode : Mode) → answers_held x (intent.Answer asker n mode) ≡ false → Runs u ready (intent.Answer asker n mode) (sent.Command (command.Answer asker n mode (answer_to h.marks n mode) c.place)) plan place a said v k → FacilityGoes m w u.facility v.facility held
   answers asker n mode keeps r =
       by_reply facts w u.facility v.facility held m h.marks x asker n mode c.place r.0.answer st (not_held x asker n mode keeps) r.0.gives.can
       (subst (λ z. AnswersQuery u.facility z asker n mode (answer_to h.marks n mode) c.place r.0.answer v.facility) own r.0.gives.executed.executes.0)
 
-  by_intent : (i : Intent) (s : Sent) → changes_locks i ≡ false → answers_held x i ≡ false → Lawful h.marks h.pages c i s → Runs u ready i s plan place a said v k → FacilityGoes w u.facility v.facility held
+  by_intent : (i : Intent) (s : Sent) → changes_locks i ≡ false → answers_held x i ≡ false → Lawful h.marks h.pages c i s → Runs u ready i s plan place a said v k → FacilityGoes m w u.facility v.facility held
   by_intent intent.Step s changes keeps lawful r = quiet intent.Step s (quiet_as s _ lawful tt) r
   by_intent (intent.Obtain o n m) s changes keeps lawful r = absurd (never changes)
   by_intent (intent.Grant o n m) s changes keeps lawful r = absurd (never changes)
@@ -420,13 +424,13 @@ needs_sent (Ok t) (Err test) s p e = absurd cc
 needs_sent (Ok t) (Ok q) s p e = ap sent_in e
 
 -- the facility behind it, and the claims before the policy's local moves
-pub record OwnGoes (w : World) (f g : Facility) (held : Claims) (s t : MarksState) : Type 0 where
-  pub goes : FacilityGoes w f g held
+pub record OwnGoes (m : ℕ) (w : World) (f g : Facility) (held : Claims) (s t : MarksState) : Type 0 where
+  pub goes : FacilityGoes m w f g held
   pub locks : t.locks ≡ s.locks
   pub member : t.member ≡ s.member
 
 pub own_goes : Facts → (w : World) (u v : Resources) (held : Claims) (m : ℕ) (h k : Held) (x : Option RestartHeld) (i : Intent) (place : ℕ) (s : Sent) (a : Answered)
-    → Stands w u.facility held m h.marks x → changes_locks i ≡ false → answers_held x i ≡ false → (e : Happens u h i place s a v k) → OwnGoes w u.facility v.facility held h.marks e.after.marks
+    → Stands w u.facility held m h.marks x → changes_locks i ≡ false → answers_held x i ≡ false → (e : Happens u h i place s a v k) → OwnGoes m w u.facility v.facility held h.marks e.after.marks
 own_goes facts w u v held m h k x i place s a st changes keeps e =
     let ready = ready_same i h e.ready changes e.reserves in
     let c : Setting = setting_of h (holder_in u.facility h.cast) place in

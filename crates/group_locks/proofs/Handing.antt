@@ -37,6 +37,7 @@ pub hands_on : RunKeepsSound → HandsOnMoves
 hands_on law s w m owner to t one most dead slot ne free = record {
   entries = refl;
   moves = Postpone m owner to ∷ [];
+  are = (refl, tt);
   world = v;
   run = run;
   tied = record {

@@ -39,6 +39,7 @@ pub member_steps : Facts → MemberStepsMoves
 member_steps facts old new at m n w t e = record {
   entries = goes.moved.same;
   moves = goes.moves;
+  are = goes.own;
   world = goes.moved.world;
   run = goes.moved.run;
   tied = record {

@@ -29,6 +29,7 @@ use Rattle.lock_world.specs.Tied.{Claims, Moved, Tied}
 use Rattle.lock_world.specs.Views.{entry_in}
 use Rattle.lock_members.specs.Known.{known_of, or_else, page_claim, restart_claim}
 use Rattle.lock_restarts.specs.Courses.{IsInOrder}
+use Rattle.group_locks.specs.Events.{AreRestarts}
 use Rattle.group_locks.specs.Phases.{PhasesMove}
 use Rattle.group_locks.specs.Stands.{ClaimsNothing, MemberStands, known, known_by}
 use Rattle.group_locks.proofs.Moved.{run_on, stands_on, still_sound}
@@ -186,6 +187,7 @@ none_behind m n is fresh none o c =
 -- ---- from one member on
 record Begun (w : World) (f : Facility) (held : Claims) (lists now : ListsState) (k : ℕ) (ms ns : List Member) : Type 0 where
   pub moves : List Move
+  pub are : AreRestarts moves
   pub moved : Moved w moves f.locks f.locks now held
   pub cells : now.cells ≡ lists.cells
   pub members : now.members ≡ lists.members
@@ -205,6 +207,7 @@ module _ (facts : Facts) (phase : Phase) (f : Facility) (held : Claims) (few : f
       → ((j : ℕ) → k ≤ j → status_of lists.statuses j ≡ status_of f.lists.statuses j) → StandAll f k ms → KnowAll held k ms → AllRestart phase lists ms ns now → Begun w f held lists now k ms ns
   begins w lists now k [] [] sound tied members one most same stand know all = record {
     moves = [];
+    are = tt;
     moved = facts.stay w f.locks lists now held held tied (record { cells = ap (λ (z : ListsState). z.cells) all; statuses = ap (λ (z : ListsState). z.statuses) all; members = ap (λ (z : ListsState). z.members) all; claims = λ k o c. refl });
     cells = ap (λ (z : ListsState). z.cells) all;
     members = ap (λ (z : ListsState). z.members) all;
@@ -226,6 +229,7 @@ module _ (facts : Facts) (phase : Phase) (f : Facility) (held : Claims) (few : f
       by : (b : Bool) → begins_restart phase lists.statuses m.id ≡ b → Restarts b m n → AllRestart phase (if b then restarting lists m.id else lists) ms ns now → Begins phase f held now (suc k) ms ns → Begun w f held lists now k (m ∷ ms) (n ∷ ns)
       by false e first rest go = record {
         moves = next.moves;
+        are = next.are;
         moved = next.moved;
         cells = next.cells;
         members = next.members;
@@ -241,6 +245,7 @@ module _ (facts : Facts) (phase : Phase) (f : Facility) (held : Claims) (few : f
           next = go w lists sound tied members (omega (arith, one)) fits.1 (λ j le. same j (omega (arith, le))) stand.1 know.1 rest
       by true e first rest go = record {
         moves = Restart k ∷ next.moves;
+        are = next.are;
         moved = record { same = next.moved.same; world = next.moved.world; run = run_on (entry_in f.locks) w moved.world next.moved.world (Restart k ∷ []) next.moves moved.run next.moved.run; tied = next.moved.tied };
         cells = next.cells;
         members = next.members;
@@ -293,6 +298,7 @@ pub phases_move : Facts → PhasesMove
 phases_move facts phase old new w t p = record {
   entries = moved.same;
   moves = begun.moves;
+  are = begun.are;
   world = moved.world;
   run = moved.run;
   tied = record {

@@ -43,6 +43,8 @@ use Rattle.group_member.specs.Resting.{NoneInSlots, frees_claimed}
 use Rattle.group_crew.specs.States.{CrewState}
 use Rattle.lock_protocol.specs.Machine.{Covers, World}
 use Rattle.lock_protocol.specs.Moves.{Move, Run}
+use Rattle.lock_protocol.specs.Own.{AreOf}
+use Rattle.lock_protocol.proofs.Own.{both_are_of}
 use Rattle.lock_protocol.specs.Sound.{RunKeepsSound, Sound}
 use Rattle.lock_world.specs.Books.{IsBook, NobodyHolds, RollbackWaits}
 use Rattle.lock_world.specs.Numbers.{AreNumbered, name_at, number}
@@ -277,6 +279,7 @@ hands s = by_kept s.kept refl
 -- ---- the restart goes on: what it leaves to the member
 record Leaves (w : World) (f : Facility) (held : Claims) (id : ℕ) (m : MarksState) (h : Held) (s : RestartState) : Type 0 where
   pub moves : List Move
+  pub by : AreOf id moves
   pub moved : Moved w moves f.locks f.locks f.lists (with_own held id (known_with (λ o c. claim_in h.marks.locks o c) s.claim))
   pub stands : MayTakeOver h.marks
   pub member : h.marks.member ≡ m.member
@@ -300,6 +303,7 @@ record Stands (w : World) (f : Facility) (held : Claims) (id : ℕ) (h : Held) (
 keeps_all : Facts → (w : World) (f : Facility) (held : Claims) (id : ℕ) (h k : Held) (s : RestartState) → Stands w f held id h s → k ≡ h → Leaves w f held id h.marks k s
 keeps_all facts w f held id h k s st e = subst (λ (z : Held). Leaves w f held id h.marks z s) (sym e) (record {
   moves = [];
+  by = tt;
   moved = facts.stay w f.locks f.lists f.lists (with_own held id (known_with (λ o c. claim_in h.marks.locks o c) s.claim)) (with_own held id (known_with (λ o c. claim_in h.marks.locks o c) s.claim)) st.tied
       (record { cells = refl; statuses = refl; members = refl; claims = λ k o c. refl });
   stands = st.may;
@@ -316,6 +320,7 @@ keeps_all facts w f held id h k s st e = subst (λ (z : Held). Leaves w f held i
 hands_all : Facts → (w : World) (f : Facility) (held : Claims) (id : ℕ) (h k : Held) (s : RestartState) (handed : Handed s) → Stands w f held id h s → AdoptsAll h handed.by (opened_among s.trans.list) k → Leaves w f held id h.marks k (with_trans s no_trans)
 hands_all facts w f held id h k s handed st adopts = record {
   moves = takes.moves;
+  by = takes.by;
   moved = takes.moved;
   stands = takes.took.stands;
   member = takes.took.member;
@@ -333,7 +338,7 @@ hands_all facts w f held id h k s handed st adopts = record {
     after : Claims
     after = with_own held id (known_with (λ o c. claim_in k.marks.locks o c) s.claim)
 
-    takes : TakesOver w f after h.marks k.marks
+    takes : TakesOver w f after id h.marks k.marks
     takes = facts.adopt w f before after h k id handed.by (opened_among s.trans.list) st.tied st.live st.may (st.claimed (ap (λ (z : Option Adopted). is_some z) handed.told))
         (λ o c. own_there held id (known_with (λ o c. claim_in h.marks.locks o c) s.claim) o c ∙ without_page (λ o c. claim_in h.marks.locks o c) s.claim handed.unclaimed o c) adopts
         (λ j o c ne. own_apart held id (known_with (λ o c. claim_in k.marks.locks o c) s.claim) j o c ne ∙ sym (own_apart held id (known_with (λ o c. claim_in h.marks.locks o c) s.claim) j o c ne))
@@ -420,8 +425,9 @@ numbered : (ms : List Member) (k : ℕ) (x : Member) → slice_get ms k ≡ Some
 numbered ms k x h = let a : k < length ms = slice_get_within ms k x h in omega (arith, a)
 
 -- what is behind the event of the restart, and what its member made of it
-record Landed (w : World) (new : CrewState) (at : ℕ) (n : Member) : Type 0 where
+record Landed (w : World) (new : CrewState) (at id : ℕ) (n : Member) : Type 0 where
   pub moves : List Move
+  pub by : AreOf id moves
   pub moved : Moved w moves new.facility.locks new.facility.locks new.facility.lists (known new.members)
   pub here : MemberStands new.facility (at + 1) n
 
@@ -429,6 +435,7 @@ pub restart_steps : Facts → RestartStepsMove
 restart_steps facts old new at m n w t e = record {
   entries = moved.same;
   moves = event.moves ++ landed.moves;
+  are = both_are_of m.id event.moves landed.moves (subst (λ z. AreOf z event.moves) own_member event.own) landed.by;
   world = moved.world;
   run = moved.run;
   tied = record {
@@ -580,9 +587,10 @@ restart_steps facts old new at m n w t e = record {
       | inr x ↦ (x.1, x.2)
     ]
 
-    landed_up : now.is_up ≡ true → (mid.restart ≡ None) × (ends.left ≡ m.holds) → Landed event.moved.world new at n
+    landed_up : now.is_up ≡ true → (mid.restart ≡ None) × (ends.left ≡ m.holds) → Landed event.moved.world new at m.id n
     landed_up up over = record {
       moves = goes.moves;
+      by = subst (λ z. AreOf z goes.moves) marks_member goes.own;
       moved = goes.moved;
       here = record {
         id = id;
@@ -641,9 +649,10 @@ restart_steps facts old new at m n w t e = record {
       | inr x ↦ absurd (never (sym x.0 ∙ on))
     ]
 
-    landed_on : now.is_up ≡ false → HandsOver r m.holds mid.restart ends.left → Landed event.moved.world new at n
+    landed_on : now.is_up ≡ false → HandsOver r m.holds mid.restart ends.left → Landed event.moved.world new at m.id n
     landed_on on over = record {
       moves = handed.leaves.moves;
+      by = handed.leaves.by;
       moved = record {
         same = refl;
         world = handed.leaves.moved.world;
@@ -733,11 +742,11 @@ restart_steps facts old new at m n w t e = record {
         still = facts.stay handed.leaves.moved.world new.facility.locks new.facility.lists new.facility.lists after (known new.members) handed.leaves.moved.tied
             (record { cells = refl; statuses = refl; members = refl; claims = claims })
 
-    by_end : (b : Bool) → now.is_up ≡ b → GoesOn b r m.holds mid.restart ends.left → Landed event.moved.world new at n
+    by_end : (b : Bool) → now.is_up ≡ b → GoesOn b r m.holds mid.restart ends.left → Landed event.moved.world new at m.id n
     by_end true up over = landed_up up over
     by_end false on over = landed_on on over
 
-    landed : Landed event.moved.world new at n
+    landed : Landed event.moved.world new at m.id n
     landed = by_end now.is_up refl ends.goes_on
 
     moved : Moved w (event.moves ++ landed.moves) old.facility.locks new.facility.locks new.facility.lists (known new.members)

@@ -24,7 +24,7 @@ use Rattle.lock_world.specs.Numbers.{name_at}
 use Rattle.lock_world.specs.Views.{entry_in}
 use Rattle.group_locks.specs.Agreeing.{TiedAgree}
 use Rattle.group_locks.specs.Beginning.{StartsTied}
-use Rattle.group_locks.specs.Events.{Moves}
+use Rattle.group_locks.specs.Events.{Moves, Whose}
 use Rattle.group_locks.specs.Runs.{AllEvents, AreCounted, Finds, FindsClaims, HandsNoneOver, IsSafe, PlainRunsStand, PlainRunsStay, RunsStand, StandsBeside, StaysSafe}
 use Rattle.group_locks.specs.Taken.{EventsMove}
 use Rattle.group_locks.proofs.Moved.{run_on}
@@ -41,8 +41,8 @@ none_handed old new none w stands = record {
 }
 
 -- a run goes on by the moves of an event
-goes_on : (old new : CrewState) (w : World) → StandsBeside old w → (m : Moves old new w) → StandsBeside new m.world
-goes_on old new w stands m = record {
+goes_on : (by : Whose) (old new : CrewState) (w : World) → StandsBeside old w → (m : Moves by old new w) → StandsBeside new m.world
+goes_on by old new w stands m = record {
   moves = stands.moves ++ m.moves;
   run = subst (λ (z : ℕ). Run (λ c. entry_number (name_at c) z) start (stands.moves ++ m.moves) m.world) (sym m.entries)
       (run_on (entry_in old.facility.locks) start w m.world stands.moves m.moves stands.run m.run);
@@ -53,6 +53,12 @@ goes_on old new w stands m = record {
 record Reached (s : CrewState) : Type 0 where
   pub world : World
   pub stands : StandsBeside s world
+
+is_safe : TiedAgree → (s : CrewState) → Reached s → IsSafe s
+is_safe agree s here = record { world = here.world; stands = here.stands; agree = agree s here.world here.stands.tied }
+
+found_in : (old mid new : CrewState) → mid ≡ old → HandsNoneOver old new → (here : Reached old) → Finds mid new
+found_in old mid new same none here = subst (λ (z : CrewState). Finds z new) (sym same) (none_handed old new none here.world here.stands)
 
 -- ---- what is ready
 from_unlooked : {P : Type 0} → (parts : List (MemberPart P)) → map member_of (map unlooked parts) ≡ map member_of parts
@@ -105,8 +111,8 @@ module _ {C D P : Type 0} (directory : C → Directory) (alive : D → Bool) (co
   event_goes : EventsMove P directory alive contents count → (old new : Group D C P) (event : ℕ) → Takes directory alive contents count old event new → IsLawful new → Finds (crew_state directory old.crew) (crew_state directory new.crew)
       → Reached (crew_state directory new.crew)
   event_goes law old new event taken lawful found =
-      let m = law old new event found.world taken lawful found.stands.tied found.adopted in
-      record { world = m.world; stands = goes_on (crew_state directory old.crew) (crew_state directory new.crew) found.world found.stands m }
+      let go = law old new event found.world taken lawful found.stands.tied found.adopted in
+      record { world = go.2.world; stands = goes_on go.0 (crew_state directory old.crew) (crew_state directory new.crew) found.world found.stands go.2 }
 
   goes : EventsMove P directory alive contents count → (events : List ℕ) (old new : Group D C P) (runs : RunsFresh directory alive contents count old events new)
       → AllEvents FindsClaims directory alive contents count old events new runs → IsLawful new → Reached (crew_state directory old.crew) → Reached (crew_state directory new.crew)
@@ -124,12 +130,6 @@ module _ {C D P : Type 0} (directory : C → Directory) (alive : D → Bool) (co
   all_find (event ∷ events) old new runs all = (none_handed (crew_state directory old.crew) (crew_state directory runs.0.crew) all.0, all_find events runs.0 new runs.2 all.1)
 
   -- ---- behind each event
-  is_safe : TiedAgree → (s : CrewState) → Reached s → IsSafe s
-  is_safe agree s here = record { world = here.world; stands = here.stands; agree = agree s here.world here.stands.tied }
-
-  found_in : (old mid new : CrewState) → mid ≡ old → HandsNoneOver old new → (here : Reached old) → Finds mid new
-  found_in old mid new same none here = subst (λ (z : CrewState). Finds z new) (sym same) (none_handed old new none here.world here.stands)
-
   stays : TiedAgree → EventsMove P directory alive contents count → (events : List ℕ) (old new : Group D C P) (runs : RunsFresh directory alive contents count old events new)
       → Reached (crew_state directory old.crew) → StaysSafe HandsNoneOver directory alive contents count old events new runs
   stays agree law [] old new runs here =

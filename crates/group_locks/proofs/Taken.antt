@@ -1,5 +1,5 @@
 -- Any event of a group, by whose it is.
-use Rattle.std.proofs.Common.{◌≡◌, ℕ, suc, ◌+◌, refl, sym, ◌∙◌, ap, subst, arith, Bool, true, false, inl, inr, List, [], ◌∷◌, length, Option, Some, None}
+use Rattle.std.proofs.Common.{◌≡◌, ℕ, zero, suc, ◌+◌, ◌≤◌, refl, sym, ◌∙◌, ap, subst, arith, Bool, true, false, inl, inr, List, [], ◌∷◌, length, Option, Some, None}
 use Rattle.std.specs.Prelude.{◌≢◌, ◌⊎◌, ◌-◌, ◌*◌, ◌/◌, ◌%◌, ◌==◌, ◌||◌, not, if◌then◌else◌, IfSome, IsSomeAnd, is_some, map, slice_get}
 use Rattle.std.proofs.lemmas.Bool.{and_parts, cases_Bool, cases_eq, eqb-true}
 use Rattle.std.proofs.lemmas.Nat.{div-add-mod'}
@@ -38,12 +38,12 @@ use Rattle.group_core.specs.Events.{takes}
 use Rattle.group_core.specs.Restarts.{EntersRestart, RestartSteps}
 use Rattle.group_core.specs.Takes.{BeginsOrNot, IsMade, TakesMember, TakesOwn}
 use Rattle.lock_protocol.specs.Machine.{World}
-use Rattle.group_locks.specs.Events.{Moves}
+use Rattle.group_locks.specs.Events.{AreBy, IsFor, Moves, OfGroup, OfMember, OfPhase, Whose}
 use Rattle.group_locks.specs.Members.{MemberStepsMoves}
 use Rattle.group_locks.specs.Phases.{PhasesMove}
 use Rattle.group_locks.specs.Resting.{RestingStepsMove}
 use Rattle.group_locks.specs.Restarts.{RestartStepsMove}
-use Rattle.group_locks.specs.Stands.{LocksTied}
+use Rattle.group_locks.specs.Stands.{LocksTied, MemberStands}
 use Rattle.group_locks.specs.Taken.{AdoptedClaim, EventsMove}
 use Rattle.group_locks.specs.Whole.{AnewMoves, GroupFailsTied, MemberFailsMoves}
 
@@ -60,11 +60,16 @@ never : true ≡ false → ⊥
 never e = cc
 
 -- ---- no move
-stays : (old new : CrewState) (w : World) → length new.facility.locks.entries ≡ length old.facility.locks.entries → LocksTied new w → Moves old new w
-stays old new w entries t = record { entries = entries; moves = []; world = w; run = refl; tied = t }
+none_by : (by : Whose) → AreBy by []
+none_by (OfMember m) = tt
+none_by OfPhase = tt
+none_by OfGroup = tt
 
-as_it_was : (old new : CrewState) (w : World) → new ≡ old → LocksTied old w → Moves old new w
-as_it_was old new w e t = stays old new w (ap (λ (z : CrewState). length z.facility.locks.entries) e) (subst (λ (z : CrewState). LocksTied z w) (sym e) t)
+stays : (by : Whose) (old new : CrewState) (w : World) → length new.facility.locks.entries ≡ length old.facility.locks.entries → LocksTied new w → Moves by old new w
+stays by old new w entries t = record { entries = entries; moves = []; are = none_by by; world = w; run = refl; tied = t }
+
+as_it_was : (by : Whose) (old new : CrewState) (w : World) → new ≡ old → LocksTied old w → Moves by old new w
+as_it_was by old new w e t = stays by old new w (ap (λ (z : CrewState). length z.facility.locks.entries) e) (subst (λ (z : CrewState). LocksTied z w) (sym e) t)
 
 -- ---- what the locks don't depend on
 with_restart : (s : CrewState) (x : Option Restart) (w : World) → LocksTied s w → LocksTied (record s { restart = x }) w
@@ -76,8 +81,8 @@ with_fates s f w t = record { sound = t.sound; tied = t.tied; count = t.count; f
 counted : (s : CrewState) (w : World) → LocksTied s w → LocksTied (fail_counted s) w
 counted s w t = record { sound = t.sound; tied = t.tied; count = t.count; few = t.few; agents = t.agents; entries = t.entries; stands = t.stands }
 
-from_restart : (old new : CrewState) (x : Option Restart) (w : World) → Moves (record old { restart = x }) new w → Moves old new w
-from_restart old new x w m = record { entries = m.entries; moves = m.moves; world = m.world; run = m.run; tied = m.tied }
+from_restart : (by : Whose) (old new : CrewState) (x : Option Restart) (w : World) → Moves by (record old { restart = x }) new w → Moves by old new w
+from_restart by old new x w m = record { entries = m.entries; moves = m.moves; are = m.are; world = m.world; run = m.run; tied = m.tied }
 
 -- ---- which events are the group's own
 own_is : (choice : ℕ) (o : Option ℕ) (k : ℕ) → o ≡ Some k → is_own o choice ≡ true → choice ≡ k
@@ -101,11 +106,11 @@ own_number event choice rest is =
     omega (arith, whole, same, rest)
 
 -- ---- the group restart makes a call
-enters : Facts → (s : State) (why : Option RunFault) (old new : CrewState) (w : World) → LocksTied old w → EntersRestart s why old new → Moves old new w
-enters facts state.Going why old new w t e = as_it_was old new w e.1 t
+enters : Facts → (s : State) (why : Option RunFault) (old new : CrewState) (w : World) → LocksTied old w → EntersRestart s why old new → Moves OfGroup old new w
+enters facts state.Going why old new w t e = as_it_was OfGroup old new w e.1 t
 enters facts (state.Done counter) why old new w t e = facts.anew old new counter w t e.1
-enters facts (state.Damaged volume at) why old new w t e = as_it_was old new w e.1 t
-enters facts state.Failed why old new w t e = stays old new w (ap (λ (z : CrewState). length z.facility.locks.entries) e.2) (subst (λ (z : CrewState). LocksTied z w) (sym e.2) (with_fates old new.fates w t))
+enters facts (state.Damaged volume at) why old new w t e = as_it_was OfGroup old new w e.1 t
+enters facts state.Failed why old new w t e = stays OfGroup old new w (ap (λ (z : CrewState). length z.facility.locks.entries) e.2) (subst (λ (z : CrewState). LocksTied z w) (sym e.2) (with_fates old new.fates w t))
 
 -- ---- members by their places
 some_at : {A : Type 0} → (xs ys : List A) → ((k : ℕ) → is_some (slice_get xs k) ≡ is_some (slice_get ys k)) → length xs ≡ length ys
@@ -134,7 +139,7 @@ record At (old new : CrewState) (at : ℕ) (m n : Member) : Type 0 where
 
 module _ (facts : Facts) (old new : CrewState) (w : World) (t : LocksTied old w) (adopted : AdoptedClaim old new w) (at : ℕ) (m n : Member) (here : At old new at m n) (u v : Resources) (place : ℕ) where
   restarting : (stepped : Stepped) → u.facility ≡ old.facility → v.facility ≡ new.facility → status_of old.facility.lists.statuses m.id ≡ status.Restarting → is_over stepped ≡ false
-      → Steps m (record { facility = old.facility; drive = u.drive }) old.fates place stepped n (record { facility = new.facility; drive = v.drive }) new.fates → Moves old new w
+      → Steps m (record { facility = old.facility; drive = u.drive }) old.fates place stepped n (record { facility = new.facility; drive = v.drive }) new.fates → Moves (OfMember m.id) old new w
   restarting (steps.Restart sent answered) f g standing over made = facts.restarts old new at m n w t (record {
     had = here.had;
     has = here.has;
@@ -183,7 +188,7 @@ module _ (facts : Facts) (old new : CrewState) (w : World) (t : LocksTied old w)
 
   -- by its standing
   goes : (stepped : Stepped) → u.facility ≡ old.facility → v.facility ≡ new.facility → is_over stepped ≡ false → (status_of old.facility.lists.statuses m.id ≡ status.Up) ⊎ (status_of old.facility.lists.statuses m.id ≡ status.Restarting)
-      → Steps m (record { facility = old.facility; drive = u.drive }) old.fates place stepped n (record { facility = new.facility; drive = v.drive }) new.fates → Moves old new w
+      → Steps m (record { facility = old.facility; drive = u.drive }) old.fates place stepped n (record { facility = new.facility; drive = v.drive }) new.fates → Moves (OfMember m.id) old new w
   goes stepped f g over (inr standing) made = restarting stepped f g standing over made
   goes stepped f g over (inl standing) made = facts.steps old new at m n w t (record {
     had = here.had;
@@ -200,7 +205,7 @@ module _ (facts : Facts) (old new : CrewState) (w : World) (t : LocksTied old w)
   })
 
   comes : (script : Script) (begun choice : ℕ) (stepped : Stepped) → u ≡ record { facility = old.facility; drive = u.drive } → v ≡ record { facility = new.facility; drive = v.drive }
-      → Comes script begun old.sizes choice m u old.fates place stepped n v new.fates → Moves old new w
+      → Comes script begun old.sizes choice m u old.fates place stepped n v new.fates → Moves (OfMember m.id) old new w
   comes script begun choice stepped f g c = elim (cases_Bool (is_over stepped)) [
     | inr on ↦ goes stepped (ap (λ (z : Resources). z.facility) f) (ap (λ (z : Resources). z.facility) g) on (live_cases (status_of old.facility.lists.statuses m.id) live)
         (subst (λ (z : Resources). Steps m z old.fates place stepped n (record { facility = new.facility; drive = v.drive }) new.fates) f (subst (λ (z : Resources). Steps m u old.fates place stepped n z new.fates) g (c.steps on)))
@@ -219,13 +224,20 @@ module _ (facts : Facts) (old new : CrewState) (w : World) (t : LocksTied old w)
       live : is_live (status_of old.facility.lists.statuses m.id) ≡ true
       live = subst (λ (z : Facility). is_live (status_of z.lists.statuses m.id) ≡ true) (ap (λ (z : Resources). z.facility) f) c.live
 
+above_zero : (n : ℕ) → n ≢ 0 → 1 ≤ n
+above_zero zero ne = absurd (ne refl)
+above_zero (suc n) ne = omega arith
+
 -- ---- any event
 pub events_move : {C D : Type 0} → (P : Type 0) (directory : C → Directory) (alive : D → Bool) (contents : D → Option Contents) (count : D → ℕ) → Facts → EventsMove P directory alive contents count
 events_move {C} {D} P directory alive contents count facts old new event w taken lawful t adopted = elim (cases_Bool (takes old event)) [
-  | inr isnt ↦ as_it_was before after w (ap (λ (z : Group D C P). crew_state directory z.crew) (taken.left isnt)) t
+  | inr isnt ↦ elim (cases_eq (event % 64) 0) [
+    | inl own ↦ (OfPhase, own, as_it_was OfPhase before after w (unmoved isnt) t)
+    | inr member ↦ (OfMember (event % 64), refl, as_it_was (OfMember (event % 64)) before after w (unmoved isnt) t)
+  ]
   | inl is ↦ elim (cases_eq (event % 64) 0) [
     | inl own ↦ own_goes (taken.own is own) (own_choices (is_some old.crew.restart) old.crew.progress old.crew.script (event / 64) (ready is own)) own
-    | inr member ↦ member_takes new.fault refl (taken.member is member)
+    | inr member ↦ member_takes member new.fault refl (taken.member is member)
   ]
 ]
   where
@@ -235,31 +247,34 @@ events_move {C} {D} P directory alive contents count facts old new event w taken
     after : CrewState
     after = crew_state directory new.crew
 
+    unmoved : takes old event ≡ false → after ≡ before
+    unmoved isnt = ap (λ (z : Group D C P). crew_state directory z.crew) (taken.left isnt)
+
     ready : takes old event ≡ true → event % 64 ≡ 0 → is_own (own_choice (is_some old.crew.restart) old.crew.progress old.crew.script) (event / 64) ≡ true
     ready is own = subst (λ z. ready_for (is_some old.crew.restart) (own_choice (is_some old.crew.restart) old.crew.progress old.crew.script) (map (λ (p : MemberPart P). p.ready) old.crew.parts.items) z (event / 64) ≡ true) own
         (and_parts (not (is_some old.fault)) (is_ready_in old.crew event) is).1
 
-    next_phase : (x : Option Phase) → IsSomeAnd x (λ phase. PhaseBegins phase before after) → Moves before after w
+    next_phase : (x : Option Phase) → IsSomeAnd x (λ phase. PhaseBegins phase before after) → Moves OfPhase before after w
     next_phase None h = absurd h
     next_phase (Some phase) h = facts.phases phase before after w t h
 
-    begins : (why : Option RunFault) → new.fault ≡ why → BeginsOrNot directory why old.crew event (length new.journal.items) new.crew → Moves before after w
+    begins : (why : Option RunFault) → new.fault ≡ why → BeginsOrNot directory why old.crew event (length new.journal.items) new.crew → Moves OfPhase before after w
     begins None left e = next_phase (slice_get before.script.phases before.begun) e
     begins (Some (fault.Unlawful place)) left e = absurd (lawful place left)
     begins (Some fault.Failed) left e = absurd e
     begins (Some (fault.Damaged volume offset)) left e = absurd e
     begins (Some fault.NoMemory) left e = absurd e
 
-    restarts : (x : Option Restart) → is_some x ≡ true → IfSome x (λ restart. RestartSteps alive contents new.fault before restart old.disk after new.disk) → Moves before after w
+    restarts : (x : Option Restart) → is_some x ≡ true → IfSome x (λ restart. RestartSteps alive contents new.fault before restart old.disk after new.disk) → Moves OfGroup before after w
     restarts None there h = absurd (never (sym there))
-    restarts (Some restart) there h = from_restart before after (Some h.now) w (enters facts h.reached new.fault (record before { restart = Some h.now }) after w (with_restart before (Some h.now) w t) h.enters)
+    restarts (Some restart) there h = from_restart OfGroup before after (Some h.now) w (enters facts h.reached new.fault (record before { restart = Some h.now }) after w (with_restart before (Some h.now) w t) h.enters)
 
-    own_goes : TakesOwn directory alive contents new.fault old.crew old.disk event (length new.journal.items) taken.failed new.crew new.disk → (event / 64 ≡ 0) ⊎ ((event / 64 ≡ 1) ⊎ ((event / 64 ≡ 2) × (is_some old.crew.restart ≡ true))) → event % 64 ≡ 0 → Moves before after w
-    own_goes e (inl first) own = begins new.fault refl (e.begins (own_number event 0 own first))
+    own_goes : TakesOwn directory alive contents new.fault old.crew old.disk event (length new.journal.items) taken.failed new.crew new.disk → (event / 64 ≡ 0) ⊎ ((event / 64 ≡ 1) ⊎ ((event / 64 ≡ 2) × (is_some old.crew.restart ≡ true))) → event % 64 ≡ 0 → (by : Whose) × IsFor event by × Moves by before after w
+    own_goes e (inl first) own = (OfPhase, own, begins new.fault refl (e.begins (own_number event 0 own first)))
     own_goes e (inr (inl second)) own =
         let fails : GroupFails (fail_counted before) after = (e.fails (own_number event 1 own second)).1 in
-        stays before after w (ap (λ (z : CrewState). length z.facility.locks.entries) fails.rest) (facts.fails (fail_counted before) after w fails (counted before w t))
-    own_goes e (inr (inr third)) own = restarts old.crew.restart third.1 (e.goes (own_number event 2 own third.0))
+        (OfPhase, own, stays OfPhase before after w (ap (λ (z : CrewState). length z.facility.locks.entries) fails.rest) (facts.fails (fail_counted before) after w fails (counted before w t)))
+    own_goes e (inr (inr third)) own = (OfGroup, own_number event 2 own third.0, restarts old.crew.restart third.1 (e.goes (own_number event 2 own third.0)))
 
     at : ℕ
     at = event % 64 - 1
@@ -270,8 +285,8 @@ events_move {C} {D} P directory alive contents count facts old new event w taken
     new_at : (k : ℕ) → slice_get after.members k ≡ member_at new.crew.parts.items k
     new_at k = slice_get-map member_of new.crew.parts.items k
 
-    member_goes : IsMade directory alive contents old.crew old.disk at (event / 64) (length new.journal.items) taken.failed new.crew new.disk → Moves before after w
-    member_goes e = by (member_at old.crew.parts.items at) (member_at new.crew.parts.items at) (old_at at) (new_at at) e.steps.comes
+    member_goes : event % 64 ≢ 0 → IsMade directory alive contents old.crew old.disk at (event / 64) (length new.journal.items) taken.failed new.crew new.disk → (by : Whose) × IsFor event by × Moves by before after w
+    member_goes member e = by (member_at old.crew.parts.items at) (member_at new.crew.parts.items at) (old_at at) (new_at at) e.steps.comes
       where
         u : Resources
         u = world_of directory alive contents old.crew.facility old.disk
@@ -283,26 +298,36 @@ events_move {C} {D} P directory alive contents count facts old new event w taken
         others k ne = new_at k ∙ e.steps.others k ne ∙ sym (old_at k)
 
         by : (x y : Option Member) → slice_get before.members at ≡ x → slice_get after.members at ≡ y
-            → ComesAt old.crew.script old.crew.progress.begun old.crew.sizes.sizes (event / 64) x u before.fates (length new.journal.items) e.stepped y v after.fates → Moves before after w
+            → ComesAt old.crew.script old.crew.progress.begun old.crew.sizes.sizes (event / 64) x u before.fates (length new.journal.items) e.stepped y v after.fates → (by : Whose) × IsFor event by × Moves by before after w
         by None y had has c = absurd c
         by (Some m) None had has c = absurd c
-        by (Some m) (Some n) had has c = comes facts before after w t adopted at m n (record {
-          had = had;
-          has = has;
-          count = some_at after.members before.members each;
-          others = others;
-          sizes = ap (λ z. z.sizes) e.steps.sizes;
-        }) u v (length new.journal.items) old.crew.script old.crew.progress.begun (event / 64) e.stepped refl refl c
+        by (Some m) (Some n) had has c = (
+          OfMember m.id,
+          number,
+          comes facts before after w t adopted at m n (record {
+            had = had;
+            has = has;
+            count = some_at after.members before.members each;
+            others = others;
+            sizes = ap (λ z. z.sizes) e.steps.sizes;
+          }) u v (length new.journal.items) old.crew.script old.crew.progress.begun (event / 64) e.stepped refl refl c,
+        )
           where
+            stood : m.id ≡ at + 1
+            stood = (subst (λ (z : Option Member). IfSome z (MemberStands before.facility (at + 1))) had (t.stands at)).id
+
+            number : m.id ≡ event % 64
+            number = (let one = above_zero (event % 64) member in omega (arith, stood, one))
+
             each : (k : ℕ) → is_some (slice_get after.members k) ≡ is_some (slice_get before.members k)
             each k = elim (cases_eq k at) [
               | inl same ↦ subst (λ z. is_some (slice_get after.members z) ≡ is_some (slice_get before.members z)) (sym same) (ap (λ (z : Option Member). is_some z) has ∙ sym (ap (λ (z : Option Member). is_some z) had))
               | inr ne ↦ ap (λ (z : Option Member). is_some z) (others k ne)
             ]
 
-    member_takes : (why : Option RunFault) → new.fault ≡ why → TakesMember directory alive contents why old.crew old.disk at (event / 64) (length new.journal.items) taken.failed new.crew new.disk → Moves before after w
-    member_takes None left e = member_goes e
-    member_takes (Some (fault.Damaged volume offset)) left e = member_goes e
-    member_takes (Some (fault.Unlawful refused)) left e = absurd (lawful refused left)
-    member_takes (Some fault.Failed) left e = absurd e
-    member_takes (Some fault.NoMemory) left e = absurd e
+    member_takes : event % 64 ≢ 0 → (why : Option RunFault) → new.fault ≡ why → TakesMember directory alive contents why old.crew old.disk at (event / 64) (length new.journal.items) taken.failed new.crew new.disk → (by : Whose) × IsFor event by × Moves by before after w
+    member_takes member None left e = member_goes member e
+    member_takes member (Some (fault.Damaged volume offset)) left e = member_goes member e
+    member_takes member (Some (fault.Unlawful refused)) left e = absurd (lawful refused left)
+    member_takes member (Some fault.Failed) left e = absurd e
+    member_takes member (Some fault.NoMemory) left e = absurd e

@@ -75,6 +75,7 @@ pub anew : AnewFacts → AnewMoves
 anew facts old new counter w t b = record {
   entries = moved.same;
   moves = GroupFail ∷ [];
+  are = tt;
   world = moved.world;
   run = moved.run;
   tied = record {
@@ -158,6 +159,7 @@ pub member_fails : FailFacts → MemberFailsMoves
 member_fails facts old new at m n w t f = record {
   entries = moved.same;
   moves = Fail m.id ∷ [];
+  are = (refl, tt);
   world = moved.world;
   run = moved.run;
   tied = record {

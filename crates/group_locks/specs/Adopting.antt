@@ -9,6 +9,7 @@ use Rattle.member_resources.specs.Held.{Held}
 use Rattle.group_member.specs.Adopting.{AdoptsAll, changes_left, rows_left}
 use Rattle.lock_protocol.specs.Machine.{World}
 use Rattle.lock_protocol.specs.Moves.{Move}
+use Rattle.lock_protocol.specs.Own.{AreOf}
 use Rattle.lock_world.specs.Books.{IsBook}
 use Rattle.lock_world.specs.Rollbacks.{HasClaimed}
 use Rattle.lock_world.specs.Tied.{Claims, Tied, Moved}
@@ -39,9 +40,10 @@ pub record TookOver (s t : MarksState) : Type 0 where
   pub trans : t.trans.slots ≡ s.trans.slots
   pub own : (o c : ℕ) → o ≤ 16 → claim_in t.locks o c ≡ claim_in s.locks o c
 
--- moves lead to a world that stands beside the claims of its rollbacks
-pub record TakesOver (w : World) (f : Facility) (left : Claims) (s t : MarksState) : Type 0 where
+-- moves of the member lead to a world that stands beside the claims of its rollbacks
+pub record TakesOver (w : World) (f : Facility) (left : Claims) (m : ℕ) (s t : MarksState) : Type 0 where
   pub moves : List Move
+  pub by : AreOf m moves
   pub moved : Moved w moves f.locks f.locks f.lists left
   pub took : TookOver s t
 
@@ -49,4 +51,4 @@ abbrev pub AdoptionsGo : Type 0
 AdoptionsGo = (w : World) (f : Facility) (held left : Claims) (h k : Held) (m by : ℕ) (ts : List OpenTran)
     → Tied w f.locks f.lists held → w.live m ≡ true → MayTakeOver h.marks → HaveClaimed w m ts → ((o c : ℕ) → held m o c ≡ claim_in h.marks.locks o c)
     → AdoptsAll h by ts k → ((j o c : ℕ) → j ≢ m → left j o c ≡ held j o c) → ((o c : ℕ) → left m o c ≡ claim_in k.marks.locks o c)
-    → TakesOver w f left h.marks k.marks
+    → TakesOver w f left m h.marks k.marks

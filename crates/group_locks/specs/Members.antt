@@ -8,7 +8,7 @@ use Rattle.group_member.specs.Happening.{Steps}
 use Rattle.group_member.specs.Members.{Member}
 use Rattle.group_crew.specs.States.{CrewState}
 use Rattle.lock_protocol.specs.Machine.{World}
-use Rattle.group_locks.specs.Events.{Moves}
+use Rattle.group_locks.specs.Events.{Moves, OfMember}
 use Rattle.group_locks.specs.Stands.{LocksTied}
 
 -- The member at this place is up, and has made an event in which it didn't fail. No other has changed.
@@ -26,4 +26,4 @@ pub record StepsAt (old new : CrewState) (at : ℕ) (m n : Member) : Type 0 wher
   pub steps : Steps m (record { facility = old.facility; drive = drive }) old.fates place stepped n (record { facility = new.facility; drive = left }) new.fates
 
 abbrev pub MemberStepsMoves : Type 0
-MemberStepsMoves = (old new : CrewState) (at : ℕ) (m n : Member) (w : World) → LocksTied old w → StepsAt old new at m n → Moves old new w
+MemberStepsMoves = (old new : CrewState) (at : ℕ) (m n : Member) (w : World) → LocksTied old w → StepsAt old new at m n → Moves (OfMember m.id) old new w

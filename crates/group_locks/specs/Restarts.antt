@@ -15,7 +15,7 @@ use Rattle.group_crew.specs.States.{CrewState}
 use Rattle.lock_protocol.specs.Machine.{World, given_up}
 use Rattle.lock_restarts.specs.Changes.{gone_by}
 use Rattle.group_locks.specs.Adopting.{HaveClaimed}
-use Rattle.group_locks.specs.Events.{Moves}
+use Rattle.group_locks.specs.Events.{Moves, OfMember}
 use Rattle.group_locks.specs.Stands.{LocksTied}
 
 -- the world without the member's claims on names whose retained records the restart has freed
@@ -43,4 +43,4 @@ pub record RestartStepsAt (old new : CrewState) (at : ℕ) (m n : Member) (w : W
       → HaveClaimed (freed_world w m.id sent) m.id (opened_among made.makes.reached.resources.marks.trans.list)
 
 abbrev pub RestartStepsMove : Type 0
-RestartStepsMove = (old new : CrewState) (at : ℕ) (m n : Member) (w : World) → LocksTied old w → RestartStepsAt old new at m n w → Moves old new w
+RestartStepsMove = (old new : CrewState) (at : ℕ) (m n : Member) (w : World) → LocksTied old w → RestartStepsAt old new at m n w → Moves (OfMember m.id) old new w

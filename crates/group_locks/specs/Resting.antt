@@ -9,7 +9,7 @@ use Rattle.group_member.specs.Happening.{Steps}
 use Rattle.group_member.specs.Members.{Member}
 use Rattle.group_crew.specs.States.{CrewState}
 use Rattle.lock_protocol.specs.Machine.{World}
-use Rattle.group_locks.specs.Events.{Moves}
+use Rattle.group_locks.specs.Events.{Moves, OfMember}
 use Rattle.group_locks.specs.Stands.{LocksTied}
 
 -- the event is that of the member's restart
@@ -35,4 +35,4 @@ pub record RestingStepsAt (old new : CrewState) (at : ℕ) (m n : Member) : Type
   pub made : Steps m (record { facility = old.facility; drive = drive }) old.fates place stepped n (record { facility = new.facility; drive = left }) new.fates
 
 abbrev pub RestingStepsMove : Type 0
-RestingStepsMove = (old new : CrewState) (at : ℕ) (m n : Member) (w : World) → LocksTied old w → RestingStepsAt old new at m n → Moves old new w
+RestingStepsMove = (old new : CrewState) (at : ℕ) (m n : Member) (w : World) → LocksTied old w → RestingStepsAt old new at m n → Moves (OfMember m.id) old new w

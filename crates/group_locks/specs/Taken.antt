@@ -16,7 +16,7 @@ use Rattle.group_core.specs.declared.group.Group.{Group}
 use Rattle.group_core.specs.Takes.{Takes}
 use Rattle.lock_protocol.specs.Machine.{World}
 use Rattle.group_locks.specs.Adopting.{HaveClaimed}
-use Rattle.group_locks.specs.Events.{Moves}
+use Rattle.group_locks.specs.Events.{IsFor, Moves, Whose}
 use Rattle.group_locks.specs.Restarts.{freed_world}
 use Rattle.group_locks.specs.Stands.{LocksTied}
 
@@ -37,4 +37,4 @@ abbrev pub EventsMove : {C D : Type 0} → (P : Type 0) → (C → Directory) �
 EventsMove {C} {D} P directory alive contents count = (old new : Group D C P) (event : ℕ) (w : World)
     → Takes directory alive contents count old event new → ((at : ℕ) → new.fault ≢ Some (fault.Unlawful at))
     → LocksTied (crew_state directory old.crew) w → AdoptedClaim (crew_state directory old.crew) (crew_state directory new.crew) w
-    → Moves (crew_state directory old.crew) (crew_state directory new.crew) w
+    → (by : Whose) × IsFor event by × Moves by (crew_state directory old.crew) (crew_state directory new.crew) w

@@ -5,7 +5,7 @@ use Rattle.group_member.specs.Members.{IsDown, Member}
 use Rattle.group_crew.specs.Failing.{BeginsAnew, GroupFails}
 use Rattle.group_crew.specs.States.{CrewState}
 use Rattle.lock_protocol.specs.Machine.{World}
-use Rattle.group_locks.specs.Events.{Moves}
+use Rattle.group_locks.specs.Events.{Moves, OfGroup, OfMember}
 use Rattle.group_locks.specs.Stands.{LocksTied}
 
 -- a failure of the group changes no locks until its restart is done
@@ -14,7 +14,7 @@ GroupFailsTied = (old new : CrewState) (w : World) → GroupFails old new → Lo
 
 -- and then the world begins anew
 abbrev pub AnewMoves : Type 0
-AnewMoves = (old new : CrewState) (counter : ℕ) (w : World) → LocksTied old w → BeginsAnew counter old new → Moves old new w
+AnewMoves = (old new : CrewState) (counter : ℕ) (w : World) → LocksTied old w → BeginsAnew counter old new → Moves OfGroup old new w
 
 -- The member at this place has failed, and keeps its number. No other has changed.
 pub record FailsAt (old new : CrewState) (at : ℕ) (m n : Member) : Type 0 where
@@ -28,4 +28,4 @@ pub record FailsAt (old new : CrewState) (at : ℕ) (m n : Member) : Type 0 wher
   pub sizes : new.sizes ≡ old.sizes
 
 abbrev pub MemberFailsMoves : Type 0
-MemberFailsMoves = (old new : CrewState) (at : ℕ) (m n : Member) (w : World) → LocksTied old w → FailsAt old new at m n → Moves old new w
+MemberFailsMoves = (old new : CrewState) (at : ℕ) (m n : Member) (w : World) → LocksTied old w → FailsAt old new at m n → Moves (OfMember m.id) old new w

@@ -8,6 +8,7 @@
 ghost use Rattle.group_locks.specs.Adopting.{AdoptionsGo};
 ghost use Rattle.group_locks.specs.Agreeing.{TiedAgree};
 ghost use Rattle.group_locks.specs.Beginning.{StartsTied};
+ghost use Rattle.group_locks.specs.Events.{MovesSpare};
 ghost use Rattle.group_locks.specs.Handing.{HandsOnMoves};
 ghost use Rattle.group_locks.specs.Members.{MemberStepsMoves};
 ghost use Rattle.group_locks.specs.Phases.{PhasesMove};
@@ -21,7 +22,7 @@ use cache_structure::CacheFace;
 use ds_disk::Disk;
 use lock_events::{commands_stay, events_go};
 use lock_members::{members_fail, members_go, members_keep_free};
-use lock_protocol::{claims_give, keeps_sound};
+use lock_protocol::{claims_give, keeps_sound, moves_leave_others};
 use lock_restarts::{restarts_follow, restarts_go};
 use lock_world::{
     books_change, books_tell, failures_are_moves, groups_begin, names_have_numbers,
@@ -144,6 +145,14 @@ pub fn groups_step<D: Disk, C: CacheFace, P>()
     member_steps_go();
     member_restarts_go();
     resting_members_go();
+}
+
+/// The moves of an event are those of the member whose event it is, or restarts of members, unless the group restart is done with it; and they
+/// leave the claims of all other members as they are.
+pub fn moves_spare()
+    ensures { MovesSpare }
+{
+    moves_leave_others();
 }
 
 /// In a group that stands beside a sound world no two claims that its members know of conflict, and each stands behind what the lock table

@@ -67,7 +67,7 @@ strangers law w f g held left s asker to c tied up knows leads none are same =
     let now : Tied w f.locks g.lists held = same_cells w f.locks f.lists g.lists held tied cells (ap (λ (z : ListsState). z.statuses) lists) (ap (λ (z : ListsState). z.members) lists) in
     let mid : Held = record f { lists = g.lists } in
     let first : Goes w mid mid left s s = quiet_goes law w mid mid held left s s now (up_as f mid s s up (record { locks = refl; member = refl }) (ap (λ (z : ListsState). z.members) lists) (ap (λ (z : ListsState). z.statuses) lists) refl) knows leads (quiet_same mid mid refl) (record { locks = refl; member = refl }) in
-    let there : Goes w f mid left s s = record { moves = first.moves; moved = record { same = first.moved.same; world = first.moved.world; run = first.moved.run; tied = first.moved.tied }; same = first.same; stands = first.stands } in
+    let there : Goes w f mid left s s = record { moves = first.moves; own = first.own; moved = record { same = first.moved.same; world = first.moved.world; run = first.moved.run; tied = first.moved.tied }; same = first.same; stands = first.stands } in
     goes_to law w f mid g left s s (record { locks = locks; lists = record { cells = refl; statuses = refl; members = refl } }) there
 
 -- ---- who is a member

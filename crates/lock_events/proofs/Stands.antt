@@ -13,6 +13,8 @@ use Rattle.facility.specs.States.{Held}
 use Rattle.member_marks.specs.State.{MarksState}
 use Rattle.lock_protocol.specs.Machine.{World}
 use Rattle.lock_protocol.specs.Moves.{Move, Run}
+use Rattle.lock_protocol.specs.Own.{AreOf}
+use Rattle.lock_protocol.proofs.Own.{both_are_of}
 use Rattle.lock_protocol.specs.Sound.{Sound, RunKeepsSound}
 use Rattle.lock_world.specs.Books.{IsBook}
 use Rattle.lock_world.specs.Numbers.{name_at}
@@ -64,6 +66,7 @@ up_as f g s t up same members statuses size = record {
 pub quiet_goes : StaysTied → (w : World) (f g : Held) (held left : Claims) (s t : MarksState) → Tied w f.locks f.lists held → IsUp f s → Knows held s → Leads held left s t → Quiet f g → SameClaims s t → Goes w f g left s t
 quiet_goes law w f g held left s t tied up knows leads q same = record {
   moves = [];
+  own = tt;
   moved = subst (λ z. Moved w [] f.locks z g.lists left) (sym q.locks) (law w f.locks f.lists g.lists held left tied (record { cells = q.lists.cells; statuses = q.lists.statuses; members = q.lists.members; claims = stay_claims held left s t knows leads same }));
   same = same.member;
   stands = up_as f g s t up same q.lists.members q.lists.statuses (ap (λ (z : Locks). length z.entries) q.locks);
@@ -76,6 +79,7 @@ leads_as held left s t u same leads = record { others = leads.others; own = λ o
 pub goes_as : (w : World) (f g : Held) (left : Claims) (s t u : MarksState) → SameClaims t u → Goes w f g left s t → Goes w f g left s u
 goes_as w f g left s t u same goes = record {
   moves = goes.moves;
+  own = goes.own;
   moved = goes.moved;
   same = same.member ∙ goes.same;
   stands = up_as g g t u goes.stands same refl refl refl;
@@ -83,7 +87,7 @@ goes_as w f g left s t u same goes = record {
 
 -- what was before has the same claims and tests
 pub goes_from : (w : World) (f g : Held) (left : Claims) (r s t : MarksState) → s.member ≡ r.member → Goes w f g left s t → Goes w f g left r t
-goes_from w f g left r s t e goes = record { moves = goes.moves; moved = goes.moved; same = goes.same ∙ e; stands = goes.stands }
+goes_from w f g left r s t e goes = record { moves = goes.moves; own = subst (λ z. AreOf z goes.moves) e goes.own; moved = goes.moved; same = goes.same ∙ e; stands = goes.stands }
 
 -- ---- one after the other
 run_on : (entry : ℕ → ℕ) (w mid v : World) (xs ys : List Move) → Run entry w xs mid → Run entry mid ys v → Run entry w (xs ++ ys) v
@@ -99,6 +103,7 @@ same_entries f g e =
 pub goes_on : (w : World) (f g : Held) (mid left : Claims) (s t u : MarksState) (a : Goes w f g mid s t) → Goes a.moved.world g g left t u → Goes w f g left s u
 goes_on w f g mid left s t u a b = record {
   moves = a.moves ++ b.moves;
+  own = both_are_of s.member a.moves b.moves a.own (subst (λ z. AreOf z b.moves) a.same b.own);
   moved = record {
     same = a.moved.same;
     world = b.moved.world;
@@ -118,6 +123,7 @@ goes_to law w f g now left s t q a =
     let n = law a.moved.world g.locks g.lists now.lists left left a.moved.tied (record { cells = q.lists.cells; statuses = q.lists.statuses; members = q.lists.members; claims = λ k o c. refl }) in
     let tied : Tied a.moved.world g.locks now.lists left = subst (λ z. Tied z g.locks now.lists left) n.run n.tied in record {
       moves = a.moves;
+      own = a.own;
       moved = record {
         same = ap (λ (z : Locks). length z.entries) q.locks ∙ a.moved.same;
         world = a.moved.world;

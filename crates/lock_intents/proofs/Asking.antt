@@ -26,6 +26,7 @@ use Rattle.facility.specs.ListCommands.{AnswersQuery, answered_cell}
 use Rattle.member_marks.specs.State.{MarksState, slot_id}
 use Rattle.member_marks.specs.Claims.{cell_for}
 use Rattle.lock_protocol.specs.Machine.{World}
+use Rattle.lock_protocol.specs.Own.{AreOf}
 use Rattle.lock_protocol.specs.Moves.{Move, Ask, AnswerClean, AnswerConflict}
 use Rattle.lock_world.specs.Answers.{AnswersClean, AnswersConflict}
 use Rattle.lock_world.specs.Books.{AnswersTell}
@@ -47,12 +48,13 @@ pub record Facts : Type 0 where
   pub stay : StaysTied
 
 -- only cells have changed, by these moves
-cells_go : StaysTied → (w : World) (f g : Held) (held left : Claims) (s : MarksState) (moves : List Move) → IsUp f s → Knows held s → Leads held left s s → g ≡ record f { lists = record f.lists { cells = g.lists.cells } }
+cells_go : StaysTied → (w : World) (f g : Held) (held left : Claims) (s : MarksState) (moves : List Move) → AreOf s.member moves → IsUp f s → Knows held s → Leads held left s s → g ≡ record f { lists = record f.lists { cells = g.lists.cells } }
     → Moved w moves f.locks f.locks g.lists held → Goes w f g left s s
-cells_go law w f g held left s moves up knows leads same moved =
+cells_go law w f g held left s moves own up knows leads same moved =
     let locks : g.locks ≡ f.locks = ap (λ (z : Held). z.locks) same in
     record {
       moves = moves;
+      own = own;
       moved = subst (λ (z : Locks). Moved w moves f.locks z g.lists left) (sym locks) (relabelled law w moves f.locks f.locks g.lists g.lists held left moved refl refl refl (stay_claims held left s s knows leads (λ o c. refl)));
       same = refl;
       stands = still_up f g s s up (keeps_itself s up.book) (ap (λ (z : Held). z.lists.members) same) (ap (λ (z : Held). z.lists.statuses) same) (ap (λ (z : Locks). length z.entries) locks);
@@ -60,7 +62,7 @@ cells_go law w f g held left s moves up knows leads same moved =
 
 pub ask_goes : Facts → AskGoes
 ask_goes facts w f g held left s slot to n m answer tied up knows few member gives leads =
-    cells_go facts.stay w f g held left s (Ask s.member slot to (number n) m ∷ []) up knows leads gives.1.1 (facts.ask w f.locks f.lists g.lists held s.member slot to n m tied up.member few member gives.1.0 (ap (λ (z : Held). z.lists) gives.1.1))
+    cells_go facts.stay w f g held left s (Ask s.member slot to (number n) m ∷ []) (refl, tt) up knows leads gives.1.1 (facts.ask w f.locks f.lists g.lists held s.member slot to n m tied up.member few member gives.1.0 (ap (λ (z : Held). z.lists) gives.1.1))
 
 -- ---- an answer
 live_up : (s : MemberStatus) → s ≡ Up → is_live s ≡ true
@@ -69,14 +71,14 @@ live_up s e = subst (λ z. is_live z ≡ true) (sym e) refl
 conflicts : Facts → (w : World) (f g : Held) (held left : Claims) (s : MarksState) (asker : Asker) (n : Name) (m : Mode) (event : ℕ) (x : CellAnswer) → Tied w f.locks f.lists held → IsUp f s → Knows held s → IsAsker asker → x ≢ said.Clean
     → AreCells g.lists.cells (with_cell f.lists.cells asker s.member (answered_cell f n m x event)) → g ≡ record f { lists = record f.lists { cells = g.lists.cells } } → Leads held left s s → Goes w f g left s s
 conflicts facts w f g held left s asker n m event x tied up knows is_asker other are same leads =
-    cells_go facts.stay w f g held left s (AnswerConflict s.member asker.member asker.slot (number n) m ∷ []) up knows leads same
+    cells_go facts.stay w f g held left s (AnswerConflict s.member asker.member asker.slot (number n) m ∷ []) (refl, tt) up knows leads same
     (facts.conflict w f.locks f.lists g.lists held s.member asker.member asker.slot (entry_for f.locks n).version event n m x tied is_asker.0 is_asker.1 up.member other are (ap (λ (z : Held). z.lists) same))
 
 answered : Facts → (w : World) (f g : Held) (held left : Claims) (s : MarksState) (asker : Asker) (n : Name) (m : Mode) (event : ℕ) → Tied w f.locks f.lists held → IsUp f s → Knows held s → IsAsker asker
     → AreCells g.lists.cells (with_cell f.lists.cells asker s.member (answered_cell f n m (cell_for s (answer_of s.locks n m)) event)) → g ≡ record f { lists = record f.lists { cells = g.lists.cells } } → Leads held left s s
     → (a : LockAnswer) → answer_of s.locks n m ≡ a → Goes w f g left s s
 answered facts w f g held left s asker n m event tied up knows is_asker are same leads answer.Clean e =
-    cells_go facts.stay w f g held left s (AnswerClean s.member asker.member asker.slot (number n) m ∷ []) up knows leads same
+    cells_go facts.stay w f g held left s (AnswerClean s.member asker.member asker.slot (number n) m ∷ []) (refl, tt) up knows leads same
     (facts.clean w f.locks f.lists g.lists held s.member asker.member asker.slot event n m tied is_asker.0 is_asker.1 up.member (live_up (status_of f.lists.statuses s.member) up.up) up.among
     (λ q. subst (λ z. is_in_way z m ≡ false) (sym (knows q (number n))) (facts.tell s.locks n m e q))
     (subst (λ z. AreCells g.lists.cells (with_cell f.lists.cells asker s.member (answered_cell f n m (cell_for s z) event))) e are) (ap (λ (z : Held). z.lists) same))

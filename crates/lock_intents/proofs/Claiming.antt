@@ -295,6 +295,7 @@ obtain_goes_as facts w f g held left s t owner n m tied up knows leads owners jo
     let e = enters_if held left s t owner n m knows leads comes in
     record {
       moves = Obtain s.member owner (number n) m e.0 ∷ [];
+      own = (refl, tt);
       moved = subst (λ (z : ListsState). Moved w (Obtain s.member owner (number n) m e.0 ∷ []) f.locks g.locks z left) (sym (ap (λ (z : Held). z.lists) same)) (facts.obtain w f.locks g.locks f.lists held left s.member owner n m e.0 tied (may_enter f held s owner n m up owners joined) e.1 kept stood is);
       same = keeps.member;
       stands = still_up f g s t up keeps (ap (λ (z : Held). z.lists.members) same) (ap (λ (z : Held). z.lists.statuses) same) is.same;
@@ -307,6 +308,7 @@ grant_goes_as facts w f g held left s t owner n m tied up knows leads owners joi
     let e = enters_if held left s t owner n m knows leads comes in
     record {
       moves = Grant s.member owner (number n) m e.0 ∷ [];
+      own = (refl, tt);
       moved = facts.grant w f.locks g.locks f.lists g.lists held left s.member owner n m e.0 tied (may_enter f held s owner n m up owners joined) e.1 few kept stood is are (ap (λ (z : Held). z.lists) same);
       same = keeps.member;
       stands = still_up f g s t up keeps (ap (λ (z : Held). z.lists.members) same) (ap (λ (z : Held). z.lists.statuses) same) is.same;
@@ -374,6 +376,7 @@ emptied_by facts w f g held left s t o n tied up knows leads few locks are same 
     let keeps = same_keeps s t up.book e in
     record {
       moves = moves;
+      own = (refl, tt);
       moved = subst (λ (z : Locks). Moved w moves f.locks z g.lists left) (sym locks)
           (relabelled facts.stay w moves f.locks f.locks g.lists g.lists held left (facts.refuse w f.locks f.lists g.lists held s.member (cell_slot o n) tied up.member few are lists) refl refl refl (stay_claims held left s t knows leads (same_claims s t e)));
       same = e.member;

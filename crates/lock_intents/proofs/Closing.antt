@@ -81,6 +81,7 @@ release_as facts w f g held left s t owner n keeps tied up knows leads gone free
     let lists : g.lists ≡ ring f.lists = ap (λ (z : Held). z.lists) same in
     record {
       moves = moves;
+      own = (refl, (refl, tt));
       moved = relabelled facts.stay w moves f.locks g.locks f.lists g.lists left left (facts.release w f.locks g.locks f.lists held left s.member owner n keeps which tied up.member up.among (live_up (status_of f.lists.statuses s.member) up.up) releases all is)
           (ap (λ (z : ListsState). z.cells) lists) (ap (λ (z : ListsState). z.statuses) lists) (ap (λ (z : ListsState). z.members) lists) (λ k o c. refl);
       same = kept.member;
@@ -197,6 +198,7 @@ purge_goes facts w f g held left s n answer tied up knows unclaimed gives leads 
     let lists : g.lists ≡ ring f.lists = ap (λ (z : Held). z.lists) gives.2 in
     record {
       moves = moves;
+      own = (refl, (refl, tt));
       moved = relabelled facts.stay w moves f.locks g.locks f.lists g.lists held left (facts.purge w f.locks g.locks f.lists held s.member n tied up.member (λ o. knows o (number n) ∙ facts.nobody s.locks n unclaimed o) gives.1)
           (ap (λ (z : ListsState). z.cells) lists) (ap (λ (z : ListsState). z.statuses) lists) (ap (λ (z : ListsState). z.members) lists) (stay_claims held left s s knows leads (λ o c. refl));
       same = refl;
@@ -210,6 +212,7 @@ end_as facts w f g held left s t owner tied up knows leads gone kept q =
     let moves = GiveUp s.member which ∷ [] in
     record {
       moves = moves;
+      own = (refl, tt);
       moved = subst (λ (z : Locks). Moved w moves f.locks z g.lists left) (sym q.locks) (relabelled facts.stay w moves f.locks f.locks f.lists g.lists left left
           (facts.gives_up w f.locks f.lists held left s.member which tied (record { others = leads.others; own = gone_as held left s t owner knows leads gone })) q.cells q.statuses q.members (λ k o c. refl));
       same = kept.member;

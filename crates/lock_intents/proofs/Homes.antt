@@ -87,6 +87,7 @@ home_goes facts w f held left s t slot n m spare sound tied up knows leads agent
     } in
     record {
       moves = Local s.member slot (number n) mode ∷ [];
+      own = (refl, tt);
       moved = facts.local w f.locks f.lists held left s.member slot n mode tied may
           ((λ is_true is_agent q ne. subst (λ z. is_in_way z mode ≡ false) (sym (knows q (number n))) (cover.free q ne)), enters_claim held left s t slot n mode knows leads claims)
           (cover.covers.0, subst (λ z. Covers z mode) (sym (knows cover.covers.0 (number n))) cover.covers.1);

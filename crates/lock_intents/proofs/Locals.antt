@@ -21,7 +21,9 @@ use Rattle.member_marks.specs.Local.{Local, Claim, Begin, Refuse, Abort, RefuseF
 use Rattle.lock_protocol.specs.Machine.{World}
 use Rattle.lock_protocol.specs.Moves.{Move, Run}
 use Rattle.lock_protocol.specs.Moves as move
+use Rattle.lock_protocol.specs.Own.{AreOf}
 use Rattle.lock_protocol.specs.Sound.{Sound, RunKeepsSound}
+use Rattle.lock_protocol.proofs.Own.{both_are_of}
 use Rattle.lock_world.specs.Books.{IsBook, RollbackWaits, HasHandedOn, PostponedHandsOn}
 use Rattle.lock_world.specs.Rollbacks.{HandsOn, PostponesMoves}
 use Rattle.lock_world.specs.Standing.{StaysTied}
@@ -86,6 +88,7 @@ hands_on facts w f held left s t slot by tied up knows leads agent new e =
     let kept : Keeps s t = keeps_as s t (with_postponed s slot by) e (record { member = refl; entries = refl; book = h.stands }) in
     record {
       moves = move.Postpone s.member slot (rollback_owner id) ∷ [];
+      own = (refl, tt);
       moved = facts.postpone w f.locks f.lists held left s.member slot (rollback_owner id) tied up.member up.up (not_zero (ltb-true 0 slot (and_parts (nat_lt 0 slot) (nat_le slot (agents_of s)) agent).0)) (apart lt)
           (λ c. knows (rollback_owner id) c ∙ h.new c)
           (record {
@@ -177,6 +180,7 @@ reached facts (x ∷ xs) w f held left s t sound tied up knows e leads =
     }) in
     record {
       moves = first.moves ++ next.moves;
+      own = both_are_of s.member first.moves next.moves first.own (subst (λ z. AreOf z next.moves) first.same next.own);
       moved = record {
         same = refl;
         world = next.moved.world;

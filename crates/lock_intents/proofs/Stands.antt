@@ -81,6 +81,7 @@ quiet_same f g e = record { locks = ap (λ (z : Held). z.locks) e; cells = ap (�
 pub quiet_goes : StaysTied → (w : World) (f g : Held) (held left : Claims) (s t : MarksState) → Tied w f.locks f.lists held → IsUp f s → Knows held s → Leads held left s t → Quiet f g → SameClaims s t → Keeps s t → Goes w f g left s t
 quiet_goes law w f g held left s t tied up knows leads q same k = record {
   moves = [];
+  own = tt;
   moved = subst (λ z. Moved w [] f.locks z g.lists left) (sym q.locks) (law w f.locks f.lists g.lists held left tied (record { cells = q.cells; statuses = q.statuses; members = q.members; claims = stay_claims held left s t knows leads same }));
   same = k.member;
   stands = still_up f g s t up k q.members q.statuses (ap (λ (z : Locks). length z.entries) q.locks);

@@ -7,6 +7,7 @@ use Rattle.facility.specs.States.{Held}
 use Rattle.member_marks.specs.State.{MarksState}
 use Rattle.lock_protocol.specs.Machine.{World}
 use Rattle.lock_protocol.specs.Moves.{Move}
+use Rattle.lock_protocol.specs.Own.{AreOf}
 use Rattle.lock_world.specs.Books.{IsBook}
 use Rattle.lock_world.specs.Tied.{Claims, Moved}
 use Rattle.lock_world.specs.Views.{claim_in}
@@ -29,9 +30,10 @@ pub record IsUp (f : Held) (s : MarksState) : Type 0 where
   pub size : s.locks.entries ≡ length f.locks.entries
   pub book : IsBook s.locks
 
--- moves lead to a world that stands beside what an event of it has left, and the member is still up
+-- moves of the member lead to a world that stands beside what an event of it has left, and the member is still up
 pub record Goes (w : World) (f g : Held) (left : Claims) (s t : MarksState) : Type 0 where
   pub moves : List Move
+  pub own : AreOf s.member moves
   pub moved : Moved w moves f.locks g.locks g.lists left
   pub same : t.member ≡ s.member
   pub stands : IsUp g t

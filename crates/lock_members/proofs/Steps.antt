@@ -40,6 +40,7 @@ use Rattle.group_member.specs.Happening.{Acts, Makes, RebuildEnds, Rebuilds, Res
 use Rattle.group_member.specs.Members.{Member}
 use Rattle.group_member.specs.Stepping.{is_failure}
 use Rattle.lock_protocol.specs.Machine.{World}
+use Rattle.lock_protocol.specs.Own.{AreOf}
 use Rattle.lock_protocol.specs.Sound.{Sound}
 use Rattle.lock_world.specs.Books.{IsBook}
 use Rattle.lock_world.specs.Tied.{Claims, Tied}
@@ -105,6 +106,7 @@ entered w f g left m n k up id rests holds goes slots standings =
     let locks : n.holds.marks.locks ≡ k.marks.locks = ap (λ (z : MarksState). z.locks) marks in
     let member : n.holds.marks.member ≡ k.marks.member = ap (λ (z : MarksState). z.member) marks in record {
       moves = goes.moves;
+      own = subst (λ z. AreOf z goes.moves) up.id goes.own;
       moved = goes.moved;
       same = id;
       stands = record {
@@ -226,6 +228,7 @@ told_goes facts w u held left m place k sound tied up knows (inl e) leads =
     (record { others = leads.others; own = λ o c. leads.own o c ∙ ap (λ (z : Book). claim_in z o c) same }) in
     record {
       moves = first.moves;
+      own = first.own;
       moved = first.moved;
       same = ap (λ (z : Held). z.marks.member) e;
       stands = same_marks u.facility to.marks k.marks first.stands same (ap (λ (z : Held). z.marks.member) e);

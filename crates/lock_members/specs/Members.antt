@@ -10,6 +10,7 @@ use Rattle.group_member.specs.Happening.{Steps}
 use Rattle.group_member.specs.Members.{IsDown, Member}
 use Rattle.lock_protocol.specs.Machine.{World}
 use Rattle.lock_protocol.specs.Moves.{Move, Fail}
+use Rattle.lock_protocol.specs.Own.{AreOf}
 use Rattle.lock_protocol.specs.Sound.{Sound}
 use Rattle.lock_world.specs.Tied.{Claims, Tied, Moved}
 use Rattle.lock_world.specs.Views.{entry_in}
@@ -26,9 +27,10 @@ pub record MemberIsUp (f : Held) (m : Member) : Type 0 where
   pub slots : SlotsStand m.holds.marks
   pub rests : m.restart ≡ None
 
--- moves lead to a world that stands beside what its event left; it is still up, and so is whoever was
+-- moves of the member lead to a world that stands beside what its event left; it is still up, and so is whoever was
 pub record MemberGoes (w : World) (f g : Held) (left : Claims) (m n : Member) : Type 0 where
   pub moves : List Move
+  pub own : AreOf m.id moves
   pub moved : Moved w moves f.locks g.locks g.lists left
   pub same : n.id ≡ m.id
   pub stands : MemberIsUp g n

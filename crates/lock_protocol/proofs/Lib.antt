@@ -3,3 +3,4 @@ pub mod Kept
 pub mod Runs
 pub mod Needed
 pub mod Words
+pub mod Own

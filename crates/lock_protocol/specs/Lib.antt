@@ -5,3 +5,4 @@ pub mod Sound
 pub mod Needed
 pub mod Words
 pub mod Example
+pub mod Own

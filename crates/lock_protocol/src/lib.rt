@@ -5,6 +5,7 @@
 //! The crate has definitions and proofs alone. Its functions do nothing: their contracts are the theorems.
 #![tactic(auto)]
 
+ghost use Rattle.lock_protocol.specs.Own.{BothAreOf, OthersKeep};
 ghost use Rattle.lock_protocol.specs.Sound.{AlwaysSound, KeepsSound, RunKeepsSound, StartsSound};
 ghost use Rattle.lock_protocol.specs.Words.{JoinIsOne, SoundGives};
 ghost use Rattle.lock_protocol.specs.Example.{RecordStands};
@@ -46,4 +47,10 @@ pub fn guards_are_needed()
     ensures retained { RetainedIsNeeded }
     ensures kept_interest { KeptInterestIsNeeded }
     ensures no_claim { NoClaimIsNeeded }
+{}
+
+/// The moves of one member leave the claims of all others.
+pub fn moves_leave_others()
+    ensures others { OthersKeep }
+    ensures both { BothAreOf }
 {}

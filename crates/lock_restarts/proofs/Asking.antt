@@ -89,6 +89,7 @@ obtained facts w f g held left own s t id page (reply.Granted version) tied r kn
     refl (ap (λ (z : Held). z.lists.cells) only) (ap (λ (z : Held). z.lists.statuses) only) (ap (λ (z : Held). z.lists.members) only) (λ k o c. refl) in
     record {
       moves = Obtain s.member 0 (number (name.Page page)) X true ∷ [];
+      own = (refl, tt);
       moved = moved;
       spares = obtain_spares (entry_in f.locks) w moved.world s.member (number (name.Page page)) X moved.run;
     }
@@ -135,7 +136,7 @@ refused facts w f g held left own s t tied r knows leads are only same claim =
     let moved : Moved w (Refuse s.member 0 ∷ []) f.locks g.locks g.lists left =
     ended facts.stay w (Refuse s.member 0 ∷ []) f.locks f.locks g.lists g held left (facts.refuse w f.locks f.lists g.lists held s.member 0 tied r.member (omega arith) are (ap (λ (z : Held). z.lists) only))
     same refl refl refl (stay_claims held left own s t knows leads claim) in
-    record { moves = Refuse s.member 0 ∷ []; moved = moved; spares = refuse_spares (entry_in f.locks) w moved.world s.member moved.run }
+    record { moves = Refuse s.member 0 ∷ []; own = (refl, tt); moved = moved; spares = refuse_spares (entry_in f.locks) w moved.world s.member moved.run }
 
 granted : Facts → (w : World) (f g : Held) (held left : Claims) (own : OwnClaims) (s t : RestartState) (id : ℕ) (page : PageId) (answer : Reply)
     → Tied w f.locks f.lists held → IsRestarting f own s → Knows held own s → page_undone s.trans id ≡ Some page → (is_none s.claim || is_claimed s page) ≡ true
@@ -148,6 +149,7 @@ granted facts w f g held left own s t id page (reply.Granted version) tied r kno
     gives.0 gives.2 gives.4 are (ap (λ (z : Held). z.lists) only) in
     record {
       moves = Grant s.member 0 (number (name.Page page)) X true ∷ [];
+      own = (refl, tt);
       moved = moved;
       spares = grant_spares (entry_in f.locks) w moved.world s.member (number (name.Page page)) X moved.run;
     }
@@ -196,6 +198,7 @@ ask_goes facts w f g held left own s t to page answer tied r knows member gives 
     (ap (λ (z : Held). z.locks) gives.1.1) refl refl refl (stay_claims held left own s t knows leads claim) in
     record {
       moves = Ask s.member 0 to (number (name.Page page)) X ∷ [];
+      own = (refl, tt);
       moved = moved;
       spares = ask_spares (entry_in f.locks) w moved.world s.member to (number (name.Page page)) X moved.run;
     }

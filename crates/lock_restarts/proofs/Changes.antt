@@ -88,7 +88,7 @@ not_its claim p q other e same =
 
 -- claims on no name go
 more : (w : World) (u v : event.World) (left : Claims) (h : Held) (x : RestartSent) → Goes w u.facility v.facility left h.marks.member none_gone → Goes w u.facility v.facility left h.marks.member (gone_by x)
-more w u v left h x goes = record { moves = goes.moves; moved = goes.moved; spares = gone_more w goes.moved.world h.marks.member (gone_by x) goes.spares }
+more w u v left h x goes = record { moves = goes.moves; own = goes.own; moved = goes.moved; spares = gone_more w goes.moved.world h.marks.member (gone_by x) goes.spares }
 
 -- ---- whose intent it is
 module _ (facts : Facts) (w : World) (u v : event.World) (held left : Claims) (own : OwnClaims) (h m k : Held) (a : Answered) (said : RestartTold) where

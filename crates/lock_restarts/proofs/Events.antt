@@ -89,7 +89,7 @@ strangers law w f g held left m gone asker to c tied claims other are same =
     let now : Tied w f.locks g.lists held = same_cells w f.locks f.lists g.lists held tied cells (ap (λ (z : ListsState). z.statuses) lists) (ap (λ (z : ListsState). z.members) lists) in
     let moved : Moved w [] f.locks g.locks g.lists left =
     subst (λ (z : Locks). Moved w [] f.locks z g.lists left) (sym locks) (law w f.locks g.lists g.lists held left now (record { cells = refl; statuses = refl; members = refl; claims = claims })) in
-    record { moves = []; moved = moved; spares = no_move (entry_in f.locks) w moved.world m gone moved.run }
+    record { moves = []; own = tt; moved = moved; spares = no_move (entry_in f.locks) w moved.world m gone moved.run }
 
 -- ---- what it sends
 abbrev is_ask : Command → Bool

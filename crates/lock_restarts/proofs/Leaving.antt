@@ -52,6 +52,7 @@ either_none false = refl
 pub release_goes : Facts → ReleaseGoes
 release_goes facts w f g held left own s t page answer tied r knows claimed gives is leads = record {
   moves = GiveUp s.member which ∷ Release s.member 0 n no_interest ∷ [];
+  own = (refl, (refl, tt));
   moved = moved;
   spares = release_spares facts.numbers (entry_in f.locks) w moved.world s.member page moved.run;
 }
@@ -101,6 +102,7 @@ purge_goes facts w f g held left own s t n answer tied r knows none gives claim 
     refl (ap (λ (z : ListsState). z.cells) lists) (ap (λ (z : ListsState). z.statuses) lists) (ap (λ (z : ListsState). z.members) lists) (stay_claims held left own s t knows leads claim) in
     record {
       moves = GiveUp s.member (on_name (number n)) ∷ Purge s.member (number n) ∷ [];
+      own = (refl, (refl, tt));
       moved = moved;
       spares = purge_spares (entry_in f.locks) w moved.world s.member (number n) moved.run;
     }
@@ -111,4 +113,4 @@ up_goes facts w f g held left own s t answer tied r knows gives claim leads =
     ended facts.stay w (GiveUp s.member (unknown held s.member) ∷ []) f.locks f.locks g.lists g held left
     (facts.rises w f.locks f.lists g.lists held s.member tied r.member r.few r.restarts (ap (λ (z : Held). z.lists.cells) gives.1) (ap (λ (z : Held). z.lists.members) gives.1) (ap (λ (z : Held). z.lists.statuses) gives.1))
     (ap (λ (z : Held). z.locks) gives.1) refl refl refl (stay_claims held left own s t knows leads claim) in
-    record { moves = GiveUp s.member (unknown held s.member) ∷ []; moved = moved; spares = all_gone w moved.world s.member }
+    record { moves = GiveUp s.member (unknown held s.member) ∷ []; own = (refl, tt); moved = moved; spares = all_gone w moved.world s.member }

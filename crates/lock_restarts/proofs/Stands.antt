@@ -50,7 +50,7 @@ quiet_goes law w f g held left m gone tied same claims =
     let moved : Moved w [] f.locks g.locks g.lists left =
     ended law w [] f.locks f.locks f.lists g held left (law w f.locks f.lists f.lists held held tied (record { cells = refl; statuses = refl; members = refl; claims = λ k o c. refl }))
     (ap (λ (z : Held). z.locks) same) (ap (λ (z : Held). z.lists.cells) same) (ap (λ (z : Held). z.lists.statuses) same) (ap (λ (z : Held). z.lists.members) same) claims in
-    record { moves = []; moved = moved; spares = no_move (entry_in f.locks) w moved.world m gone moved.run }
+    record { moves = []; own = tt; moved = moved; spares = no_move (entry_in f.locks) w moved.world m gone moved.run }
 
 -- ---- the page is claimed
 same_page : (p q : PageId) → is_same p q ≡ true → p ≡ q

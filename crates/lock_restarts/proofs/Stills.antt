@@ -186,4 +186,4 @@ stills_stay facts w u v held left own h k x a tied knows still e leads =
     ended facts.stay w [] u.facility.locks u.facility.locks u.facility.lists v.facility held left
     (facts.stay w u.facility.locks u.facility.lists u.facility.lists held held tied (record { cells = refl; statuses = refl; members = refl; claims = λ k o c. refl }))
     q.locks q.cells q.statuses q.members (stay_claims held left own h.marks k.marks knows leads (ends.claim ∙ runs.claim)) in
-    record { moves = []; moved = moved; spares = no_move (entry_in u.facility.locks) w moved.world h.marks.member (gone_by x) moved.run }
+    record { moves = []; own = tt; moved = moved; spares = no_move (entry_in u.facility.locks) w moved.world h.marks.member (gone_by x) moved.run }

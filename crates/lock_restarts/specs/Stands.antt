@@ -13,6 +13,7 @@ use Rattle.restart_marks.specs.Moves.{Reaches}
 use Rattle.restart_marks.specs.State.{RestartState}
 use Rattle.lock_protocol.specs.Machine.{World}
 use Rattle.lock_protocol.specs.Moves.{Move}
+use Rattle.lock_protocol.specs.Own.{AreOf}
 use Rattle.lock_world.specs.Numbers.{name_at, number}
 use Rattle.lock_world.specs.Tied.{Claims, Moved, is_own}
 
@@ -58,9 +59,10 @@ Spares w v m gone = (o c : ℕ) → o ≢ 0 → is_own (name_at c) ≡ false →
 abbrev pub none_gone : ℕ → Bool
 none_gone c = false
 
--- moves lead to a world that stands beside what an event of the member's restart has left
+-- moves of the member lead to a world that stands beside what an event of its restart has left
 pub record Goes (w : World) (f g : Held) (left : Claims) (m : ℕ) (gone : ℕ → Bool) : Type 0 where
   pub moves : List Move
+  pub own : AreOf m moves
   pub moved : Moved w moves f.locks g.locks g.lists left
   pub spares : Spares w moved.world m gone
 
