@@ -2,6 +2,7 @@
 #![tactic(auto)]
 
 mod befores;
+mod pages;
 mod slot;
 
 pub use befores::find_unstood;
