@@ -17,7 +17,6 @@ use Rattle.disk_versions.specs.Told.{IsFirstUnplaced}
 use Rattle.space_check.specs.declared.verdict.Clause.{Clause}
 use Rattle.space_check.specs.declared.verdict.Clause.TheVariants as clause
 use Rattle.space_check.specs.declared.verdict.Breach.{Breach}
-use Rattle.space_check.specs.declared.verdict.Verdict.TheVariants as verdict
 use Rattle.space_check.specs.Clauses.{IsPageOf, Fails}
 use Rattle.space_check.specs.Verdicts.{IsFoundSound, IsBrokenLog, IsBreachBehind}
 use Rattle.space_check.specs.Laws.{HasZerosBehind, SoundIsSound, UnsoundIsNot}
