@@ -3,7 +3,7 @@ use Rattle.std.specs.Prelude.{◌≡◌, ◌⊎◌, ◌≢◌, ℕ, ◌≤◌, L
 use Rattle.std.specs.Io.KnownBytes.{Appends}
 use Rattle.ds_base.specs.Causes.{Rose}
 use Rattle.ds_base.specs.declared.names.Volume.{Volume}
-use Rattle.ds_disk.specs.Contents.{Contents, WhenTold, Becomes}
+use Rattle.ds_disk.specs.Contents.{Contents, Becomes}
 use Rattle.ds_disk.specs.Pages.{page_at}
 use Rattle.disk_restart.specs.Keeping.{KeepsRecords}
 use Rattle.table_image_text.specs.Image.{image_of}
@@ -42,11 +42,12 @@ IsMet table (fault.Damaged volume at) c = IsWrong (page_at c.pages) table volume
 IsMet table (fault.Image at) c = Unit {0}
 IsMet table fault.NoMemory c = Unit {0}
 
+-- where the disk told what it holds before the call; the image is that of what it holds behind it
 abbrev pub ComesTo : ℕ → SinkAround → SinkAround → Copied → Type 0
 ComesTo table before after (copied.Whole pages) =
-    WhenTold after.contents (λ c. AreCopiedPages (page_at c.pages) table pages × TakesOf (Appends before.taken after.taken) c table)
+    Becomes before.contents after.contents (λ was c. AreCopiedPages (page_at c.pages) table pages × TakesOf (Appends before.taken after.taken) c table)
 ComesTo table before after (copied.Broken why) =
-    HasCause before after why × WhenTold after.contents (λ c. IsMet table why c × TakesOf (TakesFront before.taken after.taken) c table)
+    HasCause before after why × Becomes before.contents after.contents (λ was c. IsMet table why c × TakesOf (TakesFront before.taken after.taken) c table)
 ComesTo table before after (copied.Unopened why) = HasCause before after why × ((why ≢ fault.Sink) × ((after.taken ≡ before.taken) × (after.sink_faults ≡ before.sink_faults)))
 
 -- the logs keep their lasting records, whatever it came to

@@ -11,7 +11,7 @@ ghost use Rattle.disk_orders.specs.declared.copies.Copied.TheVariants as copied;
 ghost use Rattle.group_run.specs.Statuses.{short_text};
 ghost use Rattle.group_run.specs.Ends.{Tells, TellsCopy, FinishesCopy};
 
-use crate::finish::{Finished, finished, tell};
+use crate::finish::{Finished, finish_unopened, tell};
 use crate::status::{Status, text_of};
 use crate::telling::copy_status;
 use disk_orders::{Copied, copy};
@@ -56,5 +56,5 @@ pub fn finish_copy<D: Disk, K: Sink>(
 {
     let came = copy(alloc, &mut disk, sink, table);
     let status = tell_copy(alloc, sink, came);
-    finished(alloc, disk, status)
+    finish_unopened(alloc, disk, status)
 }

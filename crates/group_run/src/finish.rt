@@ -43,7 +43,7 @@ pub fn tell<K: Sink>(sink: &mut K, met: Status, text: &[u8]) -> Status
 }
 
 /// A call that opened no run and has no report.
-pub fn finished<D>(alloc: Global, disk: D, status: Status) -> Finished<D>
+pub fn finish_unopened<D>(alloc: Global, disk: D, status: Status) -> Finished<D>
     ensures { result ≡ record { status = status; opened = false; disk = disk; report = empty_report (number_of status); journal = []; causes = []; faults = []; opening = [] } }
 {
     let Account {

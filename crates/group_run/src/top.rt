@@ -13,7 +13,7 @@ ghost use Rattle.group_run.specs.Tellings.{TellsOutcome};
 ghost use Rattle.group_run.specs.Ends.{Tells, Meets, Works, Checks, EndsBy};
 
 use crate::copies::finish_copy;
-use crate::finish::{Finished, finished, tell};
+use crate::finish::{Finished, finish_unopened, tell};
 use crate::prepare::{Prepared, Setting, prepare};
 use crate::run::run;
 use crate::status::Status;
@@ -229,7 +229,7 @@ pub fn play<R: Threads + Wait + Sync, S: Source, K: Sink, D: Disk + Send, G: Gat
 {
     keeping_laws();
     match prepare(alloc, words, source) {
-        Err(NoMemory) => finished(alloc, disk, Status::NoMemory),
+        Err(NoMemory) => finish_unopened(alloc, disk, Status::NoMemory),
         Ok(Prepared::Copy(table)) => finish_copy(alloc, disk, sink, table),
         Ok(prepared) => finish(sink, perform(rt, alloc, prepared, disk, gate)),
     }

@@ -24,4 +24,4 @@ returns-in-Ok-Work-clause-allowed g c =
     let n = c.in-Ok-Work.n in
     let sizes = c.in-Ok-Work.sizes in
     let sound : AreSizes sizes = subst HasSizes c.in-Ok-Work.field-0-is (c.size_laws.ensures (texts c.args.words.now) c.in-Ok-Work.field-0 c.in-Ok-Work.ensures.order) in
-    subst (λ (s : Setting). IsAllowed (prepared.Work n s)) (sym c.setting_of-in-Ok-Work.ensures) (sound, (refl, refl))
+    subst (λ (s : Setting). IsAllowed (prepared.Work n s)) (sym c.setting_of-in-Ok-Work.ensures) (sound, refl, refl)

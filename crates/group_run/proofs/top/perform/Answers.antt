@@ -59,10 +59,10 @@ pub perform_work-requires-clause-sizes : goal.perform_work-requires-clause-sizes
 perform_work-requires-clause-sizes g c κs within = (subst IsAllowed c.in-Work.is c.requires.allowed).0
 
 pub perform_work-requires-clause-untraced : goal.perform_work-requires-clause-untraced
-perform_work-requires-clause-untraced g c κs within = (subst IsAllowed c.in-Work.is c.requires.allowed).1.0
+perform_work-requires-clause-untraced g c κs within = (subst IsAllowed c.in-Work.is c.requires.allowed).1
 
 pub perform_work-requires-clause-seeded : goal.perform_work-requires-clause-seeded
-perform_work-requires-clause-seeded g c κs within = (subst IsAllowed c.in-Work.is c.requires.allowed).1.1
+perform_work-requires-clause-seeded g c κs within = (subst IsAllowed c.in-Work.is c.requires.allowed).2
 
 pub returns-in-Work-clause-meets : goal.returns-in-Work-clause-meets
 returns-in-Work-clause-meets g c = λ o was left was_faults faults prepared unread.

@@ -29,7 +29,7 @@ returns-in-Err-clause-ends g c =
     let count = g.K.Sink.faults c.args.sink.now in
     let after = outside left faults (g.D.Disk.contents c.args.disk) (g.D.Disk.alive c.args.disk) (g.D.Disk.faults c.args.disk) in
     subst (λ x. EndsBy kind o before (outside left faults (g.D.Disk.contents x.disk) (g.D.Disk.alive x.disk) (g.D.Disk.faults x.disk)) x.status x.opened x.opening (record { journal = x.journal; causes = x.causes; faults = x.faults }) x.report taken taken count count)
-    (sym c.finished.ensures)
+    (sym c.finish_unopened.ensures)
     (wanting_ends kind o before after taken count (refl, refl, refl) c.prepare.ensures.unread)
 
 pub returns-in-Ok-Copy-clause-ends : goal.returns-in-Ok-Copy-clause-ends
