@@ -9,7 +9,7 @@ use Rattle.group_run.proofs.Copying.{wanting_ends, copies, uncopied}
 use Rattle.group_run.proofs.top.play.Goals as goal
 
 pub finish-requires : goal.finish-requires
-finish-requires g c κs within =
+finish-requires g c =
     let kind = kind_of Member g.D.Disk.alive g.D.Disk.contents g.D.Disk.faults in
     let o = ordered c.args.words.now in
     let before = outside (g.S.Source.left c.args.source.now) (g.S.Source.faults c.args.source.now) (g.D.Disk.contents c.args.disk) (g.D.Disk.alive c.args.disk) (g.D.Disk.faults c.args.disk) in
