@@ -1,4 +1,6 @@
-use Rattle.std.proofs.Common.{◌≡◌, refl, sym, subst}
+use Rattle.std.proofs.Common.{◌≡◌, false, refl, sym, subst}
+use Rattle.ds_disk.specs.Contents.{Becomes}
+use Rattle.disk_restart.specs.Keeping.{KeepsRecords}
 use Rattle.member_core.specs.declared.member.Member.{Member}
 use Rattle.checked_run.specs.Leading.{kind_of}
 use Rattle.group_run.specs.Outside.{outside}
@@ -67,3 +69,12 @@ returns-in-Ok-prepared-clause-ends g c =
     subst (λ x. EndsBy kind o before (outside left faults (g.D.Disk.contents x.disk) (g.D.Disk.alive x.disk) (g.D.Disk.faults x.disk)) c.finish.result.status x.opened x.opening (record { journal = x.journal; causes = x.causes; faults = x.faults }) x.report taken taken_now count count_now)
     (sym c.finish.ensures.rest)
     (uncopied kind o c.in-Ok-prepared.prepared before after c.finish.result.status came.opened came.opening came.account came.telling.report taken taken_now count count_now c.perform.requires.uncopied c.in-Ok-prepared.ensures.prepared ends)
+
+pub returns-in-Err-clause-left : goal.returns-in-Err-clause-left
+returns-in-Err-clause-left g c =
+    subst (λ x. x.opened ≡ false → Becomes (g.D.Disk.contents c.args.disk) (g.D.Disk.contents x.disk) KeepsRecords) (sym c.finish_unopened.ensures)
+    (λ closed. c.keeping_laws.ensures.itself (g.D.Disk.contents c.args.disk))
+
+pub returns-in-Ok-prepared-clause-left : goal.returns-in-Ok-prepared-clause-left
+returns-in-Ok-prepared-clause-left g c =
+    subst (λ x. x.opened ≡ false → Becomes (g.D.Disk.contents c.args.disk) (g.D.Disk.contents x.disk) KeepsRecords) (sym c.finish.ensures.rest) c.perform.ensures.left
