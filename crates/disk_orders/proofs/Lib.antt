@@ -1,3 +1,3 @@
 pub mod Told
 pub mod Opening
-pub mod Copied
+pub mod Written
