@@ -17,10 +17,11 @@ use Rattle.group_words.specs.declared.order.Order.{Order}
 use Rattle.group_words.specs.declared.order.Order.TheVariants as order
 use Rattle.group_run.specs.declared.status.Status.{Status}
 use Rattle.group_run.specs.declared.status.Status.TheVariants as status
+use Rattle.group_run.specs.declared.prepare.Setting.{Setting}
 use Rattle.group_run.specs.declared.prepare.Prepared.{Prepared}
 use Rattle.group_run.specs.declared.prepare.Prepared.TheVariants as prepared
 use Rattle.group_run.specs.Outside.{Outside, DiskIsUntouched}
-use Rattle.group_run.specs.Prepares.{IsPrepared, IsNoCopy, ReadsNothing, setting_of}
+use Rattle.group_run.specs.Prepares.{IsPrepared, IsPreparedToPlay, ReadsNothing, setting_of, table_to_copy}
 use Rattle.group_run.specs.Reports.{empty_report}
 use Rattle.group_run.specs.Tellings.{copy_status}
 use Rattle.group_run.specs.Ends.{Tells, FinishesCopy, EndsCopy, Ends, EndsBy}
@@ -91,35 +92,48 @@ wanting_ends kind (Some (order.Work n sizes)) before after taken faults untouche
 wanting_ends kind (Some order.Check) before after taken faults untouched unread = wanting_run kind (Some order.Check) before after taken faults untouched unread
 wanting_ends kind (Some (order.Copy table)) before after taken faults untouched unread = wanting_copy table before after taken faults untouched (unread tt)
 
-same_table : (n k : ℕ) → prepared.Copy n ≡ prepared.Copy k → n ≡ k
-same_table n k e = cc
+-- what has no table isn't a copy of one
+no_table : (p q : Prepared) (n : ℕ) → p ≡ q → table_to_copy p ≡ Some n → table_to_copy q ≡ None → ⊥
+no_table p q n same is none = let f : None ≡ Some n = sym none ∙ (ap table_to_copy (sym same) ∙ is) in cc
 
--- what was prepared is a copy
-pub copies : (kind : Kind) (o : Option Order) (before after : Outside) (n : ℕ) (ended : Status) (opened : Bool) (opening : List Row) (account : Account) (report : Report) (taken taken_now : Option (List ℕ)) (faults faults_now : ℕ)
-    → IsPrepared o (prepared.Copy n) before.left after.left before.source_faults after.source_faults → (ReadsNothing o → after.left ≡ before.left)
+its_table : (p : Prepared) (n k : ℕ) → p ≡ prepared.Copy k → table_to_copy p ≡ Some n → n ≡ k
+its_table p n k same is = let f : Some n ≡ Some k = sym is ∙ ap table_to_copy same in cc
+
+no_played : (p : Prepared) (n : ℕ) (setting : Setting) (a b : Option (List ℕ)) (f g : ℕ) → table_to_copy p ≡ Some n → IsPreparedToPlay setting p a b f g → ⊥
+no_played (prepared.Play script given) n setting a b f g e h = cc
+no_played prepared.Show n setting a b f g e h = cc
+no_played (prepared.Make k) n setting a b f g e h = cc
+no_played (prepared.Work k given) n setting a b f g e h = cc
+no_played prepared.Check n setting a b f g e h = cc
+no_played (prepared.Copy table) n setting a b f g e h = h
+no_played (prepared.Ended met) n setting a b f g e h = cc
+
+-- what was prepared is a copy of this table
+pub copies : (kind : Kind) (o : Option Order) (before after : Outside) (p : Prepared) (n : ℕ) (ended : Status) (opened : Bool) (opening : List Row) (account : Account) (report : Report) (taken taken_now : Option (List ℕ)) (faults faults_now : ℕ)
+    → table_to_copy p ≡ Some n → IsPrepared o p before.left after.left before.source_faults after.source_faults → (ReadsNothing o → after.left ≡ before.left)
     → FinishesCopy n before.contents after.contents before.disk_faults after.disk_faults taken taken_now faults faults_now ended
     → (opened ≡ false) × (opening ≡ []) × (account ≡ no_account) × (report.entries ≡ [])
     → EndsBy kind o before after ended opened opening account report taken taken_now faults faults_now
-copies kind None before after n ended opened opening account report taken taken_now faults faults_now h unread does nothing = let f : prepared.Copy n ≡ prepared.Ended status.WordsRefused = h in cc
-copies kind (Some (order.Play sizes seed trace)) before after n ended opened opening account report taken taken_now faults faults_now h unread does nothing = absurd h
-copies kind (Some order.Show) before after n ended opened opening account report taken taken_now faults faults_now h unread does nothing = let f : prepared.Copy n ≡ prepared.Show = h in cc
-copies kind (Some (order.Make k)) before after n ended opened opening account report taken taken_now faults faults_now h unread does nothing = let f : prepared.Copy n ≡ prepared.Make k = h in cc
-copies kind (Some (order.Work k sizes)) before after n ended opened opening account report taken taken_now faults faults_now h unread does nothing = let f : prepared.Copy n ≡ prepared.Work k (setting_of sizes (Some k) false) = h.0 in cc
-copies kind (Some order.Check) before after n ended opened opening account report taken taken_now faults faults_now h unread does nothing = let f : prepared.Copy n ≡ prepared.Check = h in cc
-copies kind (Some (order.Copy k)) before after n ended opened opening account report taken taken_now faults faults_now h unread does nothing = record {
-  copies = subst (λ (i : ℕ). FinishesCopy i before.contents after.contents before.disk_faults after.disk_faults taken taken_now faults faults_now ended) (same_table n k h) does;
+copies kind None before after p n ended opened opening account report taken taken_now faults faults_now e h unread does nothing = absurd (no_table p (prepared.Ended status.WordsRefused) n h e refl)
+copies kind (Some (order.Play sizes seed trace)) before after p n ended opened opening account report taken taken_now faults faults_now e h unread does nothing = absurd (no_played p n (setting_of sizes seed trace) before.left after.left before.source_faults after.source_faults e h)
+copies kind (Some order.Show) before after p n ended opened opening account report taken taken_now faults faults_now e h unread does nothing = absurd (no_table p prepared.Show n h e refl)
+copies kind (Some (order.Make k)) before after p n ended opened opening account report taken taken_now faults faults_now e h unread does nothing = absurd (no_table p (prepared.Make k) n h e refl)
+copies kind (Some (order.Work k sizes)) before after p n ended opened opening account report taken taken_now faults faults_now e h unread does nothing = absurd (no_table p (prepared.Work k (setting_of sizes (Some k) false)) n h.0 e refl)
+copies kind (Some order.Check) before after p n ended opened opening account report taken taken_now faults faults_now e h unread does nothing = absurd (no_table p prepared.Check n h e refl)
+copies kind (Some (order.Copy k)) before after p n ended opened opening account report taken taken_now faults faults_now e h unread does nothing = record {
+  copies = subst (λ (i : ℕ). FinishesCopy i before.contents after.contents before.disk_faults after.disk_faults taken taken_now faults faults_now ended) (its_table p n k h e) does;
   unopened = nothing;
   unread = unread tt;
 }
 
 -- what was prepared is none
 pub uncopied : (kind : Kind) (o : Option Order) (p : Prepared) (before after : Outside) (ended : Status) (opened : Bool) (opening : List Row) (account : Account) (report : Report) (taken taken_now : Option (List ℕ)) (faults faults_now : ℕ)
-    → IsNoCopy p → IsPrepared o p before.left after.left before.source_faults after.source_faults → Ends kind o before after ended opened opening account report taken taken_now faults faults_now
+    → table_to_copy p ≡ None → IsPrepared o p before.left after.left before.source_faults after.source_faults → Ends kind o before after ended opened opening account report taken taken_now faults faults_now
     → EndsBy kind o before after ended opened opening account report taken taken_now faults faults_now
-uncopied kind None p before after ended opened opening account report taken taken_now faults faults_now other h ends = ends
-uncopied kind (Some (order.Play sizes seed trace)) p before after ended opened opening account report taken taken_now faults faults_now other h ends = ends
-uncopied kind (Some order.Show) p before after ended opened opening account report taken taken_now faults faults_now other h ends = ends
-uncopied kind (Some (order.Make n)) p before after ended opened opening account report taken taken_now faults faults_now other h ends = ends
-uncopied kind (Some (order.Work n sizes)) p before after ended opened opening account report taken taken_now faults faults_now other h ends = ends
-uncopied kind (Some order.Check) p before after ended opened opening account report taken taken_now faults faults_now other h ends = ends
-uncopied kind (Some (order.Copy table)) p before after ended opened opening account report taken taken_now faults faults_now other h ends = absurd (other table h)
+uncopied kind None p before after ended opened opening account report taken taken_now faults faults_now e h ends = ends
+uncopied kind (Some (order.Play sizes seed trace)) p before after ended opened opening account report taken taken_now faults faults_now e h ends = ends
+uncopied kind (Some order.Show) p before after ended opened opening account report taken taken_now faults faults_now e h ends = ends
+uncopied kind (Some (order.Make n)) p before after ended opened opening account report taken taken_now faults faults_now e h ends = ends
+uncopied kind (Some (order.Work n sizes)) p before after ended opened opening account report taken taken_now faults faults_now e h ends = ends
+uncopied kind (Some order.Check) p before after ended opened opening account report taken taken_now faults faults_now e h ends = ends
+uncopied kind (Some (order.Copy table)) p before after ended opened opening account report taken taken_now faults faults_now e h ends = let f : None ≡ Some table = sym e ∙ ap table_to_copy h in cc

@@ -82,6 +82,12 @@ IsAllowed prepared.Check = Unit {0}
 IsAllowed (prepared.Copy table) = Unit {0}
 IsAllowed (prepared.Ended met) = Unit {0}
 
--- it isn't a copy
-abbrev pub IsNoCopy : Prepared → Type 0
-IsNoCopy p = (table : ℕ) → p ≡ prepared.Copy table → ⊥
+-- the table of which an image is to be written, if one is
+abbrev pub table_to_copy : Prepared → Option ℕ
+table_to_copy (prepared.Play script setting) = None
+table_to_copy prepared.Show = None
+table_to_copy (prepared.Make n) = None
+table_to_copy (prepared.Work n setting) = None
+table_to_copy prepared.Check = None
+table_to_copy (prepared.Copy table) = Some table
+table_to_copy (prepared.Ended met) = None

@@ -1,6 +1,6 @@
-ghost use Rattle.std.specs.Prelude.{◌≡◌, IfOk};
-ghost use Rattle.group_words.specs.Orders.{AreSizes};
-ghost use Rattle.group_run.specs.Prepares.{ordered, setting_of, IsPrepared, IsPreparedToPlay, ReadsNothing, IsAllowed};
+ghost use Rattle.std.specs.Prelude.{◌≡◌, Some, IfOk};
+ghost use Rattle.group_words.specs.Orders.{AreSizes, HasSizes};
+ghost use Rattle.group_run.specs.Prepares.{ordered, setting_of, IsPrepared, IsPreparedToPlay, ReadsNothing, IsAllowed, table_to_copy};
 
 use crate::status::Status;
 use ds_base::{NoMemory, Sizes, Source, TableId};
@@ -66,6 +66,29 @@ fn prepare_to_play<S: Source>(
     }
 }
 
+// Settles what the words order.
+fn prepare_order<S: Source>(
+    alloc: Global,
+    order: &Order,
+    source: &mut S,
+) -> Result<Prepared, NoMemory>
+    requires { HasSizes order.now }
+    ensures prepared { IfOk result (λ p. IsPrepared (Some order.now) p (S.left source.old) (S.left source.new) (S.faults source.old) (S.faults source.new)) }
+    ensures unread { ReadsNothing (Some order.now) → S.left source.new ≡ S.left source.old }
+    ensures allowed { IfOk result IsAllowed }
+{
+    match order {
+        Order::Play { sizes, seed, trace } => {
+            prepare_to_play(alloc, source, setting_of(*sizes, *seed, *trace))
+        }
+        Order::Show => Ok(Prepared::Show),
+        Order::Make { n } => Ok(Prepared::Make(*n)),
+        Order::Check => Ok(Prepared::Check),
+        Order::Copy { table } => Ok(Prepared::Copy(*table)),
+        Order::Work { n, sizes } => Ok(Prepared::Work(*n, setting_of(*sizes, Some(*n), false))),
+    }
+}
+
 /// Settles the words and then what they order: for a script the source and the script. No disk is touched before.
 pub fn prepare<S: Source>(
     alloc: Global,
@@ -80,13 +103,21 @@ pub fn prepare<S: Source>(
     match read_words(alloc, words) {
         Err(WordsFault::NoMemory) => Err(NoMemory),
         Err(WordsFault::Refused) => Ok(Prepared::Ended(Status::WordsRefused)),
-        Ok(Order::Play { sizes, seed, trace }) => {
-            prepare_to_play(alloc, source, setting_of(sizes, seed, trace))
-        }
-        Ok(Order::Show) => Ok(Prepared::Show),
-        Ok(Order::Make { n }) => Ok(Prepared::Make(n)),
-        Ok(Order::Check) => Ok(Prepared::Check),
-        Ok(Order::Copy { table }) => Ok(Prepared::Copy(table)),
-        Ok(Order::Work { n, sizes }) => Ok(Prepared::Work(n, setting_of(sizes, Some(n), false))),
+        Ok(order) => prepare_order(alloc, &order, source),
+    }
+}
+
+/// The table of which an image is to be written, if one is.
+pub fn table_to_copy(prepared: &Prepared) -> Option<TableId>
+    ensures { result ≡ table_to_copy prepared.now }
+{
+    match prepared {
+        Prepared::Copy(table) => Some(*table),
+        Prepared::Play(..)
+        | Prepared::Show
+        | Prepared::Make(_)
+        | Prepared::Work(..)
+        | Prepared::Check
+        | Prepared::Ended(_) => None,
     }
 }

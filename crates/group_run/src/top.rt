@@ -1,4 +1,4 @@
-ghost use Rattle.std.specs.Prelude.{◌≡◌, ℕ, true, false, List, [], Option};
+ghost use Rattle.std.specs.Prelude.{◌≡◌, ℕ, true, false, List, [], Option, None};
 ghost use Rattle.ds_disk.specs.Contents.{Contents, Becomes};
 ghost use Rattle.disk_restart.specs.Keeping.{KeepsRecords};
 ghost use Rattle.member_core.specs.declared.member.Member.{Member as AnyMember};
@@ -8,13 +8,13 @@ ghost use Rattle.checked_run.specs.Outcomes.{IsLeft};
 ghost use Rattle.group_words.specs.Orders.{AreSizes};
 ghost use Rattle.group_words.specs.declared.order.Order.{Order};
 ghost use Rattle.group_run.specs.Outside.{outside};
-ghost use Rattle.group_run.specs.Prepares.{ordered, IsPrepared, ReadsNothing, IsAllowed, IsNoCopy};
+ghost use Rattle.group_run.specs.Prepares.{ordered, IsPrepared, ReadsNothing, IsAllowed, table_to_copy};
 ghost use Rattle.group_run.specs.Tellings.{TellsOutcome};
 ghost use Rattle.group_run.specs.Ends.{Tells, Meets, Works, Checks, EndsBy};
 
 use crate::copies::finish_copy;
 use crate::finish::{Finished, finish_unopened, tell};
-use crate::prepare::{Prepared, Setting, prepare};
+use crate::prepare::{Prepared, Setting, prepare, table_to_copy};
 use crate::run::run;
 use crate::status::Status;
 use crate::telling::{
@@ -134,7 +134,7 @@ fn perform<R: Threads + Wait + Sync, D: Disk + Send, G: Gate + Sync>(
     gate: &G,
 ) -> Came<D>
     requires allowed { IsAllowed prepared }
-    requires uncopied { IsNoCopy prepared }
+    requires uncopied { table_to_copy prepared ≡ None }
     ensures meets { (o : Option Order) (left left_now : Option (List ℕ)) (faults faults_now : ℕ) → IsPrepared o prepared left left_now faults faults_now → (ReadsNothing o → left_now ≡ left)
         → Meets (kind_of AnyMember D.alive D.contents D.faults) o
         (outside left faults (D.contents disk) (D.alive disk) (D.faults disk))
@@ -230,7 +230,9 @@ pub fn play<R: Threads + Wait + Sync, S: Source, K: Sink, D: Disk + Send, G: Gat
     keeping_laws();
     match prepare(alloc, words, source) {
         Err(NoMemory) => finish_unopened(alloc, disk, Status::NoMemory),
-        Ok(Prepared::Copy(table)) => finish_copy(alloc, disk, sink, table),
-        Ok(prepared) => finish(sink, perform(rt, alloc, prepared, disk, gate)),
+        Ok(prepared) => match table_to_copy(&prepared) {
+            Some(table) => finish_copy(alloc, disk, sink, table),
+            None => finish(sink, perform(rt, alloc, prepared, disk, gate)),
+        },
     }
 }
