@@ -1,2 +1,4 @@
+pub mod Begin
+pub mod Held
 pub mod Lending
 pub mod Readers
