@@ -12,6 +12,7 @@ use Rattle.log_reader.specs.declared.calls.LogReply.{LogReply}
 use Rattle.log_reader.specs.declared.calls.LogRead.{LogRead}
 use Rattle.log_reader.specs.declared.calls.LogRead.TheVariants as read
 use Rattle.log_reader.specs.Begin.{begin_of}
+use Rattle.log_reader.specs.Keeping.{AreBytes}
 use Rattle.log_reader.specs.Readers.{ReaderState, IsNew, IsRead, after_reply}
 use Rattle.log_trans.specs.declared.damage.Damaged.{Damaged}
 use Rattle.log_trans.specs.Damage.{log_damage}
@@ -284,6 +285,7 @@ TakesRead h (read.Bad at) s k = damaged_log h h.reader.member at ≡ (k, s)
 TakesRead h (read.Whole log) s k = TakesWhole h log s k
 
 pub record TakesLog (h : Restart) (told : LogReply) (s : State) (k : Restart) : Type 0 where
+  pub bytes : AreBytes h.reader.block
   pub found : LogRead
   pub is_read : IsRead (after_reply h.reader told) found
   pub takes : TakesRead (with_reader h (after_reply h.reader told)) found s k

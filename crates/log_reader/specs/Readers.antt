@@ -94,7 +94,3 @@ abbrev pub IsRead : ReaderState → LogRead → Type 0
 IsRead r read.More = is_whole r ≡ false
 IsRead r (read.Whole log) = (is_whole r ≡ true) × (log.member ≡ r.member) × IsLogRead r log
 IsRead r (read.Bad at) = (is_whole r ≡ true) × (parts_read r ≡ Err at)
-
--- what a sound log's bytes are read as
-abbrev pub ReadsSound : Type 0
-ReadsSound = (bytes : List ℕ) (records : List LogRecord) (log : Log) → IsLog bytes records → IsLogOf bytes log → (log.records ≡ records) × (log.tail ≡ length bytes - length (log_bytes records))

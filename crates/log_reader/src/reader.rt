@@ -31,6 +31,7 @@ impl Model for LogReader {
 
 impl LogReader {
     ghost use Rattle.log_reader.specs.Readers.{IsNew, next_call, after_length, after_count, after_reply, is_whole, IsRead};
+    ghost use Rattle.log_reader.specs.Keeping.{AreBytes};
     ghost use Rattle.log_reader.specs.Lending.{LendsBlock};
 
     /// A reader of the member's log, of which nothing is read yet.
@@ -145,6 +146,7 @@ impl LogReader {
     pub fn take(&mut self, alloc: Global, reply: LogReply) -> Result<LogRead, NoMemory>
         ensures answers { IfOk result (λ read. IsRead self.new read) }
         ensures ok { OnOk result (self.new ≡ after_reply self.old reply) }
+        ensures bytes { AreBytes self.old.block }
         ensures err { OnErr result ((self.new ≡ self.old) ⊎ (self.new ≡ after_reply self.old reply)) }
     {
         self.enter(alloc, reply)?;
