@@ -18,6 +18,7 @@ use Rattle.log_head.specs.Whole.{whole_records}
 use Rattle.log_reader.specs.declared.held.Mark.{Mark}
 use Rattle.log_reader.specs.Held.{HeldState, nothing_held, begins_at, names_before, marked_one, marked_all, first_mark, with_mark, settled, grown}
 use Rattle.log_reader.specs.Readers.{ReaderState, IsLogRead, parts_behind}
+use Rattle.log_reader.proofs.Marks.{one_behind}
 use Rattle.log_reader.specs.Keeping.{AreBytes, AreWhole, IsOf, HasLastOf}
 
 -- a record that is read in bytes stands there
@@ -124,15 +125,9 @@ module _ (found : FoundInBytes) (first : FirstIsWhole) (none : NoneIsWhole) wher
       let rest : whole_records (drop n (drop m.to bytes)) ≡ rs = cc in
       let f : Found (drop m.to bytes) r n = subst (λ (y : LogRecord). Found (drop m.to bytes) y n) same (found (drop m.to bytes) x n (drop_bytes m.to bytes h) read) in
       let size = size_is (drop m.to bytes) r n f in
-      let at : (marked_one start m r).to ≡ m.to + n = to_is start m r ∙ ap (λ (k : ℕ). m.to + k) (sym size) in
+      let at : (marked_one start m r).to ≡ m.to + n = (one_behind start m r).to ∙ ap (λ (k : ℕ). m.to + k) (sym size) in
       let left : whole_records (drop (marked_one start m r).to bytes) ≡ rs = ap (λ (k : ℕ). whole_records (drop k bytes)) at ∙ ap whole_records (sym (drop-drop n m.to bytes)) ∙ rest in
       all_marked start bytes (marked_one start m r) rs h (one_more start bytes m r n is f size) left
-    where
-      to_is : (start : ℕ) (m : Mark) (r : LogRecord) → (marked_one start m r).to ≡ m.to + length (record_bytes r)
-      to_is start m r =
-          let begun : Mark = record { from = m.to; to = m.to + length (record_bytes r); is_back = m.is_back } in
-          let gone : Mark = record { from = m.from; to = m.to + length (record_bytes r); is_back = m.is_back || names_before (start + m.from) r.body } in
-          cond_both (begins_at (start + m.to) r) begun gone (λ (z : Mark). z.to ≡ m.to + length (record_bytes r)) (λ _. refl) (λ _. refl)
 
   -- ---- what is kept
 
