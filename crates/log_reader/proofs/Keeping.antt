@@ -110,24 +110,29 @@ module _ (found : FoundInBytes) (first : FirstIsWhole) (none : NoneIsWhole) wher
   size_is : (bytes : List ℕ) (r : LogRecord) (n : ℕ) → Found bytes r n → n ≡ length (record_bytes r)
   size_is bytes r n f = sym (length-take-le n bytes f.within) ∙ ap (λ (t : List ℕ). length t) f.spelled
 
-  all_marked : (start : ℕ) (bytes : List ℕ) (m : Mark) (rs : List LogRecord) → AreBytes bytes → IsMark bytes m → whole_records (drop m.to bytes) ≡ rs → IsMark bytes (marked_all start m rs)
+  -- what is known of the records behind this one
+  abbrev MarksRest : ℕ → List ℕ → List LogRecord → Type 0
+  MarksRest start bytes rs = (m : Mark) → IsMark bytes m → whole_records (drop m.to bytes) ≡ rs → IsMark bytes (marked_all start m rs)
 
-  read_marked : (start : ℕ) (bytes : List ℕ) (m : Mark) (r : LogRecord) (rs : List LogRecord) (f : Result (LogRecord × ℕ) RecordFault) → AreBytes bytes → IsMark bytes m → whole_records (drop m.to bytes) ≡ r ∷ rs → record_in (drop m.to bytes) ≡ f → IsMark bytes (marked_all start (marked_one start m r) rs)
-  all_marked start bytes m [] h is e = is
-  all_marked start bytes m (r ∷ rs) h is e = read_marked start bytes m r rs (record_in (drop m.to bytes)) h is e refl
-  read_marked start bytes m r rs (Err fault) h is e read = absurd (no_more r rs (sym e ∙ none (drop m.to bytes) fault read))
-    where
-      no_more : (x : LogRecord) (xs : List LogRecord) → x ∷ xs ≡ [] → ⊥
-      no_more x xs e = cc
-  read_marked start bytes m r rs (Ok (x, n)) h is e read =
+  no_more : (x : LogRecord) (xs : List LogRecord) → x ∷ xs ≡ [] → ⊥
+  no_more x xs e = cc
+
+  read_marked : (start : ℕ) (bytes : List ℕ) (m : Mark) (r : LogRecord) (rs : List LogRecord) (f : Result (LogRecord × ℕ) RecordFault) → AreBytes bytes → IsMark bytes m → whole_records (drop m.to bytes) ≡ r ∷ rs → record_in (drop m.to bytes) ≡ f → MarksRest start bytes rs
+      → IsMark bytes (marked_all start (marked_one start m r) rs)
+  read_marked start bytes m r rs (Err fault) h is e read rest = absurd (no_more r rs (sym e ∙ none (drop m.to bytes) fault read))
+  read_marked start bytes m r rs (Ok (x, n)) h is e read rest =
       let both : x ∷ whole_records (drop n (drop m.to bytes)) ≡ r ∷ rs = sym (first (drop m.to bytes) x n read) ∙ e in
       let same : x ≡ r = cc in
-      let rest : whole_records (drop n (drop m.to bytes)) ≡ rs = cc in
+      let behind : whole_records (drop n (drop m.to bytes)) ≡ rs = cc in
       let f : Found (drop m.to bytes) r n = subst (λ (y : LogRecord). Found (drop m.to bytes) y n) same (found (drop m.to bytes) x n (drop_bytes m.to bytes h) read) in
       let size = size_is (drop m.to bytes) r n f in
       let at : (marked_one start m r).to ≡ m.to + n = (one_behind start m r).to ∙ ap (λ (k : ℕ). m.to + k) (sym size) in
-      let left : whole_records (drop (marked_one start m r).to bytes) ≡ rs = ap (λ (k : ℕ). whole_records (drop k bytes)) at ∙ ap whole_records (sym (drop-drop n m.to bytes)) ∙ rest in
-      all_marked start bytes (marked_one start m r) rs h (one_more start bytes m r n is f size) left
+      let left : whole_records (drop (marked_one start m r).to bytes) ≡ rs = ap (λ (k : ℕ). whole_records (drop k bytes)) at ∙ ap whole_records (sym (drop-drop n m.to bytes)) ∙ behind in
+      rest (marked_one start m r) (one_more start bytes m r n is f size) left
+
+  all_marked : (start : ℕ) (bytes : List ℕ) (rs : List LogRecord) → AreBytes bytes → MarksRest start bytes rs
+  all_marked start bytes [] h = λ m is e. is
+  all_marked start bytes (r ∷ rs) h = λ m is e. read_marked start bytes m r rs (record_in (drop m.to bytes)) h is e refl (all_marked start bytes rs h)
 
   -- ---- what is kept
 
@@ -155,13 +160,15 @@ module _ (found : FoundInBytes) (first : FirstIsWhole) (none : NoneIsWhole) wher
   with_mark_is log h m is mark = cond_both m.is_back (nothing_held true) (record { start = h.start + m.from; end = h.end; bytes = drop m.from h.bytes; passed = m.to - m.from; keeps_all = h.keeps_all }) (IsOf log) (λ _. nothing_is log true) (λ _. from_mark log h m is mark)
 
   first_is : (h : HeldState) (log : List ℕ) → IsOf log h → IsMark h.bytes (first_mark h.passed)
-  first_is h log is = record { order = omega arith; within = is.passed; front = none_whole; looked = is.looked }
+  first_is h log is =
+      let all : h.passed - 0 ≡ h.passed = omega arith in
+      record { order = omega arith; within = is.passed; front = none_whole; looked = subst (λ (k : ℕ). AreWhole (take k h.bytes)) (sym all) is.looked }
 
   settled_is : (log : List ℕ) (h : HeldState) → IsOf log h → IsOf log (settled h)
   unfolding settled
   settled_is log h is = cond_both (h.keeps_all || nat_lt (length h.bytes) h.passed) h (with_mark h (marked_all h.start (first_mark h.passed) (whole_records (drop h.passed h.bytes)))) (IsOf log)
       (λ _. is)
-      (λ _. with_mark_is log h (marked_all h.start (first_mark h.passed) (whole_records (drop h.passed h.bytes))) is (all_marked h.start h.bytes (first_mark h.passed) (whole_records (drop h.passed h.bytes)) is.bytes (first_is h log is) refl))
+      (λ _. with_mark_is log h (marked_all h.start (first_mark h.passed) (whole_records (drop h.passed h.bytes))) is (all_marked h.start h.bytes (whole_records (drop h.passed h.bytes)) is.bytes (first_mark h.passed) (first_is h log is) refl))
 
   more_is : (log : List ℕ) (h : HeldState) (more : List ℕ) → IsOf log h → AreBytes more → h.end + length more ≤ length log → more ≡ take (length more) (drop h.end log) → IsOf log (record { start = h.start; end = h.end + length more; bytes = h.bytes ++ more; passed = h.passed; keeps_all = h.keeps_all })
   more_is log h more is are within next =
@@ -210,7 +217,9 @@ front_parts again goes (r ∷ rs) rest h =
     ∙ ap (behind r (length b)) (front_parts again goes rs rest h.1)
 
 front_ok : (front : List LogRecord) (p : Parts) → prefixed front (Ok p) ≡ Ok (record { records = front ++ p.records; size = length (log_bytes front) + p.size; tail = p.tail })
-front_ok [] p = refl
+front_ok [] p =
+    let none : p.size ≡ 0 + p.size = omega arith in
+    ap (λ (n : ℕ). Ok (record { records = p.records; size = n; tail = p.tail })) none
 front_ok (r ∷ rs) p =
     let b = record_bytes r in
     let long : length b + (length (log_bytes rs) + p.size) ≡ length (b ++ log_bytes rs) + p.size = omega (arith, length-append b (log_bytes rs)) in

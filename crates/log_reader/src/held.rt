@@ -93,9 +93,11 @@ fn drop_front(bytes: &mut Vec<u8>, count: usize)
     requires { count ≤ length bytes.old.items }
     ensures { bytes.new.items ≡ drop count bytes.old.items }
 {
-    let left = bytes.len() - count;
-    bytes.copy_within(count.., 0);
-    bytes.truncate(left);
+    if 0 < count {
+        let left = bytes.len() - count;
+        bytes.copy_within(count.., 0);
+        bytes.truncate(left);
+    }
 }
 
 // The record that stands at this place of the bytes, and its length, or nothing where none does.

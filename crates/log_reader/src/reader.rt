@@ -1,5 +1,6 @@
 ghost use Rattle.std.specs.Prelude.{◌≡◌, ◌+◌, ◌⊎◌, true, IfOk, OnOk, OnErr};
 ghost use Rattle.std.specs.Borrow.{sem};
+ghost use Rattle.log_reader.specs.Keeping.{AreBytes};
 
 use crate::calls::{LogCall, LogRead, LogReply};
 use crate::held::Held;
@@ -29,9 +30,15 @@ impl Model for LogReader {
     ghost view = { λ r. record { member = r.member; length_told = r.length; held = r.held; block = box_value r.block } };
 }
 
+// What a block has are bytes. The function does nothing: it is called where that is needed.
+fn are_bytes(block: &[u8; BLOCK])
+    ensures { AreBytes block.now }
+{
+    let _bytes = block;
+}
+
 impl LogReader {
     ghost use Rattle.log_reader.specs.Readers.{IsNew, next_call, after_length, after_count, after_reply, is_whole, IsRead};
-    ghost use Rattle.log_reader.specs.Keeping.{AreBytes};
     ghost use Rattle.log_reader.specs.Lending.{LendsBlock};
 
     /// A reader of the member's log, of which nothing is read yet.
@@ -149,6 +156,7 @@ impl LogReader {
         ensures bytes { AreBytes self.old.block }
         ensures err { OnErr result ((self.new ≡ self.old) ⊎ (self.new ≡ after_reply self.old reply)) }
     {
+        are_bytes(&self.block);
         self.enter(alloc, reply)?;
         if !self.is_whole() {
             return Ok(LogRead::More);
