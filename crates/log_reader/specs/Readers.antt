@@ -1,11 +1,9 @@
 -- A log that is read block by block.
-use Rattle.std.specs.Prelude.{◌≡◌, ℕ, ◌+◌, ◌-◌, ◌≤◌, ◌==◌, nat_le, min, Bool, true, false, if◌then◌else◌, List, [], ◌++◌, length, take, Option, None, Some, Result, Ok, Err}
-use Rattle.ds_model.specs.declared.log.LogRecord.{LogRecord}
-use Rattle.ds_model.specs.Logs.{IsLog}
+use Rattle.std.specs.Prelude.{◌≡◌, ℕ, ◌+◌, ◌-◌, ◌≤◌, ◌==◌, nat_le, min, Bool, true, false, if◌then◌else◌, List, length, take, Option, None, Some, Result, Ok, Err}
 use Rattle.std.specs.List.{AllByRecursion}
 use Rattle.ds_model.specs.RecordBytes.{IsAllowed, log_bytes}
 use Rattle.log_record.specs.declared.log.Log.{Log}
-use Rattle.log_record.specs.Logs.{Parts, parts_in, parts_of, IsLogOf}
+use Rattle.log_record.specs.Logs.{Parts, parts_in, parts_of}
 use Rattle.log_reader.specs.Held.{HeldState, nothing_held, grown}
 use Rattle.log_reader.specs.declared.calls.LogCall.{LogCall}
 use Rattle.log_reader.specs.declared.calls.LogCall.TheVariants as call

@@ -31,7 +31,7 @@ impl Model for LogReader {
 }
 
 // What a block has are bytes. The function does nothing: it is called where that is needed.
-fn are_bytes(block: &[u8; BLOCK])
+fn are_bytes(block: &[u8])
     ensures { AreBytes block.now }
 {
     let _bytes = block;
@@ -156,7 +156,7 @@ impl LogReader {
         ensures bytes { AreBytes self.old.block }
         ensures err { OnErr result ((self.new ≡ self.old) ⊎ (self.new ≡ after_reply self.old reply)) }
     {
-        are_bytes(&self.block);
+        are_bytes(&*self.block);
         self.enter(alloc, reply)?;
         if !self.is_whole() {
             return Ok(LogRead::More);
