@@ -255,13 +255,16 @@ placed logs (Some d) = Some (record { member = d.member; at = place_among logs d
 unfoldable pub found_damage : List Log → Option Damaged
 found_damage logs = placed logs (log_damage logs)
 
-abbrev pub placed_on : List Log → Greatest → Volume → Greatest
-placed_on logs g (volume.Log member) = record { lrsn = g.lrsn; volume = g.volume; at = place_among logs member g.at }
-placed_on logs g (volume.Page id) = g
+abbrev pub place_on : List Log → Volume → ℕ → ℕ
+place_on logs (volume.Log member) at = place_among logs member at
+place_on logs (volume.Page id) at = at
+
+abbrev pub placed_on : List Log → Greatest → Greatest
+placed_on logs g = record { lrsn = g.lrsn; volume = g.volume; at = place_on logs g.volume g.at }
 
 -- what the records that were read ask for; the greatest number stands so many bytes behind the first of them
 abbrev pub plan_read : List Log → Plan
-plan_read logs = with_greatest (plan_of logs) (placed_on logs (plan_of logs).greatest (plan_of logs).greatest.volume)
+plan_read logs = with_greatest (plan_of logs) (placed_on logs (plan_of logs).greatest)
 
 abbrev pub planned : Restart → Option Damaged → Next
 planned h (Some d) = damaged_log h d.member d.at

@@ -9,7 +9,7 @@ ghost use Rattle.group_restart.specs.declared.stage.Stage.TheVariants as stage;
 ghost use Rattle.log_trans.specs.Damage.{AreAllowed};
 ghost use Rattle.group_restart.specs.Going.{GoesOn, IsGoingOn};
 ghost use Rattle.group_restart.specs.Undo.{undo_fault};
-ghost use Rattle.group_restart.specs.Course.{place_among, placed_on, plan_read, found_damage, counted, has_numbers, next_tail, next_redo, begin_undo, next_closing, undo_or, next_undo, next_renewal, next_ending, done, too_few_numbers, go, TakesLog, TakesWhole, take_logs, take_page, noted, take_raised, take_undone, take_old, undo_one, undone, appended, take_done, TakesTold, TakesReply};
+ghost use Rattle.group_restart.specs.Course.{place_among, place_on, plan_read, found_damage, counted, has_numbers, next_tail, next_redo, begin_undo, next_closing, undo_or, next_undo, next_renewal, next_ending, done, too_few_numbers, go, TakesLog, TakesWhole, take_logs, take_page, noted, take_raised, take_undone, take_old, undo_one, undone, appended, take_done, TakesTold, TakesReply};
 
 use crate::append::Append;
 use crate::calls::State;
@@ -26,7 +26,7 @@ use log_trans::{Damaged, find_log_damage, has_numbers};
 use page_records::PageRecords;
 use page_redo::page_changed;
 use places_redo::bring_places;
-use restart_plan::{Greatest, Logs, Plan, Undo, plan_of};
+use restart_plan::{Logs, Plan, Undo, plan_of};
 use std::alloc::Global;
 
 fn damaged_log(damaged: Damaged) -> State
@@ -52,18 +52,14 @@ fn place_among(logs: &[Log], member: MemberId, at: u64) -> Result<u64, NoMemory>
     Ok(at)
 }
 
-// The greatest number, whose place in a log is told behind the first of the records that were read.
-fn placed_on(logs: &[Log], greatest: Greatest) -> Result<Greatest, NoMemory>
+// The byte of a log that stands so many bytes behind the first of its records that were read, or the byte of a page.
+fn place_on(logs: &[Log], volume: &Volume, at: u64) -> Result<u64, NoMemory>
     requires { AreAllowed logs.now }
-    ensures { IfOk result (λ g. g ≡ placed_on logs.now greatest greatest.volume) }
+    ensures { IfOk result (λ place. place ≡ place_on logs.now volume.now at) }
 {
-    match greatest.volume {
-        Volume::Log(member) => Ok(Greatest {
-            lrsn: greatest.lrsn,
-            volume: greatest.volume,
-            at: place_among(logs, member, greatest.at)?,
-        }),
-        Volume::Page(_) => Ok(greatest),
+    match volume {
+        Volume::Log(member) => place_among(logs, *member, at),
+        Volume::Page(_) => Ok(at),
     }
 }
 
@@ -86,7 +82,7 @@ fn plan_read(alloc: Global, logs: &Logs) -> Result<Plan, NoMemory>
     ensures { IfOk result (λ plan. plan ≡ plan_read logs.now) }
 {
     let mut plan = plan_of(alloc, logs)?;
-    plan.greatest = placed_on(logs.as_slice(), plan.greatest)?;
+    plan.greatest.at = place_on(logs.as_slice(), &plan.greatest.volume, plan.greatest.at)?;
     Ok(plan)
 }
 
