@@ -3,7 +3,6 @@ ghost use Rattle.std.specs.List.{AllByRecursion};
 ghost use Rattle.std.specs.FinMap as finite;
 ghost use Rattle.ds_model.specs.RecordBytes.{IsAllowed};
 ghost use Rattle.log_trans.specs.Damage.{AreAllowed};
-ghost use Rattle.log_reader.specs.Begin.{begin_of};
 ghost use Rattle.checkpoint_offsets.specs.Offsets.{offset_field, names_one_of, names_own, with_place, fault_from, all_own, fault_in, offset_damage, is_earlier, earlier};
 
 use ds_base::{Lrsn, NoMemory};
