@@ -12,6 +12,7 @@ use Rattle.log_reader.specs.declared.calls.LogReply.{LogReply}
 use Rattle.log_reader.specs.declared.calls.LogRead.{LogRead}
 use Rattle.log_reader.specs.declared.calls.LogRead.TheVariants as read
 use Rattle.log_reader.specs.Begin.{begin_of}
+use Rattle.checkpoint_offsets.specs.Offsets.{offset_damage, earlier}
 use Rattle.log_reader.specs.Keeping.{AreBytes}
 use Rattle.log_reader.specs.Readers.{ReaderState, IsNew, IsRead, after_reply}
 use Rattle.log_trans.specs.declared.damage.Damaged.{Damaged}
@@ -251,9 +252,9 @@ abbrev pub placed : List Log → Option Damaged → Option Damaged
 placed logs None = None
 placed logs (Some d) = Some (record { member = d.member; at = place_among logs d.member d.at })
 
--- the first number of the logs that can't stand there
+-- the first number or offset of the logs that can't stand there
 unfoldable pub found_damage : List Log → Option Damaged
-found_damage logs = placed logs (log_damage logs)
+found_damage logs = earlier (placed logs (log_damage logs)) (offset_damage logs)
 
 abbrev pub place_on : List Log → Volume → ℕ → ℕ
 place_on logs (volume.Log member) at = place_among logs member at

@@ -6,10 +6,10 @@ ghost use Rattle.ds_model.specs.RecordBytes.{IsAllowed, ChangeFits};
 ghost use Rattle.ds_base.specs.declared.names.Volume.TheVariants as volume;
 ghost use Rattle.group_restart.specs.declared.calls.State.TheVariants as state;
 ghost use Rattle.group_restart.specs.declared.stage.Stage.TheVariants as stage;
-ghost use Rattle.log_trans.specs.Damage.{AreAllowed};
+ghost use Rattle.log_trans.specs.Damage.{AreAllowed, log_damage};
 ghost use Rattle.group_restart.specs.Going.{GoesOn, IsGoingOn};
 ghost use Rattle.group_restart.specs.Undo.{undo_fault};
-ghost use Rattle.group_restart.specs.Course.{place_among, place_on, plan_read, found_damage, counted, has_numbers, next_tail, next_redo, begin_undo, next_closing, undo_or, next_undo, next_renewal, next_ending, done, too_few_numbers, go, TakesLog, TakesWhole, take_logs, take_page, noted, take_raised, take_undone, take_old, undo_one, undone, appended, take_done, TakesTold, TakesReply};
+ghost use Rattle.group_restart.specs.Course.{place_among, placed, place_on, plan_read, found_damage, counted, has_numbers, next_tail, next_redo, begin_undo, next_closing, undo_or, next_undo, next_renewal, next_ending, done, too_few_numbers, go, TakesLog, TakesWhole, take_logs, take_page, noted, take_raised, take_undone, take_old, undo_one, undone, appended, take_done, TakesTold, TakesReply};
 
 use crate::append::Append;
 use crate::calls::State;
@@ -19,6 +19,7 @@ use crate::records::{ended, ending};
 use crate::reply::Reply;
 use crate::stage::Stage;
 use crate::undo::{undo_fault, undo_page, undoing};
+use checkpoint_offsets::{earlier, find_wrong_offset};
 use ds_base::{Lrsn, MemberId, NoMemory, PageId, Volume};
 use log_reader::{LogRead, LogReader, LogReply, place_in};
 use log_record::Log;
@@ -63,11 +64,11 @@ fn place_on(logs: &[Log], volume: &Volume, at: u64) -> Result<u64, NoMemory>
     }
 }
 
-#[tactic(auto, unfolding(crate::specs::Course::found_damage))]
-fn damage_of(alloc: Global, logs: &Logs) -> Result<Option<Damaged>, NoMemory>
-    ensures { IfOk result (λ damage. damage ≡ found_damage logs.now) }
+// The first number of the logs that can't stand there.
+fn wrong_number(alloc: Global, logs: &[Log]) -> Result<Option<Damaged>, NoMemory>
+    requires { AreAllowed logs.now }
+    ensures { IfOk result (λ damage. damage ≡ placed logs.now (log_damage logs.now)) }
 {
-    let logs = logs.as_slice();
     match find_log_damage(alloc, logs)? {
         Some(Damaged { member, at }) => Ok(Some(Damaged {
             member,
@@ -75,6 +76,16 @@ fn damage_of(alloc: Global, logs: &Logs) -> Result<Option<Damaged>, NoMemory>
         })),
         None => Ok(None),
     }
+}
+
+#[tactic(auto, unfolding(crate::specs::Course::found_damage))]
+fn damage_of(alloc: Global, logs: &Logs) -> Result<Option<Damaged>, NoMemory>
+    ensures { IfOk result (λ damage. damage ≡ found_damage logs.now) }
+{
+    let logs = logs.as_slice();
+    let number = wrong_number(alloc, logs)?;
+    let offset = find_wrong_offset(alloc, logs)?;
+    Ok(earlier(number, offset))
 }
 
 // What the logs ask for that were read.
