@@ -6,3 +6,8 @@ mod Order
 mod Heads
 mod RowsTold
 mod Taking
+mod Enough
+mod Reads
+mod ReadOn
+mod Keeps
+mod Judges

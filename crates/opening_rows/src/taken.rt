@@ -4,7 +4,7 @@ ghost use Rattle.std.specs.Prelude.{◌≡◌, ◌+◌, ◌||◌, ◌&&◌, ◌�
 ghost use Rattle.std.specs.BTreeSet as set;
 ghost use Rattle.std.specs.Ordering.{nat_cmp};
 ghost use Rattle.ds_model.specs.Logs.{has_commit};
-ghost use Rattle.report_heads.specs.Kept.{HasTaken, Adds};
+ghost use Rattle.opening_rows.specs.Kept.{HasTaken, Adds};
 
 use ds_base::NoMemory;
 use ds_model::{Body, LogRecord};

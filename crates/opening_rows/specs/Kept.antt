@@ -7,9 +7,9 @@ use Rattle.ds_model.specs.declared.log.LogRecord.{LogRecord}
 use Rattle.ds_model.specs.Logs.{has_commit}
 use Rattle.log_record.specs.declared.log.Log.{Log}
 use Rattle.report_check.specs.Records.{records_of}
-use Rattle.report_heads.specs.declared.taken.Taken.{Taken}
-use Rattle.report_heads.specs.declared.kept.Kept.{Kept}
-use Rattle.report_heads.specs.declared.kept.KeptLogs.{KeptLogs}
+use Rattle.opening_rows.specs.declared.taken.Taken.{Taken}
+use Rattle.opening_rows.specs.declared.kept.Kept.{Kept}
+use Rattle.opening_rows.specs.declared.kept.KeptLogs.{KeptLogs}
 
 -- the records of these transactions
 abbrev pub kept_by : (ℕ → Bool) → List LogRecord → List LogRecord

@@ -13,7 +13,7 @@ use Rattle.report_check.specs.Reports.{IsSoundReport}
 use Rattle.opening_rows.specs.declared.opening.Opening.{Opening}
 use Rattle.opening_rows.specs.Reading.{AreLogsOf}
 use Rattle.opening_rows.specs.Opening.{stood_for}
-use Rattle.report_heads.specs.Kept.{AreWhole, all_told, all_before}
+use Rattle.opening_rows.specs.Kept.{AreWhole, all_told, all_before}
 
 -- nothing follows the whole records of the logs, and the entries are sound for them
 pub record BearOut (script : Script) (opening : Opening) (entries : List Entry) (logs : List Log) : Type 0 where

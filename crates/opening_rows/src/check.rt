@@ -1,22 +1,44 @@
 //! Whether the logs of a disk bear a report out.
 
-ghost use Rattle.std.specs.Prelude.{◌≡◌, ℕ, List, IfOk};
-ghost use Rattle.ds_model.specs.Rows.{AreSorted};
+ghost use Rattle.std.specs.Prelude.{◌≡◌, List, IfOk, Decides};
+ghost use Rattle.ds_model.specs.Rows.{AreSorted, map_of};
 ghost use Rattle.log_record.specs.declared.log.Log.{Log};
+ghost use Rattle.report_check.specs.Records.{records_of};
+ghost use Rattle.report_check.specs.Commits.{new_commits, AreLogged};
 ghost use Rattle.opening_rows.specs.Reading.{BreaksAt, ReadsBy};
 ghost use Rattle.opening_rows.specs.Opening.{stood_for};
-ghost use Rattle.report_heads.specs.Kept.{AreKept};
-ghost use Rattle.report_heads.specs.Checks.{Judges, IsJudged};
+ghost use Rattle.opening_rows.specs.Kept.{AreKept};
+ghost use Rattle.opening_rows.specs.Judging.{Judges, IsJudged};
 
+use crate::fault::LogsFault;
 use crate::kept::{KeptLogs, keep_logs};
 use crate::laws::kept_laws;
+use crate::opening::{Opening, read_opening};
 use ds_base::{NoMemory, RowList};
 use ds_disk::Disk;
 use ds_model::{Entry, Script};
-use opening_rows::{LogsFault, Opening, read_opening};
 use report_check::{are_logged, sound_rows};
 use std::alloc::Global;
 use tran_history::same_rows;
+
+// Whether one thread comes to the rows that logs stand for, and what is kept of these tells of the commits of entries.
+fn are_borne_out(
+    alloc: Global,
+    opening: &Opening,
+    entries: &[Entry],
+    left: &RowList,
+    rows: &RowList,
+    kept: &KeptLogs,
+) -> Result<bool, NoMemory>
+    requires { AreSorted opening.now.rows }
+    ensures { (logs : List Log) → AreKept opening.now.had.items logs kept.now → IfOk result (λ same. Decides same ((left.now ≡ rows.now) × AreLogged (records_of logs) (new_commits opening.now.had.items (records_of logs)) (map_of opening.now.rows) entries.now)) }
+{
+    kept_laws();
+    if !same_rows(left.as_slice(), rows.as_slice()) {
+        return Ok(false);
+    }
+    are_logged(alloc, &opening.rows, entries, &kept.logs, &kept.had)
+}
 
 // Holds entries against the rows that logs stand for, and what is kept of these.
 fn judge(
@@ -30,16 +52,17 @@ fn judge(
     requires { AreSorted opening.now.rows }
     ensures { (logs : List Log) → rows.now ≡ stood_for logs → AreKept opening.now.had.items logs kept.now → IfOk result (Judges script.now opening.now entries.now logs) }
 {
-    kept_laws();
     if !kept.are_whole {
         return Ok(None);
     }
     match sound_rows(alloc, script, &opening.rows, entries)? {
         None => Ok(None),
         Some(left) => {
-            let is_sound = same_rows(left.as_slice(), rows.as_slice())
-                && are_logged(alloc, &opening.rows, entries, &kept.logs, &kept.had)?;
-            Ok(if is_sound { Some(left) } else { None })
+            if are_borne_out(alloc, opening, entries, &left, rows, kept)? {
+                Ok(Some(left))
+            } else {
+                Ok(None)
+            }
         }
     }
 }

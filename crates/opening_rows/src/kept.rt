@@ -1,25 +1,23 @@
 //! What is kept of the logs of a disk.
 
-ghost use Rattle.std.specs.Prelude.{◌≡◌, ◌+◌, ◌<◌, ◌≤◌, ◌^◌, ◌∷◌, ◌++◌, [], ℕ, true, List, length, slice_index, Err, IfOk, OnOk};
+ghost use Rattle.std.specs.Prelude.{◌≡◌, ◌+◌, ◌<◌, ◌≤◌, ◌^◌, ◌∷◌, ◌++◌, [], List, true, length, slice_index, OnOk, Decides};
 ghost use Rattle.ds_disk.specs.Contents.{log_of};
 ghost use Rattle.log_record.specs.declared.log.Log.{Log as AnyLog};
-ghost use Rattle.log_record.specs.Logs.{parts_in, IsLogOf};
-ghost use Rattle.disk_heads.specs.Reading.{Reads};
+ghost use Rattle.log_record.specs.Logs.{IsLogOf};
+ghost use Rattle.report_check.specs.Records.{records_of};
 ghost use Rattle.opening_rows.specs.Reading.{AreLogsOf, HasDamage, ReadsBy};
-ghost use Rattle.report_heads.specs.Kept.{IsKept, AreKept};
+ghost use Rattle.opening_rows.specs.Kept.{IsKept, AreKept};
 
+use crate::fault::LogsFault;
+use crate::logs::{MEMBERS, member_behind};
 use crate::reading::{LogRead, read_log};
-use disk_heads::{BLOCK, LogFault};
+use disk_heads::BLOCK;
 use ds_base::{MemberId, NoMemory, Sequence};
 use ds_disk::Disk;
 use ds_model::LogRecord;
 use log_record::Log;
-use opening_rows::LogsFault;
 use std::alloc::Global;
 use std::collections::BTreeSet;
-
-// The most members of a group, each with a log.
-const MEMBERS: usize = 32;
 
 /// What is kept of a log.
 #[derive(Drop)]
@@ -41,16 +39,6 @@ pub struct KeptLogs {
     pub had: Vec<usize>,
     /// Whether nothing follows the whole records of each log.
     pub are_whole: bool,
-}
-
-fn member_behind(n: usize) -> MemberId
-    requires { n < 32 }
-    ensures { result ≡ n + 1 }
-{
-    match MemberId::new(n as u64 + 1) {
-        Some(member) => member,
-        None => unreachable!(),
-    }
 }
 
 fn count_at(had: &[usize], i: usize) -> usize
@@ -80,11 +68,11 @@ fn keep_log<D: Disk>(
     member: MemberId,
     had: usize,
     block: &mut [u8],
-) -> Result<Kept, LogFault>
+) -> Result<Kept, LogsFault>
     requires some { 1 ≤ length block.old }
     requires fits { length block.old < 2 ^ 32 }
-    ensures { Reads (D.contents disk.old) (D.contents disk.new) (D.faults disk.old) (D.faults disk.new)
-        (λ kept c. (log : AnyLog) → IsLogOf (log_of c.logs member) log → IsKept had log kept) (λ at c. parts_in (log_of c.logs member) ≡ Err at) result }
+    ensures { ReadsBy (D.contents disk.old) (D.contents disk.new) (D.faults disk.old) (D.faults disk.new)
+        (λ kept c. (log : AnyLog) → IsLogOf (log_of c.logs member) log → IsKept had log kept) HasDamage result }
 {
     let none = BTreeSet::new(alloc);
     let first = read_log(alloc, disk, member, &none, had, block)?;
@@ -92,30 +80,11 @@ fn keep_log<D: Disk>(
     Ok(kept_of(second))
 }
 
-// The same, with the fault as one of all logs.
-fn keep_of<D: Disk>(
-    alloc: Global,
-    disk: &mut D,
-    member: MemberId,
-    had: usize,
-    block: &mut [u8],
-) -> Result<Kept, LogsFault>
-    requires some { 1 ≤ length block.old }
-    requires fits { length block.old < 2 ^ 32 }
-    ensures { ReadsBy (D.contents disk.old) (D.contents disk.new) (D.faults disk.old) (D.faults disk.new)
-        (λ kept c. (log : AnyLog) → IsLogOf (log_of c.logs member) log → IsKept had log kept) HasDamage result }
-{
-    match keep_log(alloc, disk, member, had, block) {
-        Ok(kept) => Ok(kept),
-        Err(LogFault::Failed) => Err(LogsFault::Failed),
-        Err(LogFault::Damaged { at }) => Err(LogsFault::Damaged { member, at }),
-        Err(LogFault::NoMemory) => Err(LogsFault::NoMemory),
-    }
-}
-
 // Puts what is kept of one log more.
 fn put(all: &mut KeptLogs, member: MemberId, kept: Kept) -> Result<(), NoMemory>
-    ensures logs { OnOk result ((log : AnyLog) (had : List ℕ) (logs : List AnyLog) → AreKept had logs all.old → IsKept (slice_index had (length logs)) log kept → AreKept had (logs ++ log ∷ []) all.new) }
+    ensures records { OnOk result (records_of all.new.logs.items ≡ records_of all.old.logs.items ++ kept.records.items ∷ []) }
+    ensures had { OnOk result (all.new.had.items ≡ all.old.had.items ++ kept.before ∷ []) }
+    ensures whole { OnOk result (Decides all.new.are_whole ((all.old.are_whole ≡ true) × (kept.tail ≡ 0))) }
 {
     let Kept {
         records,
@@ -149,7 +118,7 @@ fn keep_next<D: Disk>(
         (λ _ c. (log : AnyLog) (logs : List AnyLog) → IsLogOf (log_of c.logs (n + 1)) log → length logs ≡ n → AreKept had.now logs all.old → AreKept had.now (logs ++ log ∷ []) all.new) HasDamage result }
 {
     let member = member_behind(n);
-    let kept = keep_of(alloc, disk, member, count_at(had, n), block)?;
+    let kept = keep_log(alloc, disk, member, count_at(had, n), block)?;
     put(all, member, kept)?;
     Ok(())
 }

@@ -1,18 +1,19 @@
 //! A log of a disk that is read to its end.
 
-ghost use Rattle.std.specs.Prelude.{◌≡◌, ◌<◌, ◌≤◌, ◌^◌, ℕ, Bool, length, Err, IfOk};
+ghost use Rattle.std.specs.Prelude.{◌≡◌, ◌<◌, ◌≤◌, ◌^◌, length, IfOk};
 ghost use Rattle.std.specs.BTreeSet as set;
 ghost use Rattle.std.specs.Ordering.{nat_cmp};
 ghost use Rattle.ds_disk.specs.Contents.{log_of};
 ghost use Rattle.log_record.specs.declared.log.Log.{Log};
-ghost use Rattle.log_record.specs.Logs.{parts_in, IsLogOf};
-ghost use Rattle.disk_heads.specs.Reading.{Reads};
+ghost use Rattle.log_record.specs.Logs.{IsLogOf};
 ghost use Rattle.disk_heads.specs.Records.{IsSound};
+ghost use Rattle.opening_rows.specs.Reading.{HasDamage, ReadsBy};
 ghost use Rattle.opening_rows.specs.Survey.{GoesOn};
-ghost use Rattle.report_heads.specs.Reading.{IsReadTo, GoesTo, IsRead};
+ghost use Rattle.opening_rows.specs.LogReads.{IsReadTo, GoesTo, IsRead};
 
+use crate::fault::LogsFault;
+use crate::survey::{length_of, next_in};
 use crate::taken::{Taken, nothing, take};
-use disk_heads::{LogFault, next_record, read_length};
 use ds_base::MemberId;
 use ds_disk::Disk;
 use log_head::{Head, whole_laws};
@@ -37,17 +38,18 @@ fn take_next<D: Disk>(
     keeps: &BTreeSet<u128>,
     had: usize,
     block: &mut [u8],
-) -> Result<bool, LogFault>
+) -> Result<bool, LogsFault>
     requires some { 1 ≤ length block.old }
     requires fits { length block.old < 2 ^ 32 }
     requires sound { IsSound head.old }
     ensures past { IfOk result (λ more. GoesOn head.old head.new more) }
-    ensures taken { Reads (D.contents disk.old) (D.contents disk.new) (D.faults disk.old) (D.faults disk.new)
+    ensures taken { ReadsBy (D.contents disk.old) (D.contents disk.new) (D.faults disk.old) (D.faults disk.new)
         (λ more c. IsReadTo (log_of c.logs member) (set.contains nat_cmp keeps.now) had head.old taken.old → GoesTo (log_of c.logs member) (set.contains nat_cmp keeps.now) had head.new taken.new more)
-        (λ at c. IsReadTo (log_of c.logs member) (set.contains nat_cmp keeps.now) had head.old taken.old → parts_in (log_of c.logs member) ≡ Err at) result }
+        (λ m at c. IsReadTo (log_of c.logs member) (set.contains nat_cmp keeps.now) had head.old taken.old → HasDamage m at c) result }
 {
     whole_laws();
-    match next_record(alloc, disk, member, head, block)? {
+    let next = next_in(alloc, disk, member, head, block)?;
+    match next {
         None => Ok(false),
         Some(it) => {
             take(taken, keeps, had, it)?;
@@ -65,15 +67,15 @@ pub fn read_log<D: Disk>(
     keeps: &BTreeSet<u128>,
     had: usize,
     block: &mut [u8],
-) -> Result<LogRead, LogFault>
+) -> Result<LogRead, LogsFault>
     requires some { 1 ≤ length block.old }
     requires fits { length block.old < 2 ^ 32 }
-    ensures { Reads (D.contents disk.old) (D.contents disk.new) (D.faults disk.old) (D.faults disk.new)
+    ensures { ReadsBy (D.contents disk.old) (D.contents disk.new) (D.faults disk.old) (D.faults disk.new)
         (λ read c. (log : Log) → IsLogOf (log_of c.logs member) log → IsRead (set.contains nat_cmp keeps.now) had log read)
-        (λ at c. parts_in (log_of c.logs member) ≡ Err at) result }
+        HasDamage result }
 {
     whole_laws();
-    let length = read_length(disk, member)?;
+    let length = length_of(disk, member)?;
     let mut head = Head::new(alloc, 0, length);
     let mut taken = nothing(alloc);
     let mut more = true;

@@ -5,9 +5,9 @@ use Rattle.log_record.specs.declared.log.Log.{Log}
 use Rattle.log_record.specs.Logs.{Parts, parts_in, IsLogOf}
 use Rattle.log_head.specs.Heads.{HeadState, IsOf, left_bytes}
 use Rattle.opening_rows.specs.Survey.{put_before, IsOver}
-use Rattle.report_heads.specs.declared.taken.Taken.{Taken}
-use Rattle.report_heads.specs.declared.reading.LogRead.{LogRead}
-use Rattle.report_heads.specs.Kept.{HasTaken}
+use Rattle.opening_rows.specs.declared.taken.Taken.{Taken}
+use Rattle.opening_rows.specs.declared.reading.LogRead.{LogRead}
+use Rattle.opening_rows.specs.Kept.{HasTaken}
 
 -- the records up to where the log is read were taken
 pub record IsReadTo (log : List ℕ) (keeps : ℕ → Bool) (had : ℕ) (head : HeadState) (t : Taken) : Type 0 where
