@@ -5,15 +5,21 @@ use Rattle.ds_disk.specs.Contents.{Contents}
 use Rattle.ds_model.specs.declared.script.Script.{Script}
 use Rattle.ds_model.specs.declared.history.Entry.{Entry}
 use Rattle.ds_model.specs.declared.log.LogRecord.{LogRecord}
-use Rattle.ds_model.specs.Rows.{Rows, map_of}
+use Rattle.ds_model.specs.Rows.{Rows, map_of, listed}
+use Rattle.ds_model.specs.History.{replay}
 use Rattle.log_record.specs.declared.log.Log.{Log}
 use Rattle.report_check.specs.Records.{records_of}
 use Rattle.report_check.specs.Commits.{new_commits, AreLogged}
-use Rattle.report_check.specs.Reports.{IsSoundReport}
+use Rattle.report_check.specs.Reports.{IsSoundReport, IsSoundAlone}
 use Rattle.opening_rows.specs.declared.opening.Opening.{Opening}
 use Rattle.opening_rows.specs.Reading.{AreLogsOf}
 use Rattle.opening_rows.specs.Opening.{stood_for}
 use Rattle.opening_rows.specs.Kept.{AreWhole, all_told, all_before}
+
+-- the entries are sound as far as that can be told without logs, and one thread comes to these rows
+pub record IsTold (script : Script) (opening : Opening) (entries : List Entry) (rows : List Row) : Type 0 where
+  pub sound : IsSoundAlone script (map_of opening.rows) entries
+  pub rows_are : rows ≡ listed (replay (map_of opening.rows) entries)
 
 -- nothing follows the whole records of the logs, and the entries are sound for them
 pub record BearOut (script : Script) (opening : Opening) (entries : List Entry) (logs : List Log) : Type 0 where

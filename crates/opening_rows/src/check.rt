@@ -1,6 +1,6 @@
 //! Whether the logs of a disk bear a report out.
 
-ghost use Rattle.std.specs.Prelude.{◌≡◌, List, IfOk, Decides};
+ghost use Rattle.std.specs.Prelude.{◌≡◌, List, IfOk, IfSome, Decides};
 ghost use Rattle.ds_model.specs.Rows.{AreSorted, map_of};
 ghost use Rattle.log_record.specs.declared.log.Log.{Log};
 ghost use Rattle.report_check.specs.Records.{records_of};
@@ -8,7 +8,7 @@ ghost use Rattle.report_check.specs.Commits.{new_commits, AreLogged};
 ghost use Rattle.opening_rows.specs.Reading.{BreaksAt, ReadsBy};
 ghost use Rattle.opening_rows.specs.Opening.{stood_for};
 ghost use Rattle.opening_rows.specs.Kept.{AreKept};
-ghost use Rattle.opening_rows.specs.Judging.{Judges, IsJudged};
+ghost use Rattle.opening_rows.specs.Judging.{IsTold, Judges, IsJudged};
 
 use crate::fault::LogsFault;
 use crate::kept::{KeptLogs, keep_logs};
@@ -50,7 +50,8 @@ fn judge(
     kept: &KeptLogs,
 ) -> Result<Option<RowList>, NoMemory>
     requires { AreSorted opening.now.rows }
-    ensures { (logs : List Log) → rows.now ≡ stood_for logs → AreKept opening.now.had.items logs kept.now → IfOk result (Judges script.now opening.now entries.now logs) }
+    ensures alone { IfOk result (λ rows. IfSome rows (IsTold script.now opening.now entries.now)) }
+    ensures judges { (logs : List Log) → rows.now ≡ stood_for logs → AreKept opening.now.had.items logs kept.now → IfOk result (Judges script.now opening.now entries.now logs) }
 {
     if !kept.are_whole {
         return Ok(None);
@@ -81,7 +82,8 @@ pub fn check_report<D: Disk>(
     entries: &[Entry],
 ) -> Result<Option<RowList>, LogsFault>
     requires { AreSorted opening.now.rows }
-    ensures { ReadsBy (D.contents disk.old) (D.contents disk.new) (D.faults disk.old) (D.faults disk.new) (λ rows c. IsJudged script.now opening.now entries.now c rows) BreaksAt result }
+    ensures alone { IfOk result (λ rows. IfSome rows (IsTold script.now opening.now entries.now)) }
+    ensures judged { ReadsBy (D.contents disk.old) (D.contents disk.new) (D.faults disk.old) (D.faults disk.new) (λ rows c. IsJudged script.now opening.now entries.now c rows) BreaksAt result }
 {
     let now = read_opening(alloc, disk)?;
     let kept = keep_logs(alloc, disk, &opening.had)?;
