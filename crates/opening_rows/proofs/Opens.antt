@@ -76,6 +76,7 @@ pub opens : (c : Contents) (ends : List ℕ) (now : ℕ → Bool) (opening : Ope
 opens c ends now opening s rows = record {
   logs = s.logs;
   are = s.are;
+  rise = s.rise;
   is = record { rows_are = rows s.logs (record { are = s.are; rise = s.rise; ends_are = s.ends_are; commits = s.commits }); had_is = s.had_are };
 }
 

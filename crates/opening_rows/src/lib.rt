@@ -13,8 +13,6 @@ mod rows;
 mod survey;
 mod surveyed;
 mod taken;
-#[cfg(test)]
-mod tests;
 
 pub use check::check_report;
 pub use fault::LogsFault;
