@@ -7,7 +7,7 @@ mod Heads
 mod RowsTold
 mod Taking
 mod Enough
-mod Reads
+mod LogTaken
 mod ReadOn
-mod Keeps
-mod Judges
+mod KeptMore
+mod Judged

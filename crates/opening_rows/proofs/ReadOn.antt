@@ -16,8 +16,8 @@ use Rattle.opening_rows.specs.declared.taken.Taken.{Taken}
 use Rattle.opening_rows.specs.declared.reading.LogRead.{LogRead}
 use Rattle.opening_rows.specs.Kept.{HasTaken, Adds}
 use Rattle.opening_rows.specs.LogReads.{IsReadTo, GoesTo, IsRead}
-use Rattle.opening_rows.proofs.Told.{reads_to, reads_err, err_to}
-use Rattle.opening_rows.proofs.Reads.{goes_on, goes_none, damaged, nothing_read, all_read}
+use Rattle.opening_rows.proofs.Told.{reads_on, reads_to, reads_err}
+use Rattle.opening_rows.proofs.LogTaken.{goes_on, goes_none, damaged, nothing_read, all_read}
 use Rattle.opening_rows.proofs.Steps.{NextIn, BadIn, stays, is_over}
 
 abbrev ReadIn : ℕ → (ℕ → Bool) → ℕ → HeadState → Taken → HeadState → Taken → Bool → Contents → Type 0
@@ -67,6 +67,19 @@ read_starts a b n k member len h keeps had t p is nothing =
           (λ c long. (long, record { read = nothing_read (log_of c.logs member) len keeps had t long (nothing keeps had); over = tt })) (λ m at e. absurd (no_error true m at e)) (λ e. no_failure true e),
       sound,
     )
+
+-- one step more
+pub read_goes : (a b e : Option Contents) (n k m member len : ℕ) (h g : HeadState) (keeps : ℕ → Bool) (had : ℕ) (old new : Taken) (more later : Bool)
+    → ReadsBy a b n k (λ (x : Bool) (c : Contents). (len ≡ length (log_of c.logs member)) × GoesTo (log_of c.logs member) keeps had h old x) (λ m at c. ⊥) (Ok more)
+    → ReadsBy b e k m (ReadIn member keeps had h old g new) (DamagedIn member keeps had h old) (Ok later)
+    → ReadsBy a e n m (λ (x : Bool) c. (len ≡ length (log_of c.logs member)) × GoesTo (log_of c.logs member) keeps had g new x) (λ m at c. ⊥) (Ok later)
+read_goes a b e n k m member len h g keeps had old new more later p q =
+    let on : ReadsBy a e n m (λ (x : Bool) c. (len ≡ length (log_of c.logs member)) × GoesTo (log_of c.logs member) keeps had g new x) HasDamage (Ok later) =
+    reads_on a b e n k m (λ (x : Bool) (c : Contents). (len ≡ length (log_of c.logs member)) × GoesTo (log_of c.logs member) keeps had h old x) (λ m at c. ⊥) more (ReadIn member keeps had h old g new)
+    (λ (x : Bool) c. (len ≡ length (log_of c.logs member)) × GoesTo (log_of c.logs member) keeps had g new x) (DamagedIn member keeps had h old) HasDamage (Ok later) p q
+    (λ x c was goes. (was.0, goes was.1.read)) (λ i at c was bad. bad was.1.read) in
+    reads_to a e n m (λ (x : Bool) c. (len ≡ length (log_of c.logs member)) × GoesTo (log_of c.logs member) keeps had g new x) HasDamage later
+    (λ (x : Bool) c. (len ≡ length (log_of c.logs member)) × GoesTo (log_of c.logs member) keeps had g new x) (λ m at c. ⊥) (Ok later) on (λ c is. is) (λ i at e. absurd (no_error later i at e)) (λ e. no_failure later e)
 
 -- none is left
 pub read_ends : PartsEnd → (a b : Option Contents) (n k member len : ℕ) (h : HeadState) (keeps : ℕ → Bool) (had : ℕ) (t : Taken) (more : Bool) (read : LogRead)

@@ -14,6 +14,7 @@ use crate::fault::LogsFault;
 use crate::kept::{KeptLogs, keep_logs};
 use crate::laws::kept_laws;
 use crate::opening::{Opening, read_opening};
+use disk_heads::BLOCK;
 use ds_base::{NoMemory, RowList};
 use ds_disk::Disk;
 use ds_model::{Entry, Script};
@@ -85,8 +86,9 @@ pub fn check_report<D: Disk>(
     ensures alone { IfOk result (λ rows. IfSome rows (IsTold script.now opening.now entries.now)) }
     ensures judged { ReadsBy (D.contents disk.old) (D.contents disk.new) (D.faults disk.old) (D.faults disk.new) (λ rows c. IsJudged script.now opening.now entries.now c rows) BreaksAt result }
 {
-    let now = read_opening(alloc, disk)?;
-    let kept = keep_logs(alloc, disk, &opening.had)?;
-    let rows = judge(alloc, script, opening, entries, &now.rows, &kept)?;
+    let left = read_opening(alloc, disk)?;
+    let mut block = vec![in alloc; 0u8; BLOCK]?;
+    let kept = keep_logs(alloc, disk, &opening.had, &mut block)?;
+    let rows = judge(alloc, script, opening, entries, &left.rows, &kept)?;
     Ok(rows)
 }

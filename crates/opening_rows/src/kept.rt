@@ -11,7 +11,6 @@ ghost use Rattle.opening_rows.specs.Kept.{IsKept, AreKept};
 use crate::fault::LogsFault;
 use crate::logs::{MEMBERS, member_behind};
 use crate::reading::{LogRead, read_log};
-use disk_heads::BLOCK;
 use ds_base::{MemberId, NoMemory, Sequence};
 use ds_disk::Disk;
 use ds_model::LogRecord;
@@ -128,18 +127,20 @@ pub fn keep_logs<D: Disk>(
     alloc: Global,
     disk: &mut D,
     had: &[usize],
+    block: &mut [u8],
 ) -> Result<KeptLogs, LogsFault>
+    requires some { 1 ≤ length block.old }
+    requires fits { length block.old < 2 ^ 32 }
     ensures { ReadsBy (D.contents disk.old) (D.contents disk.new) (D.faults disk.old) (D.faults disk.new)
         (λ kept c. (logs : List AnyLog) → AreLogsOf c.logs logs → AreKept had.now logs kept) HasDamage result }
 {
-    let mut block = vec![in alloc; 0u8; BLOCK]?;
     let mut all = KeptLogs {
         logs: Vec::new(alloc),
         had: Vec::new(alloc),
         are_whole: true,
     };
     for n in 0..MEMBERS {
-        keep_next(alloc, disk, n, had, &mut all, &mut block)?;
+        keep_next(alloc, disk, n, had, &mut all, block)?;
     }
     Ok(all)
 }

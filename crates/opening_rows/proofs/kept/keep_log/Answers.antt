@@ -1,5 +1,5 @@
 use Rattle.opening_rows.proofs.Told.{err_on}
-use Rattle.opening_rows.proofs.Keeps.{kept_told}
+use Rattle.opening_rows.proofs.KeptMore.{kept_told}
 use Rattle.opening_rows.proofs.kept.keep_log.Goals as goal
 
 pub returns-in_err-second : goal.returns-in_err-second

@@ -1,6 +1,6 @@
 use Rattle.std.proofs.Common.{ℕ, Ok}
 use Rattle.opening_rows.specs.Reading.{ReadsBy}
-use Rattle.opening_rows.proofs.Keeps.{KeepsFirst}
+use Rattle.opening_rows.proofs.KeptMore.{KeepsFirst}
 use Rattle.opening_rows.proofs.kept.keep_logs.Given as goal
 
 -- what is to be kept of the first logs is kept

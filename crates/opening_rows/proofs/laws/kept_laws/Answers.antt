@@ -2,4 +2,4 @@ use Rattle.opening_rows.proofs.Enough.{enough}
 use Rattle.opening_rows.proofs.laws.kept_laws.Goals as goal
 
 pub returns : goal.returns
-returns c = enough
+returns c = record { enough = enough }

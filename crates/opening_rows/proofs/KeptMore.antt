@@ -1,5 +1,5 @@
 -- What is kept of one log more.
-use Rattle.std.proofs.Common.{◌≡◌, ℕ, ◌+◌, ◌-◌, ◌<◌, Bool, true, cond, List, [], ◌∷◌, ◌++◌, length, map, take, get_or, Option, Some, None, Result, Ok, Err, refl, sym, ap, subst, ◌∙◌, arith}
+use Rattle.std.proofs.Common.{◌≡◌, ℕ, suc, ◌+◌, ◌-◌, ◌<◌, Bool, true, cond, List, [], ◌∷◌, ◌++◌, length, map, take, get_or, Option, Some, None, Result, Ok, Err, refl, sym, ap, subst, ◌∙◌, arith}
 use Rattle.std.specs.Prelude.{Decides, IsErrOf}
 use Rattle.std.specs.BTreeSet as set
 use Rattle.std.specs.Ordering.{nat_cmp}
@@ -18,7 +18,7 @@ use Rattle.opening_rows.specs.declared.kept.Kept.{Kept}
 use Rattle.opening_rows.specs.declared.kept.KeptLogs.{KeptLogs}
 use Rattle.opening_rows.specs.Kept.{kept_by, is_new, told_of, told_before, all_told, all_before, AreWhole, IsKept, AreKept}
 use Rattle.opening_rows.specs.LogReads.{IsRead}
-use Rattle.opening_rows.proofs.Told.{reads_on, reads_to}
+use Rattle.opening_rows.proofs.Told.{reads_on, reads_to, told_all, same_at}
 
 -- ---- a log that was read twice
 
@@ -88,7 +88,7 @@ whole_last (l ∷ logs) log h = whole_last logs log h.1
 
 count_of : (logs : List Log) → length (records_of logs) ≡ length logs
 count_of [] = refl
-count_of (l ∷ ls) = ap (λ (n : ℕ). n + 1) (count_of ls)
+count_of (l ∷ ls) = ap suc (count_of ls)
 
 keeps_more : (had : List ℕ) (logs : List Log) (log : Log) (old new : KeptLogs) (kept : Kept) → AreKept had logs old → IsKept (get_or had (length logs) 0) log kept
     → records_of new.logs.items ≡ records_of old.logs.items ++ kept.records.items ∷ [] → new.had.items ≡ old.had.items ++ kept.before ∷ [] → Decides new.are_whole ((old.are_whole ≡ true) × (kept.tail ≡ 0)) → AreKept had (logs ++ log ∷ []) new
@@ -108,14 +108,25 @@ keeps_more had logs log old new kept h k records before whole =
       );
     }
 
-pub keeps_next : (a b : Option Contents) (m k n member count : ℕ) (had : List ℕ) (old new : KeptLogs) (kept : Kept) → ReadsBy a b m k (KeptAs member count) HasDamage (Ok kept) → member ≡ n + 1 → count ≡ get_or had n 0
+abbrev pub KeepsNext : ℕ → List ℕ → KeptLogs → KeptLogs → Contents → Type 0
+KeepsNext n had old new c = (log : Log) (logs : List Log) → IsLogOf (log_of c.logs (n + 1)) log → length logs ≡ n → AreKept had logs old → AreKept had (logs ++ log ∷ []) new
+
+pub keeps_next : {Y : Type 0} (a b : Option Contents) (m k n member count : ℕ) (had : List ℕ) (old new : KeptLogs) (kept : Kept) (y : Y) → ReadsBy a b m k (KeptAs member count) HasDamage (Ok kept) → member ≡ n + 1 → count ≡ get_or had n 0
     → records_of new.logs.items ≡ records_of old.logs.items ++ kept.records.items ∷ [] → new.had.items ≡ old.had.items ++ kept.before ∷ [] → Decides new.are_whole ((old.are_whole ≡ true) × (kept.tail ≡ 0))
-    → WhenTold a (λ c. (log : Log) (logs : List Log) → IsLogOf (log_of c.logs (n + 1)) log → length logs ≡ n → AreKept had logs old → AreKept had (logs ++ log ∷ []) new)
-keeps_next None b m k n member count had old new kept p its had_is records before whole = tt
-keeps_next (Some c) b m k n member count had old new kept p its had_is records before whole = λ log logs of long are.
-    let is : IsKept count log kept = p.ok log (subst (λ (i : ℕ). IsLogOf (log_of c.logs i) log) (sym its) of) in
+    → ReadsBy a b m k (λ (x : Y) c. KeepsNext n had old new c) HasDamage (Ok y)
+keeps_next {Y} a b m k n member count had old new kept y p its had_is records before whole =
+    reads_to a b m k (KeptAs member count) HasDamage kept (λ (x : Y) c. KeepsNext n had old new c) HasDamage (Ok y) p
+    (λ c told log logs of long are.
+    let is : IsKept count log kept = told log (subst (λ (i : ℕ). IsLogOf (log_of c.logs i) log) (sym its) of) in
     let at : count ≡ get_or had (length logs) 0 = had_is ∙ ap (λ (i : ℕ). get_or had i 0) (sym long) in
-    keeps_more had logs log old new kept are (subst (λ (i : ℕ). IsKept i log kept) at is) records before whole
+    keeps_more had logs log old new kept are (subst (λ (i : ℕ). IsKept i log kept) at is) records before whole)
+    (λ i l h. absurd (no_error i l h)) (λ h. no_failure h)
+  where
+    no_error : (i l : ℕ) → IsErrOf {T = Y} {E = LogsFault} (Ok y) (Damaged i l) → ⊥
+    no_error i l h = cc
+
+    no_failure : IsErrOf {T = Y} {E = LogsFault} (Ok y) Failed → ⊥
+    no_failure h = cc
 
 -- ---- all logs
 
@@ -135,7 +146,7 @@ split_last [] bs (l ∷ m ∷ logs) h = absurd h.1
 split_last (b ∷ bss) bs [] h = absurd h
 split_last (b ∷ bss) bs (l ∷ logs) h =
     let s = split_last bss bs logs h.1 in
-    record { front = l ∷ s.front; last = s.last; is = ap (λ (x : List Log). l ∷ x) s.is; are = (h.0, s.are); of = s.of; long = ap (λ (n : ℕ). n + 1) s.long }
+    record { front = l ∷ s.front; last = s.last; is = ap (λ (x : List Log). l ∷ x) s.is; are = (h.0, s.are); of = s.of; long = ap suc s.long }
 
 taken_long : (n : ℕ) (bss : List (List ℕ)) → n < length bss → length (take n bss) ≡ n
 taken_long n bss lt = length-take-le n bss (omega (arith, lt))
@@ -146,9 +157,6 @@ at_place n = omega arith
 -- what is kept of the first logs
 abbrev pub KeepsFirst : ℕ → List ℕ → KeptLogs → Contents → Type 0
 KeepsFirst n had kept c = length c.logs ≡ 32 → (logs : List Log) → AreLogsOf (take n c.logs) logs → AreKept had logs kept
-
-abbrev pub KeepsNext : ℕ → List ℕ → KeptLogs → KeptLogs → Contents → Type 0
-KeepsNext n had old new c = (log : Log) (logs : List Log) → IsLogOf (log_of c.logs (n + 1)) log → length logs ≡ n → AreKept had logs old → AreKept had (logs ++ log ∷ []) new
 
 pub first_more : (n : ℕ) (had : List ℕ) (old new : KeptLogs) (c : Contents) → n < 32 → KeepsFirst n had old c → KeepsNext n had old new c → KeepsFirst (n + 1) had new c
 first_more n had old new c lt first next = λ long logs are.
@@ -168,3 +176,46 @@ none_kept had kept c logs_are had_is whole = λ long logs are. none_of had logs 
 
 pub all_kept : (n : ℕ) (had : List ℕ) (kept : KeptLogs) (c : Contents) → n ≡ 32 → length c.logs ≡ 32 → KeepsFirst n had kept c → (logs : List Log) → AreLogsOf c.logs logs → AreKept had logs kept
 all_kept n had kept c is long first = λ logs are. first long logs (subst (λ (bss : List (List ℕ)). AreLogsOf bss logs) (sym (take_all n c.logs (omega (arith, is, long)))) are)
+
+-- ---- of a disk
+
+no_fault : (i : ℕ) (f : LogsFault) → IsErrOf {T = ℕ} {E = LogsFault} (Ok i) f → ⊥
+no_fault i f h = cc
+
+-- nothing is kept yet
+pub keeps_start : (a : Option Contents) (k : ℕ) (had : List ℕ) (kept : KeptLogs) → kept.logs.items ≡ [] → kept.had.items ≡ [] → kept.are_whole ≡ true → ReadsBy a a k k (λ (n : ℕ) c. KeepsFirst n had kept c) (λ m at c. ⊥) (Ok 0)
+keeps_start a k had kept logs_are had_is whole = record {
+  ok = told_all a (KeepsFirst 0 had kept) (λ c. none_kept had kept c logs_are had_is whole);
+  damaged = λ m at h. absurd (no_fault 0 (Damaged m at) h);
+  failed = λ h. absurd (no_fault 0 Failed h);
+  same = same_at a;
+  later = omega arith;
+}
+
+pub keeps_on : {Y : Type 0} (a b e : Option Contents) (i k m n : ℕ) (had : List ℕ) (old new : KeptLogs) (y : Y) → n < 32 → ReadsBy a b i k (λ (n : ℕ) c. KeepsFirst n had old c) (λ m at c. ⊥) (Ok n)
+    → ReadsBy b e k m (λ (x : Y) c. KeepsNext n had old new c) HasDamage (Ok y) → ReadsBy a e i m (λ (n : ℕ) c. KeepsFirst n had new c) (λ m at c. ⊥) (Ok (n + 1))
+keeps_on {Y} a b e i k m n had old new y lt p q =
+    let on : ReadsBy a e i m (λ (x : Y) c. KeepsFirst (n + 1) had new c) HasDamage (Ok y) =
+    reads_on a b e i k m (λ (n : ℕ) c. KeepsFirst n had old c) (λ m at c. ⊥) n (λ (x : Y) c. KeepsNext n had old new c) (λ (x : Y) c. KeepsFirst (n + 1) had new c) HasDamage HasDamage (Ok y) p q
+    (λ x c first next. first_more n had old new c lt first next) (λ j at c first bad. bad) in
+    reads_to a e i m (λ (x : Y) c. KeepsFirst (n + 1) had new c) HasDamage y (λ (n : ℕ) c. KeepsFirst n had new c) (λ m at c. ⊥) (Ok (n + 1)) on (λ c is. is) (λ j at h. absurd (no_fault (n + 1) (Damaged j at) h)) (λ h. no_fault (n + 1) Failed h)
+
+all_told_of : (a : Option Contents) (n : ℕ) (had : List ℕ) (kept : KeptLogs) → n ≡ 32 → ((c : Contents) → a ≡ Some c → length c.logs ≡ 32) → WhenTold a (KeepsFirst n had kept) → WhenTold a (λ c. (logs : List Log) → AreLogsOf c.logs logs → AreKept had logs kept)
+all_told_of None n had kept is law p = tt
+all_told_of (Some c) n had kept is law p = all_kept n had kept c is (law c refl) p
+
+pub keeps_all : (a b : Option Contents) (i k n : ℕ) (had : List ℕ) (kept : KeptLogs) → n ≡ 32 → ((c : Contents) → a ≡ Some c → length c.logs ≡ 32) → ReadsBy a b i k (λ (n : ℕ) c. KeepsFirst n had kept c) (λ m at c. ⊥) (Ok n)
+    → ReadsBy a b i k (λ (x : KeptLogs) c. (logs : List Log) → AreLogsOf c.logs logs → AreKept had logs x) HasDamage (Ok kept)
+keeps_all a b i k n had kept is law p = record {
+  ok = all_told_of a n had kept is law p.ok;
+  damaged = λ m at h. absurd (no_error m at h);
+  failed = λ h. absurd (no_failure h);
+  same = p.same;
+  later = p.later;
+}
+  where
+    no_error : (m at : ℕ) → IsErrOf {T = KeptLogs} {E = LogsFault} (Ok kept) (Damaged m at) → ⊥
+    no_error m at h = cc
+
+    no_failure : IsErrOf {T = KeptLogs} {E = LogsFault} (Ok kept) Failed → ⊥
+    no_failure h = cc

@@ -62,9 +62,13 @@ module _ (enough : KeptIsEnough) (opening : Opening) (entries : List Entry) (log
       (subst (λ (l : List (List LogRecord)). AreLogged l (new_commits opening.had.items (records_of logs)) (map_of opening.rows) entries) (sym k.records_are)
       ((enough opening.had.items (records_of logs) (map_of opening.rows) entries).needed h))
 
-pub borne_out : (enough : KeptIsEnough) (opening : Opening) (entries : List Entry) (logs : List Log) (kept : KeptLogs) (same : Bool) (left rows : List Row) → AreKept opening.had.items logs kept → left ≡ rows → Decides same (LoggedBy opening entries kept)
-    → Decides same ((left ≡ rows) × LoggedIn opening entries logs)
-borne_out enough opening entries logs kept same left rows k is d = (λ e. (is, logged_whole enough opening entries logs kept k (d.0 e)), λ h. d.1 (logged_kept enough opening entries logs kept k h.1))
+pub borne_out : (enough : KeptIsEnough) (opening : Opening) (entries : List Entry) (logs : List Log) (kept : KeptLogs) (same : Bool) (left rows : List Row) (its : List Log) (had : List ℕ) → AreKept opening.had.items logs kept → left ≡ rows → its ≡ kept.logs.items → had ≡ kept.had.items
+    → Decides same (AreLogged (records_of its) (new_commits had (records_of its)) (map_of opening.rows) entries) → Decides same ((left ≡ rows) × LoggedIn opening entries logs)
+borne_out enough opening entries logs kept same left rows its had k is its_are had_is d =
+    let e : Decides same (LoggedBy opening entries kept) =
+    subst (λ (hs : List ℕ). Decides same (AreLogged (records_of kept.logs.items) (new_commits hs (records_of kept.logs.items)) (map_of opening.rows) entries)) had_is
+    (subst (λ (ls : List Log). Decides same (AreLogged (records_of ls) (new_commits had (records_of ls)) (map_of opening.rows) entries)) its_are d) in
+    (λ y. (is, logged_whole enough opening entries logs kept k (e.0 y)), λ h. e.1 (logged_kept enough opening entries logs kept k h.1))
 
 pub not_borne : (opening : Opening) (entries : List Entry) (logs : List Log) (left rows : List Row) → (left ≡ rows → ⊥) → Decides false ((left ≡ rows) × LoggedIn opening entries logs)
 not_borne opening entries logs left rows no = (λ e. absurd (true≢false (sym e)), λ h. absurd (no h.0))
@@ -97,13 +101,13 @@ module _ (script : Script) (opening : Opening) (entries : List Entry) (logs : Li
 abbrev KeptFrom : List ℕ → KeptLogs → Contents → Type 0
 KeptFrom had kept c = (logs : List Log) → AreLogsOf c.logs logs → AreKept had logs kept
 
-pub judged : (a b e : Option Contents) (n k m : ℕ) (script : Script) (opening now : Opening) (entries : List Entry) (kept : KeptLogs) (rows : Option (List Row)) → ReadsBy a b n k (λ (o : Opening) c. OpensAs c o) BreaksAt (Ok now)
-    → ReadsBy b e k m (KeptFrom opening.had.items) HasDamage (Ok kept) → ((logs : List Log) → now.rows ≡ stood_for logs → AreKept opening.had.items logs kept → Judges script opening entries logs rows)
+pub judged : (a b e : Option Contents) (n k m : ℕ) (script : Script) (opening now : Opening) (entries : List Entry) (kept : KeptLogs) (rows : Option (List Row)) (had : List ℕ) → had ≡ opening.had.items → ReadsBy a b n k (λ (o : Opening) c. OpensAs c o) BreaksAt (Ok now)
+    → ReadsBy b e k m (KeptFrom had) HasDamage (Ok kept) → ((logs : List Log) → now.rows ≡ stood_for logs → AreKept opening.had.items logs kept → Judges script opening entries logs rows)
     → ReadsBy a e n m (λ (x : Option (List Row)) c. IsJudged script opening entries c x) BreaksAt (Ok rows)
-judged a b e n k m script opening now entries kept rows p q judge =
+judged a b e n k m script opening now entries kept rows had same p q judge =
     let on : ReadsBy a e n m (λ (x : KeptLogs) c. x ≡ kept → IsJudged script opening entries c rows) BreaksAt (Ok kept) =
-    reads_on a b e n k m (λ (o : Opening) c. OpensAs c o) BreaksAt now (KeptFrom opening.had.items) (λ (x : KeptLogs) c. x ≡ kept → IsJudged script opening entries c rows) HasDamage BreaksAt (Ok kept) p q
-    (λ x c o told is. record { logs = o.logs; are = o.are; judges = judge o.logs o.is.rows_are (subst (λ (y : KeptLogs). AreKept opening.had.items o.logs y) is (told o.logs o.are)) }) (λ i l c o bad. inl bad) in
+    reads_on a b e n k m (λ (o : Opening) c. OpensAs c o) BreaksAt now (KeptFrom had) (λ (x : KeptLogs) c. x ≡ kept → IsJudged script opening entries c rows) HasDamage BreaksAt (Ok kept) p q
+    (λ x c o told is. record { logs = o.logs; are = o.are; judges = judge o.logs o.is.rows_are (subst (λ (hs : List ℕ). AreKept hs o.logs kept) same (subst (λ (y : KeptLogs). AreKept had o.logs y) is (told o.logs o.are))) }) (λ i l c o bad. inl bad) in
     reads_to a e n m (λ (x : KeptLogs) c. x ≡ kept → IsJudged script opening entries c rows) BreaksAt kept (λ (x : Option (List Row)) c. IsJudged script opening entries c x) BreaksAt (Ok rows) on (λ c is. is refl)
     (λ i l h. absurd (no_error i l h)) (λ h. no_failure h)
   where
