@@ -1,6 +1,6 @@
 -- What the logs of a disk say to the entries of a report.
 use Rattle.std.proofs.Common.{◌≡◌, inl, ℕ, Bool, true, false, true≢false, List, [], ◌∷◌, map, Option, Some, None, Result, Ok, Err, refl, sym, ap, subst, ◌∙◌}
-use Rattle.std.specs.Prelude.{IfOk, IsErrOf, Decides}
+use Rattle.std.specs.Prelude.{IfOk, IsErrOf, IsErrAnd, Decides, ⊤}
 use Rattle.std.specs.FinMap as finite
 use Rattle.ds_base.specs.declared.row.Row.{Row}
 use Rattle.ds_disk.specs.Contents.{Contents}
@@ -15,14 +15,14 @@ use Rattle.report_check.specs.Records.{records_of}
 use Rattle.report_check.specs.Commits.{new_commits, AreLogged}
 use Rattle.report_check.specs.Reports.{IsSoundAlone}
 use Rattle.opening_rows.specs.declared.fault.LogsFault.{LogsFault}
-use Rattle.opening_rows.specs.declared.fault.LogsFault.TheVariants.{Failed, Damaged}
+use Rattle.opening_rows.specs.declared.fault.LogsFault.TheVariants.{Failed, Damaged, NoMemory}
 use Rattle.opening_rows.specs.declared.opening.Opening.{Opening}
 use Rattle.opening_rows.specs.declared.kept.KeptLogs.{KeptLogs}
 use Rattle.opening_rows.specs.Reading.{AreLogsOf, HasDamage, BreaksAt, ReadsBy}
 use Rattle.opening_rows.specs.Opening.{stood_for, OpensAs}
 use Rattle.opening_rows.specs.Kept.{AreWhole, AreKept, all_told, all_before}
 use Rattle.opening_rows.specs.Judging.{BearOut, Judges, IsJudged, KeptIsEnough}
-use Rattle.opening_rows.proofs.Told.{reads_on, reads_to}
+use Rattle.opening_rows.proofs.Told.{reads_on, reads_to, err_to}
 
 -- ---- rows that are listed alike
 
@@ -71,18 +71,18 @@ borne_out enough opening entries logs kept same left rows its had k is its_are h
     (λ y. (is, logged_whole enough opening entries logs kept k (e.0 y)), λ h. e.1 (logged_kept enough opening entries logs kept k h.1))
 
 pub not_borne : (opening : Opening) (entries : List Entry) (logs : List Log) (left rows : List Row) → (left ≡ rows → ⊥) → Decides false ((left ≡ rows) × LoggedIn opening entries logs)
-not_borne opening entries logs left rows no = (λ e. absurd (true≢false (sym e)), λ h. absurd (no h.0))
+not_borne opening entries logs left rows other = (λ e. absurd (true≢false (sym e)), λ h. absurd (other h.0))
 
 -- ---- the judgement
 
 pub torn : (script : Script) (opening : Opening) (entries : List Entry) (logs : List Log) (kept : KeptLogs) → AreKept opening.had.items logs kept → kept.are_whole ≡ false → BearOut script opening entries logs → ⊥
-torn script opening entries logs kept k no b = true≢false (sym (k.whole.1 b.whole) ∙ no)
+torn script opening entries logs kept k none b = true≢false (sym (k.whole.1 b.whole) ∙ none)
 
 alone_of : (script : Script) (opening : Opening) (entries : List Entry) (logs : List Log) → BearOut script opening entries logs → IsSoundAlone script (map_of opening.rows) entries
 alone_of script opening entries logs b = record { each_once = b.sound.each_once; order = b.sound.order; aborts_fit = b.sound.aborts_fit; legal = b.sound.ends.legal }
 
 pub not_alone : (script : Script) (opening : Opening) (entries : List Entry) (logs : List Log) → (IsSoundAlone script (map_of opening.rows) entries → ⊥) → BearOut script opening entries logs → ⊥
-not_alone script opening entries logs no b = no (alone_of script opening entries logs b)
+not_alone script opening entries logs wrong b = wrong (alone_of script opening entries logs b)
 
 module _ (script : Script) (opening : Opening) (entries : List Entry) (logs : List Log) (kept : KeptLogs) (left rows : List Row) (k : AreKept opening.had.items logs kept) (stood : rows ≡ stood_for logs)
     (left_is : left ≡ listed (replay (map_of opening.rows) entries)) where
@@ -94,7 +94,7 @@ module _ (script : Script) (opening : Opening) (entries : List Entry) (logs : Li
       )
 
   pub not_out : ((left ≡ rows) × LoggedIn opening entries logs → ⊥) → BearOut script opening entries logs → ⊥
-  not_out no b = no (left_is ∙ ap listed b.sound.ends.rows ∙ sym stood, b.sound.logged)
+  not_out wrong b = wrong (left_is ∙ ap listed b.sound.ends.rows ∙ sym stood, b.sound.logged)
 
 -- ---- of a disk
 
@@ -115,4 +115,17 @@ judged a b e n k m script opening now entries kept rows had same p q judge =
     no_error i l h = cc
 
     no_failure : IsErrOf {T = Option (List Row)} {E = LogsFault} (Ok rows) Failed → ⊥
+    no_failure h = cc
+
+-- memory was wanting
+pub judged_not : {Y : Type 0} (a b e : Option Contents) (n k m : ℕ) (now : Opening) (had : List ℕ) (kept : KeptLogs) (IsR : Y → Contents → Type 0) (r : Result Y LogsFault) → ReadsBy a b n k (λ (o : Opening) c. OpensAs c o) BreaksAt (Ok now)
+    → ReadsBy b e k m (KeptFrom had) HasDamage (Ok kept) → IsErrAnd r (λ (z : LogsFault). z ≡ NoMemory) → ReadsBy a e n m IsR BreaksAt r
+judged_not a b e n k m now had kept IsR r p q is =
+    err_to a e n m (λ (x : KeptLogs) c. ⊤) BreaksAt kept IsR BreaksAt NoMemory r is
+    (reads_on a b e n k m (λ (o : Opening) c. OpensAs c o) BreaksAt now (KeptFrom had) (λ (x : KeptLogs) c. ⊤) HasDamage BreaksAt (Ok kept) p q (λ x c o told. tt) (λ i l c o bad. inl bad)) (λ i l h. absurd (no_damage i l h)) (λ h. no_failure h)
+  where
+    no_damage : (i l : ℕ) → NoMemory ≡ Damaged i l → ⊥
+    no_damage i l h = cc
+
+    no_failure : NoMemory ≡ Failed → ⊥
     no_failure h = cc

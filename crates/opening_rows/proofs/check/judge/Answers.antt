@@ -16,5 +16,5 @@ returns-then-branch-clause-judges c = λ logs stood k.
     let found : SomeIff (Some c.in-Some.left) (IsSoundAlone script (map_of opening.rows) entries) (listed (replay (map_of opening.rows) entries)) =
     subst (λ (o : Option (List Row)). SomeIff o (IsSoundAlone script (map_of opening.rows) entries) (listed (replay (map_of opening.rows) entries))) c.in-Some.is c.in_ok-sound_rows.ensures in
     let whole : c.args.kept.now.are_whole ≡ true = cc in
-    let yes : c.in_ok-are_borne_out.field-0 ≡ true = cc in
-    bears_out script opening entries logs c.args.kept.now c.in-Some.left c.args.rows.now k stood found.1 whole found.0 ((c.in_ok-are_borne_out.ensures logs k).0 yes)
+    let yes : c.in_ok-are_borne_out-in-Some.field-0 ≡ true = cc in
+    bears_out script opening entries logs c.args.kept.now c.in-Some.left c.args.rows.now k stood found.1 whole found.0 ((c.in_ok-are_borne_out-in-Some.ensures logs k).0 yes)

@@ -1,4 +1,4 @@
-use Rattle.std.proofs.Common.{refl}
+use Rattle.std.proofs.Common.{refl, arith}
 use Rattle.opening_rows.proofs.Told.{err_on}
 use Rattle.opening_rows.proofs.KeptMore.{keeps_start, keeps_on, keeps_all}
 use Rattle.opening_rows.proofs.kept.keep_logs.Goals as goal
