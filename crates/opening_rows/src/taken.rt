@@ -37,11 +37,7 @@ pub fn nothing(alloc: Global) -> Taken
 }
 
 // Adds the transaction of a Commit record that is new.
-fn note_commit(
-    commits: &mut BTreeSet<u128>,
-    it: &LogRecord,
-    is_new: bool,
-) -> Result<(), NoMemory>
+fn note_commit(commits: &mut BTreeSet<u128>, it: &LogRecord, is_new: bool) -> Result<(), NoMemory>
     ensures { OnOk result ((tran : ℕ) → set.contains nat_cmp commits.new tran ≡ (set.contains nat_cmp commits.old tran || (is_new && has_commit (it.now ∷ []) tran))) }
 {
     match it.body {

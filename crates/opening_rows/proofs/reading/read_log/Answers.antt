@@ -11,8 +11,7 @@ loop-more-init g c =
 
 pub loop-more-preserved : goal.loop-more-preserved
 loop-more-preserved g c =
-    let past = c.in_ok-more.ensures.past in
-    (
+    let past = c.in_ok-more.ensures.past in (
       read_goes _ _ _ _ _ _ c.args.member c.in_ok-length.length c.loop-more.head c.take_next.new.head _ _ c.loop-more.taken c.take_next.new.taken c.loop-more.more c.in_ok-more.more c.loop-more.invariant.0 c.in_ok-more.ensures.taken,
       past.sound,
       past.end_is ∙ c.loop-more.invariant.2,
