@@ -1,6 +1,6 @@
 -- What the logs of a disk say to the entries of a report.
-use Rattle.std.proofs.Common.{◌≡◌, inl, ℕ, Bool, true, false, true≢false, List, [], ◌∷◌, map, Option, Some, None, Result, Ok, Err, refl, sym, ap, subst, ◌∙◌}
-use Rattle.std.specs.Prelude.{IfOk, IsErrOf, IsErrAnd, Decides, ⊤}
+use Rattle.std.proofs.Common.{◌≡◌, inl, ℕ, Bool, true, false, true≢false, List, [], ◌∷◌, map, Option, Result, Ok, refl, sym, ap, subst, ◌∙◌}
+use Rattle.std.specs.Prelude.{IsErrOf, IsErrAnd, Decides, ⊤}
 use Rattle.std.specs.FinMap as finite
 use Rattle.ds_base.specs.declared.row.Row.{Row}
 use Rattle.ds_disk.specs.Contents.{Contents}
@@ -20,7 +20,7 @@ use Rattle.opening_rows.specs.declared.opening.Opening.{Opening}
 use Rattle.opening_rows.specs.declared.kept.KeptLogs.{KeptLogs}
 use Rattle.opening_rows.specs.Reading.{AreLogsOf, HasDamage, BreaksAt, ReadsBy}
 use Rattle.opening_rows.specs.Opening.{stood_for, OpensAs}
-use Rattle.opening_rows.specs.Kept.{AreWhole, AreKept, all_told, all_before}
+use Rattle.opening_rows.specs.Kept.{AreKept, all_before}
 use Rattle.opening_rows.specs.Judging.{BearOut, Judges, IsJudged, KeptIsEnough}
 use Rattle.opening_rows.proofs.Told.{reads_on, reads_to, err_to}
 

@@ -1,12 +1,11 @@
 -- A step of reading a log of a disk to its end.
-use Rattle.std.proofs.Common.{◌≡◌, ℕ, ◌-◌, Bool, true, false, List, [], length, Option, Some, None, Result, Ok, Err, sym, ap, subst, ◌∙◌, arith}
+use Rattle.std.proofs.Common.{◌≡◌, ℕ, ◌-◌, Bool, true, false, [], length, Option, Some, None, Result, Ok, Err, sym, subst, arith}
 use Rattle.std.specs.Prelude.{IsErrAnd, IsErrOf}
 use Rattle.ds_disk.specs.Contents.{Contents, log_of}
 use Rattle.ds_model.specs.declared.log.LogRecord.{LogRecord}
 use Rattle.log_record.specs.declared.log.Log.{Log}
-use Rattle.log_record.specs.Reading.{record_in}
 use Rattle.log_record.specs.Logs.{IsLogOf}
-use Rattle.log_head.specs.Heads.{HeadState, IsShort, left_bytes}
+use Rattle.log_head.specs.Heads.{HeadState}
 use Rattle.log_head.specs.Laws.{PartsGoOn, PartsEnd, PartsAreBad}
 use Rattle.disk_heads.specs.Records.{IsSound, IsPast, IsNext}
 use Rattle.opening_rows.specs.declared.fault.LogsFault.{LogsFault}

@@ -1,5 +1,5 @@
 -- What the logs of a disk say to the entries of a report.
-use Rattle.std.specs.Prelude.{◌≡◌, ◌⊎◌, ℕ, List, Option, Some, None}
+use Rattle.std.specs.Prelude.{◌≡◌, ℕ, List, Option, Some, None}
 use Rattle.ds_base.specs.declared.row.Row.{Row}
 use Rattle.ds_disk.specs.Contents.{Contents}
 use Rattle.ds_model.specs.declared.script.Script.{Script}

@@ -1,8 +1,8 @@
 -- How a log is read to its end, and of what was read its records are taken.
-use Rattle.std.specs.Prelude.{◌≡◌, ℕ, Bool, true, false, List, Result}
+use Rattle.std.specs.Prelude.{◌≡◌, ℕ, Bool, List}
 use Rattle.ds_model.specs.declared.log.LogRecord.{LogRecord}
 use Rattle.log_record.specs.declared.log.Log.{Log}
-use Rattle.log_record.specs.Logs.{Parts, parts_in, IsLogOf}
+use Rattle.log_record.specs.Logs.{parts_in}
 use Rattle.log_head.specs.Heads.{HeadState, IsOf, left_bytes}
 use Rattle.opening_rows.specs.Survey.{put_before, IsOver}
 use Rattle.opening_rows.specs.declared.taken.Taken.{Taken}

@@ -1,4 +1,4 @@
-use Rattle.std.proofs.Common.{◌≡◌, ◌∙◌, ◌≤◌, sym, ap, subst, arith}
+use Rattle.std.proofs.Common.{◌∙◌, ◌≤◌, sym, ap, subst, arith}
 use Rattle.log_head.specs.Heads.{HeadState}
 use Rattle.opening_rows.proofs.Told.{err_on}
 use Rattle.opening_rows.proofs.ReadOn.{read_starts, read_goes, read_ends}
