@@ -12,7 +12,7 @@ use Rattle.disk_restart.specs.Keeping.{KeepsRecords}
 use Rattle.opening_rows.specs.declared.opening.Opening.{Opening}
 use Rattle.opening_rows.specs.declared.fault.LogsFault.{LogsFault}
 use Rattle.opening_rows.specs.declared.fault.LogsFault.TheVariants as reading
-use Rattle.opening_rows.specs.Reading.{BreaksAt, ReadsBy}
+use Rattle.opening_rows.specs.Reading.{HasDamage, ReadsBy}
 use Rattle.opening_rows.specs.Opening.{OpensAs, OpensWith}
 use Rattle.checked_run.specs.Back.{Holds, TellsDamage, ReadsBack, RoseTwice}
 use Rattle.checked_run.specs.declared.ended.Outcome.{Outcome}
@@ -35,10 +35,10 @@ holds None after P is same = tt
 holds (Some c) None P is same = absurd same
 holds (Some c) (Some d) P is same = (same, subst P (sym same) is)
 
-pub damage : {T : Type 0} (before after : Option Contents) (n k : ℕ) (Is : T → Contents → Type 0) (result : Result T LogsFault) → ReadsBy before after n k Is BreaksAt result → TellsDamage before after result
+pub damage : {T : Type 0} (before after : Option Contents) (n k : ℕ) (Is : T → Contents → Type 0) (result : Result T LogsFault) → ReadsBy before after n k Is HasDamage result → TellsDamage before after result
 damage before after n k Is (Ok x) reads = tt
 damage before after n k Is (Err reading.Failed) reads = tt
-damage before after n k Is (Err (reading.Damaged member at)) reads = holds before after (BreaksAt member at) (reads.damaged member at refl) reads.same
+damage before after n k Is (Err (reading.Damaged member at)) reads = holds before after (HasDamage member at) (reads.damaged member at refl) reads.same
 damage before after n k Is (Err reading.NoMemory) reads = tt
 
 -- a reading that was done again
@@ -51,7 +51,7 @@ holds_again (Some x) (Some y) (Some z) P p q = (subst (λ (v : Contents). z ≡ 
 pub damage_again : {T : Type 0} (a b c : Option Contents) (result : Result T LogsFault) → Becomes a b Same → TellsDamage b c result → TellsDamage a c result
 damage_again a b c (Ok x) same tells = tt
 damage_again a b c (Err reading.Failed) same tells = tt
-damage_again a b c (Err (reading.Damaged member at)) same tells = holds_again a b c (BreaksAt member at) same tells
+damage_again a b c (Err (reading.Damaged member at)) same tells = holds_again a b c (HasDamage member at) same tells
 damage_again a b c (Err reading.NoMemory) same tells = tt
 
 if_holds : {T : Type 0} (a b : Option Contents) (Is : T → Contents → Type 0) (result : Result T LogsFault) → IfOk result (λ x. WhenTold a (Is x)) → Becomes a b Same → IfOk result (λ x. Becomes a b (Holds (Is x)))

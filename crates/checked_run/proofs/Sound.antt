@@ -20,7 +20,7 @@ use Rattle.log_record.specs.Logs.{IsLogOf}
 use Rattle.report_check.specs.Records.{records_of}
 use Rattle.report_check.specs.Reports.{IsSoundAlone}
 use Rattle.report_check.specs.Laws.{settled, TellsSoundAlone}
-use Rattle.opening_rows.specs.Reading.{AreLogsOf, BreaksAt}
+use Rattle.opening_rows.specs.Reading.{AreLogsOf, HasDamage}
 use Rattle.opening_rows.specs.Kept.{AreWhole}
 use Rattle.opening_rows.specs.Judging as Judging
 use Rattle.checked_run.specs.declared.account.Account.{Account}
@@ -182,12 +182,12 @@ refuted_in (Some c) (Some d) script opening entries told p = inr p.1
 pub refuted : (tells : Type 0) (script : Script) (opening : Opening) (entries : List Entry) (before now : ℕ) (was after : Option Contents) → (tells → was ≢ None) → Becomes was after (Holds (JudgedAs script opening entries None)) → IsRefuted tells script opening entries before now after
 refuted tells script opening entries before now was after told p = inl (λ t. refuted_in was after script opening entries (told t) p)
 
-damaged_in : (was after : Option Contents) (script : Script) (opening : Opening) (entries : List Entry) (member at : ℕ) → was ≢ None → Becomes was after (Holds (BreaksAt member at)) → WhenTold after (LogsRefute script opening entries)
+damaged_in : (was after : Option Contents) (script : Script) (opening : Opening) (entries : List Entry) (member at : ℕ) → was ≢ None → Becomes was after (Holds (HasDamage member at)) → WhenTold after (LogsRefute script opening entries)
 damaged_in None after script opening entries member at told p = absurd (told refl)
 damaged_in (Some c) None script opening entries member at told p = tt
 damaged_in (Some c) (Some d) script opening entries member at told p = inl (member, (at, p.1))
 
-pub damaged : (tells : Type 0) (script : Script) (opening : Opening) (entries : List Entry) (before now : ℕ) (was after : Option Contents) (member at : ℕ) → (tells → was ≢ None) → Becomes was after (Holds (BreaksAt member at))
+pub damaged : (tells : Type 0) (script : Script) (opening : Opening) (entries : List Entry) (before now : ℕ) (was after : Option Contents) (member at : ℕ) → (tells → was ≢ None) → Becomes was after (Holds (HasDamage member at))
     → IsRefuted tells script opening entries before now after
 damaged tells script opening entries before now was after member at told p = inl (λ t. damaged_in was after script opening entries member at (told t) p)
 

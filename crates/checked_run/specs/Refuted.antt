@@ -6,14 +6,14 @@ use Rattle.ds_model.specs.declared.history.Entry.{Entry}
 use Rattle.ds_model.specs.Rows.{map_of}
 use Rattle.report_check.specs.Reports.{IsSoundAlone}
 use Rattle.opening_rows.specs.declared.opening.Opening.{Opening}
-use Rattle.opening_rows.specs.Reading.{BreaksAt}
+use Rattle.opening_rows.specs.Reading.{HasDamage}
 use Rattle.opening_rows.specs.Judging.{IsJudged}
 use Rattle.checked_run.specs.Back.{RoseTwice}
 
--- a log of the disk is damaged, or a number in it falls, or they don't bear the entries out
+-- a log of the disk is damaged, or they don't bear the entries out
 abbrev pub LogsRefute : Script → Opening → List Entry → Contents → Type 0
 LogsRefute script opening printed c =
-    ((member : ℕ) × ((at : ℕ) × BreaksAt member at c))
+    ((member : ℕ) × ((at : ℕ) × HasDamage member at c))
     ⊎ IsJudged script opening printed c None
 
 -- The check said no to the entries as they are printed: by the logs of a disk, whose type tells always what it holds or not; or, where

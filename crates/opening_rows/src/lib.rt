@@ -13,6 +13,7 @@ mod rows;
 mod survey;
 mod surveyed;
 mod taken;
+mod whole;
 
 pub use check::check_report;
 pub use fault::LogsFault;

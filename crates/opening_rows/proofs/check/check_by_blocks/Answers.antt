@@ -1,7 +1,7 @@
 use Rattle.std.proofs.Common.{inl}
 use Rattle.opening_rows.proofs.Told.{err_on}
 use Rattle.opening_rows.proofs.Judged.{judged, judged_not}
-use Rattle.opening_rows.proofs.check.check_report.Goals as goal
+use Rattle.opening_rows.proofs.check.check_by_blocks.Goals as goal
 
 pub returns-in_err-kept-clause-judged : goal.returns-in_err-kept-clause-judged
 returns-in_err-kept-clause-judged g c =
