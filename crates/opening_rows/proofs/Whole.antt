@@ -19,7 +19,7 @@ use Rattle.opening_rows.specs.Reading.{AreLogsOf, HasDamage, BreaksAt, Reads, Re
 use Rattle.opening_rows.specs.Opening.{stood_for}
 use Rattle.opening_rows.specs.Kept.{AreWhole}
 use Rattle.opening_rows.specs.Judging.{IsTold, BearOut, Judges, IsJudged}
-use Rattle.opening_rows.proofs.Told.{held_before, same_on, reads_to, reads_err, err_to}
+use Rattle.opening_rows.proofs.Told.{held_before, same_on, same_fault, reads_to, err_to}
 use Rattle.opening_rows.proofs.Judged.{alone_of}
 
 -- ---- the judgement
@@ -76,8 +76,26 @@ whole_wanting a b n k logs IsR r p is =
 
 -- ---- by blocks, and else whole
 
-pub undamaged : {X : Type 0} (a b : Option Contents) (n k : ℕ) (Is : X → Contents → Type 0) (r : Result X LogsFault) → ((member at : ℕ) → IsErrOf r (Damaged member at) → ⊥) → ReadsBy a b n k Is BreaksAt r → ReadsBy a b n k Is HasDamage r
+undamaged : {X : Type 0} (a b : Option Contents) (n k : ℕ) (Is : X → Contents → Type 0) (r : Result X LogsFault) → ((member at : ℕ) → IsErrOf r (Damaged member at) → ⊥) → ReadsBy a b n k Is BreaksAt r → ReadsBy a b n k Is HasDamage r
 undamaged a b n k Is r none p = record { ok = p.ok; damaged = λ member at is. absurd (none member at is); failed = p.failed; same = p.same; later = p.later }
+
+read_well : {X : Type 0} (x : X) (member at : ℕ) → IsErrOf {T = X} {E = LogsFault} (Ok x) (Damaged member at) → ⊥
+read_well x member at is = cc
+
+other_fault : {X : Type 0} (f : LogsFault) → ((member at : ℕ) → f ≡ Damaged member at → ⊥) → (member at : ℕ) → IsErrOf {T = X} {E = LogsFault} (Err f) (Damaged member at) → ⊥
+other_fault {X = X} f other member at is = other member at (same_fault {Y = X} f (Damaged member at) is)
+
+pub blocks_read : {X : Type 0} (a b : Option Contents) (n k : ℕ) (Is : X → Contents → Type 0) (first : Result X LogsFault) (x : X) → first ≡ Ok x → ReadsBy a b n k Is BreaksAt first → ReadsBy a b n k Is HasDamage (Ok x)
+blocks_read {X = X} a b n k Is first x is p = undamaged a b n k Is (Ok x) (read_well x) (subst (λ (r : Result X LogsFault). ReadsBy a b n k Is BreaksAt r) is p)
+
+pub blocks_unread : {X : Type 0} (a b : Option Contents) (n k : ℕ) (Is : X → Contents → Type 0) (first : Result X LogsFault) (f : LogsFault) → first ≡ Err f → ((member at : ℕ) → f ≡ Damaged member at → ⊥) → ReadsBy a b n k Is BreaksAt first → ReadsBy a b n k Is HasDamage (Err f)
+blocks_unread {X = X} a b n k Is first f is other p = undamaged a b n k Is (Err f) (other_fault {X = X} f other) (subst (λ (r : Result X LogsFault). ReadsBy a b n k Is BreaksAt r) is p)
+
+pub failed_is : (member at : ℕ) → Failed ≡ Damaged member at → ⊥
+failed_is member at e = cc
+
+pub wanting_is : (member at : ℕ) → NoMemory ≡ Damaged member at → ⊥
+wanting_is member at e = cc
 
 later_rose : (n k m : ℕ) → n ≤ k → Rose k m → Rose n m
 later_rose n k m le rose = omega arith
