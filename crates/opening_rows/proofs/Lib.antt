@@ -11,4 +11,4 @@ mod LogTaken
 mod ReadOn
 mod KeptMore
 mod Judged
-mod Whole
+mod WholeLogs

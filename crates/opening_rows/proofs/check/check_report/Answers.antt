@@ -1,4 +1,4 @@
-use Rattle.opening_rows.proofs.Whole.{blocks_read, blocks_unread, failed_is, wanting_is, whole_behind}
+use Rattle.opening_rows.proofs.WholeLogs.{blocks_read, blocks_unread, failed_is, wanting_is, whole_behind}
 use Rattle.opening_rows.specs.declared.fault.LogsFault.TheVariants.{Failed, NoMemory}
 use Rattle.opening_rows.proofs.check.check_report.Goals as goal
 

@@ -1,5 +1,5 @@
 use Rattle.opening_rows.proofs.Told.{reads_err}
-use Rattle.opening_rows.proofs.Whole.{by_reads, judged_whole, whole_wanting}
+use Rattle.opening_rows.proofs.WholeLogs.{by_reads, judged_whole, whole_wanting}
 use Rattle.opening_rows.proofs.whole.check_whole.Goals as goal
 
 pub returns-in_err-logs-clause-judged : goal.returns-in_err-logs-clause-judged

@@ -1,5 +1,5 @@
 use Rattle.std.proofs.Common.{◌≡◌, true, false}
-use Rattle.opening_rows.proofs.Whole.{not_whole, not_sound, whole_bears, told_by}
+use Rattle.opening_rows.proofs.WholeLogs.{not_whole, not_sound, whole_bears, told_by}
 use Rattle.opening_rows.proofs.whole.judge_whole.Goals as goal
 
 pub returns-then-branch-clause-judges : goal.returns-then-branch-clause-judges
