@@ -78,7 +78,7 @@ not_borne opening entries logs left rows other = (λ e. absurd (true≢false (sy
 pub torn : (script : Script) (opening : Opening) (entries : List Entry) (logs : List Log) (kept : KeptLogs) → AreKept opening.had.items logs kept → kept.are_whole ≡ false → BearOut script opening entries logs → ⊥
 torn script opening entries logs kept k none b = true≢false (sym (k.whole.1 b.whole) ∙ none)
 
-alone_of : (script : Script) (opening : Opening) (entries : List Entry) (logs : List Log) → BearOut script opening entries logs → IsSoundAlone script (map_of opening.rows) entries
+pub alone_of : (script : Script) (opening : Opening) (entries : List Entry) (logs : List Log) → BearOut script opening entries logs → IsSoundAlone script (map_of opening.rows) entries
 alone_of script opening entries logs b = record { each_once = b.sound.each_once; order = b.sound.order; aborts_fit = b.sound.aborts_fit; legal = b.sound.ends.legal }
 
 pub not_alone : (script : Script) (opening : Opening) (entries : List Entry) (logs : List Log) → (IsSoundAlone script (map_of opening.rows) entries → ⊥) → BearOut script opening entries logs → ⊥

@@ -26,16 +26,16 @@ use Rattle.opening_rows.proofs.Judged.{alone_of}
 
 module _ (script : Script) (opening : Opening) (entries : List Entry) (logs : List Log) where
   pub not_whole : (whole : Bool) → Decides whole (AreWhole logs) → whole ≡ false → BearOut script opening entries logs → ⊥
-  not_whole whole d no b = true≢false (sym (d.1 b.whole) ∙ no)
+  not_whole whole d none b = true≢false (sym (d.1 b.whole) ∙ none)
 
   abbrev Sound : List ℕ → Type 0
   Sound had = IsSoundReport script (map_of opening.rows) entries (records_of logs) had
 
   pub not_sound : (sound : Bool) (had : List ℕ) → had ≡ opening.had.items → Decides sound (Sound had) → sound ≡ false → BearOut script opening entries logs → ⊥
-  not_sound sound had same d no b = true≢false (sym (d.1 (subst Sound (sym same) b.sound)) ∙ no)
+  not_sound sound had same d none b = true≢false (sym (d.1 (subst Sound (sym same) b.sound)) ∙ none)
 
   pub whole_bears : (whole sound : Bool) (had : List ℕ) → had ≡ opening.had.items → Decides whole (AreWhole logs) → whole ≡ true → Decides sound (Sound had) → sound ≡ true → BearOut script opening entries logs
-  whole_bears whole sound had same w all d yes = record { whole = w.0 all; sound = subst Sound same (d.0 yes) }
+  whole_bears whole sound had same w all d found = record { whole = w.0 all; sound = subst Sound same (d.0 found) }
 
   pub told_by : (rows : List Row) → BearOut script opening entries logs → rows ≡ stood_for logs → IsTold script opening entries rows
   told_by rows b is = record { sound = alone_of script opening entries logs b; rows_are = is ∙ ap listed (sym b.sound.ends.rows) }
@@ -51,10 +51,10 @@ LogsOf logs c = AreLogsOf c.logs logs.items
 abbrev JudgedBy : Script → Opening → List Entry → Option (List Row) → Contents → Type 0
 JudgedBy script opening entries rows c = IsJudged script opening entries c rows
 
-pub judged_whole : (a b : Option Contents) (n k : ℕ) (script : Script) (opening : Opening) (entries : List Entry) (logs : Vec Log Global) (rows : Option (List Row)) → Reads a b n k LogsOf (Ok logs) → Judges script opening entries logs.items rows
+pub judged_whole : (a b : Option Contents) (n k : ℕ) (script : Script) (opening : Opening) (entries : List Entry) (logs : Vec Log Global) (given : List Log) (rows : Option (List Row)) → Reads a b n k LogsOf (Ok logs) → given ≡ logs.items → Judges script opening entries given rows
     → ReadsBy a b n k (JudgedBy script opening entries) HasDamage (Ok rows)
-judged_whole a b n k script opening entries logs rows p judges =
-    reads_to a b n k LogsOf HasDamage logs (JudgedBy script opening entries) HasDamage (Ok rows) (by_reads a b n k LogsOf (Ok logs) p) (λ c are. record { logs = logs.items; are = are; judges = judges })
+judged_whole a b n k script opening entries logs given rows p same judges =
+    reads_to a b n k LogsOf HasDamage logs (JudgedBy script opening entries) HasDamage (Ok rows) (by_reads a b n k LogsOf (Ok logs) p) (λ c are. record { logs = logs.items; are = are; judges = subst (λ (ls : List Log). Judges script opening entries ls rows) same judges })
     (λ i l h. absurd (no_error i l h)) (λ h. no_failure h)
   where
     no_error : (i l : ℕ) → IsErrOf {T = Option (List Row)} {E = LogsFault} (Ok rows) (Damaged i l) → ⊥
@@ -88,8 +88,9 @@ other_fault {X = X} f other member at is = other member at (same_fault {Y = X} f
 pub blocks_read : {X : Type 0} (a b : Option Contents) (n k : ℕ) (Is : X → Contents → Type 0) (first : Result X LogsFault) (x : X) → first ≡ Ok x → ReadsBy a b n k Is BreaksAt first → ReadsBy a b n k Is HasDamage (Ok x)
 blocks_read {X = X} a b n k Is first x is p = undamaged a b n k Is (Ok x) (read_well x) (subst (λ (r : Result X LogsFault). ReadsBy a b n k Is BreaksAt r) is p)
 
-pub blocks_unread : {X : Type 0} (a b : Option Contents) (n k : ℕ) (Is : X → Contents → Type 0) (first : Result X LogsFault) (f : LogsFault) → first ≡ Err f → ((member at : ℕ) → f ≡ Damaged member at → ⊥) → ReadsBy a b n k Is BreaksAt first → ReadsBy a b n k Is HasDamage (Err f)
-blocks_unread {X = X} a b n k Is first f is other p = undamaged a b n k Is (Err f) (other_fault {X = X} f other) (subst (λ (r : Result X LogsFault). ReadsBy a b n k Is BreaksAt r) is p)
+pub blocks_unread : {X : Type 0} (a b : Option Contents) (n k : ℕ) (Is : X → Contents → Type 0) (first : Result X LogsFault) (x f : LogsFault) → first ≡ Err x → x ≡ f → ((member at : ℕ) → f ≡ Damaged member at → ⊥) → ReadsBy a b n k Is BreaksAt first → ReadsBy a b n k Is HasDamage (Err f)
+blocks_unread {X = X} a b n k Is first x f is its other p =
+    undamaged a b n k Is (Err f) (other_fault {X = X} f other) (subst (λ (z : LogsFault). ReadsBy {T = X} a b n k Is BreaksAt (Err z)) its (subst (λ (r : Result X LogsFault). ReadsBy a b n k Is BreaksAt r) is p))
 
 pub failed_is : (member at : ℕ) → Failed ≡ Damaged member at → ⊥
 failed_is member at e = cc
