@@ -16,7 +16,7 @@ use Rattle.log_record.specs.Logs.{Parts, parts_in, parts_of, behind}
 use Rattle.log_head.specs.Laws.{FirstIsWhole, NoneIsWhole, PartsGoOn}
 use Rattle.log_head.specs.Whole.{whole_records}
 use Rattle.log_reader.specs.declared.held.Mark.{Mark}
-use Rattle.log_reader.specs.Held.{HeldState, nothing_held, begins_at, names_before, marked_one, marked_all, first_mark, with_mark, settled, grown}
+use Rattle.log_reader.specs.Held.{HeldState, nothing_held, begins_at, names_other, marked_one, marked_all, first_mark, with_mark, settled, grown}
 use Rattle.log_reader.specs.Readers.{ReaderState, IsLogRead, parts_behind}
 use Rattle.log_reader.proofs.Marks.{one_behind}
 use Rattle.log_reader.specs.Keeping.{AreBytes, AreWhole, IsOf, HasLastOf}
@@ -89,8 +89,8 @@ module _ (found : FoundInBytes) (first : FirstIsWhole) (none : NoneIsWhole) wher
       let left = length-drop m.to bytes in
       let long : length (record_bytes r) ≤ length bytes - m.to = omega (arith, f.within, left, size) in
       let new : AreWhole (take (length (record_bytes r)) (drop m.to bytes)) = subst (λ (k : ℕ). AreWhole (take k (drop m.to bytes))) size (one_whole (drop m.to bytes) r n f) in
-      let begun : Mark = record { from = m.to; to = m.to + length (record_bytes r); is_back = m.is_back } in
-      let gone : Mark = record { from = m.from; to = m.to + length (record_bytes r); is_back = m.is_back || names_before (start + m.from) r.body } in
+      let begun : Mark = record { from = m.to; to = m.to + length (record_bytes r); has_other = m.has_other } in
+      let gone : Mark = record { from = m.from; to = m.to + length (record_bytes r); has_other = m.has_other || names_other (start + m.to) r.body } in
       let all : m.to + length (record_bytes r) - m.to ≡ length (record_bytes r) = omega arith in
       let behind : m.from + (m.to - m.from) ≡ m.to = omega (arith, is.order) in
       let more : m.to + length (record_bytes r) - m.from ≡ (m.to - m.from) + length (record_bytes r) = omega (arith, is.order) in
@@ -157,7 +157,7 @@ module _ (found : FoundInBytes) (first : FirstIsWhole) (none : NoneIsWhole) wher
       }
 
   with_mark_is : (log : List ℕ) (h : HeldState) (m : Mark) → IsOf log h → IsMark h.bytes m → IsOf log (with_mark h m)
-  with_mark_is log h m is mark = cond_both m.is_back (nothing_held true) (record { start = h.start + m.from; end = h.end; bytes = drop m.from h.bytes; passed = m.to - m.from; keeps_all = h.keeps_all }) (IsOf log) (λ _. nothing_is log true) (λ _. from_mark log h m is mark)
+  with_mark_is log h m is mark = cond_both m.has_other (nothing_held true) (record { start = h.start + m.from; end = h.end; bytes = drop m.from h.bytes; passed = m.to - m.from; keeps_all = h.keeps_all }) (IsOf log) (λ _. nothing_is log true) (λ _. from_mark log h m is mark)
 
   first_is : (h : HeldState) (log : List ℕ) → IsOf log h → IsMark h.bytes (first_mark h.passed)
   first_is h log is =

@@ -1,5 +1,5 @@
 -- What is kept of a log while it is read: its bytes from the last Checkpoint on.
-use Rattle.std.specs.Prelude.{ℕ, ◌+◌, ◌-◌, ◌==◌, nat_lt, Bool, true, false, ◌&&◌, ◌||◌, if◌then◌else◌, List, [], ◌∷◌, ◌++◌, length, drop}
+use Rattle.std.specs.Prelude.{ℕ, ◌+◌, ◌-◌, ◌==◌, nat_lt, Bool, true, false, not, ◌&&◌, ◌||◌, if◌then◌else◌, List, [], ◌∷◌, ◌++◌, length, drop}
 use Rattle.ds_model.specs.declared.log.LogRecord.{LogRecord}
 use Rattle.ds_model.specs.declared.log.Body.{Body}
 use Rattle.ds_model.specs.declared.log.Body.TheVariants as body
@@ -30,15 +30,15 @@ names place body.Ended = false
 names place (body.Checkpoint offset) = offset == place
 names place body.RestartEnd = false
 
--- or one before it
-abbrev pub names_before : ℕ → Body → Bool
-names_before place (body.RowChange change) = false
-names_before place (body.Compensation change undone) = false
-names_before place (body.System patches) = false
-names_before place body.Commit = false
-names_before place body.Ended = false
-names_before place (body.Checkpoint offset) = nat_lt offset place
-names_before place body.RestartEnd = false
+-- or another one
+abbrev pub names_other : ℕ → Body → Bool
+names_other place (body.RowChange change) = false
+names_other place (body.Compensation change undone) = false
+names_other place (body.System patches) = false
+names_other place body.Commit = false
+names_other place body.Ended = false
+names_other place (body.Checkpoint offset) = not (offset == place)
+names_other place body.RestartEnd = false
 
 -- the log is read on from the place of the record, which begins there: a Checkpoint of the version in which records are written, which names its own place
 abbrev pub begins_at : ℕ → LogRecord → Bool
@@ -48,13 +48,13 @@ begins_at place r = is_written r.version && names place r.body
 
 -- so many of the bytes were looked at before
 abbrev pub first_mark : ℕ → Mark
-first_mark passed = record { from = 0; to = passed; is_back = false }
+first_mark passed = record { from = 0; to = passed; has_other = false }
 
 -- behind one record more
 abbrev pub marked_one : ℕ → Mark → LogRecord → Mark
 marked_one start m r =
-    if begins_at (start + m.to) r then record { from = m.to; to = m.to + length (record_bytes r); is_back = m.is_back }
-    else record { from = m.from; to = m.to + length (record_bytes r); is_back = m.is_back || names_before (start + m.from) r.body }
+    if begins_at (start + m.to) r then record { from = m.to; to = m.to + length (record_bytes r); has_other = m.has_other }
+    else record { from = m.from; to = m.to + length (record_bytes r); has_other = m.has_other || names_other (start + m.to) r.body }
 
 abbrev pub marked_all : ℕ → Mark → List LogRecord → Mark
 marked_all start m [] = m
@@ -62,9 +62,9 @@ marked_all start m (r ∷ rs) = marked_all start (marked_one start m r) rs
 
 -- ---- what is kept
 
--- where a later Checkpoint names a byte that isn't kept, all of the log is read anew
+-- where a Checkpoint names another byte than its own, all of the log is read anew
 abbrev pub with_mark : HeldState → Mark → HeldState
-with_mark h m = if m.is_back then nothing_held true else record { start = h.start + m.from; end = h.end; bytes = drop m.from h.bytes; passed = m.to - m.from; keeps_all = h.keeps_all }
+with_mark h m = if m.has_other then nothing_held true else record { start = h.start + m.from; end = h.end; bytes = drop m.from h.bytes; passed = m.to - m.from; keeps_all = h.keeps_all }
 
 -- from the last Checkpoint on
 unfoldable pub settled : HeldState → HeldState

@@ -4,7 +4,7 @@ ghost use Rattle.std.specs.Prelude.{◌≡◌, ℕ, ◌+◌, ◌-◌, ◌<◌, �
 ghost use Rattle.ds_model.specs.RecordBytes.{record_bytes};
 ghost use Rattle.log_record.specs.Reading.{record_in};
 ghost use Rattle.log_head.specs.Whole.{whole_records};
-ghost use Rattle.log_reader.specs.Held.{names, names_before, begins_at, marked_one, marked_all, first_mark};
+ghost use Rattle.log_reader.specs.Held.{names, names_other, begins_at, marked_one, marked_all, first_mark};
 
 use ds_base::NoMemory;
 use ds_model::{Body, LogRecord, Version};
@@ -20,8 +20,8 @@ pub struct Mark {
     pub from: usize,
     /// Up to here all are whole records that were looked at.
     pub to: usize,
-    /// Whether a checkpoint behind that names a byte before it.
-    pub is_back: bool,
+    /// Whether a checkpoint of them names another byte than its own.
+    pub has_other: bool,
 }
 
 /// What is kept of a log.
@@ -59,12 +59,12 @@ fn names(place: u64, body: &Body) -> bool
     }
 }
 
-// Whether it is a checkpoint that names a byte before this one.
-fn names_before(place: u64, body: &Body) -> bool
-    ensures { result ≡ names_before place body.now }
+// Whether it is a checkpoint that names another byte.
+fn names_other(place: u64, body: &Body) -> bool
+    ensures { result ≡ names_other place body.now }
 {
     match body {
-        Body::Checkpoint { offset } => *offset < place,
+        Body::Checkpoint { offset } => *offset != place,
         Body::RowChange { .. }
         | Body::Compensation { .. }
         | Body::System { .. }
@@ -131,14 +131,14 @@ fn marked_one(start: u64, mark: Mark, it: &LogRecord, size: usize) -> Result<Mar
         return Ok(Mark {
             from: mark.to,
             to,
-            is_back: mark.is_back,
+            has_other: mark.has_other,
         });
     }
-    let is_back = names_before(behind(start, mark.from)?, &it.body);
+    let has_other = names_other(behind(start, mark.to)?, &it.body);
     Ok(Mark {
         from: mark.from,
         to,
-        is_back: mark.is_back || is_back,
+        has_other: mark.has_other || has_other,
     })
 }
 
@@ -152,7 +152,7 @@ fn mark_records(alloc: Global, start: u64, bytes: &[u8], passed: usize) -> Resul
     let mut mark = Mark {
         from: 0,
         to: passed,
-        is_back: false,
+        has_other: false,
     };
     while let Some((it, size)) = record_at(alloc, bytes, mark.to)? {
         mark = marked_one(start, mark, &it, size)?;
@@ -221,7 +221,7 @@ impl Held {
         ensures ok { OnOk result (self.new ≡ with_mark self.old mark) }
         ensures err { OnErr result (self.new ≡ self.old) }
     {
-        if mark.is_back {
+        if mark.has_other {
             self.begin_again();
             return Ok(());
         }
