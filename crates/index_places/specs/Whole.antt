@@ -95,7 +95,3 @@ pub record IsFirstUnwhole (at : Images) (records : List LogRecord) (id : PageId)
 abbrev pub IsFirstTold : Images → List LogRecord → Option PageId → Type 0
 IsFirstTold at records None = AreAllWhole at records
 IsFirstTold at records (Some id) = IsFirstUnwhole at records id
-
-abbrev pub AreTablesTold : Images → List LogRecord → Option PageId → Type 0
-AreTablesTold at records None = AreAllWhole at records
-AreTablesTold at records (Some id) = AreAllWhole at records → ⊥
