@@ -20,7 +20,7 @@ use Rattle.heap_rows.proofs.Heaps.{blank_number}
 use Rattle.index_links.specs.Opens.{Opens}
 use Rattle.index_places.specs.declared.slots.Given.{Given}
 use Rattle.index_places.specs.Placing.{Places, places_from, leaf_stands, AreGiven, IsFirstFallen, AreLeavesTold}
-use Rattle.index_places.specs.Whole.{IsFirstWrongLeaf, ArePlacesTold, IsMisled, IsWholeTold, IsNamedInIndex, IsIndexRight, IsIndexTold, IsNamed, IsTableTold, IsFirstUnwhole, IsFirstTold}
+use Rattle.index_places.specs.Whole.{IsFirstWrongLeaf, ArePlacesTold, IsMisled, IsWholeTold, IsNamedInIndex, IsIndexRight, IsIndexTold, IsNamed, IsTableTold, IsFirstUnwhole}
 use Rattle.index_places.proofs.Whole.{home_in, right_of, whole_of, right_stands}
 
 not_both : (b : Bool) → b ≡ true → b ≡ false → ⊥
