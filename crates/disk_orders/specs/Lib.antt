@@ -1,2 +1,5 @@
 pub mod Checks
 pub mod Texts
+pub mod Numbers
+pub mod Restarting
+pub mod Copying

@@ -1,4 +1,4 @@
--- What is written of a check.
+-- What is written of a check, and of an image.
 use Rattle.std.specs.Prelude.{ℕ, List, ◌++◌, codes, decimal}
 use Rattle.ds_model.specs.ScriptText.{line}
 use Rattle.disk_spots.specs.declared.spot.Spot.{Spot}
@@ -18,3 +18,7 @@ spot_text (spot.Page id) = codes " page " ++ decimal id.set ++ codes " " ++ deci
 -- the clause that doesn't hold, and where
 unfoldable pub breach_text : Breach → List ℕ
 breach_text b = line (codes "unsound " ++ decimal (number_of b.clause) ++ spot_text b.at)
+
+-- the byte of the image
+unfoldable pub image_text : ℕ → List ℕ
+image_text at = line (codes "image refused at " ++ decimal at)

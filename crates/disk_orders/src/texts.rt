@@ -1,7 +1,7 @@
-//! The lines that are told of a check.
+//! The lines that are told of a check and of an image.
 
 ghost use Rattle.std.specs.Prelude.{◌≡◌, ◌++◌, decimal, OnOk};
-ghost use Rattle.disk_orders.specs.Texts.{sound_text, spot_text, breach_text};
+ghost use Rattle.disk_orders.specs.Texts.{sound_text, spot_text, breach_text, image_text};
 
 use disk_spots::Spot;
 use ds_base::{Bytes, NoMemory};
@@ -48,5 +48,14 @@ pub fn put_breach(alloc: Global, out: &mut Bytes, breach: &Breach) -> Result<(),
 {
     put_number(alloc, out, b"unsound ", breach.clause.number() as u64)?;
     put_spot(alloc, out, &breach.at)?;
+    out.extend(b"\n")
+}
+
+/// The line for an image that is refused at this byte.
+#[tactic(auto, unfolding(crate::specs::Texts::image_text))]
+pub fn put_image(alloc: Global, out: &mut Bytes, at: u64) -> Result<(), NoMemory>
+    ensures { OnOk result (out.new ≡ out.old ++ image_text at) }
+{
+    put_number(alloc, out, b"image refused at ", at)?;
     out.extend(b"\n")
 }

@@ -45,6 +45,7 @@ no_text (Some order.Show) = refl
 no_text (Some (order.Make n)) = refl
 no_text (Some (order.Work n sizes)) = refl
 no_text (Some order.Check) = refl
+no_text (Some (order.Copy table)) = refl
 
 as_before : (a b : Option Contents) → b ≡ a → Becomes a b Same
 as_before None b e = tt
@@ -52,7 +53,7 @@ as_before (Some c) None e = cc
 as_before (Some c) (Some d) e = cc
 
 -- where no call of the disk was made, what it tells is as before
-unmoved : (before after : Outside) → DiskIsUntouched before after → Becomes before.contents after.contents Same
+pub unmoved : (before after : Outside) → DiskIsUntouched before after → Becomes before.contents after.contents Same
 unmoved before after untouched = as_before before.contents after.contents untouched.0
 
 -- a status was met, and no disk opened
@@ -72,7 +73,7 @@ meets_short kind o before after met text n is its untouched unwritten unread = r
   unread = unread;
 }
 
-meets_wanting : (kind : Kind) (o : Option Order) (before after : Outside) → (TouchesNoDisk o → DiskIsUntouched before after) → (WritesNothing o → Becomes before.contents after.contents Same) → (ReadsNothing o → after.left ≡ before.left)
+pub meets_wanting : (kind : Kind) (o : Option Order) (before after : Outside) → (TouchesNoDisk o → DiskIsUntouched before after) → (WritesNothing o → Becomes before.contents after.contents Same) → (ReadsNothing o → after.left ≡ before.left)
     → Meets kind o before after status.NoMemory [] false [] no_account (empty_report 6)
 meets_wanting kind o before after untouched unwritten unread = meets_short kind o before after status.NoMemory [] 6 (λ not. absurd (not refl)) (no_text o) untouched unwritten unread
 
@@ -87,11 +88,6 @@ meets_or_wanting kind o before after wanted told untouched unwritten unread meet
   | inr e ↦ subst (MeetsUnopened kind o before after) (sym e) (meets_wanting kind o before after untouched unwritten unread)
 ]
 
-pub wanted : (kind : Kind) (o : Option Order) (before after : Outside) (told : Telling) → DiskIsUntouched before after → (ReadsNothing o → after.left ≡ before.left)
-    → IsOrWanting (short_telling status.NoMemory) told → MeetsUnopened kind o before after told
-wanted kind o before after told untouched unread is =
-    meets_or_wanting kind o before after (short_telling status.NoMemory) told (λ t. untouched) (λ w. unmoved before after untouched) unread (meets_wanting kind o before after (λ t. untouched) (λ w. unmoved before after untouched) unread) is
-
 -- ---- by what was prepared
 
 met_by_order : (o : Option Order) (met : Status) (before after : Outside) → IsPrepared o (prepared.Ended met) before.left after.left before.source_faults after.source_faults → DiskIsUntouched before after → MetBy o met before after
@@ -101,6 +97,7 @@ met_by_order (Some order.Show) met before after h untouched = let f : prepared.E
 met_by_order (Some (order.Make n)) met before after h untouched = let f : prepared.Ended met ≡ prepared.Make n = h in cc
 met_by_order (Some (order.Work n sizes)) met before after h untouched = let f : prepared.Ended met ≡ prepared.Work n (setting_of sizes (Some n) false) = h.0 in cc
 met_by_order (Some order.Check) met before after h untouched = let f : prepared.Ended met ≡ prepared.Check = h in cc
+met_by_order (Some (order.Copy table)) met before after h untouched = let f : prepared.Ended met ≡ prepared.Copy table = h in cc
 
 text_by_order : (o : Option Order) (met : Status) (a b : Option (List ℕ)) (f g : ℕ) → IsPrepared o (prepared.Ended met) a b f g → short_text met ≡ text_for o met
 text_by_order None met a b f g h = refl
@@ -109,6 +106,7 @@ text_by_order (Some order.Show) met a b f g h = refl
 text_by_order (Some (order.Make n)) met a b f g h = let f : prepared.Ended met ≡ prepared.Make n = h in cc
 text_by_order (Some (order.Work n sizes)) met a b f g h = let f : prepared.Ended met ≡ prepared.Work n (setting_of sizes (Some n) false) = h.0 in cc
 text_by_order (Some order.Check) met a b f g h = refl
+text_by_order (Some (order.Copy table)) met a b f g h = refl
 
 pub ended : (kind : Kind) (o : Option Order) (before after : Outside) (met : Status) (told : Telling)
     → IsPrepared o (prepared.Ended met) before.left after.left before.source_faults after.source_faults → DiskIsUntouched before after → (ReadsNothing o → after.left ≡ before.left)
@@ -128,6 +126,7 @@ made_by (Some order.Show) n before after h = let f : prepared.Make n ≡ prepare
 made_by (Some (order.Make k)) n before after h = (refl, ap (λ i. script_text (made i)) (same_number n k h))
 made_by (Some (order.Work k sizes)) n before after h = let f : prepared.Make n ≡ prepared.Work k (setting_of sizes (Some k) false) = h.0 in cc
 made_by (Some order.Check) n before after h = let f : prepared.Make n ≡ prepared.Check = h in cc
+made_by (Some (order.Copy table)) n before after h = let f : prepared.Make n ≡ prepared.Copy table = h in cc
 
 pub is_made : (kind : Kind) (o : Option Order) (before after : Outside) (n : ℕ) (told : Telling)
     → IsPrepared o (prepared.Make n) before.left after.left before.source_faults after.source_faults → DiskIsUntouched before after → (ReadsNothing o → after.left ≡ before.left)
@@ -176,6 +175,7 @@ unfailed Keeps account status.NoMemory report is runs e = cc
 unfailed Keeps account (status.Damaged volume at) report is runs e = cc
 unfailed Keeps account (status.Sound pages rows) report is runs e = absurd runs
 unfailed Keeps account (status.Unsound breach) report is runs e = absurd runs
+unfailed Keeps account (status.ImageRefused at) report is runs e = absurd runs
 unfailed Keeps account (status.SelfCheckFailed event) report is runs e = cc
 
 text_when : (work : Option ℕ) (b : Bool) (report : Report) → told_text work report ≡ run_text work (cond b status.DiskFailed status.Done) report
@@ -255,29 +255,8 @@ played_unfailed kind script seed trace before after account rows report plays ze
 
 -- ---- by what the words order
 
-pub sizes_by : (o : Option Order) (script : Script) (given : Setting) (a b : Option (List ℕ)) (f g : ℕ) → IsPrepared o (prepared.Play script given) a b f g → AreSizes given.sizes
-sizes_by None script given a b f g h = let f : prepared.Play script given ≡ prepared.Ended status.WordsRefused = h in cc
-sizes_by (Some (order.Play sizes seed trace)) script given a b f g h = subst (λ (s : Setting). AreSizes s.sizes) (sym h.1) h.2
-sizes_by (Some order.Show) script given a b f g h = let f : prepared.Play script given ≡ prepared.Show = h in cc
-sizes_by (Some (order.Make n)) script given a b f g h = let f : prepared.Play script given ≡ prepared.Make n = h in cc
-sizes_by (Some (order.Work n sizes)) script given a b f g h = let f : prepared.Play script given ≡ prepared.Work n (setting_of sizes (Some n) false) = h.0 in cc
-sizes_by (Some order.Check) script given a b f g h = let f : prepared.Play script given ≡ prepared.Check = h in cc
-
 same_work : (n k : ℕ) (given setting : Setting) → prepared.Work n given ≡ prepared.Work k setting → n ≡ k
 same_work n k given setting e = cc
-
-same_setting : (n k : ℕ) (given setting : Setting) → prepared.Work n given ≡ prepared.Work k setting → given ≡ setting
-same_setting n k given setting e = cc
-
-pub work_by : (o : Option Order) (n : ℕ) (given : Setting) (a b : Option (List ℕ)) (f g : ℕ) → IsPrepared o (prepared.Work n given) a b f g → AreSizes given.sizes × ((given.trace ≡ false) × (given.seed ≡ Some n))
-work_by None n given a b f g h = let f : prepared.Work n given ≡ prepared.Ended status.WordsRefused = h in cc
-work_by (Some (order.Play sizes seed trace)) n given a b f g h = absurd h
-work_by (Some order.Show) n given a b f g h = let f : prepared.Work n given ≡ prepared.Show = h in cc
-work_by (Some (order.Make k)) n given a b f g h = let f : prepared.Work n given ≡ prepared.Make k = h in cc
-work_by (Some (order.Work k sizes)) n given a b f g h =
-    let e = same_setting n k given (setting_of sizes (Some k) false) h.0 in
-    (subst (λ (s : Setting). AreSizes s.sizes) (sym e) h.1, (ap (λ (s : Setting). s.trace) e, ap (λ (s : Setting). s.seed) e ∙ ap Some (sym (same_work n k given (setting_of sizes (Some k) false) h.0))))
-work_by (Some order.Check) n given a b f g h = let f : prepared.Work n given ≡ prepared.Check = h in cc
 
 play_opens : (kind : Kind) (sizes : Sizes) (seed : Option ℕ) (trace : Bool) (before after : Outside) (account : Account) (script : Script) → IsRead sizes.members before.left after.left script
     → Opens kind (Some (order.Play sizes seed trace)) before after account (PlaysFrom kind script seed trace before after account)
@@ -336,6 +315,7 @@ plays kind (Some order.Show) before after account script given out opened openin
 plays kind (Some (order.Make n)) before after account script given out opened opening t h comes told = let f : prepared.Play script given ≡ prepared.Make n = h in cc
 plays kind (Some (order.Work n sizes)) before after account script given out opened opening t h comes told = let f : prepared.Play script given ≡ prepared.Work n (setting_of sizes (Some n) false) = h.0 in cc
 plays kind (Some order.Check) before after account script given out opened opening t h comes told = let f : prepared.Play script given ≡ prepared.Check = h in cc
+plays kind (Some (order.Copy table)) before after account script given out opened opening t h comes told = let f : prepared.Play script given ≡ prepared.Copy table = h in cc
 
 pub shows : (kind : Kind) (o : Option Order) (before after : Outside) (account : Account) (out : Outcome) (opened : Bool) (opening : List Row) (t : Telling)
     → IsPrepared o prepared.Show before.left after.left before.source_faults after.source_faults → (ReadsNothing o → after.left ≡ before.left) → account ≡ no_account
@@ -348,6 +328,7 @@ shows kind (Some order.Show) before after account out opened opening t h unread 
 shows kind (Some (order.Make n)) before after account out opened opening t h unread none comes told = let f : prepared.Show ≡ prepared.Make n = h in cc
 shows kind (Some (order.Work n sizes)) before after account out opened opening t h unread none comes told = let f : prepared.Show ≡ prepared.Work n (setting_of sizes (Some n) false) = h.0 in cc
 shows kind (Some order.Check) before after account out opened opening t h unread none comes told = let f : prepared.Show ≡ prepared.Check = h in cc
+shows kind (Some (order.Copy table)) before after account out opened opening t h unread none comes told = let f : prepared.Show ≡ prepared.Copy table = h in cc
 
 pub works : (kind : Kind) (o : Option Order) (before after : Outside) (account : Account) (n : ℕ) (given : Setting) (opened : Bool) (opening : List Row) (t : Telling)
     → IsPrepared o (prepared.Work n given) before.left after.left before.source_faults after.source_faults → (ReadsNothing o → after.left ≡ before.left)
@@ -362,6 +343,7 @@ works kind (Some (order.Work k sizes)) before after account n given opened openi
     let told = subst (λ (i : ℕ). TellsOutcome (Some i) does.outcome opened opening t) e does.told_is in
     of_outcome kind (Some (order.Work k sizes)) before after account (PlaysFrom kind (made k) (Some k) false before after account) does.outcome opened opening t (work_opens kind k sizes before after account (unread tt)) its told
 works kind (Some order.Check) before after account n given opened opening t h unread does = let f : prepared.Work n given ≡ prepared.Check = h in cc
+works kind (Some (order.Copy table)) before after account n given opened opening t h unread does = let f : prepared.Work n given ≡ prepared.Copy table = h in cc
 
 -- ---- by what the check of a disk came to
 
@@ -389,6 +371,7 @@ checks kind (Some order.Show) before after t h unread does = let f : prepared.Ch
 checks kind (Some (order.Make n)) before after t h unread does = let f : prepared.Check ≡ prepared.Make n = h in cc
 checks kind (Some (order.Work n sizes)) before after t h unread does = let f : prepared.Check ≡ prepared.Work n (setting_of sizes (Some n) false) = h.0 in cc
 checks kind (Some order.Check) before after t h unread does = meets_checked kind before after does.came t (unread tt) does.checked does.told_is
+checks kind (Some (order.Copy table)) before after t h unread does = let f : prepared.Check ≡ prepared.Copy table = h in cc
 
 -- ---- no call meets a failed sink
 
@@ -399,6 +382,7 @@ short_no_sink (Some order.Show) before after h = h
 short_no_sink (Some (order.Make n)) before after h = let f : status.SinkFailed ≡ status.Done = h in cc
 short_no_sink (Some (order.Work n sizes)) before after h = h
 short_no_sink (Some order.Check) before after h = h
+short_no_sink (Some (order.Copy table)) before after h = h
 
 ran_no_sink : (kind : Kind) (o : Option Order) (before after : Outside) (opening : List Row) (account : Account) (report : Report) → RanBy kind o status.SinkFailed before after opening account report → ⊥
 ran_no_sink kind None before after opening account report h = h
@@ -407,6 +391,7 @@ ran_no_sink kind (Some order.Show) before after opening account report h = h
 ran_no_sink kind (Some (order.Make n)) before after opening account report h = h
 ran_no_sink kind (Some (order.Work n sizes)) before after opening account report h = h
 ran_no_sink kind (Some order.Check) before after opening account report h = h
+ran_no_sink kind (Some (order.Copy table)) before after opening account report h = h
 
 pub no_sink : (kind : Kind) (o : Option Order) (before after : Outside) (met : Status) (text : List ℕ) (opened : Bool) (opening : List Row) (account : Account) (report : Report)
     → Meets kind o before after met text opened opening account report → met ≡ status.SinkFailed → ⊥

@@ -17,6 +17,9 @@ use Rattle.checked_run.specs.declared.ended.Outcome.{Outcome}
 use Rattle.checked_run.specs.Outcomes.{Comes, IsOpening, Plays, Shows}
 use Rattle.disk_orders.specs.Checks.{IsSound, IsUnsound, IsChecked}
 use Rattle.disk_orders.specs.declared.checks.Checked.{Checked}
+use Rattle.disk_orders.specs.Copying.{IsCopied}
+use Rattle.disk_orders.specs.declared.copies.Copied.{Copied}
+use Rattle.disk_orders.specs.declared.copies.Copied.TheVariants as copied
 use Rattle.group_words.specs.declared.order.Order.{Order}
 use Rattle.group_words.specs.declared.order.Order.TheVariants as order
 use Rattle.group_run.specs.declared.status.Status.{Status}
@@ -26,7 +29,7 @@ use Rattle.group_run.specs.Outside.{Outside, DiskIsUntouched}
 use Rattle.group_run.specs.Read.{IsRead}
 use Rattle.group_run.specs.Prepares.{MetBySource, ReadsNothing}
 use Rattle.group_run.specs.Reports.{empty_report}
-use Rattle.group_run.specs.Tellings.{told_text, short_telling, checked_status, IsOrWanting, TellsOutcome}
+use Rattle.group_run.specs.Tellings.{told_text, short_telling, checked_status, copy_status, IsOrWanting, TellsOutcome}
 use Rattle.group_run.specs.declared.telling.Telling.{Telling}
 
 -- ---- what holds where a call meets a status and opens no disk
@@ -43,6 +46,7 @@ MetByDisk status.NoMemory before after = Unit {0}
 MetByDisk (status.Damaged volume at) before after = Unit {0}
 MetByDisk (status.Sound pages rows) before after = ⊥
 MetByDisk (status.Unsound breach) before after = ⊥
+MetByDisk (status.ImageRefused at) before after = ⊥
 MetByDisk (status.SelfCheckFailed event) before after = ⊥
 
 -- the disk was checked: it is sound, with so many pages and rows, or this clause is the first that doesn't hold
@@ -57,6 +61,7 @@ MetByCheck status.NoMemory before after = Unit {0}
 MetByCheck (status.Damaged volume at) before after = ⊥
 MetByCheck (status.Sound pages rows) before after = IsSound before.contents pages rows
 MetByCheck (status.Unsound breach) before after = IsUnsound before.contents breach
+MetByCheck (status.ImageRefused at) before after = ⊥
 MetByCheck (status.SelfCheckFailed event) before after = ⊥
 
 -- the source gave no script, and the disk wasn't touched; or it gave one
@@ -73,6 +78,7 @@ MetBy (Some order.Show) met before after = MetByDisk met before after
 MetBy (Some (order.Make n)) met before after = met ≡ status.Done
 MetBy (Some (order.Work n sizes)) met before after = MetByDisk met before after
 MetBy (Some order.Check) met before after = MetByCheck met before after
+MetBy (Some (order.Copy table)) met before after = ⊥
 
 -- ---- what holds where a call has opened the disk and meets a status
 
@@ -88,6 +94,7 @@ RunsTo Keeps status.NoMemory report = report ≡ empty_report 6
 RunsTo Keeps (status.Damaged volume at) report = Keeps (ending.Damaged volume at) × (report ≡ empty_report 7)
 RunsTo Keeps (status.Sound pages rows) report = ⊥
 RunsTo Keeps (status.Unsound breach) report = ⊥
+RunsTo Keeps (status.ImageRefused at) report = ⊥
 RunsTo Keeps (status.SelfCheckFailed event) report = Keeps (ending.Unsound event) × (report ≡ empty_report 11)
 
 -- what a script comes to that is played by this seed from these rows
@@ -105,6 +112,7 @@ RanBy kind (Some order.Show) met before after opening account report = RunsTo (S
 RanBy kind (Some (order.Make n)) met before after opening account report = ⊥
 RanBy kind (Some (order.Work n sizes)) met before after opening account report = RunsTo (PlaysFrom kind (made n) (Some n) false before after account opening) met report
 RanBy kind (Some order.Check) met before after opening account report = ⊥
+RanBy kind (Some (order.Copy table)) met before after opening account report = ⊥
 
 -- ---- what is written
 
@@ -116,6 +124,7 @@ work_of (Some order.Show) = None
 work_of (Some (order.Make n)) = None
 work_of (Some (order.Work n sizes)) = Some n
 work_of (Some order.Check) = None
+work_of (Some (order.Copy table)) = None
 
 -- where the disk was opened: the report, or its line for the work of a number; or the text of a status without one
 abbrev pub run_text : Option ℕ → Status → Report → List ℕ
@@ -129,6 +138,7 @@ run_text work status.NoMemory report = short_text status.NoMemory
 run_text work (status.Damaged volume at) report = short_text (status.Damaged volume at)
 run_text work (status.Sound pages rows) report = short_text (status.Sound pages rows)
 run_text work (status.Unsound breach) report = short_text (status.Unsound breach)
+run_text work (status.ImageRefused at) report = short_text (status.ImageRefused at)
 run_text work (status.SelfCheckFailed event) report = short_text (status.SelfCheckFailed event)
 
 -- where it wasn't: the script of a number, or the text of the status
@@ -171,6 +181,7 @@ TouchesNoDisk (Some order.Show) = ⊥
 TouchesNoDisk (Some (order.Make n)) = Unit {0}
 TouchesNoDisk (Some (order.Work n sizes)) = ⊥
 TouchesNoDisk (Some order.Check) = ⊥
+TouchesNoDisk (Some (order.Copy table)) = ⊥
 
 -- the order is one for which nothing is written to a disk
 abbrev pub WritesNothing : Option Order → Type 0
@@ -180,6 +191,7 @@ WritesNothing (Some order.Show) = ⊥
 WritesNothing (Some (order.Make n)) = Unit {0}
 WritesNothing (Some (order.Work n sizes)) = ⊥
 WritesNothing (Some order.Check) = Unit {0}
+WritesNothing (Some (order.Copy table)) = ⊥
 
 -- the order is one for which nothing is played
 abbrev pub PlaysNothing : Option Order → Type 0
@@ -189,6 +201,7 @@ PlaysNothing (Some order.Show) = Unit {0}
 PlaysNothing (Some (order.Make n)) = Unit {0}
 PlaysNothing (Some (order.Work n sizes)) = ⊥
 PlaysNothing (Some order.Check) = Unit {0}
+PlaysNothing (Some (order.Copy table)) = Unit {0}
 
 -- over a kind of disks: which status a call meets with which text, by what the words order and by whether the disk was opened, and what is
 -- kept of the events of a run
@@ -211,3 +224,32 @@ pub record Ends (kind : Kind) (o : Option Order) (before after : Outside) (ended
   pub meets : Meets kind o before after met text opened opening account report
   pub told : Tells met ended text taken taken_now faults faults_now
   pub wanting : ended ≡ status.NoMemory → Appends taken taken_now []
+
+-- ---- how a copy ends
+
+-- what is told behind a copy: nothing, or, where nothing of the image was written, the text of a status; or memory is wanting for it
+abbrev pub TellsCopy : Copied → Status → Option (List ℕ) → Option (List ℕ) → ℕ → ℕ → Type 0
+TellsCopy (copied.Whole pages) ended taken taken_now faults faults_now = (ended ≡ status.Done) × ((taken_now ≡ taken) × (faults_now ≡ faults))
+TellsCopy (copied.Broken why) ended taken taken_now faults faults_now = (ended ≡ copy_status why) × ((taken_now ≡ taken) × (faults_now ≡ faults))
+TellsCopy (copied.Unopened why) ended taken taken_now faults faults_now =
+    Tells (copy_status why) ended (short_text (copy_status why)) taken taken_now faults faults_now ⊎ ((ended ≡ status.NoMemory) × Appends taken taken_now [])
+
+-- A group restart, and then the image, of which the sink has taken what it took, and nothing behind it.
+pub record FinishesCopy (table : ℕ) (contents contents_now : Option Contents) (disk_faults disk_faults_now : ℕ) (taken taken_now : Option (List ℕ)) (faults faults_now : ℕ) (ended : Status) : Type 0 where
+  pub came : Copied
+  pub taken_by : Option (List ℕ)
+  pub faults_by : ℕ
+  pub copied_is : IsCopied table (record { contents = contents; disk_faults = disk_faults; taken = taken; sink_faults = faults })
+      (record { contents = contents_now; disk_faults = disk_faults_now; taken = taken_by; sink_faults = faults_by }) came
+  pub told : TellsCopy came ended taken_by taken_now faults_by faults_now
+
+-- no run opens, and the source isn't read
+pub record EndsCopy (table : ℕ) (before after : Outside) (ended : Status) (opened : Bool) (opening : List Row) (account : Account) (report : Report) (taken taken_now : Option (List ℕ)) (faults faults_now : ℕ) : Type 0 where
+  pub copies : FinishesCopy table before.contents after.contents before.disk_faults after.disk_faults taken taken_now faults faults_now ended
+  pub unopened : (opened ≡ false) × (opening ≡ []) × (account ≡ no_account) × (report.entries ≡ [])
+  pub unread : after.left ≡ before.left
+
+-- by the order of the words
+abbrev pub EndsBy : Kind → Option Order → Outside → Outside → Status → Bool → List Row → Account → Report → Option (List ℕ) → Option (List ℕ) → ℕ → ℕ → Type 0
+EndsBy kind (Some (order.Copy table)) before after ended opened opening account report taken taken_now faults faults_now = EndsCopy table before after ended opened opening account report taken taken_now faults faults_now
+EndsBy kind o before after ended opened opening account report taken taken_now faults faults_now = Ends kind o before after ended opened opening account report taken taken_now faults faults_now

@@ -13,6 +13,8 @@ use Rattle.checked_run.specs.declared.ended.Outcome.{Outcome}
 use Rattle.checked_run.specs.declared.ended.Outcome.TheVariants as outcome
 use Rattle.disk_orders.specs.declared.checks.Checked.{Checked}
 use Rattle.disk_orders.specs.declared.checks.Checked.TheVariants as checked
+use Rattle.disk_orders.specs.Copying.{CopyFault}
+use Rattle.disk_orders.specs.Copying.fault as copy_fault
 use Rattle.group_run.specs.declared.status.Status.{Status}
 use Rattle.group_run.specs.declared.status.Status.TheVariants as status
 use Rattle.group_run.specs.declared.telling.Telling.{Telling}
@@ -57,6 +59,15 @@ checked_status (checked.Sound pages rows) = status.Sound pages rows
 checked_status (checked.Unsound breach) = status.Unsound breach
 checked_status checked.Failed = status.DiskFailed
 checked_status checked.NoMemory = status.NoMemory
+
+-- why a table was not copied
+abbrev pub copy_status : CopyFault → Status
+copy_status copy_fault.Source = status.SourceFailed
+copy_status copy_fault.Sink = status.SinkFailed
+copy_status copy_fault.Disk = status.DiskFailed
+copy_status (copy_fault.Damaged volume at) = status.Damaged volume at
+copy_status (copy_fault.Image at) = status.ImageRefused at
+copy_status copy_fault.NoMemory = status.NoMemory
 
 -- it is this that is told; or memory is wanting
 abbrev pub IsOrWanting : Telling → Telling → Type 0

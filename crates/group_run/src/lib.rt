@@ -1,6 +1,8 @@
 //! The call that plays a script on a disk and reports what became of it.
 #![tactic(auto)]
 
+mod copies;
+mod finish;
 mod prepare;
 mod run;
 mod status;
@@ -9,5 +11,6 @@ mod telling;
 mod top;
 
 pub use checked_run::{Cause, CauseList, FailList, Gate, Journal, OpenGate};
+pub use finish::Finished;
 pub use status::Status;
-pub use top::{Finished, play};
+pub use top::play;

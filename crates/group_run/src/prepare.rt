@@ -1,9 +1,9 @@
 ghost use Rattle.std.specs.Prelude.{◌≡◌, IfOk};
 ghost use Rattle.group_words.specs.Orders.{AreSizes};
-ghost use Rattle.group_run.specs.Prepares.{ordered, setting_of, IsPrepared, IsPreparedToPlay, ReadsNothing};
+ghost use Rattle.group_run.specs.Prepares.{ordered, setting_of, IsPrepared, IsPreparedToPlay, ReadsNothing, IsAllowed};
 
 use crate::status::Status;
-use ds_base::{NoMemory, Sizes, Source};
+use ds_base::{NoMemory, Sizes, Source, TableId};
 use ds_model::Script;
 use group_words::{Order, WordsFault, read_words, size_laws};
 use script_text::{ScriptError, read_script};
@@ -33,6 +33,8 @@ pub enum Prepared {
     Work(u64, Setting),
     /// The disk is to be checked.
     Check,
+    /// An image of this table is to be written.
+    Copy(TableId),
     Ended(Status),
 }
 
@@ -49,7 +51,8 @@ fn prepare_to_play<S: Source>(
     setting: Setting,
 ) -> Result<Prepared, NoMemory>
     requires { AreSizes setting.sizes }
-    ensures { IfOk result (λ p. IsPreparedToPlay setting p (S.left source.old) (S.left source.new) (S.faults source.old) (S.faults source.new)) }
+    ensures prepared { IfOk result (λ p. IsPreparedToPlay setting p (S.left source.old) (S.left source.new) (S.faults source.old) (S.faults source.new)) }
+    ensures allowed { IfOk result IsAllowed }
 {
     let bytes = match read_all(alloc, source, SCRIPT_LIMIT) {
         Err(ReadError::NoMemory) => return Err(NoMemory),
@@ -71,6 +74,7 @@ pub fn prepare<S: Source>(
 ) -> Result<Prepared, NoMemory>
     ensures prepared { IfOk result (λ p. IsPrepared (ordered words.now) p (S.left source.old) (S.left source.new) (S.faults source.old) (S.faults source.new)) }
     ensures unread { ReadsNothing (ordered words.now) → S.left source.new ≡ S.left source.old }
+    ensures allowed { IfOk result IsAllowed }
 {
     size_laws();
     match read_words(alloc, words) {
@@ -82,6 +86,7 @@ pub fn prepare<S: Source>(
         Ok(Order::Show) => Ok(Prepared::Show),
         Ok(Order::Make { n }) => Ok(Prepared::Make(n)),
         Ok(Order::Check) => Ok(Prepared::Check),
+        Ok(Order::Copy { table }) => Ok(Prepared::Copy(table)),
         Ok(Order::Work { n, sizes }) => Ok(Prepared::Work(n, setting_of(sizes, Some(n), false))),
     }
 }

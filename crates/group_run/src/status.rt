@@ -1,7 +1,7 @@
 ghost use Rattle.std.specs.Prelude.{◌≡◌, ℕ, ◌++◌, OnOk, IfOk, decimal};
 ghost use Rattle.group_run.specs.Statuses.{kind_word, place_text, fault_text, volume_text, damage_text, check_text, short_text};
 
-use disk_orders::{Breach, put_breach, put_sound};
+use disk_orders::{Breach, put_breach, put_image, put_sound};
 use ds_base::{Bytes, NoMemory, Volume};
 use ds_model::{FaultKind, ScriptFault};
 use std::alloc::Global;
@@ -29,6 +29,9 @@ pub enum Status {
     Sound { pages: u64, rows: u64 },
     /// The disk was checked. This is the first clause of a sound disk that doesn't hold, and its first spot.
     Unsound(Breach),
+    /// The source is no image of the table for this disk. The field that begins at this byte can't stand there, or the image ends there and
+    /// should not, or should end there and does not.
+    ImageRefused { at: u64 },
     /// What was wanted in this event may not be done; or, where it is 0, the report isn't sound. It is a defect of the program,
     /// or of a disk that doesn't give back what was written.
     SelfCheckFailed { event: u64 },
@@ -50,6 +53,7 @@ impl Status {
             Status::DiskFailed => 5,
             Status::NoMemory => 6,
             Status::Damaged { .. } => 7,
+            Status::ImageRefused { .. } => 9,
             Status::Unsound(_) => 10,
             Status::SelfCheckFailed { .. } => 11,
         }
@@ -131,6 +135,7 @@ fn fixed_text(status: &Status) -> &'static [u8]
     requires undamaged { (v : Volume) (at : ℕ) → status.now ≡ Status.Damaged v at → ⊥ }
     requires sound { (pages rows : ℕ) → status.now ≡ Status.Sound pages rows → ⊥ }
     requires whole { (breach : Breach) → status.now ≡ Status.Unsound breach → ⊥ }
+    requires taken { (at : ℕ) → status.now ≡ Status.ImageRefused at → ⊥ }
     requires checked { (event : ℕ) → status.now ≡ Status.SelfCheckFailed event → ⊥ }
     ensures { result.now ≡ short_text status.now }
 {
@@ -145,6 +150,7 @@ fn fixed_text(status: &Status) -> &'static [u8]
         | Status::Damaged { .. }
         | Status::Sound { .. }
         | Status::Unsound(_)
+        | Status::ImageRefused { .. }
         | Status::SelfCheckFailed { .. } => b"",
     }
 }
@@ -159,6 +165,7 @@ pub fn text_of(alloc: Global, status: &Status) -> Result<Bytes, NoMemory>
         Status::Damaged { volume, at } => put_damage(alloc, &mut out, volume, *at)?,
         Status::Sound { pages, rows } => put_sound(alloc, &mut out, *pages, *rows)?,
         Status::Unsound(breach) => put_breach(alloc, &mut out, breach)?,
+        Status::ImageRefused { at } => put_image(alloc, &mut out, *at)?,
         Status::SelfCheckFailed { event } => put_check(alloc, &mut out, *event)?,
         other => out.extend(fixed_text(other))?,
     }

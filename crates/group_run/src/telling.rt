@@ -2,12 +2,12 @@
 
 ghost use Rattle.std.specs.Prelude.{◌≡◌, IfOk};
 ghost use Rattle.group_run.specs.Reports.{empty_report};
-ghost use Rattle.group_run.specs.Tellings.{short_telling, script_telling, met_by, told_text, telling_of, fault_status, checked_status, IsOrWanting};
+ghost use Rattle.group_run.specs.Tellings.{short_telling, script_telling, met_by, told_text, telling_of, fault_status, checked_status, copy_status, IsOrWanting};
 
 use crate::status::{Status, text_of};
 use crate::summary::write_summary;
 use checked_run::{Ended, RunFault, plain_report};
-use disk_orders::Checked;
+use disk_orders::{Checked, CopyFault};
 use ds_base::{Bytes, NoMemory, RowList};
 use ds_model::Report;
 use report_text::write_report;
@@ -23,8 +23,8 @@ pub struct Telling {
     pub report: Report,
 }
 
-// A report of nothing that was done over no rows.
-fn empty_report(alloc: Global, status: u8) -> Report
+/// A report of nothing that was done over no rows.
+pub fn empty_report(alloc: Global, status: u8) -> Report
     ensures { result ≡ empty_report status }
 {
     plain_report(alloc, RowList::new(alloc), status)
@@ -118,6 +118,20 @@ pub fn checked_status(told: Checked) -> Status
         Checked::Unsound(breach) => Status::Unsound(breach),
         Checked::Failed => Status::DiskFailed,
         Checked::NoMemory => Status::NoMemory,
+    }
+}
+
+/// The status of a table that was not copied.
+pub fn copy_status(why: CopyFault) -> Status
+    ensures { result ≡ copy_status why }
+{
+    match why {
+        CopyFault::Source => Status::SourceFailed,
+        CopyFault::Sink => Status::SinkFailed,
+        CopyFault::Disk => Status::DiskFailed,
+        CopyFault::Damaged { volume, at } => Status::Damaged { volume, at },
+        CopyFault::Image { at } => Status::ImageRefused { at },
+        CopyFault::NoMemory => Status::NoMemory,
     }
 }
 

@@ -1,64 +1,34 @@
-ghost use Rattle.std.specs.Prelude.{◌≡◌, true, false, [], Option};
+ghost use Rattle.std.specs.Prelude.{◌≡◌, ℕ, true, false, List, [], Option};
 ghost use Rattle.ds_disk.specs.Contents.{Contents, Becomes};
 ghost use Rattle.disk_restart.specs.Keeping.{KeepsRecords};
 ghost use Rattle.member_core.specs.declared.member.Member.{Member as AnyMember};
 ghost use Rattle.checked_run.specs.Accounts.{no_account};
 ghost use Rattle.checked_run.specs.Leading.{kind_of};
 ghost use Rattle.checked_run.specs.Outcomes.{IsLeft};
-ghost use Rattle.group_run.specs.Outside.{outside};
-ghost use Rattle.group_run.specs.Prepares.{ordered};
-ghost use Rattle.group_run.specs.Tellings.{TellsOutcome};
 ghost use Rattle.group_words.specs.Orders.{AreSizes};
-ghost use Rattle.group_run.specs.Ends.{Tells, Meets, Works, Checks, Ends};
+ghost use Rattle.group_words.specs.declared.order.Order.{Order};
+ghost use Rattle.group_run.specs.Outside.{outside};
+ghost use Rattle.group_run.specs.Prepares.{ordered, IsPrepared, ReadsNothing, IsAllowed, IsNoCopy};
+ghost use Rattle.group_run.specs.Tellings.{TellsOutcome};
+ghost use Rattle.group_run.specs.Ends.{Tells, Meets, Works, Checks, EndsBy};
 
+use crate::copies::finish_copy;
+use crate::finish::{Finished, finish_unopened, tell};
 use crate::prepare::{Prepared, Setting, prepare};
 use crate::run::run;
 use crate::status::Status;
 use crate::telling::{
     Telling, checked_status, fault_status, or_wanting, script_telling, short_telling, telling_of,
 };
-use checked_run::{
-    Account, CauseList, FailList, Gate, Journal, Outcome, Ran, no_account, show_disk,
-};
+use checked_run::{Account, Gate, Outcome, Ran, no_account, show_disk};
 use disk_orders::check;
 use disk_restart::keeping_laws;
 use ds_base::{NoMemory, RowList, Sink, Source};
 use ds_disk::Disk;
-use ds_model::Report;
 use std::alloc::Global;
 use std::sync::Wait;
 use std::thread::Threads;
-use whole_streams::write_all;
 use work_maker::make_script;
-
-/// What a call leaves.
-///
-/// `opened` says whether the words and the script were in order, the logs of the disk were read, and the opening group restart was
-/// done, so that a run began. `opening` has the rows for which the logs stood before. `journal` has the numbers of the run's events,
-/// `causes` the transactions that were refused, each with the place of the event in which the cause held, and `faults` the places of the
-/// events in which a call of the disk failed. Where no run began these four are empty, and the report has no entries.
-#[derive(Drop)]
-pub struct Finished<D> {
-    pub status: Status,
-    pub opened: bool,
-    pub disk: D,
-    pub report: Report,
-    pub journal: Journal,
-    pub causes: CauseList,
-    pub faults: FailList,
-    pub opening: RowList,
-}
-
-/// Writes the text of a status, and answers the status that stands in the end.
-fn tell<K: Sink>(sink: &mut K, met: Status, text: &[u8]) -> Status
-    requires { met ≡ Status.SinkFailed → ⊥ }
-    ensures { Tells met result text.now (K.taken sink.old) (K.taken sink.new) (K.faults sink.old) (K.faults sink.new) }
-{
-    match write_all(sink, text) {
-        Ok(()) => met,
-        Err(_) => Status::SinkFailed,
-    }
-}
 
 // What a call has come to, before it is told.
 #[derive(Drop)]
@@ -155,70 +125,48 @@ fn perform_check<D: Disk>(alloc: Global, mut disk: D) -> Came<D>
     unopened(alloc, disk, or_wanting(alloc, telling))
 }
 
-// All that a call does but tell it.
-fn perform<R: Threads + Wait + Sync, S: Source, D: Disk + Send, G: Gate + Sync>(
+// All that a call does behind the words and the script, but tell it, for an order that isn't a copy.
+fn perform<R: Threads + Wait + Sync, D: Disk + Send, G: Gate + Sync>(
     rt: &R,
     alloc: Global,
-    words: &[String],
-    source: &mut S,
+    prepared: Prepared,
     disk: D,
     gate: &G,
 ) -> Came<D>
-    ensures meets { Meets (kind_of AnyMember D.alive D.contents D.faults) (ordered words.now)
-        (outside (S.left source.old) (S.faults source.old) (D.contents disk) (D.alive disk) (D.faults disk))
-        (outside (S.left source.new) (S.faults source.new) (D.contents result.disk) (D.alive result.disk) (D.faults result.disk))
+    requires allowed { IsAllowed prepared }
+    requires uncopied { IsNoCopy prepared }
+    ensures meets { (o : Option Order) (left left_now : Option (List ℕ)) (faults faults_now : ℕ) → IsPrepared o prepared left left_now faults faults_now → (ReadsNothing o → left_now ≡ left)
+        → Meets (kind_of AnyMember D.alive D.contents D.faults) o
+        (outside left faults (D.contents disk) (D.alive disk) (D.faults disk))
+        (outside left_now faults_now (D.contents result.disk) (D.alive result.disk) (D.faults result.disk))
         result.telling.status result.telling.text result.opened result.opening result.account result.telling.report }
     ensures left { result.opened ≡ false → Becomes (D.contents disk) (D.contents result.disk) KeepsRecords }
 {
     keeping_laws();
-    match prepare(alloc, words, source) {
-        Err(NoMemory) => unopened(alloc, disk, or_wanting(alloc, Err(NoMemory))),
-        Ok(Prepared::Ended(met)) => {
+    match prepared {
+        Prepared::Ended(met) => {
             let telling = short_telling(alloc, met);
             unopened(alloc, disk, or_wanting(alloc, telling))
         }
-        Ok(Prepared::Make(n)) => {
+        Prepared::Make(n) => {
             let telling = script_telling(alloc, n);
             unopened(alloc, disk, or_wanting(alloc, telling))
         }
-        Ok(Prepared::Show) => came_of(alloc, None, show_disk(alloc, disk)),
-        Ok(Prepared::Play(script, setting)) => {
+        Prepared::Show => came_of(alloc, None, show_disk(alloc, disk)),
+        Prepared::Play(script, setting) => {
             came_of(alloc, None, run(rt, alloc, disk, &script, &setting, gate))
         }
-        Ok(Prepared::Work(n, setting)) => perform_work(rt, alloc, disk, n, &setting, gate),
-        Ok(Prepared::Check) => perform_check(alloc, disk),
+        Prepared::Work(n, setting) => perform_work(rt, alloc, disk, n, &setting, gate),
+        Prepared::Check => perform_check(alloc, disk),
+        Prepared::Copy(_) => unreachable!(),
     }
 }
 
-/// Does what the words order: plays the script of the source on the disk, or shows the disk, and writes the report to the sink;
-/// or plays the script of a number, and writes how many transactions met which fate; or writes the script of a number; or checks the
-/// disk, and writes whether it is sound.
-///
-/// The words are the command line without the program's name. For a script the source is read to its end, or to the first byte past
-/// the longest script. Then the logs of the disk are read, and a group restart opens it; the script is run; another group restart
-/// closes the disk. The report is held against the script, the rows before and the logs, and where it isn't sound the status says so.
-/// The sink gets the report, its one line for the work of a number, or the one line of a status.
-///
-/// With a seed this thread plays all, and no gate is passed. Without one each member of a phase has a thread, which passes the gate
-/// before each of its events.
-pub fn play<R: Threads + Wait + Sync, S: Source, K: Sink, D: Disk + Send, G: Gate + Sync>(
-    rt: &R,
-    alloc: Global,
-    words: &[String],
-    source: &mut S,
-    sink: &mut K,
-    disk: D,
-    gate: &G,
-) -> Finished<D>
-    ensures ends { Ends (kind_of AnyMember D.alive D.contents D.faults) (ordered words.now)
-        (outside (S.left source.old) (S.faults source.old) (D.contents disk) (D.alive disk) (D.faults disk))
-        (outside (S.left source.new) (S.faults source.new) (D.contents result.disk) (D.alive result.disk) (D.faults result.disk))
-        result.status result.opened result.opening
-        (record { journal = result.journal; causes = result.causes; faults = result.faults })
-        result.report
-        (K.taken sink.old) (K.taken sink.new) (K.faults sink.old) (K.faults sink.new) }
-    // What the logs of a disk say of rows isn't touched where no run began.
-    ensures left { result.opened ≡ false → Becomes (D.contents disk) (D.contents result.disk) KeepsRecords }
+// Tells what a call has come to.
+fn finish<D, K: Sink>(sink: &mut K, came: Came<D>) -> Finished<D>
+    requires { came.telling.status ≡ Status.SinkFailed → ⊥ }
+    ensures told { Tells came.telling.status result.status came.telling.text (K.taken sink.old) (K.taken sink.new) (K.faults sink.old) (K.faults sink.new) }
+    ensures rest { result ≡ record { status = result.status; opened = came.opened; disk = came.disk; report = came.telling.report; journal = came.account.journal; causes = came.account.causes; faults = came.account.faults; opening = came.opening } }
 {
     let Came {
         disk,
@@ -226,7 +174,7 @@ pub fn play<R: Threads + Wait + Sync, S: Source, K: Sink, D: Disk + Send, G: Gat
         opening,
         account,
         telling,
-    } = perform(rt, alloc, words, source, disk, gate);
+    } = came;
     let Account {
         journal,
         causes,
@@ -246,5 +194,43 @@ pub fn play<R: Threads + Wait + Sync, S: Source, K: Sink, D: Disk + Send, G: Gat
         causes,
         faults,
         opening,
+    }
+}
+
+/// Does what the words order: plays the script of the source on the disk, or shows the disk, and writes the report to the sink;
+/// or plays the script of a number, and writes how many transactions met which fate; or writes the script of a number; or checks the
+/// disk, and writes whether it is sound; or writes an image of a table.
+///
+/// The words are the command line without the program's name. For a script the source is read to its end, or to the first byte past
+/// the longest script. Then the logs of the disk are read, and a group restart opens it; the script is run; another group restart
+/// closes the disk. The report is held against the script, the rows before and the logs, and where it isn't sound the status says so.
+/// The sink gets the report, its one line for the work of a number, or the one line of a status.
+///
+/// With a seed this thread plays all, and no gate is passed. Without one each member of a phase has a thread, which passes the gate
+/// before each of its events.
+pub fn play<R: Threads + Wait + Sync, S: Source, K: Sink, D: Disk + Send, G: Gate + Sync>(
+    rt: &R,
+    alloc: Global,
+    words: &[String],
+    source: &mut S,
+    sink: &mut K,
+    disk: D,
+    gate: &G,
+) -> Finished<D>
+    ensures ends { EndsBy (kind_of AnyMember D.alive D.contents D.faults) (ordered words.now)
+        (outside (S.left source.old) (S.faults source.old) (D.contents disk) (D.alive disk) (D.faults disk))
+        (outside (S.left source.new) (S.faults source.new) (D.contents result.disk) (D.alive result.disk) (D.faults result.disk))
+        result.status result.opened result.opening
+        (record { journal = result.journal; causes = result.causes; faults = result.faults })
+        result.report
+        (K.taken sink.old) (K.taken sink.new) (K.faults sink.old) (K.faults sink.new) }
+    // What the logs of a disk say of rows isn't touched where no run began.
+    ensures left { result.opened ≡ false → Becomes (D.contents disk) (D.contents result.disk) KeepsRecords }
+{
+    keeping_laws();
+    match prepare(alloc, words, source) {
+        Err(NoMemory) => finish_unopened(alloc, disk, Status::NoMemory),
+        Ok(Prepared::Copy(table)) => finish_copy(alloc, disk, sink, table),
+        Ok(prepared) => finish(sink, perform(rt, alloc, prepared, disk, gate)),
     }
 }

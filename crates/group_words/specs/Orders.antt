@@ -1,5 +1,5 @@
 -- What the words of a command line order.
-use Rattle.std.specs.Prelude.{ℕ, ◌≤◌, Bool, false, ◌&&◌, ◌||◌, ◌==◌, if◌then◌else◌, List, [], ◌∷◌, map, Option, Some, None, option_map, option_and_then, is_some, codes}
+use Rattle.std.specs.Prelude.{ℕ, ◌≤◌, Bool, false, nat_le, ◌&&◌, ◌||◌, ◌==◌, if◌then◌else◌, List, [], ◌∷◌, map, Option, Some, None, option_map, option_and_then, is_some, codes}
 use Rattle.std.specs.Prelude.{String}
 use Rattle.std.specs.Global.{Global}
 use Rattle.std.specs.List.{list_all}
@@ -13,7 +13,7 @@ use Rattle.group_words.specs.Parsed.{is_well_formed}
 use Rattle.group_words.specs.declared.given.Given.{Given}
 use Rattle.group_words.specs.declared.setting.Setting.TheVariants.{Members, Agents, Locks, Records, Cache, Pool, Pages, Seed, Trace}
 use Rattle.group_words.specs.declared.order.Order.{Order}
-use Rattle.group_words.specs.declared.order.Order.TheVariants.{Play, Show, Make, Work, Check}
+use Rattle.group_words.specs.declared.order.Order.TheVariants.{Play, Show, Make, Work, Check, Copy}
 
 abbrev pub sizes_of : List Given → Sizes
 sizes_of given = record {
@@ -40,6 +40,17 @@ abbrev pub check_order : List (List ℕ) → Option Order
 check_order [] = Some Check
 check_order (word ∷ words) = None
 
+-- the table of this number
+abbrev pub table_of : ℕ → Option ℕ
+table_of n = if nat_le 1 n && nat_le n 64 then Some n else None
+
+abbrev pub table_in : List (List ℕ) → Option ℕ
+table_in (number ∷ []) = option_and_then table_of (number_of number)
+table_in _ = None
+
+abbrev pub copy_order : List (List ℕ) → Option Order
+copy_order words = option_map Copy (table_in words)
+
 abbrev pub make_order : List (List ℕ) → Option Order
 make_order (number ∷ []) = option_map Make (number_of number)
 make_order _ = None
@@ -61,6 +72,7 @@ order_under command words =
     else if bytes_eq command (codes "make") then make_order words
     else if bytes_eq command (codes "work") then work_order words
     else if bytes_eq command (codes "check") then check_order words
+    else if bytes_eq command (codes "copy") then copy_order words
     else None
 
 -- the order that the words of a command line give, without the program's name
@@ -95,6 +107,7 @@ HasSizes Show = Unit {0}
 HasSizes (Make n) = Unit {0}
 HasSizes (Work n sizes) = AreSizes sizes
 HasSizes Check = Unit {0}
+HasSizes (Copy table) = Unit {0}
 
 -- the words are those of a command that takes options, and words that may be options stand behind it
 abbrev pub may_have_options : List (List ℕ) → Bool

@@ -4,7 +4,7 @@ ghost use Rattle.group_words.specs.Faults.{fault_by};
 ghost use Rattle.group_words.specs.declared.order.WordsFault.TheVariants as faults;
 
 use clap::error::ErrorKind;
-use ds_base::Sizes;
+use ds_base::{Sizes, TableId};
 use std::alloc::{AllocError, AllocFailed};
 use thiserror::Error;
 
@@ -27,6 +27,10 @@ pub enum Order {
     },
     /// Whether the disk is sound is told.
     Check,
+    /// An image of the table is written to the output.
+    Copy {
+        table: TableId,
+    },
 }
 
 /// Why the words gave no order.

@@ -7,7 +7,7 @@ use crate::given::{Given, are_allowed, number_for, number_given, suit_work};
 use crate::order::{Order, WordsFault};
 use crate::parsed::given_once;
 use crate::setting::Setting;
-use ds_base::Sizes;
+use ds_base::{Sizes, TableId};
 use number_text::number_of;
 use std::alloc::Global;
 
@@ -59,6 +59,24 @@ fn check_order(words: &[String]) -> Option<Order>
         [] => Some(Order::Check),
         _ => None,
     }
+}
+
+// The table whose number is the only word.
+fn table_in(words: &[String]) -> Option<TableId>
+    ensures { result ≡ spec.table_in (spec.texts words.now) }
+{
+    match words {
+        [number] => TableId::new(number_of(number.as_bytes())?),
+        _ => None,
+    }
+}
+
+fn copy_order(words: &[String]) -> Option<Order>
+    ensures { result ≡ spec.copy_order (spec.texts words.now) }
+{
+    Some(Order::Copy {
+        table: table_in(words)?,
+    })
 }
 
 fn make_order(words: &[String]) -> Option<Order>
@@ -119,6 +137,8 @@ fn order_under(alloc: Global, command: &[u8], words: &[String]) -> Result<Order,
         work_order(alloc, words)
     } else if command == b"check".as_slice() {
         check_order(words).ok_or(WordsFault::Refused)
+    } else if command == b"copy".as_slice() {
+        copy_order(words).ok_or(WordsFault::Refused)
     } else {
         Err(WordsFault::Refused)
     }
@@ -132,7 +152,8 @@ fn order_under(alloc: Global, command: &[u8], words: &[String]) -> Result<Order,
 /// - `show` with nothing more;
 /// - `make N` with nothing more;
 /// - `work N` with options: measured work;
-/// - `check` with nothing more: whether the disk is sound.
+/// - `check` with nothing more: whether the disk is sound;
+/// - `copy T` with nothing more: an image of a table T from 1 to 64.
 ///
 /// Options stand at most once each, in any order, as `--name N` or as `--name=N`: `--members` 1 to 32 (4 where it
 /// is not given), `--agents` 1 to 16 (8), `--locks` 1 to 65,536 (4,096), `--records` 2 to 65,536 (16,384), `--cache`
