@@ -4,8 +4,8 @@ use Rattle.disk_orders.proofs.copies.copy.Goals as goal
 pub returns-in-Err : goal.returns-in-Err
 returns-in-Err g c = not_begun c.args.table _ _ _ _ _ _ c.in-Err.fault c.in-Err.ensures
 
-pub returns-in-Ok-2 : goal.returns-in-Ok-2
-returns-in-Ok-2 g c = whole c.args.table c.in-Ok.lrsn c.in-Ok-2.pages _ _ _ _ _ _ _ _ _ _ c.in-Ok.ensures c.in-Ok-2.ensures
+pub returns-in-Ok-write_image : goal.returns-in-Ok-write_image
+returns-in-Ok-write_image g c = whole c.args.table c.in-Ok.lrsn c.in-Ok-write_image.pages _ _ _ _ _ _ _ _ _ _ c.in-Ok.ensures c.in-Ok-write_image.ensures
 
-pub returns-in-Err-2 : goal.returns-in-Err-2
-returns-in-Err-2 g c = broken c.args.table c.in-Ok.lrsn c.in-Err-2.fault _ _ _ _ _ _ _ _ _ _ c.in-Ok.ensures c.in-Err-2.ensures
+pub returns-in-Err-write_image : goal.returns-in-Err-write_image
+returns-in-Err-write_image g c = broken c.args.table c.in-Ok.lrsn c.in-Err-write_image.fault _ _ _ _ _ _ _ _ _ _ c.in-Ok.ensures c.in-Err-write_image.ensures
