@@ -116,10 +116,10 @@ copies kind (Some (order.Copy k)) before after n ended opened opening account re
 pub uncopied : (kind : Kind) (o : Option Order) (p : Prepared) (before after : Outside) (ended : Status) (opened : Bool) (opening : List Row) (account : Account) (report : Report) (taken taken_now : Option (List ℕ)) (faults faults_now : ℕ)
     → IsNoCopy p → IsPrepared o p before.left after.left before.source_faults after.source_faults → Ends kind o before after ended opened opening account report taken taken_now faults faults_now
     → EndsBy kind o before after ended opened opening account report taken taken_now faults faults_now
-uncopied kind None p before after ended opened opening account report taken taken_now faults faults_now no h ends = ends
-uncopied kind (Some (order.Play sizes seed trace)) p before after ended opened opening account report taken taken_now faults faults_now no h ends = ends
-uncopied kind (Some order.Show) p before after ended opened opening account report taken taken_now faults faults_now no h ends = ends
-uncopied kind (Some (order.Make n)) p before after ended opened opening account report taken taken_now faults faults_now no h ends = ends
-uncopied kind (Some (order.Work n sizes)) p before after ended opened opening account report taken taken_now faults faults_now no h ends = ends
-uncopied kind (Some order.Check) p before after ended opened opening account report taken taken_now faults faults_now no h ends = ends
-uncopied kind (Some (order.Copy table)) p before after ended opened opening account report taken taken_now faults faults_now no h ends = absurd (no table h)
+uncopied kind None p before after ended opened opening account report taken taken_now faults faults_now other h ends = ends
+uncopied kind (Some (order.Play sizes seed trace)) p before after ended opened opening account report taken taken_now faults faults_now other h ends = ends
+uncopied kind (Some order.Show) p before after ended opened opening account report taken taken_now faults faults_now other h ends = ends
+uncopied kind (Some (order.Make n)) p before after ended opened opening account report taken taken_now faults faults_now other h ends = ends
+uncopied kind (Some (order.Work n sizes)) p before after ended opened opening account report taken taken_now faults faults_now other h ends = ends
+uncopied kind (Some order.Check) p before after ended opened opening account report taken taken_now faults faults_now other h ends = ends
+uncopied kind (Some (order.Copy table)) p before after ended opened opening account report taken taken_now faults faults_now other h ends = absurd (other table h)

@@ -5,8 +5,8 @@ use Rattle.group_run.specs.Ends.{FinishesCopy}
 use Rattle.group_run.proofs.Copying.{unsunk}
 use Rattle.group_run.proofs.copies.finish_copy.Goals as goal
 
-pub tell_copy-requires : goal.tell_copy-requires
-tell_copy-requires g c = λ why e. unsunk c.args.table _ _ c.copy-came.result why c.copy-came.ensures e
+pub tell_copy-status-requires : goal.tell_copy-status-requires
+tell_copy-status-requires g c = λ why e. unsunk c.args.table _ _ c.copy-came.result why c.copy-came.ensures e
 
 pub returns-clause-copies : goal.returns-clause-copies
 returns-clause-copies g c =

@@ -18,7 +18,7 @@ finish-requires g c =
     let came = c.perform.result in
     let after = outside (g.S.Source.left c.prepare.new.source) (g.S.Source.faults c.prepare.new.source) (g.D.Disk.contents came.disk) (g.D.Disk.alive came.disk) (g.D.Disk.faults came.disk) in
     no_sink kind o before after came.telling.status came.telling.text came.opened came.opening came.account came.telling.report
-    (c.perform.ensures.meets o before.left after.left before.source_faults after.source_faults c.in-Ok-prepared.ensures.prepared c.prepare.ensures.unread)
+    (c.perform.ensures.meets o before.left after.left before.source_faults after.source_faults c.in-Ok.ensures.prepared c.prepare.ensures.unread)
 
 pub returns-in-Err-clause-ends : goal.returns-in-Err-clause-ends
 returns-in-Err-clause-ends g c =
@@ -45,8 +45,8 @@ returns-in-Ok-Copy-clause-ends g c =
     copies kind o before after c.in-Ok-Copy.table made.status made.opened made.opening (record { journal = made.journal; causes = made.causes; faults = made.faults }) made.report
     (g.K.Sink.taken c.args.sink.now) (g.K.Sink.taken c.finish_copy.new.sink) (g.K.Sink.faults c.args.sink.now) (g.K.Sink.faults c.finish_copy.new.sink) its c.prepare.ensures.unread c.finish_copy.ensures.copies c.finish_copy.ensures.unopened
 
-pub returns-in-Ok-prepared-clause-ends : goal.returns-in-Ok-prepared-clause-ends
-returns-in-Ok-prepared-clause-ends g c =
+pub returns-in-Ok-clause-ends : goal.returns-in-Ok-clause-ends
+returns-in-Ok-clause-ends g c =
     let kind = kind_of Member g.D.Disk.alive g.D.Disk.contents g.D.Disk.faults in
     let o = ordered c.args.words.now in
     let before = outside (g.S.Source.left c.args.source.now) (g.S.Source.faults c.args.source.now) (g.D.Disk.contents c.args.disk) (g.D.Disk.alive c.args.disk) (g.D.Disk.faults c.args.disk) in
@@ -58,7 +58,7 @@ returns-in-Ok-prepared-clause-ends g c =
     let count = g.K.Sink.faults c.args.sink.now in
     let count_now = g.K.Sink.faults c.finish.new.sink in
     let after = outside left faults (g.D.Disk.contents came.disk) (g.D.Disk.alive came.disk) (g.D.Disk.faults came.disk) in
-    let meets = c.perform.ensures.meets o before.left left before.source_faults faults c.in-Ok-prepared.ensures.prepared c.prepare.ensures.unread in
+    let meets = c.perform.ensures.meets o before.left left before.source_faults faults c.in-Ok.ensures.prepared c.prepare.ensures.unread in
     let ends : Ends kind o before after c.finish.result.status came.opened came.opening came.account came.telling.report taken taken_now count count_now = record {
       met = came.telling.status;
       text = came.telling.text;
@@ -68,13 +68,13 @@ returns-in-Ok-prepared-clause-ends g c =
     } in
     subst (λ x. EndsBy kind o before (outside left faults (g.D.Disk.contents x.disk) (g.D.Disk.alive x.disk) (g.D.Disk.faults x.disk)) c.finish.result.status x.opened x.opening (record { journal = x.journal; causes = x.causes; faults = x.faults }) x.report taken taken_now count count_now)
     (sym c.finish.ensures.rest)
-    (uncopied kind o c.in-Ok-prepared.prepared before after c.finish.result.status came.opened came.opening came.account came.telling.report taken taken_now count count_now c.perform.requires.uncopied c.in-Ok-prepared.ensures.prepared ends)
+    (uncopied kind o c.in-Ok.prepared before after c.finish.result.status came.opened came.opening came.account came.telling.report taken taken_now count count_now c.perform.requires.uncopied c.in-Ok.ensures.prepared ends)
 
 pub returns-in-Err-clause-left : goal.returns-in-Err-clause-left
 returns-in-Err-clause-left g c =
     subst (λ x. x.opened ≡ false → Becomes (g.D.Disk.contents c.args.disk) (g.D.Disk.contents x.disk) KeepsRecords) (sym c.finish_unopened.ensures)
     (λ closed. c.keeping_laws.ensures.itself (g.D.Disk.contents c.args.disk))
 
-pub returns-in-Ok-prepared-clause-left : goal.returns-in-Ok-prepared-clause-left
-returns-in-Ok-prepared-clause-left g c =
+pub returns-in-Ok-clause-left : goal.returns-in-Ok-clause-left
+returns-in-Ok-clause-left g c =
     subst (λ x. x.opened ≡ false → Becomes (g.D.Disk.contents c.args.disk) (g.D.Disk.contents x.disk) KeepsRecords) (sym c.finish.ensures.rest) c.perform.ensures.left
