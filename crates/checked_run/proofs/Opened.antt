@@ -1,7 +1,6 @@
 -- A disk that was opened, and what became of it.
 use Rattle.std.proofs.Common.{◌≡◌, inl, inr, ℕ, ◌≤◌, Bool, List, Option, Some, None, Result, Ok, Err, refl, sym, subst, arith}
-use Rattle.std.specs.Prelude.{Vec}
-use Rattle.std.specs.declared.alloc.Global.{Global}
+use Rattle.std.specs.Prelude.{IfOk, IsErrOf}
 use Rattle.ds_base.specs.Causes.{Rose}
 use Rattle.ds_base.specs.declared.row.Row.{Row}
 use Rattle.ds_disk.specs.Contents.{Contents, WhenTold, Becomes, Same}
@@ -13,10 +12,9 @@ use Rattle.disk_restart.specs.Keeping.{KeepsRecords}
 use Rattle.opening_rows.specs.declared.opening.Opening.{Opening}
 use Rattle.opening_rows.specs.declared.fault.LogsFault.{LogsFault}
 use Rattle.opening_rows.specs.declared.fault.LogsFault.TheVariants as reading
-use Rattle.opening_rows.specs.Reading.{AreLogsOf, HasDamage, Reads}
+use Rattle.opening_rows.specs.Reading.{HasDamage, ReadsBy}
 use Rattle.opening_rows.specs.Opening.{OpensAs, OpensWith}
-use Rattle.log_record.specs.declared.log.Log.{Log}
-use Rattle.checked_run.specs.Back.{HoldsLogs, HoldsDamage, TellsDamage, RoseTwice}
+use Rattle.checked_run.specs.Back.{Holds, TellsDamage, ReadsBack, RoseTwice}
 use Rattle.checked_run.specs.declared.ended.Outcome.{Outcome}
 use Rattle.checked_run.specs.declared.ended.Outcome.TheVariants as outcome
 use Rattle.checked_run.specs.declared.account.Account.{Account}
@@ -32,40 +30,37 @@ use Rattle.group_core.specs.declared.schedule.RunEnd.{RunEnd}
 
 -- ---- logs that were read
 
-pub holds_logs : (before after : Option Contents) (logs : List Log) → WhenTold before (λ c. AreLogsOf c.logs logs) → Becomes before after Same → Becomes before after (HoldsLogs logs)
-holds_logs None after logs are same = tt
-holds_logs (Some c) None logs are same = absurd same
-holds_logs (Some c) (Some d) logs are same = (same, subst (λ (x : Contents). AreLogsOf x.logs logs) (sym same) are)
+pub holds : (before after : Option Contents) (P : Contents → Type 0) → WhenTold before P → Becomes before after Same → Becomes before after (Holds P)
+holds None after P is same = tt
+holds (Some c) None P is same = absurd same
+holds (Some c) (Some d) P is same = (same, subst P (sym same) is)
 
-holds_damage : (before after : Option Contents) (member at : ℕ) → WhenTold before (HasDamage member at) → Becomes before after Same → Becomes before after (HoldsDamage member at)
-holds_damage None after member at has same = tt
-holds_damage (Some c) None member at has same = absurd same
-holds_damage (Some c) (Some d) member at has same = (same, subst (HasDamage member at) (sym same) has)
-
-pub damage : (before after : Option Contents) (n k : ℕ) (result : Result (Vec Log Global) LogsFault) → Reads before after n k (λ (logs : Vec Log Global) c. AreLogsOf c.logs logs.items) result → TellsDamage before after result
-damage before after n k (Ok logs) reads = tt
-damage before after n k (Err reading.Failed) reads = tt
-damage before after n k (Err (reading.Damaged member at)) reads = holds_damage before after member at (reads.damaged member at refl) reads.same
-damage before after n k (Err reading.NoMemory) reads = tt
-
-damaged_again : (a b c : Option Contents) (member at : ℕ) → Becomes a b Same → Becomes b c (HoldsDamage member at) → Becomes a c (HoldsDamage member at)
-damaged_again None b c member at p q = tt
-damaged_again (Some x) None c member at p q = absurd p
-damaged_again (Some x) (Some y) None member at p q = q
-damaged_again (Some x) (Some y) (Some z) member at p q = (subst (λ (v : Contents). z ≡ v) p q.0, q.1)
-
-pub damage_again : (a b c : Option Contents) (result : Result (Vec Log Global) LogsFault) → Becomes a b Same → TellsDamage b c result → TellsDamage a c result
-damage_again a b c (Ok logs) same tells = tt
-damage_again a b c (Err reading.Failed) same tells = tt
-damage_again a b c (Err (reading.Damaged member at)) same tells = damaged_again a b c member at same tells
-damage_again a b c (Err reading.NoMemory) same tells = tt
+pub damage : {T : Type 0} (before after : Option Contents) (n k : ℕ) (Is : T → Contents → Type 0) (result : Result T LogsFault) → ReadsBy before after n k Is HasDamage result → TellsDamage before after result
+damage before after n k Is (Ok x) reads = tt
+damage before after n k Is (Err reading.Failed) reads = tt
+damage before after n k Is (Err (reading.Damaged member at)) reads = holds before after (HasDamage member at) (reads.damaged member at refl) reads.same
+damage before after n k Is (Err reading.NoMemory) reads = tt
 
 -- a reading that was done again
-pub holds_again : (a b c : Option Contents) (logs : List Log) → Becomes a b Same → Becomes b c (HoldsLogs logs) → Becomes a c (HoldsLogs logs)
-holds_again None b c logs p q = tt
-holds_again (Some x) None c logs p q = absurd p
-holds_again (Some x) (Some y) None logs p q = q
-holds_again (Some x) (Some y) (Some z) logs p q = (subst (λ (v : Contents). z ≡ v) p q.0, q.1)
+pub holds_again : (a b c : Option Contents) (P : Contents → Type 0) → Becomes a b Same → Becomes b c (Holds P) → Becomes a c (Holds P)
+holds_again None b c P p q = tt
+holds_again (Some x) None c P p q = absurd p
+holds_again (Some x) (Some y) None P p q = q
+holds_again (Some x) (Some y) (Some z) P p q = (subst (λ (v : Contents). z ≡ v) p q.0, q.1)
+
+pub damage_again : {T : Type 0} (a b c : Option Contents) (result : Result T LogsFault) → Becomes a b Same → TellsDamage b c result → TellsDamage a c result
+damage_again a b c (Ok x) same tells = tt
+damage_again a b c (Err reading.Failed) same tells = tt
+damage_again a b c (Err (reading.Damaged member at)) same tells = holds_again a b c (HasDamage member at) same tells
+damage_again a b c (Err reading.NoMemory) same tells = tt
+
+if_holds : {T : Type 0} (a b : Option Contents) (Is : T → Contents → Type 0) (result : Result T LogsFault) → IfOk result (λ x. WhenTold a (Is x)) → Becomes a b Same → IfOk result (λ x. Becomes a b (Holds (Is x)))
+if_holds a b Is (Ok x) is same = holds a b (Is x) is same
+if_holds a b Is (Err e) is same = tt
+
+if_again : {T : Type 0} (a b c : Option Contents) (Is : T → Contents → Type 0) (result : Result T LogsFault) → Becomes a b Same → IfOk result (λ x. Becomes b c (Holds (Is x))) → IfOk result (λ x. Becomes a c (Holds (Is x)))
+if_again a b c Is (Ok x) same is = holds_again a b c (Is x) same is
+if_again a b c Is (Err e) same is = tt
 
 opens_with : (was : Option Contents) (opening : Opening) → WhenTold was (λ c. OpensAs c opening) → WhenTold was (λ c. OpensWith c opening.rows)
 opens_with None opening is = tt

@@ -1,8 +1,7 @@
 -- Reports that were found sound.
 use Rattle.std.proofs.Common.{◌≡◌, ◌≢◌, ◌⊎◌, inl, inr, ℕ, ◌≤◌, Bool, true, false, cond, List, [], ◌∷◌, map, Option, Some, None, Result, Ok, Err, IfOk, IsErr, refl, sym, ap, subst, ◌∙◌, arith}
 use Rattle.std.proofs.lemmas.List.{append-nil, take_all}
-use Rattle.std.specs.Prelude.{Vec, IsErrOf}
-use Rattle.std.specs.declared.alloc.Global.{Global}
+use Rattle.std.specs.Prelude.{IsErrOf, IfSome}
 use Rattle.std.specs.Bool.{Decides}
 use Rattle.std.specs.Option.{SomeIff}
 use Rattle.ds_base.specs.Causes.{Rose}
@@ -12,7 +11,6 @@ use Rattle.ds_model.specs.declared.script.Script.{Script}
 use Rattle.ds_model.specs.declared.report.Report.{Report}
 use Rattle.ds_model.specs.declared.report.Trace.{Trace}
 use Rattle.ds_model.specs.declared.history.Entry.{Entry}
-use Rattle.ds_model.specs.declared.log.LogRecord.{LogRecord}
 use Rattle.ds_model.specs.Rows.{Rows, map_of, listed}
 use Rattle.ds_model.specs.History.{replay}
 use Rattle.ds_model.specs.Logs.{IsLog, AreLogs, rows_of_logs}
@@ -20,13 +18,15 @@ use Rattle.ds_model.specs.Told.{entry_of}
 use Rattle.log_record.specs.declared.log.Log.{Log}
 use Rattle.log_record.specs.Logs.{IsLogOf}
 use Rattle.report_check.specs.Records.{records_of}
-use Rattle.report_check.specs.Reports.{IsSoundReport, IsSoundAlone}
-use Rattle.report_check.specs.Laws.{settled, TellsSoundHistory, TellsSoundAlone}
-use Rattle.opening_rows.specs.Reading.{AreLogsOf}
+use Rattle.report_check.specs.Reports.{IsSoundAlone}
+use Rattle.report_check.specs.Laws.{settled, TellsSoundAlone}
+use Rattle.opening_rows.specs.Reading.{AreLogsOf, HasDamage}
+use Rattle.opening_rows.specs.Kept.{AreWhole}
+use Rattle.opening_rows.specs.Judging as Judging
 use Rattle.checked_run.specs.declared.account.Account.{Account}
 use Rattle.checked_run.specs.Accounts.{TellsTrace}
-use Rattle.checked_run.specs.Back.{AreWhole, HoldsLogs, HoldsDamage, TellsDamage, RoseTwice}
-use Rattle.checked_run.specs.Refuted.{Contradict, LogsRefute, IsRefuted}
+use Rattle.checked_run.specs.Back.{Holds, TellsDamage, RoseTwice}
+use Rattle.checked_run.specs.Refuted.{LogsRefute, IsRefuted}
 use Rattle.checked_run.specs.Settled.{Checks}
 use Rattle.opening_rows.specs.declared.opening.Opening.{Opening}
 use Rattle.opening_rows.specs.declared.fault.LogsFault.{LogsFault}
@@ -34,27 +34,10 @@ use Rattle.opening_rows.specs.declared.fault.LogsFault.TheVariants as reading
 use Rattle.ds_base.specs.declared.fault.NoMemory.{NoMemory}
 use Rattle.checked_run.specs.declared.ended.Ended.{Ended}
 use Rattle.checked_run.specs.declared.ended.Ended.TheVariants as ended
-use Rattle.checked_run.specs.Told.{IfTold, LogsStandFor, IsTold, IsHeld, IsAlone}
+use Rattle.checked_run.specs.Told.{IfTold, LogsStandFor, IsTold, IsAlone}
 
 abbrev pub report_of : Script → List Entry → List Row → Trace → ℕ → Report
 report_of script entries rows trace status = record { entries = map (entry_of script) entries; trace = trace; rows = rows; status = status }
-
-pub held : TellsSoundHistory → (script : Script) (opening : List Row) (entries : List Entry) (logs : List (List LogRecord)) (had : List ℕ) (rows : List Row) (trace : Trace) (status : ℕ) (report : Report)
-    → IsSoundReport script (map_of opening) entries logs had → rows ≡ listed (rows_of_logs logs) → report ≡ report_of script entries rows trace status → IsHeld script opening entries logs trace status report
-held law script opening entries logs had rows trace status report is its e =
-    let told = law script (map_of opening) entries logs had is in
-    let given : IsHeld script opening entries logs trace status (report_of script entries rows trace status) = record {
-      entries_are = refl;
-      trace_is = refl;
-      status_is = refl;
-      sound = record {
-        history = settled (map_of opening) entries;
-        sound = told.sound;
-        tells = record { entries = sym told.told; rows = its ∙ ap listed (sym told.rows) };
-        stands = sym told.rows;
-      };
-    } in
-    subst (IsHeld script opening entries logs trace status) (sym e) given
 
 pub alone : TellsSoundAlone → (script : Script) (opening : List Row) (entries : List Entry) (rows : List Row) (trace : Trace) (status : ℕ) (report : Report)
     → IsSoundAlone script (map_of opening) entries → rows ≡ listed (replay (map_of opening) entries) → report ≡ report_of script entries rows trace status → IsAlone script opening entries trace status report
@@ -68,17 +51,18 @@ alone law script opening entries rows trace status report is its e =
         history = settled (map_of opening) entries;
         sound = told.sound;
         tells = record { entries = sym told.told; rows = its ∙ ap listed (sym told.rows) };
-        stands = tt;
+        stands = told.rows;
       };
     } in
     subst (IsAlone script opening entries trace status) (sym e) given
 
--- the same by what was asked
-pub held_by : TellsSoundHistory → (script : Script) (opening : List Row) (given entries : List Entry) (logs : List (List LogRecord)) (had : List ℕ) (sound : Bool) (rows : List Row) (trace : Trace) (status : ℕ) (report : Report)
-    → given ≡ entries → Decides sound (IsSoundReport script (map_of opening) given logs had) → sound ≡ true → rows ≡ listed (rows_of_logs logs) → report ≡ report_of script entries rows trace status → IsHeld script opening entries logs trace status report
-held_by law script opening given entries logs had sound rows trace status report same decides found its e =
-    held law script opening entries logs had rows trace status report (subst (λ (es : List Entry). IsSoundReport script (map_of opening) es logs had) same (decides.0 found)) its e
+pub alone_from : TellsSoundAlone → (script : Script) (opening : Opening) (entries : List Entry) (rows : Option (List Row)) (found : List Row) (trace : Trace) (status : ℕ) (report : Report)
+    → IfSome rows (Judging.IsTold script opening entries) → rows ≡ Some found → report ≡ report_of script entries found trace status → IsAlone script opening.rows entries trace status report
+alone_from law script opening entries rows found trace status report told is e =
+    let its : Judging.IsTold script opening entries found = subst (λ (o : Option (List Row)). IfSome o (Judging.IsTold script opening entries)) is told in
+    alone law script opening.rows entries found trace status report its.sound its.rows_are e
 
+-- the same by what was asked
 pub alone_by : TellsSoundAlone → (script : Script) (opening : List Row) (given entries : List Entry) (found : Option (List Row)) (rows : List Row) (trace : Trace) (status : ℕ) (report : Report)
     → given ≡ entries → SomeIff found (IsSoundAlone script (map_of opening) given) (listed (replay (map_of opening) given)) → found ≡ Some rows → report ≡ report_of script entries rows trace status → IsAlone script opening entries trace status report
 alone_by law script opening given entries found rows trace status report same iff is e =
@@ -103,10 +87,15 @@ whole_logs [] (l ∷ logs) are whole = absurd are
 whole_logs (bs ∷ bss) [] are whole = absurd are
 whole_logs (bs ∷ bss) (l ∷ logs) are whole = (whole_log bs l are.0 whole.0, whole_logs bss logs are.1 whole.1)
 
-logs_stand : (before after : Option Contents) (logs : List Log) (rows : Rows) → before ≢ None → Becomes before after (HoldsLogs logs) → AreWhole logs → rows_of_logs (records_of logs) ≡ rows → LogsStandFor after rows
-logs_stand None after logs rows told p whole is = absurd (told refl)
-logs_stand (Some c) None logs rows told p whole is = absurd p
-logs_stand (Some c) (Some d) logs rows told p whole is = record { records = records_of logs; are = whole_logs d.logs logs p.1 whole; rows_are = is }
+abbrev pub JudgedAs : Script → Opening → List Entry → Option (List Row) → Contents → Type 0
+JudgedAs script opening entries rows c = Judging.IsJudged script opening entries c rows
+
+logs_stand : (before after : Option Contents) (script : Script) (opening : Opening) (entries : List Entry) (found : List Row) (rows : Rows) → before ≢ None → Becomes before after (Holds (JudgedAs script opening entries (Some found))) → rows ≡ replay (map_of opening.rows) entries → LogsStandFor after rows
+logs_stand None after script opening entries found rows told p is = absurd (told refl)
+logs_stand (Some c) None script opening entries found rows told p is = absurd p
+logs_stand (Some c) (Some d) script opening entries found rows told p is =
+    let j = p.1 in
+    record { records = records_of j.logs; are = whole_logs d.logs j.logs j.are j.judges.0.whole; rows_are = sym (is ∙ j.judges.0.sound.ends.rows) }
 
 abbrev code : Bool → ℕ
 code failed = cond failed 5 0
@@ -127,12 +116,11 @@ pub unfailed_before : (failed now_failed : Bool) → (failed ≡ true → now_fa
 unfailed_before true now_failed kept e = let f : true ≡ false = sym (kept refl) ∙ e in cc
 unfailed_before false now_failed kept e = refl
 
-pub told_with : (tells : Type 0) (script : Script) (opening : List Row) (traced failed : Bool) (trace : Trace) (before now : ℕ) (was after : Option Contents) (account : Account) (entries : List Entry) (logs : List Log) (report : Report)
-    → (tells → was ≢ None) → Becomes was after (HoldsLogs logs) → (failed ≡ true → Rose before now) → (failed ≡ false → account.faults ≡ []) → TellsTrace script traced account.causes trace
-    → AreWhole logs × IsHeld script opening entries (records_of logs) trace (cond failed 5 0) report → IsTold tells script traced opening before now after account report
-told_with tells script opening traced failed trace before now was after account entries logs report told read rose none traces held =
-    let is = held.1 in
-    let stands : tells → LogsStandFor after (replay (map_of opening) is.sound.history) = λ t. logs_stand was after logs (replay (map_of opening) is.sound.history) (told t) read held.0 is.sound.stands in
+pub told_with : (tells : Type 0) (script : Script) (opening : Opening) (traced failed : Bool) (trace : Trace) (before now : ℕ) (was after : Option Contents) (account : Account) (entries : List Entry) (found : List Row) (report : Report)
+    → (tells → was ≢ None) → Becomes was after (Holds (JudgedAs script opening entries (Some found))) → (failed ≡ true → Rose before now) → (failed ≡ false → account.faults ≡ []) → TellsTrace script traced account.causes trace
+    → IsAlone script opening.rows entries trace (cond failed 5 0) report → IsTold tells script traced opening.rows before now after account report
+told_with tells script opening traced failed trace before now was after account entries found report told read rose none traces is =
+    let stands : tells → LogsStandFor after (replay (map_of opening.rows) is.sound.history) = λ t. logs_stand was after script opening entries found (replay (map_of opening.rows) is.sound.history) (told t) read is.sound.stands in
     record {
       status = subst (λ n. (n ≡ 0) ⊎ (n ≡ 5)) (sym is.status_is) (zero_or_five failed);
       cause = λ e. rose (caused failed (sym is.status_is ∙ e));
@@ -186,21 +174,20 @@ checks_told (ended.Damaged volume at) P Q R f p = tt
 checks_told (ended.Unsound event) P Q R f p = tt
 checks_told ended.NoMemory P Q R f p = tt
 
-refuted_in : (was after : Option Contents) (script : Script) (opening : Opening) (entries : List Entry) (logs : List Log) → was ≢ None → Becomes was after (HoldsLogs logs) → Contradict script opening entries logs → WhenTold after (LogsRefute script opening entries)
-refuted_in None after script opening entries logs told p con = absurd (told refl)
-refuted_in (Some c) None script opening entries logs told p con = tt
-refuted_in (Some c) (Some d) script opening entries logs told p con = inr (logs, (p.1, con))
+refuted_in : (was after : Option Contents) (script : Script) (opening : Opening) (entries : List Entry) → was ≢ None → Becomes was after (Holds (JudgedAs script opening entries None)) → WhenTold after (LogsRefute script opening entries)
+refuted_in None after script opening entries told p = absurd (told refl)
+refuted_in (Some c) None script opening entries told p = tt
+refuted_in (Some c) (Some d) script opening entries told p = inr p.1
 
-pub refuted : (tells : Type 0) (script : Script) (opening : Opening) (entries : List Entry) (before now : ℕ) (was after : Option Contents) (logs : List Log) → (tells → was ≢ None) → Becomes was after (HoldsLogs logs) → Contradict script opening entries logs
-    → IsRefuted tells script opening entries before now after
-refuted tells script opening entries before now was after logs told p con = inl (λ t. refuted_in was after script opening entries logs (told t) p con)
+pub refuted : (tells : Type 0) (script : Script) (opening : Opening) (entries : List Entry) (before now : ℕ) (was after : Option Contents) → (tells → was ≢ None) → Becomes was after (Holds (JudgedAs script opening entries None)) → IsRefuted tells script opening entries before now after
+refuted tells script opening entries before now was after told p = inl (λ t. refuted_in was after script opening entries (told t) p)
 
-damaged_in : (was after : Option Contents) (script : Script) (opening : Opening) (entries : List Entry) (member at : ℕ) → was ≢ None → Becomes was after (HoldsDamage member at) → WhenTold after (LogsRefute script opening entries)
+damaged_in : (was after : Option Contents) (script : Script) (opening : Opening) (entries : List Entry) (member at : ℕ) → was ≢ None → Becomes was after (Holds (HasDamage member at)) → WhenTold after (LogsRefute script opening entries)
 damaged_in None after script opening entries member at told p = absurd (told refl)
 damaged_in (Some c) None script opening entries member at told p = tt
 damaged_in (Some c) (Some d) script opening entries member at told p = inl (member, (at, p.1))
 
-pub damaged : (tells : Type 0) (script : Script) (opening : Opening) (entries : List Entry) (before now : ℕ) (was after : Option Contents) (member at : ℕ) → (tells → was ≢ None) → Becomes was after (HoldsDamage member at)
+pub damaged : (tells : Type 0) (script : Script) (opening : Opening) (entries : List Entry) (before now : ℕ) (was after : Option Contents) (member at : ℕ) → (tells → was ≢ None) → Becomes was after (Holds (HasDamage member at))
     → IsRefuted tells script opening entries before now after
 damaged tells script opening entries before now was after member at told p = inl (λ t. damaged_in was after script opening entries member at (told t) p)
 
@@ -213,17 +200,21 @@ pub told_ok : (answer : Result Ended NoMemory) (P Q : Report → Type 0) → ((r
 told_ok (Err none) P Q f it = it
 told_ok (Ok e) P Q f it = if_told e P Q f it
 
-pub held_told : (tells : Type 0) (script : Script) (opening : Opening) (traced failed : Bool) (trace : Trace) (status before now : ℕ) (was after : Option Contents) (account : Account) (entries : List Entry) (read given : List Log) (answer : Result Ended NoMemory)
-    → (tells → was ≢ None) → Becomes was after (HoldsLogs read) → (failed ≡ true → Rose before now) → (failed ≡ false → account.faults ≡ []) → TellsTrace script traced account.causes trace → given ≡ read → status ≡ cond failed 5 0
-    → IfOk answer (Checks (λ report. AreWhole given × IsHeld script opening.rows entries (records_of given) trace status report) (Contradict script opening entries given))
-    → IfOk answer (Checks (IsTold tells script traced opening.rows before now after account) (IsRefuted tells script opening entries before now after))
-held_told tells script opening traced failed trace status before now was after account entries read given (Err none) told holds rose unfailed traces same is it = it
-held_told tells script opening traced failed trace status before now was after account entries read given (Ok e) told holds rose unfailed traces same is it =
-    let at_logs = subst (λ (logs : List Log). Checks (λ report. AreWhole logs × IsHeld script opening.rows entries (records_of logs) trace status report) (Contradict script opening entries logs) e) same it in
-    let its = subst (λ n. Checks (λ report. AreWhole read × IsHeld script opening.rows entries (records_of read) trace n report) (Contradict script opening entries read) e) is at_logs in
-    checks e (λ report. AreWhole read × IsHeld script opening.rows entries (records_of read) trace (cond failed 5 0) report) (IsTold tells script traced opening.rows before now after account) (Contradict script opening entries read) (IsRefuted tells script opening entries before now after)
-    (λ report held. told_with tells script opening.rows traced failed trace before now was after account entries read report told holds rose unfailed traces held)
-    (refuted tells script opening entries before now was after read told holds) its
+-- what is known where a report was told, and where none was
+abbrev pub HeldAs : Script → Opening → List Entry → Option (List Row) → Trace → ℕ → Ended → Type 0
+HeldAs script opening entries rows trace status = Checks (λ report. ((found : List Row) × (rows ≡ Some found)) × IsAlone script opening.rows entries trace status report) (rows ≡ None)
+
+pub held_told : (tells : Type 0) (script : Script) (opening : Opening) (traced failed : Bool) (trace : Trace) (status before now : ℕ) (was after : Option Contents) (account : Account) (entries given : List Entry) (rows : Option (List Row)) (answer : Result Ended NoMemory)
+    → (tells → was ≢ None) → Becomes was after (Holds (JudgedAs script opening given rows)) → (failed ≡ true → Rose before now) → (failed ≡ false → account.faults ≡ []) → TellsTrace script traced account.causes trace → given ≡ entries → status ≡ cond failed 5 0
+    → IfOk answer (HeldAs script opening entries rows trace status) → IfOk answer (Checks (IsTold tells script traced opening.rows before now after account) (IsRefuted tells script opening entries before now after))
+held_told tells script opening traced failed trace status before now was after account entries given rows (Err none) told judged rose unfailed traces same is it = it
+held_told tells script opening traced failed trace status before now was after account entries given rows (Ok e) told judged rose unfailed traces same is it =
+    let at : Becomes was after (Holds (JudgedAs script opening entries rows)) = subst (λ (es : List Entry). Becomes was after (Holds (JudgedAs script opening es rows))) same judged in
+    let its = subst (λ n. HeldAs script opening entries rows trace n e) is it in
+    checks e (λ report. ((found : List Row) × (rows ≡ Some found)) × IsAlone script opening.rows entries trace (cond failed 5 0) report) (IsTold tells script traced opening.rows before now after account) (rows ≡ None) (IsRefuted tells script opening entries before now after)
+    (λ report held. told_with tells script opening traced failed trace before now was after account entries held.0.0 report told
+    (subst (λ (o : Option (List Row)). Becomes was after (Holds (JudgedAs script opening entries o))) held.0.1 at) rose unfailed traces held.1)
+    (λ none. refuted tells script opening entries before now was after told (subst (λ (o : Option (List Row)). Becomes was after (Holds (JudgedAs script opening entries o))) none at)) its
 
 pub alone_told : (tells : Type 0) (script : Script) (opening : Opening) (traced : Bool) (trace : Trace) (before now : ℕ) (after : Option Contents) (account : Account) (entries : List Entry) (answer : Result Ended NoMemory)
     → Rose before now → RoseTwice before now → TellsTrace script traced account.causes trace
@@ -235,13 +226,12 @@ alone_told tells script opening traced trace before now after account entries (O
     (λ report is. told_alone tells script opening.rows traced trace before now after account entries report rose twice traces is) (λ not. inr (twice, not)) it
 
 -- of what was held against logs or alone: which entries are told, and which status says that no call failed
-pub held_entries : (script : Script) (opening : Opening) (failed now_failed : Bool) (trace : Trace) (status : ℕ) (entries : List Entry) (logs : List Log) (answer : Result Ended NoMemory)
-    → (failed ≡ true → now_failed ≡ true) → status ≡ cond now_failed 5 0
-    → IfOk answer (Checks (λ report. AreWhole logs × IsHeld script opening.rows entries (records_of logs) trace status report) (Contradict script opening entries logs))
+pub held_entries : (script : Script) (opening : Opening) (failed now_failed : Bool) (trace : Trace) (status : ℕ) (entries : List Entry) (rows : Option (List Row)) (answer : Result Ended NoMemory)
+    → (failed ≡ true → now_failed ≡ true) → status ≡ cond now_failed 5 0 → IfOk answer (HeldAs script opening entries rows trace status)
     → IfOk answer (λ e. IfTold e (λ report. (report.entries ≡ map (entry_of script) entries) × (report.status ≡ 0 → failed ≡ false)))
-held_entries script opening failed now_failed trace status entries logs (Err none) kept is it = it
-held_entries script opening failed now_failed trace status entries logs (Ok e) kept is it =
-    checks_told e (λ report. AreWhole logs × IsHeld script opening.rows entries (records_of logs) trace status report) (λ report. (report.entries ≡ map (entry_of script) entries) × (report.status ≡ 0 → failed ≡ false)) (Contradict script opening entries logs)
+held_entries script opening failed now_failed trace status entries rows (Err none) kept is it = it
+held_entries script opening failed now_failed trace status entries rows (Ok e) kept is it =
+    checks_told e (λ report. ((found : List Row) × (rows ≡ Some found)) × IsAlone script opening.rows entries trace status report) (λ report. (report.entries ≡ map (entry_of script) entries) × (report.status ≡ 0 → failed ≡ false)) (rows ≡ None)
     (λ report held. (held.1.entries_are, λ zero. unfailed_before failed now_failed kept (uncaused now_failed (sym is ∙ (sym held.1.status_is ∙ zero))))) it
 
 pub alone_entries : (script : Script) (opening : Opening) (failed : Bool) (trace : Trace) (entries : List Entry) (answer : Result Ended NoMemory)
@@ -257,19 +247,19 @@ none_ok (Err none) P wanting = tt
 none_ok (Ok e) P wanting = let f : false ≡ true = wanting in cc
 
 -- of logs that were not read
-pub unread_told : (tells : Type 0) (script : Script) (opening : Opening) (traced failed : Bool) (trace : Trace) (before now : ℕ) (was after : Option Contents) (account : Account) (entries : List Entry) (read : Result (Vec Log Global) LogsFault) (why : LogsFault) (answer : Result Ended NoMemory)
+pub unread_told : {T : Type 0} (tells : Type 0) (script : Script) (opening : Opening) (traced failed : Bool) (trace : Trace) (before now : ℕ) (was after : Option Contents) (account : Account) (entries : List Entry) (read : Result T LogsFault) (why : LogsFault) (answer : Result Ended NoMemory)
     → (tells → was ≢ None) → read ≡ Err why → (failed ≡ true → Rose before now) → (IsErrOf read reading.Failed → RoseTwice before now × (failed ≡ true)) → TellsTrace script traced account.causes trace → TellsDamage was after read
     → (why ≡ reading.Failed → IfOk answer (Checks (IsAlone script opening.rows entries trace 5) (IsSoundAlone script (map_of opening.rows) entries → ⊥)))
     → ((member at : ℕ) → why ≡ reading.Damaged member at → answer ≡ Ok (ended.Unsound 0))
     → (why ≡ reading.NoMemory → IsErr answer)
     → IfOk answer (Checks (IsTold tells script traced opening.rows before now after account) (IsRefuted tells script opening entries before now after))
-unread_told tells script opening traced failed trace before now was after account entries read reading.Failed answer told is one two traces harm alone unsound wanting =
-    let both : RoseTwice before now × (failed ≡ true) = two (subst (λ (r : Result (Vec Log Global) LogsFault). IsErrOf r reading.Failed) (sym is) refl) in
+unread_told {T} tells script opening traced failed trace before now was after account entries read reading.Failed answer told is one two traces harm alone unsound wanting =
+    let both : RoseTwice before now × (failed ≡ true) = two (subst (λ (r : Result T LogsFault). IsErrOf r reading.Failed) (sym is) refl) in
     alone_told tells script opening traced trace before now after account entries answer (one both.1) both.0 traces (alone refl)
-unread_told tells script opening traced failed trace before now was after account entries read (reading.Damaged member at) answer told is one two traces harm alone unsound wanting =
+unread_told {T} tells script opening traced failed trace before now was after account entries read (reading.Damaged member at) answer told is one two traces harm alone unsound wanting =
     subst (λ (a : Result Ended NoMemory). IfOk a (Checks (IsTold tells script traced opening.rows before now after account) (IsRefuted tells script opening entries before now after))) (sym (unsound member at refl))
-    (refl, damaged tells script opening entries before now was after member at told (subst (λ (r : Result (Vec Log Global) LogsFault). TellsDamage was after r) is harm))
-unread_told tells script opening traced failed trace before now was after account entries read reading.NoMemory answer told is one two traces harm alone unsound wanting =
+    (refl, damaged tells script opening entries before now was after member at told (subst (λ (r : Result T LogsFault). TellsDamage was after r) is harm))
+unread_told {T} tells script opening traced failed trace before now was after account entries read reading.NoMemory answer told is one two traces harm alone unsound wanting =
     none_ok answer (Checks (IsTold tells script traced opening.rows before now after account) (IsRefuted tells script opening entries before now after)) (wanting refl)
 
 pub unread_entries : (script : Script) (opening : Opening) (failed : Bool) (trace : Trace) (entries : List Entry) (why : LogsFault) (answer : Result Ended NoMemory)

@@ -7,10 +7,9 @@ use Rattle.ds_model.specs.declared.script.Script.{Script}
 use Rattle.ds_model.specs.declared.report.Report.{Report}
 use Rattle.ds_model.specs.declared.report.Trace.{Trace}
 use Rattle.ds_model.specs.declared.history.Entry.{Entry}
-use Rattle.ds_model.specs.declared.log.LogRecord.{LogRecord}
 use Rattle.ds_model.specs.Rows.{Rows, map_of}
 use Rattle.ds_model.specs.History.{replay}
-use Rattle.ds_model.specs.Logs.{StandFor, rows_of_logs}
+use Rattle.ds_model.specs.Logs.{StandFor}
 use Rattle.ds_model.specs.Sound.{IsSound}
 use Rattle.ds_model.specs.Told.{entry_of}
 use Rattle.ds_model.specs.declared.report.ReportEntry.{ReportEntry}
@@ -73,10 +72,6 @@ pub record Reports (script : Script) (opening : List Row) (entries : List Entry)
   pub status_is : report.status ≡ status
   pub sound : IsSound script (map_of opening) report Stands
 
--- held against logs with these records
-abbrev pub IsHeld : Script → List Row → List Entry → List (List LogRecord) → Trace → ℕ → Report → Type 0
-IsHeld script opening entries logs trace status report = Reports script opening entries trace status report (λ history. rows_of_logs logs ≡ replay (map_of opening) history)
-
--- held against script and opening rows alone
+-- held against script and opening rows alone: its history comes to the rows to which what is printed comes
 abbrev pub IsAlone : Script → List Row → List Entry → Trace → ℕ → Report → Type 0
-IsAlone script opening entries trace status report = Reports script opening entries trace status report (λ history. Unit {0})
+IsAlone script opening entries trace status report = Reports script opening entries trace status report (λ history. replay (map_of opening) history ≡ replay (map_of opening) entries)

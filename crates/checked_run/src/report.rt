@@ -1,23 +1,21 @@
 //! A report that is held against script, opening rows and logs before it is told.
 
-ghost use Rattle.std.specs.Prelude.{◌≡◌, ℕ, map, Ok, IfOk, IsErr};
+ghost use Rattle.std.specs.Prelude.{◌≡◌, ℕ, List, map, None, Some, Ok, IfOk, IfSome, IsErr};
 ghost use Rattle.ds_model.specs.Rows.{AreSorted, map_of};
 ghost use Rattle.ds_model.specs.Told.{entry_of};
 ghost use Rattle.opening_rows.specs.declared.fault.LogsFault.TheVariants as reading;
-ghost use Rattle.report_check.specs.Records.{records_of};
+ghost use Rattle.ds_base.specs.declared.row.Row.{Row};
 ghost use Rattle.report_check.specs.Reports.{IsSoundAlone};
 ghost use Rattle.checked_run.specs.declared.ended.Ended.TheVariants as ended;
-ghost use Rattle.checked_run.specs.Back.{AreWhole};
-ghost use Rattle.checked_run.specs.Told.{IsHeld, IsAlone};
-ghost use Rattle.checked_run.specs.Refuted.{Contradict};
+ghost use Rattle.opening_rows.specs.Judging.{IsTold};
+ghost use Rattle.checked_run.specs.Told.{IsAlone};
 ghost use Rattle.checked_run.specs.Settled.{Checks};
 
 use crate::ended::Ended;
-use crate::logs::are_whole;
 use ds_base::{NoMemory, RowList};
 use ds_model::{Entry, Report, Script, Trace};
-use opening_rows::{Log, LogsFault, Opening};
-use report_check::{is_sound, rows_of, sound_rows, soundness_laws};
+use opening_rows::{LogsFault, Opening};
+use report_check::{sound_rows, soundness_laws};
 use report_told::tell_entries;
 use std::alloc::Global;
 
@@ -40,30 +38,28 @@ fn report_of(
     })
 }
 
-/// The report of entries that are sound for these logs, or that they aren't. Bytes behind the last whole record of a log make none
-/// sound: records are appended whole, and a group restart cuts what a stop has cut short.
+/// The report of entries that the logs bear out, which stand for these rows; or that they don't. Bytes behind the last whole record
+/// of a log bear none out: records are appended whole, and a group restart cuts what a stop has cut short.
 pub fn told_with(
     alloc: Global,
     script: &Script,
     opening: &Opening,
     entries: Vec<Entry>,
-    logs: &[Log],
+    rows: Option<RowList>,
     trace: Trace,
     status: u8,
 ) -> Result<Ended, NoMemory>
-    requires { AreSorted opening.now.rows }
-    ensures { IfOk result (Checks (λ report. AreWhole logs.now × IsHeld script.now opening.now.rows entries.items (records_of logs.now) trace status report) (Contradict script.now opening.now entries.items logs.now)) }
+    requires { IfSome rows (IsTold script.now opening.now entries.items) }
+    ensures { IfOk result (Checks (λ report. ((found : List Row) × (rows ≡ Some found)) × IsAlone script.now opening.now.rows entries.items trace status report) (rows ≡ None)) }
 {
     soundness_laws();
-    if !are_whole(logs) {
-        return Ok(Ended::Unsound { event: 0 });
+    match rows {
+        None => Ok(Ended::Unsound { event: 0 }),
+        Some(rows) => {
+            let report = report_of(alloc, script, entries, rows, trace, status)?;
+            Ok(Ended::Told(report))
+        }
     }
-    if !is_sound(alloc, script, &opening.rows, &entries, logs, &opening.had)? {
-        return Ok(Ended::Unsound { event: 0 });
-    }
-    let rows = rows_of(alloc, logs)?;
-    let report = report_of(alloc, script, entries, rows, trace, status)?;
-    Ok(Ended::Told(report))
 }
 
 /// The report of entries that are sound as far as that can be told without the logs, or that they aren't.

@@ -19,7 +19,7 @@ ghost use Rattle.checked_run.specs.Told.{IfTold, IsTold, TellsAlways, TellsEntri
 
 use crate::account::{Account, CauseList, FailList, Journal};
 use crate::ended::Ended;
-use crate::logs::read_back;
+use crate::logs::check_back;
 use crate::order::in_print_order;
 use crate::report::{told_unread, told_with};
 use crate::trace::trace_of;
@@ -111,14 +111,14 @@ fn check_entries<D: Disk>(
     ensures tells { IfOk result (λ ended. IfTold ended (λ report. (report.entries ≡ map (entry_of script.now) entries.items) × (report.status ≡ 0 → failed ≡ false))) }
     ensures later { D.faults disk.old ≤ D.faults disk.new }
 {
-    let (read, failed) = read_back(alloc, disk, failed);
+    let (read, failed) = check_back(alloc, disk, script, opening, &entries, failed);
     match read {
-        Ok(logs) => told_with(
+        Ok(rows) => told_with(
             alloc,
             script,
             opening,
             entries,
-            &logs,
+            rows,
             trace,
             status_of(failed),
         ),

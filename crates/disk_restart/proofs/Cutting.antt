@@ -5,7 +5,7 @@ use Rattle.std.proofs.lemmas.Bool.{cases_lt, cases_eq, ltb-false}
 use Rattle.std.proofs.lemmas.List.{length-set, length-map, get_or-set_same, get_or-set_other, get_or_past, set_past}
 use Rattle.ds_disk.specs.Contents.{log_of}
 use Rattle.log_record.specs.declared.log.Log.{Log}
-use Rattle.log_record.specs.Logs.{IsLogOf}
+use Rattle.log_reader.specs.Keeping.{HasLastOf}
 use Rattle.restart_plan.specs.declared.tails.Tail.{Tail}
 use Rattle.restart_plan.specs.Tails.{tail_of, tails_of}
 use Rattle.restart_plan.specs.Ends.{ends_of}
@@ -72,7 +72,7 @@ CutsDue ends (t ∷ ts) logs = (lasting (take t.length (log_of logs t.member)) �
 -- these are the logs from this place on
 abbrev pub AreFrom : ℕ → List Log → Logs → Type 0
 AreFrom i [] bytes = Unit {0}
-AreFrom i (log ∷ logs) bytes = (log.member ≡ i + 1) × IsLogOf (log_at bytes i) log × AreFrom (i + 1) logs bytes
+AreFrom i (log ∷ logs) bytes = (log.member ≡ i + 1) × HasLastOf (log_at bytes i) log × AreFrom (i + 1) logs bytes
 
 -- they end there
 abbrev EndFrom : ℕ → List Log → List ℕ → Type 0
@@ -88,7 +88,7 @@ from_set : (i k : ℕ) (new : List ℕ) (logs : List Log) (bytes : Logs) → k <
 from_set i k new [] bytes lt are = tt
 from_set i k new (log ∷ logs) bytes lt are =
     let other : log_at bytes i ≡ log_at (set bytes k new) i = sym (get_or-set_other bytes k i new [] (λ e. omega arith)) in
-    (are.0, subst (λ (b : List ℕ). IsLogOf b log) other are.1, from_set (i + 1) k new logs bytes (omega arith) are.2)
+    (are.0, subst (λ (b : List ℕ). HasLastOf b log) other are.1, from_set (i + 1) k new logs bytes (omega arith) are.2)
 
 -- one more is whole
 more_whole : (ends : List ℕ) (i : ℕ) (bytes : Logs) → AreWholeBelow ends i bytes → IsWhole (get_or ends i 0) (log_at bytes i) → AreWholeBelow ends (i + 1) bytes
@@ -162,10 +162,10 @@ pub due_all : ReadsSound → (logs : List Log) (bytes : Logs) → AreFrom 0 logs
 due_all sound logs bytes are long = due_from sound (ends_of logs) 0 logs bytes are (end_all logs) (λ j lt. absurd (omega arith)) (count_all logs ∙ sym long) (omega arith)
 
 -- one more log
-pub from_more : (i : ℕ) (logs : List Log) (log : Log) (bytes : Logs) → AreFrom i logs bytes → log.member ≡ i + length logs + 1 → IsLogOf (log_at bytes (i + length logs)) log → AreFrom i (logs ++ log ∷ []) bytes
+pub from_more : (i : ℕ) (logs : List Log) (log : Log) (bytes : Logs) → AreFrom i logs bytes → log.member ≡ i + length logs + 1 → HasLastOf (log_at bytes (i + length logs)) log → AreFrom i (logs ++ log ∷ []) bytes
 from_more i [] log bytes are member is =
     let e : i + 0 ≡ i = omega arith in
-    (omega arith, subst (λ (k : ℕ). IsLogOf (log_at bytes k) log) e is, tt)
+    (omega arith, subst (λ (k : ℕ). HasLastOf (log_at bytes k) log) e is, tt)
 from_more i (l ∷ logs) log bytes are member is =
     let e : i + suc (length logs) ≡ i + 1 + length logs = omega arith in
-    (are.0, are.1, from_more (i + 1) logs log bytes are.2 (omega arith) (subst (λ (k : ℕ). IsLogOf (log_at bytes k) log) e is))
+    (are.0, are.1, from_more (i + 1) logs log bytes are.2 (omega arith) (subst (λ (k : ℕ). HasLastOf (log_at bytes k) log) e is))

@@ -20,7 +20,7 @@ use Rattle.group_restart.specs.Machine.{Restart}
 use Rattle.group_restart.specs.Records.{ended, ending, compensation}
 use Rattle.group_restart.specs.Undo.{undo_fault, undoing}
 use Rattle.page_format.specs.Fields.{is_old, renewed}
-use Rattle.group_restart.specs.Course.{go, with_plan, rest_tails, rest_pages, rest_closings, rest_undo, rest_endings, ending_or, next_ending, rest_old, renewal_or, next_renewal, undo_or, next_undo, closing_or, next_closing, too_few_numbers, has_numbers, numbered, counted, begin_undo, page_or, next_redo, tail_or, next_tail, raised, numbered_by, noted, take_raised, forwarded, page_brought, take_page, undone, undo_at, undo_unless, undo_one, undo_first, take_undone, take_old, appended, take_done, found_damage, planned, take_logs}
+use Rattle.group_restart.specs.Course.{go, with_plan, rest_tails, rest_pages, rest_closings, rest_undo, rest_endings, ending_or, next_ending, rest_old, renewal_or, next_renewal, undo_or, next_undo, closing_or, next_closing, too_few_numbers, has_numbers, numbered, counted, begin_undo, page_or, next_redo, tail_or, next_tail, raised, numbered_by, noted, take_raised, forwarded, page_brought, take_page, undone, undo_at, undo_unless, undo_one, undo_first, take_undone, take_old, appended, take_done, found_damage, plan_read, planned, take_logs}
 use Rattle.disk_restart.proofs.Whole.{ReadsSound, AreAdded}
 use Rattle.disk_restart.proofs.Cutting.{Logs, AreFrom, count_all, due_all}
 use Rattle.disk_restart.proofs.Stages.{Cuts, Stands, Adds, AfterCall, Good}
@@ -162,13 +162,13 @@ next_tail_good o d h c = tail_good o d (with_plan h (rest_tails h.plan)) (slice_
 
 -- ---- all logs are read
 
-plan_cuts : ReadsSound → (logs : List Log) (o : Logs) → AreFrom 0 logs o → length o ≡ length logs → Cuts o o (plan_of logs).ends (plan_of logs).tails
+plan_cuts : ReadsSound → (logs : List Log) (o : Logs) → AreFrom 0 logs o → length o ≡ length logs → Cuts o o (plan_read logs).ends (plan_read logs).tails
 unfolding plan_of
 plan_cuts sound logs o are long = record { keeps = λ i. refl; count = count_all logs ∙ sym long; due = due_all sound logs o are long }
 
 planned_good : ReadsSound → (o : Logs) (h : Restart) (damage : Option Damaged) → AreFrom 0 h.logs o → length o ≡ length h.logs → Good o o (planned h damage)
 planned_good sound o h (Some d) are long = λ e. absurd cc
-planned_good sound o h None are long = next_tail_good o o (record h { plan = plan_of h.logs; logs = [] }) (plan_cuts sound h.logs o are long)
+planned_good sound o h None are long = next_tail_good o o (record h { plan = plan_read h.logs; logs = [] }) (plan_cuts sound h.logs o are long)
 
 pub take_logs_good : ReadsSound → (o : Logs) (h : Restart) → AreFrom 0 h.logs o → length o ≡ length h.logs → Good o o (take_logs h)
 unfolding take_logs

@@ -1,44 +1,38 @@
 -- The logs that a restart reads are those of the disk.
-use Rattle.std.proofs.Common.{◌≡◌, ℕ, ◌+◌, ◌-◌, ◌<◌, ◌≤◌, true, List, [], ◌∷◌, ◌++◌, length, take, drop, Option, Some, None, refl, sym, ap, subst, ◌∙◌, arith, lit<}
-use Rattle.std.specs.Prelude.{min, ◌==◌}
-use Rattle.std.proofs.Math.Seq.{take-add}
+use Rattle.std.proofs.Common.{◌≡◌, ℕ, ◌+◌, ◌-◌, ◌<◌, ◌≤◌, true, false, List, [], ◌∷◌, ◌++◌, length, take, drop, Option, Some, None, sym, ap, subst, ◌∙◌, arith, lit<}
+use Rattle.std.specs.Prelude.{min, ◌==◌, nat_le}
 use Rattle.std.proofs.lemmas.Bool.{cond_both, eqb-true, leb-true}
-use Rattle.std.proofs.lemmas.List.{length-take, length-drop, length_push, take_all}
+use Rattle.std.proofs.lemmas.List.{length-drop, length_push}
 use Rattle.log_record.specs.declared.log.Log.{Log}
-use Rattle.log_record.specs.Logs.{IsLogOf}
-use Rattle.log_reader.specs.Readers.{ReaderState, IsNew, block_size, after_count, is_long, is_whole}
+use Rattle.log_reader.specs.Held.{grown}
+use Rattle.log_reader.specs.Keeping.{AreBytes, IsOf, HasLastOf, NothingIsOf, KeepingIsOf, GrownIsOf, ReadIsLast}
+use Rattle.log_reader.specs.Readers.{ReaderState, IsNew, IsLogRead, block_size, after_length, after_count, is_long, is_whole}
 use Rattle.disk_restart.proofs.Cutting.{Logs, log_at, AreFrom, from_more}
 
 abbrev pub TellsLength : Option ℕ → List ℕ → Type 0
 TellsLength None bytes = Unit {0}
 TellsLength (Some long) bytes = long ≡ length bytes
 
--- what was read so far is a front of these bytes
+-- what reading comes to
+pub record ReaderLaws : Type 0 where
+  pub nothing : NothingIsOf
+  pub keeping : KeepingIsOf
+  pub grown : GrownIsOf
+  pub last : ReadIsLast
+
+-- what is kept is of these bytes, which are read so far
 pub record IsReading (bytes : List ℕ) (r : ReaderState) : Type 0 where
-  pub front : r.bytes ≡ take (length r.bytes) bytes
+  pub of : IsOf bytes r.held
   pub told : TellsLength r.length_told bytes
 
-pub new_reading : (bytes : List ℕ) (r : ReaderState) (member : ℕ) → IsNew member r → IsReading bytes r
-new_reading bytes r member is = record {
-  front = subst (λ (b : List ℕ). b ≡ take (length b) bytes) (sym is.no_bytes) refl;
+pub new_reading : ReaderLaws → (bytes : List ℕ) (r : ReaderState) (member : ℕ) → IsNew member r → IsReading bytes r
+new_reading laws bytes r member is = record {
+  of = subst (IsOf bytes) (sym is.nothing) (laws.nothing bytes false);
   told = subst (λ (o : Option ℕ). TellsLength o bytes) (sym is.length_unknown) tt;
 }
 
-within : (bytes : List ℕ) (r : ReaderState) → IsReading bytes r → length r.bytes ≤ length bytes
-within bytes r h = omega (arith, ap length h.front, length-take (length r.bytes) bytes)
-
 least : (n size : ℕ) → n ≤ size → min n size ≡ n
 least n size few = omega arith
-
--- so many bytes more
-bytes_more : (front bytes block : List ℕ) (n : ℕ) → front ≡ take (length front) bytes → n ≤ block_size → n ≤ length bytes - length front → length front ≤ length bytes → take n block ≡ take n (drop (length front) bytes)
-    → front ++ take (min n block_size) block ≡ take (length (front ++ take (min n block_size) block)) bytes
-bytes_more front bytes block n is few inside le same =
-    let count : min n block_size ≡ n = least n block_size few in
-    let read : front ++ take (min n block_size) block ≡ take (length front + n) bytes =
-    ap (λ (k : ℕ). front ++ take k block) count ∙ ap (λ (t : List ℕ). front ++ t) same ∙ ap (λ (t : List ℕ). t ++ take n (drop (length front) bytes)) is ∙ sym (take-add (length front) n bytes) in
-    let long : length (front ++ take (min n block_size) block) ≡ length front + n = omega (arith, ap length read, length-take (length front + n) bytes) in
-    read ∙ ap (λ (k : ℕ). take k bytes) (sym long)
 
 bounded : (n left size rest : ℕ) → n ≡ min (min left size) rest → (n ≤ size) × (n ≤ rest)
 bounded n left size rest e = (omega arith, omega arith)
@@ -47,24 +41,28 @@ bounded n left size rest e = (omega arith, omega arith)
 all_told : (k whole long n size : ℕ) → k ≤ whole → long ≡ whole → 0 < size → n ≡ min (min (long - k) size) (whole - k) → n ≡ 0 → k ≡ whole
 all_told k whole long n size le is some count none = omega arith
 
-pub count_reading : (bytes : List ℕ) (r : ReaderState) (long n : ℕ) → IsReading bytes r → long ≡ length bytes → n ≡ min (min (long - length r.bytes) block_size) (length (drop (length r.bytes) bytes))
-    → take n r.block ≡ take n (drop (length r.bytes) bytes) → IsReading bytes (after_count r n)
-count_reading bytes r long n h is count same =
-    let le = within bytes r h in
-    let rest : length (drop (length r.bytes) bytes) ≡ length bytes - length r.bytes = length-drop (length r.bytes) bytes in
-    let few = bounded n (long - length r.bytes) block_size (length (drop (length r.bytes) bytes)) count in
-    let ended : ReaderState = record { member = r.member; length_told = Some (length r.bytes); bytes = r.bytes; block = r.block } in
-    let more : ReaderState = record { member = r.member; length_told = r.length_told; bytes = r.bytes ++ take (min n block_size) r.block; block = r.block } in
+pub count_reading : ReaderLaws → (bytes : List ℕ) (r : ReaderState) (long n : ℕ) → IsReading bytes r → AreBytes r.block → long ≡ length bytes → n ≡ min (min (long - r.held.end) block_size) (length (drop r.held.end bytes))
+    → take n r.block ≡ take n (drop r.held.end bytes) → IsReading bytes (after_count r n)
+count_reading laws bytes r long n h are is count same =
+    let le = h.of.within in
+    let rest : length (drop r.held.end bytes) ≡ length bytes - r.held.end = length-drop r.held.end bytes in
+    let few = bounded n (long - r.held.end) block_size (length (drop r.held.end bytes)) count in
+    let ended : ReaderState = record { member = r.member; length_told = Some r.held.end; held = r.held; block = r.block } in
+    let more : ReaderState = record { member = r.member; length_told = r.length_told; held = grown r.held (take (min n block_size) r.block); block = r.block } in
+    let size : n ≡ min n block_size = sym (least n block_size few.0) in
     cond_both (n == 0) ended more (IsReading bytes)
-    (λ e. record { front = h.front; told = all_told (length r.bytes) (length bytes) long n block_size le is (lit< tt) (count ∙ ap (min (min (long - length r.bytes) block_size)) rest) (eqb-true n 0 e) })
-    (λ e. record { front = bytes_more r.bytes bytes r.block n h.front few.0 (omega (arith, few.1, rest)) le same; told = h.told })
+    (λ e. record { of = h.of; told = all_told r.held.end (length bytes) long n block_size le is (lit< tt) (count ∙ ap (min (min (long - r.held.end) block_size)) rest) (eqb-true n 0 e) })
+    (λ e. record { of = subst (λ (k : ℕ). IsOf bytes (grown r.held (take k r.block))) size (laws.grown bytes r.held r.block n h.of are (omega (arith, few.1, rest, le)) same); told = h.told })
+
+pub length_reading : ReaderLaws → (bytes : List ℕ) (r : ReaderState) (long : ℕ) → IsReading bytes r → long ≡ length bytes → IsReading bytes (after_length r long)
+length_reading laws bytes r long h is = record { of = laws.keeping bytes r.held (nat_le long block_size) h.of; told = is }
 
 long_told : (o : Option ℕ) (n : ℕ) (bytes : List ℕ) → TellsLength o bytes → is_long n o ≡ true → length bytes ≤ n
 long_told None n bytes is e = absurd cc
 long_told (Some long) n bytes is e = omega (arith, leb-true long n e)
 
-pub whole_read : (bytes : List ℕ) (r : ReaderState) → IsReading bytes r → is_whole r ≡ true → r.bytes ≡ bytes
-whole_read bytes r h e = h.front ∙ take_all (length r.bytes) bytes (long_told r.length_told (length r.bytes) bytes h.told e)
+pub whole_read : (bytes : List ℕ) (r : ReaderState) → IsReading bytes r → is_whole r ≡ true → length bytes ≤ r.held.end
+whole_read bytes r h e = long_told r.length_told r.held.end bytes h.told e
 
 -- ---- all logs in turn
 
@@ -75,20 +73,20 @@ pub record Reads (o : Logs) (r : ReaderState) (logs : List Log) : Type 0 where
   pub are : AreFrom 0 logs o
   pub reading : IsReading (log_at o (length logs)) r
 
-pub first_reads : (o : Logs) (r : ReaderState) → IsNew 1 r → Reads o r []
-first_reads o r is = record { member_is = is.member_is; few = lit< tt; are = tt; reading = new_reading (log_at o 0) r 1 is }
+pub first_reads : ReaderLaws → (o : Logs) (r : ReaderState) → IsNew 1 r → Reads o r []
+first_reads laws o r is = record { member_is = is.member_is; few = lit< tt; are = tt; reading = new_reading laws (log_at o 0) r 1 is }
 
 -- one log more
-pub more_read : (o : Logs) (r : ReaderState) (logs : List Log) (log : Log) → Reads o r logs → is_whole r ≡ true → log.member ≡ r.member → IsLogOf r.bytes log → AreFrom 0 (logs ++ log ∷ []) o
-more_read o r logs log h whole member is =
+pub more_read : ReaderLaws → (o : Logs) (r : ReaderState) (logs : List Log) (log : Log) → Reads o r logs → is_whole r ≡ true → log.member ≡ r.member → IsLogRead r log → AreFrom 0 (logs ++ log ∷ []) o
+more_read laws o r logs log h whole member is =
     let e : length logs ≡ 0 + length logs = omega arith in
-    let its : IsLogOf (log_at o (length logs)) log = subst (λ (b : List ℕ). IsLogOf b log) (whole_read (log_at o (length logs)) r h.reading whole) is in
-    from_more 0 logs log o h.are (omega (arith, member, h.member_is)) (subst (λ (k : ℕ). IsLogOf (log_at o k) log) e its)
+    let its : HasLastOf (log_at o (length logs)) log = laws.last (log_at o (length logs)) r log h.reading.of (whole_read (log_at o (length logs)) r h.reading whole) is in
+    from_more 0 logs log o h.are (omega (arith, member, h.member_is)) (subst (λ (k : ℕ). HasLastOf (log_at o k) log) e its)
 
-pub next_reads : (o : Logs) (r next : ReaderState) (logs : List Log) (log : Log) → Reads o r logs → AreFrom 0 (logs ++ log ∷ []) o → r.member < 32 → IsNew (r.member + 1) next → Reads o next (logs ++ log ∷ [])
-next_reads o r next logs log h are more is = record {
+pub next_reads : ReaderLaws → (o : Logs) (r next : ReaderState) (logs : List Log) (log : Log) → Reads o r logs → AreFrom 0 (logs ++ log ∷ []) o → r.member < 32 → IsNew (r.member + 1) next → Reads o next (logs ++ log ∷ [])
+next_reads laws o r next logs log h are more is = record {
   member_is = omega (arith, is.member_is, h.member_is, length_push logs log);
   few = omega (arith, more, h.member_is, length_push logs log);
   are = are;
-  reading = new_reading (log_at o (length (logs ++ log ∷ []))) next (r.member + 1) is;
+  reading = new_reading laws (log_at o (length (logs ++ log ∷ []))) next (r.member + 1) is;
 }

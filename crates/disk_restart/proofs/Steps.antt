@@ -27,7 +27,7 @@ use Rattle.disk_restart.specs.Keeping.{KeepsRecords}
 use Rattle.disk_restart.proofs.Told.{told_on, told_as, answered}
 use Rattle.disk_restart.proofs.Whole.{ReadsSound, IsWhole, append_kept, append_whole}
 use Rattle.disk_restart.proofs.Cutting.{Logs, Keeps, set_kept, set_whole, cut}
-use Rattle.disk_restart.proofs.Reading.{Reads, first_reads}
+use Rattle.disk_restart.proofs.Reading.{ReaderLaws, Reads, first_reads}
 use Rattle.disk_restart.proofs.Stages.{Cuts, Stands, Adds, InStage, AfterCall, Runs, Good}
 use Rattle.disk_restart.proofs.Going.{done_good}
 use Rattle.disk_restart.proofs.Calls.{Made, itself, kept}
@@ -51,7 +51,7 @@ never_on h k r n s is takes long going =
     let ends : state.Done h.counter ≡ s = ap (λ (q : Next). q.1) u in
     cc
 
-module _ (sound : ReadsSound) (o : Logs) (h k x : Restart) (w v : Drive) (r : Reply) (s : State) (c : Contents) (is : w.contents ≡ Some c) (takes : TakesReply x r s k) (going : s ≡ state.Going) where
+module _ (sound : ReadsSound) (laws : ReaderLaws) (o : Logs) (h k x : Restart) (w v : Drive) (r : Reply) (s : State) (c : Contents) (is : w.contents ≡ Some c) (takes : TakesReply x r s k) (going : s ≡ state.Going) where
   abbrev Goes : Type 0
   Goes = Becomes (Some c) v.contents (λ _ d. Runs o k d.logs)
 
@@ -101,7 +101,7 @@ module _ (sound : ReadsSound) (o : Logs) (h k x : Restart) (w v : Drive) (r : Re
       record { keeps = set_kept o c.logs (tail.member - 1) front i.keeps i.due.0; count = i.count ∙ sym (length-set c.logs (tail.member - 1) front); due = i.due.1 }
 
   pub goes : (st : Stage) → h.stage ≡ st → InStage st o h c.logs → Calls h (call_in st h) w (Ok r) v x → Goes
-  goes stage.ReadLog at i calls = reading_goes sound o h k x w v r s c is at i going calls takes
+  goes stage.ReadLog at i calls = reading_goes sound laws o h k x w v r s c is at i going calls takes
   goes (stage.CutTail tail) at i calls = cut_goes (stage.CutTail tail) tail.member tail.length at (after_cut tail i) calls.0 calls.1
   goes (stage.RedoRead page) at i calls = page_goes (stage.RedoRead page) page at i calls.0 calls.1
   goes (stage.RedoWrite page) at i calls = written_goes (stage.RedoWrite page) page at i calls.0 calls.1
@@ -116,15 +116,15 @@ module _ (sound : ReadsSound) (o : Logs) (h k x : Restart) (w v : Drive) (r : Re
 
 -- ---- a step
 
-made_goes : ReadsSound → (o : Logs) (h k x : Restart) (w v : Drive) (made : Made) (result : Result State NoMemory) (c : Contents) → w.contents ≡ Some c → Runs o h c.logs → Calls h (call_of h) w made v x → Takes x made result k → result ≡ Ok state.Going
+made_goes : ReadsSound → ReaderLaws → (o : Logs) (h k x : Restart) (w v : Drive) (made : Made) (result : Result State NoMemory) (c : Contents) → w.contents ≡ Some c → Runs o h c.logs → Calls h (call_of h) w made v x → Takes x made result k → result ≡ Ok state.Going
     → Becomes (Some c) v.contents (λ _ d. Runs o k d.logs)
-made_goes sound o h k x w v (Ok r) result c is runs calls takes going =
+made_goes sound laws o h k x w v (Ok r) result c is runs calls takes going =
     let t : TakesReply x r state.Going k = subst (λ (z : Result State NoMemory). IfOk z (λ s. TakesReply x r s k)) going takes in
-    goes sound o h k x w v r state.Going c is t refl h.stage refl runs calls
-made_goes sound o h k x w v (Err failures.Failed) result c is runs calls takes going =
+    goes sound laws o h k x w v r state.Going c is t refl h.stage refl runs calls
+made_goes sound laws o h k x w v (Err failures.Failed) result c is runs calls takes going =
     let failed : Ok state.Failed ≡ Ok state.Going = sym takes.0 ∙ going in
     absurd cc
-made_goes sound o h k x w v (Err failures.NoMemory) result c is runs calls takes going =
+made_goes sound laws o h k x w v (Err failures.NoMemory) result c is runs calls takes going =
     absurd (subst WantsMemory going takes.0)
 
 abbrev pub RunsOn : Contents → Restart → Contents → Type 0
@@ -133,15 +133,15 @@ RunsOn o h c = Runs o.logs h c.logs
 abbrev pub Alive : Option Contents → Restart → Option Contents → Type 0
 Alive before h now = Becomes before now (λ o c. RunsOn o h c)
 
-pub begun : (before : Option Contents) (h : Restart) → ((c : Contents) → before ≡ Some c → length c.logs ≡ 32) → IsBegun h → Alive before h before
-begun None h law is = tt
-begun (Some c) h law is =
-    let reads : Reads c.logs h.reader h.logs = subst (λ (logs : List Log). Reads c.logs h.reader logs) (sym is.no_logs) (first_reads c.logs h.reader is.reader_is) in
+pub begun : ReaderLaws → (before : Option Contents) (h : Restart) → ((c : Contents) → before ≡ Some c → length c.logs ≡ 32) → IsBegun h → Alive before h before
+begun laws None h law is = tt
+begun laws (Some c) h law is =
+    let reads : Reads c.logs h.reader h.logs = subst (λ (logs : List Log). Reads c.logs h.reader logs) (sym is.no_logs) (first_reads laws c.logs h.reader is.reader_is) in
     subst (λ (st : Stage). InStage st c.logs h c.logs) (sym is.stage_is) (record { same = refl; all = law c refl; reads = reads })
 
-pub step_goes : ReadsSound → (before : Option Contents) (w v : Drive) (h k : Restart) (result : Result State NoMemory) → Alive before h w.contents → Steps w h result v k → result ≡ Ok state.Going → Alive before k v.contents
-step_goes sound before w v h k result runs step going =
-    told_on (λ o c. RunsOn o h c) (λ o c. RunsOn o k c) before w.contents v.contents runs (λ o c is now. made_goes sound o.logs h k step.after w v step.made result c is now step.calls step.takes going)
+pub step_goes : ReadsSound → ReaderLaws → (before : Option Contents) (w v : Drive) (h k : Restart) (result : Result State NoMemory) → Alive before h w.contents → Steps w h result v k → result ≡ Ok state.Going → Alive before k v.contents
+step_goes sound laws before w v h k result runs step going =
+    told_on (λ o c. RunsOn o h c) (λ o c. RunsOn o k c) before w.contents v.contents runs (λ o c is now. made_goes sound laws o.logs h k step.after w v step.made result c is now step.calls step.takes going)
 
 keeps_of : (o : Contents) (d : Contents) → Keeps o.logs d.logs → KeepsRecords o d
 keeps_of o d keeps = λ member. keeps (member - 1)

@@ -8,7 +8,8 @@ use Rattle.ds_model.specs.declared.log.LogRecord.{LogRecord}
 use Rattle.ds_model.specs.Logs.{IsLog, IsTorn}
 use Rattle.ds_model.specs.RecordBytes.{IsAllowed, record_bytes, log_bytes}
 use Rattle.log_record.specs.declared.log.Log.{Log}
-use Rattle.log_record.specs.Logs.{parts_in, IsLogOf}
+use Rattle.log_record.specs.Logs.{parts_in}
+use Rattle.log_reader.specs.Keeping.{HasLastOf}
 use Rattle.disk_restart.specs.Keeping.{is_lasting, kept_if, lasting_from, lasting_among, lasting_in, lasting}
 use Rattle.disk_restart.proofs.Kept.{lasting_read}
 use Rattle.disk_restart.proofs.Each.{each_append}
@@ -38,14 +39,18 @@ whole_lasting sound bytes records spelled allowed = lasting_is sound bytes recor
 
 -- ---- a log that is cut
 
-pub cut_whole : (bytes : List ℕ) (log : Log) → IsLogOf bytes log → IsWhole log.length (take log.length bytes)
-cut_whole bytes log is = record { size_is = omega (arith, length-take log.length bytes, is.whole); records = log.records; spelled = is.spelled; allowed = is.allowed }
+-- with all its records
+abbrev whole_log : Log → List LogRecord → Log
+whole_log log front = record { member = log.member; records = front ++ log.records; length = log.length; tail = log.tail }
 
-pub cut_kept : ReadsSound → (bytes : List ℕ) (log : Log) → IsLogOf bytes log → lasting (take log.length bytes) ≡ lasting bytes
-cut_kept sound bytes log is = whole_lasting sound (take log.length bytes) log.records is.spelled is.allowed ∙ sym (lasting_read bytes log is)
+pub cut_whole : (bytes : List ℕ) (log : Log) → HasLastOf bytes log → IsWhole log.length (take log.length bytes)
+cut_whole bytes log h = record { size_is = omega (arith, length-take log.length bytes, h.is.whole); records = h.front ++ log.records; spelled = h.is.spelled; allowed = h.is.allowed }
 
-pub uncut_whole : (bytes : List ℕ) (log : Log) → IsLogOf bytes log → log.tail ≡ 0 → IsWhole log.length bytes
-uncut_whole bytes log is none = subst (IsWhole log.length) (take_all log.length bytes (omega (arith, is.whole, none))) (cut_whole bytes log is)
+pub cut_kept : ReadsSound → (bytes : List ℕ) (log : Log) → HasLastOf bytes log → lasting (take log.length bytes) ≡ lasting bytes
+cut_kept sound bytes log h = whole_lasting sound (take log.length bytes) (h.front ++ log.records) h.is.spelled h.is.allowed ∙ sym (lasting_read bytes (whole_log log h.front) h.is)
+
+pub uncut_whole : (bytes : List ℕ) (log : Log) → HasLastOf bytes log → log.tail ≡ 0 → IsWhole log.length bytes
+uncut_whole bytes log h none = subst (IsWhole log.length) (take_all log.length bytes (omega (arith, h.is.whole, none))) (cut_whole bytes log h)
 
 -- ---- records that are appended, or a front of their bytes
 

@@ -7,6 +7,7 @@ ghost use Rattle.disk_restart.specs.Keeping.{KeepsRecords};
 use ds_base::NoMemory;
 use ds_disk::Disk;
 use group_restart::{GroupRestart, State};
+use log_reader::reader_laws;
 use log_record::log_laws;
 use std::alloc::Global;
 
@@ -21,6 +22,7 @@ pub fn restart_disk<D: Disk>(alloc: Global, disk: &mut D) -> Result<State, NoMem
     ensures keeps { Becomes (D.contents disk.old) (D.contents disk.new) KeepsRecords }
 {
     log_laws();
+    reader_laws();
     let mut restart = GroupRestart::new(alloc)?;
     for _ in 0..u64::MAX {
         let state = restart.step(alloc, disk)?;

@@ -1,6 +1,7 @@
 -- What a group restart makes of an answer.
-use Rattle.std.specs.Prelude.{◌≡◌, ℕ, ◌+◌, ◌^◌, nat_lt, Bool, true, false, ◌&&◌, if◌then◌else◌, List, [], ◌∷◌, ◌++◌, length, drop, slice_get, Option, Some, None, Result, Ok, Err}
+use Rattle.std.specs.Prelude.{◌≡◌, ℕ, ◌+◌, ◌^◌, ◌==◌, nat_lt, Bool, true, false, ◌&&◌, if◌then◌else◌, List, [], ◌∷◌, ◌++◌, length, drop, slice_get, Option, Some, None, Result, Ok, Err}
 use Rattle.ds_base.specs.declared.names.PageId.{PageId}
+use Rattle.ds_base.specs.declared.names.Volume.{Volume}
 use Rattle.ds_base.specs.declared.names.Volume.TheVariants as volume
 use Rattle.ds_model.specs.declared.log.LogRecord.{LogRecord}
 use Rattle.ds_model.specs.RecordBytes.{log_bytes}
@@ -10,6 +11,9 @@ use Rattle.log_record.specs.declared.log.Log.{Log}
 use Rattle.log_reader.specs.declared.calls.LogReply.{LogReply}
 use Rattle.log_reader.specs.declared.calls.LogRead.{LogRead}
 use Rattle.log_reader.specs.declared.calls.LogRead.TheVariants as read
+use Rattle.log_reader.specs.Begin.{begin_of}
+use Rattle.checkpoint_offsets.specs.Offsets.{offset_damage, earlier}
+use Rattle.log_reader.specs.Keeping.{AreBytes}
 use Rattle.log_reader.specs.Readers.{ReaderState, IsNew, IsRead, after_reply}
 use Rattle.log_trans.specs.declared.damage.Damaged.{Damaged}
 use Rattle.log_trans.specs.Damage.{log_damage}
@@ -239,13 +243,33 @@ damaged_log h member at = (h, state.Damaged (volume.Log member) at)
 abbrev pub with_reader : Restart → ReaderState → Restart
 with_reader h r = record h { reader = r }
 
--- the first number of the logs that can't stand there
+-- the byte of the member's log that stands so many bytes behind the first of the records that were read
+abbrev pub place_among : List Log → ℕ → ℕ → ℕ
+place_among [] member at = at
+place_among (log ∷ logs) member at = if log.member == member then begin_of log + at else place_among logs member at
+
+abbrev pub placed : List Log → Option Damaged → Option Damaged
+placed logs None = None
+placed logs (Some d) = Some (record { member = d.member; at = place_among logs d.member d.at })
+
+-- the first number or offset of the logs that can't stand there
 unfoldable pub found_damage : List Log → Option Damaged
-found_damage logs = log_damage logs
+found_damage logs = earlier (placed logs (log_damage logs)) (offset_damage logs)
+
+abbrev pub place_on : List Log → Volume → ℕ → ℕ
+place_on logs (volume.Log member) at = place_among logs member at
+place_on logs (volume.Page id) at = at
+
+abbrev pub placed_on : List Log → Greatest → Greatest
+placed_on logs g = record { lrsn = g.lrsn; volume = g.volume; at = place_on logs g.volume g.at }
+
+-- what the records that were read ask for; the greatest number stands so many bytes behind the first of them
+abbrev pub plan_read : List Log → Plan
+plan_read logs = with_greatest (plan_of logs) (placed_on logs (plan_of logs).greatest)
 
 abbrev pub planned : Restart → Option Damaged → Next
 planned h (Some d) = damaged_log h d.member d.at
-planned h None = next_tail (record h { plan = plan_of h.logs; logs = [] })
+planned h None = next_tail (record h { plan = plan_read h.logs; logs = [] })
 
 -- all logs are read: what is to be done follows from them
 unfoldable pub take_logs : Restart → Next
@@ -265,6 +289,7 @@ TakesRead h (read.Bad at) s k = damaged_log h h.reader.member at ≡ (k, s)
 TakesRead h (read.Whole log) s k = TakesWhole h log s k
 
 pub record TakesLog (h : Restart) (told : LogReply) (s : State) (k : Restart) : Type 0 where
+  pub bytes : AreBytes h.reader.block
   pub found : LogRead
   pub is_read : IsRead (after_reply h.reader told) found
   pub takes : TakesRead (with_reader h (after_reply h.reader told)) found s k

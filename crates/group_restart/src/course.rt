@@ -6,9 +6,10 @@ ghost use Rattle.ds_model.specs.RecordBytes.{IsAllowed, ChangeFits};
 ghost use Rattle.ds_base.specs.declared.names.Volume.TheVariants as volume;
 ghost use Rattle.group_restart.specs.declared.calls.State.TheVariants as state;
 ghost use Rattle.group_restart.specs.declared.stage.Stage.TheVariants as stage;
+ghost use Rattle.log_trans.specs.Damage.{AreAllowed, log_damage};
 ghost use Rattle.group_restart.specs.Going.{GoesOn, IsGoingOn};
 ghost use Rattle.group_restart.specs.Undo.{undo_fault};
-ghost use Rattle.group_restart.specs.Course.{found_damage, counted, has_numbers, next_tail, next_redo, begin_undo, next_closing, undo_or, next_undo, next_renewal, next_ending, done, too_few_numbers, go, TakesLog, TakesWhole, take_logs, take_page, noted, take_raised, take_undone, take_old, undo_one, undone, appended, take_done, TakesTold, TakesReply};
+ghost use Rattle.group_restart.specs.Course.{place_among, placed, place_on, plan_read, found_damage, counted, has_numbers, next_tail, next_redo, begin_undo, next_closing, undo_or, next_undo, next_renewal, next_ending, done, too_few_numbers, go, TakesLog, TakesWhole, take_logs, take_page, noted, take_raised, take_undone, take_old, undo_one, undone, appended, take_done, TakesTold, TakesReply};
 
 use crate::append::Append;
 use crate::calls::State;
@@ -18,14 +19,15 @@ use crate::records::{ended, ending};
 use crate::reply::Reply;
 use crate::stage::Stage;
 use crate::undo::{undo_fault, undo_page, undoing};
+use checkpoint_offsets::{earlier, find_wrong_offset};
 use ds_base::{Lrsn, MemberId, NoMemory, PageId, Volume};
-use log_reader::{LogRead, LogReader, LogReply};
+use log_reader::{LogRead, LogReader, LogReply, place_in};
 use log_record::Log;
 use log_trans::{Damaged, find_log_damage, has_numbers};
 use page_records::PageRecords;
 use page_redo::page_changed;
 use places_redo::bring_places;
-use restart_plan::{Logs, Undo, plan_of};
+use restart_plan::{Logs, Plan, Undo, plan_of};
 use std::alloc::Global;
 
 fn damaged_log(damaged: Damaged) -> State
@@ -38,11 +40,61 @@ fn damaged_log(damaged: Damaged) -> State
     }
 }
 
+// The byte of the member's log that stands so many bytes behind the first of the records that were read.
+fn place_among(logs: &[Log], member: MemberId, at: u64) -> Result<u64, NoMemory>
+    requires { AreAllowed logs.now }
+    ensures { IfOk result (λ place. place ≡ place_among logs.now member at) }
+{
+    for log in logs {
+        if log.member == member {
+            return place_in(log, at);
+        }
+    }
+    Ok(at)
+}
+
+// The byte of a log that stands so many bytes behind the first of its records that were read, or the byte of a page.
+fn place_on(logs: &[Log], volume: &Volume, at: u64) -> Result<u64, NoMemory>
+    requires { AreAllowed logs.now }
+    ensures { IfOk result (λ place. place ≡ place_on logs.now volume.now at) }
+{
+    match volume {
+        Volume::Log(member) => place_among(logs, *member, at),
+        Volume::Page(_) => Ok(at),
+    }
+}
+
+// The first number of the logs that can't stand there.
+fn wrong_number(alloc: Global, logs: &[Log]) -> Result<Option<Damaged>, NoMemory>
+    requires { AreAllowed logs.now }
+    ensures { IfOk result (λ damage. damage ≡ placed logs.now (log_damage logs.now)) }
+{
+    match find_log_damage(alloc, logs)? {
+        Some(Damaged { member, at }) => Ok(Some(Damaged {
+            member,
+            at: place_among(logs, member, at)?,
+        })),
+        None => Ok(None),
+    }
+}
+
 #[tactic(auto, unfolding(crate::specs::Course::found_damage))]
 fn damage_of(alloc: Global, logs: &Logs) -> Result<Option<Damaged>, NoMemory>
     ensures { IfOk result (λ damage. damage ≡ found_damage logs.now) }
 {
-    find_log_damage(alloc, logs.as_slice())
+    let logs = logs.as_slice();
+    let number = wrong_number(alloc, logs)?;
+    let offset = find_wrong_offset(alloc, logs)?;
+    Ok(earlier(number, offset))
+}
+
+// What the logs ask for that were read.
+fn plan_read(alloc: Global, logs: &Logs) -> Result<Plan, NoMemory>
+    ensures { IfOk result (λ plan. plan ≡ plan_read logs.now) }
+{
+    let mut plan = plan_of(alloc, logs)?;
+    plan.greatest.at = place_on(logs.as_slice(), &plan.greatest.volume, plan.greatest.at)?;
+    Ok(plan)
 }
 
 fn damaged_page(id: PageId, at: u16) -> State
@@ -242,7 +294,7 @@ impl GroupRestart {
         if let Some(damaged) = damage_of(alloc, &self.logs)? {
             return Ok(damaged_log(damaged));
         }
-        self.plan = plan_of(alloc, &self.logs)?;
+        self.plan = plan_read(alloc, &self.logs)?;
         self.logs = Logs::new(alloc);
         self.next_tail(alloc)
     }

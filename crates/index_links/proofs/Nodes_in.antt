@@ -1,6 +1,6 @@
 -- The nodes that are read, by page number.
-use Rattle.std.proofs.Common.{◌≡◌, ℕ, zero, suc, ◌+◌, ◌-◌, ◌<◌, ◌≤◌, Bool, true, false, ◌&&◌, List, [], ◌∷◌, ◌++◌, Option, Some, None, refl, sym, ap, subst, ◌∙◌, arith, inl, inr, append_assoc}
-use Rattle.std.specs.Prelude.{◌==◌, if◌then◌else◌, slice_get}
+use Rattle.std.proofs.Common.{◌≡◌, ℕ, zero, suc, ◌+◌, ◌-◌, ◌<◌, ◌≤◌, Bool, true, ◌&&◌, List, [], ◌∷◌, ◌++◌, Option, Some, None, refl, sym, ap, ◌∙◌, arith, inl, inr, append_assoc}
+use Rattle.std.specs.Prelude.{◌==◌, slice_get}
 use Rattle.std.proofs.lemmas.Bool.{cases_lt}
 use Rattle.std.proofs.lemmas.List.{append-nil}
 use Rattle.ds_base.specs.Pages.{index_page}
@@ -13,7 +13,7 @@ use Rattle.table_pages.specs.Kinds.{both_or_neither}
 use Rattle.table_pages.proofs.Booleans.{and_left, and_right, and_both, equal, itself, both_same, same_both}
 use Rattle.index_links.specs.declared.nodes.Node.{Node}
 use Rattle.index_links.specs.Nodes.{node_of, nodes_from}
-use Rattle.index_links.specs.Links.{node_at, is_at, node_stands, first_unlinked}
+use Rattle.index_links.specs.Links.{node_at, is_at}
 use Rattle.index_links.proofs.Kinds_in.{InIndex, named, named_made, named_is, made_inside, inside_named}
 
 -- ---- reading
@@ -115,55 +115,7 @@ there_kind at table c b low p k l = record {
   low_is = l;
 }
 
--- ---- the first that doesn't stand
-
-pub record IsUnlinked (nodes : List Node) (reached : ℕ → Bool) (first : ℕ) (list : List Node) (m : ℕ) : Type 0 where
-  pub i : ℕ
-  pub node : Node
-  pub got : slice_get list i ≡ Some node
-  pub number : m ≡ first + i
-  pub fails : node_stands nodes (reached m) m node ≡ false
-
-unlinked_cons : (nodes : List Node) (reached : ℕ → Bool) (first : ℕ) (x : Node) (xs : List Node) (m : ℕ) (b : Bool) → node_stands nodes (reached first) first x ≡ b
-    → (first_unlinked nodes reached (first + 1) xs ≡ Some m → IsUnlinked nodes reached (first + 1) xs m) → (if b then first_unlinked nodes reached (first + 1) xs else Some first) ≡ Some m
-    → IsUnlinked nodes reached first (x ∷ xs) m
-unlinked_cons nodes reached first x xs m true is ih h =
-    let u = ih h in
-    let number = u.number in
-    record { i = suc u.i; node = u.node; got = u.got; number = omega (arith, number); fails = u.fails }
-unlinked_cons nodes reached first x xs m false is ih h =
-    let same : first ≡ m = number_same first m h in
-    record { i = 0; node = x; got = refl; number = omega (arith, same); fails = subst (λ (n : ℕ). node_stands nodes (reached n) n x ≡ false) same is }
-  where
-    number_same : (a b : ℕ) → Some a ≡ Some b → a ≡ b
-    number_same a b q = cc
-
-pub unlinked : (nodes : List Node) (reached : ℕ → Bool) (first : ℕ) (list : List Node) (m : ℕ) → first_unlinked nodes reached first list ≡ Some m → IsUnlinked nodes reached first list m
-unlinked nodes reached first [] m h = absurd cc
-unlinked nodes reached first (x ∷ xs) m h = unlinked_cons nodes reached first x xs m (node_stands nodes (reached first) first x) refl (unlinked nodes reached (first + 1) xs m) h
-
-stands_first : (b : Bool) (rest : Option ℕ) (first : ℕ) → (if b then rest else Some first) ≡ None → b ≡ true
-stands_first true rest first h = refl
-stands_first false rest first h = absurd cc
-
-stands_rest : (b : Bool) (rest : Option ℕ) (first : ℕ) → (if b then rest else Some first) ≡ None → rest ≡ None
-stands_rest true rest first h = h
-stands_rest false rest first h = absurd cc
-
-pub linked : (nodes : List Node) (reached : ℕ → Bool) (first : ℕ) (list : List Node) → first_unlinked nodes reached first list ≡ None → (i : ℕ) (node : Node) → slice_get list i ≡ Some node
-    → node_stands nodes (reached (first + i)) (first + i) node ≡ true
-linked nodes reached first [] h i node g = absurd cc
-linked nodes reached first (x ∷ xs) h zero node g =
-    let t = stands_first (node_stands nodes (reached first) first x) (first_unlinked nodes reached (first + 1) xs) first h in
-    let zero_more : first ≡ first + 0 = omega arith in
-    subst (λ (n : ℕ). node_stands nodes (reached n) n node ≡ true) zero_more (subst (λ (y : Node). node_stands nodes (reached first) first y ≡ true) (node_same x node g) t)
-  where
-    node_same : (a b : Node) → Some a ≡ Some b → a ≡ b
-    node_same a b q = cc
-linked nodes reached first (x ∷ xs) h (suc i) node g =
-    let there : first + 1 + i ≡ first + suc i = omega arith in
-    subst (λ (n : ℕ). node_stands nodes (reached n) n node ≡ true) there
-    (linked nodes reached (first + 1) xs (stands_rest (node_stands nodes (reached first) first x) (first_unlinked nodes reached (first + 1) xs) first h) i node g)
+-- ---- by place in the list
 
 pub got_in : (at : Images) (table i : ℕ) (node : Node) → slice_get (nodes_of at table) i ≡ Some node → InIndex at table (1 + i)
 got_in at table i node g =

@@ -1,5 +1,5 @@
 -- Where the links and the entries of branches lead, as tests.
-use Rattle.std.specs.Prelude.{◌≡◌, ℕ, zero, suc, ◌+◌, ◌<◌, ◌≤◌, ◌==◌, nat_lt, Bool, true, false, not, ◌&&◌, ◌||◌, if◌then◌else◌, List, [], ◌∷◌, slice_get, Option, None, Some, is_some}
+use Rattle.std.specs.Prelude.{◌≡◌, ℕ, zero, suc, ◌<◌, ◌≤◌, ◌==◌, nat_lt, Bool, true, false, not, ◌&&◌, ◌||◌, if◌then◌else◌, List, [], ◌∷◌, slice_get, Option, None, Some, is_some}
 use Rattle.std.specs.List.{list_all}
 use Rattle.std.specs.FinMap as finite
 use Rattle.ds_base.specs.Pages.{index_page}
@@ -60,11 +60,6 @@ reached_in rights table number = is_some (finite.get rights (table, number))
 abbrev pub node_stands : List Node → Bool → ℕ → Node → Bool
 node_stands nodes reached number node = begins number node && (leads_on nodes node && (node.is_branch || ((number == 2) || reached)))
 
-abbrev pub first_unlinked : List Node → (ℕ → Bool) → ℕ → List Node → Option ℕ
-first_unlinked nodes reached number [] = None
-first_unlinked nodes reached number (node ∷ rest) =
-    if node_stands nodes (reached number) number node then first_unlinked nodes reached (number + 1) rest else Some number
-
 -- ---- entries
 
 abbrev pub leads_down : List Node → Entry → Bool
@@ -81,13 +76,24 @@ entries_stand nodes node es = not node.is_branch || (starts node.low es && list_
 abbrev pub page_stands : List Node → List ℕ → Bool
 page_stands nodes page = entries_stand nodes (node_of page) (entries_of page)
 
--- the page is one of the branches and leaves, and misleads
-pub record Misleads (at : Images) (table : ℕ) (nodes : List Node) (next : ℕ) (id : PageId) : Type 0 where
+-- ---- pages
+
+-- whether the page of this number is to the right of a leaf
+abbrev pub reached_among : ℕ → List Node → ℕ → Bool
+reached_among table nodes number = reached_in (rights_from table finite.empty nodes) table number
+
+-- it is right in its low key, its link and its entries, and in its place in the row of leaves
+abbrev pub is_linked : ℕ → List Node → ℕ → List ℕ → Bool
+is_linked table nodes number page = node_stands nodes (reached_among table nodes number) number (node_of page) && page_stands nodes page
+
+-- the page is one of the branches and leaves, and the first that isn't
+pub record IsFirstMisled (at : Images) (table : ℕ) (nodes : List Node) (next : ℕ) (id : PageId) : Type 0 where
   pub id_is : id ≡ index_page table id.number
   pub from_first : 1 ≤ id.number
   pub to_last : id.number < next
-  pub wrong : page_stands nodes (at (index_page table id.number)) ≡ false
+  pub wrong : is_linked table nodes id.number (at (index_page table id.number)) ≡ false
+  pub before : (n : ℕ) → 1 ≤ n → n < id.number → is_linked table nodes n (at (index_page table n)) ≡ true
 
 abbrev pub IsFoundFrom : Images → ℕ → List Node → ℕ → Option PageId → Type 0
-IsFoundFrom at table nodes next None = (n : ℕ) → 1 ≤ n → n < next → page_stands nodes (at (index_page table n)) ≡ true
-IsFoundFrom at table nodes next (Some id) = Misleads at table nodes next id
+IsFoundFrom at table nodes next None = (n : ℕ) → 1 ≤ n → n < next → is_linked table nodes n (at (index_page table n)) ≡ true
+IsFoundFrom at table nodes next (Some id) = IsFirstMisled at table nodes next id

@@ -1,7 +1,7 @@
-ghost use Rattle.std.specs.Prelude.{◌≡◌, ◌-◌, ◌<◌, ◌^◌, length, is_some, IfOk, OnOk};
+ghost use Rattle.std.specs.Prelude.{◌≡◌, IfOk, OnOk};
 ghost use Rattle.std.specs.FinMap as finite;
 ghost use Rattle.table_pages.specs.Kinds.{both_or_neither};
-ghost use Rattle.index_links.specs.Links.{node_at, is_at, begins, leads_on, has_right, with_right, rights_from, reached_in, node_stands, first_unlinked};
+ghost use Rattle.index_links.specs.Links.{node_at, is_at, begins, leads_on, has_right, with_right, rights_from, reached_in, node_stands};
 
 use crate::nodes::Node;
 use ds_base::{Key, NoMemory, TableId};
@@ -71,8 +71,8 @@ fn put_right(rights: &mut SpotMap<bool>, table: TableId, node: &Node) -> Result<
     }
 }
 
-// The pages to the right of leaves.
-fn rights_of(alloc: Global, table: TableId, nodes: &[Node]) -> Result<SpotMap<bool>, NoMemory>
+/// The pages to the right of leaves.
+pub fn rights_of(alloc: Global, table: TableId, nodes: &[Node]) -> Result<SpotMap<bool>, NoMemory>
     ensures { IfOk result (λ rights. rights ≡ rights_from table finite.empty nodes.now) }
 {
     let mut rights = SpotMap::new(alloc);
@@ -88,34 +88,17 @@ fn is_reached(rights: &SpotMap<bool>, table: TableId, number: u32) -> bool
     rights.get(table, number as u64).is_some()
 }
 
-fn stands(nodes: &[Node], rights: &SpotMap<bool>, table: TableId, number: u32, node: &Node) -> bool
+/// Whether the page of this number is right in its low key and its link, and in its place in the row of leaves.
+pub fn node_stands(
+    nodes: &[Node],
+    rights: &SpotMap<bool>,
+    table: TableId,
+    number: u32,
+    node: &Node,
+) -> bool
     ensures { result ≡ node_stands nodes.now (reached_in rights.now table number) number node.now }
 {
     begins(number, node)
         && leads_on(nodes, node)
         && (node.is_branch || number == 2 || is_reached(rights, table, number))
-}
-
-// The first page whose place among the others is wrong.
-fn find_first(nodes: &[Node], rights: &SpotMap<bool>, table: TableId) -> Option<u32>
-    requires { length nodes.now < 2 ^ 32 - 1 }
-    ensures { result ≡ first_unlinked nodes.now (reached_in rights.now table) 1 nodes.now }
-{
-    let mut number = 1;
-    for node in nodes {
-        if !stands(nodes, rights, table, number, node) {
-            return Some(number);
-        }
-        number += 1;
-    }
-    None
-}
-
-/// The first page whose low key, link or place in the row of leaves is wrong.
-pub fn find_unlinked(alloc: Global, table: TableId, nodes: &[Node]) -> Result<Option<u32>, NoMemory>
-    requires { length nodes.now < 2 ^ 32 - 1 }
-    ensures { IfOk result (λ found. found ≡ first_unlinked nodes.now (reached_in (rights_from table finite.empty nodes.now) table) 1 nodes.now) }
-{
-    let rights = rights_of(alloc, table, nodes)?;
-    Ok(find_first(nodes, &rights, table))
 }

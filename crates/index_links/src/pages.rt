@@ -1,16 +1,16 @@
-ghost use Rattle.std.specs.Prelude.{◌≡◌, ◌-◌, ◌<◌, ◌≤◌, ◌^◌, IfOk};
+ghost use Rattle.std.specs.Prelude.{◌≡◌, IfOk};
 ghost use Rattle.std.specs.List.{AllByRecursion};
+ghost use Rattle.std.specs.FinMap as finite;
 ghost use Rattle.ds_model.specs.RecordBytes.{IsAllowed};
-ghost use Rattle.page_chain.specs.Chains.{images_of, version_of};
+ghost use Rattle.page_chain.specs.Chains.{images_of};
 ghost use Rattle.page_records.specs.Places.{by_page};
 ghost use Rattle.sound_disk.specs.Indexes.{IsNodePage, index_next, AreIndexPages};
-ghost use Rattle.index_links.specs.Links.{page_stands, IsFoundFrom};
-ghost use Rattle.index_links.specs.Nodes.{nodes_from};
+ghost use Rattle.index_links.specs.Links.{rights_from, is_linked, IsFoundFrom};
 ghost use Rattle.index_links.specs.Opens.{IsTold};
 
 use crate::branches::entries_stand;
 use crate::entries::entries_in;
-use crate::links::find_unlinked;
+use crate::links::{node_stands, rights_of};
 use crate::nodes::{Node, node_of, read_nodes};
 use ds_base::{NoMemory, PageId, TableId};
 use index_leaf::next_page;
@@ -20,18 +20,28 @@ use page_format::Page;
 use page_images::header_laws;
 use page_records::{PageRecords, by_page};
 use page_versions::image_of;
+use spot_map::SpotMap;
 use std::alloc::Global;
 
-fn page_stands(alloc: Global, nodes: &[Node], id: PageId, page: &Page) -> Result<bool, NoMemory>
-    requires { IsNodePage id page.now }
-    ensures { IfOk result (λ stands. stands ≡ page_stands nodes.now page.now) }
+// Whether the page stands where it is to among the others.
+fn is_linked(
+    alloc: Global,
+    table: TableId,
+    nodes: &[Node],
+    rights: &SpotMap<bool>,
+    id: PageId,
+    page: &Page,
+) -> Result<bool, NoMemory>
+    requires rights { rights.now ≡ rights_from table finite.empty nodes.now }
+    requires page { IsNodePage id page.now }
+    ensures { IfOk result (λ linked. linked ≡ is_linked table nodes.now id.number page.now) }
 {
     let node = node_of(page);
     let entries = entries_in(alloc, page)?;
-    Ok(entries_stand(nodes, &node, &entries))
+    Ok(node_stands(nodes, rights, table, id.number, &node) && entries_stand(nodes, &node, &entries))
 }
 
-// The first branch whose entries don't lead where they are to.
+// The first page that doesn't.
 fn find_misled(
     alloc: Global,
     table: TableId,
@@ -46,18 +56,19 @@ fn find_misled(
     requires next { next ≡ index_next (images_of records.now) table }
     ensures { IfOk result (λ found. IsFoundFrom (images_of records.now) table nodes.now next found) }
 {
+    let rights = rights_of(alloc, table, nodes)?;
     for number in 1..next {
         let id = table.index_page(number);
         let page = image_of(alloc, id, records, changed)?;
-        if !page_stands(alloc, nodes, id, &page)? {
+        if !is_linked(alloc, table, nodes, &rights, id, &page)? {
             return Ok(Some(id));
         }
     }
     Ok(None)
 }
 
-/// A page of the table's index whose links or entries don't lead where they are to, where its pages are right by themselves.
-/// `changed` are the pages that the records change.
+/// The first page of the table's index whose low key, link, entries or place in the row of leaves is wrong, where its pages are
+/// right by themselves. `changed` are the pages that the records change.
 ///
 /// It takes time in the logarithm of the number of these pages, and in the number of a page's own records, for each page of
 /// the index.
@@ -77,13 +88,11 @@ pub fn find_wrong_link_page_by(
     let header = image_of(alloc, table.index_page(0), records, changed)?;
     let next = next_page(&header);
     let nodes = read_nodes(alloc, table, records, changed, next)?;
-    match find_unlinked(alloc, table, &nodes)? {
-        Some(number) => Ok(Some(table.index_page(number))),
-        None => find_misled(alloc, table, records, changed, &nodes, next),
-    }
+    find_misled(alloc, table, records, changed, &nodes, next)
 }
 
-/// A page of the table's index whose links or entries don't lead where they are to, where its pages are right by themselves.
+/// The first page of the table's index whose low key, link, entries or place in the row of leaves is wrong, where its pages are
+/// right by themselves.
 ///
 /// It finds the pages that the records change first: of several tables, do so once, and call `find_wrong_link_page_by`.
 pub fn find_wrong_link_page(

@@ -20,7 +20,7 @@ use Rattle.heap_rows.proofs.Heaps.{blank_number}
 use Rattle.index_links.specs.Opens.{Opens}
 use Rattle.index_places.specs.declared.slots.Given.{Given}
 use Rattle.index_places.specs.Placing.{Places, places_from, leaf_stands, AreGiven, IsFirstFallen, AreLeavesTold}
-use Rattle.index_places.specs.Whole.{IsFirstWrongLeaf, ArePlacesTold, IsMisled, IsWholeTold, IsNamedInIndex, IsIndexRight, IsIndexTold, IsNamed, IsTableTold, IsFirstUnwhole, IsFirstTold, AreTablesTold}
+use Rattle.index_places.specs.Whole.{IsFirstWrongLeaf, ArePlacesTold, IsMisled, IsWholeTold, IsNamedInIndex, IsIndexRight, IsIndexTold, IsNamed, IsTableTold, IsFirstUnwhole}
 use Rattle.index_places.proofs.Whole.{home_in, right_of, whole_of, right_stands}
 
 not_both : (b : Bool) → b ≡ true → b ≡ false → ⊥
@@ -208,11 +208,3 @@ tables_more at records table n e w h k from lt =
       | inl less ↦ h k from less
       | inr up ↦ let same : table ≡ k = omega (arith, e, lt, up) in subst (λ (m : ℕ). IsWholeTable at records m) same w
     ]
-
-tables_found : (at : Images) (records : List LogRecord) (found : Option PageId) → IsFirstTold at records found → AreTablesTold at records found
-tables_found at records None h = h
-tables_found at records (Some id) h = λ w. h.unwhole (w h.table h.is_table)
-
-pub tables_told : {E : Type 0} (at : Images) (records : List LogRecord) (result : Result (Option PageId) E) → IfOk result (λ found. IsFirstTold at records found) → IfOk result (λ found. AreTablesTold at records found)
-tables_told at records (Ok found) h = tables_found at records found h
-tables_told at records (Err e) h = tt

@@ -38,7 +38,7 @@ abbrev pub ArePlacesTold : Images → List LogRecord → ℕ → Option PageId �
 ArePlacesTold at records table None = IsWholeIndex at records table
 ArePlacesTold at records table (Some id) = IsFirstWrongLeaf at records table id
 
--- the machine of the index doesn't open with it, and this is one of its pages; or it does, and this is the first leaf that isn't right
+-- the machine of the index doesn't open with it, and this is the first page that misleads; or it does, and this is the first leaf that isn't right
 abbrev pub IsMisled : Images → List LogRecord → ℕ → PageId → Type 0
 IsMisled at records table id = CannotOpen at records table id ⊎ (Opens at records table × IsFirstWrongLeaf at records table id)
 
@@ -95,7 +95,3 @@ pub record IsFirstUnwhole (at : Images) (records : List LogRecord) (id : PageId)
 abbrev pub IsFirstTold : Images → List LogRecord → Option PageId → Type 0
 IsFirstTold at records None = AreAllWhole at records
 IsFirstTold at records (Some id) = IsFirstUnwhole at records id
-
-abbrev pub AreTablesTold : Images → List LogRecord → Option PageId → Type 0
-AreTablesTold at records None = AreAllWhole at records
-AreTablesTold at records (Some id) = AreAllWhole at records → ⊥

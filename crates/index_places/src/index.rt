@@ -65,8 +65,8 @@ fn find_misled(
 /// was given, or the index is whole. `changed` are the pages that the records change.
 ///
 /// It is the first that isn't right by itself; where each is, the first leaf that doesn't have exactly the places of its keys,
-/// if the links and the branches lead to the leaves, and else a page that misleads. An index that isn't formatted though slots
-/// were given has its page 1 named.
+/// if the links and the branches lead to the leaves, and else the first page that misleads. An index that isn't formatted
+/// though slots were given has its page 1 named.
 pub fn find_wrong_index(
     alloc: Global,
     table: TableId,

@@ -9,4 +9,4 @@ mod tables;
 
 pub use index::find_wrong_index;
 pub use slots::{Given, given_in};
-pub use tables::{find_first_unwhole, find_unwhole, find_unwhole_page};
+pub use tables::{find_first_unwhole, find_unwhole_page};

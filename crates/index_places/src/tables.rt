@@ -4,7 +4,7 @@ ghost use Rattle.ds_model.specs.RecordBytes.{IsAllowed};
 ghost use Rattle.page_chain.specs.Chains.{images_of};
 ghost use Rattle.page_records.specs.Places.{by_page};
 ghost use Rattle.heap_rows.specs.Maps.{AreRowsAfter};
-ghost use Rattle.index_places.specs.Whole.{IsTableTold, IsFirstTold, AreTablesTold};
+ghost use Rattle.index_places.specs.Whole.{IsTableTold, IsFirstTold};
 
 use crate::index::find_wrong_index;
 use crate::slots::given_in;
@@ -59,12 +59,4 @@ pub fn find_first_unwhole(alloc: Global, records: &[LogRecord]) -> Result<Option
         }
     }
     Ok(None)
-}
-
-/// A page of the first table that isn't whole after the records.
-pub fn find_unwhole(alloc: Global, records: &[LogRecord]) -> Result<Option<PageId>, NoMemory>
-    requires { AllByRecursion IsAllowed records.now }
-    ensures { IfOk result (λ found. AreTablesTold (images_of records.now) records.now found) }
-{
-    find_first_unwhole(alloc, records)
 }

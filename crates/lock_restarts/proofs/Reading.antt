@@ -4,9 +4,9 @@ use Rattle.std.specs.Prelude.{if◌then◌else◌}
 use Rattle.log_reader.specs.declared.calls.LogReply.{LogReply}
 use Rattle.log_reader.specs.declared.calls.LogReply.TheVariants as logged
 use Rattle.log_reader.specs.Lending.{with_block}
-use Rattle.log_reader.specs.Readers.{ReaderState, after_reply, is_whole}
+use Rattle.log_reader.specs.Readers.{ReaderState, after_reply, is_whole, parts_read}
 use Rattle.log_record.specs.declared.log.Log.{Log}
-use Rattle.log_record.specs.Logs.{Parts, parts_in}
+use Rattle.log_record.specs.Logs.{Parts}
 use Rattle.log_trans.specs.declared.damage.Damaged.{Damaged}
 use Rattle.log_trans.specs.Damage.{log_damage}
 use Rattle.ds_disk.specs.declared.disk.DiskError.{DiskError}
@@ -82,8 +82,8 @@ whole s t r m (Ok p) there e = judged s t r (log_from m p) (log_damage (log_from
 read_by : (s t : RestartState) (r q : ReaderState) → s.own.reader ≡ Some r → t ≡ with_own s (own_with s.own None) → Reads s (read_after t q)
 read_by s t r q there e = by (is_whole q)
   where
-    by : (b : Bool) → Reads s (if b then whole_after t q.member (parts_in q.bytes) else with_own t (own_with t.own (Some q)))
-    by true = whole s t r q.member (parts_in q.bytes) there e
+    by : (b : Bool) → Reads s (if b then whole_after t q.member (parts_read q) else with_own t (own_with t.own (Some q)))
+    by true = whole s t r q.member (parts_read q) there e
     by false = reader_in s (with_own t (own_with t.own (Some q))) r (Some q) there (ap (λ (z : RestartState). with_own z (own_with z.own (Some q))) e)
 
 reads_as : (s : RestartState) (o : Option ReaderState) (answer : LogReply) → s.own.reader ≡ o → Reads s (reader_after s o answer)

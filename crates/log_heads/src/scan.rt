@@ -1,6 +1,6 @@
 //! The look at each of the logs.
 
-ghost use Rattle.std.specs.Prelude.{◌≡◌, ◌+◌, ◌<◌, ◌≤◌, None, length, slice_set};
+ghost use Rattle.std.specs.Prelude.{◌≡◌, ◌+◌, ◌<◌, ◌≤◌, ℕ, true, None, length, slice_set};
 ghost use Rattle.log_head.specs.Heads.{standing_of, first_of, after_take};
 ghost use Rattle.log_heads.specs.Heads.{stop_of, first_stop, least_of_two, least_from, head_at, taken_record, taken_by, heads_by};
 
@@ -34,6 +34,17 @@ fn stop_of(place: usize, head: &Head, block: u32) -> Option<Taken>
     }
 }
 
+// Whether a log can go on.
+fn goes_on(head: &Head, block: u32) -> bool
+    ensures { result ≡ true → (member : ℕ) → stop_of member head.now.end (standing_of block head.now) ≡ None }
+{
+    match head.standing(block) {
+        Standing::Ready => true,
+        Standing::Ends { at } => head.end() <= at,
+        Standing::Wants { .. } | Standing::Bad { .. } => false,
+    }
+}
+
 /// The first log that can't go on.
 #[tactic(auto, using(crate::proofs::Scans::stop_here, crate::proofs::Scans::stop_behind, crate::proofs::Scans::stop_none))]
 pub fn first_stop(heads: &[Head], block: u32) -> Option<Taken>
@@ -41,6 +52,9 @@ pub fn first_stop(heads: &[Head], block: u32) -> Option<Taken>
     ensures { result ≡ first_stop block 1 heads.now }
 {
     for place in 0..heads.len() {
+        if goes_on(&heads[place], block) {
+            continue;
+        }
         if let Some(stop) = stop_of(place, &heads[place], block) {
             return Some(stop);
         }

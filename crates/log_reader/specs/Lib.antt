@@ -1,2 +1,5 @@
+pub mod Begin
+pub mod Held
+pub mod Keeping
 pub mod Lending
 pub mod Readers

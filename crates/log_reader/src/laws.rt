@@ -1,10 +1,15 @@
-//! What the reading of sound logs comes to. The function does nothing: it is called where its facts are needed.
+//! What the reading of a log comes to. The function does nothing: it is called where its facts are needed.
 
-ghost use Rattle.log_reader.specs.Readers.{ReadsSound};
+ghost use Rattle.log_reader.specs.Keeping.{NothingIsOf, KeepingIsOf, GrownIsOf, ReadIsLast};
 
-/// The log that is read of a sound log's bytes has their records, and what follows them as its tail.
+/// What is kept of a log are its bytes behind whole records. The log that is read in the end has the last records of the
+/// log of all bytes, ends where that ends, and has its tail.
 pub fn reader_laws()
-    ensures { ReadsSound }
+    ensures nothing { NothingIsOf }
+    ensures keeping { KeepingIsOf }
+    ensures grown { GrownIsOf }
+    ensures last { ReadIsLast }
 {
-    log_record::log_laws();
+    log_record::reading_laws();
+    log_head::whole_laws();
 }

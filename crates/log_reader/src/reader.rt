@@ -1,7 +1,9 @@
-ghost use Rattle.std.specs.Prelude.{◌≡◌, ◌⊎◌, true, IfOk, OnOk, OnErr};
+ghost use Rattle.std.specs.Prelude.{◌≡◌, ◌+◌, ◌⊎◌, true, IfOk, OnOk, OnErr};
 ghost use Rattle.std.specs.Borrow.{sem};
+ghost use Rattle.log_reader.specs.Keeping.{AreBytes};
 
 use crate::calls::{LogCall, LogRead, LogReply};
+use crate::held::Held;
 use ds_base::{MemberId, NoMemory};
 use log_record::{Log, RecordFault, records_in};
 use std::alloc::Global;
@@ -15,7 +17,7 @@ pub const BLOCK: usize = 65_536;
 pub struct LogReader {
     member: MemberId,
     length: Option<u64>,
-    bytes: Vec<u8>,
+    held: Held,
     block: Box<[u8; BLOCK]>,
 }
 
@@ -25,11 +27,18 @@ impl Model for LogReader {
 
     ghost Value = { ReaderState };
 
-    ghost view = { λ r. record { member = r.member; length_told = r.length; bytes = r.bytes.items; block = box_value r.block } };
+    ghost view = { λ r. record { member = r.member; length_told = r.length; held = r.held; block = box_value r.block } };
+}
+
+// What a block has are bytes. The function does nothing: it is called where that is needed.
+fn are_bytes(block: &[u8])
+    ensures { AreBytes block.now }
+{
+    let _bytes = block;
 }
 
 impl LogReader {
-    ghost use Rattle.log_reader.specs.Readers.{IsNew, next_call, after_count, after_reply, is_whole, IsRead};
+    ghost use Rattle.log_reader.specs.Readers.{IsNew, next_call, after_length, after_count, after_reply, is_whole, IsRead};
     ghost use Rattle.log_reader.specs.Lending.{LendsBlock};
 
     /// A reader of the member's log, of which nothing is read yet.
@@ -39,7 +48,7 @@ impl LogReader {
         Ok(LogReader {
             member,
             length: None,
-            bytes: Vec::new(alloc),
+            held: Held::new(alloc),
             block: Box::new(alloc, [0; BLOCK])?,
         })
     }
@@ -58,7 +67,7 @@ impl LogReader {
         let Some(length) = self.length else {
             return LogCall::Length;
         };
-        let at = self.bytes.len() as u64;
+        let at = self.held.end();
         let count = length.saturating_sub(at).min(BLOCK as u64) as u32;
         LogCall::Read { at, count }
     }
@@ -76,47 +85,64 @@ impl LogReader {
     {
         match self.length {
             None => false,
-            Some(length) => length <= self.bytes.len() as u64,
+            Some(length) => length <= self.held.end(),
         }
     }
 
-    fn count(&mut self, count: usize) -> Result<(), NoMemory>
+    // Of a log that is no longer than a block nothing is left out.
+    fn tell(&mut self, length: u64)
+        ensures { self.new ≡ after_length self.old length }
+    {
+        self.length = Some(length);
+        self.held.keep_all(length <= BLOCK as u64);
+    }
+
+    fn count(&mut self, alloc: Global, count: usize) -> Result<(), NoMemory>
         ensures ok { OnOk result (self.new ≡ after_count self.old count) }
         ensures err { OnErr result (self.new ≡ self.old) }
     {
         if count == 0 {
-            self.length = Some(self.bytes.len() as u64);
+            self.length = Some(self.held.end());
+            Ok(())
         } else {
-            let read = &self.block[..count.min(BLOCK)];
-            self.bytes.extend_from_slice(read)?;
+            self.held.grow(alloc, &self.block[..count.min(BLOCK)])
         }
-        Ok(())
     }
 
-    fn enter(&mut self, reply: LogReply) -> Result<(), NoMemory>
+    fn enter(&mut self, alloc: Global, reply: LogReply) -> Result<(), NoMemory>
         ensures ok { OnOk result (self.new ≡ after_reply self.old reply) }
         ensures err { OnErr result (self.new ≡ self.old) }
     {
         match reply {
-            LogReply::Length(length) => self.length = Some(length),
-            LogReply::Count(count) => self.count(count)?,
+            LogReply::Length(length) => self.tell(length),
+            LogReply::Count(count) => self.count(alloc, count)?,
         }
         Ok(())
     }
 
-    // The records of the bytes, all of which are read.
+    // The byte of the log that stands so many bytes behind the first one that is kept.
+    fn place(&self, at: usize) -> Result<u64, NoMemory>
+        ensures { IfOk result (λ place. place ≡ self.now.held.start + at) }
+    {
+        self.held.start().checked_add(at as u64).ok_or(NoMemory)
+    }
+
+    // The records of the bytes that are kept, all of which are read.
     fn read(&self, alloc: Global) -> Result<LogRead, NoMemory>
         requires { is_whole self.now ≡ true }
         ensures { IfOk result (λ read. IsRead self.now read) }
     {
-        match records_in(alloc, &self.bytes) {
+        let bytes = self.held.bytes();
+        match records_in(alloc, bytes) {
             Ok((records, length)) => Ok(LogRead::Whole(Log {
                 member: self.member,
                 records,
-                length: length as u64,
-                tail: (self.bytes.len() - length) as u64,
+                length: self.place(length)?,
+                tail: (bytes.len() - length) as u64,
             })),
-            Err(RecordFault::Bad { at }) => Ok(LogRead::Bad { at: at as u64 }),
+            Err(RecordFault::Bad { at }) => Ok(LogRead::Bad {
+                at: self.place(at)?,
+            }),
             Err(RecordFault::NotWhole | RecordFault::NoMemory) => Err(NoMemory),
         }
     }
@@ -127,9 +153,11 @@ impl LogReader {
     pub fn take(&mut self, alloc: Global, reply: LogReply) -> Result<LogRead, NoMemory>
         ensures answers { IfOk result (λ read. IsRead self.new read) }
         ensures ok { OnOk result (self.new ≡ after_reply self.old reply) }
+        ensures bytes { AreBytes self.old.block }
         ensures err { OnErr result ((self.new ≡ self.old) ⊎ (self.new ≡ after_reply self.old reply)) }
     {
-        self.enter(reply)?;
+        are_bytes(&*self.block);
+        self.enter(alloc, reply)?;
         if !self.is_whole() {
             return Ok(LogRead::More);
         }

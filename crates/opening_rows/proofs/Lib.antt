@@ -6,3 +6,9 @@ mod Order
 mod Heads
 mod RowsTold
 mod Taking
+mod Enough
+mod LogTaken
+mod ReadOn
+mod KeptMore
+mod Judged
+mod WholeLogs

@@ -18,10 +18,10 @@ use Rattle.opening_rows.proofs.Told.{reads_to, reads_err, err_to}
 use Rattle.opening_rows.proofs.Surveys.{falls, damaged, passes_on, passes_none, nothing_passed, surveyed}
 use Rattle.opening_rows.proofs.Opens.{more_surveyed}
 
-abbrev NextIn : ℕ → HeadState → HeadState → Option LogRecord → Contents → Type 0
+abbrev pub NextIn : ℕ → HeadState → HeadState → Option LogRecord → Contents → Type 0
 NextIn member h g next c = IsOf (log_of c.logs member) h → IsNext (log_of c.logs member) h g next
 
-abbrev BadIn : ℕ → HeadState → ℕ → ℕ → Contents → Type 0
+abbrev pub BadIn : ℕ → HeadState → ℕ → ℕ → Contents → Type 0
 BadIn member h m at c = (m ≡ member) × (IsOf (log_of c.logs member) h → IsBadAt (log_of c.logs member) h at)
 
 abbrev PassedIn : ℕ → HeadState → ℕ → ℕ → (ℕ → Bool) → HeadState → ℕ → ℕ → (ℕ → Bool) → Bool → Contents → Type 0
@@ -32,7 +32,7 @@ BreaksIn member h low count now m at c = (before : ℕ → Bool) → IsPassed (l
 
 -- ---- none is left
 
-stays : (next : Option LogRecord) (h g : HeadState) → next ≡ None → IsPast h g next → g.at ≡ h.at
+pub stays : (next : Option LogRecord) (h g : HeadState) → next ≡ None → IsPast h g next → g.at ≡ h.at
 stays None h g e p = p.behind
 stays (Some r) h g e p = absurd cc
 
@@ -121,7 +121,7 @@ survey_starts a b n k member len h now p is =
     no_failure : IsErrOf {T = Bool} {E = LogsFault} (Ok true) Failed → ⊥
     no_failure e = cc
 
-is_over : (log : List ℕ) (h : HeadState) (more : Bool) → more ≡ false → IsOver log h more → IsShort (record_in (left_bytes log h))
+pub is_over : (log : List ℕ) (h : HeadState) (more : Bool) → more ≡ false → IsOver log h more → IsShort (record_in (left_bytes log h))
 is_over log h true e o = absurd cc
 is_over log h false e o = o
 

@@ -47,13 +47,13 @@ or_none : (a : Bool) → a ≡ (a || false)
 or_none true = refl
 or_none false = refl
 
-abbrev ok_parts : Parts → Result Parts ℕ
+abbrev pub ok_parts : Parts → Result Parts ℕ
 ok_parts p = Ok p
 
-abbrev err_at : ℕ → Result Parts ℕ
+abbrev pub err_at : ℕ → Result Parts ℕ
 err_at k = Err k
 
-parts_more : (rs : List LogRecord) (at : ℕ) (r : LogRecord) (n : ℕ) (q : Result Parts ℕ) → put_before rs at (parts.behind r n q) ≡ put_before (rs ++ r ∷ []) (at + n) q
+pub parts_more : (rs : List LogRecord) (at : ℕ) (r : LogRecord) (n : ℕ) (q : Result Parts ℕ) → put_before rs at (parts.behind r n q) ≡ put_before (rs ++ r ∷ []) (at + n) q
 parts_more rs at r n (Ok p) =
     let records : rs ++ (r ∷ p.records) ≡ (rs ++ r ∷ []) ++ p.records = sym (append_assoc rs (r ∷ []) p.records) in
     let size : at + (n + p.size) ≡ at + n + p.size = omega arith in
@@ -130,7 +130,7 @@ none_over log h g n = subst (λ (t : List ℕ). IsShort (record_in t)) (sym n.ne
 
 -- ---- the whole log
 
-none_before : (q : Result Parts ℕ) → q ≡ put_before [] 0 q
+pub none_before : (q : Result Parts ℕ) → q ≡ put_before [] 0 q
 none_before (Ok p) = let e : p.size ≡ 0 + p.size = omega arith in ap (λ (k : ℕ). ok_parts (record { records = p.records; size = k; tail = p.tail })) e
 none_before (Err k) = let e : k ≡ 0 + k = omega arith in ap err_at e
 

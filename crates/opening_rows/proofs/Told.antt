@@ -140,7 +140,7 @@ reads_to a b n k IsP BadP x IsR BadR r p ok bad never = record {
 abbrev pub err_of : {X : Type 0} → LogsFault → Result X LogsFault
 err_of f = Err f
 
-same_fault : {Y : Type 0} (x y : LogsFault) → IsErrOf {T = Y} (Err x) y → x ≡ y
+pub same_fault : {Y : Type 0} (x y : LogsFault) → IsErrOf {T = Y} (Err x) y → x ≡ y
 same_fault x y i = cc
 
 err_as : {X Y : Type 0} (f e : LogsFault) → IsErrOf {T = Y} (Err f) e → IsErrOf {T = X} (Err f) e

@@ -98,8 +98,8 @@ fn pass(
     Ok(())
 }
 
-// The next record of the member's log.
-fn next_in<D: Disk>(
+/// The next record of the member's log.
+pub fn next_in<D: Disk>(
     alloc: Global,
     disk: &mut D,
     member: MemberId,
@@ -147,8 +147,8 @@ fn pass_one<D: Disk>(
     }
 }
 
-// The length of the member's log in bytes.
-fn length_of<D: Disk>(disk: &mut D, member: MemberId) -> Result<u64, LogsFault>
+/// The length of the member's log in bytes.
+pub fn length_of<D: Disk>(disk: &mut D, member: MemberId) -> Result<u64, LogsFault>
     ensures { ReadsBy (D.contents disk.old) (D.contents disk.new) (D.faults disk.old) (D.faults disk.new) (λ n c. n ≡ length (log_of c.logs member)) (λ m at c. ⊥) result }
 {
     match read_length(disk, member) {

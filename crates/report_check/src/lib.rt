@@ -18,5 +18,6 @@ mod sound;
 mod tests;
 
 pub use laws::soundness_laws;
+pub use logged::are_logged;
 pub use rows::rows_of;
 pub use sound::{is_sound, sound_rows};

@@ -1,11 +1,12 @@
 -- The own log, as it is read.
-use Rattle.std.specs.Prelude.{ℕ, if◌then◌else◌, [], ◌∷◌, Option, None, Some, Result, Ok, Err}
+use Rattle.std.specs.Prelude.{ℕ, ◌+◌, if◌then◌else◌, [], ◌∷◌, Option, None, Some, Result, Ok, Err}
 use Rattle.ds_base.specs.declared.names.Volume.TheVariants as volume
 use Rattle.member_log.specs.Buffers.{started}
 use Rattle.log_record.specs.declared.log.Log.{Log}
-use Rattle.log_record.specs.Logs.{Parts, parts_in}
+use Rattle.log_record.specs.Logs.{Parts}
 use Rattle.log_reader.specs.declared.calls.LogReply.{LogReply}
-use Rattle.log_reader.specs.Readers.{ReaderState, after_reply, is_whole}
+use Rattle.log_reader.specs.Begin.{begin_of}
+use Rattle.log_reader.specs.Readers.{ReaderState, after_reply, is_whole, parts_read}
 use Rattle.log_trans.specs.declared.damage.Damaged.{Damaged}
 use Rattle.log_trans.specs.Courses.{open_trans}
 use Rattle.log_trans.specs.Damage.{log_damage}
@@ -30,9 +31,9 @@ entered s log = record s {
 
 -- ---- it is judged; a damaged one is given up
 
-abbrev pub judged_told : ℕ → Option Damaged → RestartTold
-judged_told m None = told.LogWhole
-judged_told m (Some d) = told.Damaged (volume.Log m) d.at
+abbrev pub judged_told : Log → Option Damaged → RestartTold
+judged_told log None = told.LogWhole
+judged_told log (Some d) = told.Damaged (volume.Log log.member) (begin_of log + d.at)
 
 abbrev pub judged_after : RestartState → Log → Option Damaged → RestartState
 judged_after s log None = entered s log
@@ -45,17 +46,17 @@ log_from m p = record { member = m; records = p.records; length = p.size; tail =
 
 abbrev pub whole_told : ℕ → Result Parts ℕ → RestartTold
 whole_told m (Err at) = told.Damaged (volume.Log m) at
-whole_told m (Ok p) = judged_told m (log_damage (log_from m p ∷ []))
+whole_told m (Ok p) = judged_told (log_from m p) (log_damage (log_from m p ∷ []))
 
 abbrev pub whole_after : RestartState → ℕ → Result Parts ℕ → RestartState
 whole_after s m (Err at) = s
 whole_after s m (Ok p) = judged_after s (log_from m p) (log_damage (log_from m p ∷ []))
 
 abbrev pub read_told : ReaderState → RestartTold
-read_told r = if is_whole r then whole_told r.member (parts_in r.bytes) else told.LogBlock
+read_told r = if is_whole r then whole_told r.member (parts_read r) else told.LogBlock
 
 abbrev pub read_after : RestartState → ReaderState → RestartState
-read_after s r = if is_whole r then whole_after s r.member (parts_in r.bytes) else with_own s (own_with s.own (Some r))
+read_after s r = if is_whole r then whole_after s r.member (parts_read r) else with_own s (own_with s.own (Some r))
 
 -- ---- a reply of the disk
 

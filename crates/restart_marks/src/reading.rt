@@ -13,7 +13,7 @@ ghost use Rattle.restart_marks.specs.Reading.{entered, judged_told, judged_after
 use crate::marks::RestartMarks;
 use crate::told::RestartTold;
 use ds_base::{MemberId, NoMemory, Volume};
-use log_reader::{LogRead, LogReader, LogReply};
+use log_reader::{LogRead, LogReader, LogReply, place_in};
 use log_record::Log;
 use log_trans::{Damaged, greatest_number, open_trans};
 use restart_records::{judge, last_number, places_of};
@@ -51,11 +51,12 @@ impl RestartMarks {
         log: Log,
         found: Option<Damaged>,
     ) -> Result<RestartTold, NoMemory>
-        ensures told { IfOk result (λ said. said ≡ judged_told log.member found) }
+        requires { AllByRecursion IsAllowed log.records }
+        ensures told { IfOk result (λ said. said ≡ judged_told log found) }
         ensures after { OnOk result (self.new ≡ judged_after self.old log found) }
     {
         match found {
-            Some(damage) => Ok(damaged(log.member, damage.at)),
+            Some(damage) => Ok(damaged(log.member, place_in(&log, damage.at)?)),
             None => {
                 self.enter_log(alloc, log)?;
                 Ok(RestartTold::LogWhole)
@@ -65,7 +66,7 @@ impl RestartMarks {
 
     fn enter_whole(&mut self, alloc: Global, log: Log) -> Result<RestartTold, NoMemory>
         requires { AllByRecursion IsAllowed log.records }
-        ensures told { IfOk result (λ said. said ≡ judged_told log.member (log_damage (log ∷ []))) }
+        ensures told { IfOk result (λ said. said ≡ judged_told log (log_damage (log ∷ []))) }
         ensures after { OnOk result (self.new ≡ judged_after self.old log (log_damage (log ∷ []))) }
     {
         let (log, found) = judge(alloc, log)?;

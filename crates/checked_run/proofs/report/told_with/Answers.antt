@@ -1,13 +1,9 @@
-use Rattle.std.proofs.Common.{◌≡◌, true}
-use Rattle.report_check.specs.Records.{records_of}
-use Rattle.checked_run.proofs.Sound.{held_by}
+use Rattle.std.proofs.Common.{refl}
+use Rattle.checked_run.proofs.Sound.{alone_from}
 use Rattle.checked_run.proofs.report.told_with.Goals as goal
 
-pub returns : goal.returns
-returns c =
-    let yes : c.in_ok-is_sound.field-0 ≡ true = cc in
-    let whole : c.are_whole.result ≡ true = cc in (
-      c.are_whole.ensures.0 whole,
-      held_by c.soundness_laws.ensures.history c.args.script.now c.args.opening.now.rows _ c.args.entries.items (records_of c.args.logs.now) _ c.in_ok-is_sound.field-0 c.in_ok-rows.rows c.args.trace c.args.status c.in_ok-report.report
-          c.deref.ensures.value c.in_ok-is_sound.ensures yes c.in_ok-rows.ensures.rows c.in_ok-report.ensures,
-    )
+pub returns-in_ok-report-in-Some : goal.returns-in_ok-report-in-Some
+returns-in_ok-report-in-Some c = (
+  (c.in-Some.rows, c.in-Some.is),
+  alone_from c.soundness_laws.ensures.alone c.args.script.now c.args.opening.now c.args.entries.items c.args.rows c.in-Some.rows c.args.trace c.args.status c.in_ok-report-in-Some.report c.requires c.in-Some.is c.in_ok-report-in-Some.ensures,
+)

@@ -6,7 +6,7 @@ use Rattle.disk_restart.proofs.Steps.{begun, step_goes, step_keeps, alive_keeps}
 use Rattle.disk_restart.proofs.restart.restart_disk.Goals as goal
 
 pub loop-init : goal.loop-init
-loop-init g c = (omega arith, begun (g.D.Disk.contents c.args.disk.now) c.in_ok-restart.restart (g.D.Disk.has_logs c.args.disk.now) c.in_ok-restart.ensures)
+loop-init g c = (omega arith, begun (record { nothing = c.reader_laws.ensures.nothing; keeping = c.reader_laws.ensures.keeping; grown = c.reader_laws.ensures.grown; last = c.reader_laws.ensures.last }) (g.D.Disk.contents c.args.disk.now) c.in_ok-restart.restart (g.D.Disk.has_logs c.args.disk.now) c.in_ok-restart.ensures)
 
 pub returns-in_err-state-clause-keeps : goal.returns-in_err-state-clause-keeps
 returns-in_err-state-clause-keeps g c =
@@ -27,7 +27,7 @@ loop-preserved g c =
     let going : c.in_ok-state.state ≡ state.Going = first_of (search rules, grind (arith, common_steps, c.ne.ensures)) in
     let again : c.step.result ≡ Ok state.Going = cc in (
       omega (arith, c.loop.invariant.0, c.step.ensures.later),
-      step_goes c.log_laws.ensures.sound (g.D.Disk.contents c.args.disk.now) w v c.loop.restart c.step.new.self c.step.result c.loop.invariant.1 c.step.ensures.goes again,
+      step_goes c.log_laws.ensures.sound (record { nothing = c.reader_laws.ensures.nothing; keeping = c.reader_laws.ensures.keeping; grown = c.reader_laws.ensures.grown; last = c.reader_laws.ensures.last }) (g.D.Disk.contents c.args.disk.now) w v c.loop.restart c.step.new.self c.step.result c.loop.invariant.1 c.step.ensures.goes again,
     )
 
 pub returns-clause-keeps : goal.returns-clause-keeps

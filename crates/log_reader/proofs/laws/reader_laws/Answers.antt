@@ -1,11 +1,14 @@
-use Rattle.std.proofs.Common.{◌≡◌, ℕ, ◌-◌, length, Ok, sym, ap, ◌∙◌}
-use Rattle.ds_model.specs.RecordBytes.{log_bytes}
-use Rattle.log_record.specs.Logs.{Parts, parts_of}
+use Rattle.log_reader.proofs.Keeping.{nothing_is, keeping_is, grown_is, read_last}
 use Rattle.log_reader.proofs.laws.reader_laws.Goals as goal
 
-pub returns : goal.returns
-returns c = λ bytes records log sound is.
-    let read : Parts = record { records = records; size = length (log_bytes records); tail = length bytes - length (log_bytes records) } in
-    let both : Ok (parts_of log) ≡ Ok read = sym is.is_read ∙ c.log_laws.ensures.sound bytes records sound in
-    let same : parts_of log ≡ read = cc in
-    (ap (λ (p : Parts). p.records) same, ap (λ (p : Parts). p.tail) same)
+pub returns-clause-nothing : goal.returns-clause-nothing
+returns-clause-nothing c = λ log keeps_all. nothing_is c.reading_laws.ensures.found c.whole_laws.ensures.first c.whole_laws.ensures.none log keeps_all
+
+pub returns-clause-grown : goal.returns-clause-grown
+returns-clause-grown c = λ log h block n is are within next. grown_is c.reading_laws.ensures.found c.whole_laws.ensures.first c.whole_laws.ensures.none log h block n is are within next
+
+pub returns-clause-keeping : goal.returns-clause-keeping
+returns-clause-keeping c = λ log h keeps_all is. keeping_is c.reading_laws.ensures.found c.whole_laws.ensures.first c.whole_laws.ensures.none log h keeps_all is
+
+pub returns-clause-last : goal.returns-clause-last
+returns-clause-last c = λ bytes r log is whole read. read_last c.reading_laws.ensures.again c.whole_laws.ensures.goes bytes r log is whole read
