@@ -4,7 +4,7 @@ use Rattle.group_run.specs.Prepares.{IsPrepared, ReadsNothing}
 use Rattle.group_run.proofs.prepare.prepare.Goals as goal
 
 pub prepare_order-requires : goal.prepare_order-requires
-prepare_order-requires g c κs within = c.size_laws.ensures (texts c.args.words.now) c.in-Ok.order c.in-Ok.ensures.order
+prepare_order-requires g c = c.size_laws.ensures (texts c.args.words.now) c.in-Ok.order c.in-Ok.ensures.order
 
 pub returns-in-Ok-clause-prepared : goal.returns-in-Ok-clause-prepared
 returns-in-Ok-clause-prepared g c =

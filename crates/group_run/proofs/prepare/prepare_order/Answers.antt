@@ -11,8 +11,8 @@ prepare_to_play-requires g c = subst (λ (s : Setting). AreSizes s.sizes) (sym c
 
 pub returns-in-Work-clause-prepared : goal.returns-in-Work-clause-prepared
 returns-in-Work-clause-prepared g c =
-    let n = c.in-Work.n.now in
-    let sizes = c.in-Work.sizes.now in
+    let n = c.in-Work.n in
+    let sizes = c.in-Work.sizes in
     let left = g.S.Source.left c.args.source.now in
     let faults = g.S.Source.faults c.args.source.now in
     let sound : AreSizes sizes = subst HasSizes c.in-Work.is c.requires in
@@ -20,6 +20,6 @@ returns-in-Work-clause-prepared g c =
 
 pub returns-in-Work-clause-allowed : goal.returns-in-Work-clause-allowed
 returns-in-Work-clause-allowed g c =
-    let n = c.in-Work.n.now in
-    let sound : AreSizes c.in-Work.sizes.now = subst HasSizes c.in-Work.is c.requires in
+    let n = c.in-Work.n in
+    let sound : AreSizes c.in-Work.sizes = subst HasSizes c.in-Work.is c.requires in
     subst (λ (s : Setting). IsAllowed (prepared.Work n s)) (sym c.setting_of-in-Work.ensures) (sound, refl, refl)

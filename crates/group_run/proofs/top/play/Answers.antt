@@ -34,18 +34,18 @@ returns-in-Err-clause-ends g c =
     (sym c.finish_unopened.ensures)
     (wanting_ends kind o before after taken count (refl, refl, refl) c.prepare.ensures.unread)
 
-pub returns-in-Ok-Some-clause-ends : goal.returns-in-Ok-Some-clause-ends
-returns-in-Ok-Some-clause-ends g c =
+pub returns-in-Some-clause-ends : goal.returns-in-Some-clause-ends
+returns-in-Some-clause-ends g c =
     let kind = kind_of Member g.D.Disk.alive g.D.Disk.contents g.D.Disk.faults in
     let o = ordered c.args.words.now in
     let before = outside (g.S.Source.left c.args.source.now) (g.S.Source.faults c.args.source.now) (g.D.Disk.contents c.args.disk) (g.D.Disk.alive c.args.disk) (g.D.Disk.faults c.args.disk) in
     let made = c.finish_copy.result in
     let after = outside (g.S.Source.left c.prepare.new.source) (g.S.Source.faults c.prepare.new.source) (g.D.Disk.contents made.disk) (g.D.Disk.alive made.disk) (g.D.Disk.faults made.disk) in
-    copies kind o before after c.in-Ok.prepared c.in-Ok-Some.table made.status made.opened made.opening (record { journal = made.journal; causes = made.causes; faults = made.faults }) made.report
-    (g.K.Sink.taken c.args.sink.now) (g.K.Sink.taken c.finish_copy.new.sink) (g.K.Sink.faults c.args.sink.now) (g.K.Sink.faults c.finish_copy.new.sink) (sym c.in-Ok-Some.ensures) c.in-Ok.ensures.prepared c.prepare.ensures.unread c.finish_copy.ensures.copies c.finish_copy.ensures.unopened
+    copies kind o before after c.in-Ok.prepared c.in-Some.table made.status made.opened made.opening (record { journal = made.journal; causes = made.causes; faults = made.faults }) made.report
+    (g.K.Sink.taken c.args.sink.now) (g.K.Sink.taken c.finish_copy.new.sink) (g.K.Sink.faults c.args.sink.now) (g.K.Sink.faults c.finish_copy.new.sink) (sym c.in-Some.ensures) c.in-Ok.ensures.prepared c.prepare.ensures.unread c.finish_copy.ensures.copies c.finish_copy.ensures.unopened
 
-pub returns-in-Ok-None-clause-ends : goal.returns-in-Ok-None-clause-ends
-returns-in-Ok-None-clause-ends g c =
+pub returns-in-None-clause-ends : goal.returns-in-None-clause-ends
+returns-in-None-clause-ends g c =
     let kind = kind_of Member g.D.Disk.alive g.D.Disk.contents g.D.Disk.faults in
     let o = ordered c.args.words.now in
     let before = outside (g.S.Source.left c.args.source.now) (g.S.Source.faults c.args.source.now) (g.D.Disk.contents c.args.disk) (g.D.Disk.alive c.args.disk) (g.D.Disk.faults c.args.disk) in
@@ -67,13 +67,13 @@ returns-in-Ok-None-clause-ends g c =
     } in
     subst (λ x. EndsBy kind o before (outside left faults (g.D.Disk.contents x.disk) (g.D.Disk.alive x.disk) (g.D.Disk.faults x.disk)) c.finish.result.status x.opened x.opening (record { journal = x.journal; causes = x.causes; faults = x.faults }) x.report taken taken_now count count_now)
     (sym c.finish.ensures.rest)
-    (uncopied kind o c.in-Ok.prepared before after c.finish.result.status came.opened came.opening came.account came.telling.report taken taken_now count count_now (sym c.in-Ok-None.ensures) c.in-Ok.ensures.prepared ends)
+    (uncopied kind o c.in-Ok.prepared before after c.finish.result.status came.opened came.opening came.account came.telling.report taken taken_now count count_now (sym c.in-None.ensures) c.in-Ok.ensures.prepared ends)
 
 pub returns-in-Err-clause-left : goal.returns-in-Err-clause-left
 returns-in-Err-clause-left g c =
     subst (λ x. x.opened ≡ false → Becomes (g.D.Disk.contents c.args.disk) (g.D.Disk.contents x.disk) KeepsRecords) (sym c.finish_unopened.ensures)
     (λ closed. c.keeping_laws.ensures.itself (g.D.Disk.contents c.args.disk))
 
-pub returns-in-Ok-None-clause-left : goal.returns-in-Ok-None-clause-left
-returns-in-Ok-None-clause-left g c =
+pub returns-in-None-clause-left : goal.returns-in-None-clause-left
+returns-in-None-clause-left g c =
     subst (λ x. x.opened ≡ false → Becomes (g.D.Disk.contents c.args.disk) (g.D.Disk.contents x.disk) KeepsRecords) (sym c.finish.ensures.rest) c.perform.ensures.left
