@@ -7,7 +7,9 @@ use Rattle.ds_base.specs.declared.names.TranId.{TranId}
 use Rattle.ds_model.specs.declared.fate.Refusal.{Refusal}
 use Rattle.ds_model.specs.declared.fate.Refusal.TheVariants as refusal
 use Rattle.ds_model.specs.declared.lock.Name.{Name}
+use Rattle.ds_model.specs.Rows.{Spot}
 use Rattle.ds_model.specs.declared.log.RowChange.{RowChange}
+use Rattle.member_marks.specs.Records.{after_change}
 use Rattle.list_structure.specs.declared.query.CellAnswer.{CellAnswer}
 use Rattle.list_structure.specs.declared.query.CellAnswer.TheVariants as cell_answer
 use Rattle.list_structure.specs.declared.wait.Wait.{Wait}
@@ -41,8 +43,8 @@ use Rattle.member_effects.specs.Kept as bytes
 use Rattle.log_rows.specs.Rows.{BothTell}
 use Rattle.member_trans.specs.Trans.{TransState, is_forward, is_undoing, tran_of as tran_in}
 use Rattle.member_log.specs.Buffers.{LogBuffer}
-use Rattle.closing_law.proofs.Kept.{Kept, Same, kept_as, kept_heads, kept_if, kept_itself, kept_names, kept_stays, stays_lists, Stays, kept_on, kept_same, same_if, same_itself, same_on}
-use Rattle.closing_law.proofs.Records.{kept_change, kept_commit, kept_system, kept_undo}
+use Rattle.closing_law.proofs.Kept.{Kept, PutsRows, Same, Stays, kept_after, kept_as, kept_heads, kept_if, kept_itself, kept_names, kept_stays, puts_after, puts_kept, same_if, same_itself, same_on, stays_heads, stays_if, stays_itself, stays_lists, stays_same}
+use Rattle.closing_law.proofs.Records.{changed_name, kept_change, kept_commit, kept_system, kept_undo}
 
 -- ---- refusals
 pub stays_offered : (s : MarksState) (o : Owner) (r : Refusal) (place : ℕ) → Stays s (offered s o r place)
@@ -70,8 +72,11 @@ kept_cycle s t waits slots place x r = by r.0 r.3
     by (Some x) e = kept_as s t (offered s (owner.Slot x.0) (refusal.Deadlock x.1) place) e (kept_offered s (owner.Slot x.0) (refusal.Deadlock x.1) place)
 
 -- ---- frames
+stays_registered : (s : MarksState) (at : ℕ) (b : Bool) → Stays s (after_registered s at b)
+stays_registered s at b = stays_if s _ _ (is_placed s.heads at) (λ e. stays_heads s (with_registered s.heads at b)) (λ e. stays_itself s)
+
 pub kept_registered : (s : MarksState) (at : ℕ) (b : Bool) → Kept s (after_registered s at b)
-kept_registered s at b = kept_if s _ _ (is_placed s.heads at) (λ e. kept_heads s (with_registered s.heads at b)) (λ e. kept_itself s)
+kept_registered s at b = kept_stays s (after_registered s at b) (stays_registered s at b)
 
 pub kept_filled : (s : MarksState) (at : ℕ) (b : Bool) → Kept s (after_filled s at b)
 kept_filled s at b = kept_if s _ _ (is_placed s.heads at) (λ e. kept_heads s (with_filled s.heads at b)) (λ e. kept_itself s)
@@ -98,8 +103,8 @@ kept_read s at (reply.Moved version) = kept_itself s
 kept_read s at (reply.RetainedLock name mode) = kept_itself s
 kept_read s at reply.Done = kept_itself s
 kept_read s at reply.Nothing = kept_itself s
-kept_read s at reply.Found = kept_on s _ _ (kept_registered s at true) (kept_filled (after_registered s at true) at true)
-kept_read s at reply.NoData = kept_on s _ _ (kept_registered s at true) (kept_filled (after_registered s at true) at (frame_in (after_registered s at true).heads at).changed)
+kept_read s at reply.Found = kept_after s _ _ (stays_registered s at true) (kept_filled (after_registered s at true) at true)
+kept_read s at reply.NoData = kept_after s _ _ (stays_registered s at true) (kept_filled (after_registered s at true) at (frame_in (after_registered s at true).heads at).changed)
 kept_read s at reply.CacheFull = kept_itself s
 kept_read s at reply.Lost = kept_itself s
 kept_read s at reply.Written = kept_itself s
@@ -138,7 +143,7 @@ kept_tested s pages at slot gives limit reply.NoData place = kept_registered s a
 kept_tested s pages at slot gives limit reply.CacheFull place = kept_registered s at false
 kept_tested s pages at slot gives limit reply.Lost place = kept_registered s at false
 kept_tested s pages at slot gives limit reply.Written place = kept_registered s at false
-kept_tested s pages at slot gives limit reply.Valid place = kept_on s _ _ (kept_registered s at true) (kept_valid (after_registered s at true) slot place (full_at pages at gives limit))
+kept_tested s pages at slot gives limit reply.Valid place = kept_after s _ _ (stays_registered s at true) (kept_valid (after_registered s at true) slot place (full_at pages at gives limit))
 kept_tested s pages at slot gives limit reply.Invalid place = kept_registered s at false
 kept_tested s pages at slot gives limit reply.Taken place = kept_registered s at false
 kept_tested s pages at slot gives limit reply.NotChanged place = kept_registered s at false
@@ -301,16 +306,26 @@ row_in : (k : bytes.Kept) (o : Option ℕ) (c : RowChange) (lrsn : ℕ) → Same
 row_in k None c lrsn = same_itself k.marks
 row_in k (Some at) c lrsn = row_at k at (frame_in k.marks.heads at).page c lrsn
 
-kept_changed : BothTell → (k : bytes.Kept) (slot : ℕ) (frames : Frames) (p : Plan) (lrsn : ℕ) → is_forward (tran_in k.marks.trans (owner.Slot slot)).stage ≡ true → KeptBytes k (changed_by k slot frames p lrsn)
-kept_changed law k slot frames plan.None lrsn forward = kept_itself k.marks
-kept_changed law k slot frames (plan.System ps) lrsn forward =
-    kept_on k.marks _ _ (kept_same k.marks (patched_frames k frames ps lrsn).marks (patched_all k frames ps lrsn)) (kept_system law (patched_frames k frames ps lrsn).marks slot ps lrsn)
-kept_changed law k slot frames (plan.Row c) lrsn forward =
+-- what a row change that was planned gives
+pub record Gives (k l : bytes.Kept) (slot : ℕ) (p : Plan) (id : ℕ) (x : Spot) : Type 0 where
+  pub change : RowChange
+  pub planned : p ≡ plan.Row change
+  pub row : (change.table, change.key) ≡ x
+  pub named : (tran_in l.marks.trans (owner.Slot slot)).first ≡ id
+
+kept_changed : BothTell → (G : ℕ → Spot → Type 0) (k : bytes.Kept) (slot : ℕ) (frames : Frames) (p : Plan) (lrsn : ℕ) → is_forward (tran_in k.marks.trans (owner.Slot slot)).stage ≡ true → ((id : ℕ) (x : Spot) → Gives k (changed_by k slot frames p lrsn) slot p id x → G id x)
+    → PutsRows G k.marks (changed_by k slot frames p lrsn).marks
+kept_changed law G k slot frames plan.None lrsn forward give = puts_kept G k.marks k.marks (kept_itself k.marks)
+kept_changed law G k slot frames (plan.System ps) lrsn forward give =
+    puts_kept G k.marks _ (kept_after k.marks _ _ (stays_same k.marks (patched_frames k frames ps lrsn).marks (patched_all k frames ps lrsn)) (kept_system law (patched_frames k frames ps lrsn).marks slot ps lrsn))
+kept_changed law G k slot frames (plan.Row c) lrsn forward give =
     let same = row_in k (frame_of frames 0) c lrsn in
-    kept_on k.marks _ _ (kept_same k.marks (row_nth k (frame_of frames 0) c lrsn).marks same)
-    (kept_change law (row_nth k (frame_of frames 0) c lrsn).marks slot lrsn c (subst (λ (z : TransState). is_forward (tran_in z (owner.Slot slot)).stage ≡ true) (sym same.trans) forward))
-kept_changed law k slot frames (plan.Back c) lrsn forward = kept_itself k.marks
-kept_changed law k slot frames (plan.Fault page at) lrsn forward = kept_itself k.marks
+    let mid = (row_nth k (frame_of frames 0) c lrsn).marks in
+    let going : is_forward (tran_in mid.trans (owner.Slot slot)).stage ≡ true = subst (λ (z : TransState). is_forward (tran_in z (owner.Slot slot)).stage ≡ true) (sym same.trans) forward in
+    puts_after G k.marks mid (after_change mid slot lrsn c) (stays_same k.marks mid same)
+    (kept_change law G mid slot lrsn c going (λ may. give _ _ (record { change = c; planned = refl; row = refl; named = changed_name mid slot lrsn c going may })))
+kept_changed law G k slot frames (plan.Back c) lrsn forward give = puts_kept G k.marks k.marks (kept_itself k.marks)
+kept_changed law G k slot frames (plan.Fault page at) lrsn forward give = puts_kept G k.marks k.marks (kept_itself k.marks)
 
 kept_back : BothTell → (k : bytes.Kept) (o : Owner) (at : ℕ) (p : Plan) (lrsn : ℕ) → k.marks.log.stable < lrsn → is_undoing (tran_in k.marks.trans o).stage ≡ true → KeptBytes k (back_by k o at p lrsn)
 kept_back law k o at plan.None lrsn above undoing = kept_itself k.marks
@@ -318,7 +333,7 @@ kept_back law k o at (plan.System ps) lrsn above undoing = kept_itself k.marks
 kept_back law k o at (plan.Row c) lrsn above undoing = kept_itself k.marks
 kept_back law k o at (plan.Back c) lrsn above undoing =
     let same = row_at k at (frame_in k.marks.heads at).page c lrsn in
-    kept_on k.marks _ _ (kept_same k.marks (row_frame k at c lrsn).marks same)
+    kept_after k.marks _ _ (stays_same k.marks (row_frame k at c lrsn).marks same)
     (kept_undo law (row_frame k at c lrsn).marks o lrsn (subst (λ (z : LogBuffer). z.stable < lrsn) (sym same.log) above) (subst (λ (z : TransState). is_undoing (tran_in z o).stage ≡ true) (sym same.trans) undoing))
 kept_back law k o at (plan.Fault page offset) lrsn above undoing = kept_itself k.marks
 
@@ -357,40 +372,41 @@ kept_undrawn s o (reply.Drawn lrsn) place = kept_itself s
 kept_undrawn s o (reply.Stale index) place = kept_registered s index false
 kept_undrawn s o (reply.LrsnEnd at) place = kept_offered s o (refusal.LrsnEnd at) place
 
-pub kept_drawn : BothTell → (k : bytes.Kept) (slot : ℕ) (frames : Frames) (p : Plan) (answer : Reply) (place : ℕ) → is_forward (tran_in k.marks.trans (owner.Slot slot)).stage ≡ true → KeptBytes k (drawn_after k slot frames p answer place)
-kept_drawn law k slot frames p (reply.Granted version) place forward = kept_undrawn k.marks (owner.Slot slot) (reply.Granted version) place
-kept_drawn law k slot frames p (reply.Retained by) place forward = kept_undrawn k.marks (owner.Slot slot) (reply.Retained by) place
-kept_drawn law k slot frames p (reply.RecordsFull limit) place forward = kept_undrawn k.marks (owner.Slot slot) (reply.RecordsFull limit) place
-kept_drawn law k slot frames p (reply.Contention share exclusive version) place forward = kept_undrawn k.marks (owner.Slot slot) (reply.Contention share exclusive version) place
-kept_drawn law k slot frames p (reply.Moved version) place forward = kept_undrawn k.marks (owner.Slot slot) (reply.Moved version) place
-kept_drawn law k slot frames p (reply.RetainedLock name mode) place forward = kept_undrawn k.marks (owner.Slot slot) (reply.RetainedLock name mode) place
-kept_drawn law k slot frames p reply.Done place forward = kept_undrawn k.marks (owner.Slot slot) reply.Done place
-kept_drawn law k slot frames p reply.Nothing place forward = kept_undrawn k.marks (owner.Slot slot) reply.Nothing place
-kept_drawn law k slot frames p reply.Found place forward = kept_undrawn k.marks (owner.Slot slot) reply.Found place
-kept_drawn law k slot frames p reply.NoData place forward = kept_undrawn k.marks (owner.Slot slot) reply.NoData place
-kept_drawn law k slot frames p reply.CacheFull place forward = kept_undrawn k.marks (owner.Slot slot) reply.CacheFull place
-kept_drawn law k slot frames p reply.Lost place forward = kept_undrawn k.marks (owner.Slot slot) reply.Lost place
-kept_drawn law k slot frames p reply.Written place forward = kept_undrawn k.marks (owner.Slot slot) reply.Written place
-kept_drawn law k slot frames p reply.Valid place forward = kept_undrawn k.marks (owner.Slot slot) reply.Valid place
-kept_drawn law k slot frames p reply.Invalid place forward = kept_undrawn k.marks (owner.Slot slot) reply.Invalid place
-kept_drawn law k slot frames p reply.Taken place forward = kept_undrawn k.marks (owner.Slot slot) reply.Taken place
-kept_drawn law k slot frames p reply.NotChanged place forward = kept_undrawn k.marks (owner.Slot slot) reply.NotChanged place
-kept_drawn law k slot frames p (reply.Locked by) place forward = kept_undrawn k.marks (owner.Slot slot) (reply.Locked by) place
-kept_drawn law k slot frames p reply.NotHeld place forward = kept_undrawn k.marks (owner.Slot slot) reply.NotHeld place
-kept_drawn law k slot frames p (reply.ChangedPage page) place forward = kept_undrawn k.marks (owner.Slot slot) (reply.ChangedPage page) place
-kept_drawn law k slot frames p (reply.Query query) place forward = kept_undrawn k.marks (owner.Slot slot) (reply.Query query) place
-kept_drawn law k slot frames p reply.Gone place forward = kept_undrawn k.marks (owner.Slot slot) reply.Gone place
-kept_drawn law k slot frames p reply.Cells place forward = kept_undrawn k.marks (owner.Slot slot) reply.Cells place
-kept_drawn law k slot frames p reply.Waits place forward = kept_undrawn k.marks (owner.Slot slot) reply.Waits place
-kept_drawn law k slot frames p reply.Raised place forward = kept_undrawn k.marks (owner.Slot slot) reply.Raised place
-kept_drawn law k slot frames p reply.NotRaised place forward = kept_undrawn k.marks (owner.Slot slot) reply.NotRaised place
-kept_drawn law k slot frames p (reply.Status status) place forward = kept_undrawn k.marks (owner.Slot slot) (reply.Status status) place
-kept_drawn law k slot frames p reply.NotLost place forward = kept_undrawn k.marks (owner.Slot slot) reply.NotLost place
-kept_drawn law k slot frames p (reply.ClaimTaken by) place forward = kept_undrawn k.marks (owner.Slot slot) (reply.ClaimTaken by) place
-kept_drawn law k slot frames p reply.Claimed place forward = kept_undrawn k.marks (owner.Slot slot) reply.Claimed place
-kept_drawn law k slot frames p (reply.Drawn lrsn) place forward = kept_changed law k slot frames p lrsn forward
-kept_drawn law k slot frames p (reply.Stale index) place forward = kept_undrawn k.marks (owner.Slot slot) (reply.Stale index) place
-kept_drawn law k slot frames p (reply.LrsnEnd at) place forward = kept_undrawn k.marks (owner.Slot slot) (reply.LrsnEnd at) place
+pub kept_drawn : BothTell → (G : ℕ → Spot → Type 0) (k : bytes.Kept) (slot : ℕ) (frames : Frames) (p : Plan) (answer : Reply) (place : ℕ) → is_forward (tran_in k.marks.trans (owner.Slot slot)).stage ≡ true
+    → ((id : ℕ) (x : Spot) → Gives k (drawn_after k slot frames p answer place) slot p id x → G id x) → PutsRows G k.marks (drawn_after k slot frames p answer place).marks
+kept_drawn law G k slot frames p (reply.Granted version) place forward give = puts_kept G k.marks _ (kept_undrawn k.marks (owner.Slot slot) (reply.Granted version) place)
+kept_drawn law G k slot frames p (reply.Retained by) place forward give = puts_kept G k.marks _ (kept_undrawn k.marks (owner.Slot slot) (reply.Retained by) place)
+kept_drawn law G k slot frames p (reply.RecordsFull limit) place forward give = puts_kept G k.marks _ (kept_undrawn k.marks (owner.Slot slot) (reply.RecordsFull limit) place)
+kept_drawn law G k slot frames p (reply.Contention share exclusive version) place forward give = puts_kept G k.marks _ (kept_undrawn k.marks (owner.Slot slot) (reply.Contention share exclusive version) place)
+kept_drawn law G k slot frames p (reply.Moved version) place forward give = puts_kept G k.marks _ (kept_undrawn k.marks (owner.Slot slot) (reply.Moved version) place)
+kept_drawn law G k slot frames p (reply.RetainedLock name mode) place forward give = puts_kept G k.marks _ (kept_undrawn k.marks (owner.Slot slot) (reply.RetainedLock name mode) place)
+kept_drawn law G k slot frames p reply.Done place forward give = puts_kept G k.marks _ (kept_undrawn k.marks (owner.Slot slot) reply.Done place)
+kept_drawn law G k slot frames p reply.Nothing place forward give = puts_kept G k.marks _ (kept_undrawn k.marks (owner.Slot slot) reply.Nothing place)
+kept_drawn law G k slot frames p reply.Found place forward give = puts_kept G k.marks _ (kept_undrawn k.marks (owner.Slot slot) reply.Found place)
+kept_drawn law G k slot frames p reply.NoData place forward give = puts_kept G k.marks _ (kept_undrawn k.marks (owner.Slot slot) reply.NoData place)
+kept_drawn law G k slot frames p reply.CacheFull place forward give = puts_kept G k.marks _ (kept_undrawn k.marks (owner.Slot slot) reply.CacheFull place)
+kept_drawn law G k slot frames p reply.Lost place forward give = puts_kept G k.marks _ (kept_undrawn k.marks (owner.Slot slot) reply.Lost place)
+kept_drawn law G k slot frames p reply.Written place forward give = puts_kept G k.marks _ (kept_undrawn k.marks (owner.Slot slot) reply.Written place)
+kept_drawn law G k slot frames p reply.Valid place forward give = puts_kept G k.marks _ (kept_undrawn k.marks (owner.Slot slot) reply.Valid place)
+kept_drawn law G k slot frames p reply.Invalid place forward give = puts_kept G k.marks _ (kept_undrawn k.marks (owner.Slot slot) reply.Invalid place)
+kept_drawn law G k slot frames p reply.Taken place forward give = puts_kept G k.marks _ (kept_undrawn k.marks (owner.Slot slot) reply.Taken place)
+kept_drawn law G k slot frames p reply.NotChanged place forward give = puts_kept G k.marks _ (kept_undrawn k.marks (owner.Slot slot) reply.NotChanged place)
+kept_drawn law G k slot frames p (reply.Locked by) place forward give = puts_kept G k.marks _ (kept_undrawn k.marks (owner.Slot slot) (reply.Locked by) place)
+kept_drawn law G k slot frames p reply.NotHeld place forward give = puts_kept G k.marks _ (kept_undrawn k.marks (owner.Slot slot) reply.NotHeld place)
+kept_drawn law G k slot frames p (reply.ChangedPage page) place forward give = puts_kept G k.marks _ (kept_undrawn k.marks (owner.Slot slot) (reply.ChangedPage page) place)
+kept_drawn law G k slot frames p (reply.Query query) place forward give = puts_kept G k.marks _ (kept_undrawn k.marks (owner.Slot slot) (reply.Query query) place)
+kept_drawn law G k slot frames p reply.Gone place forward give = puts_kept G k.marks _ (kept_undrawn k.marks (owner.Slot slot) reply.Gone place)
+kept_drawn law G k slot frames p reply.Cells place forward give = puts_kept G k.marks _ (kept_undrawn k.marks (owner.Slot slot) reply.Cells place)
+kept_drawn law G k slot frames p reply.Waits place forward give = puts_kept G k.marks _ (kept_undrawn k.marks (owner.Slot slot) reply.Waits place)
+kept_drawn law G k slot frames p reply.Raised place forward give = puts_kept G k.marks _ (kept_undrawn k.marks (owner.Slot slot) reply.Raised place)
+kept_drawn law G k slot frames p reply.NotRaised place forward give = puts_kept G k.marks _ (kept_undrawn k.marks (owner.Slot slot) reply.NotRaised place)
+kept_drawn law G k slot frames p (reply.Status status) place forward give = puts_kept G k.marks _ (kept_undrawn k.marks (owner.Slot slot) (reply.Status status) place)
+kept_drawn law G k slot frames p reply.NotLost place forward give = puts_kept G k.marks _ (kept_undrawn k.marks (owner.Slot slot) reply.NotLost place)
+kept_drawn law G k slot frames p (reply.ClaimTaken by) place forward give = puts_kept G k.marks _ (kept_undrawn k.marks (owner.Slot slot) (reply.ClaimTaken by) place)
+kept_drawn law G k slot frames p reply.Claimed place forward give = puts_kept G k.marks _ (kept_undrawn k.marks (owner.Slot slot) reply.Claimed place)
+kept_drawn law G k slot frames p (reply.Drawn lrsn) place forward give = kept_changed law G k slot frames p lrsn forward give
+kept_drawn law G k slot frames p (reply.Stale index) place forward give = puts_kept G k.marks _ (kept_undrawn k.marks (owner.Slot slot) (reply.Stale index) place)
+kept_drawn law G k slot frames p (reply.LrsnEnd at) place forward give = puts_kept G k.marks _ (kept_undrawn k.marks (owner.Slot slot) (reply.LrsnEnd at) place)
 
 pub kept_undone : BothTell → (k : bytes.Kept) (o : Owner) (at : ℕ) (p : Plan) (answer : Reply) (place : ℕ) → IsAbove k.marks.log.stable answer → is_undoing (tran_in k.marks.trans o).stage ≡ true → KeptBytes k (undone_after k o at p answer place)
 kept_undone law k o at p (reply.Granted version) place above undoing = kept_undrawn k.marks o (reply.Granted version) place

@@ -29,9 +29,6 @@ use Rattle.closing_law.proofs.Lists.{all_removed}
 use Rattle.closing_law.proofs.Trans.{free_stands, set_like, set_slot}
 
 -- ---- a lock is taken
-kept_offered : (s : MarksState) (o : Owner) (r : Refusal) (place : ℕ) → Kept s (offered s o r place)
-kept_offered s o r place = kept_offered s o r place
-
 kept_given : (s : MarksState) (slot : ℕ) (n : Name) (m : Mode) → Kept s (with_locks s (given s.locks slot n m))
 kept_given s slot n m = kept_locks s (given s.locks slot n m)
 
@@ -229,7 +226,7 @@ slot_free s slot other disk pend h =
 
 rollback_gone : (s : MarksState) (k : Option ℕ) → Leaves s (rollback_ended s.trans k)
 rollback_gone s None disk pend h = h
-rollback_gone s (Some k) disk pend h = record { slots = h.slots; rollbacks = all_removed (TranKept disk pend s.log.stable) s.trans.rollbacks k h.rollbacks; commits = h.commits }
+rollback_gone s (Some k) disk pend h = record { slots = h.slots; rollbacks = all_removed (TranStands disk pend s.log.stable) s.trans.rollbacks k h.rollbacks; commits = h.commits }
 
 pub kept_ended_of : (s : MarksState) (o : Owner) → is_drawn (tran_of s o).stage ≡ false → Kept s (after_end_of s o)
 kept_ended_of s (owner.Slot slot) other = kept_if s _ _ (is_agent s slot) (λ e. kept_left s _ refl refl (slot_free s slot other)) (λ e. kept_itself s)

@@ -1,10 +1,12 @@
 -- What a change of the marks leaves closed.
 use Rattle.std.proofs.Common.{◌≡◌, ℕ, refl, sym, ◌∙◌, ap, subst, Bool, true, false, List, [], ◌∷◌, ◌++◌, append_assoc}
-use Rattle.std.specs.Prelude.{if◌then◌else◌}
+use Rattle.std.specs.Prelude.{◌==◌, ◌&&◌, ◌||◌, if◌then◌else◌}
 use Rattle.std.proofs.lemmas.Bool.{cond_both}
 use Rattle.std.proofs.lemmas.List.{append-nil}
 use Rattle.std.proofs.lemmas.List.Concat.{flat_map-append}
 use Rattle.ds_model.specs.RecordBytes.{log_bytes, record_bytes}
+use Rattle.ds_model.specs.Rows.{Spot}
+use Rattle.log_rows.specs.Rows.{has_changed, is_change_of}
 use Rattle.ds_model.specs.declared.log.LogRecord.{LogRecord}
 use Rattle.lock_manager.specs.Managers.{Book}
 use Rattle.member_log.specs.Buffers.{LogBuffer, after_put}
@@ -32,14 +34,15 @@ stays_on s t u a b = record { member = b.member ∙ a.member; closes = λ disk p
 pub stays_if : (s x y : MarksState) (b : Bool) → (b ≡ true → Stays s x) → (b ≡ false → Stays s y) → Stays s (if b then x else y)
 stays_if s x y b p q = cond_both b x y (λ z. Stays s z) p q
 
--- ---- these records are put behind those of the buffer
+-- ---- these records are put behind those of the buffer, and change no rows
 pub record Kept (s t : MarksState) : Type 0 where
   pub member : t.member ≡ s.member
   pub new : List LogRecord
+  pub quiet : (id : ℕ) (x : Spot) → has_changed new id x ≡ false
   pub closes : (disk pend : List LogRecord) → Closes disk pend s → Closes disk (pend ++ new) t
 
 pub kept_stays : (s t : MarksState) → Stays s t → Kept s t
-kept_stays s t k = record { member = k.member; new = []; closes = λ disk pend c. subst (λ (z : List LogRecord). Closes disk z t) (sym (append-nil pend)) (k.closes disk pend c) }
+kept_stays s t k = record { member = k.member; new = []; quiet = λ id x. refl; closes = λ disk pend c. subst (λ (z : List LogRecord). Closes disk z t) (sym (append-nil pend)) (k.closes disk pend c) }
 
 pub kept_itself : (s : MarksState) → Kept s s
 kept_itself s = kept_stays s s (stays_itself s)
@@ -47,15 +50,30 @@ kept_itself s = kept_stays s s (stays_itself s)
 pub kept_as : (s t u : MarksState) → t ≡ u → Kept s u → Kept s t
 kept_as s t u e k = subst (λ z. Kept s z) (sym e) k
 
-pub kept_on : (s t u : MarksState) → Kept s t → Kept t u → Kept s u
-kept_on s t u a b = record {
-  member = b.member ∙ a.member;
-  new = a.new ++ b.new;
-  closes = λ disk pend c. subst (λ (z : List LogRecord). Closes disk z u) (append_assoc pend a.new b.new) (b.closes disk (pend ++ a.new) (a.closes disk pend c));
-}
+pub kept_after : (s t u : MarksState) → Stays s t → Kept t u → Kept s u
+kept_after s t u a b = record { member = b.member ∙ a.member; new = b.new; quiet = b.quiet; closes = λ disk pend c. b.closes disk pend (a.closes disk pend c) }
 
 pub kept_if : (s x y : MarksState) (b : Bool) → (b ≡ true → Kept s x) → (b ≡ false → Kept s y) → Kept s (if b then x else y)
 kept_if s x y b p q = cond_both b x y (λ z. Kept s z) p q
+
+-- ---- they may change rows, of which this holds
+pub record PutsRows (G : ℕ → Spot → Type 0) (s t : MarksState) : Type 0 where
+  pub member : t.member ≡ s.member
+  pub new : List LogRecord
+  pub rows : (id : ℕ) (x : Spot) → has_changed new id x ≡ true → G id x
+  pub closes : (disk pend : List LogRecord) → Closes disk pend s → Closes disk (pend ++ new) t
+
+both_ways : (b : Bool) → b ≡ false → b ≡ true → ⊥
+both_ways b p q = cc
+
+pub puts_kept : (G : ℕ → Spot → Type 0) (s t : MarksState) → Kept s t → PutsRows G s t
+puts_kept G s t k = record { member = k.member; new = k.new; rows = λ id x h. absurd (both_ways (has_changed k.new id x) (k.quiet id x) h); closes = k.closes }
+
+pub puts_as : (G : ℕ → Spot → Type 0) (s t u : MarksState) → t ≡ u → PutsRows G s u → PutsRows G s t
+puts_as G s t u e k = subst (λ z. PutsRows G s z) (sym e) k
+
+pub puts_after : (G : ℕ → Spot → Type 0) (s t u : MarksState) → Stays s t → PutsRows G t u → PutsRows G s u
+puts_after G s t u a b = record { member = b.member ∙ a.member; new = b.new; rows = b.rows; closes = λ disk pend c. b.closes disk pend (a.closes disk pend c) }
 
 -- ---- where log and transactions stay
 pub record Same (s t : MarksState) : Type 0 where
@@ -139,19 +157,40 @@ two_apart : (p : List LogRecord) (r q : LogRecord) → (p ++ r ∷ []) ++ q ∷ 
 two_apart [] r q = refl
 two_apart (x ∷ xs) r q = ap (λ (z : List LogRecord). x ∷ z) (two_apart xs r q)
 
-pub kept_put : (s : MarksState) (r : LogRecord) (t : TransState) → LeavesWith s (r ∷ []) t → Kept s (record s { log = after_put s.log r; trans = t })
-kept_put s r t left = record {
+-- it changes no row
+and_none : (a : Bool) → ((a && false) || false) ≡ false
+and_none true = refl
+and_none false = refl
+
+pub no_row : (r : LogRecord) → ((x : Spot) → is_change_of x r.body ≡ false) → (id : ℕ) (x : Spot) → has_changed (r ∷ []) id x ≡ false
+no_row r none id x = ap (λ (b : Bool). ((r.tran == id) && b) || false) (none x) ∙ and_none (r.tran == id)
+
+no_rows : (r q : LogRecord) → ((x : Spot) → is_change_of x r.body ≡ false) → ((x : Spot) → is_change_of x q.body ≡ false) → (id : ℕ) (x : Spot) → has_changed (r ∷ q ∷ []) id x ≡ false
+no_rows r q none last id x = ap (λ (b : Bool). ((r.tran == id) && b) || has_changed (q ∷ []) id x) (none x) ∙ (ap (λ (b : Bool). ((r.tran == id) && false) || b) (no_row q last id x) ∙ and_none (r.tran == id))
+
+pub kept_put : (s : MarksState) (r : LogRecord) (t : TransState) → ((x : Spot) → is_change_of x r.body ≡ false) → LeavesWith s (r ∷ []) t → Kept s (record s { log = after_put s.log r; trans = t })
+kept_put s r t none left = record {
   member = refl;
   new = r ∷ [];
+  quiet = no_row r none;
   closes = λ disk pend c. record { spelled = one_more s.log.pending pend r c.spelled; all = left disk pend c.all };
 }
 
-pub kept_put_both : (s : MarksState) (r q : LogRecord) (t : TransState) → LeavesWith s (r ∷ q ∷ []) t → Kept s (record s { log = after_put (after_put s.log r) q; trans = t })
-kept_put_both s r q t left = record {
+pub kept_put_both : (s : MarksState) (r q : LogRecord) (t : TransState) → ((x : Spot) → is_change_of x r.body ≡ false) → ((x : Spot) → is_change_of x q.body ≡ false) → LeavesWith s (r ∷ q ∷ []) t → Kept s (record s { log = after_put (after_put s.log r) q; trans = t })
+kept_put_both s r q t none last left = record {
   member = refl;
   new = r ∷ q ∷ [];
+  quiet = no_rows r q none last;
   closes = λ disk pend c. record {
     spelled = one_more (s.log.pending ++ record_bytes r) (pend ++ r ∷ []) q (one_more s.log.pending pend r c.spelled) ∙ ap (λ (z : List LogRecord). log_bytes z) (two_apart pend r q);
     all = left disk pend c.all;
   };
+}
+
+pub puts_row : (G : ℕ → Spot → Type 0) (s : MarksState) (r : LogRecord) (t : TransState) → ((id : ℕ) (x : Spot) → has_changed (r ∷ []) id x ≡ true → G id x) → LeavesWith s (r ∷ []) t → PutsRows G s (record s { log = after_put s.log r; trans = t })
+puts_row G s r t rows left = record {
+  member = refl;
+  new = r ∷ [];
+  rows = rows;
+  closes = λ disk pend c. record { spelled = one_more s.log.pending pend r c.spelled; all = left disk pend c.all };
 }

@@ -111,7 +111,7 @@ postponed_slot : (s : MarksState) (slot : ℕ) → Leaves s (tran_postponed s.tr
 postponed_slot s slot disk pend h = cond_both (may_postpone_tran s.trans slot) (tran_with_postponed s.trans slot (tran_at s.trans slot)) s.trans (λ (z : TransState). AllStand disk pend s.log.stable z)
     (λ e. let t : TranState = tran_at s.trans slot in
     let undone = (and_parts (is_undoing t.stage) (not (is_empty t.changes) && has_room_for s.trans t.first) e).0 in
-    let set = set_slot disk pend s.log.stable s.trans slot (left_behind t) h (behind_stands disk pend s.log.stable t) (λ w. absurd ((undoing_only t.stage undone).1.1 w.drawn)) in
+    let set = set_slot disk pend s.log.stable s.trans slot (left_behind t) h (behind_stands disk pend s.log.stable t) (λ w. absurd ((undoing_only t.stage undone).2 w.drawn)) in
     record { slots = set.slots; rollbacks = all_push (TranStands disk pend s.log.stable) s.trans.rollbacks t h.rollbacks (owner_stands disk pend s.log.stable s.trans (owner.Slot slot) h); commits = set.commits })
     (λ e. h)
 

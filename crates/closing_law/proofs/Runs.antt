@@ -33,7 +33,12 @@ use Rattle.member_trans.specs.Trans.{is_drawn, is_forward, is_undoing, tran_of a
 use Rattle.member_marks.specs.State.{MarksState}
 use Rattle.closing_law.proofs.Effects.{IsAbove, kept_found, kept_cycle, kept_filled, kept_read, kept_tested, kept_written, kept_unregistered, kept_purged, kept_drawn, kept_undone, kept_committed}
 use Rattle.closing_law.proofs.Given.{kept_claimed, kept_ended, kept_ended_of, kept_page_released, kept_released}
-use Rattle.closing_law.proofs.Kept.{Kept, kept_as, kept_itself}
+use Rattle.ds_model.specs.Rows.{Spot}
+use Rattle.page_plans.specs.declared.action.Action.{Action}
+use Rattle.member_intents.specs.declared.intent.Frames.{Frames}
+use Rattle.member_effects.specs.Changes.{drawn_after}
+use Rattle.closing_law.specs.Closing.{ChangedIn}
+use Rattle.closing_law.proofs.Kept.{Kept, PutsRows, kept_as, kept_itself, puts_as}
 
 -- ---- what an intent asks of the stage of its transaction
 abbrev pub Fits : MarksState → Intent → Type 0
@@ -105,6 +110,41 @@ AboveFor intent.CastoutWrite low answer = Unit {0}
 AboveFor intent.CastoutDone low answer = Unit {0}
 AboveFor intent.PhaseDone low answer = Unit {0}
 
+-- an intent that changes no row
+abbrev pub IsQuiet : Intent → Type 0
+IsQuiet intent.Step = Unit {0}
+IsQuiet (intent.Obtain o n m) = Unit {0}
+IsQuiet (intent.Grant o n m) = Unit {0}
+IsQuiet (intent.Ask o to n m) = Unit {0}
+IsQuiet (intent.Answers o n m asked) = Unit {0}
+IsQuiet (intent.Status member) = Unit {0}
+IsQuiet (intent.Take past) = Unit {0}
+IsQuiet (intent.Answer asker n m) = Unit {0}
+IsQuiet (intent.ReleaseLock o) = Unit {0}
+IsQuiet (intent.ReleasePage page) = Unit {0}
+IsQuiet (intent.Purge n) = Unit {0}
+IsQuiet (intent.End o) = Unit {0}
+IsQuiet (intent.Wait slot holder flag) = Unit {0}
+IsQuiet (intent.Unwait slot) = Unit {0}
+IsQuiet (intent.Waits slots) = Unit {0}
+IsQuiet (intent.Flag flag) = Unit {0}
+IsQuiet (intent.Raise flag) = Unit {0}
+IsQuiet intent.LoseCache = Unit {0}
+IsQuiet (intent.Read at) = Unit {0}
+IsQuiet (intent.ReadPage at) = Unit {0}
+IsQuiet (intent.Test at slot gives) = Unit {0}
+IsQuiet (intent.WritePage at) = Unit {0}
+IsQuiet (intent.Unregister at) = Unit {0}
+IsQuiet (intent.Change slot action frames) = ⊥
+IsQuiet (intent.Undo o at) = Unit {0}
+IsQuiet (intent.Commit slot) = Unit {0}
+IsQuiet intent.Append = Unit {0}
+IsQuiet (intent.NextChanged past) = Unit {0}
+IsQuiet (intent.CastoutRead page) = Unit {0}
+IsQuiet intent.CastoutWrite = Unit {0}
+IsQuiet intent.CastoutDone = Unit {0}
+IsQuiet intent.PhaseDone = Unit {0}
+
 -- ---- replies
 cast_kept : (h : Held) (page : PageId) (answer : Reply) → Kept h.marks (cast_read h page answer).marks
 cast_kept h page (reply.Granted version) = kept_itself h.marks
@@ -141,44 +181,44 @@ cast_kept h page (reply.Drawn lrsn) = kept_itself h.marks
 cast_kept h page (reply.Stale index) = kept_itself h.marks
 cast_kept h page (reply.LrsnEnd at) = kept_itself h.marks
 
-settles_kept : BothTell → (h k : Held) (i : Intent) (p : Plan) (answer : Reply) (cells : List Cell) (place : ℕ) → Fits h.marks i → AboveFor i h.marks.log.stable answer → Settles h i p answer cells place k → Kept h.marks k.marks
-settles_kept law h k intent.Step p answer cells place fits above e = kept_as h.marks k.marks (settled h intent.Step p answer cells place).marks (ap (λ (z : Held). z.marks) e) (kept_itself h.marks)
-settles_kept law h k (intent.Obtain o n m) p answer cells place fits above e = kept_claimed h.marks k.marks o n m answer place e.0
-settles_kept law h k (intent.Grant o n m) p answer cells place fits above e = kept_claimed h.marks k.marks o n m answer place e.0
-settles_kept law h k (intent.Ask o to n m) p answer cells place fits above e = kept_as h.marks k.marks (settled h (intent.Ask o to n m) p answer cells place).marks (ap (λ (z : Held). z.marks) e) (kept_itself h.marks)
-settles_kept law h k (intent.Answers o n m asked) p answer cells place fits above e = kept_as h.marks k.marks (settled h (intent.Answers o n m asked) p answer cells place).marks (ap (λ (z : Held). z.marks) e) (kept_found h.marks o n (summed cells 0 asked n m nothing).found)
-settles_kept law h k (intent.Status member) p answer cells place fits above e = kept_as h.marks k.marks (settled h (intent.Status member) p answer cells place).marks (ap (λ (z : Held). z.marks) e) (kept_itself h.marks)
-settles_kept law h k (intent.Take past) p answer cells place fits above e = kept_as h.marks k.marks (settled h (intent.Take past) p answer cells place).marks (ap (λ (z : Held). z.marks) e) (kept_itself h.marks)
-settles_kept law h k (intent.Answer asker n m) p answer cells place fits above e = kept_as h.marks k.marks (settled h (intent.Answer asker n m) p answer cells place).marks (ap (λ (z : Held). z.marks) e) (kept_itself h.marks)
-settles_kept law h k (intent.ReleaseLock o) p answer cells place fits above e = kept_as h.marks k.marks (settled h (intent.ReleaseLock o) p answer cells place).marks (ap (λ (z : Held). z.marks) e) (kept_released h.marks o answer)
-settles_kept law h k (intent.ReleasePage page) p answer cells place fits above e = kept_as h.marks k.marks (settled h (intent.ReleasePage page) p answer cells place).marks (ap (λ (z : Held). z.marks) e) (kept_page_released h.marks page answer)
-settles_kept law h k (intent.Purge n) p answer cells place fits above e = kept_as h.marks k.marks (settled h (intent.Purge n) p answer cells place).marks (ap (λ (z : Held). z.marks) e) (kept_purged h.marks n answer)
-settles_kept law h k (intent.End o) p answer cells place fits above e = kept_as h.marks k.marks (settled h (intent.End o) p answer cells place).marks (ap (λ (z : Held). z.marks) e) (kept_ended h.marks o answer fits)
-settles_kept law h k (intent.Wait slot holder flag) p answer cells place fits above e = kept_as h.marks k.marks (settled h (intent.Wait slot holder flag) p answer cells place).marks (ap (λ (z : Held). z.marks) e) (kept_itself h.marks)
-settles_kept law h k (intent.Unwait slot) p answer cells place fits above e = kept_as h.marks k.marks (settled h (intent.Unwait slot) p answer cells place).marks (ap (λ (z : Held). z.marks) e) (kept_itself h.marks)
-settles_kept law h k (intent.Waits slots) p answer cells place fits above e = kept_as h.marks k.marks (settled h (intent.Waits slots) p answer cells place).marks (ap (λ (z : Held). z.marks) e) (kept_itself h.marks)
-settles_kept law h k (intent.Flag flag) p answer cells place fits above e = kept_as h.marks k.marks (settled h (intent.Flag flag) p answer cells place).marks (ap (λ (z : Held). z.marks) e) (kept_itself h.marks)
-settles_kept law h k (intent.Raise flag) p answer cells place fits above e = kept_as h.marks k.marks (settled h (intent.Raise flag) p answer cells place).marks (ap (λ (z : Held). z.marks) e) (kept_itself h.marks)
-settles_kept law h k intent.LoseCache p answer cells place fits above e = kept_as h.marks k.marks (settled h intent.LoseCache p answer cells place).marks (ap (λ (z : Held). z.marks) e) (kept_itself h.marks)
-settles_kept law h k (intent.Read at) p answer cells place fits above e = kept_as h.marks k.marks (settled h (intent.Read at) p answer cells place).marks (ap (λ (z : Held). z.marks) e) (kept_read h.marks at answer)
-settles_kept law h k (intent.ReadPage at) p answer cells place fits above e = kept_as h.marks k.marks (settled h (intent.ReadPage at) p answer cells place).marks (ap (λ (z : Held). z.marks) e) (kept_itself h.marks)
-settles_kept law h k (intent.Test at slot gives) p answer cells place fits above e = kept_as h.marks k.marks (settled h (intent.Test at slot gives) p answer cells place).marks (ap (λ (z : Held). z.marks) e) (kept_tested h.marks h.pages at slot gives h.limit answer place)
-settles_kept law h k (intent.WritePage at) p answer cells place fits above e = kept_as h.marks k.marks (settled h (intent.WritePage at) p answer cells place).marks (ap (λ (z : Held). z.marks) e) (kept_written h.marks at answer)
-settles_kept law h k (intent.Unregister at) p answer cells place fits above e = kept_as h.marks k.marks (settled h (intent.Unregister at) p answer cells place).marks (ap (λ (z : Held). z.marks) e) (kept_unregistered h.marks at answer)
-settles_kept law h k (intent.Change slot action frames) p answer cells place fits above e = kept_as h.marks k.marks (settled h (intent.Change slot action frames) p answer cells place).marks (ap (λ (z : Held). z.marks) e) (kept_drawn law (kept_of h) slot frames p answer place fits)
-settles_kept law h k (intent.Undo o at) p answer cells place fits above e = kept_as h.marks k.marks (settled h (intent.Undo o at) p answer cells place).marks (ap (λ (z : Held). z.marks) e) (kept_undone law (kept_of h) o at p answer place above fits)
-settles_kept law h k (intent.Commit slot) p answer cells place fits above e = kept_as h.marks k.marks (settled h (intent.Commit slot) p answer cells place).marks (ap (λ (z : Held). z.marks) e) (kept_committed law h.marks slot answer place fits)
-settles_kept law h k intent.Append p answer cells place fits above e = kept_as h.marks k.marks (settled h intent.Append p answer cells place).marks (ap (λ (z : Held). z.marks) e) (kept_itself h.marks)
-settles_kept law h k (intent.NextChanged past) p answer cells place fits above e = kept_as h.marks k.marks (settled h (intent.NextChanged past) p answer cells place).marks (ap (λ (z : Held). z.marks) e) (kept_itself h.marks)
-settles_kept law h k (intent.CastoutRead page) p answer cells place fits above e = kept_as h.marks k.marks (settled h (intent.CastoutRead page) p answer cells place).marks (ap (λ (z : Held). z.marks) e) (cast_kept h page answer)
-settles_kept law h k intent.CastoutWrite p answer cells place fits above e = kept_as h.marks k.marks (settled h intent.CastoutWrite p answer cells place).marks (ap (λ (z : Held). z.marks) e) (kept_itself h.marks)
-settles_kept law h k intent.CastoutDone p answer cells place fits above e = kept_as h.marks k.marks (settled h intent.CastoutDone p answer cells place).marks (ap (λ (z : Held). z.marks) e) (kept_itself h.marks)
-settles_kept law h k intent.PhaseDone p answer cells place fits above e = kept_as h.marks k.marks (settled h intent.PhaseDone p answer cells place).marks (ap (λ (z : Held). z.marks) e) (kept_itself h.marks)
+settles_kept : BothTell → (h k : Held) (i : Intent) (p : Plan) (answer : Reply) (cells : List Cell) (place : ℕ) → IsQuiet i → Fits h.marks i → AboveFor i h.marks.log.stable answer → Settles h i p answer cells place k → Kept h.marks k.marks
+settles_kept law h k intent.Step p answer cells place quiet fits above e = kept_as h.marks k.marks (settled h intent.Step p answer cells place).marks (ap (λ (z : Held). z.marks) e) (kept_itself h.marks)
+settles_kept law h k (intent.Obtain o n m) p answer cells place quiet fits above e = kept_claimed h.marks k.marks o n m answer place e.0
+settles_kept law h k (intent.Grant o n m) p answer cells place quiet fits above e = kept_claimed h.marks k.marks o n m answer place e.0
+settles_kept law h k (intent.Ask o to n m) p answer cells place quiet fits above e = kept_as h.marks k.marks (settled h (intent.Ask o to n m) p answer cells place).marks (ap (λ (z : Held). z.marks) e) (kept_itself h.marks)
+settles_kept law h k (intent.Answers o n m asked) p answer cells place quiet fits above e = kept_as h.marks k.marks (settled h (intent.Answers o n m asked) p answer cells place).marks (ap (λ (z : Held). z.marks) e) (kept_found h.marks o n (summed cells 0 asked n m nothing).found)
+settles_kept law h k (intent.Status member) p answer cells place quiet fits above e = kept_as h.marks k.marks (settled h (intent.Status member) p answer cells place).marks (ap (λ (z : Held). z.marks) e) (kept_itself h.marks)
+settles_kept law h k (intent.Take past) p answer cells place quiet fits above e = kept_as h.marks k.marks (settled h (intent.Take past) p answer cells place).marks (ap (λ (z : Held). z.marks) e) (kept_itself h.marks)
+settles_kept law h k (intent.Answer asker n m) p answer cells place quiet fits above e = kept_as h.marks k.marks (settled h (intent.Answer asker n m) p answer cells place).marks (ap (λ (z : Held). z.marks) e) (kept_itself h.marks)
+settles_kept law h k (intent.ReleaseLock o) p answer cells place quiet fits above e = kept_as h.marks k.marks (settled h (intent.ReleaseLock o) p answer cells place).marks (ap (λ (z : Held). z.marks) e) (kept_released h.marks o answer)
+settles_kept law h k (intent.ReleasePage page) p answer cells place quiet fits above e = kept_as h.marks k.marks (settled h (intent.ReleasePage page) p answer cells place).marks (ap (λ (z : Held). z.marks) e) (kept_page_released h.marks page answer)
+settles_kept law h k (intent.Purge n) p answer cells place quiet fits above e = kept_as h.marks k.marks (settled h (intent.Purge n) p answer cells place).marks (ap (λ (z : Held). z.marks) e) (kept_purged h.marks n answer)
+settles_kept law h k (intent.End o) p answer cells place quiet fits above e = kept_as h.marks k.marks (settled h (intent.End o) p answer cells place).marks (ap (λ (z : Held). z.marks) e) (kept_ended h.marks o answer fits)
+settles_kept law h k (intent.Wait slot holder flag) p answer cells place quiet fits above e = kept_as h.marks k.marks (settled h (intent.Wait slot holder flag) p answer cells place).marks (ap (λ (z : Held). z.marks) e) (kept_itself h.marks)
+settles_kept law h k (intent.Unwait slot) p answer cells place quiet fits above e = kept_as h.marks k.marks (settled h (intent.Unwait slot) p answer cells place).marks (ap (λ (z : Held). z.marks) e) (kept_itself h.marks)
+settles_kept law h k (intent.Waits slots) p answer cells place quiet fits above e = kept_as h.marks k.marks (settled h (intent.Waits slots) p answer cells place).marks (ap (λ (z : Held). z.marks) e) (kept_itself h.marks)
+settles_kept law h k (intent.Flag flag) p answer cells place quiet fits above e = kept_as h.marks k.marks (settled h (intent.Flag flag) p answer cells place).marks (ap (λ (z : Held). z.marks) e) (kept_itself h.marks)
+settles_kept law h k (intent.Raise flag) p answer cells place quiet fits above e = kept_as h.marks k.marks (settled h (intent.Raise flag) p answer cells place).marks (ap (λ (z : Held). z.marks) e) (kept_itself h.marks)
+settles_kept law h k intent.LoseCache p answer cells place quiet fits above e = kept_as h.marks k.marks (settled h intent.LoseCache p answer cells place).marks (ap (λ (z : Held). z.marks) e) (kept_itself h.marks)
+settles_kept law h k (intent.Read at) p answer cells place quiet fits above e = kept_as h.marks k.marks (settled h (intent.Read at) p answer cells place).marks (ap (λ (z : Held). z.marks) e) (kept_read h.marks at answer)
+settles_kept law h k (intent.ReadPage at) p answer cells place quiet fits above e = kept_as h.marks k.marks (settled h (intent.ReadPage at) p answer cells place).marks (ap (λ (z : Held). z.marks) e) (kept_itself h.marks)
+settles_kept law h k (intent.Test at slot gives) p answer cells place quiet fits above e = kept_as h.marks k.marks (settled h (intent.Test at slot gives) p answer cells place).marks (ap (λ (z : Held). z.marks) e) (kept_tested h.marks h.pages at slot gives h.limit answer place)
+settles_kept law h k (intent.WritePage at) p answer cells place quiet fits above e = kept_as h.marks k.marks (settled h (intent.WritePage at) p answer cells place).marks (ap (λ (z : Held). z.marks) e) (kept_written h.marks at answer)
+settles_kept law h k (intent.Unregister at) p answer cells place quiet fits above e = kept_as h.marks k.marks (settled h (intent.Unregister at) p answer cells place).marks (ap (λ (z : Held). z.marks) e) (kept_unregistered h.marks at answer)
+settles_kept law h k (intent.Change slot action frames) p answer cells place quiet fits above e = absurd quiet
+settles_kept law h k (intent.Undo o at) p answer cells place quiet fits above e = kept_as h.marks k.marks (settled h (intent.Undo o at) p answer cells place).marks (ap (λ (z : Held). z.marks) e) (kept_undone law (kept_of h) o at p answer place above fits)
+settles_kept law h k (intent.Commit slot) p answer cells place quiet fits above e = kept_as h.marks k.marks (settled h (intent.Commit slot) p answer cells place).marks (ap (λ (z : Held). z.marks) e) (kept_committed law h.marks slot answer place fits)
+settles_kept law h k intent.Append p answer cells place quiet fits above e = kept_as h.marks k.marks (settled h intent.Append p answer cells place).marks (ap (λ (z : Held). z.marks) e) (kept_itself h.marks)
+settles_kept law h k (intent.NextChanged past) p answer cells place quiet fits above e = kept_as h.marks k.marks (settled h (intent.NextChanged past) p answer cells place).marks (ap (λ (z : Held). z.marks) e) (kept_itself h.marks)
+settles_kept law h k (intent.CastoutRead page) p answer cells place quiet fits above e = kept_as h.marks k.marks (settled h (intent.CastoutRead page) p answer cells place).marks (ap (λ (z : Held). z.marks) e) (cast_kept h page answer)
+settles_kept law h k intent.CastoutWrite p answer cells place quiet fits above e = kept_as h.marks k.marks (settled h intent.CastoutWrite p answer cells place).marks (ap (λ (z : Held). z.marks) e) (kept_itself h.marks)
+settles_kept law h k intent.CastoutDone p answer cells place quiet fits above e = kept_as h.marks k.marks (settled h intent.CastoutDone p answer cells place).marks (ap (λ (z : Held). z.marks) e) (kept_itself h.marks)
+settles_kept law h k intent.PhaseDone p answer cells place quiet fits above e = kept_as h.marks k.marks (settled h intent.PhaseDone p answer cells place).marks (ap (λ (z : Held). z.marks) e) (kept_itself h.marks)
 
 -- whatever was looked for
-settled_kept : BothTell → (h k : Held) (i : Intent) (p : Plan) (waits : List Wait) (answer : Reply) (cells : List Cell) (place : ℕ) (told : Told) (o : Option ℕ) → Fits h.marks i → AboveFor i h.marks.log.stable answer → SettlesAs o h i p waits cells answer place told k → Kept h.marks k.marks
-settled_kept law h k i p waits answer cells place told None fits above e = settles_kept law h k i p answer cells place fits above e.1
-settled_kept law h k i p waits answer cells place told (Some slots) fits above e = kept_cycle h.marks k.marks waits slots place told e.0
+settled_kept : BothTell → (h k : Held) (i : Intent) (p : Plan) (waits : List Wait) (answer : Reply) (cells : List Cell) (place : ℕ) (told : Told) (o : Option ℕ) → IsQuiet i → Fits h.marks i → AboveFor i h.marks.log.stable answer → SettlesAs o h i p waits cells answer place told k → Kept h.marks k.marks
+settled_kept law h k i p waits answer cells place told None quiet fits above e = settles_kept law h k i p answer cells place quiet fits above e.1
+settled_kept law h k i p waits answer cells place told (Some slots) quiet fits above e = kept_cycle h.marks k.marks waits slots place told e.0
 
 -- ---- the bytes that a command is lent
 lent_kept : (h k : Held) (l : Lent) (page : List ℕ) → k ≡ with_bytes h l page → k.marks ≡ h.marks
@@ -319,10 +359,34 @@ called_kept w v h k i s a told other r = from_marks h r.after k (call_kept w v h
 pub nothing_kept : (h k : Held) (i : Intent) → Fits h.marks i → k ≡ unsent h i → Kept h.marks k.marks
 nothing_kept h k i fits e = kept_as h.marks k.marks (unsent h i).marks (ap (λ (z : Held). z.marks) e) (unsent_kept h i fits)
 
--- a command, where the number that it may draw is above the last one on disk
-pub command_kept : BothTell → (w v : World) (h k : Held) (i : Intent) (c : Command) (p : Plan) (place : ℕ) (a : Answered) (told : Told) → Fits h.marks i → (r : RunsCommand w.facility h i c p place a told v.facility k) → AboveFor i h.marks.log.stable r.answer → Kept h.marks k.marks
-command_kept law w v h k i c p place a told fits r above =
+-- a command of an intent that changes no row, where the number that it may draw is above the last one on disk
+pub command_kept : BothTell → (w v : World) (h k : Held) (i : Intent) (c : Command) (p : Plan) (place : ℕ) (a : Answered) (told : Told) → IsQuiet i → Fits h.marks i → (r : RunsCommand w.facility h i c p place a told v.facility k) → AboveFor i h.marks.log.stable r.answer → Kept h.marks k.marks
+command_kept law w v h k i c p place a told quiet fits r above =
     let same = lent_kept h r.after (lent_of h c) _ r.gives.executed.back in
     from_marks h r.after k same
-    (settled_kept law r.after k i p v.facility.lists.waits r.answer (cells_for v.facility.lists.cells r.after.marks.member c) place told (waits_in i)
+    (settled_kept law r.after k i p v.facility.lists.waits r.answer (cells_for v.facility.lists.cells r.after.marks.member c) place told (waits_in i) quiet
     (subst (λ (z : MarksState). Fits z i) (sym same) fits) (subst (λ (z : MarksState). AboveFor i z.log.stable r.answer) (sym same) above) r.settles)
+
+-- and that of one which changes pages
+change_puts : BothTell → (G : ℕ → Spot → Type 0) (h k : Held) (slot : ℕ) (action : Action) (frames : Frames) (p : Plan) (answer : Reply) (cells : List Cell) (place : ℕ) → is_forward (tran_in h.marks.trans (owner.Slot slot)).stage ≡ true
+    → ((id : ℕ) (x : Spot) → ChangedIn (intent.Change slot action frames) p k.marks id x → G id x) → Settles h (intent.Change slot action frames) p answer cells place k → PutsRows G h.marks k.marks
+change_puts law G h k slot action frames p answer cells place forward give e =
+    let marks : k.marks ≡ (drawn_after (kept_of h) slot frames p answer place).marks = ap (λ (z : Held). z.marks) e in
+    puts_as G h.marks k.marks (drawn_after (kept_of h) slot frames p answer place).marks marks
+    (kept_drawn law G (kept_of h) slot frames p answer place forward (λ id x g. give id x (record {
+      slot = slot;
+      action = action;
+      frames = frames;
+      change = g.change;
+      wanted = refl;
+      planned = g.planned;
+      row = g.row;
+      named = ap (λ (z : MarksState). (slot_tran z slot).first) marks ∙ g.named;
+    })))
+
+pub command_puts : BothTell → (G : ℕ → Spot → Type 0) (w v : World) (h k : Held) (slot : ℕ) (action : Action) (frames : Frames) (c : Command) (p : Plan) (place : ℕ) (a : Answered) (told : Told) → is_forward (tran_in h.marks.trans (owner.Slot slot)).stage ≡ true
+    → ((id : ℕ) (x : Spot) → ChangedIn (intent.Change slot action frames) p k.marks id x → G id x) → RunsCommand w.facility h (intent.Change slot action frames) c p place a told v.facility k → PutsRows G h.marks k.marks
+command_puts law G w v h k slot action frames c p place a told forward give r =
+    let same = lent_kept h r.after (lent_of h c) _ r.gives.executed.back in
+    subst (λ z. PutsRows G z k.marks) same
+    (change_puts law G r.after k slot action frames p r.answer (cells_for v.facility.lists.cells r.after.marks.member c) place (subst (λ (z : MarksState). is_forward (tran_in z.trans (owner.Slot slot)).stage ≡ true) (sym same) forward) give r.settles.1)

@@ -4,16 +4,23 @@ use Rattle.std.specs.List.{AllByRecursion}
 use Rattle.ds_base.specs.declared.names.Sizes.{Sizes}
 use Rattle.ds_disk.specs.Contents.{Contents, log_of}
 use Rattle.ds_model.specs.RecordBytes.{log_bytes}
+use Rattle.ds_model.specs.Rows.{Spot}
+use Rattle.ds_model.specs.declared.log.RowChange.{RowChange}
+use Rattle.page_plans.specs.declared.action.Action.{Action}
 use Rattle.ds_model.specs.declared.log.LogRecord.{LogRecord}
-use Rattle.log_rows.specs.Rows.{is_closed}
+use Rattle.log_rows.specs.Rows.{has_changed, is_closed}
+use Rattle.member_intents.specs.declared.intent.Frames.{Frames}
 use Rattle.member_intents.specs.declared.intent.Intent.{Intent}
+use Rattle.member_intents.specs.declared.intent.Intent.TheVariants as intent
 use Rattle.member_intents.specs.declared.outcome.Answered.{Answered}
 use Rattle.member_intents.specs.declared.outcome.Answered.TheVariants as answered
 use Rattle.member_intents.specs.declared.outcome.Sent.{Sent}
 use Rattle.member_trans.specs.declared.fate.Owner.{Owner}
 use Rattle.member_trans.specs.Trans.{TransState, TranState, is_decided, is_drawn, is_empty, is_forward, is_over_at, is_undoing, tran_at}
 use Rattle.member_marks.specs.Local.{Reaches}
-use Rattle.member_marks.specs.State.{MarksState, tran_of}
+use Rattle.member_marks.specs.State.{MarksState, slot_tran, tran_of}
+use Rattle.member_needs.specs.declared.plans.Plan.{Plan}
+use Rattle.member_needs.specs.declared.plans.Plan.TheVariants as plan
 use Rattle.member_resources.specs.Events.{Drive, Happens, World}
 use Rattle.member_resources.specs.Held.{Held, IsNew}
 
@@ -64,11 +71,28 @@ pub record LogIs (drive : Drive) (member : ℕ) (disk : List LogRecord) : Type 0
   pub there : nat_lt (member - 1) (length contents.logs) ≡ true
   pub log : log_of contents.logs member ≡ log_bytes disk
 
--- So it is of what an event leaves: records were put behind those of the buffer, maybe none; or those of the buffer are on disk now.
-pub record StillCloses (disk pend : List LogRecord) (drive : Drive) (s : MarksState) : Type 0 where
+-- the row that a record of this event has changed is that of the change which its intent has planned for the slot's transaction
+pub record ChangedIn (i : Intent) (p : Plan) (t : MarksState) (id : ℕ) (spot : Spot) : Type 0 where
+  pub slot : ℕ
+  pub action : Action
+  pub frames : Frames
+  pub change : RowChange
+  pub wanted : i ≡ intent.Change slot action frames
+  pub planned : p ≡ plan.Row change
+  pub row : (change.table, change.key) ≡ spot
+  pub named : (slot_tran t slot).first ≡ id
+
+-- these records were put behind those of the buffer, maybe none
+pub record Puts (pend left : List LogRecord) (Changes : ℕ → Spot → Type 0) : Type 0 where
+  pub new : List LogRecord
+  pub is : left ≡ pend ++ new
+  pub rows : (id : ℕ) (spot : Spot) → has_changed new id spot ≡ true → Changes id spot
+
+-- So it is of what an event leaves: records were put behind those of the buffer, or those of the buffer are on disk now.
+pub record StillCloses (disk pend : List LogRecord) (Changes : ℕ → Spot → Type 0) (drive : Drive) (s : MarksState) : Type 0 where
   pub more : List LogRecord
   pub left : List LogRecord
-  pub goes : ((more ≡ []) × ((new : List LogRecord) × (left ≡ pend ++ new))) ⊎ ((more ≡ pend) × (left ≡ []))
+  pub goes : ((more ≡ []) × Puts pend left Changes) ⊎ ((more ≡ pend) × (left ≡ []))
   pub log : LogIs drive s.member (disk ++ more)
   pub closes : Closes (disk ++ more) left s
 
@@ -81,8 +105,8 @@ IsUnfailed answered.Failed = ⊥
 
 abbrev pub ClosesStay : Type 0
 ClosesStay = (disk pend : List LogRecord) (w v : World) (h k : Held) (i : Intent) (place : ℕ) (sent : Sent) (a : Answered)
-    → Happens w h i place sent a v k → IsUnfailed a → h.marks.log.stable ≤ w.facility.counter → LogIs w.drive h.marks.member disk → Closes disk pend h.marks
-    → StillCloses disk pend v.drive k.marks
+    → (happens : Happens w h i place sent a v k) → IsUnfailed a → h.marks.log.stable ≤ w.facility.counter → LogIs w.drive h.marks.member disk → Closes disk pend h.marks
+    → StillCloses disk pend (ChangedIn i happens.plan happens.after.marks) v.drive k.marks
 
 -- ---- an owner whose transaction is over, and has changed a row, is closed on disk
 
