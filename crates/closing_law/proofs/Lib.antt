@@ -1,0 +1,10 @@
+pub mod Lists
+pub mod Trans
+pub mod Kept
+pub mod Records
+pub mod Effects
+pub mod Given
+pub mod Locals
+pub mod Runs
+pub mod Events
+pub mod Telling

@@ -1,0 +1,28 @@
+//! What no event of a member's restart changes: that the transactions which it has left open are those of the log that it has read, with no
+//! rows but those that records of theirs have changed, and that the names of these rows and of their table spaces are needed. So it frees no
+//! retained record of such a name.
+//!
+//! The crate has definitions and proofs alone. Its functions do nothing: their contracts are the theorems.
+#![tactic(auto)]
+
+ghost use Rattle.restart_law.specs.Opens.{OpensBegin, OpensHand, OpensStay, OpensTell, PurgesSpare};
+
+use log_rows::{both_tell, open_trans_tell};
+
+/// So it is of a restart that begins, and no event of it changes that, nor does what its member takes over from it.
+pub fn opens_stay()
+    ensures begin { OpensBegin }
+    ensures event { OpensStay }
+    ensures handed { OpensHand }
+{
+    open_trans_tell();
+}
+
+/// What it has left open, as it hands it over, are transactions that the log which it has read doesn't close, with the rows that the log's
+/// records have changed for them; and it frees the record of no name that one of these needs.
+pub fn opens_tell()
+    ensures tell { OpensTell }
+    ensures spare { PurgesSpare }
+{
+    both_tell();
+}
