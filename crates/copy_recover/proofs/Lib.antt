@@ -9,3 +9,5 @@ pub mod Log_steps
 pub mod Image_whole
 pub mod Whole
 pub mod Reached
+pub mod Unhindered
+pub mod Sounds

@@ -29,7 +29,7 @@ same_log a b p q = λ i. record { member = p i; records = (q i).records; length 
 same_parts : (bytes : List ℕ) (p q : Parts) → parts_in bytes ≡ Ok p → parts_in bytes ≡ Ok q → p ≡ q
 same_parts bytes p q h k = cc
 
-same_logs : AreRead → (m : ℕ) (bytes : List (List ℕ)) (logs others : List Log) → AreWholeLogs m bytes logs → AreLogsOf m bytes others → others ≡ logs
+pub same_logs : AreRead → (m : ℕ) (bytes : List (List ℕ)) (logs others : List Log) → AreWholeLogs m bytes logs → AreLogsOf m bytes others → others ≡ logs
 same_logs read m [] [] [] h k = refl
 same_logs read m [] [] (o ∷ others) h k = absurd k
 same_logs read m [] (l ∷ logs) others h k = absurd h
@@ -57,7 +57,7 @@ reaches_ok : ReachesLast → (id : PageId) (page : List ℕ) (records : List Log
 reaches_ok last id page records are v (Ok applied) is h = reaches last id page records applied are v is
 reaches_ok last id page records are v (Err f) is h = absurd h
 
-is_version : (image : List ℕ) (table : ℕ) (records : List LogRecord) (id : PageId) → HoldsVersions image table records → IsVersion id records (taken_from image table id)
+pub is_version : (image : List ℕ) (table : ℕ) (records : List LogRecord) (id : PageId) → HoldsVersions image table records → IsVersion id records (taken_from image table id)
 is_version image table records id h =
     decide (holds image table id) _
     (λ e. h id e)

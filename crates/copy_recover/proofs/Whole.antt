@@ -1,7 +1,8 @@
 -- A recovery from its parts.
-use Rattle.std.proofs.Common.{◌≡◌, ℕ, ◌≤◌, List, Option, Some, None, Result, Ok, Err, refl, sym, ap, subst, ◌∙◌, inl, inr, arith}
+use Rattle.std.proofs.Common.{◌≡◌, ℕ, ◌≤◌, List, [], Option, Some, None, Result, Ok, Err, refl, sym, ap, subst, ◌∙◌, inl, inr, arith}
 use Rattle.std.specs.Prelude.{◌⊎◌}
 use Rattle.ds_base.specs.Causes.{Rose}
+use Rattle.ds_base.specs.declared.names.Volume.TheVariants as volume
 use Rattle.ds_disk.specs.Contents.{Contents, WhenTold, Becomes, Same}
 use Rattle.log_record.specs.declared.log.Log.{Log}
 use Rattle.log_trans.specs.Damage.{log_damage}
@@ -37,15 +38,15 @@ greatest_in logs plan h = ap (λ (p : Plan). p.greatest.lrsn) h
 both_told : (d : Option Contents) (left : Option (List ℕ)) (image : List ℕ) (A : Contents → Type 0) (P : Contents → List ℕ → Type 0) → WereLeft left image
     → ((c : Contents) → A c → P c image) → WhenTold d A → WhenBothTold d left P
 both_told None left image A P were f h = tt
-both_told (Some c) None image A P were f h = tt
+both_told (Some c) None image A P were f h = (image, f c h)
 both_told (Some c) (Some b) image A P were f h = subst (λ (x : List ℕ). P c x) (sym were) (f c h)
 
 goes_by_both : (d e : Option Contents) (left : Option (List ℕ)) (image : List ℕ) (R : Contents → Contents → Type 0) (Q : Contents → Contents → List ℕ → Type 0) → WereLeft left image
-    → ((x y : Contents) → R x y → y.logs ≡ x.logs) → ((x y : Contents) → R x y → Q x y image) → Becomes d e R → BecomesBy d e left Q
-goes_by_both None e left image R Q were f g h = tt
-goes_by_both (Some x) None left image R Q were f g h = absurd h
-goes_by_both (Some x) (Some y) None image R Q were f g h = f x y h
-goes_by_both (Some x) (Some y) (Some b) image R Q were f g h = subst (λ (i : List ℕ). Q x y i) (sym were) (g x y h)
+    → ((x y : Contents) → R x y → Q x y image) → Becomes d e R → BecomesBy d e left Q
+goes_by_both None e left image R Q were f h = tt
+goes_by_both (Some x) None left image R Q were f h = absurd h
+goes_by_both (Some x) (Some y) None image R Q were f h = (image, f x y h)
+goes_by_both (Some x) (Some y) (Some b) image R Q were f h = subst (λ (i : List ℕ). Q x y i) (sym were) (f x y h)
 
 goes_with : (d e : Option Contents) (A : Contents → Type 0) (R : Contents → Contents → Type 0) → WhenTold d A → Becomes d e R → Becomes d e (λ x y. A x × R x y)
 goes_with None e A R a h = tt
@@ -59,7 +60,7 @@ same_begun c image table = record { logs_stay = refl; each = λ q. inl refl }
 untouched : (d e : Option Contents) (left : Option (List ℕ)) (table : ℕ) → Becomes d e Same → BecomesBy d e left (λ x y image. IsBegun x y image table)
 untouched None e left table h = tt
 untouched (Some x) None left table h = absurd h
-untouched (Some x) (Some y) None table h = ap (λ (c : Contents). c.logs) h
+untouched (Some x) (Some y) None table h = ([], subst (λ (c : Contents). IsBegun x c [] table) (sym h) (same_begun x [] table))
 untouched (Some x) (Some y) (Some b) table h = subst (λ (c : Contents). IsBegun x c b table) (sym h) (same_begun x b table)
 
 -- ---- recoveries that end before a page is written
@@ -69,6 +70,7 @@ wanting_all table d e f0 f1 l0 l1 s0 s1 same disk_le source_le = record {
   ok = tt;
   image = λ at is. absurd cc;
   damaged = λ v at is. absurd cc;
+  log_damaged = λ member at is. absurd cc;
   source_failed = λ is. absurd cc;
   disk_failed = λ is. absurd cc;
   no_sink = λ is. cc;
@@ -86,6 +88,7 @@ image_unread table d f l0 l1 s0 s1 e h = record {
   ok = tt;
   image = λ at is. absurd (elim (h.only (fault.Image at) (as_err e (fault.Image at) is)) [ inl x ↦ (let c = x.0 in cc) | inr y ↦ cc ]);
   damaged = λ v at is. absurd (elim (h.only (fault.Damaged v at) (as_err e (fault.Damaged v at) is)) [ inl x ↦ (let c = x.0 in cc) | inr y ↦ cc ]);
+  log_damaged = λ member at is. same_self d;
   source_failed = λ is. (by_source fault.Source s0 s1 (h.only fault.Source (as_err e fault.Source is)) refl, same_self d);
   disk_failed = λ is. absurd (elim (h.only fault.Disk (as_err e fault.Disk is)) [ inl x ↦ (let c = x.0 in cc) | inr y ↦ cc ]);
   no_sink = λ is. elim (h.only fault.Sink (as_err e fault.Sink is)) [ inl x ↦ (let c = x.0 in cc) | inr y ↦ cc ];
@@ -107,6 +110,7 @@ misnamed table d f l0 l1 s0 s1 at image were le h = record {
       let same : at ≡ place = cc in
       (both_told d l0 image (λ (c : Contents). Unit {0}) (λ c b. IsRefusedAt c b table place) were (λ c u. inl (subst (λ (p : ℕ). name_fault image table ≡ Some p) same h)) (told_unit d), same_self d);
   damaged = λ v p is. absurd cc;
+  log_damaged = λ member p is. absurd cc;
   source_failed = λ is. absurd cc;
   disk_failed = λ is. absurd cc;
   no_sink = λ is. cc;
@@ -125,6 +129,7 @@ logs_unread table d e f0 f1 l0 l1 s0 s1 image x were le named h = record {
   damaged = λ v at is.
       both_told d l0 image (λ (c : Contents). (member : ℕ) × IsUnread c member v at) (λ c b. IsDamage c b table v at) were
       (λ c u. inl (u.0, u.1.0, named, inl u.1.1)) (h.damaged v at (as_err x (fault.Damaged v at) is));
+  log_damaged = λ member at is. h.same;
   source_failed = λ is. absurd (h.no_source (as_err x fault.Source is));
   disk_failed = λ is. h.failed (as_err x fault.Disk is);
   no_sink = λ is. h.no_sink (as_err x fault.Sink is);
@@ -144,6 +149,7 @@ unplanned table d e f0 f1 l0 l1 s0 s1 image logs x were le named same disk_le ar
       let found = h.damaged v at (as_err x (fault.Damaged v at) is) in
       both_told d l0 image (λ (c : Contents). AreLogsOf 1 c.logs logs) (λ c b. IsDamage c b table v at) were
       (λ c a. inl (found.member, found.names_it, named, inr (logs, a, found.damage))) are;
+  log_damaged = λ member at is. same;
   source_failed = λ is. absurd (h.no_source (as_err x fault.Source is));
   disk_failed = λ is. absurd (h.no_disk (as_err x fault.Disk is));
   no_sink = λ is. h.no_sink (as_err x fault.Sink is);
@@ -170,6 +176,7 @@ refused table d e f0 f1 l0 l1 s0 s1 at image logs plan were le same disk_le are 
         same,
       );
   damaged = λ v p is. absurd cc;
+  log_damaged = λ member p is. absurd cc;
   source_failed = λ is. absurd cc;
   disk_failed = λ is. absurd cc;
   no_sink = λ is. cc;
@@ -196,7 +203,6 @@ pub all_recovered : (table : ℕ) (d e end : Option Contents) (f0 f1 f2 : ℕ) (
     → Recovers table (around d f0 l0 s0) (around end f2 l1 s1) r
 all_recovered table d e end f0 f1 f2 l0 l1 s0 s1 image logs plan (Ok count) were le same disk_le are planned sound allowed h = record {
   ok = goes_by_both d end l0 image (λ x y. AreLogsOf 1 x.logs logs × AreWritten image table (merged logs) (written_names image table (merged logs)) x y) (λ x y b. IsRecovered x y b table count) were
-      (λ x y p. p.1.logs_stay)
       (λ x y p. record {
         logs = logs;
         taken = is_taken x image table logs plan planned sound allowed p.0;
@@ -209,6 +215,7 @@ all_recovered table d e end f0 f1 f2 l0 l1 s0 s1 image logs plan (Ok count) were
       (from_start d e end (AreWritten image table (merged logs) (written_names image table (merged logs))) same h.ok.0));
   image = λ at is. absurd cc;
   damaged = λ v at is. absurd cc;
+  log_damaged = λ member at is. absurd cc;
   source_failed = λ is. absurd cc;
   disk_failed = λ is. absurd cc;
   no_sink = λ is. cc;
@@ -223,11 +230,11 @@ all_recovered table d e end f0 f1 f2 l0 l1 s0 s1 image logs plan (Err x) were le
       let met = h.damaged v at is in
       both_told d l0 image (λ (c : Contents). AreLogsOf 1 c.logs logs) (λ c b. IsDamage c b table v at) were
       (λ c a. inr (record { logs = logs; taken = is_taken c image table logs plan planned sound allowed a; page = met.page; names_it = met.names_it; written = met.written; meets = met.meets })) are;
+  log_damaged = λ member at is. (let met = h.damaged (volume.Log member) at is in let other : volume.Log member ≡ volume.Page met.page = met.names_it in absurd cc);
   source_failed = λ is. absurd (h.no_source is);
   disk_failed = λ is. rose_from f0 f1 f2 disk_le (h.failed is);
   no_sink = h.no_sink;
   begun = goes_by_both d end l0 image (λ x y. AreLogsOf 1 x.logs logs × AreBegun image table (merged logs) (written_names image table (merged logs)) x y) (λ x y b. IsBegun x y b table) were
-      (λ x y p. p.1.logs_stay)
       (λ x y p. record {
         logs_stay = p.1.logs_stay;
         each = λ q.
@@ -244,25 +251,26 @@ all_recovered table d e end f0 f1 f2 l0 l1 s0 s1 image logs plan (Err x) were le
 
 -- ---- from the source
 
-become_by : (d e : Option Contents) (left : Option (List ℕ)) (image : List ℕ) (Q : Contents → Contents → List ℕ → Type 0) → WereLeft left image → ((x y : Contents) → Q x y image → y.logs ≡ x.logs)
+become_by : (d e : Option Contents) (left : Option (List ℕ)) (image : List ℕ) (Q : Contents → Contents → List ℕ → Type 0) → WereLeft left image
     → BecomesBy d e (Some image) Q → BecomesBy d e left Q
-become_by None e left image Q were f h = tt
-become_by (Some x) None left image Q were f h = absurd h
-become_by (Some x) (Some y) None image Q were f h = f x y h
-become_by (Some x) (Some y) (Some b) image Q were f h = subst (λ (i : List ℕ). Q x y i) (sym were) h
+become_by None e left image Q were h = tt
+become_by (Some x) None left image Q were h = absurd h
+become_by (Some x) (Some y) None image Q were h = (image, h)
+become_by (Some x) (Some y) (Some b) image Q were h = subst (λ (i : List ℕ). Q x y i) (sym were) h
 
 both_by : (d : Option Contents) (left : Option (List ℕ)) (image : List ℕ) (P : Contents → List ℕ → Type 0) → WereLeft left image → WhenBothTold d (Some image) P → WhenBothTold d left P
 both_by None left image P were h = tt
-both_by (Some c) None image P were h = tt
+both_by (Some c) None image P were h = (image, h)
 both_by (Some c) (Some b) image P were h = subst (λ (i : List ℕ). P c i) (sym were) h
 
 -- the image was read, and the table was recovered from it, or not
 pub read_and_recovered : (table : ℕ) (d e : Option Contents) (f0 f1 : ℕ) (l0 l1 : Option (List ℕ)) (s0 s1 : ℕ) (image : List ℕ) (r : Result ℕ CopyFault) → WereLeft l0 image → s0 ≤ s1
     → Recovers table (around d f0 (Some image) 0) (around e f1 (Some image) 0) r → Recovers table (around d f0 l0 s0) (around e f1 l1 s1) r
 read_and_recovered table d e f0 f1 l0 l1 s0 s1 image (Ok count) were le h = record {
-  ok = become_by d e l0 image (λ x y i. IsRecovered x y i table count) were (λ x y p. p.logs_stay) h.ok;
+  ok = become_by d e l0 image (λ x y i. IsRecovered x y i table count) were h.ok;
   image = λ at is. absurd cc;
   damaged = λ v at is. absurd cc;
+  log_damaged = λ member at is. absurd cc;
   source_failed = λ is. absurd cc;
   disk_failed = λ is. absurd cc;
   no_sink = λ is. cc;
@@ -274,10 +282,11 @@ read_and_recovered table d e f0 f1 l0 l1 s0 s1 image (Err x) were le h = record 
   ok = tt;
   image = λ at is. (let found = h.image at is in (both_by d l0 image (λ c i. IsRefusedAt c i table at) were found.0, found.1));
   damaged = λ v at is. both_by d l0 image (λ c i. IsDamage c i table v at) were (h.damaged v at is);
+  log_damaged = h.log_damaged;
   source_failed = λ is. (let found = h.source_failed is in let none : ⊥ = omega (arith, found.0) in absurd none);
   disk_failed = h.disk_failed;
   no_sink = h.no_sink;
-  begun = become_by d e l0 image (λ x y i. IsBegun x y i table) were (λ x y p. p.logs_stay) h.begun;
+  begun = become_by d e l0 image (λ x y i. IsBegun x y i table) were h.begun;
   disk_later = h.disk_later;
   source_later = le;
 }

@@ -92,27 +92,29 @@ pub record Around : Type 0 where
   pub left : Option (List ℕ)
   pub source_faults : ℕ
 
--- a fact of what the disk holds and of the bytes that are left, where both are told
+-- a fact of what the disk holds and of the bytes of an image, where the disk tells: of those that were left of the source, or of some where
+-- it doesn't tell them
 abbrev pub WhenBothTold : Option Contents → Option (List ℕ) → (Contents → List ℕ → Type 0) → Type 0
 WhenBothTold None left P = Unit {0}
-WhenBothTold (Some c) None P = Unit {0}
+WhenBothTold (Some c) None P = (bytes : List ℕ) × P c bytes
 WhenBothTold (Some c) (Some bytes) P = P c bytes
 
--- told contents go on by this step; the bytes that are left are told
+-- told contents go on by this step, of the bytes that were left, or of some
 abbrev pub BecomesBy : Option Contents → Option Contents → Option (List ℕ) → (Contents → Contents → List ℕ → Type 0) → Type 0
 BecomesBy None after left P = Unit {0}
 BecomesBy (Some c) None left P = ⊥
-BecomesBy (Some c) (Some d) None P = d.logs ≡ c.logs
+BecomesBy (Some c) (Some d) None P = (bytes : List ℕ) × P c d bytes
 BecomesBy (Some c) (Some d) (Some bytes) P = P c d bytes
 
--- Where the disk and the source told what they hold: behind Ok the image was taken and the table was recovered from all that was left
--- of the source; `Image` names the first place at which the image can't be taken, and `Damaged` a field that can't stand there. Behind
--- these two and want of memory each page is as it was or as it was to be written, and the logs are as they were. Where the source failed
--- or the image wasn't taken the disk is as it was. A device failed only where it counted a fault.
+-- Where the disk told what it holds: behind Ok the image was taken and the table was recovered from all that was left of the source;
+-- `Image` names the first place at which the image can't be taken, and `Damaged` a field that can't stand there. Behind these two and
+-- want of memory each page is as it was or as it was to be written, and the logs are as they were. Where the source failed, a log is
+-- damaged or the image wasn't taken the disk is as it was. A device failed only where it counted a fault.
 pub record Recovers (table : ℕ) (before after : Around) (result : Result ℕ CopyFault) : Type 0 where
   pub ok : IfOk result (λ pages. BecomesBy before.contents after.contents before.left (λ c d image. IsRecovered c d image table pages))
   pub image : (at : ℕ) → IsErrOf result (fault.Image at) → WhenBothTold before.contents before.left (λ c image. IsRefusedAt c image table at) × Becomes before.contents after.contents Same
   pub damaged : (v : Volume) (at : ℕ) → IsErrOf result (fault.Damaged v at) → WhenBothTold before.contents before.left (λ c image. IsDamage c image table v at)
+  pub log_damaged : (member at : ℕ) → IsErrOf result (fault.Damaged (volume.Log member) at) → Becomes before.contents after.contents Same
   pub source_failed : IsErrOf result fault.Source → Rose before.source_faults after.source_faults × Becomes before.contents after.contents Same
   pub disk_failed : IsErrOf result fault.Disk → Rose before.disk_faults after.disk_faults
   pub no_sink : IsErrOf result fault.Sink → ⊥
