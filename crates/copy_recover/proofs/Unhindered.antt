@@ -13,7 +13,7 @@ use Rattle.log_record.specs.Reading.{record_in}
 use Rattle.log_trans.specs.Damage.{log_damage}
 use Rattle.log_trans.specs.declared.damage.Damaged.{Damaged}
 use Rattle.page_chain.specs.Chains.{IsVersion, AreRecords}
-use Rattle.page_format.specs.Fields.{version_at, lrsn_at, lrsn_of, is_old, page_size}
+use Rattle.page_format.specs.Fields.{version_at, lrsn_at, lrsn_of, is_old, renewed, page_size}
 use Rattle.page_format.specs.Header.{header_of, empty_header}
 use Rattle.page_format.specs.declared.header.Header.{Header}
 use Rattle.page_format.specs.declared.header.NotAPage.{NotAPage}
@@ -191,7 +191,7 @@ taken_may empty version image table greatest id from allowed =
 -- ---- no page is in the way
 
 new_is : (page : List ℕ) → is_old page ≡ false → current page ≡ page
-new_is page e = ap (λ (b : Bool). cond b _ page) e
+new_is page e = ap (λ (b : Bool). cond b (renewed page) page) e
 
 not_met : (o : Result Bool FieldFault) (f : FieldFault) → FindsNothing o → o ≡ Err f → ⊥
 not_met (Ok b) f h e = cc
