@@ -6,13 +6,11 @@
 #![tactic(auto)]
 
 mod image;
-mod laws;
 mod logs;
 mod names;
 mod pages;
 mod recovery;
 
-pub use laws::recovery_laws;
 pub use recovery::recover;
 pub use table_copy::{CopyFault, write_image};
 
