@@ -11,5 +11,5 @@ returns c =
     let name : c.page_name.result ≡ page_name c.args.table (heap_in image) c.args.n = c.page_name.ensures ∙ ap (λ (m : ℕ). page_name c.args.table m c.args.n) c.heap_pages-heap.ensures in
     record {
       name = name;
-      page = c.load_page.ensures ∙ sym (ap (λ (p : PageId). taken_from image c.args.table p) name ∙ held_is image c.args.table c.args.n c.number.ensures.range.0 c.requires.below);
+      page = c.load_page.ensures ∙ sym (ap (λ (p : PageId). taken_from image c.args.table p) name ∙ held_is image c.args.table c.args.n c.number-number.ensures.range.0 c.requires.below);
     }
