@@ -21,7 +21,7 @@ returns-in-Err g c =
 pub returns-in_ok-put-in-Ok : goal.returns-in_ok-put-in-Ok
 returns-in_ok-put-in-Ok g c =
     page_put c.args.id (brought_forward c.args.id c.args.page.now c.args.records.now) c.bring.new.page c.in-Ok.field-0 _ (g.D.Disk.contents c.args.disk.now) (g.D.Disk.contents c.put.new.disk)
-    (g.D.Disk.faults c.args.disk.now) (g.D.Disk.faults c.put.new.disk) (sym c.bring.ensures.outcome ∙ c.in-Ok.is) c.bring.ensures.page (ap not c.is_blank.ensures) c.in_ok-put.ensures
+    (g.D.Disk.faults c.args.disk.now) (g.D.Disk.faults c.put.new.disk) (sym c.bring.ensures.outcome ∙ c.in-Ok.is) c.bring.ensures.page (ap not c.is_blank.ensures) c.in_ok-put-in-Ok.ensures
 
 pub returns-in_err-put-in-Ok : goal.returns-in_err-put-in-Ok
 returns-in_err-put-in-Ok g c =
@@ -29,5 +29,5 @@ returns-in_err-put-in-Ok g c =
     (λ (r : Result Bool CopyFault).
     WritesPage (g.D.Disk.contents c.args.disk.now) (g.D.Disk.contents c.put.new.disk) (g.D.Disk.faults c.args.disk.now) (g.D.Disk.faults c.put.new.disk) c.args.id
     (brought_forward c.args.id c.args.page.now c.args.records.now) r)
-    c.in_err-put.field-0.0 c.from_residual.result c.from_residual.ensures.1
-    (page_not_put c.args.id (brought_forward c.args.id c.args.page.now c.args.records.now) c.bring.new.page _ _ _ _ c.in_err-put.field-0.0 c.bring.ensures.page c.in_err-put.ensures)
+    c.in_err-put-in-Ok.field-0.0 c.from_residual.result c.from_residual.ensures.1
+    (page_not_put c.args.id (brought_forward c.args.id c.args.page.now c.args.records.now) c.bring.new.page _ _ _ _ c.in_err-put-in-Ok.field-0.0 c.bring.ensures.page c.in_err-put-in-Ok.ensures)
