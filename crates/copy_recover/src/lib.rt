@@ -13,6 +13,3 @@ mod recovery;
 
 pub use recovery::recover;
 pub use table_copy::{CopyFault, write_image};
-
-#[cfg(test)]
-mod tests;

@@ -1,6 +1,6 @@
-use Rattle.std.proofs.Common.{◌≡◌, ℕ, ◌+◌, ◌<◌, sym, ap, ◌∙◌, arith}
+use Rattle.std.proofs.Common.{◌≡◌, ℕ, sym, ap, ◌∙◌}
 use Rattle.ds_base.specs.declared.names.PageId.{PageId}
-use Rattle.table_image_text.specs.Image.{heap_in, index_in, page_name}
+use Rattle.table_image_text.specs.Image.{heap_in, page_name}
 use Rattle.copy_recover.specs.Recovered.{taken_from}
 use Rattle.copy_recover.proofs.Held.{held_is}
 use Rattle.copy_recover.proofs.pages.load_held.Goals as goal

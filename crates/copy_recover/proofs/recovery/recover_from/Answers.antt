@@ -1,7 +1,5 @@
-use Rattle.std.proofs.Common.{◌≡◌, ℕ, ◌≤◌, List, Result, Ok, Err, None, Some, refl, sym, ap, subst, ◌∙◌, arith}
-use Rattle.ds_disk.specs.Contents.{WhenTold}
+use Rattle.std.proofs.Common.{ℕ, List, Result, Some, refl, sym, subst, ◌∙◌, arith}
 use Rattle.ds_model.specs.declared.log.LogRecord.{LogRecord}
-use Rattle.sound_disk.specs.Versions.{merged}
 use Rattle.table_copy.specs.declared.fault.CopyFault.{CopyFault}
 use Rattle.table_copy.specs.declared.fault.CopyFault.TheVariants as fault
 use Rattle.table_copy.proofs.Told.{handed_on}
