@@ -74,6 +74,7 @@ wanting_ends kind (Some order.Show) before after taken faults untouched unread =
 wanting_ends kind (Some (order.Make n)) before after taken faults untouched unread = wanting_run kind (Some (order.Make n)) before after taken faults untouched unread
 wanting_ends kind (Some (order.Work n sizes)) before after taken faults untouched unread = wanting_run kind (Some (order.Work n sizes)) before after taken faults untouched unread
 wanting_ends kind (Some order.Check) before after taken faults untouched unread = wanting_run kind (Some order.Check) before after taken faults untouched unread
+wanting_ends kind (Some (order.Recover table)) before after taken faults untouched unread = wanting_run kind (Some (order.Recover table)) before after taken faults untouched unread
 wanting_ends kind (Some (order.Copy table)) before after taken faults untouched unread = wanting_copy table before after taken faults untouched (unread tt)
 
 same_table : (n k : ℕ) → prepared.Copy n ≡ prepared.Copy k → n ≡ k
@@ -91,6 +92,7 @@ copies kind (Some order.Show) before after n ended opened opening account report
 copies kind (Some (order.Make k)) before after n ended opened opening account report taken taken_now faults faults_now h unread does nothing = let f : prepared.Copy n ≡ prepared.Make k = h in cc
 copies kind (Some (order.Work k sizes)) before after n ended opened opening account report taken taken_now faults faults_now h unread does nothing = let f : prepared.Copy n ≡ prepared.Work k (setting_of sizes (Some k) false) = h.0 in cc
 copies kind (Some order.Check) before after n ended opened opening account report taken taken_now faults faults_now h unread does nothing = let f : prepared.Copy n ≡ prepared.Check = h in cc
+copies kind (Some (order.Recover k)) before after n ended opened opening account report taken taken_now faults faults_now h unread does nothing = let f : prepared.Copy n ≡ prepared.Recover k = h.0 in cc
 copies kind (Some (order.Copy k)) before after n ended opened opening account report taken taken_now faults faults_now h unread does nothing = record {
   copies = subst (λ (i : ℕ). FinishesCopy i before.contents after.contents before.disk_faults after.disk_faults taken taken_now faults faults_now ended) (same_table n k h) does;
   unopened = nothing;
@@ -107,4 +109,5 @@ uncopied kind (Some order.Show) p before after ended opened opening account repo
 uncopied kind (Some (order.Make n)) p before after ended opened opening account report taken taken_now faults faults_now no h ends = ends
 uncopied kind (Some (order.Work n sizes)) p before after ended opened opening account report taken taken_now faults faults_now no h ends = ends
 uncopied kind (Some order.Check) p before after ended opened opening account report taken taken_now faults faults_now no h ends = ends
+uncopied kind (Some (order.Recover table)) p before after ended opened opening account report taken taken_now faults faults_now no h ends = ends
 uncopied kind (Some (order.Copy table)) p before after ended opened opening account report taken taken_now faults faults_now no h ends = absurd (no table h)

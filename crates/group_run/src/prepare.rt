@@ -35,6 +35,8 @@ pub enum Prepared {
     Check,
     /// An image of this table is to be written.
     Copy(TableId),
+    /// This table is to be made anew from the image in the source.
+    Recover(TableId),
     Ended(Status),
 }
 
@@ -87,6 +89,7 @@ pub fn prepare<S: Source>(
         Ok(Order::Make { n }) => Ok(Prepared::Make(n)),
         Ok(Order::Check) => Ok(Prepared::Check),
         Ok(Order::Copy { table }) => Ok(Prepared::Copy(table)),
+        Ok(Order::Recover { table }) => Ok(Prepared::Recover(table)),
         Ok(Order::Work { n, sizes }) => Ok(Prepared::Work(n, setting_of(sizes, Some(n), false))),
     }
 }

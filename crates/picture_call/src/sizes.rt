@@ -32,7 +32,8 @@ fn sizes_of(order: Order) -> Option<Sizes>
         | Order::Make { .. }
         | Order::Work { .. }
         | Order::Check
-        | Order::Copy { .. } => None,
+        | Order::Copy { .. }
+        | Order::Recover { .. } => None,
     }
 }
 

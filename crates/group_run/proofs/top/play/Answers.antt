@@ -4,7 +4,7 @@ use Rattle.checked_run.specs.Leading.{kind_of}
 use Rattle.group_run.specs.Outside.{outside}
 use Rattle.group_run.specs.Prepares.{ordered}
 use Rattle.group_run.specs.Ends.{Ends, EndsBy}
-use Rattle.group_run.proofs.Called.{no_sink, nothing_written}
+use Rattle.group_run.proofs.Called.{no_sink, nothing_written, recovers}
 use Rattle.group_run.proofs.Copying.{wanting_ends, copies, uncopied}
 use Rattle.group_run.proofs.top.play.Goals as goal
 
