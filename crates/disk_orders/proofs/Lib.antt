@@ -1,3 +1,4 @@
 pub mod Told
 pub mod Opening
 pub mod Copied
+pub mod Recovered

@@ -1,6 +1,5 @@
 -- What the recovery of a table and the group restart behind it come to.
 use Rattle.std.specs.Prelude.{◌≡◌, ℕ, Result, Ok, Err}
-use Rattle.ds_base.specs.Causes.{Rose}
 use Rattle.ds_disk.specs.Contents.{Becomes}
 use Rattle.disk_restart.specs.Keeping.{KeepsRecords}
 pub use Rattle.copy_recover.specs.Recovering.{Recovers}
@@ -27,8 +26,10 @@ abbrev pub GoesOn : Result ℕ CopyFault → SourceAround → SourceAround → R
 GoesOn (Ok pages) between after result = IsRestarted pages between after result
 GoesOn (Err why) between after result = (result ≡ Err why) × (after ≡ between)
 
+-- the logs keep their lasting records, whatever it came to
 pub record RecoversTable (table : ℕ) (before after : SourceAround) (result : Result ℕ CopyFault) : Type 0 where
   pub between : SourceAround
   pub made : Result ℕ CopyFault
   pub recovers : Recovers table before between made
   pub goes : GoesOn made between after result
+  pub keeps : Becomes before.contents after.contents KeepsRecords

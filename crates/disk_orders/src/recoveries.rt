@@ -18,7 +18,11 @@ pub fn recover_table<D: Disk, S: Source>(
     ensures { RecoversTable table (record { contents = D.contents disk.old; disk_faults = D.faults disk.old; left = S.left source.old; source_faults = S.faults source.old })
         (record { contents = D.contents disk.new; disk_faults = D.faults disk.new; left = S.left source.new; source_faults = S.faults source.new }) result }
 {
-    let pages = recover(alloc, disk, source, table)?;
-    restart(alloc, disk)?;
-    Ok(pages)
+    match recover(alloc, disk, source, table) {
+        Err(fault) => Err(fault),
+        Ok(pages) => match restart(alloc, disk) {
+            Err(fault) => Err(fault),
+            Ok(()) => Ok(pages),
+        },
+    }
 }

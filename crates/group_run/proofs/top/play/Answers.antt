@@ -1,8 +1,12 @@
-use Rattle.std.proofs.Common.{◌≡◌, refl, sym, subst}
+use Rattle.std.proofs.Common.{◌≡◌, Bool, false, List, [], refl, sym, subst}
+use Rattle.ds_base.specs.declared.row.Row.{Row}
 use Rattle.member_core.specs.declared.member.Member.{Member}
+use Rattle.checked_run.specs.Accounts.{no_account}
 use Rattle.checked_run.specs.Leading.{kind_of}
+use Rattle.checked_run.specs.declared.account.Account.{Account}
 use Rattle.group_run.specs.Outside.{outside}
-use Rattle.group_run.specs.Prepares.{ordered}
+use Rattle.group_run.specs.Prepares.{ordered, IsNoCopy}
+use Rattle.group_run.specs.declared.prepare.Prepared.TheVariants as prepared
 use Rattle.group_run.specs.Ends.{Ends, EndsBy}
 use Rattle.group_run.proofs.Called.{no_sink, nothing_written, recovers}
 use Rattle.group_run.proofs.Copying.{wanting_ends, copies, uncopied}
@@ -10,6 +14,48 @@ use Rattle.group_run.proofs.top.play.Goals as goal
 
 pub finish-requires : goal.finish-requires
 finish-requires g c κs within =
+    let kind = kind_of Member g.D.Disk.alive g.D.Disk.contents g.D.Disk.faults in
+    let o = ordered c.args.words.now in
+    let before = outside (g.S.Source.left c.args.source.now) (g.S.Source.faults c.args.source.now) (g.D.Disk.contents c.args.disk) (g.D.Disk.alive c.args.disk) (g.D.Disk.faults c.args.disk) in
+    let came = c.perform_recover.result in
+    let after = outside (g.S.Source.left c.perform_recover.new.source) (g.S.Source.faults c.perform_recover.new.source) (g.D.Disk.contents came.disk) (g.D.Disk.alive came.disk) (g.D.Disk.faults came.disk) in
+    let its = rw c.in-Ok-Recover.field-0-is at c.in-Ok-Recover.ensures.prepared in
+    no_sink kind o before after came.telling.status came.telling.text false [] no_account came.telling.report
+    (recovers kind o before after c.in-Ok-Recover.table (g.S.Source.left c.prepare.new.source) (g.S.Source.faults c.prepare.new.source) came.telling its c.perform_recover.ensures.recovers)
+
+pub returns-in-Ok-Recover-clause-ends : goal.returns-in-Ok-Recover-clause-ends
+returns-in-Ok-Recover-clause-ends g c =
+    let kind = kind_of Member g.D.Disk.alive g.D.Disk.contents g.D.Disk.faults in
+    let o = ordered c.args.words.now in
+    let before = outside (g.S.Source.left c.args.source.now) (g.S.Source.faults c.args.source.now) (g.D.Disk.contents c.args.disk) (g.D.Disk.alive c.args.disk) (g.D.Disk.faults c.args.disk) in
+    let came = c.perform_recover.result in
+    let left = g.S.Source.left c.perform_recover.new.source in
+    let faults = g.S.Source.faults c.perform_recover.new.source in
+    let taken = g.K.Sink.taken c.args.sink.now in
+    let taken_now = g.K.Sink.taken c.finish.new.sink in
+    let count = g.K.Sink.faults c.args.sink.now in
+    let count_now = g.K.Sink.faults c.finish.new.sink in
+    let after = outside left faults (g.D.Disk.contents came.disk) (g.D.Disk.alive came.disk) (g.D.Disk.faults came.disk) in
+    let its = rw c.in-Ok-Recover.field-0-is at c.in-Ok-Recover.ensures.prepared in
+    let unopened = c.perform_recover.ensures.unopened in
+    let meets = recovers kind o before after c.in-Ok-Recover.table (g.S.Source.left c.prepare.new.source) (g.S.Source.faults c.prepare.new.source) came.telling its c.perform_recover.ensures.recovers in
+    let ends : Ends kind o before after c.finish.result.status false [] no_account came.telling.report taken taken_now count count_now = record {
+      met = came.telling.status;
+      text = came.telling.text;
+      meets = meets;
+      told = c.finish.ensures.told;
+      wanting = nothing_written kind o before after came.telling.status c.finish.result.status came.telling.text false [] no_account came.telling.report taken taken_now count count_now meets c.finish.ensures.told;
+    } in
+    let none : IsNoCopy (prepared.Recover c.in-Ok-Recover.table) = λ table e. cc in
+    let all = uncopied kind o (prepared.Recover c.in-Ok-Recover.table) before after c.finish.result.status false [] no_account came.telling.report taken taken_now count count_now none its ends in
+    subst (λ x. EndsBy kind o before (outside left faults (g.D.Disk.contents x.disk) (g.D.Disk.alive x.disk) (g.D.Disk.faults x.disk)) c.finish.result.status x.opened x.opening (record { journal = x.journal; causes = x.causes; faults = x.faults }) x.report taken taken_now count count_now)
+    (sym c.finish.ensures.rest)
+    (subst (λ (b : Bool). EndsBy kind o before after c.finish.result.status b came.opening came.account came.telling.report taken taken_now count count_now) (sym unopened.0)
+    (subst (λ (rows : List Row). EndsBy kind o before after c.finish.result.status false rows came.account came.telling.report taken taken_now count count_now) (sym unopened.1)
+    (subst (λ (a : Account). EndsBy kind o before after c.finish.result.status false [] a came.telling.report taken taken_now count count_now) (sym unopened.2) all)))
+
+pub finish-in-Ok-prepared-requires : goal.finish-in-Ok-prepared-requires
+finish-in-Ok-prepared-requires g c κs within =
     let kind = kind_of Member g.D.Disk.alive g.D.Disk.contents g.D.Disk.faults in
     let o = ordered c.args.words.now in
     let before = outside (g.S.Source.left c.args.source.now) (g.S.Source.faults c.args.source.now) (g.D.Disk.contents c.args.disk) (g.D.Disk.alive c.args.disk) (g.D.Disk.faults c.args.disk) in
@@ -52,18 +98,18 @@ returns-in-Ok-prepared-clause-ends g c =
     let left = g.S.Source.left c.prepare.new.source in
     let faults = g.S.Source.faults c.prepare.new.source in
     let taken = g.K.Sink.taken c.args.sink.now in
-    let taken_now = g.K.Sink.taken c.finish.new.sink in
+    let taken_now = g.K.Sink.taken c.finish-in-Ok-prepared.new.sink in
     let count = g.K.Sink.faults c.args.sink.now in
-    let count_now = g.K.Sink.faults c.finish.new.sink in
+    let count_now = g.K.Sink.faults c.finish-in-Ok-prepared.new.sink in
     let after = outside left faults (g.D.Disk.contents came.disk) (g.D.Disk.alive came.disk) (g.D.Disk.faults came.disk) in
     let meets = c.perform.ensures.meets o before.left left before.source_faults faults c.in-Ok-prepared.ensures.prepared c.prepare.ensures.unread in
-    let ends : Ends kind o before after c.finish.result.status came.opened came.opening came.account came.telling.report taken taken_now count count_now = record {
+    let ends : Ends kind o before after c.finish-in-Ok-prepared.result.status came.opened came.opening came.account came.telling.report taken taken_now count count_now = record {
       met = came.telling.status;
       text = came.telling.text;
       meets = meets;
-      told = c.finish.ensures.told;
-      wanting = nothing_written kind o before after came.telling.status c.finish.result.status came.telling.text came.opened came.opening came.account came.telling.report taken taken_now count count_now meets c.finish.ensures.told;
+      told = c.finish-in-Ok-prepared.ensures.told;
+      wanting = nothing_written kind o before after came.telling.status c.finish-in-Ok-prepared.result.status came.telling.text came.opened came.opening came.account came.telling.report taken taken_now count count_now meets c.finish-in-Ok-prepared.ensures.told;
     } in
-    subst (λ x. EndsBy kind o before (outside left faults (g.D.Disk.contents x.disk) (g.D.Disk.alive x.disk) (g.D.Disk.faults x.disk)) c.finish.result.status x.opened x.opening (record { journal = x.journal; causes = x.causes; faults = x.faults }) x.report taken taken_now count count_now)
-    (sym c.finish.ensures.rest)
-    (uncopied kind o c.in-Ok-prepared.prepared before after c.finish.result.status came.opened came.opening came.account came.telling.report taken taken_now count count_now c.perform.requires.uncopied c.in-Ok-prepared.ensures.prepared ends)
+    subst (λ x. EndsBy kind o before (outside left faults (g.D.Disk.contents x.disk) (g.D.Disk.alive x.disk) (g.D.Disk.faults x.disk)) c.finish-in-Ok-prepared.result.status x.opened x.opening (record { journal = x.journal; causes = x.causes; faults = x.faults }) x.report taken taken_now count count_now)
+    (sym c.finish-in-Ok-prepared.ensures.rest)
+    (uncopied kind o c.in-Ok-prepared.prepared before after c.finish-in-Ok-prepared.result.status came.opened came.opening came.account came.telling.report taken taken_now count count_now c.perform.requires.uncopied c.in-Ok-prepared.ensures.prepared ends)
