@@ -1,4 +1,4 @@
 pub mod Told
 pub mod Opening
-pub mod Copied
+pub mod Written
 pub mod Recovered

@@ -1,5 +1,5 @@
 -- The group restart before a copy, and the greatest number of the logs behind it.
-use Rattle.std.proofs.Common.{◌≡◌, ℕ, ◌≤◌, Option, Some, None, Result, Ok, Err, sym, ap, subst, arith}
+use Rattle.std.proofs.Common.{◌≡◌, ℕ, ◌≤◌, Option, Some, None, Result, Ok, Err, arith}
 use Rattle.ds_disk.specs.Contents.{Contents, WhenTold, Becomes, Same}
 use Rattle.ds_base.specs.declared.names.Volume.{Volume}
 use Rattle.disk_restart.specs.Keeping.{KeepsRecords}
@@ -8,22 +8,19 @@ use Rattle.table_copy.specs.declared.fault.CopyFault.{CopyFault}
 use Rattle.table_copy.specs.declared.fault.CopyFault.TheVariants as fault
 use Rattle.disk_orders.specs.Numbers.{IsGreatest, IsBrokenAt}
 use Rattle.disk_orders.specs.Restarting.{Restarts, Opens}
-use Rattle.disk_orders.proofs.Told.{stays_on, told_behind, told_before, rose_on}
+use Rattle.disk_orders.proofs.Told.{as_err, stays_on, told_behind, rose_on}
 
 -- the restart was not done
 pub not_opened : (a b : Option Contents) (f g : ℕ) (why : CopyFault) → Restarts a b f g (Err why) → Opens a b f g (Err why)
 not_opened a b f g why h = record {
   greatest = tt;
-  disk_failed = λ is. h.disk_failed (ap (λ (x : CopyFault). Err x) (as_fault why fault.Disk is));
-  no_source = λ is. h.no_source (ap (λ (x : CopyFault). Err x) (as_fault why fault.Source is));
-  no_sink = λ is. h.no_sink (ap (λ (x : CopyFault). Err x) (as_fault why fault.Sink is));
-  no_image = λ at is. h.no_image at (ap (λ (x : CopyFault). Err x) (as_fault why (fault.Image at) is));
+  disk_failed = λ is. h.disk_failed (as_err why fault.Disk is);
+  no_source = λ is. h.no_source (as_err why fault.Source is);
+  no_sink = λ is. h.no_sink (as_err why fault.Sink is);
+  no_image = λ at is. h.no_image at (as_err why (fault.Image at) is);
   keeps = h.keeps;
   later = h.later;
 }
-  where
-    as_fault : (x y : CopyFault) → Err {T = ℕ} x ≡ Err y → x ≡ y
-    as_fault x y e = cc
 
 -- it was, and then the logs were read
 pub opened : (a b c : Option Contents) (f g k : ℕ) (result : Result ℕ CopyFault) → Restarts a b f g (Ok tt)

@@ -1,5 +1,5 @@
 -- How a call ends by the order of its words, where that may be a copy.
-use Rattle.std.proofs.Common.{◌≡◌, ◌⊎◌, inl, inr, ℕ, ◌≤◌, arith, Bool, true, false, List, [], Option, Some, None, refl, sym, ap, subst, ◌∙◌}
+use Rattle.std.proofs.Common.{◌≡◌, ◌≢◌, ◌⊎◌, inl, inr, ℕ, ◌≤◌, arith, Bool, true, false, List, [], Option, Some, None, refl, sym, ap, subst, ◌∙◌}
 use Rattle.std.proofs.lemmas.List.{append-nil}
 use Rattle.std.specs.Io.KnownBytes.{Appends}
 use Rattle.ds_base.specs.declared.row.Row.{Row}
@@ -9,8 +9,9 @@ use Rattle.disk_restart.specs.Keeping.{KeepsRecords}
 use Rattle.checked_run.specs.Accounts.{no_account}
 use Rattle.checked_run.specs.Leading.{Kind}
 use Rattle.checked_run.specs.declared.account.Account.{Account}
-use Rattle.disk_orders.specs.Copying.{IsCopied}
+use Rattle.disk_orders.specs.Copying.{CopyFault, SinkAround, ComesTo, IsCopied}
 use Rattle.disk_orders.specs.Copying.fault as copy_fault
+use Rattle.disk_orders.specs.declared.copies.Copied.{Copied}
 use Rattle.disk_orders.specs.declared.copies.Copied.TheVariants as copied
 use Rattle.group_words.specs.declared.order.Order.{Order}
 use Rattle.group_words.specs.declared.order.Order.TheVariants as order
@@ -21,6 +22,7 @@ use Rattle.group_run.specs.declared.prepare.Prepared.TheVariants as prepared
 use Rattle.group_run.specs.Outside.{Outside, DiskIsUntouched}
 use Rattle.group_run.specs.Prepares.{IsPrepared, IsNoCopy, ReadsNothing, setting_of}
 use Rattle.group_run.specs.Reports.{empty_report}
+use Rattle.group_run.specs.Tellings.{copy_status}
 use Rattle.group_run.specs.Ends.{Tells, FinishesCopy, EndsCopy, Ends, EndsBy}
 use Rattle.group_run.proofs.Called.{meets_wanting, unmoved}
 
@@ -32,6 +34,19 @@ kept : (a b : Option Contents) → b ≡ a → Becomes a b KeepsRecords
 kept None b e = tt
 kept (Some c) None e = cc
 kept (Some c) (Some d) e = let same : d ≡ c = cc in subst (λ x. KeepsRecords c x) (sym same) (λ member. refl)
+
+-- only a failed sink has the status of one
+pub sink_status : (why : CopyFault) → copy_status why ≡ status.SinkFailed → why ≡ copy_fault.Sink
+sink_status copy_fault.Source e = cc
+sink_status copy_fault.Sink e = refl
+sink_status copy_fault.Disk e = cc
+sink_status (copy_fault.Damaged volume at) e = cc
+sink_status (copy_fault.Image at) e = cc
+sink_status copy_fault.NoMemory e = cc
+
+-- what a copy came to that hadn't begun is no failed sink
+pub unsunk : (table : ℕ) (before after : SinkAround) (came : Copied) (why : CopyFault) → IsCopied table before after came → came ≡ copied.Unopened why → why ≢ copy_fault.Sink
+unsunk table before after came why is e = let comes = subst (ComesTo table before after) e is.comes in comes.1.0
 
 -- where memory was wanting for the words nothing was done
 nothing_told : (taken : Option (List ℕ)) (faults : ℕ) → Tells status.NoMemory status.NoMemory [] taken taken faults faults

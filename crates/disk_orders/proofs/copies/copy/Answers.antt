@@ -1,4 +1,4 @@
-use Rattle.disk_orders.proofs.Copied.{not_begun, whole, broken}
+use Rattle.disk_orders.proofs.Written.{not_begun, whole, broken}
 use Rattle.disk_orders.proofs.copies.copy.Goals as goal
 
 pub returns-in-Err : goal.returns-in-Err

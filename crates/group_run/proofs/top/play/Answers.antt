@@ -1,5 +1,7 @@
 use Rattle.std.proofs.Common.{◌≡◌, Bool, false, List, [], refl, sym, subst}
 use Rattle.ds_base.specs.declared.row.Row.{Row}
+use Rattle.ds_disk.specs.Contents.{Becomes}
+use Rattle.disk_restart.specs.Keeping.{KeepsRecords}
 use Rattle.member_core.specs.declared.member.Member.{Member}
 use Rattle.checked_run.specs.Accounts.{no_account}
 use Rattle.checked_run.specs.Leading.{kind_of}
@@ -13,7 +15,7 @@ use Rattle.group_run.proofs.Copying.{wanting_ends, copies, uncopied}
 use Rattle.group_run.proofs.top.play.Goals as goal
 
 pub finish-requires : goal.finish-requires
-finish-requires g c κs within =
+finish-requires g c =
     let kind = kind_of Member g.D.Disk.alive g.D.Disk.contents g.D.Disk.faults in
     let o = ordered c.args.words.now in
     let before = outside (g.S.Source.left c.args.source.now) (g.S.Source.faults c.args.source.now) (g.D.Disk.contents c.args.disk) (g.D.Disk.alive c.args.disk) (g.D.Disk.faults c.args.disk) in
@@ -113,3 +115,16 @@ returns-in-Ok-prepared-clause-ends g c =
     subst (λ x. EndsBy kind o before (outside left faults (g.D.Disk.contents x.disk) (g.D.Disk.alive x.disk) (g.D.Disk.faults x.disk)) c.finish-in-Ok-prepared.result.status x.opened x.opening (record { journal = x.journal; causes = x.causes; faults = x.faults }) x.report taken taken_now count count_now)
     (sym c.finish-in-Ok-prepared.ensures.rest)
     (uncopied kind o c.in-Ok-prepared.prepared before after c.finish-in-Ok-prepared.result.status came.opened came.opening came.account came.telling.report taken taken_now count count_now c.perform.requires.uncopied c.in-Ok-prepared.ensures.prepared ends)
+
+pub returns-in-Err-clause-left : goal.returns-in-Err-clause-left
+returns-in-Err-clause-left g c =
+    subst (λ x. x.opened ≡ false → Becomes (g.D.Disk.contents c.args.disk) (g.D.Disk.contents x.disk) KeepsRecords) (sym c.finish_unopened.ensures)
+    (λ closed. c.keeping_laws.ensures.itself (g.D.Disk.contents c.args.disk))
+
+pub returns-in-Ok-Recover-clause-left : goal.returns-in-Ok-Recover-clause-left
+returns-in-Ok-Recover-clause-left g c =
+    subst (λ x. x.opened ≡ false → Becomes (g.D.Disk.contents c.args.disk) (g.D.Disk.contents x.disk) KeepsRecords) (sym c.finish.ensures.rest) (λ closed. c.perform_recover.ensures.left)
+
+pub returns-in-Ok-prepared-clause-left : goal.returns-in-Ok-prepared-clause-left
+returns-in-Ok-prepared-clause-left g c =
+    subst (λ x. x.opened ≡ false → Becomes (g.D.Disk.contents c.args.disk) (g.D.Disk.contents x.disk) KeepsRecords) (sym c.finish-in-Ok-prepared.ensures.rest) c.perform.ensures.left

@@ -1,5 +1,5 @@
 -- What a copy comes to, behind the group restart and the reading of the logs.
-use Rattle.std.proofs.Common.{◌≡◌, ◌×◌, ℕ, ◌≤◌, List, Option, Some, None, Result, Ok, Err, refl, sym, ap, subst, arith}
+use Rattle.std.proofs.Common.{◌≡◌, ℕ, ◌≤◌, List, Option, Some, None, Result, Ok, Err, refl, sym, ap, subst, arith}
 use Rattle.std.specs.Io.KnownBytes.{Appends}
 use Rattle.ds_base.specs.Causes.{Rose}
 use Rattle.ds_base.specs.declared.names.Volume.{Volume}
@@ -17,7 +17,7 @@ use Rattle.disk_orders.specs.Restarting.{Opens}
 use Rattle.disk_orders.specs.Copying.{SinkAround, TakesOf, HasCause, IsMet, IsCopied}
 use Rattle.disk_orders.specs.declared.copies.Copied.{Copied}
 use Rattle.disk_orders.specs.declared.copies.Copied.TheVariants as copied
-use Rattle.disk_orders.proofs.Told.{stays_on, told_behind, told_before, told_by, rose_on}
+use Rattle.disk_orders.proofs.Told.{err, stays_on, rose_on}
 
 abbrev pub around : Option Contents → ℕ → Option (List ℕ) → ℕ → SinkAround
 around contents disk_faults taken sink_faults = record { contents = contents; disk_faults = disk_faults; taken = taken; sink_faults = sink_faults }
@@ -31,9 +31,6 @@ cause before after fault.Disk disk sink source image = disk refl
 cause before after (fault.Damaged volume at) disk sink source image = tt
 cause before after (fault.Image at) disk sink source image = image at refl
 cause before after fault.NoMemory disk sink source image = tt
-
-err : {T : Type 0} (x y : CopyFault) → x ≡ y → Err {T = T} x ≡ Err y
-err x y e = ap (λ (z : CopyFault). Err z) e
 
 -- nothing of the image was written
 pub not_begun : (table : ℕ) (a b : Option Contents) (f g : ℕ) (t : Option (List ℕ)) (s : ℕ) (why : CopyFault) → Opens a b f g (Err why) → IsCopied table (around a f t s) (around b g t s) (copied.Unopened why)
