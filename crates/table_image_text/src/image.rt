@@ -197,7 +197,10 @@ fn fault_in_page(
         return Some(bytes.len() as u64);
     }
     load_page(page, bytes, n);
-    fault_behind(place, fault_up_to(page, page_name(table, heap, n), greatest))
+    fault_behind(
+        place,
+        fault_up_to(page, page_name(table, heap, n), greatest),
+    )
 }
 
 fn fault_in_pages(
