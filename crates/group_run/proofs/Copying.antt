@@ -90,6 +90,7 @@ wanting_ends kind (Some order.Show) before after taken faults untouched unread =
 wanting_ends kind (Some (order.Make n)) before after taken faults untouched unread = wanting_run kind (Some (order.Make n)) before after taken faults untouched unread
 wanting_ends kind (Some (order.Work n sizes)) before after taken faults untouched unread = wanting_run kind (Some (order.Work n sizes)) before after taken faults untouched unread
 wanting_ends kind (Some order.Check) before after taken faults untouched unread = wanting_run kind (Some order.Check) before after taken faults untouched unread
+wanting_ends kind (Some (order.Recover table)) before after taken faults untouched unread = wanting_run kind (Some (order.Recover table)) before after taken faults untouched unread
 wanting_ends kind (Some (order.Copy table)) before after taken faults untouched unread = wanting_copy table before after taken faults untouched (unread tt)
 
 -- what has no table isn't a copy of one
@@ -106,6 +107,7 @@ no_played (prepared.Make k) n setting a b f g e h = cc
 no_played (prepared.Work k given) n setting a b f g e h = cc
 no_played prepared.Check n setting a b f g e h = cc
 no_played (prepared.Copy table) n setting a b f g e h = h
+no_played (prepared.Recover table) n setting a b f g e h = h
 no_played (prepared.Ended met) n setting a b f g e h = cc
 
 -- what was prepared is a copy of this table
@@ -120,6 +122,7 @@ copies kind (Some order.Show) before after p n ended opened opening account repo
 copies kind (Some (order.Make k)) before after p n ended opened opening account report taken taken_now faults faults_now e h unread does nothing = absurd (no_table p (prepared.Make k) n h e refl)
 copies kind (Some (order.Work k sizes)) before after p n ended opened opening account report taken taken_now faults faults_now e h unread does nothing = absurd (no_table p (prepared.Work k (setting_of sizes (Some k) false)) n h.0 e refl)
 copies kind (Some order.Check) before after p n ended opened opening account report taken taken_now faults faults_now e h unread does nothing = absurd (no_table p prepared.Check n h e refl)
+copies kind (Some (order.Recover k)) before after p n ended opened opening account report taken taken_now faults faults_now e h unread does nothing = absurd (no_table p (prepared.Recover k) n h.0 e refl)
 copies kind (Some (order.Copy k)) before after p n ended opened opening account report taken taken_now faults faults_now e h unread does nothing = record {
   copies = subst (λ (i : ℕ). FinishesCopy i before.contents after.contents before.disk_faults after.disk_faults taken taken_now faults faults_now ended) (its_table p n k h e) does;
   unopened = nothing;
@@ -127,13 +130,14 @@ copies kind (Some (order.Copy k)) before after p n ended opened opening account 
 }
 
 -- what was prepared is none
-pub uncopied : (kind : Kind) (o : Option Order) (p : Prepared) (before after : Outside) (ended : Status) (opened : Bool) (opening : List Row) (account : Account) (report : Report) (taken taken_now : Option (List ℕ)) (faults faults_now : ℕ)
-    → table_to_copy p ≡ None → IsPrepared o p before.left after.left before.source_faults after.source_faults → Ends kind o before after ended opened opening account report taken taken_now faults faults_now
+pub uncopied : (kind : Kind) (o : Option Order) (p : Prepared) (left_now : Option (List ℕ)) (source_now : ℕ) (before after : Outside) (ended : Status) (opened : Bool) (opening : List Row) (account : Account) (report : Report) (taken taken_now : Option (List ℕ)) (faults faults_now : ℕ)
+    → table_to_copy p ≡ None → IsPrepared o p before.left left_now before.source_faults source_now → Ends kind o before after ended opened opening account report taken taken_now faults faults_now
     → EndsBy kind o before after ended opened opening account report taken taken_now faults faults_now
-uncopied kind None p before after ended opened opening account report taken taken_now faults faults_now e h ends = ends
-uncopied kind (Some (order.Play sizes seed trace)) p before after ended opened opening account report taken taken_now faults faults_now e h ends = ends
-uncopied kind (Some order.Show) p before after ended opened opening account report taken taken_now faults faults_now e h ends = ends
-uncopied kind (Some (order.Make n)) p before after ended opened opening account report taken taken_now faults faults_now e h ends = ends
-uncopied kind (Some (order.Work n sizes)) p before after ended opened opening account report taken taken_now faults faults_now e h ends = ends
-uncopied kind (Some order.Check) p before after ended opened opening account report taken taken_now faults faults_now e h ends = ends
-uncopied kind (Some (order.Copy table)) p before after ended opened opening account report taken taken_now faults faults_now e h ends = let f : None ≡ Some table = sym e ∙ ap table_to_copy h in cc
+uncopied kind None p left_now source_now before after ended opened opening account report taken taken_now faults faults_now e h ends = ends
+uncopied kind (Some (order.Play sizes seed trace)) p left_now source_now before after ended opened opening account report taken taken_now faults faults_now e h ends = ends
+uncopied kind (Some order.Show) p left_now source_now before after ended opened opening account report taken taken_now faults faults_now e h ends = ends
+uncopied kind (Some (order.Make n)) p left_now source_now before after ended opened opening account report taken taken_now faults faults_now e h ends = ends
+uncopied kind (Some (order.Work n sizes)) p left_now source_now before after ended opened opening account report taken taken_now faults faults_now e h ends = ends
+uncopied kind (Some order.Check) p left_now source_now before after ended opened opening account report taken taken_now faults faults_now e h ends = ends
+uncopied kind (Some (order.Recover table)) p left_now source_now before after ended opened opening account report taken taken_now faults faults_now e h ends = ends
+uncopied kind (Some (order.Copy table)) p left_now source_now before after ended opened opening account report taken taken_now faults faults_now e h ends = let f : None ≡ Some table = sym e ∙ ap table_to_copy h in cc

@@ -1,5 +1,5 @@
 -- How a call of `play` ends.
-use Rattle.std.specs.Prelude.{◌≡◌, ◌⊎◌, ℕ, ◌<◌, Bool, true, false, List, [], length, take, Option, Some, None}
+use Rattle.std.specs.Prelude.{◌≡◌, ◌⊎◌, ℕ, ◌<◌, Bool, true, false, List, [], length, take, Option, Some, None, Result}
 use Rattle.std.specs.Io.KnownBytes.{Appends}
 use Rattle.ds_base.specs.Causes.{Rose}
 use Rattle.ds_base.specs.declared.row.Row.{Row}
@@ -17,7 +17,8 @@ use Rattle.checked_run.specs.declared.ended.Outcome.{Outcome}
 use Rattle.checked_run.specs.Outcomes.{Comes, IsOpening, Plays, Shows}
 use Rattle.disk_orders.specs.Checks.{IsSound, IsUnsound, IsChecked}
 use Rattle.disk_orders.specs.declared.checks.Checked.{Checked}
-use Rattle.disk_orders.specs.Copying.{IsCopied}
+use Rattle.disk_orders.specs.Copying.{IsCopied, CopyFault}
+use Rattle.disk_orders.specs.Recovering.{RecoversTable, SourceAround}
 use Rattle.disk_orders.specs.declared.copies.Copied.{Copied}
 use Rattle.disk_orders.specs.declared.copies.Copied.TheVariants as copied
 use Rattle.group_words.specs.declared.order.Order.{Order}
@@ -29,7 +30,7 @@ use Rattle.group_run.specs.Outside.{Outside, DiskIsUntouched}
 use Rattle.group_run.specs.Read.{IsRead}
 use Rattle.group_run.specs.Prepares.{MetBySource, ReadsNothing}
 use Rattle.group_run.specs.Reports.{empty_report}
-use Rattle.group_run.specs.Tellings.{told_text, short_telling, checked_status, copy_status, IsOrWanting, TellsOutcome}
+use Rattle.group_run.specs.Tellings.{told_text, short_telling, checked_status, copy_status, recovered_status, IsOrWanting, TellsOutcome}
 use Rattle.group_run.specs.declared.telling.Telling.{Telling}
 
 -- ---- what holds where a call meets a status and opens no disk
@@ -46,6 +47,7 @@ MetByDisk status.NoMemory before after = Unit {0}
 MetByDisk (status.Damaged volume at) before after = Unit {0}
 MetByDisk (status.Sound pages rows) before after = ⊥
 MetByDisk (status.Unsound breach) before after = ⊥
+MetByDisk (status.Recovered table pages) before after = ⊥
 MetByDisk (status.ImageRefused at) before after = ⊥
 MetByDisk (status.SelfCheckFailed event) before after = ⊥
 
@@ -61,8 +63,19 @@ MetByCheck status.NoMemory before after = Unit {0}
 MetByCheck (status.Damaged volume at) before after = ⊥
 MetByCheck (status.Sound pages rows) before after = IsSound before.contents pages rows
 MetByCheck (status.Unsound breach) before after = IsUnsound before.contents breach
+MetByCheck (status.Recovered table pages) before after = ⊥
 MetByCheck (status.ImageRefused at) before after = ⊥
 MetByCheck (status.SelfCheckFailed event) before after = ⊥
+
+-- a disk and a source, as a recovery speaks of them
+abbrev pub with_source : Outside → SourceAround
+with_source o = record { contents = o.contents; disk_faults = o.disk_faults; left = o.left; source_faults = o.source_faults }
+
+-- what the recovery of a table came to, of which this is met
+pub record MetByRecover (table : ℕ) (met : Status) (before after : Outside) : Type 0 where
+  pub came : Result ℕ CopyFault
+  pub recovers : RecoversTable table (with_source before) (with_source after) came
+  pub met_is : met ≡ recovered_status table came
 
 -- the source gave no script, and the disk wasn't touched; or it gave one
 abbrev pub MetByPlay : ℕ → Status → Outside → Outside → Type 0
@@ -79,6 +92,7 @@ MetBy (Some (order.Make n)) met before after = met ≡ status.Done
 MetBy (Some (order.Work n sizes)) met before after = MetByDisk met before after
 MetBy (Some order.Check) met before after = MetByCheck met before after
 MetBy (Some (order.Copy table)) met before after = ⊥
+MetBy (Some (order.Recover table)) met before after = MetByRecover table met before after
 
 -- ---- what holds where a call has opened the disk and meets a status
 
@@ -94,6 +108,7 @@ RunsTo Keeps status.NoMemory report = report ≡ empty_report 6
 RunsTo Keeps (status.Damaged volume at) report = Keeps (ending.Damaged volume at) × (report ≡ empty_report 7)
 RunsTo Keeps (status.Sound pages rows) report = ⊥
 RunsTo Keeps (status.Unsound breach) report = ⊥
+RunsTo Keeps (status.Recovered table pages) report = ⊥
 RunsTo Keeps (status.ImageRefused at) report = ⊥
 RunsTo Keeps (status.SelfCheckFailed event) report = Keeps (ending.Unsound event) × (report ≡ empty_report 11)
 
@@ -113,6 +128,7 @@ RanBy kind (Some (order.Make n)) met before after opening account report = ⊥
 RanBy kind (Some (order.Work n sizes)) met before after opening account report = RunsTo (PlaysFrom kind (made n) (Some n) false before after account opening) met report
 RanBy kind (Some order.Check) met before after opening account report = ⊥
 RanBy kind (Some (order.Copy table)) met before after opening account report = ⊥
+RanBy kind (Some (order.Recover table)) met before after opening account report = ⊥
 
 -- ---- what is written
 
@@ -125,6 +141,7 @@ work_of (Some (order.Make n)) = None
 work_of (Some (order.Work n sizes)) = Some n
 work_of (Some order.Check) = None
 work_of (Some (order.Copy table)) = None
+work_of (Some (order.Recover table)) = None
 
 -- where the disk was opened: the report, or its line for the work of a number; or the text of a status without one
 abbrev pub run_text : Option ℕ → Status → Report → List ℕ
@@ -138,6 +155,7 @@ run_text work status.NoMemory report = short_text status.NoMemory
 run_text work (status.Damaged volume at) report = short_text (status.Damaged volume at)
 run_text work (status.Sound pages rows) report = short_text (status.Sound pages rows)
 run_text work (status.Unsound breach) report = short_text (status.Unsound breach)
+run_text work (status.Recovered table pages) report = short_text (status.Recovered table pages)
 run_text work (status.ImageRefused at) report = short_text (status.ImageRefused at)
 run_text work (status.SelfCheckFailed event) report = short_text (status.SelfCheckFailed event)
 
@@ -171,6 +189,14 @@ pub record Checks (before after : Option Contents) (faults faults_now : ℕ) (to
   pub checked : IsChecked before after faults faults_now came
   pub told_is : IsOrWanting (short_telling (checked_status came)) told
 
+-- ---- the recovery of a table
+
+-- what the recovery of a table came to, and what is told of it
+pub record Recoveries (table : ℕ) (before after : SourceAround) (told : Telling) : Type 0 where
+  pub came : Result ℕ CopyFault
+  pub recovers : RecoversTable table before after came
+  pub told_is : IsOrWanting (short_telling (recovered_status table came)) told
+
 -- ---- how a call ends
 
 -- the order is one for which no disk is touched
@@ -182,6 +208,7 @@ TouchesNoDisk (Some (order.Make n)) = Unit {0}
 TouchesNoDisk (Some (order.Work n sizes)) = ⊥
 TouchesNoDisk (Some order.Check) = ⊥
 TouchesNoDisk (Some (order.Copy table)) = ⊥
+TouchesNoDisk (Some (order.Recover table)) = ⊥
 
 -- the order is one for which nothing is written to a disk
 abbrev pub WritesNothing : Option Order → Type 0
@@ -192,6 +219,7 @@ WritesNothing (Some (order.Make n)) = Unit {0}
 WritesNothing (Some (order.Work n sizes)) = ⊥
 WritesNothing (Some order.Check) = Unit {0}
 WritesNothing (Some (order.Copy table)) = ⊥
+WritesNothing (Some (order.Recover table)) = ⊥
 
 -- the order is one for which nothing is played
 abbrev pub PlaysNothing : Option Order → Type 0
@@ -202,6 +230,7 @@ PlaysNothing (Some (order.Make n)) = Unit {0}
 PlaysNothing (Some (order.Work n sizes)) = ⊥
 PlaysNothing (Some order.Check) = Unit {0}
 PlaysNothing (Some (order.Copy table)) = Unit {0}
+PlaysNothing (Some (order.Recover table)) = Unit {0}
 
 -- over a kind of disks: which status a call meets with which text, by what the words order and by whether the disk was opened, and what is
 -- kept of the events of a run

@@ -35,6 +35,8 @@ pub enum Prepared {
     Check,
     /// An image of this table is to be written.
     Copy(TableId),
+    /// This table is to be made anew from the image in the source.
+    Recover(TableId),
     Ended(Status),
 }
 
@@ -85,6 +87,7 @@ fn prepare_order<S: Source>(
         Order::Make { n } => Ok(Prepared::Make(*n)),
         Order::Check => Ok(Prepared::Check),
         Order::Copy { table } => Ok(Prepared::Copy(*table)),
+        Order::Recover { table } => Ok(Prepared::Recover(*table)),
         Order::Work { n, sizes } => Ok(Prepared::Work(*n, setting_of(*sizes, Some(*n), false))),
     }
 }
@@ -118,6 +121,7 @@ pub fn table_to_copy(prepared: &Prepared) -> Option<TableId>
         | Prepared::Make(_)
         | Prepared::Work(..)
         | Prepared::Check
+        | Prepared::Recover(_)
         | Prepared::Ended(_) => None,
     }
 }

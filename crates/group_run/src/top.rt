@@ -10,7 +10,7 @@ ghost use Rattle.group_words.specs.declared.order.Order.{Order};
 ghost use Rattle.group_run.specs.Outside.{outside};
 ghost use Rattle.group_run.specs.Prepares.{ordered, IsPrepared, ReadsNothing, IsAllowed, table_to_copy};
 ghost use Rattle.group_run.specs.Tellings.{TellsOutcome};
-ghost use Rattle.group_run.specs.Ends.{Tells, Meets, Works, Checks, EndsBy};
+ghost use Rattle.group_run.specs.Ends.{Tells, Meets, Works, Checks, Recoveries, EndsBy};
 
 use crate::copies::finish_copy;
 use crate::finish::{Finished, finish_unopened, tell};
@@ -18,12 +18,13 @@ use crate::prepare::{Prepared, Setting, prepare, table_to_copy};
 use crate::run::run;
 use crate::status::Status;
 use crate::telling::{
-    Telling, checked_status, fault_status, or_wanting, script_telling, short_telling, telling_of,
+    Telling, checked_status, fault_status, or_wanting, recovered_status, script_telling,
+    short_telling, telling_of,
 };
 use checked_run::{Account, Gate, Outcome, Ran, no_account, show_disk};
-use disk_orders::check;
+use disk_orders::{check, recover_table};
 use disk_restart::keeping_laws;
-use ds_base::{NoMemory, RowList, Sink, Source};
+use ds_base::{NoMemory, RowList, Sink, Source, TableId};
 use ds_disk::Disk;
 use std::alloc::Global;
 use std::sync::Wait;
@@ -125,20 +126,39 @@ fn perform_check<D: Disk>(alloc: Global, mut disk: D) -> Came<D>
     unopened(alloc, disk, or_wanting(alloc, telling))
 }
 
+// Recovers a table.
+fn perform_recover<S: Source, D: Disk>(
+    alloc: Global,
+    source: &mut S,
+    mut disk: D,
+    table: TableId,
+) -> Came<D>
+    ensures recovers { Recoveries table (record { contents = D.contents disk; disk_faults = D.faults disk; left = S.left source.old; source_faults = S.faults source.old })
+        (record { contents = D.contents result.disk; disk_faults = D.faults result.disk; left = S.left source.new; source_faults = S.faults source.new })
+        result.telling }
+    ensures unopened { (result.opened ≡ false) × (result.opening ≡ []) × (result.account ≡ no_account) }
+    ensures left { Becomes (D.contents disk) (D.contents result.disk) KeepsRecords }
+{
+    let came = recover_table(alloc, &mut disk, source, table);
+    let telling = short_telling(alloc, recovered_status(table, came));
+    unopened(alloc, disk, or_wanting(alloc, telling))
+}
+
 // All that a call does behind the words and the script, but tell it, for an order that isn't a copy.
-fn perform<R: Threads + Wait + Sync, D: Disk + Send, G: Gate + Sync>(
+fn perform<R: Threads + Wait + Sync, S: Source, D: Disk + Send, G: Gate + Sync>(
     rt: &R,
     alloc: Global,
     prepared: Prepared,
+    source: &mut S,
     disk: D,
     gate: &G,
 ) -> Came<D>
     requires allowed { IsAllowed prepared }
     requires uncopied { table_to_copy prepared ≡ None }
-    ensures meets { (o : Option Order) (left left_now : Option (List ℕ)) (faults faults_now : ℕ) → IsPrepared o prepared left left_now faults faults_now → (ReadsNothing o → left_now ≡ left)
+    ensures meets { (o : Option Order) (left : Option (List ℕ)) (faults : ℕ) → IsPrepared o prepared left (S.left source.old) faults (S.faults source.old) → (ReadsNothing o → S.left source.old ≡ left)
         → Meets (kind_of AnyMember D.alive D.contents D.faults) o
         (outside left faults (D.contents disk) (D.alive disk) (D.faults disk))
-        (outside left_now faults_now (D.contents result.disk) (D.alive result.disk) (D.faults result.disk))
+        (outside (S.left source.new) (S.faults source.new) (D.contents result.disk) (D.alive result.disk) (D.faults result.disk))
         result.telling.status result.telling.text result.opened result.opening result.account result.telling.report }
     ensures left { result.opened ≡ false → Becomes (D.contents disk) (D.contents result.disk) KeepsRecords }
 {
@@ -158,6 +178,7 @@ fn perform<R: Threads + Wait + Sync, D: Disk + Send, G: Gate + Sync>(
         }
         Prepared::Work(n, setting) => perform_work(rt, alloc, disk, n, &setting, gate),
         Prepared::Check => perform_check(alloc, disk),
+        Prepared::Recover(table) => perform_recover(alloc, source, disk, table),
         Prepared::Copy(_) => unreachable!(),
     }
 }
@@ -199,7 +220,8 @@ fn finish<D, K: Sink>(sink: &mut K, came: Came<D>) -> Finished<D>
 
 /// Does what the words order: plays the script of the source on the disk, or shows the disk, and writes the report to the sink;
 /// or plays the script of a number, and writes how many transactions met which fate; or writes the script of a number; or checks the
-/// disk, and writes whether it is sound; or writes an image of a table.
+/// disk, and writes whether it is sound; or writes an image of a table; or makes a table anew
+/// from the image that is left of the source, and writes how many pages it has.
 ///
 /// The words are the command line without the program's name. For a script the source is read to its end, or to the first byte past
 /// the longest script. Then the logs of the disk are read, and a group restart opens it; the script is run; another group restart
@@ -232,7 +254,7 @@ pub fn play<R: Threads + Wait + Sync, S: Source, K: Sink, D: Disk + Send, G: Gat
         Err(NoMemory) => finish_unopened(alloc, disk, Status::NoMemory),
         Ok(prepared) => match table_to_copy(&prepared) {
             Some(table) => finish_copy(alloc, disk, sink, table),
-            None => finish(sink, perform(rt, alloc, prepared, disk, gate)),
+            None => finish(sink, perform(rt, alloc, prepared, source, disk, gate)),
         },
     }
 }

@@ -16,9 +16,9 @@ finish-requires g c =
     let o = ordered c.args.words.now in
     let before = outside (g.S.Source.left c.args.source.now) (g.S.Source.faults c.args.source.now) (g.D.Disk.contents c.args.disk) (g.D.Disk.alive c.args.disk) (g.D.Disk.faults c.args.disk) in
     let came = c.perform.result in
-    let after = outside (g.S.Source.left c.prepare.new.source) (g.S.Source.faults c.prepare.new.source) (g.D.Disk.contents came.disk) (g.D.Disk.alive came.disk) (g.D.Disk.faults came.disk) in
+    let after = outside (g.S.Source.left c.perform.new.source) (g.S.Source.faults c.perform.new.source) (g.D.Disk.contents came.disk) (g.D.Disk.alive came.disk) (g.D.Disk.faults came.disk) in
     no_sink kind o before after came.telling.status came.telling.text came.opened came.opening came.account came.telling.report
-    (c.perform.ensures.meets o before.left after.left before.source_faults after.source_faults c.in-Ok.ensures.prepared c.prepare.ensures.unread)
+    (c.perform.ensures.meets o before.left before.source_faults c.in-Ok.ensures.prepared c.prepare.ensures.unread)
 
 pub returns-in-Err-clause-ends : goal.returns-in-Err-clause-ends
 returns-in-Err-clause-ends g c =
@@ -50,14 +50,14 @@ returns-in-None-clause-ends g c =
     let o = ordered c.args.words.now in
     let before = outside (g.S.Source.left c.args.source.now) (g.S.Source.faults c.args.source.now) (g.D.Disk.contents c.args.disk) (g.D.Disk.alive c.args.disk) (g.D.Disk.faults c.args.disk) in
     let came = c.perform.result in
-    let left = g.S.Source.left c.prepare.new.source in
-    let faults = g.S.Source.faults c.prepare.new.source in
+    let left = g.S.Source.left c.perform.new.source in
+    let faults = g.S.Source.faults c.perform.new.source in
     let taken = g.K.Sink.taken c.args.sink.now in
     let taken_now = g.K.Sink.taken c.finish.new.sink in
     let count = g.K.Sink.faults c.args.sink.now in
     let count_now = g.K.Sink.faults c.finish.new.sink in
     let after = outside left faults (g.D.Disk.contents came.disk) (g.D.Disk.alive came.disk) (g.D.Disk.faults came.disk) in
-    let meets = c.perform.ensures.meets o before.left left before.source_faults faults c.in-Ok.ensures.prepared c.prepare.ensures.unread in
+    let meets = c.perform.ensures.meets o before.left before.source_faults c.in-Ok.ensures.prepared c.prepare.ensures.unread in
     let ends : Ends kind o before after c.finish.result.status came.opened came.opening came.account came.telling.report taken taken_now count count_now = record {
       met = came.telling.status;
       text = came.telling.text;
@@ -67,7 +67,7 @@ returns-in-None-clause-ends g c =
     } in
     subst (λ x. EndsBy kind o before (outside left faults (g.D.Disk.contents x.disk) (g.D.Disk.alive x.disk) (g.D.Disk.faults x.disk)) c.finish.result.status x.opened x.opening (record { journal = x.journal; causes = x.causes; faults = x.faults }) x.report taken taken_now count count_now)
     (sym c.finish.ensures.rest)
-    (uncopied kind o c.in-Ok.prepared before after c.finish.result.status came.opened came.opening came.account came.telling.report taken taken_now count count_now (sym c.in-None.ensures) c.in-Ok.ensures.prepared ends)
+    (uncopied kind o c.in-Ok.prepared (g.S.Source.left c.prepare.new.source) (g.S.Source.faults c.prepare.new.source) before after c.finish.result.status came.opened came.opening came.account came.telling.report taken taken_now count count_now (sym c.in-None.ensures) c.in-Ok.ensures.prepared ends)
 
 pub returns-in-Err-clause-left : goal.returns-in-Err-clause-left
 returns-in-Err-clause-left g c =

@@ -1,0 +1,5 @@
+pub mod Recovered
+pub mod Recovering
+pub mod Reading
+pub mod Writing
+pub mod Laws
