@@ -2,8 +2,8 @@
 use Rattle.std.specs.Prelude.{◌≡◌, ℕ, Result, Ok, Err}
 use Rattle.ds_disk.specs.Contents.{Becomes}
 use Rattle.disk_restart.specs.Keeping.{KeepsRecords}
-pub use Rattle.copy_recover.specs.Recovering.{Recovers}
 -- given out again: what a recovery comes to, and a disk and a source
+pub use Rattle.copy_recover.specs.Recovering.{Recovers, BecomesBy, IsBegun}
 pub use Rattle.copy_recover.specs.Recovering.{Around as SourceAround}
 use Rattle.table_copy.specs.declared.fault.CopyFault.{CopyFault}
 use Rattle.disk_orders.specs.Restarting.{Restarts}

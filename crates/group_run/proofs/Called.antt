@@ -1,5 +1,5 @@
 -- What was prepared, or what became of a disk, is what a call meets.
-use Rattle.std.proofs.Common.{◌≡◌, ◌⊎◌, inl, inr, ℕ, Bool, true, false, cond, nat_eq, List, [], Option, Some, None, Result, Ok, Err, refl, sym, ap, subst, ◌∙◌}
+use Rattle.std.proofs.Common.{◌≡◌, ◌⊎◌, inl, inr, ℕ, Bool, true, false, cond, nat_eq, List, [], Option, Some, None, refl, sym, ap, subst, ◌∙◌}
 use Rattle.std.specs.Io.KnownBytes.{Appends}
 use Rattle.ds_base.specs.declared.row.Row.{Row}
 use Rattle.ds_disk.specs.Contents.{Contents, Becomes, Same}
@@ -18,10 +18,6 @@ use Rattle.checked_run.specs.Leading.{Came, Kind}
 use Rattle.checked_run.specs.declared.account.Account.{Account}
 use Rattle.checked_run.specs.Outcomes.{IsOpening, HasCause, Comes, Plays, RunFault, Shows}
 use Rattle.disk_orders.specs.Checks.{Holds, IsChecked}
-use Rattle.disk_orders.specs.Copying.{CopyFault}
-use Rattle.disk_orders.specs.Copying.fault as copy_fault
-use Rattle.disk_orders.specs.Restarting.{Restarts}
-use Rattle.disk_orders.specs.Recovering.{SourceAround, Recovers, EndsIn, IsRestarted, GoesOn, RecoversTable}
 use Rattle.disk_orders.specs.declared.checks.Checked.{Checked}
 use Rattle.disk_orders.specs.declared.checks.Checked.TheVariants as checked
 use Rattle.group_words.specs.Orders.{AreSizes}
@@ -37,8 +33,8 @@ use Rattle.group_run.specs.Prepares.{IsPrepared, ReadsNothing, setting_of}
 use Rattle.group_run.specs.Reports.{empty_report}
 use Rattle.group_run.specs.Statuses.{short_text}
 use Rattle.group_run.specs.Read.{IsRead}
-use Rattle.group_run.specs.Tellings.{short_telling, script_telling, met_by, told_text, telling_of, fault_status, checked_status, recovered_status, IsOrWanting, TellsOutcome}
-use Rattle.group_run.specs.Ends.{MetByDisk, MetByCheck, MetByRecover, MetBy, with_source, Recoveries, RunsTo, PlaysFrom, RanBy, work_of, run_text, text_for, text_by, TouchesNoDisk, WritesNothing, PlaysNothing, Tells, Meets, Works, Checks}
+use Rattle.group_run.specs.Tellings.{short_telling, script_telling, met_by, told_text, telling_of, fault_status, checked_status, IsOrWanting, TellsOutcome}
+use Rattle.group_run.specs.Ends.{MetByDisk, MetByCheck, MetBy, RunsTo, PlaysFrom, RanBy, work_of, run_text, text_for, text_by, TouchesNoDisk, WritesNothing, PlaysNothing, Tells, Meets, Works, Checks}
 
 -- ---- a call that opened no disk
 
@@ -103,7 +99,7 @@ met_by_order (Some (order.Make n)) met before after h untouched = let f : prepar
 met_by_order (Some (order.Work n sizes)) met before after h untouched = let f : prepared.Ended met ≡ prepared.Work n (setting_of sizes (Some n) false) = h.0 in cc
 met_by_order (Some order.Check) met before after h untouched = let f : prepared.Ended met ≡ prepared.Check = h in cc
 met_by_order (Some (order.Copy table)) met before after h untouched = let f : prepared.Ended met ≡ prepared.Copy table = h in cc
-met_by_order (Some (order.Recover table)) met before after h untouched = let f : prepared.Ended met ≡ prepared.Recover table = h.0 in cc
+met_by_order (Some (order.Recover table)) met before after h untouched = let f : prepared.Ended met ≡ prepared.Recover table = h in cc
 
 text_by_order : (o : Option Order) (met : Status) (a b : Option (List ℕ)) (f g : ℕ) → IsPrepared o (prepared.Ended met) a b f g → short_text met ≡ text_for o met
 text_by_order None met a b f g h = refl
@@ -134,7 +130,7 @@ made_by (Some (order.Make k)) n before after h = (refl, ap (λ i. script_text (m
 made_by (Some (order.Work k sizes)) n before after h = let f : prepared.Make n ≡ prepared.Work k (setting_of sizes (Some k) false) = h.0 in cc
 made_by (Some order.Check) n before after h = let f : prepared.Make n ≡ prepared.Check = h in cc
 made_by (Some (order.Copy table)) n before after h = let f : prepared.Make n ≡ prepared.Copy table = h in cc
-made_by (Some (order.Recover table)) n before after h = let f : prepared.Make n ≡ prepared.Recover table = h.0 in cc
+made_by (Some (order.Recover table)) n before after h = let f : prepared.Make n ≡ prepared.Recover table = h in cc
 
 pub is_made : (kind : Kind) (o : Option Order) (before after : Outside) (n : ℕ) (told : Telling)
     → IsPrepared o (prepared.Make n) before.left after.left before.source_faults after.source_faults → DiskIsUntouched before after → (ReadsNothing o → after.left ≡ before.left)
@@ -325,7 +321,7 @@ plays kind (Some (order.Make n)) before after account script given out opened op
 plays kind (Some (order.Work n sizes)) before after account script given out opened opening t h comes told = let f : prepared.Play script given ≡ prepared.Work n (setting_of sizes (Some n) false) = h.0 in cc
 plays kind (Some order.Check) before after account script given out opened opening t h comes told = let f : prepared.Play script given ≡ prepared.Check = h in cc
 plays kind (Some (order.Copy table)) before after account script given out opened opening t h comes told = let f : prepared.Play script given ≡ prepared.Copy table = h in cc
-plays kind (Some (order.Recover table)) before after account script given out opened opening t h comes told = let f : prepared.Play script given ≡ prepared.Recover table = h.0 in cc
+plays kind (Some (order.Recover table)) before after account script given out opened opening t h comes told = let f : prepared.Play script given ≡ prepared.Recover table = h in cc
 
 pub shows : (kind : Kind) (o : Option Order) (before after : Outside) (account : Account) (out : Outcome) (opened : Bool) (opening : List Row) (t : Telling)
     → IsPrepared o prepared.Show before.left after.left before.source_faults after.source_faults → (ReadsNothing o → after.left ≡ before.left) → account ≡ no_account
@@ -339,7 +335,7 @@ shows kind (Some (order.Make n)) before after account out opened opening t h unr
 shows kind (Some (order.Work n sizes)) before after account out opened opening t h unread none comes told = let f : prepared.Show ≡ prepared.Work n (setting_of sizes (Some n) false) = h.0 in cc
 shows kind (Some order.Check) before after account out opened opening t h unread none comes told = let f : prepared.Show ≡ prepared.Check = h in cc
 shows kind (Some (order.Copy table)) before after account out opened opening t h unread none comes told = let f : prepared.Show ≡ prepared.Copy table = h in cc
-shows kind (Some (order.Recover table)) before after account out opened opening t h unread none comes told = let f : prepared.Show ≡ prepared.Recover table = h.0 in cc
+shows kind (Some (order.Recover table)) before after account out opened opening t h unread none comes told = let f : prepared.Show ≡ prepared.Recover table = h in cc
 
 pub works : (kind : Kind) (o : Option Order) (before after : Outside) (account : Account) (n : ℕ) (given : Setting) (opened : Bool) (opening : List Row) (t : Telling)
     → IsPrepared o (prepared.Work n given) before.left after.left before.source_faults after.source_faults → (ReadsNothing o → after.left ≡ before.left)
@@ -355,7 +351,7 @@ works kind (Some (order.Work k sizes)) before after account n given opened openi
     of_outcome kind (Some (order.Work k sizes)) before after account (PlaysFrom kind (made k) (Some k) false before after account) does.outcome opened opening t (work_opens kind k sizes before after account (unread tt)) its told
 works kind (Some order.Check) before after account n given opened opening t h unread does = let f : prepared.Work n given ≡ prepared.Check = h in cc
 works kind (Some (order.Copy table)) before after account n given opened opening t h unread does = let f : prepared.Work n given ≡ prepared.Copy table = h in cc
-works kind (Some (order.Recover table)) before after account n given opened opening t h unread does = let f : prepared.Work n given ≡ prepared.Recover table = h.0 in cc
+works kind (Some (order.Recover table)) before after account n given opened opening t h unread does = let f : prepared.Work n given ≡ prepared.Recover table = h in cc
 
 -- ---- by what the check of a disk came to
 
@@ -384,76 +380,9 @@ checks kind (Some (order.Make n)) before after t h unread does = let f : prepare
 checks kind (Some (order.Work n sizes)) before after t h unread does = let f : prepared.Check ≡ prepared.Work n (setting_of sizes (Some n) false) = h.0 in cc
 checks kind (Some order.Check) before after t h unread does = meets_checked kind before after does.came t (unread tt) does.checked does.told_is
 checks kind (Some (order.Copy table)) before after t h unread does = let f : prepared.Check ≡ prepared.Copy table = h in cc
-checks kind (Some (order.Recover table)) before after t h unread does = let f : prepared.Check ≡ prepared.Recover table = h.0 in cc
-
--- ---- by what the recovery of a table came to
-
-meets_recovered : (kind : Kind) (table : ℕ) (before after : Outside) (t : Telling) → Recoveries table (with_source before) (with_source after) t → MeetsUnopened kind (Some (order.Recover table)) before after t
-meets_recovered kind table before after t does =
-    let o : Option Order = Some (order.Recover table) in
-    let met : Status = recovered_status table does.came in
-    let untouched : TouchesNoDisk o → DiskIsUntouched before after = λ none. absurd none in
-    let unwritten : WritesNothing o → Becomes before.contents after.contents Same = λ none. absurd none in
-    let unread : ReadsNothing o → after.left ≡ before.left = λ none. absurd none in
-    let by : MetByRecover table met before after = record { came = does.came; recovers = does.recovers; met_is = refl } in
-    let meets : MeetsUnopened kind o before after (short_telling met) = meets_short kind o before after met (short_text met) _ (λ not. by) refl untouched unwritten unread in
-    meets_or_wanting kind o before after (short_telling met) t untouched unwritten unread meets does.told_is
-
-same_table : (n k : ℕ) → prepared.Recover n ≡ prepared.Recover k → n ≡ k
-same_table n k e = cc
-
--- a source that is as it was before the recovery
-abbrev pub with_left : Outside → Option (List ℕ) → ℕ → SourceAround
-with_left o left faults = record { contents = o.contents; disk_faults = o.disk_faults; left = left; source_faults = faults }
-
-recovers_at : (kind : Kind) (n k : ℕ) (before after : Outside) (left : Option (List ℕ)) (faults : ℕ) (t : Telling) → n ≡ k → left ≡ before.left → faults ≡ before.source_faults
-    → Recoveries n (with_left before left faults) (with_source after) t → MeetsUnopened kind (Some (order.Recover k)) before after t
-recovers_at kind n k before after left faults t e same_left same_faults does =
-    let by_left = subst (λ (l : Option (List ℕ)). Recoveries n (with_left before l faults) (with_source after) t) same_left does in
-    let by_faults = subst (λ (c : ℕ). Recoveries n (with_left before before.left c) (with_source after) t) same_faults by_left in
-    meets_recovered kind k before after t (subst (λ (i : ℕ). Recoveries i (with_source before) (with_source after) t) e by_faults)
-
--- the words ordered the recovery, of which nothing was read before it
-pub recovers : (kind : Kind) (o : Option Order) (before after : Outside) (n : ℕ) (left : Option (List ℕ)) (faults : ℕ) (t : Telling)
-    → IsPrepared o (prepared.Recover n) before.left left before.source_faults faults
-    → Recoveries n (with_left before left faults) (with_source after) t → MeetsUnopened kind o before after t
-recovers kind None before after n left faults t h does = let f : prepared.Recover n ≡ prepared.Ended status.WordsRefused = h in cc
-recovers kind (Some (order.Play sizes seed trace)) before after n left faults t h does = absurd h
-recovers kind (Some order.Show) before after n left faults t h does = let f : prepared.Recover n ≡ prepared.Show = h in cc
-recovers kind (Some (order.Make k)) before after n left faults t h does = let f : prepared.Recover n ≡ prepared.Make k = h in cc
-recovers kind (Some (order.Work k sizes)) before after n left faults t h does = let f : prepared.Recover n ≡ prepared.Work k (setting_of sizes (Some k) false) = h.0 in cc
-recovers kind (Some order.Check) before after n left faults t h does = let f : prepared.Recover n ≡ prepared.Check = h in cc
-recovers kind (Some (order.Copy k)) before after n left faults t h does = let f : prepared.Recover n ≡ prepared.Copy k = h in cc
-recovers kind (Some (order.Recover k)) before after n left faults t h does = recovers_at kind n k before after left faults t (same_table n k h.0) h.1.0 h.1.1 does
+checks kind (Some (order.Recover table)) before after t h unread does = let f : prepared.Check ≡ prepared.Recover table = h in cc
 
 -- ---- no call meets a failed sink
-
--- a recovery and the group restart behind it meet no sink
-restart_no_sink : (pages : ℕ) (between after : SourceAround) (result : Result ℕ CopyFault) → IsRestarted pages between after result → result ≡ Err copy_fault.Sink → ⊥
-restart_no_sink pages between after result is e = go is.done is.restarts is.ends
-  where
-    go : (done : Result (Unit {0}) CopyFault) → Restarts between.contents after.contents between.disk_faults after.disk_faults done → EndsIn pages done result → ⊥
-    go (Ok u) restarts ends = let f : Ok pages ≡ Err copy_fault.Sink = sym ends ∙ e in cc
-    go (Err why) restarts ends = let same : why ≡ copy_fault.Sink = (let f : Err why ≡ Err copy_fault.Sink = sym ends ∙ e in cc) in restarts.no_sink same
-
-recovery_no_sink : (table : ℕ) (before after : SourceAround) (result : Result ℕ CopyFault) → RecoversTable table before after result → result ≡ Err copy_fault.Sink → ⊥
-recovery_no_sink table before after result is e = go is.made is.recovers is.goes
-  where
-    go : (made : Result ℕ CopyFault) → Recovers table before is.between made → GoesOn made is.between after result → ⊥
-    go (Ok pages) recovers goes = restart_no_sink pages is.between after result goes e
-    go (Err why) recovers goes = let same : why ≡ copy_fault.Sink = (let f : Err why ≡ Err copy_fault.Sink = sym goes.0 ∙ e in cc) in recovers.no_sink same
-
-sink_of : (table : ℕ) (came : Result ℕ CopyFault) → status.SinkFailed ≡ recovered_status table came → came ≡ Err copy_fault.Sink
-sink_of table (Ok pages) e = cc
-sink_of table (Err copy_fault.Source) e = cc
-sink_of table (Err copy_fault.Sink) e = refl
-sink_of table (Err copy_fault.Disk) e = cc
-sink_of table (Err (copy_fault.Damaged volume at)) e = cc
-sink_of table (Err (copy_fault.Image at)) e = cc
-sink_of table (Err copy_fault.NoMemory) e = cc
-
-no_sink_recovered : (table : ℕ) (came : Result ℕ CopyFault) (before after : Outside) → RecoversTable table (with_source before) (with_source after) came → status.SinkFailed ≡ recovered_status table came → ⊥
-no_sink_recovered table came before after recovers e = recovery_no_sink table (with_source before) (with_source after) came recovers (sink_of table came e)
 
 short_no_sink : (o : Option Order) (before after : Outside) → MetBy o status.SinkFailed before after → ⊥
 short_no_sink None before after h = let f : status.SinkFailed ≡ status.WordsRefused = h in cc
@@ -463,7 +392,7 @@ short_no_sink (Some (order.Make n)) before after h = let f : status.SinkFailed �
 short_no_sink (Some (order.Work n sizes)) before after h = h
 short_no_sink (Some order.Check) before after h = h
 short_no_sink (Some (order.Copy table)) before after h = h
-short_no_sink (Some (order.Recover table)) before after h = no_sink_recovered table h.came before after h.recovers h.met_is
+short_no_sink (Some (order.Recover table)) before after h = h
 
 ran_no_sink : (kind : Kind) (o : Option Order) (before after : Outside) (opening : List Row) (account : Account) (report : Report) → RanBy kind o status.SinkFailed before after opening account report → ⊥
 ran_no_sink kind None before after opening account report h = h

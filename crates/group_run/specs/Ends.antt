@@ -67,16 +67,6 @@ MetByCheck (status.Recovered table pages) before after = ⊥
 MetByCheck (status.ImageRefused at) before after = ⊥
 MetByCheck (status.SelfCheckFailed event) before after = ⊥
 
--- a disk and a source, as a recovery speaks of them
-abbrev pub with_source : Outside → SourceAround
-with_source o = record { contents = o.contents; disk_faults = o.disk_faults; left = o.left; source_faults = o.source_faults }
-
--- what the recovery of a table came to, of which this is met
-pub record MetByRecover (table : ℕ) (met : Status) (before after : Outside) : Type 0 where
-  pub came : Result ℕ CopyFault
-  pub recovers : RecoversTable table (with_source before) (with_source after) came
-  pub met_is : met ≡ recovered_status table came
-
 -- the source gave no script, and the disk wasn't touched; or it gave one
 abbrev pub MetByPlay : ℕ → Status → Outside → Outside → Type 0
 MetByPlay members met before after =
@@ -92,7 +82,7 @@ MetBy (Some (order.Make n)) met before after = met ≡ status.Done
 MetBy (Some (order.Work n sizes)) met before after = MetByDisk met before after
 MetBy (Some order.Check) met before after = MetByCheck met before after
 MetBy (Some (order.Copy table)) met before after = ⊥
-MetBy (Some (order.Recover table)) met before after = MetByRecover table met before after
+MetBy (Some (order.Recover table)) met before after = ⊥
 
 -- ---- what holds where a call has opened the disk and meets a status
 
@@ -189,14 +179,6 @@ pub record Checks (before after : Option Contents) (faults faults_now : ℕ) (to
   pub checked : IsChecked before after faults faults_now came
   pub told_is : IsOrWanting (short_telling (checked_status came)) told
 
--- ---- the recovery of a table
-
--- what the recovery of a table came to, and what is told of it
-pub record Recoveries (table : ℕ) (before after : SourceAround) (told : Telling) : Type 0 where
-  pub came : Result ℕ CopyFault
-  pub recovers : RecoversTable table before after came
-  pub told_is : IsOrWanting (short_telling (recovered_status table came)) told
-
 -- ---- how a call ends
 
 -- the order is one for which no disk is touched
@@ -254,14 +236,17 @@ pub record Ends (kind : Kind) (o : Option Order) (before after : Outside) (ended
   pub told : Tells met ended text taken taken_now faults faults_now
   pub wanting : ended ≡ status.NoMemory → Appends taken taken_now []
 
--- ---- how a copy ends
+-- ---- how a copy of a table ends, and its recovery
+
+-- the line of a status was told; or memory was wanting for it
+abbrev pub TellsLine : Status → Status → Option (List ℕ) → Option (List ℕ) → ℕ → ℕ → Type 0
+TellsLine met ended taken taken_now faults faults_now = Tells met ended (short_text met) taken taken_now faults faults_now ⊎ ((ended ≡ status.NoMemory) × Appends taken taken_now [])
 
 -- what is told behind a copy: nothing, or, where nothing of the image was written, the text of a status; or memory is wanting for it
 abbrev pub TellsCopy : Copied → Status → Option (List ℕ) → Option (List ℕ) → ℕ → ℕ → Type 0
 TellsCopy (copied.Whole pages) ended taken taken_now faults faults_now = (ended ≡ status.Done) × ((taken_now ≡ taken) × (faults_now ≡ faults))
 TellsCopy (copied.Broken why) ended taken taken_now faults faults_now = (ended ≡ copy_status why) × ((taken_now ≡ taken) × (faults_now ≡ faults))
-TellsCopy (copied.Unopened why) ended taken taken_now faults faults_now =
-    Tells (copy_status why) ended (short_text (copy_status why)) taken taken_now faults faults_now ⊎ ((ended ≡ status.NoMemory) × Appends taken taken_now [])
+TellsCopy (copied.Unopened why) ended taken taken_now faults faults_now = TellsLine (copy_status why) ended taken taken_now faults faults_now
 
 -- A group restart, and then the image, of which the sink has taken what it took, and nothing behind it.
 pub record FinishesCopy (table : ℕ) (contents contents_now : Option Contents) (disk_faults disk_faults_now : ℕ) (taken taken_now : Option (List ℕ)) (faults faults_now : ℕ) (ended : Status) : Type 0 where
@@ -278,7 +263,23 @@ pub record EndsCopy (table : ℕ) (before after : Outside) (ended : Status) (ope
   pub unopened : (opened ≡ false) × (opening ≡ []) × (account ≡ no_account) × (report.entries ≡ [])
   pub unread : after.left ≡ before.left
 
+-- a disk and a source, as a recovery speaks of them
+abbrev pub with_source : Outside → SourceAround
+with_source o = record { contents = o.contents; disk_faults = o.disk_faults; left = o.left; source_faults = o.source_faults }
+
+-- The recovery of a table from the image that is left of the source, and the group restart behind it, and the line that is told of what they came to.
+pub record FinishesRecovery (table : ℕ) (before after : SourceAround) (taken taken_now : Option (List ℕ)) (faults faults_now : ℕ) (ended : Status) : Type 0 where
+  pub came : Result ℕ CopyFault
+  pub recovers : RecoversTable table before after came
+  pub told : TellsLine (recovered_status table came) ended taken taken_now faults faults_now
+
+-- no run opens
+pub record EndsRecovery (table : ℕ) (before after : Outside) (ended : Status) (opened : Bool) (opening : List Row) (account : Account) (report : Report) (taken taken_now : Option (List ℕ)) (faults faults_now : ℕ) : Type 0 where
+  pub recovers : FinishesRecovery table (with_source before) (with_source after) taken taken_now faults faults_now ended
+  pub unopened : (opened ≡ false) × (opening ≡ []) × (account ≡ no_account) × (report.entries ≡ [])
+
 -- by the order of the words
 abbrev pub EndsBy : Kind → Option Order → Outside → Outside → Status → Bool → List Row → Account → Report → Option (List ℕ) → Option (List ℕ) → ℕ → ℕ → Type 0
 EndsBy kind (Some (order.Copy table)) before after ended opened opening account report taken taken_now faults faults_now = EndsCopy table before after ended opened opening account report taken taken_now faults faults_now
+EndsBy kind (Some (order.Recover table)) before after ended opened opening account report taken taken_now faults faults_now = EndsRecovery table before after ended opened opening account report taken taken_now faults faults_now
 EndsBy kind o before after ended opened opening account report taken taken_now faults faults_now = Ends kind o before after ended opened opening account report taken taken_now faults faults_now

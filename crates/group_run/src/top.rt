@@ -8,23 +8,23 @@ ghost use Rattle.checked_run.specs.Outcomes.{IsLeft};
 ghost use Rattle.group_words.specs.Orders.{AreSizes};
 ghost use Rattle.group_words.specs.declared.order.Order.{Order};
 ghost use Rattle.group_run.specs.Outside.{outside};
-ghost use Rattle.group_run.specs.Prepares.{ordered, IsPrepared, ReadsNothing, IsAllowed, table_to_copy};
+ghost use Rattle.group_run.specs.Prepares.{ordered, IsPrepared, ReadsNothing, IsAllowed, table_to_copy, table_to_recover};
 ghost use Rattle.group_run.specs.Tellings.{TellsOutcome};
-ghost use Rattle.group_run.specs.Ends.{Tells, Meets, Works, Checks, Recoveries, EndsBy};
+ghost use Rattle.group_run.specs.Ends.{Tells, Meets, Works, Checks, EndsBy};
 
 use crate::copies::finish_copy;
 use crate::finish::{Finished, finish_unopened, tell};
-use crate::prepare::{Prepared, Setting, prepare, table_to_copy};
+use crate::prepare::{Prepared, Setting, prepare, table_to_copy, table_to_recover};
+use crate::recoveries::finish_recovery;
 use crate::run::run;
 use crate::status::Status;
 use crate::telling::{
-    Telling, checked_status, fault_status, or_wanting, recovered_status, script_telling,
-    short_telling, telling_of,
+    Telling, checked_status, fault_status, or_wanting, script_telling, short_telling, telling_of,
 };
 use checked_run::{Account, Gate, Outcome, Ran, no_account, show_disk};
-use disk_orders::{check, recover_table};
+use disk_orders::check;
 use disk_restart::keeping_laws;
-use ds_base::{NoMemory, RowList, Sink, Source, TableId};
+use ds_base::{NoMemory, RowList, Sink, Source};
 use ds_disk::Disk;
 use std::alloc::Global;
 use std::sync::Wait;
@@ -126,39 +126,21 @@ fn perform_check<D: Disk>(alloc: Global, mut disk: D) -> Came<D>
     unopened(alloc, disk, or_wanting(alloc, telling))
 }
 
-// Recovers a table.
-fn perform_recover<S: Source, D: Disk>(
-    alloc: Global,
-    source: &mut S,
-    mut disk: D,
-    table: TableId,
-) -> Came<D>
-    ensures recovers { Recoveries table (record { contents = D.contents disk; disk_faults = D.faults disk; left = S.left source.old; source_faults = S.faults source.old })
-        (record { contents = D.contents result.disk; disk_faults = D.faults result.disk; left = S.left source.new; source_faults = S.faults source.new })
-        result.telling }
-    ensures unopened { (result.opened ≡ false) × (result.opening ≡ []) × (result.account ≡ no_account) }
-    ensures left { Becomes (D.contents disk) (D.contents result.disk) KeepsRecords }
-{
-    let came = recover_table(alloc, &mut disk, source, table);
-    let telling = short_telling(alloc, recovered_status(table, came));
-    unopened(alloc, disk, or_wanting(alloc, telling))
-}
-
-// All that a call does behind the words and the script, but tell it, for an order that isn't a copy.
-fn perform<R: Threads + Wait + Sync, S: Source, D: Disk + Send, G: Gate + Sync>(
+// All that a call does behind the words and the script, but tell it, for an order that is neither a copy of a table nor its recovery.
+fn perform<R: Threads + Wait + Sync, D: Disk + Send, G: Gate + Sync>(
     rt: &R,
     alloc: Global,
     prepared: Prepared,
-    source: &mut S,
     disk: D,
     gate: &G,
 ) -> Came<D>
     requires allowed { IsAllowed prepared }
     requires uncopied { table_to_copy prepared ≡ None }
-    ensures meets { (o : Option Order) (left : Option (List ℕ)) (faults : ℕ) → IsPrepared o prepared left (S.left source.old) faults (S.faults source.old) → (ReadsNothing o → S.left source.old ≡ left)
+    requires unrecovered { table_to_recover prepared ≡ None }
+    ensures meets { (o : Option Order) (left left_now : Option (List ℕ)) (faults faults_now : ℕ) → IsPrepared o prepared left left_now faults faults_now → (ReadsNothing o → left_now ≡ left)
         → Meets (kind_of AnyMember D.alive D.contents D.faults) o
         (outside left faults (D.contents disk) (D.alive disk) (D.faults disk))
-        (outside (S.left source.new) (S.faults source.new) (D.contents result.disk) (D.alive result.disk) (D.faults result.disk))
+        (outside left_now faults_now (D.contents result.disk) (D.alive result.disk) (D.faults result.disk))
         result.telling.status result.telling.text result.opened result.opening result.account result.telling.report }
     ensures left { result.opened ≡ false → Becomes (D.contents disk) (D.contents result.disk) KeepsRecords }
 {
@@ -178,8 +160,7 @@ fn perform<R: Threads + Wait + Sync, S: Source, D: Disk + Send, G: Gate + Sync>(
         }
         Prepared::Work(n, setting) => perform_work(rt, alloc, disk, n, &setting, gate),
         Prepared::Check => perform_check(alloc, disk),
-        Prepared::Recover(table) => perform_recover(alloc, source, disk, table),
-        Prepared::Copy(_) => unreachable!(),
+        Prepared::Copy(_) | Prepared::Recover(_) => unreachable!(),
     }
 }
 
@@ -254,7 +235,10 @@ pub fn play<R: Threads + Wait + Sync, S: Source, K: Sink, D: Disk + Send, G: Gat
         Err(NoMemory) => finish_unopened(alloc, disk, Status::NoMemory),
         Ok(prepared) => match table_to_copy(&prepared) {
             Some(table) => finish_copy(alloc, disk, sink, table),
-            None => finish(sink, perform(rt, alloc, prepared, source, disk, gate)),
+            None => match table_to_recover(&prepared) {
+                Some(table) => finish_recovery(alloc, source, disk, sink, table),
+                None => finish(sink, perform(rt, alloc, prepared, disk, gate)),
+            },
         },
     }
 }

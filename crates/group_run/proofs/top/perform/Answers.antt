@@ -9,7 +9,7 @@ use Rattle.group_run.specs.Prepares.{IsAllowed}
 use Rattle.group_run.specs.Tellings.{short_telling, script_telling}
 use Rattle.group_run.specs.declared.status.Status.TheVariants as status
 use Rattle.group_run.specs.Ends.{Meets}
-use Rattle.group_run.proofs.Called.{CameOf, ended, is_made, shows, plays, works, checks, recovers}
+use Rattle.group_run.proofs.Called.{CameOf, ended, is_made, shows, plays, works, checks}
 use Rattle.ds_disk.specs.Contents.{Becomes}
 use Rattle.disk_restart.specs.Keeping.{KeepsRecords}
 use Rattle.group_run.proofs.top.perform.Goals as goal
@@ -18,9 +18,7 @@ pub run-requires-clause-sizes : goal.run-requires-clause-sizes
 run-requires-clause-sizes g c κs within = subst IsAllowed c.in-Play.is c.requires.allowed
 
 pub returns-in-Ended-clause-meets : goal.returns-in-Ended-clause-meets
-returns-in-Ended-clause-meets g c = λ o was was_faults prepared unread.
-    let left = g.S.Source.left c.args.source.now in
-    let faults = g.S.Source.faults c.args.source.now in
+returns-in-Ended-clause-meets g c = λ o was left was_faults faults prepared unread.
     let before = outside was was_faults (g.D.Disk.contents c.args.disk) (g.D.Disk.alive c.args.disk) (g.D.Disk.faults c.args.disk) in
     let its = rw c.in-Ended.is at prepared in
     let told = c.or_wanting.ensures (short_telling c.in-Ended.met) c.short_telling-telling.ensures in
@@ -28,9 +26,7 @@ returns-in-Ended-clause-meets g c = λ o was was_faults prepared unread.
     (ended (kind_of Member g.D.Disk.alive g.D.Disk.contents g.D.Disk.faults) o before (outside left faults (g.D.Disk.contents c.args.disk) (g.D.Disk.alive c.args.disk) (g.D.Disk.faults c.args.disk)) c.in-Ended.met c.or_wanting.result its (refl, refl, refl) unread told)
 
 pub returns-in-Make-clause-meets : goal.returns-in-Make-clause-meets
-returns-in-Make-clause-meets g c = λ o was was_faults prepared unread.
-    let left = g.S.Source.left c.args.source.now in
-    let faults = g.S.Source.faults c.args.source.now in
+returns-in-Make-clause-meets g c = λ o was left was_faults faults prepared unread.
     let before = outside was was_faults (g.D.Disk.contents c.args.disk) (g.D.Disk.alive c.args.disk) (g.D.Disk.faults c.args.disk) in
     let its = rw c.in-Make.is at prepared in
     let told = c.or_wanting-in-Make.ensures (script_telling c.in-Make.n) c.script_telling-telling.ensures in
@@ -38,9 +34,7 @@ returns-in-Make-clause-meets g c = λ o was was_faults prepared unread.
     (is_made (kind_of Member g.D.Disk.alive g.D.Disk.contents g.D.Disk.faults) o before (outside left faults (g.D.Disk.contents c.args.disk) (g.D.Disk.alive c.args.disk) (g.D.Disk.faults c.args.disk)) c.in-Make.n c.or_wanting-in-Make.result its (refl, refl, refl) unread told)
 
 pub returns-in-Show-clause-meets : goal.returns-in-Show-clause-meets
-returns-in-Show-clause-meets g c = λ o was was_faults prepared unread.
-    let left = g.S.Source.left c.args.source.now in
-    let faults = g.S.Source.faults c.args.source.now in
+returns-in-Show-clause-meets g c = λ o was left was_faults faults prepared unread.
     let before = outside was was_faults (g.D.Disk.contents c.args.disk) (g.D.Disk.alive c.args.disk) (g.D.Disk.faults c.args.disk) in
     let its = rw c.in-Show.is at prepared in
     let came = c.came_of.result in
@@ -50,9 +44,7 @@ returns-in-Show-clause-meets g c = λ o was was_faults prepared unread.
     (subst (λ (a : Account). Comes (g.D.Disk.contents c.args.disk) (g.D.Disk.faults c.args.disk) (g.D.Disk.faults left_disk) a (Shows (g.D.Disk.faults c.args.disk) (g.D.Disk.faults left_disk)) c.show_disk.result.outcome) (sym c.came_of.ensures.account) c.show_disk.ensures.comes) c.came_of.ensures.tells)
 
 pub returns-in-Play-clause-meets : goal.returns-in-Play-clause-meets
-returns-in-Play-clause-meets g c = λ o was was_faults prepared unread.
-    let left = g.S.Source.left c.args.source.now in
-    let faults = g.S.Source.faults c.args.source.now in
+returns-in-Play-clause-meets g c = λ o was left was_faults faults prepared unread.
     let before = outside was was_faults (g.D.Disk.contents c.args.disk) (g.D.Disk.alive c.args.disk) (g.D.Disk.faults c.args.disk) in
     let its = rw c.in-Play.is at prepared in
     let came = c.came_of-in-Play.result in
@@ -73,18 +65,14 @@ pub perform_work-requires-clause-seeded : goal.perform_work-requires-clause-seed
 perform_work-requires-clause-seeded g c κs within = (subst IsAllowed c.in-Work.is c.requires.allowed).2
 
 pub returns-in-Work-clause-meets : goal.returns-in-Work-clause-meets
-returns-in-Work-clause-meets g c = λ o was was_faults prepared unread.
-    let left = g.S.Source.left c.args.source.now in
-    let faults = g.S.Source.faults c.args.source.now in
+returns-in-Work-clause-meets g c = λ o was left was_faults faults prepared unread.
     let before = outside was was_faults (g.D.Disk.contents c.args.disk) (g.D.Disk.alive c.args.disk) (g.D.Disk.faults c.args.disk) in
     let its = rw c.in-Work.is at prepared in
     let came = c.perform_work.result in
     works (kind_of Member g.D.Disk.alive g.D.Disk.contents g.D.Disk.faults) o before (outside left faults (g.D.Disk.contents came.disk) (g.D.Disk.alive came.disk) (g.D.Disk.faults came.disk)) came.account c.in-Work.n c.in-Work.setting came.opened came.opening came.telling its unread c.perform_work.ensures.works
 
 pub returns-in-Check-clause-meets : goal.returns-in-Check-clause-meets
-returns-in-Check-clause-meets g c = λ o was was_faults prepared unread.
-    let left = g.S.Source.left c.args.source.now in
-    let faults = g.S.Source.faults c.args.source.now in
+returns-in-Check-clause-meets g c = λ o was left was_faults faults prepared unread.
     let kind = kind_of Member g.D.Disk.alive g.D.Disk.contents g.D.Disk.faults in
     let before = outside was was_faults (g.D.Disk.contents c.args.disk) (g.D.Disk.alive c.args.disk) (g.D.Disk.faults c.args.disk) in
     let its = rw c.in-Check.is at prepared in
@@ -95,20 +83,6 @@ returns-in-Check-clause-meets g c = λ o was was_faults prepared unread.
     subst (λ (b : Bool). Meets kind o before after came.telling.status came.telling.text b came.opening came.account came.telling.report) (sym its.0)
     (subst (λ (rows : List Row). Meets kind o before after came.telling.status came.telling.text false rows came.account came.telling.report) (sym its.1)
     (subst (λ (a : Account). Meets kind o before after came.telling.status came.telling.text false [] a came.telling.report) (sym its.2) meets))
-
-pub returns-in-Recover-clause-meets : goal.returns-in-Recover-clause-meets
-returns-in-Recover-clause-meets g c = λ o was was_faults prepared unread.
-    let kind = kind_of Member g.D.Disk.alive g.D.Disk.contents g.D.Disk.faults in
-    let before = outside was was_faults (g.D.Disk.contents c.args.disk) (g.D.Disk.alive c.args.disk) (g.D.Disk.faults c.args.disk) in
-    let its = rw c.in-Recover.is at prepared in
-    let came = c.perform_recover.result in
-    let source = c.perform_recover.new.source in
-    let after = outside (g.S.Source.left source) (g.S.Source.faults source) (g.D.Disk.contents came.disk) (g.D.Disk.alive came.disk) (g.D.Disk.faults came.disk) in
-    let meets = recovers kind o before after c.in-Recover.table (g.S.Source.left c.args.source.now) (g.S.Source.faults c.args.source.now) came.telling its c.perform_recover.ensures.recovers in
-    let shut = c.perform_recover.ensures.unopened in
-    subst (λ (b : Bool). Meets kind o before after came.telling.status came.telling.text b came.opening came.account came.telling.report) (sym shut.0)
-    (subst (λ (rows : List Row). Meets kind o before after came.telling.status came.telling.text false rows came.account came.telling.report) (sym shut.1)
-    (subst (λ (a : Account). Meets kind o before after came.telling.status came.telling.text false [] a came.telling.report) (sym shut.2) meets))
 
 pub returns-in-Ended-clause-left : goal.returns-in-Ended-clause-left
 returns-in-Ended-clause-left g c = λ closed. subst (λ x. Becomes (g.D.Disk.contents c.args.disk) (g.D.Disk.contents x.disk) KeepsRecords) (sym c.unopened.ensures) (c.keeping_laws.ensures.itself (g.D.Disk.contents c.args.disk))
