@@ -1,16 +1,15 @@
 -- The sizes of a group are in the ranges of their options.
-use Rattle.std.proofs.Common.{◌≡◌, ℕ, ◌≤◌, Bool, true, false, if◌then◌else◌, ◌&&◌, List, [], ◌∷◌, Option, Some, None, option_and_then, option_map, subst, unwrap_or, codes, arith, refl, sym, ap}
-use Rattle.std.proofs.lemmas.Grind.{common_steps}
+use Rattle.std.proofs.Common.{◌≡◌, ℕ, ◌≤◌, Bool, true, false, if◌then◌else◌, ◌&&◌, List, [], ◌∷◌, Option, Some, None, option_and_then, option_map, subst, codes, arith, refl, sym, ap}
 use Rattle.std.specs.List.{list_all}
 use Rattle.std.specs.Str.{bytes_eq}
 use Rattle.number_text.specs.Numbers.{number_of}
 use Rattle.group_words.specs.Options.{rule_of, given_of, is_for, is_in_range, number_for, are_allowed, suits_work}
-use Rattle.group_words.specs.Orders.{sizes_of, play_with, play_order, show_order, check_order, table_in, copy_order, recover_order, make_order, work_with, work_given, work_order, order_under, order_of, AreSizes, HasSizes}
+use Rattle.group_words.specs.Orders.{sizes_of, play_with, play_order, show_order, check_order, table_in, make_order, work_with, work_given, work_order, order_under, order_of, AreSizes, HasSizes}
 use Rattle.group_words.specs.declared.given.Given.{Given}
 use Rattle.group_words.specs.declared.setting.Setting.{Setting}
-use Rattle.group_words.specs.declared.setting.Setting.TheVariants.{Members, Agents, Locks, Records, Cache, Pool, Pages, Seed, Trace}
+use Rattle.group_words.specs.declared.setting.Setting.TheVariants.{Members, Locks, Pool, Pages}
 use Rattle.group_words.specs.declared.order.Order.{Order}
-use Rattle.group_words.specs.declared.order.Order.TheVariants.{Play, Show, Make, Work, Copy, Recover}
+use Rattle.group_words.specs.declared.order.Order.TheVariants.{Play, Make, Work, Copy, Recover}
 use Rattle.group_words.proofs.Ranges.{names_tell, allowed_fits}
 
 given_reaches : (s : Setting) (given : Given) → is_for s given ≡ true → is_in_range given ≡ true → (rule_of s).least ≤ given.number
