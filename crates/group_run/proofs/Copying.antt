@@ -27,7 +27,7 @@ use Rattle.group_run.specs.Reports.{empty_report}
 use Rattle.group_run.specs.Tellings.{copy_status}
 use Rattle.group_run.specs.Ends.{Tells, with_source, FinishesCopy, EndsCopy, FinishesRecovery, EndsRecovery, Ends, EndsBy}
 use Rattle.group_run.proofs.Called.{meets_wanting, unmoved}
-use Rattle.group_run.proofs.Recoveries.{with_left, its_recovery, not_begun}
+use Rattle.group_run.proofs.Recovering.{with_left, its_recovery, not_begun}
 
 pub nothing_more : (taken : Option (List ℕ)) → Appends taken taken []
 nothing_more None = tt

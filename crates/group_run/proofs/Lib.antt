@@ -1,4 +1,4 @@
 pub mod Called
-pub mod Recoveries
+pub mod Recovering
 pub mod Copying
 pub mod Pieces

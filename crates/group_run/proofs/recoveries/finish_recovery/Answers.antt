@@ -3,7 +3,7 @@ use Rattle.ds_disk.specs.Contents.{Becomes}
 use Rattle.disk_restart.specs.Keeping.{KeepsRecords}
 use Rattle.group_run.specs.declared.status.Status.{Status}
 use Rattle.group_run.specs.Ends.{TellsLine, FinishesRecovery}
-use Rattle.group_run.proofs.Recoveries.{unsunk_recovery}
+use Rattle.group_run.proofs.Recovering.{unsunk_recovery}
 use Rattle.group_run.proofs.recoveries.finish_recovery.Goals as goal
 
 pub tell_line-status-requires : goal.tell_line-status-requires
