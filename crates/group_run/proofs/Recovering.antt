@@ -20,14 +20,14 @@ restart_no_sink pages between after result is e = go is.done is.restarts is.ends
   where
     go : (done : Result (Unit {0}) CopyFault) → Restarts between.contents after.contents between.disk_faults after.disk_faults done → EndsIn pages done result → ⊥
     go (Ok u) restarts ends = let f : Ok pages ≡ Err copy_fault.Sink = sym ends ∙ e in cc
-    go (Err why) restarts ends = let same : why ≡ copy_fault.Sink = (let f : Err why ≡ Err copy_fault.Sink = sym ends ∙ e in cc) in restarts.no_sink same
+    go (Err why) restarts ends = let same : why ≡ copy_fault.Sink = (let f : Err why ≡ Err copy_fault.Sink = sym ends ∙ e in cc) in restarts.no_sink (ap (λ (x : CopyFault). Err x) same)
 
 recovery_no_sink : (table : ℕ) (before after : SourceAround) (result : Result ℕ CopyFault) → RecoversTable table before after result → result ≡ Err copy_fault.Sink → ⊥
 recovery_no_sink table before after result is e = go is.made is.recovers is.goes
   where
     go : (made : Result ℕ CopyFault) → Recovers table before is.between made → GoesOn made is.between after result → ⊥
     go (Ok pages) recovers goes = restart_no_sink pages is.between after result goes e
-    go (Err why) recovers goes = let same : why ≡ copy_fault.Sink = (let f : Err why ≡ Err copy_fault.Sink = sym goes.0 ∙ e in cc) in recovers.no_sink same
+    go (Err why) recovers goes = recovers.no_sink (sym goes.0 ∙ e)
 
 sink_of : (table : ℕ) (came : Result ℕ CopyFault) → recovered_status table came ≡ status.SinkFailed → came ≡ Err copy_fault.Sink
 sink_of table (Ok pages) e = cc
