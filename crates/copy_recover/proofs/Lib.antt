@@ -8,6 +8,3 @@ pub mod Steps
 pub mod Log_steps
 pub mod Image_whole
 pub mod Whole
-pub mod Reached
-pub mod Unhindered
-pub mod Sounds

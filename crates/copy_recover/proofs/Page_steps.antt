@@ -8,6 +8,7 @@ use Rattle.std.specs.Ordering.{nat_cmp, is_eq, eq_by_cmp, ordering_then}
 use Rattle.std.specs.declared.cmp.Ordering.{Ordering}
 use Rattle.std.specs.declared.cmp.Ordering.TheVariants.{Less, Equal, Greater}
 use Rattle.std.proofs.lemmas.Bool.Decides.{nat_tests}
+use Rattle.std.proofs.lemmas.List.Sums.{sum_by-append}
 use Rattle.ds_base.specs.Pages.{same_page}
 use Rattle.ds_base.specs.declared.names.PageId.{PageId}
 use Rattle.ds_base.specs.declared.names.Volume.TheVariants as volume
@@ -151,10 +152,7 @@ unfolding count_of
 count_none image table records = refl
 
 counts_both : (p : PageId → Bool) (a b : List PageId) → count_by p (a ++ b) ≡ count_by p a + count_by p b
-counts_both p [] b = let e : count_by p b ≡ 0 + count_by p b = omega arith in e
-counts_both p (x ∷ a) b =
-    ap (λ (n : ℕ). cond (p x) 1 0 + n) (counts_both p a b)
-    ∙ (let e : cond (p x) 1 0 + (count_by p a + count_by p b) ≡ cond (p x) 1 0 + count_by p a + count_by p b = omega arith in e)
+counts_both p a b = sum_by-append (λ (x : PageId). cond (p x) 1 0) a b
 
 count_both : (image : List ℕ) (table : ℕ) (records : List LogRecord) (a b : List PageId) → count_of image table records (a ++ b) ≡ count_of image table records a + count_of image table records b
 unfolding count_of
@@ -163,7 +161,7 @@ count_both image table records a b = counts_both (is_some_page image table recor
 count_one : (image : List ℕ) (table : ℕ) (records : List LogRecord) (id : PageId) (b : Bool) → b ≡ not (is_zeros (recovered image table records id).page) → cond b 1 0 ≡ count_of image table records (id ∷ [])
 unfolding count_of
 count_one image table records id b h =
-    ap (λ (x : Bool). cond x 1 0) h ∙ (let e : cond (is_some_page image table records id) 1 0 ≡ cond (is_some_page image table records id) 1 0 + 0 = omega arith in e)
+    ap (λ (x : Bool). cond x 1 0) h ∙ (let e : cond (is_some_page image table records id) 1 0 ≡ 0 + cond (is_some_page image table records id) 1 0 = omega arith in e)
 
 pub done_none : (image : List ℕ) (table : ℕ) (records : List LogRecord) (d : Option Contents) (f : ℕ) → Done image table records [] 0 d d f f
 done_none image table records d f = record {

@@ -2,4 +2,3 @@ pub mod Recovered
 pub mod Recovering
 pub mod Reading
 pub mod Writing
-pub mod Laws

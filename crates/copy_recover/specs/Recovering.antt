@@ -9,7 +9,6 @@ use Rattle.ds_disk.specs.Pages.{page_at}
 use Rattle.log_record.specs.declared.log.Log.{Log}
 use Rattle.log_record.specs.Logs.{parts_in, IsLogOf}
 use Rattle.log_trans.specs.Damage.{log_damage}
-use Rattle.log_trans.specs.declared.damage.Damaged.{Damaged}
 use Rattle.page_redo.specs.Pages.{has_page}
 use Rattle.restart_plan.specs.Greatest.{no_number, greatest_among}
 use Rattle.sound_disk.specs.Versions.{merged}

@@ -6,15 +6,10 @@
 #![tactic(auto)]
 
 mod image;
-mod laws;
 mod logs;
 mod names;
 mod pages;
 mod recovery;
 
-pub use laws::recovery_laws;
 pub use recovery::recover;
 pub use table_copy::{CopyFault, write_image};
-
-#[cfg(test)]
-mod tests;

@@ -1,4 +1,4 @@
-use Rattle.std.proofs.Common.{◌≡◌, ℕ, ◌+◌, ◌≤◌, List, Result, arith}
+use Rattle.std.proofs.Common.{ℕ, List, Result, arith}
 use Rattle.ds_base.specs.declared.names.Volume.{Volume}
 use Rattle.ds_disk.specs.Contents.{Contents}
 use Rattle.log_record.specs.declared.log.Log.{Log}

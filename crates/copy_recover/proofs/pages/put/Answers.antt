@@ -8,7 +8,7 @@ use Rattle.copy_recover.proofs.pages.put.Goals as goal
 pub returns-in-Err-Failed : goal.returns-in-Err-Failed
 returns-in-Err-Failed g c =
     let d0 = g.D.Disk.contents c.args.disk.now in
-    let d1 = g.D.Disk.contents c.write_page.new.disk in
+    let d1 = g.D.Disk.contents c.write_page.new.self in
     let is = ap Err c.in-Err-Failed.field-0-is in
     record {
       ok = tt;
@@ -20,7 +20,7 @@ returns-in-Err-Failed g c =
 pub returns-in-Err-NoMemory : goal.returns-in-Err-NoMemory
 returns-in-Err-NoMemory g c =
     let d0 = g.D.Disk.contents c.args.disk.now in
-    let d1 = g.D.Disk.contents c.write_page.new.disk in
+    let d1 = g.D.Disk.contents c.write_page.new.self in
     let found = c.in-Err-NoMemory.ensures.answers.no_memory (ap Err c.in-Err-NoMemory.field-0-is) in
     record {
       ok = tt;

@@ -15,7 +15,7 @@ pub loop-n-preserved : goal.loop-n-preserved
 loop-n-preserved g c =
     let heap_is : c.from-heap.result ≡ heap_in c.args.image.now = cc in
     held_more c.args.image.now c.args.table c.args.records.now c.from-heap.result c.loop-n.n c.loop-n.some _ c.in_ok-is_some.is_some c.load_held-id.result c.load_held-id.new.page _ _ _ _ _ _ heap_is c.load_held-id.ensures.name
-    c.load_held-id.ensures.page c.in_ok-count_with.ensures c.loop-n.invariant c.in_ok-is_some.ensures
+    c.load_held-id.ensures.page c.in_ok-some.ensures c.loop-n.invariant c.in_ok-is_some.ensures
 
 pub returns-in_err-page : goal.returns-in_err-page
 returns-in_err-page g c =
@@ -37,8 +37,8 @@ returns-in_err-is_some g c =
     (held_missed image c.args.table c.args.records.now c.from-heap.result c.loop-n.n c.loop-n.some c.in_err-is_some.field-0.0 c.load_held-id.result c.load_held-id.new.page _ _ _ _ _ _ heap_is c.load_held-id.ensures.name
     c.load_held-id.ensures.page less c.loop-n.invariant c.in_err-is_some.ensures)
 
-pub returns-in_err-count_with : goal.returns-in_err-count_with
-returns-in_err-count_with g c =
+pub returns-in_err-some : goal.returns-in_err-some
+returns-in_err-some g c =
     let image = c.args.image.now in
     let heap_is : c.from-heap.result ≡ heap_in c.args.image.now = cc in
     let less : c.loop-n.n < heap_in c.args.image.now + index_in c.args.image.now = omega arith in
@@ -46,7 +46,7 @@ returns-in_err-count_with g c =
     (λ (r : Result ℕ CopyFault).
     Writes (g.D.Disk.contents c.args.disk.now) (g.D.Disk.contents c.write_page.new.disk) (g.D.Disk.faults c.args.disk.now) (g.D.Disk.faults c.write_page.new.disk) image c.args.table c.args.records.now
     (held_names image c.args.table) r)
-    fault.NoMemory c.from_residual-in_err-count_with.result c.from_residual-in_err-count_with.ensures.1
+    fault.NoMemory c.from_residual-in_err-some.result c.from_residual-in_err-some.ensures.1
     (held_wanting image c.args.table c.args.records.now c.from-heap.result c.loop-n.n c.loop-n.some c.in_ok-is_some.is_some c.load_held-id.result c.load_held-id.new.page _ _ _ _ _ _ heap_is c.load_held-id.ensures.name
     c.load_held-id.ensures.page less c.loop-n.invariant c.in_ok-is_some.ensures)
 

@@ -1,4 +1,4 @@
-use Rattle.std.proofs.Common.{◌≡◌, ℕ, Bool, List, Result, subst}
+use Rattle.std.proofs.Common.{ℕ, Bool, List, Result, subst}
 use Rattle.page_images.specs.Images.{zeros}
 use Rattle.page_redo.specs.Forward.{brought_forward}
 use Rattle.table_copy.specs.declared.fault.CopyFault.{CopyFault}

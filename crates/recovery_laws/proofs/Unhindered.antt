@@ -31,11 +31,11 @@ use Rattle.table_image_text.specs.Image.{heap_in, index_in, page_name, place_of,
 use Rattle.table_image_text.specs.Pages.{header_fault, earlier, page_fault, fault_up_to}
 use Rattle.copy_recover.specs.Recovered.{is_held_of, holds, place_in, taken_from, written_names, recovered}
 use Rattle.copy_recover.specs.Recovering.{AreLogsOf, greatest_of, IsTakenWith, IsLogDamage, IsInTheWay, IsDamage}
-use Rattle.copy_recover.specs.Laws.{HoldsVersions, MeetsNoDamage}
+use Rattle.recovery_laws.specs.Laws.{HoldsVersions, MeetsNoDamage}
 use Rattle.copy_recover.proofs.Name_lists.{decide, either}
 use Rattle.copy_recover.proofs.Held.{held_is}
 use Rattle.copy_recover.proofs.Image_whole.{first_none, second_none, not_some, last_none}
-use Rattle.copy_recover.proofs.Reached.{same_logs, is_version}
+use Rattle.recovery_laws.proofs.Reached.{same_logs, is_version}
 
 -- ---- the page may stand in an image
 

@@ -1,6 +1,7 @@
-//! What a recovery reaches. The function does nothing: it is called where its facts are needed.
+//! What a recovery of a table reaches: its pages as the logs leave them, whatever stood on the disk.
+#![tactic(auto)]
 
-ghost use Rattle.copy_recover.specs.Laws.{RecoversLast, MeetsNoDamage, LeavesSound};
+ghost use Rattle.recovery_laws.specs.Laws.{RecoversLast, MeetsNoDamage, LeavesSound};
 
 /// Over whole logs whose transactions keep their rules, and with an image that holds versions of its pages, a recovery leaves each
 /// page of the image and of the logs as its last version, whatever stood on the disk, and all else as it was. Where the tables

@@ -18,7 +18,7 @@ use Rattle.sound_disk.specs.Laws.{AreRead, AreMerged}
 use Rattle.table_image_text.specs.Image.{page_in}
 use Rattle.copy_recover.specs.Recovered.{holds, place_in, taken_from, written_names, recovered, with_written, IsOk}
 use Rattle.copy_recover.specs.Recovering.{AreLogsOf, IsRecovered}
-use Rattle.copy_recover.specs.Laws.{HoldsVersions, AreRecovered, RecoversLast}
+use Rattle.recovery_laws.specs.Laws.{HoldsVersions, AreRecovered, RecoversLast}
 use Rattle.copy_recover.proofs.Name_lists.{decide}
 
 -- ---- the logs are those that were read

@@ -2,10 +2,10 @@ use Rattle.std.specs.Prelude.{ℕ, ◌==◌}
 use Rattle.std.proofs.Common.{ap}
 use Rattle.page_format.specs.Fields.{lrsn_at, version_at, width_in}
 use Rattle.page_images.specs.Images.{zeros}
-use Rattle.copy_recover.proofs.Reached.{recovers_last}
-use Rattle.copy_recover.proofs.Unhindered.{meets_no_damage}
-use Rattle.copy_recover.proofs.Sounds.{leaves_sound}
-use Rattle.copy_recover.proofs.laws.recovery_laws.Goals as goal
+use Rattle.recovery_laws.proofs.Reached.{recovers_last}
+use Rattle.recovery_laws.proofs.Unhindered.{meets_no_damage}
+use Rattle.recovery_laws.proofs.Sounds.{leaves_sound}
+use Rattle.recovery_laws.proofs.recovery_laws.Goals as goal
 
 pub returns-clause-last : goal.returns-clause-last
 returns-clause-last c = recovers_last c.forward_laws.ensures.last c.log_laws.ensures.read c.page_laws.ensures.merged

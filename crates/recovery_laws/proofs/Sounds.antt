@@ -46,9 +46,9 @@ use Rattle.sound_disk.specs.Whole_logs.{AreWholeLogs}
 use Rattle.table_image_text.specs.Image.{heap_in, index_in, page_name}
 use Rattle.copy_recover.specs.Recovered.{is_of_table, is_more, holds, names_in, more_names, written_names}
 use Rattle.copy_recover.specs.Recovering.{IsRecovered}
-use Rattle.copy_recover.specs.Laws.{AreRecovered, LeavesSound}
+use Rattle.recovery_laws.specs.Laws.{AreRecovered, LeavesSound}
 use Rattle.copy_recover.proofs.Name_lists.{decide, either, has_both, has_one, same_name}
-use Rattle.copy_recover.proofs.Reached.{recovers_last}
+use Rattle.recovery_laws.proofs.Reached.{recovers_last}
 
 -- ---- tests
 
