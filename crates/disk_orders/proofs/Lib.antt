@@ -2,3 +2,4 @@ pub mod Told
 pub mod Opening
 pub mod Written
 pub mod Pieces
+pub mod Recovered

@@ -10,7 +10,7 @@ use Rattle.table_image_text.specs.Image.{image_of}
 use Rattle.table_copy.specs.Looking.{TakesFront}
 use Rattle.table_copy.specs.Copying.{IsWrong}
 use Rattle.table_copy.specs.Copying.{IsCopied as AreCopiedPages}
--- given out again: a disk and a sink, and why a table was not copied
+-- given out again: a disk and a sink, and why a table was not copied or recovered
 pub use Rattle.table_copy.specs.Copying.{Around as SinkAround}
 pub use Rattle.table_copy.specs.declared.fault.CopyFault.{CopyFault}
 pub use Rattle.table_copy.specs.declared.fault.CopyFault.TheVariants as fault

@@ -3,3 +3,4 @@ pub mod Texts
 pub mod Numbers
 pub mod Restarting
 pub mod Copying
+pub mod Recovering

@@ -1,4 +1,4 @@
--- How a group restart ends before a copy.
+-- How a group restart ends before a copy, or behind a recovery.
 use Rattle.std.specs.Prelude.{ℕ, ◌≤◌, Option, Result, IfOk, IsErrOf}
 use Rattle.ds_base.specs.Causes.{Rose}
 use Rattle.ds_disk.specs.Contents.{Contents, Becomes}

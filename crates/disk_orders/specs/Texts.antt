@@ -1,4 +1,4 @@
--- What is written of a check, and of an image.
+-- What is written of a check, and of a recovery.
 use Rattle.std.specs.Prelude.{ℕ, List, ◌++◌, codes, decimal}
 use Rattle.ds_model.specs.ScriptText.{line}
 use Rattle.disk_spots.specs.declared.spot.Spot.{Spot}
@@ -22,3 +22,7 @@ breach_text b = line (codes "unsound " ++ decimal (number_of b.clause) ++ spot_t
 -- the byte of the image
 unfoldable pub image_text : ℕ → List ℕ
 image_text at = line (codes "image refused at " ++ decimal at)
+
+-- the table, and how many pages were written that aren't all zeros
+unfoldable pub recovered_text : ℕ → ℕ → List ℕ
+recovered_text table pages = line (codes "recovered " ++ decimal table ++ codes " pages " ++ decimal pages)

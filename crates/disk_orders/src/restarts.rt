@@ -1,4 +1,4 @@
-//! The group restart before a copy.
+//! The group restart before a copy, and behind a recovery.
 
 ghost use Rattle.disk_orders.specs.Restarting.{Restarts};
 

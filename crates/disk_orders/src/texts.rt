@@ -1,10 +1,10 @@
-//! The lines that are told of a check and of an image.
+//! The lines that are told of a check and of a recovery.
 
 ghost use Rattle.std.specs.Prelude.{◌≡◌, ◌++◌, decimal, OnOk};
-ghost use Rattle.disk_orders.specs.Texts.{sound_text, spot_text, breach_text, image_text};
+ghost use Rattle.disk_orders.specs.Texts.{sound_text, spot_text, breach_text, image_text, recovered_text};
 
 use disk_spots::Spot;
-use ds_base::{Bytes, NoMemory};
+use ds_base::{Bytes, NoMemory, TableId};
 use space_check::Breach;
 use std::alloc::Global;
 
@@ -57,5 +57,20 @@ pub fn put_image(alloc: Global, out: &mut Bytes, at: u64) -> Result<(), NoMemory
     ensures { OnOk result (out.new ≡ out.old ++ image_text at) }
 {
     put_number(alloc, out, b"image refused at ", at)?;
+    out.extend(b"\n")
+}
+
+/// The line for a table that was recovered, with so many pages.
+#[tactic(auto, unfolding(crate::specs::Texts::recovered_text))]
+pub fn put_recovered(
+    alloc: Global,
+    out: &mut Bytes,
+    table: TableId,
+    pages: u64,
+) -> Result<(), NoMemory>
+    ensures { OnOk result (out.new ≡ out.old ++ recovered_text table pages) }
+{
+    put_number(alloc, out, b"recovered ", table.number())?;
+    put_number(alloc, out, b" pages ", pages)?;
     out.extend(b"\n")
 }

@@ -46,6 +46,7 @@ no_text (Some (order.Make n)) = refl
 no_text (Some (order.Work n sizes)) = refl
 no_text (Some order.Check) = refl
 no_text (Some (order.Copy table)) = refl
+no_text (Some (order.Recover table)) = refl
 
 as_before : (a b : Option Contents) → b ≡ a → Becomes a b Same
 as_before None b e = tt
@@ -98,6 +99,7 @@ met_by_order (Some (order.Make n)) met before after h untouched = let f : prepar
 met_by_order (Some (order.Work n sizes)) met before after h untouched = let f : prepared.Ended met ≡ prepared.Work n (setting_of sizes (Some n) false) = h.0 in cc
 met_by_order (Some order.Check) met before after h untouched = let f : prepared.Ended met ≡ prepared.Check = h in cc
 met_by_order (Some (order.Copy table)) met before after h untouched = let f : prepared.Ended met ≡ prepared.Copy table = h in cc
+met_by_order (Some (order.Recover table)) met before after h untouched = let f : prepared.Ended met ≡ prepared.Recover table = h in cc
 
 text_by_order : (o : Option Order) (met : Status) (a b : Option (List ℕ)) (f g : ℕ) → IsPrepared o (prepared.Ended met) a b f g → short_text met ≡ text_for o met
 text_by_order None met a b f g h = refl
@@ -107,6 +109,7 @@ text_by_order (Some (order.Make n)) met a b f g h = let f : prepared.Ended met �
 text_by_order (Some (order.Work n sizes)) met a b f g h = let f : prepared.Ended met ≡ prepared.Work n (setting_of sizes (Some n) false) = h.0 in cc
 text_by_order (Some order.Check) met a b f g h = refl
 text_by_order (Some (order.Copy table)) met a b f g h = refl
+text_by_order (Some (order.Recover table)) met a b f g h = refl
 
 pub ended : (kind : Kind) (o : Option Order) (before after : Outside) (met : Status) (told : Telling)
     → IsPrepared o (prepared.Ended met) before.left after.left before.source_faults after.source_faults → DiskIsUntouched before after → (ReadsNothing o → after.left ≡ before.left)
@@ -127,6 +130,7 @@ made_by (Some (order.Make k)) n before after h = (refl, ap (λ i. script_text (m
 made_by (Some (order.Work k sizes)) n before after h = let f : prepared.Make n ≡ prepared.Work k (setting_of sizes (Some k) false) = h.0 in cc
 made_by (Some order.Check) n before after h = let f : prepared.Make n ≡ prepared.Check = h in cc
 made_by (Some (order.Copy table)) n before after h = let f : prepared.Make n ≡ prepared.Copy table = h in cc
+made_by (Some (order.Recover table)) n before after h = let f : prepared.Make n ≡ prepared.Recover table = h in cc
 
 pub is_made : (kind : Kind) (o : Option Order) (before after : Outside) (n : ℕ) (told : Telling)
     → IsPrepared o (prepared.Make n) before.left after.left before.source_faults after.source_faults → DiskIsUntouched before after → (ReadsNothing o → after.left ≡ before.left)
@@ -175,6 +179,7 @@ unfailed Keeps account status.NoMemory report is runs e = cc
 unfailed Keeps account (status.Damaged volume at) report is runs e = cc
 unfailed Keeps account (status.Sound pages rows) report is runs e = absurd runs
 unfailed Keeps account (status.Unsound breach) report is runs e = absurd runs
+unfailed Keeps account (status.Recovered table pages) report is runs e = absurd runs
 unfailed Keeps account (status.ImageRefused at) report is runs e = absurd runs
 unfailed Keeps account (status.SelfCheckFailed event) report is runs e = cc
 
@@ -316,6 +321,7 @@ plays kind (Some (order.Make n)) before after account script given out opened op
 plays kind (Some (order.Work n sizes)) before after account script given out opened opening t h comes told = let f : prepared.Play script given ≡ prepared.Work n (setting_of sizes (Some n) false) = h.0 in cc
 plays kind (Some order.Check) before after account script given out opened opening t h comes told = let f : prepared.Play script given ≡ prepared.Check = h in cc
 plays kind (Some (order.Copy table)) before after account script given out opened opening t h comes told = let f : prepared.Play script given ≡ prepared.Copy table = h in cc
+plays kind (Some (order.Recover table)) before after account script given out opened opening t h comes told = let f : prepared.Play script given ≡ prepared.Recover table = h in cc
 
 pub shows : (kind : Kind) (o : Option Order) (before after : Outside) (account : Account) (out : Outcome) (opened : Bool) (opening : List Row) (t : Telling)
     → IsPrepared o prepared.Show before.left after.left before.source_faults after.source_faults → (ReadsNothing o → after.left ≡ before.left) → account ≡ no_account
@@ -329,6 +335,7 @@ shows kind (Some (order.Make n)) before after account out opened opening t h unr
 shows kind (Some (order.Work n sizes)) before after account out opened opening t h unread none comes told = let f : prepared.Show ≡ prepared.Work n (setting_of sizes (Some n) false) = h.0 in cc
 shows kind (Some order.Check) before after account out opened opening t h unread none comes told = let f : prepared.Show ≡ prepared.Check = h in cc
 shows kind (Some (order.Copy table)) before after account out opened opening t h unread none comes told = let f : prepared.Show ≡ prepared.Copy table = h in cc
+shows kind (Some (order.Recover table)) before after account out opened opening t h unread none comes told = let f : prepared.Show ≡ prepared.Recover table = h in cc
 
 pub works : (kind : Kind) (o : Option Order) (before after : Outside) (account : Account) (n : ℕ) (given : Setting) (opened : Bool) (opening : List Row) (t : Telling)
     → IsPrepared o (prepared.Work n given) before.left after.left before.source_faults after.source_faults → (ReadsNothing o → after.left ≡ before.left)
@@ -344,6 +351,7 @@ works kind (Some (order.Work k sizes)) before after account n given opened openi
     of_outcome kind (Some (order.Work k sizes)) before after account (PlaysFrom kind (made k) (Some k) false before after account) does.outcome opened opening t (work_opens kind k sizes before after account (unread tt)) its told
 works kind (Some order.Check) before after account n given opened opening t h unread does = let f : prepared.Work n given ≡ prepared.Check = h in cc
 works kind (Some (order.Copy table)) before after account n given opened opening t h unread does = let f : prepared.Work n given ≡ prepared.Copy table = h in cc
+works kind (Some (order.Recover table)) before after account n given opened opening t h unread does = let f : prepared.Work n given ≡ prepared.Recover table = h in cc
 
 -- ---- by what the check of a disk came to
 
@@ -372,6 +380,7 @@ checks kind (Some (order.Make n)) before after t h unread does = let f : prepare
 checks kind (Some (order.Work n sizes)) before after t h unread does = let f : prepared.Check ≡ prepared.Work n (setting_of sizes (Some n) false) = h.0 in cc
 checks kind (Some order.Check) before after t h unread does = meets_checked kind before after does.came t (unread tt) does.checked does.told_is
 checks kind (Some (order.Copy table)) before after t h unread does = let f : prepared.Check ≡ prepared.Copy table = h in cc
+checks kind (Some (order.Recover table)) before after t h unread does = let f : prepared.Check ≡ prepared.Recover table = h in cc
 
 -- ---- no call meets a failed sink
 
@@ -383,6 +392,7 @@ short_no_sink (Some (order.Make n)) before after h = let f : status.SinkFailed �
 short_no_sink (Some (order.Work n sizes)) before after h = h
 short_no_sink (Some order.Check) before after h = h
 short_no_sink (Some (order.Copy table)) before after h = h
+short_no_sink (Some (order.Recover table)) before after h = h
 
 ran_no_sink : (kind : Kind) (o : Option Order) (before after : Outside) (opening : List Row) (account : Account) (report : Report) → RanBy kind o status.SinkFailed before after opening account report → ⊥
 ran_no_sink kind None before after opening account report h = h
@@ -392,6 +402,7 @@ ran_no_sink kind (Some (order.Make n)) before after opening account report h = h
 ran_no_sink kind (Some (order.Work n sizes)) before after opening account report h = h
 ran_no_sink kind (Some order.Check) before after opening account report h = h
 ran_no_sink kind (Some (order.Copy table)) before after opening account report h = h
+ran_no_sink kind (Some (order.Recover table)) before after opening account report h = h
 
 pub no_sink : (kind : Kind) (o : Option Order) (before after : Outside) (met : Status) (text : List ℕ) (opened : Bool) (opening : List Row) (account : Account) (report : Report)
     → Meets kind o before after met text opened opening account report → met ≡ status.SinkFailed → ⊥

@@ -1,3 +1,4 @@
 pub mod Called
+pub mod Recovering
 pub mod Copying
 pub mod Pieces

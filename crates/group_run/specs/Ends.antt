@@ -1,5 +1,5 @@
 -- How a call of `play` ends.
-use Rattle.std.specs.Prelude.{◌≡◌, ◌⊎◌, ℕ, ◌<◌, Bool, true, false, List, [], length, take, Option, Some, None}
+use Rattle.std.specs.Prelude.{◌≡◌, ◌⊎◌, ℕ, ◌<◌, Bool, true, false, List, [], length, take, Option, Some, None, Result}
 use Rattle.std.specs.Io.KnownBytes.{Appends}
 use Rattle.ds_base.specs.Causes.{Rose}
 use Rattle.ds_base.specs.declared.row.Row.{Row}
@@ -17,7 +17,8 @@ use Rattle.checked_run.specs.declared.ended.Outcome.{Outcome}
 use Rattle.checked_run.specs.Outcomes.{Comes, IsOpening, Plays, Shows}
 use Rattle.disk_orders.specs.Checks.{IsSound, IsUnsound, IsChecked}
 use Rattle.disk_orders.specs.declared.checks.Checked.{Checked}
-use Rattle.disk_orders.specs.Copying.{IsCopied}
+use Rattle.disk_orders.specs.Copying.{IsCopied, CopyFault}
+use Rattle.disk_orders.specs.Recovering.{RecoversTable, SourceAround}
 use Rattle.disk_orders.specs.declared.copies.Copied.{Copied}
 use Rattle.disk_orders.specs.declared.copies.Copied.TheVariants as copied
 use Rattle.group_words.specs.declared.order.Order.{Order}
@@ -29,7 +30,7 @@ use Rattle.group_run.specs.Outside.{Outside, DiskIsUntouched}
 use Rattle.group_run.specs.Read.{IsRead}
 use Rattle.group_run.specs.Prepares.{MetBySource, ReadsNothing}
 use Rattle.group_run.specs.Reports.{empty_report}
-use Rattle.group_run.specs.Tellings.{told_text, short_telling, checked_status, copy_status, IsOrWanting, TellsOutcome}
+use Rattle.group_run.specs.Tellings.{told_text, short_telling, checked_status, copy_status, recovered_status, IsOrWanting, TellsOutcome}
 use Rattle.group_run.specs.declared.telling.Telling.{Telling}
 
 -- ---- what holds where a call meets a status and opens no disk
@@ -46,6 +47,7 @@ MetByDisk status.NoMemory before after = Unit {0}
 MetByDisk (status.Damaged volume at) before after = Unit {0}
 MetByDisk (status.Sound pages rows) before after = ⊥
 MetByDisk (status.Unsound breach) before after = ⊥
+MetByDisk (status.Recovered table pages) before after = ⊥
 MetByDisk (status.ImageRefused at) before after = ⊥
 MetByDisk (status.SelfCheckFailed event) before after = ⊥
 
@@ -61,6 +63,7 @@ MetByCheck status.NoMemory before after = Unit {0}
 MetByCheck (status.Damaged volume at) before after = ⊥
 MetByCheck (status.Sound pages rows) before after = IsSound before.contents pages rows
 MetByCheck (status.Unsound breach) before after = IsUnsound before.contents breach
+MetByCheck (status.Recovered table pages) before after = ⊥
 MetByCheck (status.ImageRefused at) before after = ⊥
 MetByCheck (status.SelfCheckFailed event) before after = ⊥
 
@@ -79,6 +82,7 @@ MetBy (Some (order.Make n)) met before after = met ≡ status.Done
 MetBy (Some (order.Work n sizes)) met before after = MetByDisk met before after
 MetBy (Some order.Check) met before after = MetByCheck met before after
 MetBy (Some (order.Copy table)) met before after = ⊥
+MetBy (Some (order.Recover table)) met before after = ⊥
 
 -- ---- what holds where a call has opened the disk and meets a status
 
@@ -94,6 +98,7 @@ RunsTo Keeps status.NoMemory report = report ≡ empty_report 6
 RunsTo Keeps (status.Damaged volume at) report = Keeps (ending.Damaged volume at) × (report ≡ empty_report 7)
 RunsTo Keeps (status.Sound pages rows) report = ⊥
 RunsTo Keeps (status.Unsound breach) report = ⊥
+RunsTo Keeps (status.Recovered table pages) report = ⊥
 RunsTo Keeps (status.ImageRefused at) report = ⊥
 RunsTo Keeps (status.SelfCheckFailed event) report = Keeps (ending.Unsound event) × (report ≡ empty_report 11)
 
@@ -113,6 +118,7 @@ RanBy kind (Some (order.Make n)) met before after opening account report = ⊥
 RanBy kind (Some (order.Work n sizes)) met before after opening account report = RunsTo (PlaysFrom kind (made n) (Some n) false before after account opening) met report
 RanBy kind (Some order.Check) met before after opening account report = ⊥
 RanBy kind (Some (order.Copy table)) met before after opening account report = ⊥
+RanBy kind (Some (order.Recover table)) met before after opening account report = ⊥
 
 -- ---- what is written
 
@@ -125,6 +131,7 @@ work_of (Some (order.Make n)) = None
 work_of (Some (order.Work n sizes)) = Some n
 work_of (Some order.Check) = None
 work_of (Some (order.Copy table)) = None
+work_of (Some (order.Recover table)) = None
 
 -- where the disk was opened: the report, or its line for the work of a number; or the text of a status without one
 abbrev pub run_text : Option ℕ → Status → Report → List ℕ
@@ -138,6 +145,7 @@ run_text work status.NoMemory report = short_text status.NoMemory
 run_text work (status.Damaged volume at) report = short_text (status.Damaged volume at)
 run_text work (status.Sound pages rows) report = short_text (status.Sound pages rows)
 run_text work (status.Unsound breach) report = short_text (status.Unsound breach)
+run_text work (status.Recovered table pages) report = short_text (status.Recovered table pages)
 run_text work (status.ImageRefused at) report = short_text (status.ImageRefused at)
 run_text work (status.SelfCheckFailed event) report = short_text (status.SelfCheckFailed event)
 
@@ -182,6 +190,7 @@ TouchesNoDisk (Some (order.Make n)) = Unit {0}
 TouchesNoDisk (Some (order.Work n sizes)) = ⊥
 TouchesNoDisk (Some order.Check) = ⊥
 TouchesNoDisk (Some (order.Copy table)) = ⊥
+TouchesNoDisk (Some (order.Recover table)) = ⊥
 
 -- the order is one for which nothing is written to a disk
 abbrev pub WritesNothing : Option Order → Type 0
@@ -192,6 +201,7 @@ WritesNothing (Some (order.Make n)) = Unit {0}
 WritesNothing (Some (order.Work n sizes)) = ⊥
 WritesNothing (Some order.Check) = Unit {0}
 WritesNothing (Some (order.Copy table)) = ⊥
+WritesNothing (Some (order.Recover table)) = ⊥
 
 -- the order is one for which nothing is played
 abbrev pub PlaysNothing : Option Order → Type 0
@@ -202,6 +212,7 @@ PlaysNothing (Some (order.Make n)) = Unit {0}
 PlaysNothing (Some (order.Work n sizes)) = ⊥
 PlaysNothing (Some order.Check) = Unit {0}
 PlaysNothing (Some (order.Copy table)) = Unit {0}
+PlaysNothing (Some (order.Recover table)) = Unit {0}
 
 -- over a kind of disks: which status a call meets with which text, by what the words order and by whether the disk was opened, and what is
 -- kept of the events of a run
@@ -225,14 +236,17 @@ pub record Ends (kind : Kind) (o : Option Order) (before after : Outside) (ended
   pub told : Tells met ended text taken taken_now faults faults_now
   pub wanting : ended ≡ status.NoMemory → Appends taken taken_now []
 
--- ---- how a copy ends
+-- ---- how a copy of a table ends, and its recovery
+
+-- the line of a status was told; or memory was wanting for it
+abbrev pub TellsLine : Status → Status → Option (List ℕ) → Option (List ℕ) → ℕ → ℕ → Type 0
+TellsLine met ended taken taken_now faults faults_now = Tells met ended (short_text met) taken taken_now faults faults_now ⊎ ((ended ≡ status.NoMemory) × Appends taken taken_now [])
 
 -- what is told behind a copy: nothing, or, where nothing of the image was written, the text of a status; or memory is wanting for it
 abbrev pub TellsCopy : Copied → Status → Option (List ℕ) → Option (List ℕ) → ℕ → ℕ → Type 0
 TellsCopy (copied.Whole pages) ended taken taken_now faults faults_now = (ended ≡ status.Done) × ((taken_now ≡ taken) × (faults_now ≡ faults))
 TellsCopy (copied.Broken why) ended taken taken_now faults faults_now = (ended ≡ copy_status why) × ((taken_now ≡ taken) × (faults_now ≡ faults))
-TellsCopy (copied.Unopened why) ended taken taken_now faults faults_now =
-    Tells (copy_status why) ended (short_text (copy_status why)) taken taken_now faults faults_now ⊎ ((ended ≡ status.NoMemory) × Appends taken taken_now [])
+TellsCopy (copied.Unopened why) ended taken taken_now faults faults_now = TellsLine (copy_status why) ended taken taken_now faults faults_now
 
 -- A group restart, and then the image, of which the sink has taken what it took, and nothing behind it.
 pub record FinishesCopy (table : ℕ) (contents contents_now : Option Contents) (disk_faults disk_faults_now : ℕ) (taken taken_now : Option (List ℕ)) (faults faults_now : ℕ) (ended : Status) : Type 0 where
@@ -249,7 +263,23 @@ pub record EndsCopy (table : ℕ) (before after : Outside) (ended : Status) (ope
   pub unopened : (opened ≡ false) × (opening ≡ []) × (account ≡ no_account) × (report.entries ≡ [])
   pub unread : after.left ≡ before.left
 
+-- a disk and a source, as a recovery speaks of them
+abbrev pub with_source : Outside → SourceAround
+with_source o = record { contents = o.contents; disk_faults = o.disk_faults; left = o.left; source_faults = o.source_faults }
+
+-- The recovery of a table from the image that is left of the source, and the group restart behind it, and the line that is told of what they came to.
+pub record FinishesRecovery (table : ℕ) (before after : SourceAround) (taken taken_now : Option (List ℕ)) (faults faults_now : ℕ) (ended : Status) : Type 0 where
+  pub came : Result ℕ CopyFault
+  pub recovers : RecoversTable table before after came
+  pub told : TellsLine (recovered_status table came) ended taken taken_now faults faults_now
+
+-- no run opens
+pub record EndsRecovery (table : ℕ) (before after : Outside) (ended : Status) (opened : Bool) (opening : List Row) (account : Account) (report : Report) (taken taken_now : Option (List ℕ)) (faults faults_now : ℕ) : Type 0 where
+  pub recovers : FinishesRecovery table (with_source before) (with_source after) taken taken_now faults faults_now ended
+  pub unopened : (opened ≡ false) × (opening ≡ []) × (account ≡ no_account) × (report.entries ≡ [])
+
 -- by the order of the words
 abbrev pub EndsBy : Kind → Option Order → Outside → Outside → Status → Bool → List Row → Account → Report → Option (List ℕ) → Option (List ℕ) → ℕ → ℕ → Type 0
 EndsBy kind (Some (order.Copy table)) before after ended opened opening account report taken taken_now faults faults_now = EndsCopy table before after ended opened opening account report taken taken_now faults faults_now
+EndsBy kind (Some (order.Recover table)) before after ended opened opening account report taken taken_now faults faults_now = EndsRecovery table before after ended opened opening account report taken taken_now faults faults_now
 EndsBy kind o before after ended opened opening account report taken taken_now faults faults_now = Ends kind o before after ended opened opening account report taken taken_now faults faults_now

@@ -40,6 +40,7 @@ MetBySource members status.NoMemory left left_now faults faults_now = ⊥
 MetBySource members (status.Damaged volume at) left left_now faults faults_now = ⊥
 MetBySource members (status.Sound pages rows) left left_now faults faults_now = ⊥
 MetBySource members (status.Unsound breach) left left_now faults faults_now = ⊥
+MetBySource members (status.Recovered table pages) left left_now faults faults_now = ⊥
 MetBySource members (status.ImageRefused at) left left_now faults faults_now = ⊥
 MetBySource members (status.SelfCheckFailed event) left left_now faults faults_now = ⊥
 
@@ -50,6 +51,7 @@ IsPreparedToPlay setting (prepared.Make n) left left_now faults faults_now = ⊥
 IsPreparedToPlay setting (prepared.Work n given) left left_now faults faults_now = ⊥
 IsPreparedToPlay setting prepared.Check left left_now faults faults_now = ⊥
 IsPreparedToPlay setting (prepared.Copy table) left left_now faults faults_now = ⊥
+IsPreparedToPlay setting (prepared.Recover table) left left_now faults faults_now = ⊥
 IsPreparedToPlay setting (prepared.Ended met) left left_now faults faults_now = MetBySource setting.sizes.members met left left_now faults faults_now
 
 -- what is ready to run by what the words order
@@ -61,6 +63,7 @@ IsPrepared (Some (order.Make n)) p left left_now faults faults_now = p ≡ prepa
 IsPrepared (Some (order.Work n sizes)) p left left_now faults faults_now = (p ≡ prepared.Work n (setting_of sizes (Some n) false)) × AreSizes sizes
 IsPrepared (Some order.Check) p left left_now faults faults_now = p ≡ prepared.Check
 IsPrepared (Some (order.Copy table)) p left left_now faults faults_now = p ≡ prepared.Copy table
+IsPrepared (Some (order.Recover table)) p left left_now faults faults_now = p ≡ prepared.Recover table
 
 -- the order is one for which nothing is read
 abbrev pub ReadsNothing : Option Order → Type 0
@@ -71,6 +74,11 @@ ReadsNothing (Some (order.Make n)) = Unit {0}
 ReadsNothing (Some (order.Work n sizes)) = Unit {0}
 ReadsNothing (Some order.Check) = Unit {0}
 ReadsNothing (Some (order.Copy table)) = Unit {0}
+ReadsNothing (Some (order.Recover table)) = ⊥
+
+-- for a recovery the source is left as it was until the disk is touched
+abbrev pub LeavesSource : Option Order → Option (List ℕ) → Option (List ℕ) → ℕ → ℕ → Type 0
+LeavesSource o left left_now faults faults_now = (table : ℕ) → o ≡ Some (order.Recover table) → (left_now ≡ left) × (faults_now ≡ faults)
 
 -- what is ready to run has allowed sizes, and the work of a number its seed and no trace
 abbrev pub IsAllowed : Prepared → Type 0
@@ -80,6 +88,7 @@ IsAllowed (prepared.Make n) = Unit {0}
 IsAllowed (prepared.Work n setting) = AreSizes setting.sizes × (setting.trace ≡ false) × (setting.seed ≡ Some n)
 IsAllowed prepared.Check = Unit {0}
 IsAllowed (prepared.Copy table) = Unit {0}
+IsAllowed (prepared.Recover table) = Unit {0}
 IsAllowed (prepared.Ended met) = Unit {0}
 
 -- the table of which an image is to be written, if one is
@@ -90,4 +99,16 @@ table_to_copy (prepared.Make n) = None
 table_to_copy (prepared.Work n setting) = None
 table_to_copy prepared.Check = None
 table_to_copy (prepared.Copy table) = Some table
+table_to_copy (prepared.Recover table) = None
 table_to_copy (prepared.Ended met) = None
+
+-- the table that is to be recovered, if one is
+abbrev pub table_to_recover : Prepared → Option ℕ
+table_to_recover (prepared.Play script setting) = None
+table_to_recover prepared.Show = None
+table_to_recover (prepared.Make n) = None
+table_to_recover (prepared.Work n setting) = None
+table_to_recover prepared.Check = None
+table_to_recover (prepared.Copy table) = None
+table_to_recover (prepared.Recover table) = Some table
+table_to_recover (prepared.Ended met) = None

@@ -6,7 +6,7 @@ use Rattle.ds_model.specs.declared.script.ScriptFault.{ScriptFault}
 use Rattle.ds_model.specs.ScriptText.{line}
 use Rattle.ds_base.specs.declared.names.Volume.{Volume}
 use Rattle.ds_base.specs.declared.names.Volume.TheVariants as volume
-use Rattle.disk_orders.specs.Texts.{sound_text, breach_text, image_text}
+use Rattle.disk_orders.specs.Texts.{sound_text, breach_text, image_text, recovered_text}
 use Rattle.group_run.specs.declared.status.Status.{Status}
 use Rattle.group_run.specs.declared.status.Status.TheVariants as status
 
@@ -21,6 +21,7 @@ number_of status.NoMemory = 6
 number_of (status.Damaged v at) = 7
 number_of (status.Sound pages rows) = 0
 number_of (status.Unsound breach) = 10
+number_of (status.Recovered table pages) = 0
 number_of (status.ImageRefused at) = 9
 number_of (status.SelfCheckFailed event) = 11
 
@@ -65,5 +66,6 @@ short_text status.NoMemory = []
 short_text (status.Damaged v at) = damage_text v at
 short_text (status.Sound pages rows) = sound_text pages rows
 short_text (status.Unsound breach) = breach_text breach
+short_text (status.Recovered table pages) = recovered_text table pages
 short_text (status.ImageRefused at) = image_text at
 short_text (status.SelfCheckFailed event) = check_text event

@@ -1,5 +1,5 @@
 -- What is told: a status, its text and its report.
-use Rattle.std.specs.Prelude.{◌≡◌, ◌⊎◌, ℕ, true, false, Bool, cond, nat_eq, List, [], Option, Some, None}
+use Rattle.std.specs.Prelude.{◌≡◌, ◌⊎◌, ℕ, true, false, Bool, cond, nat_eq, List, [], Option, Some, None, Result, Ok, Err}
 use Rattle.ds_base.specs.declared.row.Row.{Row}
 use Rattle.ds_model.specs.declared.report.Report.{Report}
 use Rattle.ds_model.specs.ReportText.{report_text}
@@ -60,7 +60,7 @@ checked_status (checked.Unsound breach) = status.Unsound breach
 checked_status checked.Failed = status.DiskFailed
 checked_status checked.NoMemory = status.NoMemory
 
--- why a table was not copied
+-- why a table was not copied or recovered
 abbrev pub copy_status : CopyFault → Status
 copy_status copy_fault.Source = status.SourceFailed
 copy_status copy_fault.Sink = status.SinkFailed
@@ -68,6 +68,11 @@ copy_status copy_fault.Disk = status.DiskFailed
 copy_status (copy_fault.Damaged volume at) = status.Damaged volume at
 copy_status (copy_fault.Image at) = status.ImageRefused at
 copy_status copy_fault.NoMemory = status.NoMemory
+
+-- what the recovery of this table came to
+abbrev pub recovered_status : ℕ → Result ℕ CopyFault → Status
+recovered_status table (Ok pages) = status.Recovered table pages
+recovered_status table (Err why) = copy_status why
 
 -- it is this that is told; or memory is wanting
 abbrev pub IsOrWanting : Telling → Telling → Type 0

@@ -1,35 +1,21 @@
 //! The copy of a table.
 
-ghost use Rattle.std.specs.Prelude.{◌≡◌, ◌≢◌, ◌⊎◌, false, []};
-ghost use Rattle.std.specs.Io.KnownBytes.{Appends};
+ghost use Rattle.std.specs.Prelude.{◌≡◌, ◌≢◌, false, []};
 ghost use Rattle.ds_disk.specs.Contents.{Becomes};
 ghost use Rattle.disk_restart.specs.Keeping.{KeepsRecords};
 ghost use Rattle.checked_run.specs.Accounts.{no_account};
 ghost use Rattle.disk_orders.specs.Copying.{CopyFault};
 ghost use Rattle.disk_orders.specs.Copying.fault as fault;
 ghost use Rattle.disk_orders.specs.declared.copies.Copied.TheVariants as copied;
-ghost use Rattle.group_run.specs.Statuses.{short_text};
-ghost use Rattle.group_run.specs.Ends.{Tells, TellsCopy, FinishesCopy};
+ghost use Rattle.group_run.specs.Ends.{TellsCopy, FinishesCopy};
 
-use crate::finish::{Finished, finish_unopened, tell};
-use crate::status::{Status, text_of};
+use crate::finish::{Finished, finish_unopened, tell_line};
+use crate::status::Status;
 use crate::telling::copy_status;
 use disk_orders::{Copied, copy};
-use ds_base::{NoMemory, Sink, TableId};
+use ds_base::{Sink, TableId};
 use ds_disk::Disk;
 use std::alloc::Global;
-
-// Tells that nothing of an image was written.
-fn tell_uncopied<K: Sink>(alloc: Global, sink: &mut K, met: Status) -> Status
-    requires { met ≡ Status.SinkFailed → ⊥ }
-    ensures { Tells met result (short_text met) (K.taken sink.old) (K.taken sink.new) (K.faults sink.old) (K.faults sink.new)
-        ⊎ ((result ≡ Status.NoMemory) × Appends (K.taken sink.old) (K.taken sink.new) []) }
-{
-    match text_of(alloc, &met) {
-        Ok(text) => tell(sink, met, text.as_slice()),
-        Err(NoMemory) => Status::NoMemory,
-    }
-}
 
 // Tells what a copy has come to. Nothing is written behind an image, or a front of one.
 fn tell_copy<K: Sink>(alloc: Global, sink: &mut K, came: Copied) -> Status
@@ -39,7 +25,7 @@ fn tell_copy<K: Sink>(alloc: Global, sink: &mut K, came: Copied) -> Status
     match came {
         Copied::Whole { .. } => Status::Done,
         Copied::Broken(why) => copy_status(why),
-        Copied::Unopened(why) => tell_uncopied(alloc, sink, copy_status(why)),
+        Copied::Unopened(why) => tell_line(alloc, sink, copy_status(why)),
     }
 }
 

@@ -3,12 +3,12 @@
 ghost use Rattle.std.specs.Prelude.{◌≡◌, false, []};
 ghost use Rattle.group_run.specs.Reports.{empty_report};
 ghost use Rattle.group_run.specs.Statuses.{number_of};
-ghost use Rattle.group_run.specs.Ends.{Tells};
+ghost use Rattle.group_run.specs.Ends.{Tells, TellsLine};
 
-use crate::status::Status;
+use crate::status::{Status, text_of};
 use crate::telling::empty_report;
 use checked_run::{Account, CauseList, FailList, Journal, no_account};
-use ds_base::{RowList, Sink};
+use ds_base::{NoMemory, RowList, Sink};
 use ds_model::Report;
 use std::alloc::Global;
 use whole_streams::write_all;
@@ -39,6 +39,17 @@ pub fn tell<K: Sink>(sink: &mut K, met: Status, text: &[u8]) -> Status
     match write_all(sink, text) {
         Ok(()) => met,
         Err(_) => Status::SinkFailed,
+    }
+}
+
+/// Tells the line of a status, and answers the status that stands in the end.
+pub fn tell_line<K: Sink>(alloc: Global, sink: &mut K, met: Status) -> Status
+    requires { met ≡ Status.SinkFailed → ⊥ }
+    ensures { TellsLine met result (K.taken sink.old) (K.taken sink.new) (K.faults sink.old) (K.faults sink.new) }
+{
+    match text_of(alloc, &met) {
+        Ok(text) => tell(sink, met, text.as_slice()),
+        Err(NoMemory) => Status::NoMemory,
     }
 }
 

@@ -4,6 +4,7 @@
 mod copies;
 mod finish;
 mod prepare;
+mod recoveries;
 mod run;
 mod status;
 mod summary;

@@ -1,6 +1,6 @@
 ghost use Rattle.std.specs.Prelude.{◌≡◌, Some, IfOk};
 ghost use Rattle.group_words.specs.Orders.{AreSizes, HasSizes};
-ghost use Rattle.group_run.specs.Prepares.{ordered, setting_of, IsPrepared, IsPreparedToPlay, ReadsNothing, IsAllowed, table_to_copy};
+ghost use Rattle.group_run.specs.Prepares.{ordered, setting_of, IsPrepared, IsPreparedToPlay, ReadsNothing, LeavesSource, IsAllowed, table_to_copy, table_to_recover};
 
 use crate::status::Status;
 use ds_base::{NoMemory, Sizes, Source, TableId};
@@ -35,6 +35,8 @@ pub enum Prepared {
     Check,
     /// An image of this table is to be written.
     Copy(TableId),
+    /// This table is to be made anew from the image in the source.
+    Recover(TableId),
     Ended(Status),
 }
 
@@ -75,6 +77,7 @@ fn prepare_order<S: Source>(
     requires { HasSizes order.now }
     ensures prepared { IfOk result (λ p. IsPrepared (Some order.now) p (S.left source.old) (S.left source.new) (S.faults source.old) (S.faults source.new)) }
     ensures unread { ReadsNothing (Some order.now) → S.left source.new ≡ S.left source.old }
+    ensures unmoved { LeavesSource (Some order.now) (S.left source.old) (S.left source.new) (S.faults source.old) (S.faults source.new) }
     ensures allowed { IfOk result IsAllowed }
 {
     match order {
@@ -85,11 +88,12 @@ fn prepare_order<S: Source>(
         Order::Make { n } => Ok(Prepared::Make(*n)),
         Order::Check => Ok(Prepared::Check),
         Order::Copy { table } => Ok(Prepared::Copy(*table)),
+        Order::Recover { table } => Ok(Prepared::Recover(*table)),
         Order::Work { n, sizes } => Ok(Prepared::Work(*n, setting_of(*sizes, Some(*n), false))),
     }
 }
 
-/// Settles the words and then what they order: for a script the source and the script. No disk is touched before.
+/// Settles the words and then what they order: for a script the source and the script. No disk is touched before. The image of a recovery isn't read yet.
 pub fn prepare<S: Source>(
     alloc: Global,
     words: &[String],
@@ -97,6 +101,7 @@ pub fn prepare<S: Source>(
 ) -> Result<Prepared, NoMemory>
     ensures prepared { IfOk result (λ p. IsPrepared (ordered words.now) p (S.left source.old) (S.left source.new) (S.faults source.old) (S.faults source.new)) }
     ensures unread { ReadsNothing (ordered words.now) → S.left source.new ≡ S.left source.old }
+    ensures unmoved { LeavesSource (ordered words.now) (S.left source.old) (S.left source.new) (S.faults source.old) (S.faults source.new) }
     ensures allowed { IfOk result IsAllowed }
 {
     size_laws();
@@ -118,6 +123,23 @@ pub fn table_to_copy(prepared: &Prepared) -> Option<TableId>
         | Prepared::Make(_)
         | Prepared::Work(..)
         | Prepared::Check
+        | Prepared::Recover(_)
+        | Prepared::Ended(_) => None,
+    }
+}
+
+/// The table that is to be recovered, if one is.
+pub fn table_to_recover(prepared: &Prepared) -> Option<TableId>
+    ensures { result ≡ table_to_recover prepared.now }
+{
+    match prepared {
+        Prepared::Recover(table) => Some(*table),
+        Prepared::Play(..)
+        | Prepared::Show
+        | Prepared::Make(_)
+        | Prepared::Work(..)
+        | Prepared::Check
+        | Prepared::Copy(_)
         | Prepared::Ended(_) => None,
     }
 }

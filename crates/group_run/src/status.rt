@@ -1,8 +1,8 @@
 ghost use Rattle.std.specs.Prelude.{◌≡◌, ℕ, ◌++◌, OnOk, IfOk, decimal};
 ghost use Rattle.group_run.specs.Statuses.{kind_word, place_text, fault_text, volume_text, damage_text, check_text, short_text};
 
-use disk_orders::{Breach, put_breach, put_image, put_sound};
-use ds_base::{Bytes, NoMemory, Volume};
+use disk_orders::{Breach, put_breach, put_image, put_recovered, put_sound};
+use ds_base::{Bytes, NoMemory, TableId, Volume};
 use ds_model::{FaultKind, ScriptFault};
 use std::alloc::Global;
 
@@ -29,6 +29,8 @@ pub enum Status {
     Sound { pages: u64, rows: u64 },
     /// The disk was checked. This is the first clause of a sound disk that doesn't hold, and its first spot.
     Unsound(Breach),
+    /// The table was recovered from an image; so many pages were written that aren't all zeros.
+    Recovered { table: TableId, pages: u64 },
     /// The source is no image of the table for this disk. The field that begins at this byte can't stand there, or the image ends there and
     /// should not, or should end there and does not.
     ImageRefused { at: u64 },
@@ -45,7 +47,7 @@ impl Status {
         ensures { result ≡ number_of self.now }
     {
         match self {
-            Status::Done | Status::Sound { .. } => 0,
+            Status::Done | Status::Sound { .. } | Status::Recovered { .. } => 0,
             Status::WordsRefused => 1,
             Status::ScriptRefused(_) => 2,
             Status::SourceFailed => 3,
@@ -135,6 +137,7 @@ fn fixed_text(status: &Status) -> &'static [u8]
     requires undamaged { (v : Volume) (at : ℕ) → status.now ≡ Status.Damaged v at → ⊥ }
     requires sound { (pages rows : ℕ) → status.now ≡ Status.Sound pages rows → ⊥ }
     requires whole { (breach : Breach) → status.now ≡ Status.Unsound breach → ⊥ }
+    requires remade { (table pages : ℕ) → status.now ≡ Status.Recovered table pages → ⊥ }
     requires taken { (at : ℕ) → status.now ≡ Status.ImageRefused at → ⊥ }
     requires checked { (event : ℕ) → status.now ≡ Status.SelfCheckFailed event → ⊥ }
     ensures { result.now ≡ short_text status.now }
@@ -150,6 +153,7 @@ fn fixed_text(status: &Status) -> &'static [u8]
         | Status::Damaged { .. }
         | Status::Sound { .. }
         | Status::Unsound(_)
+        | Status::Recovered { .. }
         | Status::ImageRefused { .. }
         | Status::SelfCheckFailed { .. } => b"",
     }
@@ -165,6 +169,7 @@ pub fn text_of(alloc: Global, status: &Status) -> Result<Bytes, NoMemory>
         Status::Damaged { volume, at } => put_damage(alloc, &mut out, volume, *at)?,
         Status::Sound { pages, rows } => put_sound(alloc, &mut out, *pages, *rows)?,
         Status::Unsound(breach) => put_breach(alloc, &mut out, breach)?,
+        Status::Recovered { table, pages } => put_recovered(alloc, &mut out, *table, *pages)?,
         Status::ImageRefused { at } => put_image(alloc, &mut out, *at)?,
         Status::SelfCheckFailed { event } => put_check(alloc, &mut out, *event)?,
         other => out.extend(fixed_text(other))?,

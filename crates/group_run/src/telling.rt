@@ -2,13 +2,13 @@
 
 ghost use Rattle.std.specs.Prelude.{◌≡◌, IfOk};
 ghost use Rattle.group_run.specs.Reports.{empty_report};
-ghost use Rattle.group_run.specs.Tellings.{short_telling, script_telling, met_by, told_text, telling_of, fault_status, checked_status, copy_status, IsOrWanting};
+ghost use Rattle.group_run.specs.Tellings.{short_telling, script_telling, met_by, told_text, telling_of, fault_status, checked_status, copy_status, recovered_status, IsOrWanting};
 
 use crate::status::{Status, text_of};
 use crate::summary::write_summary;
 use checked_run::{Ended, RunFault, plain_report};
 use disk_orders::{Checked, CopyFault};
-use ds_base::{Bytes, NoMemory, RowList};
+use ds_base::{Bytes, NoMemory, RowList, TableId};
 use ds_model::Report;
 use report_text::write_report;
 use script_text::script_bytes;
@@ -121,7 +121,7 @@ pub fn checked_status(told: Checked) -> Status
     }
 }
 
-/// The status of a table that was not copied.
+/// The status of a table that was not copied or recovered.
 pub fn copy_status(why: CopyFault) -> Status
     ensures { result ≡ copy_status why }
 {
@@ -132,6 +132,16 @@ pub fn copy_status(why: CopyFault) -> Status
         CopyFault::Damaged { volume, at } => Status::Damaged { volume, at },
         CopyFault::Image { at } => Status::ImageRefused { at },
         CopyFault::NoMemory => Status::NoMemory,
+    }
+}
+
+/// The status of a table that was to be recovered.
+pub fn recovered_status(table: TableId, came: Result<u64, CopyFault>) -> Status
+    ensures { result ≡ recovered_status table came }
+{
+    match came {
+        Ok(pages) => Status::Recovered { table, pages },
+        Err(why) => copy_status(why),
     }
 }
 

@@ -8,13 +8,14 @@ ghost use Rattle.checked_run.specs.Outcomes.{IsLeft};
 ghost use Rattle.group_words.specs.Orders.{AreSizes};
 ghost use Rattle.group_words.specs.declared.order.Order.{Order};
 ghost use Rattle.group_run.specs.Outside.{outside};
-ghost use Rattle.group_run.specs.Prepares.{ordered, IsPrepared, ReadsNothing, IsAllowed, table_to_copy};
+ghost use Rattle.group_run.specs.Prepares.{ordered, IsPrepared, ReadsNothing, IsAllowed, table_to_copy, table_to_recover};
 ghost use Rattle.group_run.specs.Tellings.{TellsOutcome};
 ghost use Rattle.group_run.specs.Ends.{Tells, Meets, Works, Checks, EndsBy};
 
 use crate::copies::finish_copy;
 use crate::finish::{Finished, finish_unopened, tell};
-use crate::prepare::{Prepared, Setting, prepare, table_to_copy};
+use crate::prepare::{Prepared, Setting, prepare, table_to_copy, table_to_recover};
+use crate::recoveries::finish_recovery;
 use crate::run::run;
 use crate::status::Status;
 use crate::telling::{
@@ -125,7 +126,7 @@ fn perform_check<D: Disk>(alloc: Global, mut disk: D) -> Came<D>
     unopened(alloc, disk, or_wanting(alloc, telling))
 }
 
-// All that a call does behind the words and the script, but tell it, for an order that isn't a copy.
+// All that a call does behind the words and the script, but tell it, for an order that is neither a copy of a table nor its recovery.
 fn perform<R: Threads + Wait + Sync, D: Disk + Send, G: Gate + Sync>(
     rt: &R,
     alloc: Global,
@@ -135,6 +136,7 @@ fn perform<R: Threads + Wait + Sync, D: Disk + Send, G: Gate + Sync>(
 ) -> Came<D>
     requires allowed { IsAllowed prepared }
     requires uncopied { table_to_copy prepared ≡ None }
+    requires unrecovered { table_to_recover prepared ≡ None }
     ensures meets { (o : Option Order) (left left_now : Option (List ℕ)) (faults faults_now : ℕ) → IsPrepared o prepared left left_now faults faults_now → (ReadsNothing o → left_now ≡ left)
         → Meets (kind_of AnyMember D.alive D.contents D.faults) o
         (outside left faults (D.contents disk) (D.alive disk) (D.faults disk))
@@ -158,7 +160,7 @@ fn perform<R: Threads + Wait + Sync, D: Disk + Send, G: Gate + Sync>(
         }
         Prepared::Work(n, setting) => perform_work(rt, alloc, disk, n, &setting, gate),
         Prepared::Check => perform_check(alloc, disk),
-        Prepared::Copy(_) => unreachable!(),
+        Prepared::Copy(_) | Prepared::Recover(_) => unreachable!(),
     }
 }
 
@@ -199,7 +201,8 @@ fn finish<D, K: Sink>(sink: &mut K, came: Came<D>) -> Finished<D>
 
 /// Does what the words order: plays the script of the source on the disk, or shows the disk, and writes the report to the sink;
 /// or plays the script of a number, and writes how many transactions met which fate; or writes the script of a number; or checks the
-/// disk, and writes whether it is sound; or writes an image of a table.
+/// disk, and writes whether it is sound; or writes an image of a table; or makes a table anew
+/// from the image that is left of the source, and writes how many pages it has.
 ///
 /// The words are the command line without the program's name. For a script the source is read to its end, or to the first byte past
 /// the longest script. Then the logs of the disk are read, and a group restart opens it; the script is run; another group restart
@@ -232,7 +235,10 @@ pub fn play<R: Threads + Wait + Sync, S: Source, K: Sink, D: Disk + Send, G: Gat
         Err(NoMemory) => finish_unopened(alloc, disk, Status::NoMemory),
         Ok(prepared) => match table_to_copy(&prepared) {
             Some(table) => finish_copy(alloc, disk, sink, table),
-            None => finish(sink, perform(rt, alloc, prepared, disk, gate)),
+            None => match table_to_recover(&prepared) {
+                Some(table) => finish_recovery(alloc, source, disk, sink, table),
+                None => finish(sink, perform(rt, alloc, prepared, disk, gate)),
+            },
         },
     }
 }

@@ -1,16 +1,15 @@
 -- The sizes of a group are in the ranges of their options.
-use Rattle.std.proofs.Common.{◌≡◌, ℕ, ◌≤◌, Bool, true, false, if◌then◌else◌, ◌&&◌, List, [], ◌∷◌, Option, Some, None, option_and_then, option_map, subst, unwrap_or, codes, arith, refl, sym, ap}
-use Rattle.std.proofs.lemmas.Grind.{common_steps}
+use Rattle.std.proofs.Common.{◌≡◌, ℕ, ◌≤◌, Bool, true, false, if◌then◌else◌, ◌&&◌, List, [], ◌∷◌, Option, Some, None, option_and_then, option_map, subst, codes, arith, refl, sym, ap}
 use Rattle.std.specs.List.{list_all}
 use Rattle.std.specs.Str.{bytes_eq}
 use Rattle.number_text.specs.Numbers.{number_of}
 use Rattle.group_words.specs.Options.{rule_of, given_of, is_for, is_in_range, number_for, are_allowed, suits_work}
-use Rattle.group_words.specs.Orders.{sizes_of, play_with, play_order, show_order, check_order, table_in, copy_order, make_order, work_with, work_given, work_order, order_under, order_of, AreSizes, HasSizes}
+use Rattle.group_words.specs.Orders.{sizes_of, play_with, play_order, show_order, check_order, table_in, make_order, work_with, work_given, work_order, order_under, order_of, AreSizes, HasSizes}
 use Rattle.group_words.specs.declared.given.Given.{Given}
 use Rattle.group_words.specs.declared.setting.Setting.{Setting}
-use Rattle.group_words.specs.declared.setting.Setting.TheVariants.{Members, Agents, Locks, Records, Cache, Pool, Pages, Seed, Trace}
+use Rattle.group_words.specs.declared.setting.Setting.TheVariants.{Members, Locks, Pool, Pages}
 use Rattle.group_words.specs.declared.order.Order.{Order}
-use Rattle.group_words.specs.declared.order.Order.TheVariants.{Play, Show, Make, Work, Copy}
+use Rattle.group_words.specs.declared.order.Order.TheVariants.{Play, Make, Work, Copy, Recover}
 use Rattle.group_words.proofs.Ranges.{names_tell, allowed_fits}
 
 given_reaches : (s : Setting) (given : Given) → is_for s given ≡ true → is_in_range given ≡ true → (rule_of s).least ≤ given.number
@@ -91,13 +90,18 @@ there_copy : (o : Option ℕ) → IfThere (option_map Copy o)
 there_copy None = tt
 there_copy (Some table) = tt
 
+there_recover : (o : Option ℕ) → IfThere (option_map Recover o)
+there_recover None = tt
+there_recover (Some table) = tt
+
 there_under : (command : List ℕ) (words : List (List ℕ)) → IfThere (order_under command words)
 there_under command words = either (bytes_eq command (codes "play")) _ _ (there_play words)
     (either (bytes_eq command (codes "show")) _ _ (there_show words)
     (either (bytes_eq command (codes "make")) _ _ (there_make words)
     (either (bytes_eq command (codes "work")) _ _ (there_work words)
     (either (bytes_eq command (codes "check")) _ _ (there_check words)
-    (either (bytes_eq command (codes "copy")) _ _ (there_copy (table_in words)) tt)))))
+    (either (bytes_eq command (codes "copy")) _ _ (there_copy (table_in words))
+    (either (bytes_eq command (codes "recover")) _ _ (there_recover (table_in words)) tt))))))
 
 there : (words : List (List ℕ)) → IfThere (order_of words)
 there [] = tt

@@ -13,7 +13,7 @@ use Rattle.group_words.specs.Parsed.{is_well_formed}
 use Rattle.group_words.specs.declared.given.Given.{Given}
 use Rattle.group_words.specs.declared.setting.Setting.TheVariants.{Members, Agents, Locks, Records, Cache, Pool, Pages, Seed, Trace}
 use Rattle.group_words.specs.declared.order.Order.{Order}
-use Rattle.group_words.specs.declared.order.Order.TheVariants.{Play, Show, Make, Work, Check, Copy}
+use Rattle.group_words.specs.declared.order.Order.TheVariants.{Play, Show, Make, Work, Check, Copy, Recover}
 
 abbrev pub sizes_of : List Given → Sizes
 sizes_of given = record {
@@ -51,6 +51,9 @@ table_in _ = None
 abbrev pub copy_order : List (List ℕ) → Option Order
 copy_order words = option_map Copy (table_in words)
 
+abbrev pub recover_order : List (List ℕ) → Option Order
+recover_order words = option_map Recover (table_in words)
+
 abbrev pub make_order : List (List ℕ) → Option Order
 make_order (number ∷ []) = option_map Make (number_of number)
 make_order _ = None
@@ -73,6 +76,7 @@ order_under command words =
     else if bytes_eq command (codes "work") then work_order words
     else if bytes_eq command (codes "check") then check_order words
     else if bytes_eq command (codes "copy") then copy_order words
+    else if bytes_eq command (codes "recover") then recover_order words
     else None
 
 -- the order that the words of a command line give, without the program's name
@@ -108,6 +112,7 @@ HasSizes (Make n) = Unit {0}
 HasSizes (Work n sizes) = AreSizes sizes
 HasSizes Check = Unit {0}
 HasSizes (Copy table) = Unit {0}
+HasSizes (Recover table) = Unit {0}
 
 -- the words are those of a command that takes options, and words that may be options stand behind it
 abbrev pub may_have_options : List (List ℕ) → Bool

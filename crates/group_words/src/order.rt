@@ -31,6 +31,10 @@ pub enum Order {
     Copy {
         table: TableId,
     },
+    /// The table is made anew from an image at the input and the logs.
+    Recover {
+        table: TableId,
+    },
 }
 
 /// Why the words gave no order.

@@ -79,6 +79,14 @@ fn copy_order(words: &[String]) -> Option<Order>
     })
 }
 
+fn recover_order(words: &[String]) -> Option<Order>
+    ensures { result ≡ spec.recover_order (spec.texts words.now) }
+{
+    Some(Order::Recover {
+        table: table_in(words)?,
+    })
+}
+
 fn make_order(words: &[String]) -> Option<Order>
     ensures { result ≡ spec.make_order (spec.texts words.now) }
 {
@@ -139,6 +147,8 @@ fn order_under(alloc: Global, command: &[u8], words: &[String]) -> Result<Order,
         check_order(words).ok_or(WordsFault::Refused)
     } else if command == b"copy".as_slice() {
         copy_order(words).ok_or(WordsFault::Refused)
+    } else if command == b"recover".as_slice() {
+        recover_order(words).ok_or(WordsFault::Refused)
     } else {
         Err(WordsFault::Refused)
     }
@@ -153,7 +163,8 @@ fn order_under(alloc: Global, command: &[u8], words: &[String]) -> Result<Order,
 /// - `make N` with nothing more;
 /// - `work N` with options: measured work;
 /// - `check` with nothing more: whether the disk is sound;
-/// - `copy T` with nothing more: an image of a table T from 1 to 64.
+/// - `copy T` with nothing more: an image of a table T from 1 to 64;
+/// - `recover T` with nothing more: the table is made anew from an image.
 ///
 /// Options stand at most once each, in any order, as `--name N` or as `--name=N`: `--members` 1 to 32 (4 where it
 /// is not given), `--agents` 1 to 16 (8), `--locks` 1 to 65,536 (4,096), `--records` 2 to 65,536 (16,384), `--cache`

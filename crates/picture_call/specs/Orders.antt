@@ -75,6 +75,7 @@ sizes_of (plays.Make n) = None
 sizes_of (plays.Work n sizes) = None
 sizes_of plays.Check = None
 sizes_of (plays.Copy table) = None
+sizes_of (plays.Recover table) = None
 
 -- those that `play` takes from these options
 abbrev pub sizes_in : List (List ℕ) → Option Sizes

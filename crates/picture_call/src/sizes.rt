@@ -28,8 +28,12 @@ fn sizes_of(order: Order) -> Option<Sizes>
 {
     match order {
         Order::Play { sizes, .. } => Some(sizes),
-        Order::Show | Order::Make { .. } | Order::Work { .. } | Order::Check | Order::Copy { .. } =>
-            None,
+        Order::Show
+        | Order::Make { .. }
+        | Order::Work { .. }
+        | Order::Check
+        | Order::Copy { .. }
+        | Order::Recover { .. } => None,
     }
 }
 

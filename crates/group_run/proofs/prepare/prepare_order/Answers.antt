@@ -23,3 +23,6 @@ returns-in-Work-clause-allowed g c =
     let n = c.in-Work.n in
     let sound : AreSizes c.in-Work.sizes = subst HasSizes c.in-Work.is c.requires in
     subst (λ (s : Setting). IsAllowed (prepared.Work n s)) (sym c.setting_of-in-Work.ensures) (sound, refl, refl)
+
+pub returns-in-Play-clause-unmoved : goal.returns-in-Play-clause-unmoved
+returns-in-Play-clause-unmoved g c = λ table e. cc

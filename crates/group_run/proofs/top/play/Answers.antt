@@ -7,7 +7,7 @@ use Rattle.group_run.specs.Outside.{outside}
 use Rattle.group_run.specs.Prepares.{ordered}
 use Rattle.group_run.specs.Ends.{Ends, EndsBy}
 use Rattle.group_run.proofs.Called.{no_sink, nothing_written}
-use Rattle.group_run.proofs.Copying.{wanting_ends, copies, uncopied}
+use Rattle.group_run.proofs.Copying.{wanting_ends, copies, recovers, otherwise}
 use Rattle.group_run.proofs.top.play.Goals as goal
 
 pub finish-requires : goal.finish-requires
@@ -32,7 +32,7 @@ returns-in-Err-clause-ends g c =
     let after = outside left faults (g.D.Disk.contents c.args.disk) (g.D.Disk.alive c.args.disk) (g.D.Disk.faults c.args.disk) in
     subst (λ x. EndsBy kind o before (outside left faults (g.D.Disk.contents x.disk) (g.D.Disk.alive x.disk) (g.D.Disk.faults x.disk)) x.status x.opened x.opening (record { journal = x.journal; causes = x.causes; faults = x.faults }) x.report taken taken count count)
     (sym c.finish_unopened.ensures)
-    (wanting_ends kind o before after taken count (refl, refl, refl) c.prepare.ensures.unread)
+    (wanting_ends kind o before after taken count (refl, refl, refl) c.prepare.ensures.unread c.prepare.ensures.unmoved)
 
 pub returns-in-Some-clause-ends : goal.returns-in-Some-clause-ends
 returns-in-Some-clause-ends g c =
@@ -44,8 +44,19 @@ returns-in-Some-clause-ends g c =
     copies kind o before after c.in-Ok.prepared c.in-Some.table made.status made.opened made.opening (record { journal = made.journal; causes = made.causes; faults = made.faults }) made.report
     (g.K.Sink.taken c.args.sink.now) (g.K.Sink.taken c.finish_copy.new.sink) (g.K.Sink.faults c.args.sink.now) (g.K.Sink.faults c.finish_copy.new.sink) (sym c.in-Some.ensures) c.in-Ok.ensures.prepared c.prepare.ensures.unread c.finish_copy.ensures.copies c.finish_copy.ensures.unopened
 
-pub returns-in-None-clause-ends : goal.returns-in-None-clause-ends
-returns-in-None-clause-ends g c =
+pub returns-in-Some-table_to_recover-clause-ends : goal.returns-in-Some-table_to_recover-clause-ends
+returns-in-Some-table_to_recover-clause-ends g c =
+    let kind = kind_of Member g.D.Disk.alive g.D.Disk.contents g.D.Disk.faults in
+    let o = ordered c.args.words.now in
+    let before = outside (g.S.Source.left c.args.source.now) (g.S.Source.faults c.args.source.now) (g.D.Disk.contents c.args.disk) (g.D.Disk.alive c.args.disk) (g.D.Disk.faults c.args.disk) in
+    let made = c.finish_recovery.result in
+    let source = c.finish_recovery.new.source in
+    let after = outside (g.S.Source.left source) (g.S.Source.faults source) (g.D.Disk.contents made.disk) (g.D.Disk.alive made.disk) (g.D.Disk.faults made.disk) in
+    recovers kind o before after c.in-Ok.prepared c.in-Some-table_to_recover.table (g.S.Source.left c.prepare.new.source) (g.S.Source.faults c.prepare.new.source) made.status made.opened made.opening (record { journal = made.journal; causes = made.causes; faults = made.faults }) made.report
+    (g.K.Sink.taken c.args.sink.now) (g.K.Sink.taken c.finish_recovery.new.sink) (g.K.Sink.faults c.args.sink.now) (g.K.Sink.faults c.finish_recovery.new.sink) (sym c.in-Some-table_to_recover.ensures) c.in-Ok.ensures.prepared c.prepare.ensures.unmoved c.finish_recovery.ensures.recovers c.finish_recovery.ensures.unopened
+
+pub returns-in-None-table_to_recover-clause-ends : goal.returns-in-None-table_to_recover-clause-ends
+returns-in-None-table_to_recover-clause-ends g c =
     let kind = kind_of Member g.D.Disk.alive g.D.Disk.contents g.D.Disk.faults in
     let o = ordered c.args.words.now in
     let before = outside (g.S.Source.left c.args.source.now) (g.S.Source.faults c.args.source.now) (g.D.Disk.contents c.args.disk) (g.D.Disk.alive c.args.disk) (g.D.Disk.faults c.args.disk) in
@@ -67,13 +78,13 @@ returns-in-None-clause-ends g c =
     } in
     subst (λ x. EndsBy kind o before (outside left faults (g.D.Disk.contents x.disk) (g.D.Disk.alive x.disk) (g.D.Disk.faults x.disk)) c.finish.result.status x.opened x.opening (record { journal = x.journal; causes = x.causes; faults = x.faults }) x.report taken taken_now count count_now)
     (sym c.finish.ensures.rest)
-    (uncopied kind o c.in-Ok.prepared before after c.finish.result.status came.opened came.opening came.account came.telling.report taken taken_now count count_now (sym c.in-None.ensures) c.in-Ok.ensures.prepared ends)
+    (otherwise kind o c.in-Ok.prepared before after c.finish.result.status came.opened came.opening came.account came.telling.report taken taken_now count count_now (sym c.in-None.ensures) (sym c.in-None-table_to_recover.ensures) c.in-Ok.ensures.prepared ends)
 
 pub returns-in-Err-clause-left : goal.returns-in-Err-clause-left
 returns-in-Err-clause-left g c =
     subst (λ x. x.opened ≡ false → Becomes (g.D.Disk.contents c.args.disk) (g.D.Disk.contents x.disk) KeepsRecords) (sym c.finish_unopened.ensures)
     (λ closed. c.keeping_laws.ensures.itself (g.D.Disk.contents c.args.disk))
 
-pub returns-in-None-clause-left : goal.returns-in-None-clause-left
-returns-in-None-clause-left g c =
+pub returns-in-None-table_to_recover-clause-left : goal.returns-in-None-table_to_recover-clause-left
+returns-in-None-table_to_recover-clause-left g c =
     subst (λ x. x.opened ≡ false → Becomes (g.D.Disk.contents c.args.disk) (g.D.Disk.contents x.disk) KeepsRecords) (sym c.finish.ensures.rest) c.perform.ensures.left

@@ -1,7 +1,7 @@
 use Rattle.std.proofs.Common.{List, ℕ, inl, inr, refl, subst, ◌∙◌}
 use Rattle.group_run.specs.Ends.{Tells}
 use Rattle.group_run.proofs.Copying.{nothing_more}
-use Rattle.group_run.proofs.copies.tell_uncopied.Goals as goal
+use Rattle.group_run.proofs.finish.tell_line.Goals as goal
 
 pub returns-in-Ok : goal.returns-in-Ok
 returns-in-Ok g c =
