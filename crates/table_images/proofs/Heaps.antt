@@ -72,6 +72,12 @@ past_second a b n x y le =
     (λ e. let is : end_of a b 0 ≡ min (b + 0 + 1) (2 ^ 32) = ap (λ (c : Bool). min ((if c then b else a) + 0 + 1) (2 ^ 32)) e in omega (arith, is, le, y))
     (λ e. let is : end_of a b 0 ≡ min (a + 0 + 1) (2 ^ 32) = ap (λ (c : Bool). min ((if c then b else a) + 0 + 1) (2 ^ 32)) e in let up = not_below a b e in omega (arith, is, le, up, x))
 
+pub end_past : (a b : ℕ) → a < 2 ^ 32 → b < 2 ^ 32 → a < end_of a b 0
+end_past a b x y =
+    decide (nat_lt a b) (a < end_of a b 0)
+    (λ e. let is : end_of a b 0 ≡ min (b + 0 + 1) (2 ^ 32) = ap (λ (c : Bool). min ((if c then b else a) + 0 + 1) (2 ^ 32)) e in let up = below a b e in omega (arith, is, up, x))
+    (λ e. let is : end_of a b 0 ≡ min (a + 0 + 1) (2 ^ 32) = ap (λ (c : Bool). min ((if c then b else a) + 0 + 1) (2 ^ 32)) e in omega (arith, is, x))
+
 pub record IsKnown : Type 0 where
   pub others : LeavesOthers
   pub blank : is_zeros zeros ≡ true

@@ -1,6 +1,7 @@
 -- From the pages of an index to the index.
 use Rattle.std.proofs.Common.{◌≡◌, ◌⊎◌, ℕ, ◌-◌, ◌^◌, ◌<◌, ◌≤◌, Bool, true, false, not, List, Result, Ok, Err, refl, sym, ap, subst, ◌∙◌, arith, inl, inr}
 use Rattle.std.specs.Prelude.{if◌then◌else◌}
+use Rattle.std.proofs.lemmas.Bool.Decides.{nat_tests}
 use Rattle.ds_base.specs.Pages.{index_page, index_set}
 use Rattle.ds_base.specs.declared.names.PageId.{PageId}
 use Rattle.ds_model.specs.declared.log.LogRecord.{LogRecord}
@@ -14,7 +15,7 @@ use Rattle.page_images.specs.Images.{Images}
 use Rattle.page_chain.specs.Chains.{images_of}
 use Rattle.sound_disk.specs.Indexes.{IsIndexHeader, index_next, AreIndexPages}
 use Rattle.disk_versions.specs.Ends.{last_in_records, end_of}
-use Rattle.table_images.specs.Nodes.{NodeStandsAt, IsUnformatted, is_formatted}
+use Rattle.table_images.specs.Nodes.{NodeStandsAt, last_node, IsUnformatted, is_formatted}
 use Rattle.table_images.proofs.Untouched.{never_changed}
 use Rattle.table_images.proofs.Heaps.{IsKnown, past_first, past_second}
 
@@ -86,13 +87,18 @@ blank_stands at table false next n lt e = e
 abbrev records_end : ℕ → List LogRecord → ℕ
 records_end table records = last_in_records (index_set table) 0 records
 
+last_from : (next : ℕ) → next - 1 ≤ last_node next
+last_from next = grind (arith, nat_tests)
+
 -- all behind that end are zeros
-pub rest_stands : IsKnown → (records : List LogRecord) (table next behind end : ℕ) → behind ≡ records_end table records → end ≡ end_of (next - 1) behind 0 → next - 1 < 2 ^ 32 → behind < 2 ^ 32 → (f : Bool) (n : ℕ) → end ≤ n
+pub rest_stands : IsKnown → (records : List LogRecord) (table next behind end : ℕ) → behind ≡ records_end table records → end ≡ end_of (last_node next) behind 0 → last_node next < 2 ^ 32 → behind < 2 ^ 32 → (f : Bool) (n : ℕ) → end ≤ n
     → NodeStandsAt (images_of records) table f next n
 rest_stands k records table next behind end b e x y f n le =
-    let up : end_of (next - 1) behind 0 ≤ n = subst (λ (m : ℕ). m ≤ n) e le in
-    let past : records_end table records < n = subst (λ (m : ℕ). m < n) b (past_second (next - 1) behind n x y up) in
-    blank_stands (images_of records) table f next n (past_first (next - 1) behind n x y up) (ap is_zeros (never_changed k.others (index_set table) n records past) ∙ k.blank)
+    let up : end_of (last_node next) behind 0 ≤ n = subst (λ (m : ℕ). m ≤ n) e le in
+    let past : records_end table records < n = subst (λ (m : ℕ). m < n) b (past_second (last_node next) behind n x y up) in
+    let first = past_first (last_node next) behind n x y up in
+    let from = last_from next in
+    blank_stands (images_of records) table f next n (omega (arith, first, from)) (ap is_zeros (never_changed k.others (index_set table) n records past) ∙ k.blank)
 
 -- ---- both ways
 

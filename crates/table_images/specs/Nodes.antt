@@ -1,5 +1,5 @@
 -- What each page of an index is to be.
-use Rattle.std.specs.Prelude.{◌≡◌, ◌⊎◌, ◌↔◌, ℕ, ◌<◌, ◌≤◌, Bool, true, false, not, List}
+use Rattle.std.specs.Prelude.{◌≡◌, ◌⊎◌, ◌↔◌, ℕ, ◌-◌, ◌<◌, ◌≤◌, nat_lt, Bool, true, false, not, if◌then◌else◌, List}
 use Rattle.ds_base.specs.Pages.{index_page}
 use Rattle.ds_base.specs.declared.names.PageId.{PageId}
 use Rattle.page_format.specs.Header.{is_zeros}
@@ -22,6 +22,10 @@ NodeStands false next id page = is_zeros page ≡ true
 
 abbrev pub NodeStandsAt : Images → ℕ → Bool → ℕ → ℕ → Type 0
 NodeStandsAt at table formatted next n = NodeStands formatted next (index_page table n) (at (index_page table n))
+
+-- the number of the last branch or leaf, at least 1
+abbrev pub last_node : ℕ → ℕ
+last_node next = if nat_lt next 2 then 1 else next - 1
 
 -- all pages of the index are zeros
 abbrev pub IsUnformatted : Images → ℕ → Type 0

@@ -1,4 +1,4 @@
-ghost use Rattle.std.specs.Prelude.{◌≡◌, ℕ, ◌≤◌, ◌^◌, ◌↔◌, IsTrue};
+ghost use Rattle.std.specs.Prelude.{◌≡◌, ℕ, ◌<◌, ◌≤◌, ◌^◌, ◌↔◌, IsTrue};
 ghost use Rattle.ds_base.specs.Pages.{heap_set};
 ghost use Rattle.page_chain.specs.Chains.{images_of};
 ghost use Rattle.disk_versions.specs.Ends.{last_in_records, end_of};
@@ -36,6 +36,7 @@ pub fn heap_page_stands(page: &Page, id: PageId, last: u32, given: u16) -> bool
 pub fn heap_end(table: TableId, records: &[LogRecord], last: u32) -> u64
     ensures exact { result ≡ end_of last (last_in_records (heap_set table) 0 records.now) 0 }
     ensures bound { result ≤ 2 ^ 32 }
+    ensures past { last < result }
     ensures rest { (given n : ℕ) → result ≤ n → StandsAt (images_of records.now) table last given n }
 {
     chain_laws();

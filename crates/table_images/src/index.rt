@@ -1,8 +1,8 @@
-ghost use Rattle.std.specs.Prelude.{◌≡◌, ℕ, ◌-◌, ◌≤◌, ◌^◌, Bool, ◌↔◌, IsTrue};
+ghost use Rattle.std.specs.Prelude.{◌≡◌, ℕ, ◌<◌, ◌≤◌, ◌^◌, Bool, ◌↔◌, IsTrue};
 ghost use Rattle.ds_base.specs.Pages.{index_set};
 ghost use Rattle.page_chain.specs.Chains.{images_of};
 ghost use Rattle.disk_versions.specs.Ends.{last_in_records, end_of};
-ghost use Rattle.table_images.specs.Nodes.{NodeStands, NodeStandsAt};
+ghost use Rattle.table_images.specs.Nodes.{NodeStands, NodeStandsAt, last_node};
 
 use crate::blank::is_blank;
 use disk_versions::{end_of, last_in_records};
@@ -34,16 +34,24 @@ pub fn index_page_stands(page: &Page, id: PageId, formatted: bool, next: u32) ->
     is_node_page(page, id)
 }
 
+// The number of the last branch or leaf, at least 1.
+fn last_node(next: u32) -> u32
+    ensures { result ≡ last_node next }
+{
+    if next < 2 { 1 } else { next - 1 }
+}
+
 /// How many pages of the table's index, which has this next free page, are to be looked at behind the records, from page 0 on:
-/// all others are zeros.
+/// at least two, and all others are zeros.
 ///
 /// It goes over all records once.
 pub fn index_end(table: TableId, records: &[LogRecord], next: u32) -> u64
-    ensures exact { result ≡ end_of (next - 1) (last_in_records (index_set table) 0 records.now) 0 }
+    ensures exact { result ≡ end_of (last_node next) (last_in_records (index_set table) 0 records.now) 0 }
     ensures bound { result ≤ 2 ^ 32 }
+    ensures past { last_node next < result }
     ensures rest { (formatted : Bool) (n : ℕ) → result ≤ n → NodeStandsAt (images_of records.now) table formatted next n }
 {
     chain_laws();
     header_laws();
-    end_of(next.saturating_sub(1), last_in_records(table.index_page(0).set, records), 0)
+    end_of(last_node(next), last_in_records(table.index_page(0).set, records), 0)
 }

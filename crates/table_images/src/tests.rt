@@ -9,7 +9,11 @@ fn no_records_leave_no_pages(rt: HostRuntime) -> Result<(), Fail> {
     let table = TableId::new(1).ok_or("a table")?;
     let records = Vec::new(alloc);
     let page = Page::zero(alloc)?;
-    assert!(rt; is_blank(&page) && heap_page_stands(&page, table.heap_page(0), 0, 0) && index_page_stands(&page, table.index_page(0), false, 0));
-    assert!(rt; heap_end(table, &records, 0) == 1 && index_end(table, &records, 0) == 1);
+    assert!(rt;
+        is_blank(&page)
+            && heap_page_stands(&page, table.heap_page(0), 0, 0)
+            && index_page_stands(&page, table.index_page(0), false, 0)
+    );
+    assert!(rt; heap_end(table, &records, 0) == 1 && index_end(table, &records, 0) == 2);
     Ok(())
 }

@@ -11,6 +11,7 @@ use Rattle.index_leaf.specs.declared.layout.Entry.{Entry}
 use Rattle.index_leaf.specs.declared.step.Look.{Look}
 use Rattle.index_leaf.specs.declared.step.Look.TheVariants.{Right}
 use Rattle.index_leaf.specs.Entries.{low_of, high_of, right_field, entries_of}
+use Rattle.index_leaf.specs.Nodes.{IsNode}
 use Rattle.index_leaf.specs.Search.{is_branch, is_beyond, find, floor, down_to, found_at, look_of}
 use Rattle.index_protocol.specs.Index.{Leaf, beyond}
 use Rattle.index_protocol.specs.Opening.{IsSound}
@@ -31,10 +32,10 @@ use Rattle.index_places.proofs.Maps.{same_is, same_itself, place_is, is_it, slot
 
 -- ---- a key's leaf
 
-abbrev pub Sound : Images → List LogRecord → ℕ → (ℕ → ℕ) → Type 0
+abbrev Sound : Images → List LogRecord → ℕ → (ℕ → ℕ) → Type 0
 Sound at records table home = IsSound (index_of at records table home)
 
-pub home_in : (at : Images) (records : List LogRecord) (table : ℕ) (home : ℕ → ℕ) (key : ℕ) → AreIndexPages at table → Sound at records table home → InIndex at table (home key)
+home_in : (at : Images) (records : List LogRecord) (table : ℕ) (home : ℕ → ℕ) (key : ℕ) → AreIndexPages at table → Sound at records table home → InIndex at table (home key)
 home_in at records table home key p s = made_inside at table (home key) p (named_made false (kind_in (at (index_page table (home key)))) (s.home_leaf key))
 
 leaf_kind : (at : Images) (table n : ℕ) → AreIndexPages at table → InIndex at table n → is_branch (at (index_page table n)) ≡ false → kind_in (at (index_page table n)) ≡ Leaf
@@ -144,50 +145,34 @@ all_given f (y ∷ ys) h = and_both (f y) (list_all f ys) (h y (zero, omega arit
 
 -- ---- a leaf that passes the test is right
 
-abbrev pub Stands : Images → ℕ → List Given → ℕ → Type 0
-Stands at table given n = leaf_stands (places_from table empty given) table given (at (index_page table n)) ≡ true
+abbrev pub Test : ℕ → List Given → List ℕ → Bool
+Test table given page = leaf_stands (places_from table empty given) table given page
 
-both_pass : (at : Images) (records : List LogRecord) (table : ℕ) (home : ℕ → ℕ) (key : ℕ) (given : List Given) → Sound at records table home → Stands at table given (home key)
-    → (list_all (leads (places_from table empty given) table) (entries_of (at (index_page table (home key)))) && list_all (has_place (at (index_page table (home key)))) given) ≡ true
-both_pass at records table home key given s t =
-    let page : List ℕ = at (index_page table (home key)) in
-    leaf_both (is_branch page) (list_all (leads (places_from table empty given) table) (entries_of page)) (list_all (has_place page) given) (leaf_is page (s.home_leaf key)) t
+abbrev AllLead : ℕ → List Given → List ℕ → Bool
+AllLead table given page = list_all (leads (places_from table empty given) table) (entries_of page)
 
-entry_leads : (at : Images) (records : List LogRecord) (table : ℕ) (home : ℕ → ℕ) (given : List Given) (e : Entry) → Sound at records table home → AreGiven at table given → Stands at table given (home e.key)
-    → leaf_entry at table home e.key ≡ Some e → IsPlaceOf at table e.key e.place
-entry_leads at records table home given e s g t h =
-    let page : List ℕ = at (index_page table (home e.key)) in
-    let f = found (entries_of page) e.key e h in
-    let all = and_left (list_all (leads (places_from table empty given) table) (entries_of page)) (list_all (has_place page) given) (both_pass at records table home e.key given s t) in
-    let q = each_passes (leads (places_from table empty given) table) (entries_of page) all e f.among in
+abbrev AllThere : List Given → List ℕ → Bool
+AllThere given page = list_all (has_place page) given
+
+both_pass : (table : ℕ) (given : List Given) (page : List ℕ) → is_branch page ≡ false → Test table given page ≡ true → (AllLead table given page && AllThere given page) ≡ true
+both_pass table given page leaf t = leaf_both (is_branch page) (AllLead table given page) (AllThere given page) leaf t
+
+entry_leads : (at : Images) (table : ℕ) (given : List Given) (page : List ℕ) (e : Entry) → AreGiven at table given → AllLead table given page ≡ true → Contains (entries_of page) e → IsPlaceOf at table e.key e.place
+entry_leads at table given page e g all c =
+    let q = each_passes (leads (places_from table empty given) table) (entries_of page) all e c in
     (g e.key e.place).1 (places_get table e.key e.place given (place_is (get (places_from table empty given) (table, e.key)) e.place q))
 
-slot_reached : (at : Images) (records : List LogRecord) (table : ℕ) (home : ℕ → ℕ) (given : List Given) (e : Entry) → Sound at records table home → AreGiven at table given → Stands at table given (home e.key)
-    → IsPlaceOf at table e.key e.place → leaf_entry at table home e.key ≡ Some e
-slot_reached at records table home given e s g t h =
-    let page : List ℕ = at (index_page table (home e.key)) in
-    let all = and_right (list_all (leads (places_from table empty given) table) (entries_of page)) (list_all (has_place page) given) (both_pass at records table home e.key given s t) in
+slot_reached : (at : Images) (table : ℕ) (given : List Given) (page : List ℕ) (e : Entry) → AreGiven at table given → is_branch page ≡ false → AllThere given page ≡ true → low_of page ≤ e.key → is_beyond (high_of page) e.key ≡ false
+    → IsPlaceOf at table e.key e.place → find (entries_of page) e.key ≡ Some e
+slot_reached at table given page e g leaf all low high h =
     let q = each_given (has_place page) given all (slot_of e.key e.place) ((g e.key e.place).0 h) in
-    place_found page (slot_of e.key e.place) (s.home_low e.key) (home_high at records table home e.key s) (leaf_is page (s.home_leaf e.key)) q
+    place_found page (slot_of e.key e.place) low high leaf q
 
-pub right_of : (at : Images) (records : List LogRecord) (table : ℕ) (home : ℕ → ℕ) (n : ℕ) (given : List Given) → Sound at records table home → AreGiven at table given → ((key : ℕ) → home key ≡ n → Stands at table given (home key))
-    → IsRightLeaf at table home n
-right_of at records table home n given s g t = record {
-  leads = λ e here h. entry_leads at records table home given e s g (t e.key here) h;
-  reached = λ e here h. slot_reached at records table home given e s g (t e.key here) h;
+pub test_right : (at : Images) (table : ℕ) (given : List Given) (page : List ℕ) → AreGiven at table given → Test table given page ≡ true → is_branch page ≡ false → IsRightLeaf at table page
+test_right at table given page g t leaf = record {
+  leads = λ e c. entry_leads at table given page e g (and_left (AllLead table given page) (AllThere given page) (both_pass table given page leaf t)) c;
+  reached = λ e low high h. slot_reached at table given page e g leaf (and_right (AllLead table given page) (AllThere given page) (both_pass table given page leaf t)) low high h;
 }
-
-pub whole_of : (at : Images) (records : List LogRecord) (table : ℕ) (given : List Given) → AreIndexPages at table → Opens at records table → AreGiven at table given → ((n : ℕ) → 1 ≤ n → n < index_next at table → Stands at table given n)
-    → IsWholeIndex at records table
-whole_of at records table given p o g t =
-    let all : (key : ℕ) → Stands at table given (o.home key) = λ key. let i = home_in at records table o.home key p o.sound in t (o.home key) i.from i.to in
-    record {
-      pages = p;
-      home = o.home;
-      opens = o.sound;
-      leads = λ e h. entry_leads at records table o.home given e o.sound g (all e.key) h;
-      reached = λ e h. slot_reached at records table o.home given e o.sound g (all e.key) h;
-    }
 
 -- ---- and one that is right passes it
 
@@ -201,29 +186,45 @@ entry_same a b q = cc
 place_eq : (a b : Place) (key : ℕ) → Some (entry_at key a) ≡ Some (entry_at key b) → a ≡ b
 place_eq a b key q = ap (λ (e : Entry). e.place) (entry_same (entry_at key a) (entry_at key b) q)
 
-leads_one : (at : Images) (records : List LogRecord) (table : ℕ) (home : ℕ → ℕ) (n : ℕ) (given : List Given) (e : Entry) → AreIndexPages at table → Sound at records table home → AreGiven at table given → IsRightLeaf at table home n
-    → InIndex at table n → is_branch (at (index_page table n)) ≡ false → Contains (entries_of (at (index_page table n))) e → leads (places_from table empty given) table e ≡ true
-leads_one at records table home n given e p s g r i leaf c =
-    let home_is = entry_home at records table home n e p s i leaf c in
-    let here = entry_found at table home n e p i home_is c in
-    let has = places_has table (slot_of e.key e.place) given ((g e.key e.place).0 (r.leads e home_is here)) in
+leads_one : (at : Images) (table : ℕ) (given : List Given) (page : List ℕ) (e : Entry) → AreGiven at table given → IsNode page → IsRightLeaf at table page → Contains (entries_of page) e → leads (places_from table empty given) table e ≡ true
+leads_one at table given page e g node r c =
+    let here = find_it (entries_of page) e node.rising c in
+    let has = places_has table (slot_of e.key e.place) given ((g e.key e.place).0 (r.leads e c)) in
     let q = some_is (get (places_from table empty given) (table, e.key)) has in
-    let there = r.reached (entry_at e.key q.0) home_is ((g e.key q.0).1 (places_get table e.key q.0 given q.1)) in
+    let there = r.reached (entry_at e.key q.0) (node.from_low e c) (node.below_high e c) ((g e.key q.0).1 (places_get table e.key q.0 given q.1)) in
     let same : q.0 ≡ e.place = place_eq q.0 e.place e.key (sym there ∙ here) in
     is_it (get (places_from table empty given) (table, e.key)) e.place (q.1 ∙ ap (λ (x : Place). Some x) same)
 
-has_one : (at : Images) (records : List LogRecord) (table : ℕ) (home : ℕ → ℕ) (n : ℕ) (given : List Given) (x : Given) → AreIndexPages at table → Sound at records table home → AreGiven at table given → IsRightLeaf at table home n
-    → InIndex at table n → is_branch (at (index_page table n)) ≡ false → Contains given x → has_place (at (index_page table n)) x ≡ true
-has_one at records table home n given x p s g r i leaf c =
-    found_place (at (index_page table n)) x leaf
-    (λ low high.
-    let home_is = key_home at records table home n x.key p s i leaf low high in
-    subst (λ (m : ℕ). find (entries_of (at (index_page table m))) x.key ≡ Some (entry_at x.key x.place)) home_is (r.reached (entry_at x.key x.place) home_is ((g x.key x.place).1 c)))
+has_one : (at : Images) (table : ℕ) (given : List Given) (page : List ℕ) (x : Given) → AreGiven at table given → is_branch page ≡ false → IsRightLeaf at table page → Contains given x → has_place page x ≡ true
+has_one at table given page x g leaf r c = found_place page x leaf (λ low high. r.reached (entry_at x.key x.place) low high ((g x.key x.place).1 c))
 
-pub right_stands : (at : Images) (records : List LogRecord) (table : ℕ) (home : ℕ → ℕ) (n : ℕ) (given : List Given) → AreIndexPages at table → Sound at records table home → AreGiven at table given → InIndex at table n
-    → IsRightLeaf at table home n → Stands at table given n
-right_stands at records table home n given p s g i r =
-    let page : List ℕ = at (index_page table n) in
-    leaf_by (is_branch page) (list_all (leads (places_from table empty given) table) (entries_of page)) (list_all (has_place page) given)
-    (λ leaf. all_pass (leads (places_from table empty given) table) (entries_of page) (λ e c. leads_one at records table home n given e p s g r i leaf c))
-    (λ leaf. all_given (has_place page) given (λ x c. has_one at records table home n given x p s g r i leaf c))
+pub right_test : (at : Images) (table : ℕ) (given : List Given) (page : List ℕ) → AreGiven at table given → IsNode page → (is_branch page ≡ false → IsRightLeaf at table page) → Test table given page ≡ true
+right_test at table given page g node r =
+    leaf_by (is_branch page) (AllLead table given page) (AllThere given page)
+    (λ leaf. all_pass (leads (places_from table empty given) table) (entries_of page) (λ e c. leads_one at table given page e g node (r leaf) c))
+    (λ leaf. all_given (has_place page) given (λ x c. has_one at table given page x g leaf (r leaf) c))
+
+-- ---- all leaves
+
+abbrev pub IsRightIn : Images → ℕ → ℕ → Type 0
+IsRightIn at table n = is_branch (at (index_page table n)) ≡ false → IsRightLeaf at table (at (index_page table n))
+
+pub whole_of : (at : Images) (records : List LogRecord) (table : ℕ) → AreIndexPages at table → Opens at records table → ((n : ℕ) → 1 ≤ n → n < index_next at table → IsRightIn at table n) → IsWholeIndex at records table
+whole_of at records table p o r =
+    let all : (key : ℕ) → IsRightLeaf at table (at (index_page table (o.home key))) =
+    λ key. let i = home_in at records table o.home key p o.sound in r (o.home key) i.from i.to (leaf_is (at (index_page table (o.home key))) (o.sound.home_leaf key)) in
+    record {
+      pages = p;
+      home = o.home;
+      opens = o.sound;
+      leads = λ e h. (all e.key).leads e (found (entries_of (at (index_page table (o.home e.key)))) e.key e h).among;
+      reached = λ e h. (all e.key).reached e (o.sound.home_low e.key) (home_high at records table o.home e.key o.sound) h;
+    }
+
+pub whole_leaf : (at : Images) (records : List LogRecord) (table n : ℕ) → IsWholeIndex at records table → InIndex at table n → IsRightIn at table n
+whole_leaf at records table n w i leaf = record {
+  leads = λ e c. w.leads e (entry_found at table w.home n e w.pages i (entry_home at records table w.home n e w.pages w.opens i leaf c) c);
+  reached = λ e low high h.
+      let here : w.home e.key ≡ n = key_home at records table w.home n e.key w.pages w.opens i leaf low high in
+      subst (λ (m : ℕ). find (entries_of (at (index_page table m))) e.key ≡ Some e) here (w.reached e h);
+}
