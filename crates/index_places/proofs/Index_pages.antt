@@ -28,7 +28,7 @@ use Rattle.index_places.specs.Placing.{Places, places_from, leaf_stands, AreGive
 use Rattle.index_places.specs.Trees.{IsTreeOf, node_passes, Passes}
 use Rattle.index_places.specs.Whole.{IsFirstWrong, nodes_in, HasNoKey, IsRightNode, IsRightIndexPage}
 use Rattle.index_places.proofs.Orders.{Of, first_by}
-use Rattle.index_places.proofs.Leaves.{Test, test_right, right_test}
+use Rattle.index_places.proofs.Leaf_tests.{Test, test_right, right_test}
 
 -- ---- whether the index is formatted
 

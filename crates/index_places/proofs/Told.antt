@@ -19,7 +19,7 @@ use Rattle.index_links.specs.declared.nodes.Node.{Node}
 use Rattle.index_links.specs.Links.{is_linked}
 use Rattle.index_links.specs.Opens.{Opens, LinkedOpens}
 use Rattle.index_places.specs.Whole.{IsFirstWrong, IsHeapFound, IsIndexFound, IsRightHeapPage, IsRightIndexPage, IsNamed, IsTableTold, IsFirstUnwhole}
-use Rattle.index_places.proofs.Leaves.{whole_of, whole_leaf}
+use Rattle.index_places.proofs.Leaf_tests.{whole_of, whole_leaf}
 use Rattle.index_places.proofs.Index_pages.{blank_next, unformatted_next, all_nodes}
 
 -- what the crates below say of pages
