@@ -1,6 +1,6 @@
 -- The pages of an index.
-use Rattle.std.proofs.Common.{◌≡◌, ℕ, ◌+◌, ◌-◌, ◌<◌, ◌≤◌, min, Bool, true, false, not, List, [], ◌∷◌, refl, sym, ap, subst, ◌∙◌, arith, inl, inr}
-use Rattle.std.specs.Prelude.{Contains, slice_index}
+use Rattle.std.proofs.Common.{◌≡◌, ℕ, ◌+◌, ◌-◌, ◌<◌, ◌≤◌, min, Bool, true, false, not, List, [], ◌∷◌, ◌↔◌, Result, Ok, Err, refl, sym, ap, subst, ◌∙◌, arith, inl, inr}
+use Rattle.std.specs.Prelude.{Contains, slice_index, IsTrue, IfOk}
 use Rattle.std.specs.FinMap.{empty}
 use Rattle.std.proofs.lemmas.Bool.{cases_lt}
 use Rattle.std.proofs.lemmas.Bool.Decides.{nat_tests}
@@ -89,6 +89,18 @@ none_given at table given g none = no_members given (λ x c. none x.key x.place 
 pub is_node : (f : Bool) (next : ℕ) (id : PageId) (page : List ℕ) → NodeStands f next id page → f ≡ true → 1 ≤ id.number → id.number < next → IsNodePage id page
 is_node true next id page s e from to = s.node from to
 is_node false next id page s e from to = absurd cc
+
+told : (tree : IndexTree) (table : ℕ) (id : PageId) (page : List ℕ) (p : Bool) → NodeStands tree.formatted tree.next id page → tree.formatted ≡ true → 1 ≤ id.number → id.number < tree.next → p ≡ node_passes tree table id.number page
+    → IsTrue p ↔ Passes tree table id page
+told tree table id page p s f from to h = (
+  λ t. record { by_itself = s; among = λ formatted one next. sym h ∙ t; formatted = λ one un. absurd (cc (f, un)) },
+  λ all. h ∙ all.among f from to,
+)
+
+pub node_told : {E : Type 0} (tree : IndexTree) (table : ℕ) (id : PageId) (page : List ℕ) (result : Result Bool E) → NodeStands tree.formatted tree.next id page → tree.formatted ≡ true → 1 ≤ id.number → id.number < tree.next
+    → IfOk result (λ p. p ≡ node_passes tree table id.number page) → IfOk result (λ p. IsTrue p ↔ Passes tree table id page)
+node_told tree table id page (Ok p) s f from to h = told tree table id page p s f from to h
+node_told tree table id page (Err e) s f from to h = tt
 
 same_test : (table : ℕ) (given list : List Given) (places : Places) (page : List ℕ) → list ≡ given → places ≡ places_from table empty given → leaf_stands places table list page ≡ Test table given page
 same_test table given list places page l p = ap (λ (gs : List Given). leaf_stands places table gs page) l ∙ ap (λ (m : Places). leaf_stands m table given page) p
