@@ -1,29 +1,23 @@
--- From the pages of rows to all slots of a heap.
-use Rattle.std.proofs.Common.{◌≡◌, ◌⊎◌, inl, inr, ◌↔◌, ℕ, zero, suc, ◌+◌, ◌*◌, ◌^◌, ◌<◌, ◌≤◌, Bool, true, false, List, [], ◌∷◌, take, drop, not, Option, Some, None, Result, Ok, Err, refl, sym, ap, subst, ◌∙◌, arith}
-use Rattle.std.specs.Prelude.{◌==◌, nat_le, if◌then◌else◌, slice_index, IsTrue, IfOk}
+-- How many slots the pages of a heap have.
+use Rattle.std.proofs.Common.{◌≡◌, ◌⊎◌, inl, inr, ℕ, zero, suc, ◌+◌, ◌*◌, ◌^◌, ◌<◌, ◌≤◌, Bool, true, false, List, [], ◌∷◌, take, drop, not, Option, Some, None, Ok, refl, sym, ap, ◌∙◌, arith}
+use Rattle.std.specs.Prelude.{◌==◌, nat_le, if◌then◌else◌, slice_index}
 use Rattle.std.specs.Str.{bytes_eq}
 use Rattle.std.proofs.Math.Nat.{zero-mul}
-use Rattle.std.proofs.lemmas.Bool.{cases_lt}
 use Rattle.std.proofs.lemmas.List.{get_or-drop}
 use Rattle.byteorder.specs.Endian.{big_from}
 use Rattle.ds_base.specs.Pages.{heap_page}
 use Rattle.ds_base.specs.declared.names.PageId.{PageId}
 use Rattle.ds_base.specs.declared.names.Place.{Place}
-use Rattle.ds_model.specs.declared.log.LogRecord.{LogRecord}
-use Rattle.ds_model.specs.Rows.{Rows}
 use Rattle.page_format.specs.Fields.{number_in}
 use Rattle.page_format.specs.Header.{may_have, is_version, mark, most, is_zeros, first_fault, fields, header_in, empty_header, judged, header_of, slots_per_page}
 use Rattle.page_format.specs.declared.header.Header.{Header}
 use Rattle.page_format.specs.declared.header.PageKind.TheVariants as kind
 use Rattle.page_images.specs.Images.{Images}
-use Rattle.page_chain.specs.Chains.{images_of}
 use Rattle.sound_disk.specs.Layouts.{IsOfKind, count_in}
-use Rattle.sound_disk.specs.Heaps.{IsHeapHeader, IsRowPage, heap_last, IsHeap}
-use Rattle.sound_disk.specs.Rows_there.{row_after, said_at, IsPlaceOf}
+use Rattle.sound_disk.specs.Heaps.{IsHeapHeader, IsRowPage, IsHeap}
+use Rattle.sound_disk.specs.Rows_there.{IsPlaceOf}
 use Rattle.table_pages.proofs.Booleans.{and_left, and_right, equal, le_of}
 use Rattle.table_pages.proofs.Kind_tests.{count_within}
-use Rattle.heap_rows.specs.Maps.{rows_in, AreRowsAfter}
-use Rattle.heap_rows.specs.Rows_left.{PageHas, PageHasAt, IsFirstOther, IsFoundFrom, IsTold}
 
 -- ---- pages without slots
 
@@ -79,7 +73,7 @@ header_count : (page : List ℕ) (id : PageId) → IsOfKind kind.HeapHeader (hea
 unfolding header_of
 header_count page id is = count_when (is_zeros page) (first_fault (fields page id)) (header_in page) (count_fits page id) is
 
-first_count : (page : List ℕ) (id : PageId) → (is_zeros page ≡ true) ⊎ IsHeapHeader id page → count_in page ≡ 0
+pub first_count : (page : List ℕ) (id : PageId) → (is_zeros page ≡ true) ⊎ IsHeapHeader id page → count_in page ≡ 0
 first_count page id (inl z) = blank_count page z
 first_count page id (inr h) = header_count page id h.kind_is
 
@@ -100,72 +94,3 @@ pub in_first : (at : Images) (table p : ℕ) → IsHeap at table → p < 1 → c
 in_first at table p h lt =
     let z : p ≡ 0 = omega (arith, lt) in
     ap (λ (m : ℕ). count_in (at (heap_page table m))) z ∙ first_count (at (heap_page table 0)) (heap_page table 0) h.header
-
-of_pages : (at : Images) (row : ℕ → Option (List ℕ)) (table : ℕ) → IsHeap at table → ((n : ℕ) → 1 ≤ n → n ≤ heap_last at table → PageHasAt at row table n)
-    → (key : ℕ) (place : Place) → IsPlaceOf at table key place → said_at at table place ≡ Some (key, row key)
-of_pages at row table heap h key place g =
-    elim (cases_lt place.page 1) as (λ _. said_at at table place ≡ Some (key, row key)) [
-      | inl lt ↦ absurd (no_slot at table key place g (in_first at table place.page heap lt))
-      | inr from ↦ elim (cases_lt (heap_last at table) place.page) as (λ _. said_at at table place ≡ Some (key, row key)) [
-        | inl behind ↦ absurd (no_slot at table key place g (blank_count (at (heap_page table place.page)) (heap.rest place.page behind)))
-        | inr to ↦ h place.page from to place.slot g.given key g.key_is
-      ]
-    ]
-
-page_of : (at : Images) (row : ℕ → Option (List ℕ)) (table n : ℕ) → ((key : ℕ) (place : Place) → IsPlaceOf at table key place → said_at at table place ≡ Some (key, row key)) → PageHasAt at row table n
-page_of at row table n h s lt key e = h key (record { page = n; slot = s }) (record { given = lt; key_is = e })
-
--- ---- one page more
-
-pub rows_at : (at : Images) (table p : ℕ) (id : PageId) (page : List ℕ) → IsHeap at table → 1 ≤ p → p ≤ heap_last at table → id ≡ heap_page table p → page ≡ at id → IsRowPage id page
-rows_at at table p id page h from to i e =
-    subst (λ (l : List ℕ). IsRowPage id l) (sym e) (subst (λ (q : PageId). IsRowPage q (at q)) (sym i) (h.pages p from to))
-
-pub one_more : (at : Images) (row : ℕ → Option (List ℕ)) (table n : ℕ) (id : PageId) (page : List ℕ) (b : Bool) → id ≡ heap_page table n → page ≡ at id → IsTrue b ↔ PageHas row page → b ≡ true
-    → ((k : ℕ) → 1 ≤ k → k < n → PageHasAt at row table k) → (k : ℕ) → 1 ≤ k → k < n + 1 → PageHasAt at row table k
-one_more at row table n id page b i p t e h k from lt =
-    elim (cases_lt k n) as (λ _. PageHasAt at row table k) [
-      | inl less ↦ h k from less
-      | inr up ↦
-          let same : k ≡ n = omega (arith, lt, up) in
-          subst (λ (m : ℕ). PageHasAt at row table m) (sym same) (subst (λ (q : PageId). PageHas row (at q)) i (subst (λ (l : List ℕ). PageHas row l) p (t.0 e)))
-    ]
-
-pub one_other : (at : Images) (row : ℕ → Option (List ℕ)) (table n : ℕ) (id : PageId) (page : List ℕ) (b : Bool) → id ≡ heap_page table n → page ≡ at id → IsTrue b ↔ PageHas row page → b ≡ false
-    → ((k : ℕ) → 1 ≤ k → k < n → PageHasAt at row table k) → IsFirstOther at row table id
-one_other at row table n id page b i p t e h =
-    let number : id.number ≡ n = ap (λ (q : PageId). q.number) i in
-    record {
-      id_is = i ∙ ap (λ (m : ℕ). heap_page table m) (sym number);
-      other = λ s.
-          let there : PageHas row (at (heap_page table n)) = subst (λ (m : ℕ). PageHasAt at row table m) number s in
-          let is = t.1 (subst (λ (l : List ℕ). PageHas row l) (sym p) (subst (λ (q : PageId). PageHas row (at q)) (sym i) there)) in absurd (cc (is, e));
-      before = λ k from less. h k from (omega (arith, less, number));
-    }
-
--- ---- by the records
-
-page_same : (f g : ℕ → Option (List ℕ)) (page : List ℕ) → ((key : ℕ) → f key ≡ g key) → PageHas f page → PageHas g page
-page_same f g page same h s lt key e = h s lt key e ∙ ap (λ (o : Option (List ℕ)). Some (key, o)) (same key)
-
-one_told : (records : List LogRecord) (rows : Rows) (table last : ℕ) (found : Option PageId) → IsHeap (images_of records) table → AreRowsAfter records rows → last ≡ heap_last (images_of records) table
-    → IsFoundFrom (images_of records) (rows_in rows table) table last found → IsTold (images_of records) records table found
-one_told records rows table last None heap same l h = λ key place g.
-    of_pages (images_of records) (rows_in rows table) table heap (λ n from to. h n from (omega (arith, to, l))) key place g ∙ ap (λ (o : Option (List ℕ)). Some (key, o)) (same table key)
-one_told records rows table last (Some id) heap same l h =
-    let back : (n : ℕ) → PageHasAt (images_of records) (row_after records table) table n → PageHasAt (images_of records) (rows_in rows table) table n =
-    λ n. page_same (row_after records table) (rows_in rows table) (images_of records (heap_page table n)) (λ key. sym (same table key)) in
-    record {
-      none = λ all. h.other (back id.number (page_of (images_of records) (row_after records table) table id.number all));
-      first = record {
-        id_is = h.id_is;
-        other = λ there. h.other (back id.number there);
-        before = λ n from less. page_same (rows_in rows table) (row_after records table) (images_of records (heap_page table n)) (same table) (h.before n from less);
-      };
-    }
-
-pub told : {E : Type 0} (records : List LogRecord) (rows : Rows) (table last : ℕ) (result : Result (Option PageId) E) → IsHeap (images_of records) table → AreRowsAfter records rows
-    → last ≡ heap_last (images_of records) table → IfOk result (λ found. IsFoundFrom (images_of records) (rows_in rows table) table last found)
-    → IfOk result (λ found. IsTold (images_of records) records table found)
-told records rows table last (Ok found) heap same l h = one_told records rows table last found heap same l h
-told records rows table last (Err e) heap same l h = tt

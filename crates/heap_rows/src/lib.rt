@@ -1,8 +1,8 @@
-//! Whether the slots of a heap have the rows that log records left.
+//! The rows that log records left, and whether the slots of a page of a heap have them.
 #![tactic(auto)]
 
 mod heap;
 mod rows;
 
-pub use heap::{find_wrong_row_page, find_wrong_row_page_by};
+pub use heap::page_has;
 pub use rows::rows_after;

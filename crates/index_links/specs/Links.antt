@@ -1,13 +1,10 @@
 -- Where the links and the entries of branches lead, as tests.
-use Rattle.std.specs.Prelude.{◌≡◌, ℕ, zero, suc, ◌<◌, ◌≤◌, ◌==◌, nat_lt, Bool, true, false, not, ◌&&◌, ◌||◌, if◌then◌else◌, List, [], ◌∷◌, slice_get, Option, None, Some, is_some}
+use Rattle.std.specs.Prelude.{ℕ, zero, suc, ◌==◌, nat_lt, Bool, true, false, not, ◌&&◌, ◌||◌, if◌then◌else◌, List, [], ◌∷◌, slice_get, Option, None, Some, is_some}
 use Rattle.std.specs.List.{list_all}
 use Rattle.std.specs.FinMap as finite
-use Rattle.ds_base.specs.Pages.{index_page}
-use Rattle.ds_base.specs.declared.names.PageId.{PageId}
 use Rattle.ds_model.specs.Rows.{spot_cmp}
 use Rattle.index_leaf.specs.declared.layout.Entry.{Entry}
 use Rattle.index_leaf.specs.Entries.{entries_of}
-use Rattle.page_images.specs.Images.{Images}
 use Rattle.table_pages.specs.Kinds.{both_or_neither}
 use Rattle.index_links.specs.declared.nodes.Node.{Node}
 use Rattle.index_links.specs.Nodes.{node_of}
@@ -85,15 +82,3 @@ reached_among table nodes number = reached_in (rights_from table finite.empty no
 -- it is right in its low key, its link and its entries, and in its place in the row of leaves
 abbrev pub is_linked : ℕ → List Node → ℕ → List ℕ → Bool
 is_linked table nodes number page = node_stands nodes (reached_among table nodes number) number (node_of page) && page_stands nodes page
-
--- the page is one of the branches and leaves, and the first that isn't
-pub record IsFirstMisled (at : Images) (table : ℕ) (nodes : List Node) (next : ℕ) (id : PageId) : Type 0 where
-  pub id_is : id ≡ index_page table id.number
-  pub from_first : 1 ≤ id.number
-  pub to_last : id.number < next
-  pub wrong : is_linked table nodes id.number (at (index_page table id.number)) ≡ false
-  pub before : (n : ℕ) → 1 ≤ n → n < id.number → is_linked table nodes n (at (index_page table n)) ≡ true
-
-abbrev pub IsFoundFrom : Images → ℕ → List Node → ℕ → Option PageId → Type 0
-IsFoundFrom at table nodes next None = (n : ℕ) → 1 ≤ n → n < next → is_linked table nodes n (at (index_page table n)) ≡ true
-IsFoundFrom at table nodes next (Some id) = IsFirstMisled at table nodes next id

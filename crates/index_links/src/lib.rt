@@ -3,10 +3,13 @@
 
 mod branches;
 mod entries;
+mod laws;
 mod links;
 mod nodes;
 mod pages;
 
 pub use entries::entries_in;
+pub use laws::linked_laws;
+pub use links::rights_of;
 pub use nodes::{Node, node_of, read_nodes};
-pub use pages::{find_wrong_link_page, find_wrong_link_page_by};
+pub use pages::is_linked;

@@ -1,4 +1,7 @@
 pub mod Heap_slots
 pub mod Maps
-pub mod Whole
+pub mod Orders
+pub mod Heap_pages
+pub mod Leaf_tests
+pub mod Index_pages
 pub mod Told

@@ -1,83 +1,86 @@
--- Whether an index, a table and all tables are whole, and else which page is named.
-use Rattle.std.specs.Prelude.{◌≡◌, ◌⊎◌, ℕ, ◌<◌, ◌≤◌, List, Option, None, Some}
+-- Whether the pages of a table are right, and which page is named of the first table that isn't whole.
+use Rattle.std.specs.Prelude.{◌≡◌, ◌⊎◌, ℕ, ◌-◌, ◌<◌, ◌≤◌, min, true, false, List, Contains, Option, None, Some}
 use Rattle.ds_base.specs.Ids.{IsTable}
-use Rattle.ds_base.specs.Pages.{index_page}
+use Rattle.ds_base.specs.Pages.{heap_page, index_page, index_set}
 use Rattle.ds_base.specs.declared.names.PageId.{PageId}
 use Rattle.ds_base.specs.declared.names.Place.{Place}
 use Rattle.ds_model.specs.declared.log.LogRecord.{LogRecord}
 use Rattle.index_leaf.specs.declared.layout.Entry.{Entry}
-use Rattle.index_protocol.specs.Opening.{IsSound}
+use Rattle.index_leaf.specs.Entries.{low_of, high_of, entries_of}
+use Rattle.index_leaf.specs.Search.{is_branch, is_beyond, find}
 use Rattle.page_images.specs.Images.{Images}
-use Rattle.sound_disk.specs.Heaps.{IsHeap}
-use Rattle.sound_disk.specs.Indexes.{AreIndexPages}
-use Rattle.sound_disk.specs.Index_views.{index_of}
-use Rattle.sound_disk.specs.Rows_there.{IsPlaceOf}
-use Rattle.sound_disk.specs.Tables.{HasNoIndex, leaf_entry, IsWholeIndex, IsWholeTable}
-use Rattle.table_images.specs.Stands.{IsWrong}
-use Rattle.table_images.specs.Nodes.{IsUnformatted, IsWrongIndex}
-use Rattle.heap_rows.specs.Rows_left.{HasRowsLeft, HasOtherRow}
-use Rattle.index_links.specs.Opens.{Opens, CannotOpen}
+use Rattle.sound_disk.specs.Heaps.{heap_last}
+use Rattle.sound_disk.specs.Indexes.{index_next}
+use Rattle.sound_disk.specs.Rows_there.{row_after, IsPlaceOf}
+use Rattle.sound_disk.specs.Tables.{IsWholeTable}
+use Rattle.disk_versions.specs.Ends.{last_in_records}
+use Rattle.table_images.specs.Stands.{StandsAt, given_by}
+use Rattle.table_images.specs.Nodes.{NodeStandsAt, is_formatted}
+use Rattle.heap_rows.specs.Rows_left.{PageHasAt}
+use Rattle.index_links.specs.declared.nodes.Node.{Node}
+use Rattle.index_links.specs.Nodes.{nodes_from}
+use Rattle.index_links.specs.Links.{is_linked}
 
--- ---- leaves
+-- ---- pages in their order
 
--- of the keys that have this leaf, it has the place exactly where that slot was given to the key
-pub record IsRightLeaf (at : Images) (table : ℕ) (home : ℕ → ℕ) (n : ℕ) : Type 0 where
-  pub leads : (e : Entry) → home e.key ≡ n → leaf_entry at table home e.key ≡ Some e → IsPlaceOf at table e.key e.place
-  pub reached : (e : Entry) → home e.key ≡ n → IsPlaceOf at table e.key e.place → leaf_entry at table home e.key ≡ Some e
+-- the page isn't right, and all before it are
+pub record IsFirstWrong (page_of : ℕ → PageId) (IsRight : ℕ → Type 0) (id : PageId) : Type 0 where
+  pub id_is : id ≡ page_of id.number
+  pub wrong : IsRight id.number → ⊥
+  pub before : (n : ℕ) → n < id.number → IsRight n
 
--- it is the first that isn't right, whichever leaf for each key the machine of the index opens with: there is one
-pub record IsFirstWrongLeaf (at : Images) (records : List LogRecord) (table : ℕ) (id : PageId) : Type 0 where
-  pub id_is : id ≡ index_page table id.number
-  pub wrong : (home : ℕ → ℕ) → IsSound (index_of at records table home) → IsRightLeaf at table home id.number → ⊥
-  pub before : (home : ℕ → ℕ) → IsSound (index_of at records table home) → (n : ℕ) → n < id.number → IsRightLeaf at table home n
+abbrev pub IsFound : (ℕ → PageId) → (ℕ → Type 0) → Option PageId → Type 0
+IsFound page_of IsRight None = (n : ℕ) → IsRight n
+IsFound page_of IsRight (Some id) = IsFirstWrong page_of IsRight id
+
+-- ---- the heap of a table
+
+-- the page is right by itself, and each slot that was given on it has the row that the records left
+abbrev pub IsRightHeapPage : Images → List LogRecord → ℕ → ℕ → Type 0
+IsRightHeapPage at records table n = StandsAt at table (heap_last at table) (given_by at table) n × PageHasAt at (row_after records table) table n
+
+abbrev pub IsHeapFound : Images → List LogRecord → ℕ → Option PageId → Type 0
+IsHeapFound at records table found = IsFound (heap_page table) (IsRightHeapPage at records table) found
 
 -- ---- the index of a table
 
--- of one with which the machine of the index opens: it is whole, or this is the first leaf that isn't right
-abbrev pub ArePlacesTold : Images → List LogRecord → ℕ → Option PageId → Type 0
-ArePlacesTold at records table None = IsWholeIndex at records table
-ArePlacesTold at records table (Some id) = IsFirstWrongLeaf at records table id
+-- the leaf has the places of the slots that were given to its keys, and no others
+pub record IsRightLeaf (at : Images) (table : ℕ) (page : List ℕ) : Type 0 where
+  pub leads : (e : Entry) → Contains (entries_of page) e → IsPlaceOf at table e.key e.place
+  pub reached : (e : Entry) → low_of page ≤ e.key → is_beyond (high_of page) e.key ≡ false → IsPlaceOf at table e.key e.place → find (entries_of page) e.key ≡ Some e
 
--- the machine of the index doesn't open with it, and this is the first page that misleads; or it does, and this is the first leaf that isn't right
-abbrev pub IsMisled : Images → List LogRecord → ℕ → PageId → Type 0
-IsMisled at records table id = CannotOpen at records table id ⊎ (Opens at records table × IsFirstWrongLeaf at records table id)
+-- what the pages before the next free one say, as far as a record changes one
+abbrev pub nodes_in : Images → List LogRecord → ℕ → List Node
+nodes_in at records table = nodes_from at table 1 (min (index_next at table - 1) (last_in_records (index_set table) 0 records))
 
--- of one whose pages are right by themselves
-abbrev pub IsWholeTold : Images → List LogRecord → ℕ → Option PageId → Type 0
-IsWholeTold at records table None = IsWholeIndex at records table
-IsWholeTold at records table (Some id) = IsMisled at records table id
+-- the branch or leaf stands where it is to among them; a leaf has its places
+pub record IsRightNode (at : Images) (records : List LogRecord) (table n : ℕ) : Type 0 where
+  pub linked : is_linked table (nodes_in at records table) n (at (index_page table n)) ≡ true
+  pub leaf : is_branch (at (index_page table n)) ≡ false → IsRightLeaf at table (at (index_page table n))
 
--- no page of the index is formatted, though slots were given: its page 1 is named
-pub record IsNeverFormatted (at : Images) (table : ℕ) (id : PageId) : Type 0 where
-  pub zeros : IsUnformatted at table
-  pub some_key : ((key : ℕ) (place : Place) → IsPlaceOf at table key place → ⊥) → ⊥
-  pub id_is : id ≡ index_page table 1
+abbrev pub HasNoKey : Images → ℕ → Type 0
+HasNoKey at table = (key : ℕ) (place : Place) → IsPlaceOf at table key place → ⊥
 
--- the first page of the index that isn't right by itself; where there is none, its page 1, or where it misleads
-abbrev pub IsNamedInIndex : Images → List LogRecord → ℕ → PageId → Type 0
-IsNamedInIndex at records table id = IsWrongIndex at table id ⊎ (IsNeverFormatted at table id ⊎ (AreIndexPages at table × IsMisled at records table id))
+-- the page is right by itself, and among the others. Page 1 of an index that was never formatted is so where no slot was given
+pub record IsRightIndexPage (at : Images) (records : List LogRecord) (table n : ℕ) : Type 0 where
+  pub by_itself : NodeStandsAt at table (is_formatted at table) (index_next at table) n
+  pub among : 1 ≤ n → n < index_next at table → IsRightNode at records table n
+  pub formatted : n ≡ 1 → is_formatted at table ≡ false → HasNoKey at table
 
--- there is none and no slot is given, or it is whole
-abbrev pub IsIndexRight : Images → List LogRecord → ℕ → Type 0
-IsIndexRight at records table = HasNoIndex at table ⊎ IsWholeIndex at records table
-
-abbrev pub IsIndexTold : Images → List LogRecord → ℕ → Option PageId → Type 0
-IsIndexTold at records table None = IsIndexRight at records table
-IsIndexTold at records table (Some id) = IsNamedInIndex at records table id
+abbrev pub IsIndexFound : Images → List LogRecord → ℕ → Option PageId → Type 0
+IsIndexFound at records table found = IsFound (index_page table) (IsRightIndexPage at records table) found
 
 -- ---- a table
 
--- the first page of the heap that isn't right by itself; where there is none, the first with another row than the records left; where there is
--- none, a page of the index
+-- the first page of the heap that isn't right; where there is none, the first of the index
 abbrev pub IsNamed : Images → List LogRecord → ℕ → PageId → Type 0
 IsNamed at records table id =
-    IsWrong at table id
-    ⊎ ((IsHeap at table × HasOtherRow at records table id)
-    ⊎ (IsHeap at table × HasRowsLeft at records table × IsNamedInIndex at records table id))
+    IsFirstWrong (heap_page table) (IsRightHeapPage at records table) id
+    ⊎ (((n : ℕ) → IsRightHeapPage at records table n) × IsFirstWrong (index_page table) (IsRightIndexPage at records table) id)
 
 abbrev pub IsTableTold : Images → List LogRecord → ℕ → Option PageId → Type 0
 IsTableTold at records table None = IsWholeTable at records table
-IsTableTold at records table (Some id) = IsNamed at records table id
+IsTableTold at records table (Some id) = (IsWholeTable at records table → ⊥) × IsNamed at records table id
 
 -- ---- all tables
 

@@ -1,95 +1,91 @@
-ghost use Rattle.std.specs.Prelude.{◌≡◌, IfOk};
+ghost use Rattle.std.specs.Prelude.{◌≡◌, ◌↔◌, IfOk, IsTrue};
 ghost use Rattle.std.specs.List.{AllByRecursion};
+ghost use Rattle.std.specs.FinMap as finite;
 ghost use Rattle.ds_model.specs.RecordBytes.{IsAllowed};
 ghost use Rattle.page_chain.specs.Chains.{images_of};
 ghost use Rattle.page_records.specs.Places.{by_page};
-ghost use Rattle.sound_disk.specs.Indexes.{AreIndexPages, index_next};
-ghost use Rattle.index_links.specs.Opens.{Opens};
+ghost use Rattle.sound_disk.specs.Indexes.{IsNodePage};
+ghost use Rattle.index_links.specs.Links.{rights_from};
 ghost use Rattle.index_places.specs.Placing.{AreGiven};
-ghost use Rattle.index_places.specs.Whole.{ArePlacesTold, IsWholeTold, IsIndexTold};
+ghost use Rattle.index_places.specs.Trees.{node_passes, Passes};
+ghost use Rattle.index_places.specs.Whole.{IsIndexFound};
 
-use crate::leaves::find_wrong_leaf;
-use crate::slots::{Given, places_of};
+use crate::leaves::leaf_stands;
+use crate::slots::Given;
+use crate::tree::{IndexTree, read_tree};
 use ds_base::{NoMemory, PageId, TableId};
-use index_leaf::next_page;
-use index_links::find_wrong_link_page_by;
+use index_links::is_linked;
 use log_record::LogRecord;
-use page_images::header_laws;
+use page_format::Page;
 use page_records::PageRecords;
 use page_versions::image_of;
 use std::alloc::Global;
-use table_images::find_wrong_index_page_by;
+use table_images::{index_end, index_page_stands};
 
-fn find_misplaced(
+fn node_passes(
     alloc: Global,
     table: TableId,
-    records: &[LogRecord],
-    changed: &[PageRecords],
-    next: u32,
-    given: &[Given],
-) -> Result<Option<PageId>, NoMemory>
-    requires allowed { AllByRecursion IsAllowed records.now }
-    requires changed_pages { changed.now ≡ by_page records.now }
-    requires pages { AreIndexPages (images_of records.now) table }
-    requires next { next ≡ index_next (images_of records.now) table }
-    requires opens { Opens (images_of records.now) records.now table }
-    requires given { AreGiven (images_of records.now) table given.now }
-    ensures { IfOk result (λ found. ArePlacesTold (images_of records.now) records.now table found) }
+    tree: &IndexTree,
+    id: PageId,
+    page: &Page,
+) -> Result<bool, NoMemory>
+    requires rights { tree.now.rights ≡ rights_from table finite.empty tree.now.nodes.items }
+    requires page { IsNodePage id page.now }
+    ensures { IfOk result (λ passes. passes ≡ node_passes tree.now table id.number page.now) }
 {
-    let places = places_of(alloc, table, given)?;
-    find_wrong_leaf(alloc, table, records, changed, &places, given, next)
-}
-
-fn find_misled(
-    alloc: Global,
-    table: TableId,
-    records: &[LogRecord],
-    changed: &[PageRecords],
-    next: u32,
-    given: &[Given],
-) -> Result<Option<PageId>, NoMemory>
-    requires allowed { AllByRecursion IsAllowed records.now }
-    requires changed_pages { changed.now ≡ by_page records.now }
-    requires pages { AreIndexPages (images_of records.now) table }
-    requires next { next ≡ index_next (images_of records.now) table }
-    requires given { AreGiven (images_of records.now) table given.now }
-    ensures { IfOk result (λ found. IsWholeTold (images_of records.now) records.now table found) }
-{
-    match find_wrong_link_page_by(alloc, table, records, changed)? {
-        Some(id) => Ok(Some(id)),
-        None => find_misplaced(alloc, table, records, changed, next, given),
+    if !is_linked(alloc, table, &tree.nodes, &tree.rights, id, page)? {
+        return Ok(false);
     }
+    leaf_stands(alloc, table, id, page, &tree.places, &tree.given)
 }
 
-/// The page of the table's index that isn't right, where these slots of its heap were given: there is no index, and no slot
-/// was given, or the index is whole. `changed` are the pages that the records change.
+fn passes(
+    alloc: Global,
+    table: TableId,
+    tree: &IndexTree,
+    id: PageId,
+    page: &Page,
+) -> Result<bool, NoMemory>
+    requires rights { tree.now.rights ≡ rights_from table finite.empty tree.now.nodes.items }
+    ensures { IfOk result (λ passes. IsTrue passes ↔ Passes tree.now table id page.now) }
+{
+    if !index_page_stands(page, id, tree.formatted, tree.next) {
+        return Ok(false);
+    }
+    if !tree.formatted {
+        return Ok(id.number != 1 || tree.given.is_empty());
+    }
+    if id.number == 0 || tree.next <= id.number {
+        return Ok(true);
+    }
+    node_passes(alloc, table, tree, id, page)
+}
+
+/// The first page of the table's index that isn't right, where these slots of its heap were given: by itself, in its links,
+/// entries or place in the row of leaves, or as a leaf that doesn't have exactly the places of its keys. Of an index that isn't
+/// formatted though slots were given page 1 isn't right. `changed` are the pages that the records change.
 ///
-/// It is the first that isn't right by itself; where each is, the first leaf that doesn't have exactly the places of its keys,
-/// if the links and the branches lead to the leaves, and else the first page that misleads. An index that isn't formatted
-/// though slots were given has its page 1 named.
-pub fn find_wrong_index(
+/// It goes over all records twice, and over the pages up to the last one that they change. Each takes time in the logarithm of
+/// the number of these pages, and in the number of its own records; a leaf takes time in the number of the slots too.
+pub fn find_wrong_index_page(
     alloc: Global,
     table: TableId,
     records: &[LogRecord],
     changed: &[PageRecords],
-    given: &[Given],
+    given: Vec<Given>,
 ) -> Result<Option<PageId>, NoMemory>
     requires allowed { AllByRecursion IsAllowed records.now }
     requires changed_pages { changed.now ≡ by_page records.now }
-    requires given { AreGiven (images_of records.now) table given.now }
-    ensures { IfOk result (λ found. IsIndexTold (images_of records.now) records.now table found) }
+    requires given { AreGiven (images_of records.now) table given.items }
+    ensures { IfOk result (λ found. IsIndexFound (images_of records.now) records.now table found) }
 {
-    header_laws();
-    if let Some(id) = find_wrong_index_page_by(alloc, table, records, changed)? {
-        return Ok(Some(id));
+    let tree = read_tree(alloc, table, records, changed, given)?;
+    for number in 0..index_end(table, records, tree.next) {
+        let id = table.index_page(number as u32);
+        let page = image_of(alloc, id, records, changed)?;
+        if !passes(alloc, table, &tree, id, &page)? {
+            return Ok(Some(id));
+        }
     }
-    let header = image_of(alloc, table.index_page(0), records, changed)?;
-    if next_page(&header) != 0 {
-        return find_misled(alloc, table, records, changed, next_page(&header), given);
-    }
-    if given.is_empty() {
-        Ok(None)
-    } else {
-        Ok(Some(table.index_page(1)))
-    }
+    Ok(None)
 }

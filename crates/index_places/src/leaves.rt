@@ -1,20 +1,14 @@
 ghost use Rattle.std.specs.Prelude.{◌≡◌, IfOk};
-ghost use Rattle.std.specs.List.{AllByRecursion, list_all};
-ghost use Rattle.ds_model.specs.RecordBytes.{IsAllowed};
+ghost use Rattle.std.specs.List.{list_all};
 ghost use Rattle.index_leaf.specs.Nodes.{IsNode};
-ghost use Rattle.page_chain.specs.Chains.{images_of};
-ghost use Rattle.page_records.specs.Places.{by_page};
-ghost use Rattle.sound_disk.specs.Indexes.{AreIndexPages, IsNodePage, index_next};
-ghost use Rattle.index_places.specs.Placing.{same_place, is_place, leads, lands_at, has_place, leaf_stands, AreLeavesTold};
+ghost use Rattle.sound_disk.specs.Indexes.{IsNodePage};
+ghost use Rattle.index_places.specs.Placing.{same_place, is_place, leads, lands_at, has_place, leaf_stands};
 
 use crate::slots::Given;
 use ds_base::{NoMemory, PageId, Place, TableId};
 use index_leaf::{Entry, Look, look, low_key};
 use index_links::{entries_in, node_of};
-use log_record::LogRecord;
 use page_format::Page;
-use page_records::PageRecords;
-use page_versions::image_of;
 use spot_map::SpotMap;
 use std::alloc::Global;
 
@@ -75,8 +69,10 @@ fn has_places(page: &Page, given: &[Given]) -> bool
     true
 }
 
-// Whether the page is no leaf, or its entries are the places of the slots that were given to its keys.
-fn stands(
+/// Whether the page is no leaf, or its entries are the places of the slots that were given to its keys.
+///
+/// It takes time in the number of the slots.
+pub fn leaf_stands(
     alloc: Global,
     table: TableId,
     id: PageId,
@@ -92,33 +88,4 @@ fn stands(
     }
     let entries = entries_in(alloc, page)?;
     Ok(all_lead(table, places, &entries) && has_places(page, given))
-}
-
-/// The first leaf whose entries aren't the places of the slots that were given to its keys. `changed` are the pages that the
-/// records change.
-///
-/// It takes time in the number of the slots, and in that of a page's own records, for each page of the index.
-pub fn find_wrong_leaf(
-    alloc: Global,
-    table: TableId,
-    records: &[LogRecord],
-    changed: &[PageRecords],
-    places: &SpotMap<Place>,
-    given: &[Given],
-    next: u32,
-) -> Result<Option<PageId>, NoMemory>
-    requires allowed { AllByRecursion IsAllowed records.now }
-    requires changed_pages { changed.now ≡ by_page records.now }
-    requires pages { AreIndexPages (images_of records.now) table }
-    requires next { next ≡ index_next (images_of records.now) table }
-    ensures { IfOk result (λ found. AreLeavesTold (images_of records.now) table places.now given.now next found) }
-{
-    for number in 1..next {
-        let id = table.index_page(number);
-        let page = image_of(alloc, id, records, changed)?;
-        if !stands(alloc, table, id, &page, places, given)? {
-            return Ok(Some(id));
-        }
-    }
-    Ok(None)
 }

@@ -6,21 +6,23 @@ ghost use Rattle.page_records.specs.Places.{by_page};
 ghost use Rattle.heap_rows.specs.Maps.{AreRowsAfter};
 ghost use Rattle.index_places.specs.Whole.{IsTableTold, IsFirstTold};
 
-use crate::index::find_wrong_index;
+use crate::heap::find_wrong_heap_page;
+use crate::index::find_wrong_index_page;
 use crate::slots::given_in;
 use ds_base::{NoMemory, PageId, TableId, Value};
-use heap_rows::{find_wrong_row_page_by, rows_after};
+use heap_rows::rows_after;
+use index_links::linked_laws;
 use log_record::LogRecord;
+use page_chain::chain_laws;
+use page_images::header_laws;
 use page_records::{PageRecords, by_page};
 use spot_map::SpotMap;
 use std::alloc::Global;
-use table_images::find_wrong_heap_page_by;
+use table_images::stands_laws;
 
-/// The page of the table that isn't right after the records, if the table isn't whole. `changed` are the pages that the
-/// records change.
+/// The page that is named of the table after the records, if it isn't whole. `changed` are the pages that the records change.
 ///
-/// It is the first of the heap that isn't right by itself; where each is, the first of it with another row than the records
-/// left; and else the one of its index that `find_wrong_index` names.
+/// It is the first of its heap that isn't right, by itself or in its rows; and where there is none, the first of its index.
 pub fn find_unwhole_page(
     alloc: Global,
     table: TableId,
@@ -33,14 +35,15 @@ pub fn find_unwhole_page(
     requires rows { AreRowsAfter records.now rows.now }
     ensures { IfOk result (λ found. IsTableTold (images_of records.now) records.now table found) }
 {
-    if let Some(id) = find_wrong_heap_page_by(alloc, table, records, changed)? {
-        return Ok(Some(id));
-    }
-    if let Some(id) = find_wrong_row_page_by(alloc, table, records, changed, rows)? {
+    stands_laws();
+    linked_laws();
+    chain_laws();
+    header_laws();
+    if let Some(id) = find_wrong_heap_page(alloc, table, records, changed, rows)? {
         return Ok(Some(id));
     }
     let given = given_in(alloc, table, records, changed)?;
-    find_wrong_index(alloc, table, records, changed, &given)
+    find_wrong_index_page(alloc, table, records, changed, given)
 }
 
 /// The page of the first table that isn't whole after the records, as `find_unwhole_page` names it.

@@ -1,6 +1,7 @@
 -- From the pages of an index to the index.
-use Rattle.std.proofs.Common.{◌≡◌, ◌⊎◌, ◌↔◌, ℕ, ◌+◌, ◌-◌, ◌^◌, ◌<◌, ◌≤◌, Bool, true, false, not, List, Option, Some, None, Result, Ok, Err, refl, sym, ap, subst, ◌∙◌, arith, inl, inr}
-use Rattle.std.specs.Prelude.{nat_lt, IsTrue, IfOk, if◌then◌else◌}
+use Rattle.std.proofs.Common.{◌≡◌, ◌⊎◌, ℕ, ◌-◌, ◌^◌, ◌<◌, ◌≤◌, Bool, true, false, not, List, Result, Ok, Err, refl, sym, ap, subst, ◌∙◌, arith, inl, inr}
+use Rattle.std.specs.Prelude.{if◌then◌else◌}
+use Rattle.std.proofs.lemmas.Bool.Decides.{nat_tests}
 use Rattle.ds_base.specs.Pages.{index_page, index_set}
 use Rattle.ds_base.specs.declared.names.PageId.{PageId}
 use Rattle.ds_model.specs.declared.log.LogRecord.{LogRecord}
@@ -10,44 +11,13 @@ use Rattle.page_format.specs.declared.header.NotAPage.{NotAPage}
 use Rattle.page_format.specs.declared.header.PageKind.{PageKind}
 use Rattle.page_format.specs.declared.header.PageKind.TheVariants as kind
 use Rattle.sound_disk.specs.Layouts.{IsOfKind}
-use Rattle.index_leaf.specs.Changes.{next_page_of}
 use Rattle.page_images.specs.Images.{Images}
 use Rattle.page_chain.specs.Chains.{images_of}
 use Rattle.sound_disk.specs.Indexes.{IsIndexHeader, index_next, AreIndexPages}
 use Rattle.disk_versions.specs.Ends.{last_in_records, end_of}
-use Rattle.table_images.specs.Nodes.{NodeStands, NodeStandsAt, IsFirstWrongNode, AreNodesUpTo, IsUnformatted, is_formatted, IsIndexTold}
+use Rattle.table_images.specs.Nodes.{NodeStandsAt, last_node, IsUnformatted, is_formatted}
 use Rattle.table_images.proofs.Untouched.{never_changed}
-use Rattle.table_images.proofs.Heaps.{IsKnown, decide, below, not_below, past_first, past_second}
-
--- ---- one page more
-
-more : (at : Images) (table : ℕ) (f : Bool) (next n : ℕ) → ((k : ℕ) → k < n → NodeStandsAt at table f next k) → NodeStandsAt at table f next n → (k : ℕ) → k < n + 1 → NodeStandsAt at table f next k
-more at table f next n h s k lt =
-    decide (nat_lt k n) (NodeStandsAt at table f next k)
-    (λ e. h k (below k n e))
-    (λ e. let up = not_below k n e in let same : k ≡ n = omega (arith, lt, up) in subst (λ (m : ℕ). NodeStandsAt at table f next m) (sym same) s)
-
-stands_at : (records : List LogRecord) (table : ℕ) (f : Bool) (next n : ℕ) (id : PageId) (page : List ℕ) → id ≡ index_page table n → page ≡ images_of records id → NodeStands f next id page → NodeStandsAt (images_of records) table f next n
-stands_at records table f next n id page i p s =
-    subst (λ (q : PageId). NodeStands f next q (images_of records q)) i (subst (λ (q : List ℕ). NodeStands f next id q) p s)
-
-at_stands : (records : List LogRecord) (table : ℕ) (f : Bool) (next n : ℕ) (id : PageId) (page : List ℕ) → id ≡ index_page table n → page ≡ images_of records id → NodeStandsAt (images_of records) table f next n → NodeStands f next id page
-at_stands records table f next n id page i p s =
-    subst (λ (q : List ℕ). NodeStands f next id q) (sym p) (subst (λ (q : PageId). NodeStands f next q (images_of records q)) (sym i) s)
-
-pub one_more : (records : List LogRecord) (table : ℕ) (f : Bool) (next n : ℕ) (id : PageId) (page : List ℕ) (b : Bool) → id ≡ index_page table n → page ≡ images_of records id → IsTrue b ↔ NodeStands f next id page → b ≡ true
-    → ((k : ℕ) → k < n → NodeStandsAt (images_of records) table f next k) → (k : ℕ) → k < n + 1 → NodeStandsAt (images_of records) table f next k
-one_more records table f next n id page b i p t e h = more (images_of records) table f next n h (stands_at records table f next n id page i p (t.0 e))
-
-pub one_wrong : (records : List LogRecord) (table : ℕ) (f : Bool) (next n : ℕ) (id : PageId) (page : List ℕ) (b : Bool) → id ≡ index_page table n → page ≡ images_of records id → IsTrue b ↔ NodeStands f next id page → b ≡ false
-    → ((k : ℕ) → k < n → NodeStandsAt (images_of records) table f next k) → IsFirstWrongNode (images_of records) table f next id
-one_wrong records table f next n id page b i p t e h =
-    let number : id.number ≡ n = ap (λ (q : PageId). q.number) i in
-    record {
-      id_is = i ∙ ap (λ (m : ℕ). index_page table m) (sym number);
-      wrong = λ s. let is = t.1 (at_stands records table f next n id page i p (subst (λ (m : ℕ). NodeStandsAt (images_of records) table f next m) number s)) in absurd (cc (is, e));
-      before = λ k less. h k (omega (arith, less, number));
-    }
+use Rattle.table_images.proofs.Heaps.{IsKnown, past_first, past_second}
 
 -- ---- the index
 
@@ -117,34 +87,24 @@ blank_stands at table false next n lt e = e
 abbrev records_end : ℕ → List LogRecord → ℕ
 records_end table records = last_in_records (index_set table) 0 records
 
-all_of : IsKnown → (records : List LogRecord) (table : ℕ) (f : Bool) (end : ℕ) → index_next (images_of records) table - 1 < 2 ^ 32 → records_end table records < 2 ^ 32
-    → end ≡ end_of (index_next (images_of records) table - 1) (records_end table records) 0
-    → AreNodesUpTo (images_of records) table f (index_next (images_of records) table) end None → EachIn (images_of records) table f
-all_of k records table f end x y e h n =
-    decide (nat_lt n end) (NodeStandsAt (images_of records) table f (index_next (images_of records) table) n)
-    (λ b. h n (below n end b))
-    (λ b.
-    let up : end_of (index_next (images_of records) table - 1) (records_end table records) 0 ≤ n = subst (λ (m : ℕ). m ≤ n) e (not_below n end b) in
-    blank_stands (images_of records) table f (index_next (images_of records) table) n
-    (past_first (index_next (images_of records) table - 1) (records_end table records) n x y up)
-    (ap is_zeros (never_changed k.others (index_set table) n records (past_second (index_next (images_of records) table - 1) (records_end table records) n x y up)) ∙ k.blank))
+last_from : (next : ℕ) → next - 1 ≤ last_node next
+last_from next = grind (arith, nat_tests)
 
-one_told : IsKnown → (records : List LogRecord) (table : ℕ) (f : Bool) (end : ℕ) (found : Option PageId) → f ≡ is_formatted (images_of records) table → index_next (images_of records) table - 1 < 2 ^ 32
-    → records_end table records < 2 ^ 32 → end ≡ end_of (index_next (images_of records) table - 1) (records_end table records) 0
-    → AreNodesUpTo (images_of records) table f (index_next (images_of records) table) end found → IsIndexTold (images_of records) table found
-one_told k records table f end None fe x y e h = index_of (images_of records) table f (all_of k records table f end x y e h)
-one_told k records table f end (Some id) fe x y e h = record {
-  no_zeros = λ u. h.wrong (unformatted_each (images_of records) table f fe u id.number);
-  no_pages = λ u. h.wrong (formatted_each (images_of records) table f fe u id.number);
-  first = subst (λ (b : Bool). IsFirstWrongNode (images_of records) table b (index_next (images_of records) table) id) fe h;
-}
+-- all behind that end are zeros
+pub rest_stands : IsKnown → (records : List LogRecord) (table next behind end : ℕ) → behind ≡ records_end table records → end ≡ end_of (last_node next) behind 0 → last_node next < 2 ^ 32 → behind < 2 ^ 32 → (f : Bool) (n : ℕ) → end ≤ n
+    → NodeStandsAt (images_of records) table f next n
+rest_stands k records table next behind end b e x y f n le =
+    let up : end_of (last_node next) behind 0 ≤ n = subst (λ (m : ℕ). m ≤ n) e le in
+    let past : records_end table records < n = subst (λ (m : ℕ). m < n) b (past_second (last_node next) behind n x y up) in
+    let first = past_first (last_node next) behind n x y up in
+    let from = last_from next in
+    blank_stands (images_of records) table f next n (omega (arith, first, from)) (ap is_zeros (never_changed k.others (index_set table) n records past) ∙ k.blank)
 
-pub told : IsKnown → {E : Type 0} (records : List LogRecord) (table : ℕ) (f : Bool) (next end behind : ℕ) (page : List ℕ) (result : Result (Option PageId) E) → page ≡ images_of records (index_page table 0)
-    → f ≡ not (is_zeros page) → next ≡ next_page_of page → behind ≡ records_end table records → end ≡ end_of (next - 1) behind 0 → next < 2 ^ 32 → behind < 2 ^ 32
-    → IfOk result (λ found. AreNodesUpTo (images_of records) table f next end found) → IfOk result (λ found. IsIndexTold (images_of records) table found)
-told k records table f next end behind page (Err x) p fe l b e lx bx h = tt
-told k records table f next end behind page (Ok found) p fe l b e lx bx h =
-    let ll : next ≡ index_next (images_of records) table = l ∙ ap next_page_of p in
-    one_told k records table f end found (fe ∙ ap (λ (q : List ℕ). not (is_zeros q)) p) (omega (arith, ll, lx)) (subst (λ (m : ℕ). m < 2 ^ 32) b bx)
-    (e ∙ ap (λ (m : ℕ). end_of (m - 1) behind 0) ll ∙ ap (λ (m : ℕ). end_of (index_next (images_of records) table - 1) m 0) b)
-    (subst (λ (m : ℕ). AreNodesUpTo (images_of records) table f m end found) ll h)
+-- ---- both ways
+
+pub index_told : (at : Images) (table : ℕ) → EachIn at table (is_formatted at table) → IsUnformatted at table ⊎ AreIndexPages at table
+index_told at table h = index_of at table (is_formatted at table) h
+
+pub told_index : (at : Images) (table : ℕ) → IsUnformatted at table ⊎ AreIndexPages at table → EachIn at table (is_formatted at table)
+told_index at table (inl u) = unformatted_each at table (is_formatted at table) refl u
+told_index at table (inr p) = formatted_each at table (is_formatted at table) refl p

@@ -1,33 +1,14 @@
 -- Pages that no record changes.
-use Rattle.std.proofs.Common.{◌≡◌, ℕ, ◌<◌, ◌≤◌, Bool, true, false, ◌||◌, List, [], ◌∷◌, replicate, refl, ap, ◌∙◌, arith}
+use Rattle.std.proofs.Common.{◌≡◌, ℕ, ◌<◌, ◌≤◌, Bool, true, false, ◌||◌, List, [], ◌∷◌, refl, ap, ◌∙◌, arith}
 use Rattle.std.specs.List.{list_any}
 use Rattle.std.proofs.lemmas.Bool.Decides.{nat_tests}
 use Rattle.ds_base.specs.Pages.{same_page}
 use Rattle.ds_base.specs.declared.names.PageId.{PageId}
 use Rattle.ds_model.specs.declared.log.LogRecord.{LogRecord}
-use Rattle.ds_model.specs.declared.log.Version.{Version}
-use Rattle.ds_model.specs.declared.log.Body.{Body}
-use Rattle.ds_model.specs.declared.log.Body.TheVariants as body
-use Rattle.ds_model.specs.RecordBytes.{IsAllowed, BodyIsAllowed, BodyFits}
 use Rattle.page_format.specs.declared.patch.Patch.{Patch}
-use Rattle.page_format.specs.Fields.{page_size}
-use Rattle.index_leaf.specs.Changes.{zeros as zero_bytes}
 use Rattle.page_images.specs.Images.{zeros}
 use Rattle.page_chain.specs.Chains.{changes_of, after_record, version_from, version_of, LeavesOthers}
 use Rattle.disk_versions.specs.Ends.{page_of, last_with, last_in_patches, last_in_records}
-
-body_fits : (v : Version) (b : Body) → BodyIsAllowed v b → BodyFits v b
-body_fits v (body.RowChange c) h = (h.page_some, h.slot_in)
-body_fits v (body.Compensation c undone) h = (h.0.page_some, h.0.slot_in)
-body_fits v (body.System ps) h = h
-body_fits v body.Commit h = tt
-body_fits v body.Ended h = tt
-body_fits v (body.Checkpoint offset) h = tt
-body_fits v body.RestartEnd h = tt
-
--- a record that a log may hold can be applied
-pub fits_of : (r : LogRecord) → IsAllowed r → BodyFits r.version r.body
-fits_of r h = body_fits r.version r.body h.body_is
 
 -- ---- the greatest number
 
@@ -67,7 +48,3 @@ unchanged k set last n page (r ∷ rs) lt =
 
 pub never_changed : LeavesOthers → (set n : ℕ) (rs : List LogRecord) → last_in_records set 0 rs < n → version_of (page_of set n) rs ≡ zeros
 never_changed k set n rs lt = unchanged k set 0 n zeros rs lt
-
-pub blank : replicate page_size 0 ≡ zeros
-unfolding zero_bytes
-blank = refl

@@ -1,5 +1,5 @@
--- What each page of an index is to be, and the first that isn't.
-use Rattle.std.specs.Prelude.{◌≡◌, ◌⊎◌, ℕ, ◌<◌, ◌≤◌, Bool, true, false, not, List, Option, None, Some}
+-- What each page of an index is to be.
+use Rattle.std.specs.Prelude.{◌≡◌, ◌⊎◌, ◌↔◌, ℕ, ◌-◌, ◌<◌, ◌≤◌, nat_lt, Bool, true, false, not, if◌then◌else◌, List}
 use Rattle.ds_base.specs.Pages.{index_page}
 use Rattle.ds_base.specs.declared.names.PageId.{PageId}
 use Rattle.page_format.specs.Header.{is_zeros}
@@ -23,15 +23,9 @@ NodeStands false next id page = is_zeros page ≡ true
 abbrev pub NodeStandsAt : Images → ℕ → Bool → ℕ → ℕ → Type 0
 NodeStandsAt at table formatted next n = NodeStands formatted next (index_page table n) (at (index_page table n))
 
--- the page is one of the index that isn't right, and those before it are
-pub record IsFirstWrongNode (at : Images) (table : ℕ) (formatted : Bool) (next : ℕ) (id : PageId) : Type 0 where
-  pub id_is : id ≡ index_page table id.number
-  pub wrong : NodeStandsAt at table formatted next id.number → ⊥
-  pub before : (n : ℕ) → n < id.number → NodeStandsAt at table formatted next n
-
-abbrev pub AreNodesUpTo : Images → ℕ → Bool → ℕ → ℕ → Option PageId → Type 0
-AreNodesUpTo at table formatted next end None = (n : ℕ) → n < end → NodeStandsAt at table formatted next n
-AreNodesUpTo at table formatted next end (Some id) = IsFirstWrongNode at table formatted next id
+-- the number of the last branch or leaf, at least 1
+abbrev pub last_node : ℕ → ℕ
+last_node next = if nat_lt next 2 then 1 else next - 1
 
 -- all pages of the index are zeros
 abbrev pub IsUnformatted : Images → ℕ → Type 0
@@ -40,12 +34,6 @@ IsUnformatted at table = (n : ℕ) → is_zeros (at (index_page table n)) ≡ tr
 abbrev pub is_formatted : Images → ℕ → Bool
 is_formatted at table = not (is_zeros (at (index_page table 0)))
 
--- the index has neither no pages nor right ones, and this is the first page that isn't right
-pub record IsWrongIndex (at : Images) (table : ℕ) (id : PageId) : Type 0 where
-  pub no_zeros : IsUnformatted at table → ⊥
-  pub no_pages : AreIndexPages at table → ⊥
-  pub first : IsFirstWrongNode at table (is_formatted at table) (index_next at table) id
-
-abbrev pub IsIndexTold : Images → ℕ → Option PageId → Type 0
-IsIndexTold at table None = IsUnformatted at table ⊎ AreIndexPages at table
-IsIndexTold at table (Some id) = IsWrongIndex at table id
+-- each page stands exactly where the index has no pages, or right ones
+abbrev pub StandsIsIndex : Type 0
+StandsIsIndex = (at : Images) (table : ℕ) → ((n : ℕ) → NodeStandsAt at table (is_formatted at table) (index_next at table) n) ↔ (IsUnformatted at table ⊎ AreIndexPages at table)

@@ -1,13 +1,15 @@
-//! Whether the pages of a table, of its heap and of its index, are right by themselves after log records.
+//! Whether the pages of a table, of its heap and of its index, are right by themselves, and how many of them log records make.
 #![tactic(auto)]
 
+mod blank;
 mod heap;
-mod images;
 mod index;
+mod laws;
 
-pub use heap::{find_wrong_heap_page, find_wrong_heap_page_by};
-pub use images::image_of;
-pub use index::{find_wrong_index_page, find_wrong_index_page_by};
+pub use blank::is_blank;
+pub use heap::{heap_end, heap_page_stands};
+pub use index::{index_end, index_page_stands};
+pub use laws::stands_laws;
 
 #[cfg(test)]
 mod tests;

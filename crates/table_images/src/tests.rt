@@ -1,5 +1,6 @@
 use super::*;
-use ds_base::{PageId, TableId};
+use ds_base::TableId;
+use page_format::Page;
 use std::test::Fail;
 
 #[test]
@@ -7,9 +8,12 @@ fn no_records_leave_no_pages(rt: HostRuntime) -> Result<(), Fail> {
     let alloc = rt.alloc();
     let table = TableId::new(1).ok_or("a table")?;
     let records = Vec::new(alloc);
-    assert_eq!(rt; find_wrong_heap_page(alloc, table, &records)?, None);
-    assert_eq!(rt; find_wrong_index_page(alloc, table, &records)?, None);
-    let id = PageId { set: 1, number: 0 };
-    assert!(rt; image_of(alloc, id, &records)?.lrsn().number() == 0);
+    let page = Page::zero(alloc)?;
+    assert!(rt;
+        is_blank(&page)
+            && heap_page_stands(&page, table.heap_page(0), 0, 0)
+            && index_page_stands(&page, table.index_page(0), false, 0)
+    );
+    assert!(rt; heap_end(table, &records, 0) == 1 && index_end(table, &records, 0) == 2);
     Ok(())
 }

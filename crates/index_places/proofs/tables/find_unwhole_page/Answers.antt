@@ -1,8 +1,17 @@
-use Rattle.std.proofs.Common.{List, sym, subst}
-use Rattle.page_chain.specs.Chains.{images_of}
-use Rattle.index_places.specs.declared.slots.Given.{Given}
-use Rattle.index_places.specs.Placing.{AreGiven}
+use Rattle.index_places.proofs.Told.{Laws, is_heap, heap_named, table_told}
 use Rattle.index_places.proofs.tables.find_unwhole_page.Goals as goal
 
-pub find_wrong_index-requires-clause-given : goal.find_wrong_index-requires-clause-given
-find_wrong_index-requires-clause-given c = subst (λ (gs : List Given). AreGiven (images_of c.args.records.now) c.args.table gs) (sym c.deref.ensures.value) c.in_ok-given.ensures
+pub given_in-requires-clause-heap : goal.given_in-requires-clause-heap
+given_in-requires-clause-heap c =
+    let laws : Laws = record { heap = c.stands_laws.ensures.heap; index = c.stands_laws.ensures.index; linked = c.linked_laws.ensures; others = c.chain_laws.ensures.others; zeros = c.header_laws.ensures.zeros.2 4 } in
+    is_heap laws c.args.records.now c.args.table c.in_ok-id.field-0 c.in_default.is c.in_ok-id.ensures
+
+pub returns-in-Some : goal.returns-in-Some
+returns-in-Some c =
+    let laws : Laws = record { heap = c.stands_laws.ensures.heap; index = c.stands_laws.ensures.index; linked = c.linked_laws.ensures; others = c.chain_laws.ensures.others; zeros = c.header_laws.ensures.zeros.2 4 } in
+    heap_named laws c.args.records.now c.args.table c.in_ok-id.field-0 c.in-Some.id c.in-Some.is c.in_ok-id.ensures
+
+pub returns : goal.returns
+returns c =
+    let laws : Laws = record { heap = c.stands_laws.ensures.heap; index = c.stands_laws.ensures.index; linked = c.linked_laws.ensures; others = c.chain_laws.ensures.others; zeros = c.header_laws.ensures.zeros.2 4 } in
+    table_told laws c.args.records.now c.args.table c.in_ok-id.field-0 c.find_wrong_index_page.result c.in_default.is c.in_ok-id.ensures c.find_wrong_index_page.ensures
