@@ -6,7 +6,7 @@ ghost use Rattle.page_chain.specs.Chains.{images_of};
 ghost use Rattle.page_records.specs.Places.{by_page};
 ghost use Rattle.sound_disk.specs.Indexes.{IsNodePage};
 ghost use Rattle.index_links.specs.Links.{rights_from};
-ghost use Rattle.index_places.specs.Placing.{AreGiven};
+ghost use Rattle.index_places.specs.Placing.{AreGiven, AreByKey};
 ghost use Rattle.index_places.specs.Trees.{node_passes, Passes};
 ghost use Rattle.index_places.specs.Whole.{IsIndexFound};
 
@@ -30,6 +30,7 @@ fn node_passes(
     page: &Page,
 ) -> Result<bool, NoMemory>
     requires rights { tree.now.rights ≡ rights_from table finite.empty tree.now.nodes.items }
+    requires order { AreByKey tree.now.given.items }
     requires page { IsNodePage id page.now }
     ensures { IfOk result (λ passes. passes ≡ node_passes tree.now table id.number page.now) }
 {
@@ -47,6 +48,7 @@ fn passes(
     page: &Page,
 ) -> Result<bool, NoMemory>
     requires rights { tree.now.rights ≡ rights_from table finite.empty tree.now.nodes.items }
+    requires order { AreByKey tree.now.given.items }
     ensures { IfOk result (λ passes. IsTrue passes ↔ Passes tree.now table id page.now) }
 {
     if !index_page_stands(page, id, tree.formatted, tree.next) {
@@ -61,12 +63,13 @@ fn passes(
     node_passes(alloc, table, tree, id, page)
 }
 
-/// The first page of the table's index that isn't right, where these slots of its heap were given: by itself, in its links,
+/// The first page of the table's index that isn't right, where these slots of its heap were given, in the order of their keys: by itself, in its links,
 /// entries or place in the row of leaves, or as a leaf that doesn't have exactly the places of its keys. Of an index that isn't
 /// formatted though slots were given page 1 isn't right. `changed` are the pages that the records change.
 ///
 /// It goes over all records twice, and over the pages up to the last one that they change. Each takes time in the logarithm of
-/// the number of these pages, and in the number of its own records; a leaf takes time in the number of the slots too.
+/// the number of these pages, and in the number of its own records; a leaf takes time in the logarithm of the number of the slots
+/// too, and in the number of those that were given to its keys.
 pub fn find_wrong_index_page(
     alloc: Global,
     table: TableId,
@@ -77,6 +80,7 @@ pub fn find_wrong_index_page(
     requires allowed { AllByRecursion IsAllowed records.now }
     requires changed_pages { changed.now ≡ by_page records.now }
     requires given { AreGiven (images_of records.now) table given.items }
+    requires order { AreByKey given.items }
     ensures { IfOk result (λ found. IsIndexFound (images_of records.now) records.now table found) }
 {
     let tree = read_tree(alloc, table, records, changed, given)?;
