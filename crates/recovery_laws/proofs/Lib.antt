@@ -1,3 +1,4 @@
 pub mod Reached
 pub mod Unhindered
+pub mod Had
 pub mod Sounds

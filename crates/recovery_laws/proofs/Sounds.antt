@@ -1,26 +1,20 @@
 -- A recovery leaves a sound disk where the other pages are those of one.
-use Rattle.std.proofs.Common.{◌≡◌, ℕ, zero, suc, ◌+◌, ◌-◌, ◌<◌, ◌≤◌, Bool, true, false, cond, List, [], ◌∷◌, ◌++◌, length, Result, Ok, Err, refl, sym, ap, subst, ◌∙◌, inl, inr, arith}
+use Rattle.std.proofs.Common.{◌≡◌, ℕ, zero, suc, ◌+◌, ◌-◌, ◌<◌, ◌≤◌, Bool, true, false, cond, List, [], ◌∷◌, Result, Ok, Err, refl, sym, ap, subst, ◌∙◌, inl, inr, arith}
 use Rattle.std.specs.Prelude.{◌⊎◌, ◌||◌, ◌&&◌, ◌==◌, nat_lt, nat_le, not, filter, map}
 use Rattle.std.specs.List.{list_any, list_all, AllByRecursion}
 use Rattle.std.proofs.lemmas.Bool.Decides.{nat_tests}
 use Rattle.std.proofs.lemmas.List.{append-nil}
-use Rattle.ds_base.specs.Ids.{IsTable}
 use Rattle.ds_base.specs.Pages.{same_page, heap_set, index_set, heap_page, index_page}
 use Rattle.ds_base.specs.declared.names.PageId.{PageId}
 use Rattle.ds_disk.specs.Contents.{Contents}
 use Rattle.ds_disk.specs.Pages.{page_at}
-use Rattle.ds_model.specs.RecordBytes.{IsAllowed}
 use Rattle.ds_model.specs.declared.log.LogRecord.{LogRecord}
 use Rattle.ds_model.specs.declared.log.Body.{Body}
 use Rattle.ds_model.specs.declared.log.Body.TheVariants as body
 use Rattle.log_merge.specs.Merging.{is_merged, kept, all_records, in_order, NoneFalls, StandsIn, KeepsOrders}
 use Rattle.log_record.specs.declared.log.Log.{Log}
-use Rattle.page_chain.specs.Chains.{changes_of, touches, after_record, version_from, version_of, AreInOrder, AreRecords}
-use Rattle.page_chain.proofs.Others.{Stamping, record_within, record_whole, record_stamps}
-use Rattle.page_chain.proofs.Order.{number_after, number_rises}
-use Rattle.heap_space.specs.Written.{after_patch, written}
-use Rattle.page_format.specs.Fields.{lrsn_of, is_old, renewed, patched, set_version, set_lrsn}
-use Rattle.page_format.proofs.Stamps.{length_patched}
+use Rattle.page_chain.specs.Chains.{changes_of, touches, AreRecords}
+use Rattle.page_format.specs.Fields.{lrsn_of, renewed}
 use Rattle.page_format.specs.Header.{is_zeros, header_of, first_fault, fields, header_in, empty_header, judged}
 use Rattle.page_format.specs.declared.header.Header.{Header}
 use Rattle.page_format.specs.declared.header.NotAPage.{NotAPage}
@@ -28,26 +22,24 @@ use Rattle.page_format.specs.declared.header.PageKind.{PageKind}
 use Rattle.page_format.specs.declared.header.PageKind.TheVariants as kind
 use Rattle.page_format.specs.declared.patch.Patch.{Patch}
 use Rattle.page_images.specs.Images.{Images, zeros}
-use Rattle.page_images.specs.Parts.{AreWithin}
 use Rattle.page_records.specs.declared.places.PageRecords.{PageRecords}
 use Rattle.page_records.specs.Places.{by_page}
 use Rattle.page_redo.specs.Forward.{ReachesLast}
 use Rattle.page_redo.specs.Pages.{has_page}
-use Rattle.sound_disk.specs.Checkpoints.{next_place, start_of, records_before, is_in_pages, changes_pages, is_done, IsCheckpointed, AreCheckpointed}
+use Rattle.sound_disk.specs.Checkpoints.{next_place, start_of, records_before, is_in_pages, changes_pages, is_done, AreCheckpointed}
 use Rattle.sound_disk.specs.Heaps.{IsHeap, heap_last}
-use Rattle.sound_disk.specs.Indexes.{AreIndexPages, IsNodePage, index_next, IsBranchPage, IsLeafPage}
+use Rattle.sound_disk.specs.Indexes.{AreIndexPages, IsNodePage, index_next}
 use Rattle.sound_disk.specs.Laws.{AreRead, AreMerged}
 use Rattle.sound_disk.specs.Layouts.{IsOfKind}
 use Rattle.sound_disk.specs.Settled.{has_ended}
-use Rattle.sound_disk.specs.Sound.{IsSoundWith}
 use Rattle.sound_disk.specs.Tables.{HasNoIndex, IsWholeIndex, IsWholeTable}
-use Rattle.sound_disk.specs.Versions.{is_page, current, merged, last_images, MayStand}
+use Rattle.sound_disk.specs.Versions.{is_page, merged, last_images, MayStand}
 use Rattle.sound_disk.specs.Whole_logs.{AreWholeLogs}
 use Rattle.table_image_text.specs.Image.{heap_in, index_in, page_name}
 use Rattle.copy_recover.specs.Recovered.{is_of_table, is_more, holds, names_in, more_names, written_names}
-use Rattle.copy_recover.specs.Recovering.{IsRecovered}
 use Rattle.recovery_laws.specs.Laws.{AreRecovered, LeavesSound}
 use Rattle.copy_recover.proofs.Name_lists.{decide, either, has_both, has_one, same_name}
+use Rattle.recovery_laws.proofs.Had.{Stamping, IsHad, all_had, new_from}
 use Rattle.recovery_laws.proofs.Reached.{recovers_last}
 
 -- ---- tests
@@ -93,62 +85,6 @@ is_above m n h = grind (arith, nat_tests)
 
 itself : (id : PageId) → same_page id id ≡ true
 itself id = and_true (id.set == id.set) (id.number == id.number) (eq_self id.set) (eq_self id.number)
-
--- ---- the last version has each change, and is of the version that is written
-
-had_from : Stamping → (end low : ℕ) (rs : List LogRecord) (id : PageId) (page : List ℕ) → AllByRecursion IsAllowed rs → AreInOrder low rs → length page ≡ 4096 → lrsn_of page ≤ low → lrsn_of (version_from id page rs) ≡ end
-    → AllByRecursion (λ (r : LogRecord). touches id r ≡ true → r.lrsn ≤ end) rs
-had_from s end low [] id page allowed order whole le is = tt
-had_from s end low (r ∷ rs) id page allowed order whole le is =
-    let both = number_after s low r id page allowed.0 whole order.0 le in
-    let still = record_whole s r id page allowed.0 whole in
-    let rest = number_rises s r.lrsn rs id (after_record id page r) allowed.1 order.1 still both.1 in (
-      λ t. let has = record_stamps s r id page allowed.0 whole t in omega (arith, has, rest, is),
-      had_from s end r.lrsn rs id (after_record id page r) allowed.1 order.1 still both.1 is,
-    )
-
-stamp_new : (page : List ℕ) (lrsn : ℕ) → 6 ≤ length page → is_old (set_lrsn page lrsn) ≡ false
-unfolding set_lrsn set_version patched
-stamp_new [] lrsn le = absurd (let none : ⊥ = omega (arith, le) in none)
-stamp_new (a ∷ []) lrsn le = absurd (let none : ⊥ = omega (arith, le) in none)
-stamp_new (a ∷ b ∷ []) lrsn le = absurd (let none : ⊥ = omega (arith, le) in none)
-stamp_new (a ∷ b ∷ c ∷ []) lrsn le = absurd (let none : ⊥ = omega (arith, le) in none)
-stamp_new (a ∷ b ∷ c ∷ d ∷ []) lrsn le = absurd (let none : ⊥ = omega (arith, le) in none)
-stamp_new (a ∷ b ∷ c ∷ d ∷ e ∷ []) lrsn le = absurd (let none : ⊥ = omega (arith, le) in none)
-stamp_new (a ∷ b ∷ c ∷ d ∷ e ∷ f ∷ page) lrsn le = refl
-
--- a page that was stamped, or not
-record IsNew (page : List ℕ) : Type 0 where
-  whole : length page ≡ 4096
-  new : is_old page ≡ false
-
-patch_new : Stamping → (b : Bool) (lrsn : ℕ) (p : Patch) (page : List ℕ) → p.offset + length p.bytes ≤ 4096 → IsNew page → IsNew (cond b (after_patch lrsn page p) page)
-patch_new s true lrsn p page lies h =
-    let whole = h.whole in
-    let same = length_patched page p.bytes p.offset (omega (arith, lies, whole)) in
-    record { whole = s.whole lrsn page (p ∷ []) h.whole (lies, tt); new = stamp_new (patched page p.offset p.bytes) lrsn (omega (arith, same, whole)) }
-patch_new s false lrsn p page lies h = h
-
-patches_new : Stamping → (id : PageId) (lrsn : ℕ) (ps : List Patch) (page : List ℕ) → AreWithin ps → IsNew page → IsNew (written id lrsn ps page)
-patches_new s id lrsn [] page lie h = h
-patches_new s id lrsn (p ∷ ps) page lie h = patches_new s id lrsn ps (cond (same_page p.page id) (after_patch lrsn page p) page) lie.1 (patch_new s (same_page p.page id) lrsn p page lie.0 h)
-
-new_from : Stamping → (rs : List LogRecord) (id : PageId) (page : List ℕ) → AllByRecursion IsAllowed rs → IsNew page → IsNew (version_from id page rs)
-new_from s [] id page allowed h = h
-new_from s (r ∷ rs) id page allowed h = new_from s rs id (after_record id page r) allowed.1 (patches_new s id r.lrsn (changes_of r.body) page (record_within r allowed.0) h)
-
--- the last version of each page that the record changes has its change
-abbrev IsHad : List LogRecord → LogRecord → Type 0
-IsHad all r = (id : PageId) → touches id r ≡ true → r.lrsn ≤ lrsn_of (version_of id all)
-
-for_each : (all rs : List LogRecord) → ((id : PageId) → AllByRecursion (λ (r : LogRecord). touches id r ≡ true → r.lrsn ≤ lrsn_of (version_of id all)) rs) → AllByRecursion (IsHad all) rs
-for_each all [] h = tt
-for_each all (r ∷ rs) h = (λ id. (h id).0, for_each all rs (λ id. (h id).1))
-
-all_had : Stamping → (all : List LogRecord) → AreRecords all → AllByRecursion (IsHad all) all
-all_had s all are =
-    let zero_is : lrsn_of zeros ≡ 0 = s.zero.1 in
-    for_each all all (λ id. had_from s (lrsn_of (version_of id all)) 0 all id zeros are.0 are.1 s.zero.0 (omega (arith, zero_is)) refl)
 
 -- ---- in each log
 
@@ -326,9 +262,9 @@ has_header at records table id whole h =
 
 -- ---- the disk behind it
 
-last_stands : Stamping → (logs : List Log) (table : ℕ) (id : PageId) → AreRecords (merged logs) → is_old zeros ≡ false → IsWholeTable (last_images logs) (merged logs) table → is_of_table table id ≡ true → MayStand logs id (last_images logs id)
-last_stands s logs table id are new whole is =
-    let last = new_from s (merged logs) id zeros are.0 (record { whole = s.zero.0; new = new }) in
+last_stands : Stamping → (logs : List Log) (table : ℕ) (id : PageId) → AreRecords (merged logs) → IsWholeTable (last_images logs) (merged logs) table → is_of_table table id ≡ true → MayStand logs id (last_images logs id)
+last_stands s logs table id are whole is =
+    let last = new_from s (merged logs) id zeros are.0 (record { whole = s.zeros_whole; new = s.zeros_new }) in
     record {
       header = has_header (last_images logs) (merged logs) table id whole is;
       version = record {
@@ -370,8 +306,8 @@ keeps_logs s c d logs names (l ∷ ls) made had = (keeps_all s c d logs names l.
 abbrev pub KeepsOrder : Type 0
 KeepsOrder = (logs : List Log) → NoneFalls logs → KeepsOrders logs (in_order (all_records logs))
 
-pub leaves_sound : Stamping → KeepsOrder → is_old zeros ≡ false → ReachesLast → AreRead → AreMerged → LeavesSound
-leaves_sound stamping orders new last read are_merged s c d image table pages logs of_table sound same versions others recovered =
+pub leaves_sound : Stamping → KeepsOrder → ReachesLast → AreRead → AreMerged → LeavesSound
+leaves_sound stamping orders last read are_merged s c d image table pages logs of_table sound same versions others recovered =
     let names = written_names image table (merged logs) in
     let whole : AreWholeLogs 1 c.logs logs = subst (λ (b : List (List ℕ)). AreWholeLogs 1 b logs) (sym same) sound.whole_logs in
     let are : AreRecords (merged logs) = are_merged s.logs logs sound.whole_logs sound.transactions in
@@ -386,7 +322,7 @@ leaves_sound stamping orders new last read are_merged s c d image table pages lo
       transactions = sound.transactions;
       versions = λ id.
           page_stands logs id (has_page (written_names image table (merged logs)) id) (last_images logs id) (page_at c.pages id) (page_at d.pages id) (made.reached.pages id)
-          (λ e. last_stands stamping logs table id are new (sound.tables.tables table of_table) (written_of_table image table (merged logs) id e))
+          (λ e. last_stands stamping logs table id are (sound.tables.tables table of_table) (written_of_table image table (merged logs) id e))
           (λ e. subst (MayStand logs id) (sym (others id e)) (sound.versions id));
       tables = sound.tables;
       turns = sound.turns;

@@ -1,17 +1,15 @@
 -- Over the logs of a sound disk a recovery from versions meets no damage.
-use Rattle.std.proofs.Common.{◌≡◌, ℕ, zero, suc, ◌+◌, ◌-◌, ◌<◌, ◌≤◌, Bool, true, false, cond, List, [], ◌∷◌, ◌++◌, length, get_or, Option, Some, None, Result, Ok, Err, refl, sym, ap, subst, ◌∙◌, arith}
-use Rattle.std.specs.Prelude.{◌⊎◌, ◌||◌, ◌&&◌, ◌==◌, nat_lt, slice_index}
+use Rattle.std.proofs.Common.{◌≡◌, ℕ, zero, suc, ◌+◌, ◌-◌, ◌<◌, ◌≤◌, Bool, true, false, cond, List, [], ◌∷◌, length, get_or, Option, Some, None, Result, Ok, Err, refl, sym, ap, subst, ◌∙◌, inl, inr, arith}
+use Rattle.std.specs.Prelude.{◌&&◌, ◌==◌, nat_lt, slice_index}
 use Rattle.std.proofs.lemmas.Bool.Decides.{nat_tests}
 use Rattle.ds_base.specs.Pages.{heap_set, index_set, heap_page, index_page}
 use Rattle.ds_base.specs.declared.names.PageId.{PageId}
-use Rattle.ds_base.specs.declared.names.Volume.{Volume}
-use Rattle.ds_disk.specs.Contents.{Contents, log_of}
+use Rattle.ds_disk.specs.Contents.{Contents}
 use Rattle.ds_model.specs.declared.log.LogRecord.{LogRecord}
 use Rattle.log_record.specs.declared.log.Log.{Log}
-use Rattle.log_record.specs.Logs.{parts_in, parts_up_to, parts_of}
+use Rattle.log_record.specs.Logs.{parts_in, parts_up_to}
 use Rattle.log_record.specs.Reading.{record_in}
 use Rattle.log_trans.specs.Damage.{log_damage}
-use Rattle.log_trans.specs.declared.damage.Damaged.{Damaged}
 use Rattle.page_chain.specs.Chains.{IsVersion, AreRecords}
 use Rattle.page_format.specs.Fields.{version_at, lrsn_at, lrsn_of, is_old, renewed, page_size}
 use Rattle.page_format.specs.Header.{header_of, empty_header}
@@ -29,12 +27,12 @@ use Rattle.sound_redo.proofs.Forwards.{IsKnown, redo_finds_nothing}
 use Rattle.table_image_text.specs.Faults.{or_else, name_fault, lrsn_fault, counts_fault, behind, fault_in_page, fault_in_pages, end_fault, pages_fault, image_fault}
 use Rattle.table_image_text.specs.Image.{heap_in, index_in, page_name, place_of, page_in}
 use Rattle.table_image_text.specs.Pages.{header_fault, earlier, page_fault, fault_up_to}
-use Rattle.copy_recover.specs.Recovered.{is_held_of, holds, place_in, taken_from, written_names, recovered}
-use Rattle.copy_recover.specs.Recovering.{AreLogsOf, greatest_of, IsTakenWith, IsLogDamage, IsInTheWay, IsDamage}
+use Rattle.copy_recover.specs.Recovered.{is_held_of, holds, place_in, taken_from, recovered}
+use Rattle.copy_recover.specs.Recovering.{greatest_of, IsLogDamage}
 use Rattle.recovery_laws.specs.Laws.{HoldsVersions, MeetsNoDamage}
 use Rattle.copy_recover.proofs.Name_lists.{decide, either}
 use Rattle.copy_recover.proofs.Held.{held_is}
-use Rattle.copy_recover.proofs.Image_whole.{first_none, second_none, not_some, last_none}
+use Rattle.copy_recover.proofs.Image_whole.{first_none, second_none, last_none}
 use Rattle.recovery_laws.proofs.Reached.{same_logs, is_version}
 
 -- ---- the page may stand in an image

@@ -21,5 +21,4 @@ pub fn recovery_laws()
     page_chain::redo_laws();
     page_images::header_laws();
     page_images::front_laws();
-    page_images::written_laws();
 }

@@ -25,10 +25,14 @@ pub returns-clause-sound : goal.returns-clause-sound
 returns-clause-sound c =
     leaves_sound
     (record {
-      free = c.written_laws.ensures.free;
-      stamped = c.written_laws.ensures.stamped;
+      known = record {
+        grows = c.chain_laws.ensures.grows;
+        others = c.chain_laws.ensures.others;
+        number = c.redo_laws.ensures.number;
+        zero = c.header_laws.ensures.zeros.3 lrsn_at (width_in zeros);
+      };
       whole = c.front_laws.ensures.all_whole;
-      lrsn = c.front_laws.ensures.all_lrsn;
-      zero = (c.header_laws.ensures.zeros.1, c.header_laws.ensures.zeros.3 lrsn_at (width_in zeros));
+      zeros_whole = c.header_laws.ensures.zeros.1;
+      zeros_new = ap (λ (n : ℕ). n == 1) (c.header_laws.ensures.zeros.2 version_at);
     })
-    c.merging_laws.ensures.orders (ap (λ (n : ℕ). n == 1) (c.header_laws.ensures.zeros.2 version_at)) c.forward_laws.ensures.last c.log_laws.ensures.read c.page_laws.ensures.merged
+    c.merging_laws.ensures.orders c.forward_laws.ensures.last c.log_laws.ensures.read c.page_laws.ensures.merged
