@@ -17,7 +17,7 @@ use Rattle.sound_disk.specs.Whole_logs.{AreWholeLogs}
 use Rattle.sound_disk.specs.Transactions.{AreTransactions}
 use Rattle.sound_disk.specs.Versions.{merged}
 use Rattle.sound_disk.specs.Checkpoints.{AreCheckpointed}
-use Rattle.sound_disk.specs.Tables.{AreWholeTables, AreTables}
+use Rattle.sound_disk.specs.Tables.{AreTables}
 use Rattle.sound_disk.specs.Turns.{ChangeInTurn}
 use Rattle.fitting_records.specs.Breaches.{IsRecordOf, IsFirstBreach}
 use Rattle.disk_logs.specs.Broken.{IsFirstBroken}
@@ -60,12 +60,15 @@ whole_some records found id told is =
     (λ w. first.unwhole (w.tables first.table first.is_table), inl first)
 
 -- the same of the merged records of logs
-pub whole_tables : (logs : List Log) (records : List LogRecord) (page : Option PageId) → records ≡ merged logs → AreTablesJudged records page → page ≡ None → AreTables logs
-whole_tables logs records page are told is = subst (λ (rs : List LogRecord). AreWholeTables rs) are (subst (λ (p : Option PageId). AreTablesJudged records p) is told)
+pub merged_judged : {E : Type 0} (logs : List Log) (records : List LogRecord) (result : Result (Option PageId) E) → records ≡ merged logs → IfOk result (λ found. AreTablesJudged records found)
+    → IfOk result (λ found. AreTablesJudged (merged logs) found)
+merged_judged logs records result are told = subst (λ (rs : List LogRecord). IfOk result (λ found. AreTablesJudged rs found)) are told
 
-pub wrong_tables : (logs : List Log) (records : List LogRecord) (page : Option PageId) (id : PageId) → records ≡ merged logs → AreTablesJudged records page → page ≡ Some id
-    → (AreTables logs → ⊥) × IsTablesPage (merged logs) id
-wrong_tables logs records page id are told is = subst (λ (rs : List LogRecord). AreTablesJudged rs (Some id)) are (subst (λ (p : Option PageId). AreTablesJudged records p) is told)
+pub whole_tables : (logs : List Log) (page : Option PageId) → AreTablesJudged (merged logs) page → page ≡ None → AreTables logs
+whole_tables logs page told is = subst (λ (p : Option PageId). AreTablesJudged (merged logs) p) is told
+
+pub wrong_tables : (logs : List Log) (page : Option PageId) (id : PageId) → AreTablesJudged (merged logs) page → page ≡ Some id → (AreTables logs → ⊥) × IsTablesPage (merged logs) id
+wrong_tables logs page id told is = subst (λ (p : Option PageId). AreTablesJudged (merged logs) p) is told
 
 -- ---- what was found, or nothing
 

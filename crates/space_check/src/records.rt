@@ -39,6 +39,15 @@ fn find_wrong_table(alloc: Global, records: &[LogRecord]) -> Result<Option<PageI
     }
 }
 
+// The same after the records of these logs. Merged they are held no longer than for that.
+fn find_tables_page(alloc: Global, logs: &[Log]) -> Result<Option<PageId>, NoMemory>
+    requires { AreRecords (merged logs.now) }
+    ensures { IfOk result (λ found. AreTablesJudged (merged logs.now) found) }
+{
+    let merged = merge(alloc, logs)?;
+    find_wrong_table(alloc, merged.records())
+}
+
 // The sixth clause, where the fourth and the fifth hold.
 fn check_numbers(alloc: Global, logs: &[Log]) -> Result<Option<Breach>, NoMemory>
     requires allowed { AreAllowed logs.now }
@@ -78,8 +87,7 @@ pub fn check_records(alloc: Global, logs: &[Log]) -> Result<Option<Breach>, NoMe
     requires records { AreRecords (merged logs.now) }
     ensures { IfOk result (λ found. AreRecordsJudged logs.now found) }
 {
-    let merged = merge(alloc, logs)?;
-    let page = find_wrong_table(alloc, merged.records())?;
+    let page = find_tables_page(alloc, logs)?;
     match page {
         Some(id) => Ok(Some(Breach {
             clause: Clause::Tables,
