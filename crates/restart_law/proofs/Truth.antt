@@ -1,8 +1,9 @@
 -- What is read of the own log is what the disk tells of it.
-use Rattle.std.proofs.Common.{◌≡◌, ℕ, zero, suc, ◌+◌, ◌-◌, ◌≤◌, ◌<◌, refl, sym, ◌∙◌, ap, subst, arith, Bool, true, false, inl, inr, List, [], ◌∷◌, ◌++◌, length, take, drop, Option, Some, None, Result, Ok, Err}
+use Rattle.std.proofs.Common.{◌≡◌, ℕ, get_or, lit<, zero, suc, ◌+◌, ◌-◌, ◌≤◌, ◌<◌, refl, sym, ◌∙◌, ap, subst, arith, Bool, true, false, inl, inr, List, [], ◌∷◌, ◌++◌, length, take, drop, Option, Some, None, Result, Ok, Err}
 use Rattle.std.specs.Prelude.{◌≢◌, ◌⊎◌, ◌==◌, is_none, is_some, min, nat_le, not, if◌then◌else◌, IfOk, IfSome}
-use Rattle.std.proofs.lemmas.Bool.{both_ways, cases_Bool, eqb-true, eqb-false, leb-true, leb-false}
-use Rattle.std.proofs.lemmas.List.{get_or-drop, length-drop, take_all}
+use Rattle.std.proofs.lemmas.Bool.{both_ways, cases_Bool, cases_lt, eqb-true, eqb-false, leb-true, leb-false}
+use Rattle.std.proofs.lemmas.List.{get_or-drop, get_or_past, length-drop, take-append-drop, take_all}
+use Rattle.std.proofs.Math.ListN.{get_or-append}
 use Rattle.ds_disk.specs.Answers.{Answers}
 use Rattle.ds_disk.specs.Contents.{Becomes, Contents, log_of}
 use Rattle.ds_disk.specs.declared.disk.DiskError.{DiskError}
@@ -14,6 +15,7 @@ use Rattle.log_reader.specs.Lending.{with_block}
 use Rattle.log_reader.specs.Held.{HeldState, grown, nothing_held}
 use Rattle.log_reader.specs.Keeping.{AreBytes, AreWhole, GrownIsOf, IsOf, KeepingIsOf, NothingIsOf}
 use Rattle.log_reader.specs.Readers.{ReaderState, after_count, after_reply, block_size, call_by, is_long, is_whole, parts_behind, parts_read}
+use Rattle.log_starts.specs.Starts.{BeginsAt, GrownBegins, MayBegin, NothingBegins}
 use Rattle.log_record.specs.declared.log.Log.{Log}
 use Rattle.log_record.specs.Logs.{Parts, parts_in}
 use Rattle.log_trans.specs.declared.damage.Damaged.{Damaged}
@@ -70,28 +72,36 @@ pub record Laws : Type 0 where
   pub nothing : NothingIsOf
   pub keeping : KeepingIsOf
   pub grown : GrownIsOf
+  pub nowhere : NothingBegins
+  pub starts : GrownBegins
 
 -- what is told of the length
 told_length : KeepingIsOf → (member : ℕ) (bytes : List ℕ) (r : ReaderState) → ReadsFront member bytes r → ReadsFront member bytes (after_reply r (logged.Length (length bytes)))
-told_length law member bytes r f = record { own = f.own; held = law bytes r.held (nat_le (length bytes) block_size) f.held; told = refl }
+told_length law member bytes r f = record { own = f.own; held = law bytes r.held (nat_le (length bytes) block_size) f.held; begins = f.begins; told = refl }
 
 -- a block of it, behind what was read
 drop_bytes : (k : ℕ) (bytes : List ℕ) → AreBytes bytes → AreBytes (drop k bytes)
 drop_bytes k bytes h i = subst (λ (b : ℕ). b < 256) (sym (get_or-drop k bytes i 0)) (h (k + i))
 
+take_bytes : (n : ℕ) (bytes : List ℕ) → AreBytes bytes → AreBytes (take n bytes)
+take_bytes n bytes h i = elim (cases_lt i (length (take n bytes))) [
+  | inl less ↦ subst (λ (x : ℕ). x < 256) (get_or-append (take n bytes) (drop n bytes) 0 i less) (subst (λ (t : List ℕ). get_or t i 0 < 256) (sym (take-append-drop n bytes)) (h i))
+  | inr more ↦ subst (λ (x : ℕ). x < 256) (sym (get_or_past (take n bytes) i 0 more)) (lit< tt)
+]
+
 few_of : (n most : ℕ) → n ≤ most → min n most ≡ n
 few_of n most le = omega arith
 
-told_block : GrownIsOf → (member : ℕ) (bytes : List ℕ) (r : ReaderState) (block : List ℕ) (n : ℕ) → AreBytes bytes → ReadsFront member bytes r → n ≡ min (min (min (length bytes - r.held.end) block_size) block_size) (length bytes - r.held.end)
+told_block : GrownIsOf → GrownBegins → (member : ℕ) (bytes : List ℕ) (r : ReaderState) (block : List ℕ) (n : ℕ) → AreBytes bytes → ReadsFront member bytes r → n ≡ min (min (min (length bytes - r.held.end) block_size) block_size) (length bytes - r.held.end)
     → take n block ≡ take n (drop r.held.end bytes) → ReadsFront member bytes (after_count (with_block r block) n)
-told_block law member bytes r block n are f few same = by (n == 0) refl
+told_block law starts member bytes r block n are f few same = by (n == 0) refl
   where
     short : r.held.end ≤ length bytes
     short = f.held.within
 
     by : (b : Bool) → (n == 0) ≡ b
         → ReadsFront member bytes (if b then record { member = r.member; length_told = Some r.held.end; held = r.held; block = block } else record { member = r.member; length_told = r.length_told; held = grown r.held (take (min n block_size) block); block = block })
-    by true none = let z = eqb-true n 0 none in record { own = f.own; held = f.held; told = omega arith }
+    by true none = let z = eqb-true n 0 none in record { own = f.own; held = f.held; begins = f.begins; told = omega arith }
     by false some =
         let le : r.held.end + n ≤ length bytes = omega arith in
         let most : n ≤ block_size = omega arith in
@@ -99,6 +109,7 @@ told_block law member bytes r block n are f few same = by (n == 0) refl
         record {
           own = f.own;
           held = subst (λ (z : List ℕ). IsOf bytes (grown r.held z)) (sym put) (law bytes r.held (drop r.held.end bytes) n f.held (drop_bytes r.held.end bytes are) le refl);
+          begins = subst (λ (z : List ℕ). BeginsAt (grown r.held z)) (sym put) (starts r.held (take n (drop r.held.end bytes)) f.held.bytes (take_bytes n (drop r.held.end bytes) (drop_bytes r.held.end bytes are)) f.begins);
           told = f.told;
         }
 
@@ -122,17 +133,19 @@ judged_true : (bytes : List ℕ) (s : RestartState) (log : Log) (o : Option Dama
 judged_true bytes s log None unread t last = record { reading = λ r. absurd cc; idle = λ r. absurd cc; records = λ _. last }
 judged_true bytes s log (Some d) unread t last = rest_true bytes s None unread t tt
 
-whole_true : (bytes : List ℕ) (s : RestartState) (m start : ℕ) (x : Result Parts ℕ) → s.own.is_read ≡ false → ReadsTrue bytes s → AreWhole (take start bytes) → parts_in (drop start bytes) ≡ x → ReadsTrue bytes (whole_after (with_own s (own_with s.own None)) m (parts_behind start x))
-whole_true bytes s m start (Err at) unread t whole is = rest_true bytes s None unread t tt
-whole_true bytes s m start (Ok p) unread t whole is =
+whole_true : (bytes : List ℕ) (s : RestartState) (m start : ℕ) (x : Result Parts ℕ) → s.own.is_read ≡ false → ReadsTrue bytes s → AreWhole (take start bytes) → MayBegin start (drop start bytes) → parts_in (drop start bytes) ≡ x → ReadsTrue bytes (whole_after (with_own s (own_with s.own None)) m (parts_behind start x))
+whole_true bytes s m start (Err at) unread t whole begins is = rest_true bytes s None unread t tt
+whole_true bytes s m start (Ok p) unread t whole begins is =
     let log : Log = log_from m (record { records = p.records; size = start + p.size; tail = p.tail }) in
-    judged_true bytes s log (log_damage (log ∷ [])) unread t (record { start = start; whole = whole; parts = p; told = is; are = refl })
+    judged_true bytes s log (log_damage (log ∷ [])) unread t (record { start = start; whole = whole; begins = begins; parts = p; told = is; are = refl })
 
 read_true : (bytes : List ℕ) (s : RestartState) (q : ReaderState) → s.own.is_read ≡ false → ReadsTrue bytes s → ReadsFront s.member bytes q → ReadsTrue bytes (read_after (with_own s (own_with s.own None)) q)
 read_true bytes s q unread t f = by (is_whole q) refl
   where
     by : (b : Bool) → is_whole q ≡ b → ReadsTrue bytes (if b then whole_after (with_own s (own_with s.own None)) q.member (parts_read q) else with_own (with_own s (own_with s.own None)) (own_with (with_own s (own_with s.own None)).own (Some q)))
-    by true whole = whole_true bytes s q.member q.held.start (parts_in q.held.bytes) unread t f.held.before (ap (λ (z : List ℕ). parts_in z) (sym (all_held bytes q.held f.held (read_to_end s.member bytes q f whole))))
+    by true whole =
+        let all : q.held.bytes ≡ drop q.held.start bytes = all_held bytes q.held f.held (read_to_end s.member bytes q f whole) in
+        whole_true bytes s q.member q.held.start (parts_in q.held.bytes) unread t f.held.before (subst (λ (z : List ℕ). MayBegin q.held.start z) all f.begins) (ap (λ (z : List ℕ). parts_in z) (sym all))
     by false more = rest_true bytes s (Some q) unread t f
 
 replied : (bytes : List ℕ) (s : RestartState) (o : Option ReaderState) (answer : LogReply) → s.own.is_read ≡ false → ReadsTrue bytes s → IfSome o (λ r. ReadsFront s.member bytes (after_reply r answer)) → ReadsTrue bytes (reader_after s o answer)
@@ -347,10 +360,10 @@ asked bytes member at count r f e = by r.length_told f.told e
     by None told is = absurd (length_call at count is)
     by (Some long) told is = let c = same_call at count r.held.end long is in (c.0, c.1 ∙ ap (λ (z : ℕ). min (z - r.held.end) block_size) told)
 
-read_goes : GrownIsOf → (bytes : List ℕ) (w v : Drive) (h after k : Held) (at count : ℕ) (done : Result Got DiskError) (o : Option ReaderState) → h.marks.own.reader ≡ o → h.marks.own.is_read ≡ false → next_in o ≡ Some (call.Read at count) → StillReads bytes w h.marks
+read_goes : GrownIsOf → GrownBegins → (bytes : List ℕ) (w v : Drive) (h after k : Held) (at count : ℕ) (done : Result Got DiskError) (o : Option ReaderState) → h.marks.own.reader ≡ o → h.marks.own.is_read ≡ false → next_in o ≡ Some (call.Read at count) → StillReads bytes w h.marks
     → ReadsBy o w h at count done v after → WasGot after k (sent.ReadLog at count) done → StillReads bytes v k.marks
-read_goes law bytes w v h after k at count done None there unread next st r g = absurd cc
-read_goes law bytes w v h after k at count done (Some reader) there unread next st r g = by g.got g.ok g.is
+read_goes law starts bytes w v h after k at count done None there unread next st r g = absurd cc
+read_goes law starts bytes w v h after k at count done (Some reader) there unread next st r g = by g.got g.ok g.is
   where
     front : ReadsFront h.marks.member bytes reader
     front = subst (λ (z : Option ReaderState). IfSome z (ReadsFront h.marks.member bytes)) there (st.reads.reading unread)
@@ -365,7 +378,7 @@ read_goes law bytes w v h after k at count done (Some reader) there unread next 
     mid = (with_reader h (with_block reader r.block)).marks
 
     lent : ReadsTrue bytes mid
-    lent = rest_true bytes h.marks (Some (with_block reader r.block)) unread st.reads (record { own = front.own; held = front.held; told = front.told })
+    lent = rest_true bytes h.marks (Some (with_block reader r.block)) unread st.reads (record { own = front.own; held = front.held; begins = front.begins; told = front.told })
 
     counted : (n : ℕ) → done ≡ Ok (got.Count n) → k ≡ got_after after (sent.ReadLog at count) (got.Count n) → StillReads bytes v k.marks
     counted n ok is =
@@ -376,7 +389,7 @@ read_goes law bytes w v h after k at count done (Some reader) there unread next 
         let same : take n r.block ≡ take n (drop reader.held.end bytes) = t.2.1.1 ∙ (ap (λ (z : List ℕ). take n (drop at z)) l.log ∙ ap (λ (z : ℕ). take n (drop z bytes)) call_is.0) in
         let marks : k.marks ≡ read_on_after mid (logged.Count n) = ap (λ (z : Held). z.marks) is ∙ ap (λ (z : Held). read_on_after z.marks (logged.Count n)) r.held in
         left_as bytes st.are w v h.marks k.marks (read_on_after mid (logged.Count n)) l (t.0, t.1, t.2.0) marks (replied_member mid (Some (with_block reader r.block)) (logged.Count n))
-        (replied bytes mid (Some (with_block reader r.block)) (logged.Count n) unread lent (told_block law h.marks.member bytes reader r.block n st.are front few same))
+        (replied bytes mid (Some (with_block reader r.block)) (logged.Count n) unread lent (told_block law starts h.marks.member bytes reader r.block n st.are front few same))
 
     other : (x : Got) → done ≡ Ok x → (IsCount x (λ n. (n ≡ min (min count block_size) (length (log_of l.contents.logs h.marks.member) - at)) × (take n r.block ≡ take n (drop at (log_of l.contents.logs h.marks.member)))) → ⊥) → StillReads bytes v k.marks
     other x ok never =
@@ -449,7 +462,7 @@ runs_true laws bytes u v h k i (sent.Command c) a said lawful well fits o st r =
     (from_marks h r.0.after i (sent.Command c) r.0.answer (same_marks h r.0.after (is_hand h c) (lent_bytes r.0.after (is_hand h c)) r.0.gives.executed.back) lawful) o st)
 runs_true laws bytes u v h k i sent.LogLength a said lawful well fits o st r = length_goes laws.keeping bytes u.drive v.drive h k a said well fits st r.0
 runs_true laws bytes u v h k i (sent.ReadLog at count) a said lawful well fits o st r =
-    read_goes laws.grown bytes u.drive v.drive h r.0.after k at count r.0.done h.marks.own.reader refl fits.0 fits.1 st r.0.calls (was_got r.0.after k (sent.ReadLog at count) r.0.done a said well r.0.stores)
+    read_goes laws.grown laws.starts bytes u.drive v.drive h r.0.after k at count r.0.done h.marks.own.reader refl fits.0 fits.1 st r.0.calls (was_got r.0.after k (sent.ReadLog at count) r.0.done a said well r.0.stores)
 runs_true laws bytes u v h k i (sent.CutLog long) a said lawful well fits o st r =
     after_read bytes st.are v.drive h.marks r.0.after k (sent.CutLog long) r.0.done (λ (z : RestartState). tail_cut z) fits o (ap (λ (z : Held). z.marks) r.0.calls.1) st.reads (was_got r.0.after k (sent.CutLog long) r.0.done a said well r.0.stores) refl refl refl
 runs_true laws bytes u v h k i sent.AppendLog a said lawful well fits o st r =
@@ -462,8 +475,8 @@ reads_stay law laws bytes u v h k x a e well o st =
     still_as bytes v.drive v.drive e.after.marks k.marks refl (locals e.after.marks k.marks e.ends.0) (runs_keep law u v h e.after e.intent x a e.said e.lawful e.runs o) mid
 
 -- ---- the begin
-pub reads_begin : NothingIsOf → ReadsBegin
-reads_begin law member bytes s f = record {
+pub reads_begin : NothingIsOf → NothingBegins → ReadsBegin
+reads_begin law starts member bytes s f = record {
   reading = λ _. subst (λ (z : ℕ). IfSome s.own.reader (ReadsFront z bytes)) (sym (ap (λ (z : RestartState). z.member) f.rest)) (by s.own.reader f.own.reader);
   idle = λ _. ap (λ (z : RestartState). z.log.pending) f.rest;
   records = λ r. absurd (both_ways s.own.is_read (ap (λ (z : OwnState). z.is_read) f.own.rest) r);
@@ -474,5 +487,6 @@ reads_begin law member bytes s f = record {
     by (Some r) new = record {
       own = new.member_is;
       held = subst (λ (z : HeldState). IsOf bytes z) (sym new.nothing) (law bytes false);
+      begins = subst (λ (z : HeldState). BeginsAt z) (sym new.nothing) (starts false);
       told = subst (λ (z : Option ℕ). IfSome z (λ long. long ≡ length bytes)) (sym new.length_unknown) tt;
     }

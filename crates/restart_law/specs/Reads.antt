@@ -4,6 +4,7 @@ use Rattle.ds_disk.specs.Contents.{Contents, log_of}
 use Rattle.ds_model.specs.declared.log.LogRecord.{LogRecord}
 use Rattle.log_reader.specs.Keeping.{AreBytes, AreWhole, IsOf}
 use Rattle.log_reader.specs.Readers.{ReaderState}
+use Rattle.log_starts.specs.Starts.{BeginsAt, MayBegin}
 use Rattle.log_record.specs.Logs.{Parts, parts_in}
 use Rattle.member_intents.specs.declared.outcome.Answered.{Answered}
 use Rattle.member_intents.specs.declared.outcome.Answered.TheVariants as answered
@@ -14,16 +15,20 @@ use Rattle.restart_resources.specs.Events.{Happens, World}
 use Rattle.restart_resources.specs.Held.{Held}
 use Rattle.restart_law.specs.Opens.{OpensStand}
 
--- what is kept are bytes of these, behind whole records of them, and their number is the one that was told, if one was
+-- what is kept are bytes of these, behind whole records of them, from the first on or from a Checkpoint that names its place; and their number
+-- is the one that was told, if one was
 pub record ReadsFront (member : ℕ) (bytes : List ℕ) (r : ReaderState) : Type 0 where
   pub own : r.member ≡ member
   pub held : IsOf bytes r.held
+  pub begins : BeginsAt r.held
   pub told : IfSome r.length_told (λ long. long ≡ length bytes)
 
--- the records are those of the bytes from this one on, before which whole records stand
+-- The records are those of the bytes from this one on, before which whole records stand: it is the first, or a Checkpoint begins there that names
+-- it.
 pub record AreLast (bytes : List ℕ) (records : List LogRecord) : Type 0 where
   pub start : ℕ
   pub whole : AreWhole (take start bytes)
+  pub begins : MayBegin start (drop start bytes)
   pub parts : Parts
   pub told : parts_in (drop start bytes) ≡ Ok parts
   pub are : records ≡ parts.records

@@ -19,6 +19,7 @@ ghost use Rattle.restart_law.specs.Reads.{ReadsBegin, ReadsStay};
 
 use log_reader::reader_laws;
 use log_rows::{both_tell, open_trans_tell};
+use log_starts::starts_stay;
 
 /// So it is of a restart that begins, and no event of it changes that, nor does what its member takes over from it.
 pub fn opens_stay()
@@ -41,12 +42,13 @@ pub fn opens_tell()
 }
 
 /// Over a disk that tells what it holds, what a restart has read are the last records of its member's log on disk as it was before the
-/// restart changed it, behind whole records.
+/// restart changed it, behind whole records: all of it, or what follows a Checkpoint that names its own place.
 pub fn reads_true()
     ensures begin { ReadsBegin }
     ensures event { ReadsStay }
 {
     reader_laws();
+    starts_stay();
     open_trans_tell();
 }
 
