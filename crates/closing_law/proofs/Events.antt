@@ -1,5 +1,5 @@
 -- Any event, by what it sends.
-use Rattle.std.proofs.Common.{◌≡◌, ℕ, zero, suc, ◌<◌, ◌≤◌, refl, sym, ◌∙◌, ap, subst, arith, Bool, true, false, inl, inr, List, [], ◌∷◌, ◌++◌, length, Option, Some, None, Result, Ok, Err}
+use Rattle.std.proofs.Common.{◌≡◌, ℕ, zero, suc, ◌<◌, ◌≤◌, refl, sym, ◌∙◌, ap, subst, arith, Bool, true, false, inl, inr, List, [], ◌∷◌, ◌++◌, append_assoc, length, Option, Some, None, Result, Ok, Err}
 use Rattle.std.specs.Prelude.{◌≢◌, ◌+◌, ◌-◌, ◌==◌, ◌&&◌, ◌||◌, nat_le, nat_lt, if◌then◌else◌, IfOk, slice_index_or, slice_set}
 use Rattle.std.specs.List.{AllByRecursion}
 use Rattle.std.specs.FinMap as map
@@ -50,7 +50,7 @@ use Rattle.member_resources.specs.Held.{Held, begun, with_spare}
 use Rattle.member_resources.specs.Prepared.{Reserves, needed, planned, setting_of, with_change_room}
 use Rattle.member_resources.specs.Settled.{stored}
 use Rattle.needs_law.specs.Lawful.{Lawful, MayEnd, SendsLawfully}
-use Rattle.closing_law.specs.Closing.{AllStand, ChangedIn, Closes, ClosesStay, IsUnfailed, LogIs, StillCloses, TranStands, Waits}
+use Rattle.closing_law.specs.Closing.{ArePlain, AllStand, ChangedIn, Closes, ClosesStay, IsUnfailed, LogIs, StillCloses, TranStands, Waits}
 use Rattle.closing_law.proofs.Effects.{IsAbove}
 use Rattle.closing_law.proofs.Kept.{Kept, PutsRows, Stays, puts_kept, stays_as, stays_itself, stays_lists, stays_locks, stays_on, stays_trans}
 use Rattle.closing_law.proofs.Lists.{all_as, all_at, all_set}
@@ -433,200 +433,206 @@ appended law disk pend s c = record {
   };
 }
 
--- ---- the log on disk
-same_log : (w v : Drive) (member other : ℕ) (disk : List LogRecord) → v ≡ w → other ≡ member → LogIs w member disk → LogIs v other disk
-same_log w v member other disk drive is l = subst (λ (z : ℕ). LogIs v z disk) (sym is) (subst (λ (z : Drive). LogIs z member disk) (sym drive) l)
+module _ (base : List ℕ) where
+  -- ---- the log on disk
+  same_log : (w v : Drive) (member other : ℕ) (disk : List LogRecord) → v ≡ w → other ≡ member → LogIs base w member disk → LogIs base v other disk
+  same_log w v member other disk drive is l = subst (λ (z : ℕ). LogIs base v z disk) (sym is) (subst (λ (z : Drive). LogIs base z member disk) (sym drive) l)
 
-none_more : (disk : List LogRecord) → disk ++ [] ≡ disk
-none_more disk = append-nil disk
+  none_more : (disk : List LogRecord) → disk ++ [] ≡ disk
+  none_more disk = append-nil disk
 
-stays_closed : (disk pend new : List LogRecord) (G : ℕ → Spot → Type 0) (drive : Drive) (s : MarksState) → ((id : ℕ) (x : Spot) → has_changed new id x ≡ true → G id x) → LogIs drive s.member disk → Closes disk (pend ++ new) s → StillCloses disk pend G drive s
-stays_closed disk pend new G drive s rows l c = record {
-  more = [];
-  left = pend ++ new;
-  goes = inl (refl, record { new = new; is = refl; rows = rows });
-  log = subst (λ (z : List LogRecord). LogIs drive s.member z) (sym (none_more disk)) l;
-  closes = subst (λ (z : List LogRecord). Closes z (pend ++ new) s) (sym (none_more disk)) c;
-}
+  stays_closed : (disk pend new : List LogRecord) (G : ℕ → Spot → Type 0) (drive : Drive) (s : MarksState) → ArePlain new → ((id : ℕ) (x : Spot) → has_changed new id x ≡ true → G id x) → LogIs base drive s.member disk → Closes disk (pend ++ new) s → StillCloses base disk pend G drive s
+  stays_closed disk pend new G drive s plain rows l c = record {
+    more = [];
+    left = pend ++ new;
+    goes = inl (refl, record { new = new; is = refl; plain = plain; rows = rows });
+    log = subst (λ (z : List LogRecord). LogIs base drive s.member z) (sym (none_more disk)) l;
+    closes = subst (λ (z : List LogRecord). Closes z (pend ++ new) s) (sym (none_more disk)) c;
+  }
 
-puts_closed : (disk pend : List LogRecord) (G : ℕ → Spot → Type 0) (drive : Drive) (s t : MarksState) → PutsRows G s t → LogIs drive t.member disk → Closes disk pend s → StillCloses disk pend G drive t
-puts_closed disk pend G drive s t k l c = stays_closed disk pend k.new G drive t k.rows l (k.closes disk pend c)
+  puts_closed : (disk pend : List LogRecord) (G : ℕ → Spot → Type 0) (drive : Drive) (s t : MarksState) → PutsRows G s t → LogIs base drive t.member disk → Closes disk pend s → StillCloses base disk pend G drive t
+  puts_closed disk pend G drive s t k l c = stays_closed disk pend k.new G drive t k.plain k.rows l (k.closes disk pend c)
 
--- what a call leaves told
-told_after : (before after : Option Contents) (c : Contents) (P : Contents → Contents → Type 0) → before ≡ Some c → Becomes before after P → (d : Contents) × (after ≡ Some d) × P c d
-told_after before after c P is b = by after (subst (λ (z : Option Contents). Becomes z after P) is b)
-  where
-    by : (o : Option Contents) → Becomes (Some c) o P → (d : Contents) × (o ≡ Some d) × P c d
-    by None e = absurd e
-    by (Some d) e = (d, refl, e)
+  -- what a call leaves told
+  told_after : (before after : Option Contents) (c : Contents) (P : Contents → Contents → Type 0) → before ≡ Some c → Becomes before after P → (d : Contents) × (after ≡ Some d) × P c d
+  told_after before after c P is b = by after (subst (λ (z : Option Contents). Becomes z after P) is b)
+    where
+      by : (o : Option Contents) → Becomes (Some c) o P → (d : Contents) × (o ≡ Some d) × P c d
+      by None e = absurd e
+      by (Some d) e = (d, refl, e)
 
--- the logs stay, or one of them is longer
-keeps_logs : (w v : Drive) (member : ℕ) (disk : List LogRecord) (l : LogIs w member disk) → ((d : Contents) × (v.contents ≡ Some d) × (d.logs ≡ l.contents.logs)) → LogIs v member disk
-keeps_logs w v member disk l d = record {
-  contents = d.0;
-  told = d.1;
-  there = subst (λ (z : List (List ℕ)). nat_lt (member - 1) (length z) ≡ true) (sym d.2) l.there;
-  log = ap (λ (z : List (List ℕ)). log_of z member) d.2 ∙ l.log;
-}
+  -- the logs stay, or one of them is longer
+  keeps_logs : (w v : Drive) (member : ℕ) (disk : List LogRecord) (l : LogIs base w member disk) → ((d : Contents) × (v.contents ≡ Some d) × (d.logs ≡ l.contents.logs)) → LogIs base v member disk
+  keeps_logs w v member disk l d = record {
+    contents = d.0;
+    told = d.1;
+    there = subst (λ (z : List (List ℕ)). nat_lt (member - 1) (length z) ≡ true) (sym d.2) l.there;
+    log = ap (λ (z : List (List ℕ)). log_of z member) d.2 ∙ l.log;
+  }
 
-longer : (w v : Drive) (member : ℕ) (disk pend : List LogRecord) (bytes : List ℕ) (l : LogIs w member disk) → bytes ≡ log_bytes pend
-    → ((d : Contents) × (v.contents ≡ Some d) × (d ≡ with_log l.contents member (log_of l.contents.logs member ++ bytes))) → LogIs v member (disk ++ pend)
-longer w v member disk pend bytes l spelled d = record {
-  contents = d.0;
-  told = d.1;
-  there = subst (λ (z : ℕ). nat_lt (member - 1) z ≡ true) (sym (ap (λ (z : Contents). length z.logs) d.2 ∙ length-set l.contents.logs (member - 1) (log_of l.contents.logs member ++ bytes))) l.there;
-  log = ap (λ (z : Contents). log_of z.logs member) d.2
-      ∙ (get_or-set_same l.contents.logs (member - 1) (log_of l.contents.logs member ++ bytes) [] (ltb-true (member - 1) (length l.contents.logs) l.there)
-      ∙ (ap (λ (z : List ℕ). z ++ bytes) l.log ∙ (ap (λ (z : List ℕ). log_bytes disk ++ z) spelled ∙ sym (flat_map-append record_bytes disk pend))));
-}
+  longer : (w v : Drive) (member : ℕ) (disk pend : List LogRecord) (bytes : List ℕ) (l : LogIs base w member disk) → bytes ≡ log_bytes pend
+      → ((d : Contents) × (v.contents ≡ Some d) × (d ≡ with_log l.contents member (log_of l.contents.logs member ++ bytes))) → LogIs base v member (disk ++ pend)
+  longer w v member disk pend bytes l spelled d = record {
+    contents = d.0;
+    told = d.1;
+    there = subst (λ (z : ℕ). nat_lt (member - 1) z ≡ true) (sym (ap (λ (z : Contents). length z.logs) d.2 ∙ length-set l.contents.logs (member - 1) (log_of l.contents.logs member ++ bytes))) l.there;
+    log = ap (λ (z : Contents). log_of z.logs member) d.2
+        ∙ (get_or-set_same l.contents.logs (member - 1) (log_of l.contents.logs member ++ bytes) [] (ltb-true (member - 1) (length l.contents.logs) l.there)
+        ∙ (ap (λ (z : List ℕ). z ++ bytes) l.log ∙ (append_assoc base (log_bytes disk) bytes ∙ ap (λ (z : List ℕ). base ++ z) (ap (λ (z : List ℕ). log_bytes disk ++ z) spelled ∙ sym (flat_map-append record_bytes disk pend)))));
+  }
 
--- ---- a call that was made
-stored_is : (h k : Held) (i : Intent) (done : Result (Unit {0}) DiskError) (a : Answered) (told : Told) → IsUnfailed a → Stores h i done a told k → k ≡ stored h i
-stored_is h k i (Ok x) a told well e = e.2
-stored_is h k i (Err disk_error.Failed) a told well e = absurd (subst (λ (z : Answered). IsUnfailed z) e.0 well)
-stored_is h k i (Err disk_error.NoMemory) a told well e = absurd e
+  -- ---- a call that was made
+  stored_is : (h k : Held) (i : Intent) (done : Result (Unit {0}) DiskError) (a : Answered) (told : Told) → IsUnfailed a → Stores h i done a told k → k ≡ stored h i
+  stored_is h k i (Ok x) a told well e = e.2
+  stored_is h k i (Err disk_error.Failed) a told well e = absurd (subst (λ (z : Answered). IsUnfailed z) e.0 well)
+  stored_is h k i (Err disk_error.NoMemory) a told well e = absurd e
 
-made_ok : (h k : Held) (i : Intent) (done : Result (Unit {0}) DiskError) (a : Answered) (told : Told) → IsUnfailed a → Stores h i done a told k → (P : Unit {0} → Type 0) → IfOk done P → (x : Unit {0}) × P x
-made_ok h k i (Ok x) a told well e P ok = (x, ok)
-made_ok h k i (Err disk_error.Failed) a told well e P ok = absurd (subst (λ (z : Answered). IsUnfailed z) e.0 well)
-made_ok h k i (Err disk_error.NoMemory) a told well e P ok = absurd e
+  made_ok : (h k : Held) (i : Intent) (done : Result (Unit {0}) DiskError) (a : Answered) (told : Told) → IsUnfailed a → Stores h i done a told k → (P : Unit {0} → Type 0) → IfOk done P → (x : Unit {0}) × P x
+  made_ok h k i (Ok x) a told well e P ok = (x, ok)
+  made_ok h k i (Err disk_error.Failed) a told well e P ok = absurd (subst (λ (z : Answered). IsUnfailed z) e.0 well)
+  made_ok h k i (Err disk_error.NoMemory) a told well e P ok = absurd e
 
-read_logs : (w v : Drive) (h k : Held) (page : PageId) (done : Result (Unit {0}) DiskError) (o : Option ℕ) (c : Contents) → w.contents ≡ Some c → ((P : Unit {0} → Type 0) → IfOk done P → (x : Unit {0}) × P x)
-    → ReadsAs o w h page done v k → (d : Contents) × (v.contents ≡ Some d) × (d.logs ≡ c.logs)
-read_logs w v h k page done None c told got e = (c, ap (λ (z : Drive). z.contents) e.1 ∙ told, refl)
-read_logs w v h k page done (Some at) c told got e = by (nat_lt at (length h.pages)) e
-  where
-    by : (b : Bool) → ReadsFrame b w h at page done v k → (d : Contents) × (v.contents ≡ Some d) × (d.logs ≡ c.logs)
-    by true r =
-        let ok = got _ r.0.ok in
-        let t = told_after w.contents v.contents c _ told ok.1.2 in
-        (t.0, t.1, ap (λ (z : Contents). z.logs) t.2.0)
-    by false r = (c, ap (λ (z : Drive). z.contents) r.1 ∙ told, refl)
+  read_logs : (w v : Drive) (h k : Held) (page : PageId) (done : Result (Unit {0}) DiskError) (o : Option ℕ) (c : Contents) → w.contents ≡ Some c → ((P : Unit {0} → Type 0) → IfOk done P → (x : Unit {0}) × P x)
+      → ReadsAs o w h page done v k → (d : Contents) × (v.contents ≡ Some d) × (d.logs ≡ c.logs)
+  read_logs w v h k page done None c told got e = (c, ap (λ (z : Drive). z.contents) e.1 ∙ told, refl)
+  read_logs w v h k page done (Some at) c told got e = by (nat_lt at (length h.pages)) e
+    where
+      by : (b : Bool) → ReadsFrame b w h at page done v k → (d : Contents) × (v.contents ≡ Some d) × (d.logs ≡ c.logs)
+      by true r =
+          let ok = got _ r.0.ok in
+          let t = told_after w.contents v.contents c _ told ok.1.2 in
+          (t.0, t.1, ap (λ (z : Contents). z.logs) t.2.0)
+      by false r = (c, ap (λ (z : Drive). z.contents) r.1 ∙ told, refl)
 
--- ---- by what is sent
-none_closes : (disk pend : List LogRecord) (G : ℕ → Spot → Type 0) (w v : World) (h k : Held) → v.drive ≡ w.drive → PutsRows G h.marks k.marks → LogIs w.drive h.marks.member disk → Closes disk pend h.marks → StillCloses disk pend G v.drive k.marks
-none_closes disk pend G w v h k drive kept l c = puts_closed disk pend G v.drive h.marks k.marks kept (same_log w.drive v.drive h.marks.member k.marks.member disk drive kept.member l) c
+  -- ---- by what is sent
+  none_closes : (disk pend : List LogRecord) (G : ℕ → Spot → Type 0) (w v : World) (h k : Held) → v.drive ≡ w.drive → PutsRows G h.marks k.marks → LogIs base w.drive h.marks.member disk → Closes disk pend h.marks → StillCloses base disk pend G v.drive k.marks
+  none_closes disk pend G w v h k drive kept l c = puts_closed disk pend G v.drive h.marks k.marks kept (same_log w.drive v.drive h.marks.member k.marks.member disk drive kept.member l) c
 
-quiet_closes : BothTell → (disk pend : List LogRecord) (G : ℕ → Spot → Type 0) (w v : World) (h ready k : Held) (c : Setting) (i : Intent) (x : Command) (p : Plan) (place : ℕ) (a : Answered) (told : Told) → IsQuiet i → Lawful h.marks h.pages c i (sent.Command x) → Reserves i h ready
-    → Fits (begun ready place).marks i → Runs w (begun ready place) i (sent.Command x) p place a told v k → h.marks.log.stable ≤ w.facility.counter → LogIs w.drive (begun ready place).marks.member disk → Closes disk pend (begun ready place).marks → StillCloses disk pend G v.drive k.marks
-quiet_closes law disk pend G w v h ready k c i x p place a told quiet lawful reserves fits r low l closes =
-    none_closes disk pend G w v (begun ready place) k r.1
-    (puts_kept G (begun ready place).marks k.marks (command_kept law w v (begun ready place) k i x p place a told quiet fits r.0
-    (subst (λ (z : LogBuffer). AboveFor i z.stable r.0.answer) (sym (ready_log h ready i reserves)) (above_sent h.marks h.pages c i x w.facility v.facility (begun ready place).marks.member _ _ r.0.answer lawful r.0.gives.executed.executes low))))
-    l closes
+  quiet_closes : BothTell → (disk pend : List LogRecord) (G : ℕ → Spot → Type 0) (w v : World) (h ready k : Held) (c : Setting) (i : Intent) (x : Command) (p : Plan) (place : ℕ) (a : Answered) (told : Told) → IsQuiet i → Lawful h.marks h.pages c i (sent.Command x) → Reserves i h ready
+      → Fits (begun ready place).marks i → Runs w (begun ready place) i (sent.Command x) p place a told v k → h.marks.log.stable ≤ w.facility.counter → LogIs base w.drive (begun ready place).marks.member disk → Closes disk pend (begun ready place).marks → StillCloses base disk pend G v.drive k.marks
+  quiet_closes law disk pend G w v h ready k c i x p place a told quiet lawful reserves fits r low l closes =
+      none_closes disk pend G w v (begun ready place) k r.1
+      (puts_kept G (begun ready place).marks k.marks (command_kept law w v (begun ready place) k i x p place a told quiet fits r.0
+      (subst (λ (z : LogBuffer). AboveFor i z.stable r.0.answer) (sym (ready_log h ready i reserves)) (above_sent h.marks h.pages c i x w.facility v.facility (begun ready place).marks.member _ _ r.0.answer lawful r.0.gives.executed.executes low))))
+      l closes
 
-command_closes : BothTell → (disk pend : List LogRecord) (G : ℕ → Spot → Type 0) (w v : World) (h ready k : Held) (c : Setting) (i : Intent) (x : Command) (p : Plan) (place : ℕ) (a : Answered) (told : Told) → Lawful h.marks h.pages c i (sent.Command x) → Reserves i h ready
-    → Fits (begun ready place).marks i → Runs w (begun ready place) i (sent.Command x) p place a told v k → h.marks.log.stable ≤ w.facility.counter → ((id : ℕ) (spot : Spot) → ChangedIn i p k.marks id spot → G id spot)
-    → LogIs w.drive (begun ready place).marks.member disk → Closes disk pend (begun ready place).marks → StillCloses disk pend G v.drive k.marks
-command_closes law disk pend G w v h ready k c intent.Step x p place a told lawful reserves fits r low give l closes = quiet_closes law disk pend G w v h ready k c intent.Step x p place a told tt lawful reserves fits r low l closes
-command_closes law disk pend G w v h ready k c (intent.Obtain o n m) x p place a told lawful reserves fits r low give l closes = quiet_closes law disk pend G w v h ready k c (intent.Obtain o n m) x p place a told tt lawful reserves fits r low l closes
-command_closes law disk pend G w v h ready k c (intent.Grant o n m) x p place a told lawful reserves fits r low give l closes = quiet_closes law disk pend G w v h ready k c (intent.Grant o n m) x p place a told tt lawful reserves fits r low l closes
-command_closes law disk pend G w v h ready k c (intent.Ask o to n m) x p place a told lawful reserves fits r low give l closes = quiet_closes law disk pend G w v h ready k c (intent.Ask o to n m) x p place a told tt lawful reserves fits r low l closes
-command_closes law disk pend G w v h ready k c (intent.Answers o n m asked) x p place a told lawful reserves fits r low give l closes = quiet_closes law disk pend G w v h ready k c (intent.Answers o n m asked) x p place a told tt lawful reserves fits r low l closes
-command_closes law disk pend G w v h ready k c (intent.Status member) x p place a told lawful reserves fits r low give l closes = quiet_closes law disk pend G w v h ready k c (intent.Status member) x p place a told tt lawful reserves fits r low l closes
-command_closes law disk pend G w v h ready k c (intent.Take past) x p place a told lawful reserves fits r low give l closes = quiet_closes law disk pend G w v h ready k c (intent.Take past) x p place a told tt lawful reserves fits r low l closes
-command_closes law disk pend G w v h ready k c (intent.Answer asker n m) x p place a told lawful reserves fits r low give l closes = quiet_closes law disk pend G w v h ready k c (intent.Answer asker n m) x p place a told tt lawful reserves fits r low l closes
-command_closes law disk pend G w v h ready k c (intent.ReleaseLock o) x p place a told lawful reserves fits r low give l closes = quiet_closes law disk pend G w v h ready k c (intent.ReleaseLock o) x p place a told tt lawful reserves fits r low l closes
-command_closes law disk pend G w v h ready k c (intent.ReleasePage page) x p place a told lawful reserves fits r low give l closes = quiet_closes law disk pend G w v h ready k c (intent.ReleasePage page) x p place a told tt lawful reserves fits r low l closes
-command_closes law disk pend G w v h ready k c (intent.Purge n) x p place a told lawful reserves fits r low give l closes = quiet_closes law disk pend G w v h ready k c (intent.Purge n) x p place a told tt lawful reserves fits r low l closes
-command_closes law disk pend G w v h ready k c (intent.End o) x p place a told lawful reserves fits r low give l closes = quiet_closes law disk pend G w v h ready k c (intent.End o) x p place a told tt lawful reserves fits r low l closes
-command_closes law disk pend G w v h ready k c (intent.Wait slot holder flag) x p place a told lawful reserves fits r low give l closes = quiet_closes law disk pend G w v h ready k c (intent.Wait slot holder flag) x p place a told tt lawful reserves fits r low l closes
-command_closes law disk pend G w v h ready k c (intent.Unwait slot) x p place a told lawful reserves fits r low give l closes = quiet_closes law disk pend G w v h ready k c (intent.Unwait slot) x p place a told tt lawful reserves fits r low l closes
-command_closes law disk pend G w v h ready k c (intent.Waits slots) x p place a told lawful reserves fits r low give l closes = quiet_closes law disk pend G w v h ready k c (intent.Waits slots) x p place a told tt lawful reserves fits r low l closes
-command_closes law disk pend G w v h ready k c (intent.Flag flag) x p place a told lawful reserves fits r low give l closes = quiet_closes law disk pend G w v h ready k c (intent.Flag flag) x p place a told tt lawful reserves fits r low l closes
-command_closes law disk pend G w v h ready k c (intent.Raise flag) x p place a told lawful reserves fits r low give l closes = quiet_closes law disk pend G w v h ready k c (intent.Raise flag) x p place a told tt lawful reserves fits r low l closes
-command_closes law disk pend G w v h ready k c intent.LoseCache x p place a told lawful reserves fits r low give l closes = quiet_closes law disk pend G w v h ready k c intent.LoseCache x p place a told tt lawful reserves fits r low l closes
-command_closes law disk pend G w v h ready k c (intent.Read at) x p place a told lawful reserves fits r low give l closes = quiet_closes law disk pend G w v h ready k c (intent.Read at) x p place a told tt lawful reserves fits r low l closes
-command_closes law disk pend G w v h ready k c (intent.ReadPage at) x p place a told lawful reserves fits r low give l closes = quiet_closes law disk pend G w v h ready k c (intent.ReadPage at) x p place a told tt lawful reserves fits r low l closes
-command_closes law disk pend G w v h ready k c (intent.Test at slot gives) x p place a told lawful reserves fits r low give l closes = quiet_closes law disk pend G w v h ready k c (intent.Test at slot gives) x p place a told tt lawful reserves fits r low l closes
-command_closes law disk pend G w v h ready k c (intent.WritePage at) x p place a told lawful reserves fits r low give l closes = quiet_closes law disk pend G w v h ready k c (intent.WritePage at) x p place a told tt lawful reserves fits r low l closes
-command_closes law disk pend G w v h ready k c (intent.Unregister at) x p place a told lawful reserves fits r low give l closes = quiet_closes law disk pend G w v h ready k c (intent.Unregister at) x p place a told tt lawful reserves fits r low l closes
-command_closes law disk pend G w v h ready k c (intent.Change slot action frames) x p place a told lawful reserves fits r low give l closes =
-    none_closes disk pend G w v (begun ready place) k r.1 (command_puts law G w v (begun ready place) k slot action frames x p place a told fits give r.0) l closes
-command_closes law disk pend G w v h ready k c (intent.Undo o at) x p place a told lawful reserves fits r low give l closes = quiet_closes law disk pend G w v h ready k c (intent.Undo o at) x p place a told tt lawful reserves fits r low l closes
-command_closes law disk pend G w v h ready k c (intent.Commit slot) x p place a told lawful reserves fits r low give l closes = quiet_closes law disk pend G w v h ready k c (intent.Commit slot) x p place a told tt lawful reserves fits r low l closes
-command_closes law disk pend G w v h ready k c intent.Append x p place a told lawful reserves fits r low give l closes = quiet_closes law disk pend G w v h ready k c intent.Append x p place a told tt lawful reserves fits r low l closes
-command_closes law disk pend G w v h ready k c (intent.NextChanged past) x p place a told lawful reserves fits r low give l closes = quiet_closes law disk pend G w v h ready k c (intent.NextChanged past) x p place a told tt lawful reserves fits r low l closes
-command_closes law disk pend G w v h ready k c (intent.CastoutRead page) x p place a told lawful reserves fits r low give l closes = quiet_closes law disk pend G w v h ready k c (intent.CastoutRead page) x p place a told tt lawful reserves fits r low l closes
-command_closes law disk pend G w v h ready k c intent.CastoutWrite x p place a told lawful reserves fits r low give l closes = quiet_closes law disk pend G w v h ready k c intent.CastoutWrite x p place a told tt lawful reserves fits r low l closes
-command_closes law disk pend G w v h ready k c intent.CastoutDone x p place a told lawful reserves fits r low give l closes = quiet_closes law disk pend G w v h ready k c intent.CastoutDone x p place a told tt lawful reserves fits r low l closes
-command_closes law disk pend G w v h ready k c intent.PhaseDone x p place a told lawful reserves fits r low give l closes = quiet_closes law disk pend G w v h ready k c intent.PhaseDone x p place a told tt lawful reserves fits r low l closes
+  command_closes : BothTell → (disk pend : List LogRecord) (G : ℕ → Spot → Type 0) (w v : World) (h ready k : Held) (c : Setting) (i : Intent) (x : Command) (p : Plan) (place : ℕ) (a : Answered) (told : Told) → Lawful h.marks h.pages c i (sent.Command x) → Reserves i h ready
+      → Fits (begun ready place).marks i → Runs w (begun ready place) i (sent.Command x) p place a told v k → h.marks.log.stable ≤ w.facility.counter → ((id : ℕ) (spot : Spot) → ChangedIn i p k.marks id spot → G id spot)
+      → LogIs base w.drive (begun ready place).marks.member disk → Closes disk pend (begun ready place).marks → StillCloses base disk pend G v.drive k.marks
+  command_closes law disk pend G w v h ready k c intent.Step x p place a told lawful reserves fits r low give l closes = quiet_closes law disk pend G w v h ready k c intent.Step x p place a told tt lawful reserves fits r low l closes
+  command_closes law disk pend G w v h ready k c (intent.Obtain o n m) x p place a told lawful reserves fits r low give l closes = quiet_closes law disk pend G w v h ready k c (intent.Obtain o n m) x p place a told tt lawful reserves fits r low l closes
+  command_closes law disk pend G w v h ready k c (intent.Grant o n m) x p place a told lawful reserves fits r low give l closes = quiet_closes law disk pend G w v h ready k c (intent.Grant o n m) x p place a told tt lawful reserves fits r low l closes
+  command_closes law disk pend G w v h ready k c (intent.Ask o to n m) x p place a told lawful reserves fits r low give l closes = quiet_closes law disk pend G w v h ready k c (intent.Ask o to n m) x p place a told tt lawful reserves fits r low l closes
+  command_closes law disk pend G w v h ready k c (intent.Answers o n m asked) x p place a told lawful reserves fits r low give l closes = quiet_closes law disk pend G w v h ready k c (intent.Answers o n m asked) x p place a told tt lawful reserves fits r low l closes
+  command_closes law disk pend G w v h ready k c (intent.Status member) x p place a told lawful reserves fits r low give l closes = quiet_closes law disk pend G w v h ready k c (intent.Status member) x p place a told tt lawful reserves fits r low l closes
+  command_closes law disk pend G w v h ready k c (intent.Take past) x p place a told lawful reserves fits r low give l closes = quiet_closes law disk pend G w v h ready k c (intent.Take past) x p place a told tt lawful reserves fits r low l closes
+  command_closes law disk pend G w v h ready k c (intent.Answer asker n m) x p place a told lawful reserves fits r low give l closes = quiet_closes law disk pend G w v h ready k c (intent.Answer asker n m) x p place a told tt lawful reserves fits r low l closes
+  command_closes law disk pend G w v h ready k c (intent.ReleaseLock o) x p place a told lawful reserves fits r low give l closes = quiet_closes law disk pend G w v h ready k c (intent.ReleaseLock o) x p place a told tt lawful reserves fits r low l closes
+  command_closes law disk pend G w v h ready k c (intent.ReleasePage page) x p place a told lawful reserves fits r low give l closes = quiet_closes law disk pend G w v h ready k c (intent.ReleasePage page) x p place a told tt lawful reserves fits r low l closes
+  command_closes law disk pend G w v h ready k c (intent.Purge n) x p place a told lawful reserves fits r low give l closes = quiet_closes law disk pend G w v h ready k c (intent.Purge n) x p place a told tt lawful reserves fits r low l closes
+  command_closes law disk pend G w v h ready k c (intent.End o) x p place a told lawful reserves fits r low give l closes = quiet_closes law disk pend G w v h ready k c (intent.End o) x p place a told tt lawful reserves fits r low l closes
+  command_closes law disk pend G w v h ready k c (intent.Wait slot holder flag) x p place a told lawful reserves fits r low give l closes = quiet_closes law disk pend G w v h ready k c (intent.Wait slot holder flag) x p place a told tt lawful reserves fits r low l closes
+  command_closes law disk pend G w v h ready k c (intent.Unwait slot) x p place a told lawful reserves fits r low give l closes = quiet_closes law disk pend G w v h ready k c (intent.Unwait slot) x p place a told tt lawful reserves fits r low l closes
+  command_closes law disk pend G w v h ready k c (intent.Waits slots) x p place a told lawful reserves fits r low give l closes = quiet_closes law disk pend G w v h ready k c (intent.Waits slots) x p place a told tt lawful reserves fits r low l closes
+  command_closes law disk pend G w v h ready k c (intent.Flag flag) x p place a told lawful reserves fits r low give l closes = quiet_closes law disk pend G w v h ready k c (intent.Flag flag) x p place a told tt lawful reserves fits r low l closes
+  command_closes law disk pend G w v h ready k c (intent.Raise flag) x p place a told lawful reserves fits r low give l closes = quiet_closes law disk pend G w v h ready k c (intent.Raise flag) x p place a told tt lawful reserves fits r low l closes
+  command_closes law disk pend G w v h ready k c intent.LoseCache x p place a told lawful reserves fits r low give l closes = quiet_closes law disk pend G w v h ready k c intent.LoseCache x p place a told tt lawful reserves fits r low l closes
+  command_closes law disk pend G w v h ready k c (intent.Read at) x p place a told lawful reserves fits r low give l closes = quiet_closes law disk pend G w v h ready k c (intent.Read at) x p place a told tt lawful reserves fits r low l closes
+  command_closes law disk pend G w v h ready k c (intent.ReadPage at) x p place a told lawful reserves fits r low give l closes = quiet_closes law disk pend G w v h ready k c (intent.ReadPage at) x p place a told tt lawful reserves fits r low l closes
+  command_closes law disk pend G w v h ready k c (intent.Test at slot gives) x p place a told lawful reserves fits r low give l closes = quiet_closes law disk pend G w v h ready k c (intent.Test at slot gives) x p place a told tt lawful reserves fits r low l closes
+  command_closes law disk pend G w v h ready k c (intent.WritePage at) x p place a told lawful reserves fits r low give l closes = quiet_closes law disk pend G w v h ready k c (intent.WritePage at) x p place a told tt lawful reserves fits r low l closes
+  command_closes law disk pend G w v h ready k c (intent.Unregister at) x p place a told lawful reserves fits r low give l closes = quiet_closes law disk pend G w v h ready k c (intent.Unregister at) x p place a told tt lawful reserves fits r low l closes
+  command_closes law disk pend G w v h ready k c (intent.Change slot action frames) x p place a told lawful reserves fits r low give l closes =
+      none_closes disk pend G w v (begun ready place) k r.1 (command_puts law G w v (begun ready place) k slot action frames x p place a told fits give r.0) l closes
+  command_closes law disk pend G w v h ready k c (intent.Undo o at) x p place a told lawful reserves fits r low give l closes = quiet_closes law disk pend G w v h ready k c (intent.Undo o at) x p place a told tt lawful reserves fits r low l closes
+  command_closes law disk pend G w v h ready k c (intent.Commit slot) x p place a told lawful reserves fits r low give l closes = quiet_closes law disk pend G w v h ready k c (intent.Commit slot) x p place a told tt lawful reserves fits r low l closes
+  command_closes law disk pend G w v h ready k c intent.Append x p place a told lawful reserves fits r low give l closes = quiet_closes law disk pend G w v h ready k c intent.Append x p place a told tt lawful reserves fits r low l closes
+  command_closes law disk pend G w v h ready k c (intent.NextChanged past) x p place a told lawful reserves fits r low give l closes = quiet_closes law disk pend G w v h ready k c (intent.NextChanged past) x p place a told tt lawful reserves fits r low l closes
+  command_closes law disk pend G w v h ready k c (intent.CastoutRead page) x p place a told lawful reserves fits r low give l closes = quiet_closes law disk pend G w v h ready k c (intent.CastoutRead page) x p place a told tt lawful reserves fits r low l closes
+  command_closes law disk pend G w v h ready k c intent.CastoutWrite x p place a told lawful reserves fits r low give l closes = quiet_closes law disk pend G w v h ready k c intent.CastoutWrite x p place a told tt lawful reserves fits r low l closes
+  command_closes law disk pend G w v h ready k c intent.CastoutDone x p place a told lawful reserves fits r low give l closes = quiet_closes law disk pend G w v h ready k c intent.CastoutDone x p place a told tt lawful reserves fits r low l closes
+  command_closes law disk pend G w v h ready k c intent.PhaseDone x p place a told lawful reserves fits r low give l closes = quiet_closes law disk pend G w v h ready k c intent.PhaseDone x p place a told tt lawful reserves fits r low l closes
 
-read_closes : (disk pend : List LogRecord) (G : ℕ → Spot → Type 0) (w v : World) (h k : Held) (i : Intent) (page : PageId) (a : Answered) (told : Told) → IsOther i → IsUnfailed a → RunsCall w.drive h i (sent.ReadPage page) a told v.drive k → LogIs w.drive h.marks.member disk → Closes disk pend h.marks → StillCloses disk pend G v.drive k.marks
-read_closes disk pend G w v h k i page a told other well r l closes =
-    let kept = puts_kept G h.marks k.marks (called_kept w.drive v.drive h k i (sent.ReadPage page) a told other r) in
-    puts_closed disk pend G v.drive h.marks k.marks kept
-    (subst (λ (z : ℕ). LogIs v.drive z disk) (sym kept.member) (keeps_logs w.drive v.drive h.marks.member disk l (read_logs w.drive v.drive h r.after page r.done (frame_read i) l.contents l.told (made_ok r.after k i r.done a told well r.stores) r.calls)))
-    closes
+  read_closes : (disk pend : List LogRecord) (G : ℕ → Spot → Type 0) (w v : World) (h k : Held) (i : Intent) (page : PageId) (a : Answered) (told : Told) → IsOther i → IsUnfailed a → RunsCall w.drive h i (sent.ReadPage page) a told v.drive k → LogIs base w.drive h.marks.member disk → Closes disk pend h.marks → StillCloses base disk pend G v.drive k.marks
+  read_closes disk pend G w v h k i page a told other well r l closes =
+      let kept = puts_kept G h.marks k.marks (called_kept w.drive v.drive h k i (sent.ReadPage page) a told other r) in
+      puts_closed disk pend G v.drive h.marks k.marks kept
+      (subst (λ (z : ℕ). LogIs base v.drive z disk) (sym kept.member) (keeps_logs w.drive v.drive h.marks.member disk l (read_logs w.drive v.drive h r.after page r.done (frame_read i) l.contents l.told (made_ok r.after k i r.done a told well r.stores) r.calls)))
+      closes
 
-write_closes : (disk pend : List LogRecord) (G : ℕ → Spot → Type 0) (w v : World) (h k : Held) (i : Intent) (page : PageId) (a : Answered) (told : Told) → IsOther i → IsUnfailed a → RunsCall w.drive h i (sent.WritePage page) a told v.drive k → LogIs w.drive h.marks.member disk → Closes disk pend h.marks → StillCloses disk pend G v.drive k.marks
-write_closes disk pend G w v h k i page a told other well r l closes =
-    let kept = puts_kept G h.marks k.marks (called_kept w.drive v.drive h k i (sent.WritePage page) a told other r) in
-    let ok = made_ok r.after k i r.done a told well r.stores _ r.calls.0.ok in
-    let t = told_after w.drive.contents v.drive.contents l.contents _ l.told ok.1.2 in
-    puts_closed disk pend G v.drive h.marks k.marks kept
-    (subst (λ (z : ℕ). LogIs v.drive z disk) (sym kept.member) (keeps_logs w.drive v.drive h.marks.member disk l (t.0, t.1, ap (λ (z : Contents). z.logs) t.2)))
-    closes
+  write_closes : (disk pend : List LogRecord) (G : ℕ → Spot → Type 0) (w v : World) (h k : Held) (i : Intent) (page : PageId) (a : Answered) (told : Told) → IsOther i → IsUnfailed a → RunsCall w.drive h i (sent.WritePage page) a told v.drive k → LogIs base w.drive h.marks.member disk → Closes disk pend h.marks → StillCloses base disk pend G v.drive k.marks
+  write_closes disk pend G w v h k i page a told other well r l closes =
+      let kept = puts_kept G h.marks k.marks (called_kept w.drive v.drive h k i (sent.WritePage page) a told other r) in
+      let ok = made_ok r.after k i r.done a told well r.stores _ r.calls.0.ok in
+      let t = told_after w.drive.contents v.drive.contents l.contents _ l.told ok.1.2 in
+      puts_closed disk pend G v.drive h.marks k.marks kept
+      (subst (λ (z : ℕ). LogIs base v.drive z disk) (sym kept.member) (keeps_logs w.drive v.drive h.marks.member disk l (t.0, t.1, ap (λ (z : Contents). z.logs) t.2)))
+      closes
 
-abbrev stored_by : Held → Intent → Held
-stored_by x y = stored x y
+  abbrev stored_by : Held → Intent → Held
+  stored_by x y = stored x y
 
-append_closes : BothTell → (disk pend : List LogRecord) (G : ℕ → Spot → Type 0) (w v : World) (h k : Held) (i : Intent) (a : Answered) (told : Told) → i ≡ intent.Append → IsUnfailed a → RunsCall w.drive h i sent.AppendLog a told v.drive k → LogIs w.drive h.marks.member disk → Closes disk pend h.marks → StillCloses disk pend G v.drive k.marks
-append_closes law disk pend G w v h k i a told is well r l closes =
-    let ok = made_ok r.after k i r.done a told well r.stores _ r.calls.0.ok in
-    let t = told_after w.drive.contents v.drive.contents l.contents _ l.told ok.1.2 in
-    let marks : k.marks ≡ after_append h.marks = ap (λ (z : Held). z.marks) (stored_is r.after k i r.done a told well r.stores) ∙ (ap (λ (z : Intent). (stored_by r.after z).marks) is ∙ ap (λ (z : Held). after_append z.marks) r.calls.1) in
-    record {
-      more = pend;
-      left = [];
-      goes = inr (refl, refl);
-      log = subst (λ (z : MarksState). LogIs v.drive z.member (disk ++ pend)) (sym marks) (longer w.drive v.drive h.marks.member disk pend h.marks.log.pending l closes.spelled t);
-      closes = subst (λ (z : MarksState). Closes (disk ++ pend) [] z) (sym marks) (appended law disk pend h.marks closes);
-    }
+  append_closes : BothTell → (disk pend : List LogRecord) (G : ℕ → Spot → Type 0) (w v : World) (h k : Held) (i : Intent) (a : Answered) (told : Told) → i ≡ intent.Append → IsUnfailed a → RunsCall w.drive h i sent.AppendLog a told v.drive k → LogIs base w.drive h.marks.member disk → Closes disk pend h.marks → StillCloses base disk pend G v.drive k.marks
+  append_closes law disk pend G w v h k i a told is well r l closes =
+      let ok = made_ok r.after k i r.done a told well r.stores _ r.calls.0.ok in
+      let t = told_after w.drive.contents v.drive.contents l.contents _ l.told ok.1.2 in
+      let marks : k.marks ≡ after_append h.marks = ap (λ (z : Held). z.marks) (stored_is r.after k i r.done a told well r.stores) ∙ (ap (λ (z : Intent). (stored_by r.after z).marks) is ∙ ap (λ (z : Held). after_append z.marks) r.calls.1) in
+      record {
+        more = pend;
+        left = [];
+        goes = inr (refl, refl);
+        log = subst (λ (z : MarksState). LogIs base v.drive z.member (disk ++ pend)) (sym marks) (longer w.drive v.drive h.marks.member disk pend h.marks.log.pending l closes.spelled t);
+        closes = subst (λ (z : MarksState). Closes (disk ++ pend) [] z) (sym marks) (appended law disk pend h.marks closes);
+      }
 
-runs_close : BothTell → (disk pend : List LogRecord) (G : ℕ → Spot → Type 0) (w v : World) (h ready k : Held) (c : Setting) (i : Intent) (s : Sent) (p : Plan) (place : ℕ) (a : Answered) (told : Told) → Lawful h.marks h.pages c i s → Reserves i h ready → IsUnfailed a
-    → Fits (begun ready place).marks i → Runs w (begun ready place) i s p place a told v k → h.marks.log.stable ≤ w.facility.counter → ((id : ℕ) (spot : Spot) → ChangedIn i p k.marks id spot → G id spot)
-    → LogIs w.drive (begun ready place).marks.member disk → Closes disk pend (begun ready place).marks → StillCloses disk pend G v.drive k.marks
-runs_close law disk pend G w v h ready k c i sent.None p place a told lawful reserves well fits r low give l closes =
-    none_closes disk pend G w v (begun ready place) k (ap (λ (z : World). z.drive) r.world) (puts_kept G (begun ready place).marks k.marks (nothing_kept (begun ready place) k i fits r.held)) l closes
-runs_close law disk pend G w v h ready k c i (sent.Command x) p place a told lawful reserves well fits r low give l closes = command_closes law disk pend G w v h ready k c i x p place a told lawful reserves fits r low give l closes
-runs_close law disk pend G w v h ready k c i sent.AppendLog p place a told lawful reserves well fits r low give l closes =
-    append_closes law disk pend G w v (begun ready place) k i a told (append_sent h.marks h.pages c i lawful) well r.0 l closes
-runs_close law disk pend G w v h ready k c i (sent.ReadPage page) p place a told lawful reserves well fits r low give l closes =
-    read_closes disk pend G w v (begun ready place) k i page a told (other_sent h.marks h.pages c i (sent.ReadPage page) (λ e. absurd cc) lawful) well r.0 l closes
-runs_close law disk pend G w v h ready k c i (sent.WritePage page) p place a told lawful reserves well fits r low give l closes =
-    write_closes disk pend G w v (begun ready place) k i page a told (other_sent h.marks h.pages c i (sent.WritePage page) (λ e. absurd cc) lawful) well r.0 l closes
+  runs_close : BothTell → (disk pend : List LogRecord) (G : ℕ → Spot → Type 0) (w v : World) (h ready k : Held) (c : Setting) (i : Intent) (s : Sent) (p : Plan) (place : ℕ) (a : Answered) (told : Told) → Lawful h.marks h.pages c i s → Reserves i h ready → IsUnfailed a
+      → Fits (begun ready place).marks i → Runs w (begun ready place) i s p place a told v k → h.marks.log.stable ≤ w.facility.counter → ((id : ℕ) (spot : Spot) → ChangedIn i p k.marks id spot → G id spot)
+      → LogIs base w.drive (begun ready place).marks.member disk → Closes disk pend (begun ready place).marks → StillCloses base disk pend G v.drive k.marks
+  runs_close law disk pend G w v h ready k c i sent.None p place a told lawful reserves well fits r low give l closes =
+      none_closes disk pend G w v (begun ready place) k (ap (λ (z : World). z.drive) r.world) (puts_kept G (begun ready place).marks k.marks (nothing_kept (begun ready place) k i fits r.held)) l closes
+  runs_close law disk pend G w v h ready k c i (sent.Command x) p place a told lawful reserves well fits r low give l closes = command_closes law disk pend G w v h ready k c i x p place a told lawful reserves fits r low give l closes
+  runs_close law disk pend G w v h ready k c i sent.AppendLog p place a told lawful reserves well fits r low give l closes =
+      append_closes law disk pend G w v (begun ready place) k i a told (append_sent h.marks h.pages c i lawful) well r.0 l closes
+  runs_close law disk pend G w v h ready k c i (sent.ReadPage page) p place a told lawful reserves well fits r low give l closes =
+      read_closes disk pend G w v (begun ready place) k i page a told (other_sent h.marks h.pages c i (sent.ReadPage page) (λ e. absurd cc) lawful) well r.0 l closes
+  runs_close law disk pend G w v h ready k c i (sent.WritePage page) p place a told lawful reserves well fits r low give l closes =
+      write_closes disk pend G w v (begun ready place) k i page a told (other_sent h.marks h.pages c i (sent.WritePage page) (λ e. absurd cc) lawful) well r.0 l closes
 
--- ---- the whole event
-abbrev sent_in : Result Prepared Test → Result Sent Test
-sent_in (Ok x) = Ok x.sent
-sent_in (Err test) = Err test
+  -- ---- the whole event
+  abbrev sent_in : Result Prepared Test → Result Sent Test
+  sent_in (Ok x) = Ok x.sent
+  sent_in (Err test) = Err test
 
-needs_sent : (x : Result Sent Test) (y : Result Plan Test) (s : Sent) (p : Plan) → needed x y ≡ Ok (record { sent = s; plan = p }) → x ≡ Ok s
-needs_sent (Err test) y s p e = absurd cc
-needs_sent (Ok t) (Err test) s p e = absurd cc
-needs_sent (Ok t) (Ok q) s p e = ap sent_in e
+  needs_sent : (x : Result Sent Test) (y : Result Plan Test) (s : Sent) (p : Plan) → needed x y ≡ Ok (record { sent = s; plan = p }) → x ≡ Ok s
+  needs_sent (Err test) y s p e = absurd cc
+  needs_sent (Ok t) (Err test) s p e = absurd cc
+  needs_sent (Ok t) (Ok q) s p e = ap sent_in e
 
--- local moves change neither
-reached : (disk pend : List LogRecord) (G : ℕ → Spot → Type 0) (drive : Drive) (s t : MarksState) → Stays s t → StillCloses disk pend G drive s → StillCloses disk pend G drive t
-reached disk pend G drive s t k c = record {
-  more = c.more;
-  left = c.left;
-  goes = c.goes;
-  log = same_log drive drive s.member t.member (disk ++ c.more) refl k.member c.log;
-  closes = k.closes (disk ++ c.more) c.left c.closes;
-}
+  -- local moves change neither
+  reached : (disk pend : List LogRecord) (G : ℕ → Spot → Type 0) (drive : Drive) (s t : MarksState) → Stays s t → StillCloses base disk pend G drive s → StillCloses base disk pend G drive t
+  reached disk pend G drive s t k c = record {
+    more = c.more;
+    left = c.left;
+    goes = c.goes;
+    log = same_log drive drive s.member t.member (disk ++ c.more) refl k.member c.log;
+    closes = k.closes (disk ++ c.more) c.left c.closes;
+  }
 
--- nor does the begin of the event, with the memory that is taken
-begun_closes : (h ready : Held) (i : Intent) (place : ℕ) → Reserves i h ready → Stays h.marks (begun ready place).marks
-begun_closes h ready i place e = stays_on h.marks ready.marks (begun ready place).marks (ready_stays h ready i e) (begun_stays ready place)
+  -- nor does the begin of the event, with the memory that is taken
+  begun_closes : (h ready : Held) (i : Intent) (place : ℕ) → Reserves i h ready → Stays h.marks (begun ready place).marks
+  begun_closes h ready i place e = stays_on h.marks ready.marks (begun ready place).marks (ready_stays h ready i e) (begun_stays ready place)
+
+  pub stay_closed : BothTell → SendsLawfully → (disk pend : List LogRecord) (w v : World) (h k : Held) (i : Intent) (place : ℕ) (sent : Sent) (a : Answered)
+      → (happens : Happens w h i place sent a v k) → IsUnfailed a → h.marks.log.stable ≤ w.facility.counter → LogIs base w.drive h.marks.member disk → Closes disk pend h.marks
+      → StillCloses base disk pend (ChangedIn i happens.plan happens.after.marks) v.drive k.marks
+  stay_closed law sends disk pend w v h k i place s a happens well low l closes =
+      let c : Setting = setting_of h (holder_in w.facility h.cast) place in
+      let lawful : Lawful h.marks h.pages c i s = sends h.marks h.pages c i s (needs_sent (need_of h.marks h.pages c i) (intent_plan h.marks h.pages h.limit i) s happens.plan happens.lawful) in
+      let first : Stays h.marks (begun happens.ready place).marks = begun_closes h happens.ready i place happens.reserves in
+      let fits : Fits (begun happens.ready place).marks i = fits_event happens.ready.marks place i (fits_ready h happens.ready i (fits_lawful h.marks h.pages c i s lawful) happens.reserves) in
+      reached disk pend (ChangedIn i happens.plan happens.after.marks) v.drive happens.after.marks k.marks (reach_stays happens.after.marks k.marks happens.ends.0)
+      (runs_close law disk pend (ChangedIn i happens.plan happens.after.marks) w v h happens.ready happens.after c i s happens.plan place a happens.said lawful happens.reserves well fits happens.runs low (λ id spot given. given)
+      (same_log w.drive w.drive h.marks.member (begun happens.ready place).marks.member disk refl first.member l) (first.closes disk pend closes))
 
 pub closes_stay : BothTell → SendsLawfully → ClosesStay
-closes_stay law sends disk pend w v h k i place s a happens well low l closes =
-    let c : Setting = setting_of h (holder_in w.facility h.cast) place in
-    let lawful : Lawful h.marks h.pages c i s = sends h.marks h.pages c i s (needs_sent (need_of h.marks h.pages c i) (intent_plan h.marks h.pages h.limit i) s happens.plan happens.lawful) in
-    let first : Stays h.marks (begun happens.ready place).marks = begun_closes h happens.ready i place happens.reserves in
-    let fits : Fits (begun happens.ready place).marks i = fits_event happens.ready.marks place i (fits_ready h happens.ready i (fits_lawful h.marks h.pages c i s lawful) happens.reserves) in
-    reached disk pend (ChangedIn i happens.plan happens.after.marks) v.drive happens.after.marks k.marks (reach_stays happens.after.marks k.marks happens.ends.0)
-    (runs_close law disk pend (ChangedIn i happens.plan happens.after.marks) w v h happens.ready happens.after c i s happens.plan place a happens.said lawful happens.reserves well fits happens.runs low (λ id spot given. given)
-    (same_log w.drive w.drive h.marks.member (begun happens.ready place).marks.member disk refl first.member l) (first.closes disk pend closes))
+closes_stay law sends base disk pend w v h k i place s a happens well low l closes = stay_closed base law sends disk pend w v h k i place s a happens well low l closes

@@ -14,7 +14,7 @@ use Rattle.member_pool.specs.Heads.{HeadState}
 use Rattle.member_trans.specs.Trans.{TransState}
 use Rattle.member_marks.specs.Names.{NameSet}
 use Rattle.member_marks.specs.State.{MarksState, with_heads, with_kept, with_locks, with_trans}
-use Rattle.closing_law.specs.Closing.{AllStand, Closes}
+use Rattle.closing_law.specs.Closing.{AllStand, ArePlain, Closes, is_checkpoint}
 use Rattle.closing_law.proofs.Trans.{same_lists}
 
 -- ---- no record is put
@@ -38,11 +38,12 @@ stays_if s x y b p q = cond_both b x y (λ z. Stays s z) p q
 pub record Kept (s t : MarksState) : Type 0 where
   pub member : t.member ≡ s.member
   pub new : List LogRecord
+  pub plain : ArePlain new
   pub quiet : (id : ℕ) (x : Spot) → has_changed new id x ≡ false
   pub closes : (disk pend : List LogRecord) → Closes disk pend s → Closes disk (pend ++ new) t
 
 pub kept_stays : (s t : MarksState) → Stays s t → Kept s t
-kept_stays s t k = record { member = k.member; new = []; quiet = λ id x. refl; closes = λ disk pend c. subst (λ (z : List LogRecord). Closes disk z t) (sym (append-nil pend)) (k.closes disk pend c) }
+kept_stays s t k = record { member = k.member; new = []; plain = tt; quiet = λ id x. refl; closes = λ disk pend c. subst (λ (z : List LogRecord). Closes disk z t) (sym (append-nil pend)) (k.closes disk pend c) }
 
 pub kept_itself : (s : MarksState) → Kept s s
 kept_itself s = kept_stays s s (stays_itself s)
@@ -51,7 +52,7 @@ pub kept_as : (s t u : MarksState) → t ≡ u → Kept s u → Kept s t
 kept_as s t u e k = subst (λ z. Kept s z) (sym e) k
 
 pub kept_after : (s t u : MarksState) → Stays s t → Kept t u → Kept s u
-kept_after s t u a b = record { member = b.member ∙ a.member; new = b.new; quiet = b.quiet; closes = λ disk pend c. b.closes disk pend (a.closes disk pend c) }
+kept_after s t u a b = record { member = b.member ∙ a.member; new = b.new; plain = b.plain; quiet = b.quiet; closes = λ disk pend c. b.closes disk pend (a.closes disk pend c) }
 
 pub kept_if : (s x y : MarksState) (b : Bool) → (b ≡ true → Kept s x) → (b ≡ false → Kept s y) → Kept s (if b then x else y)
 kept_if s x y b p q = cond_both b x y (λ z. Kept s z) p q
@@ -60,6 +61,7 @@ kept_if s x y b p q = cond_both b x y (λ z. Kept s z) p q
 pub record PutsRows (G : ℕ → Spot → Type 0) (s t : MarksState) : Type 0 where
   pub member : t.member ≡ s.member
   pub new : List LogRecord
+  pub plain : ArePlain new
   pub rows : (id : ℕ) (x : Spot) → has_changed new id x ≡ true → G id x
   pub closes : (disk pend : List LogRecord) → Closes disk pend s → Closes disk (pend ++ new) t
 
@@ -67,13 +69,13 @@ both_ways : (b : Bool) → b ≡ false → b ≡ true → ⊥
 both_ways b p q = cc
 
 pub puts_kept : (G : ℕ → Spot → Type 0) (s t : MarksState) → Kept s t → PutsRows G s t
-puts_kept G s t k = record { member = k.member; new = k.new; rows = λ id x h. absurd (both_ways (has_changed k.new id x) (k.quiet id x) h); closes = k.closes }
+puts_kept G s t k = record { member = k.member; new = k.new; plain = k.plain; rows = λ id x h. absurd (both_ways (has_changed k.new id x) (k.quiet id x) h); closes = k.closes }
 
 pub puts_as : (G : ℕ → Spot → Type 0) (s t u : MarksState) → t ≡ u → PutsRows G s u → PutsRows G s t
 puts_as G s t u e k = subst (λ z. PutsRows G s z) (sym e) k
 
 pub puts_after : (G : ℕ → Spot → Type 0) (s t u : MarksState) → Stays s t → PutsRows G t u → PutsRows G s u
-puts_after G s t u a b = record { member = b.member ∙ a.member; new = b.new; rows = b.rows; closes = λ disk pend c. b.closes disk pend (a.closes disk pend c) }
+puts_after G s t u a b = record { member = b.member ∙ a.member; new = b.new; plain = b.plain; rows = b.rows; closes = λ disk pend c. b.closes disk pend (a.closes disk pend c) }
 
 -- ---- where log and transactions stay
 pub record Same (s t : MarksState) : Type 0 where
@@ -168,18 +170,20 @@ no_row r none id x = ap (λ (b : Bool). ((r.tran == id) && b) || false) (none x)
 no_rows : (r q : LogRecord) → ((x : Spot) → is_change_of x r.body ≡ false) → ((x : Spot) → is_change_of x q.body ≡ false) → (id : ℕ) (x : Spot) → has_changed (r ∷ q ∷ []) id x ≡ false
 no_rows r q none last id x = ap (λ (b : Bool). ((r.tran == id) && b) || has_changed (q ∷ []) id x) (none x) ∙ (ap (λ (b : Bool). ((r.tran == id) && false) || b) (no_row q last id x) ∙ and_none (r.tran == id))
 
-pub kept_put : (s : MarksState) (r : LogRecord) (t : TransState) → ((x : Spot) → is_change_of x r.body ≡ false) → LeavesWith s (r ∷ []) t → Kept s (record s { log = after_put s.log r; trans = t })
-kept_put s r t none left = record {
+pub kept_put : (s : MarksState) (r : LogRecord) (t : TransState) → is_checkpoint r.body ≡ false → ((x : Spot) → is_change_of x r.body ≡ false) → LeavesWith s (r ∷ []) t → Kept s (record s { log = after_put s.log r; trans = t })
+kept_put s r t plain none left = record {
   member = refl;
   new = r ∷ [];
+  plain = (plain, tt);
   quiet = no_row r none;
   closes = λ disk pend c. record { spelled = one_more s.log.pending pend r c.spelled; all = left disk pend c.all };
 }
 
-pub kept_put_both : (s : MarksState) (r q : LogRecord) (t : TransState) → ((x : Spot) → is_change_of x r.body ≡ false) → ((x : Spot) → is_change_of x q.body ≡ false) → LeavesWith s (r ∷ q ∷ []) t → Kept s (record s { log = after_put (after_put s.log r) q; trans = t })
-kept_put_both s r q t none last left = record {
+pub kept_put_both : (s : MarksState) (r q : LogRecord) (t : TransState) → is_checkpoint r.body ≡ false → is_checkpoint q.body ≡ false → ((x : Spot) → is_change_of x r.body ≡ false) → ((x : Spot) → is_change_of x q.body ≡ false) → LeavesWith s (r ∷ q ∷ []) t → Kept s (record s { log = after_put (after_put s.log r) q; trans = t })
+kept_put_both s r q t plain ends none last left = record {
   member = refl;
   new = r ∷ q ∷ [];
+  plain = (plain, (ends, tt));
   quiet = no_rows r q none last;
   closes = λ disk pend c. record {
     spelled = one_more (s.log.pending ++ record_bytes r) (pend ++ r ∷ []) q (one_more s.log.pending pend r c.spelled) ∙ ap (λ (z : List LogRecord). log_bytes z) (two_apart pend r q);
@@ -187,10 +191,11 @@ kept_put_both s r q t none last left = record {
   };
 }
 
-pub puts_row : (G : ℕ → Spot → Type 0) (s : MarksState) (r : LogRecord) (t : TransState) → ((id : ℕ) (x : Spot) → has_changed (r ∷ []) id x ≡ true → G id x) → LeavesWith s (r ∷ []) t → PutsRows G s (record s { log = after_put s.log r; trans = t })
-puts_row G s r t rows left = record {
+pub puts_row : (G : ℕ → Spot → Type 0) (s : MarksState) (r : LogRecord) (t : TransState) → is_checkpoint r.body ≡ false → ((id : ℕ) (x : Spot) → has_changed (r ∷ []) id x ≡ true → G id x) → LeavesWith s (r ∷ []) t → PutsRows G s (record s { log = after_put s.log r; trans = t })
+puts_row G s r t plain rows left = record {
   member = refl;
   new = r ∷ [];
+  plain = (plain, tt);
   rows = rows;
   closes = λ disk pend c. record { spelled = one_more s.log.pending pend r c.spelled; all = left disk pend c.all };
 }

@@ -5,6 +5,8 @@ use Rattle.ds_base.specs.declared.names.Sizes.{Sizes}
 use Rattle.ds_disk.specs.Contents.{Contents, log_of}
 use Rattle.ds_model.specs.RecordBytes.{log_bytes}
 use Rattle.ds_model.specs.Rows.{Spot}
+use Rattle.ds_model.specs.declared.log.Body.{Body}
+use Rattle.ds_model.specs.declared.log.Body.TheVariants as body
 use Rattle.ds_model.specs.declared.log.RowChange.{RowChange}
 use Rattle.page_plans.specs.declared.action.Action.{Action}
 use Rattle.ds_model.specs.declared.log.LogRecord.{LogRecord}
@@ -64,12 +66,12 @@ ClosesReach = (disk pend : List LogRecord) (s t : MarksState) → Reaches s t �
 
 -- ---- nor do events, over a disk that tells what it holds
 
--- the log of the member has these records on disk
-pub record LogIs (drive : Drive) (member : ℕ) (disk : List LogRecord) : Type 0 where
+-- the log of the member has these records on disk, behind these bytes
+pub record LogIs (base : List ℕ) (drive : Drive) (member : ℕ) (disk : List LogRecord) : Type 0 where
   pub contents : Contents
   pub told : drive.contents ≡ Some contents
   pub there : nat_lt (member - 1) (length contents.logs) ≡ true
-  pub log : log_of contents.logs member ≡ log_bytes disk
+  pub log : log_of contents.logs member ≡ base ++ log_bytes disk
 
 -- the row that a record of this event has changed is that of the change which its intent has planned for the slot's transaction
 pub record ChangedIn (i : Intent) (p : Plan) (t : MarksState) (id : ℕ) (spot : Spot) : Type 0 where
@@ -82,18 +84,32 @@ pub record ChangedIn (i : Intent) (p : Plan) (t : MarksState) (id : ℕ) (spot :
   pub row : (change.table, change.key) ≡ spot
   pub named : (slot_tran t slot).first ≡ id
 
+-- a member that is up puts no Checkpoint
+abbrev pub is_checkpoint : Body → Bool
+is_checkpoint (body.RowChange c) = false
+is_checkpoint (body.Compensation c undone) = false
+is_checkpoint (body.System patches) = false
+is_checkpoint body.Commit = false
+is_checkpoint body.Ended = false
+is_checkpoint (body.Checkpoint offset) = true
+is_checkpoint body.RestartEnd = false
+
+abbrev pub ArePlain : List LogRecord → Type 0
+ArePlain records = AllByRecursion (λ (r : LogRecord). is_checkpoint r.body ≡ false) records
+
 -- these records were put behind those of the buffer, maybe none
 pub record Puts (pend left : List LogRecord) (Changes : ℕ → Spot → Type 0) : Type 0 where
   pub new : List LogRecord
   pub is : left ≡ pend ++ new
+  pub plain : ArePlain new
   pub rows : (id : ℕ) (spot : Spot) → has_changed new id spot ≡ true → Changes id spot
 
 -- So it is of what an event leaves: records were put behind those of the buffer, or those of the buffer are on disk now.
-pub record StillCloses (disk pend : List LogRecord) (Changes : ℕ → Spot → Type 0) (drive : Drive) (s : MarksState) : Type 0 where
+pub record StillCloses (base : List ℕ) (disk pend : List LogRecord) (Changes : ℕ → Spot → Type 0) (drive : Drive) (s : MarksState) : Type 0 where
   pub more : List LogRecord
   pub left : List LogRecord
   pub goes : ((more ≡ []) × Puts pend left Changes) ⊎ ((more ≡ pend) × (left ≡ []))
-  pub log : LogIs drive s.member (disk ++ more)
+  pub log : LogIs base drive s.member (disk ++ more)
   pub closes : Closes (disk ++ more) left s
 
 -- no call of the disk has failed
@@ -104,9 +120,9 @@ IsUnfailed answered.Done = Unit {0}
 IsUnfailed answered.Failed = ⊥
 
 abbrev pub ClosesStay : Type 0
-ClosesStay = (disk pend : List LogRecord) (w v : World) (h k : Held) (i : Intent) (place : ℕ) (sent : Sent) (a : Answered)
-    → (happens : Happens w h i place sent a v k) → IsUnfailed a → h.marks.log.stable ≤ w.facility.counter → LogIs w.drive h.marks.member disk → Closes disk pend h.marks
-    → StillCloses disk pend (ChangedIn i happens.plan happens.after.marks) v.drive k.marks
+ClosesStay = (base : List ℕ) (disk pend : List LogRecord) (w v : World) (h k : Held) (i : Intent) (place : ℕ) (sent : Sent) (a : Answered)
+    → (happens : Happens w h i place sent a v k) → IsUnfailed a → h.marks.log.stable ≤ w.facility.counter → LogIs base w.drive h.marks.member disk → Closes disk pend h.marks
+    → StillCloses base disk pend (ChangedIn i happens.plan happens.after.marks) v.drive k.marks
 
 -- ---- an owner whose transaction is over, and has changed a row, is closed on disk
 

@@ -77,17 +77,17 @@ settles h intent.Unregister x answer e = near h.marks
 settles h intent.Up x answer e = ups h.marks answer
 
 -- ---- any event
-same_marks : (h k : Held) (b : Bool) (page : _) → k ≡ with_bytes h b page → k.marks ≡ h.marks
+pub same_marks : (h k : Held) (b : Bool) (page : _) → k ≡ with_bytes h b page → k.marks ≡ h.marks
 same_marks h k true page e = ap (λ (z : Held). z.marks) e
 same_marks h k false page e = ap (λ (z : Held). z.marks) e
 
-from_marks : (h k : Held) (i : RestartIntent) (x : RestartSent) (answer : Reply) → k.marks ≡ h.marks → need_of h.marks i ≡ Ok x → Near h.marks (settled k i answer).marks
+pub from_marks : (h k : Held) (i : RestartIntent) (x : RestartSent) (answer : Reply) → k.marks ≡ h.marks → need_of h.marks i ≡ Ok x → Near h.marks (settled k i answer).marks
 from_marks h k i x answer same e = subst (λ (z : RestartState). Near z (settled k i answer).marks) same (settles k i x answer (ap (λ (z : RestartState). need_of z i) same ∙ e))
 
 same_held : (h k : Held) → k ≡ h → Keeps h.marks k.marks
 same_held h k e = subst (λ (z : Held). Keeps h.marks z.marks) (sym e) (keeps h.marks)
 
-runs_keep : OpenTell → (u v : World) (h k : Held) (i : RestartIntent) (x : RestartSent) (a : Answered) (said : RestartTold) → need_of h.marks i ≡ Ok x → Runs u h i x a said v k → Keeps h.marks k.marks
+pub runs_keep : OpenTell → (u v : World) (h k : Held) (i : RestartIntent) (x : RestartSent) (a : Answered) (said : RestartTold) → need_of h.marks i ≡ Ok x → Runs u h i x a said v k → Keeps h.marks k.marks
 runs_keep law u v h k i sent.None a said lawful r = same_held h k r.held
 runs_keep law u v h k i (sent.Command c) a said lawful r =
     subst (λ (z : Held). Keeps h.marks z.marks) (sym r.0.settles)

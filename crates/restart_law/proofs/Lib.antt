@@ -5,3 +5,5 @@ pub mod Near
 pub mod Reading
 pub mod Events
 pub mod Telling
+pub mod Truth
+pub mod Going

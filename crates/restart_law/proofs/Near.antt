@@ -7,7 +7,7 @@ use Rattle.ds_model.specs.declared.lock.Name.{Name}
 use Rattle.ds_model.specs.declared.lock.Name.TheVariants as name
 use Rattle.facility.specs.declared.command.Reply.{Reply}
 use Rattle.facility.specs.declared.command.Reply.TheVariants as reply
-use Rattle.member_log.specs.Buffers.{after_put}
+use Rattle.member_log.specs.Buffers.{LogBuffer, after_put}
 use Rattle.page_format.specs.Fields.{lrsn_of}
 use Rattle.page_redo.specs.declared.fault.FieldFault.{FieldFault}
 use Rattle.page_redo.specs.Rows.{change_fault}
@@ -41,15 +41,15 @@ either_held true s h k x y = x
 either_held false s h k x y = y
 
 -- nothing but the hand, the pages, the log, the counter and the lock are others
-still : (s t : RestartState) → t.own ≡ s.own → t.names ≡ s.names → t.trans ≡ s.trans → Near s t
-still s t own names trans = trans_near s t own names (λ e. trans ∙ e) (subst (λ (z : TransState). Less s.own.records s.trans z) (sym trans) (near s).less)
+pub still : (s t : RestartState) → t.member ≡ s.member → t.log ≡ s.log → t.own ≡ s.own → t.names ≡ s.names → t.trans ≡ s.trans → Near s t
+still s t member log own names trans = trans_near s t member (λ _. ap (λ (z : LogBuffer). z.pending) log) own names (λ e. trans ∙ e) (subst (λ (z : TransState). Less s.own.records s.trans z) (sym trans) (near s).less)
 
 -- ---- the page in hand
 ranked : (s : RestartState) (key to : TurnKey) → Near s (hand.ranked_after s key to)
-ranked s key to = either (key.turn == 0) s (hand.moved_to s key to) s (still s (hand.moved_to s key to) refl refl refl) (near s)
+ranked s key to = either (key.turn == 0) s (hand.moved_to s key to) s (still s (hand.moved_to s key to) refl refl refl refl refl) (near s)
 
 noted_near : (s t : RestartState) (raised : Bool) (number : ℕ) → Near s t → Near s (hand.noted t raised number)
-noted_near s t raised number n = near_on s t (hand.noted t raised number) n (still t (hand.noted t raised number) refl refl refl)
+noted_near s t raised number n = near_on s t (hand.noted t raised number) n (still t (hand.noted t raised number) refl refl refl refl refl)
 
 noted_with : (s : RestartState) (key : Option TurnKey) (page : Option PageId) (raised : Bool) (number : ℕ) (rank : Rank) → Near s (hand.noted_with s key page raised number rank)
 noted_with s None page raised number rank = near s
@@ -57,7 +57,7 @@ noted_with s (Some key) None raised number rank = near s
 noted_with s (Some key) (Some page) raised number rank = noted_near s (hand.ranked_after s key (ranked_key page rank)) raised number (ranked s key (ranked_key page rank))
 
 met : (s t : RestartState) (number : ℕ) → Near s t → Near s (hand.met t number)
-met s t number n = near_on s t (hand.met t number) n (still t (hand.met t number) refl refl refl)
+met s t number n = near_on s t (hand.met t number) n (still t (hand.met t number) refl refl refl refl refl)
 
 readied : (s : RestartState) (raised : Bool) (number : ℕ) (rank : Rank) → Near s (hand.ready_after s raised number rank)
 readied s raised number rank = met s (hand.noted_with s s.hand.key s.hand.page raised number rank) number (noted_with s s.hand.key s.hand.page raised number rank)
@@ -108,62 +108,62 @@ with_hands : (h k : Held) (x : RestartTold) → Near h.marks k.marks → Near h.
 with_hands h k x n = near_on h.marks k.marks (ready_after k x).marks n (ready k x)
 
 pub reads : (h : Held) (answer : Reply) → Near h.marks (read_after h answer).marks
-reads h answer = with_hands h (read_in h answer) (hand.read_told h.marks.hand answer) (still h.marks (read_in h answer).marks refl refl refl)
+reads h answer = with_hands h (read_in h answer) (hand.read_told h.marks.hand answer) (still h.marks (read_in h answer).marks refl refl refl refl refl)
 
 pub tests : (h : Held) (answer : Reply) → Near h.marks (tested_after h answer).marks
-tests h answer = with_hands h (tested_in h answer) (hand.tested_told answer) (still h.marks (tested_in h answer).marks refl refl refl)
+tests h answer = with_hands h (tested_in h answer) (hand.tested_told answer) (still h.marks (tested_in h answer).marks refl refl refl refl refl)
 
 pub writes : (s : RestartState) (answer : Reply) → Near s (with_hand s (hand.written_after s.hand answer))
-writes s answer = still s (with_hand s (hand.written_after s.hand answer)) refl refl refl
+writes s answer = still s (with_hand s (hand.written_after s.hand answer)) refl refl refl refl refl
 
 -- ---- retained records
 listed_name : (s : RestartState) (n : Name) → s.own.is_read ≡ true → Near s (entered_name s n)
 listed_name s (name.Space t) read = retains s (name.Space t) read
 listed_name s (name.Row t k) read = retains s (name.Row t k) read
-listed_name s (name.Page p) read = still s (entered_name s (name.Page p)) refl refl refl
+listed_name s (name.Page p) read = still s (entered_name s (name.Page p)) refl refl refl refl refl
 listed_name s (name.Set n) read = retains s (name.Set n) read
 
 lists_one : (s : RestartState) (n : Name) (mode : _) → s.own.is_read ≡ true → Near s (record_after s (reply.RetainedLock n mode))
-lists_one s n mode read = near_on s (entered_name s n) (record_after s (reply.RetainedLock n mode)) (listed_name s n read) (still (entered_name s n) (record_after s (reply.RetainedLock n mode)) refl refl refl)
+lists_one s n mode read = near_on s (entered_name s n) (record_after s (reply.RetainedLock n mode)) (listed_name s n read) (still (entered_name s n) (record_after s (reply.RetainedLock n mode)) refl refl refl refl refl)
 
 pub lists : (s : RestartState) (answer : Reply) → s.own.is_read ≡ true → Near s (record_after s answer)
-lists s (reply.Granted version) read = still s (record s { is_listed = true }) refl refl refl
-lists s (reply.Retained by) read = still s (record s { is_listed = true }) refl refl refl
-lists s (reply.RecordsFull limit) read = still s (record s { is_listed = true }) refl refl refl
-lists s (reply.Contention share exclusive version) read = still s (record s { is_listed = true }) refl refl refl
-lists s (reply.Moved version) read = still s (record s { is_listed = true }) refl refl refl
+lists s (reply.Granted version) read = still s (record s { is_listed = true }) refl refl refl refl refl
+lists s (reply.Retained by) read = still s (record s { is_listed = true }) refl refl refl refl refl
+lists s (reply.RecordsFull limit) read = still s (record s { is_listed = true }) refl refl refl refl refl
+lists s (reply.Contention share exclusive version) read = still s (record s { is_listed = true }) refl refl refl refl refl
+lists s (reply.Moved version) read = still s (record s { is_listed = true }) refl refl refl refl refl
 lists s (reply.RetainedLock other mode) read = lists_one s other mode read
-lists s reply.Done read = still s (record s { is_listed = true }) refl refl refl
-lists s reply.Nothing read = still s (record s { is_listed = true }) refl refl refl
-lists s reply.Found read = still s (record s { is_listed = true }) refl refl refl
-lists s reply.NoData read = still s (record s { is_listed = true }) refl refl refl
-lists s reply.CacheFull read = still s (record s { is_listed = true }) refl refl refl
-lists s reply.Lost read = still s (record s { is_listed = true }) refl refl refl
-lists s reply.Written read = still s (record s { is_listed = true }) refl refl refl
-lists s reply.Valid read = still s (record s { is_listed = true }) refl refl refl
-lists s reply.Invalid read = still s (record s { is_listed = true }) refl refl refl
-lists s reply.Taken read = still s (record s { is_listed = true }) refl refl refl
-lists s reply.NotChanged read = still s (record s { is_listed = true }) refl refl refl
-lists s (reply.Locked by) read = still s (record s { is_listed = true }) refl refl refl
-lists s reply.NotHeld read = still s (record s { is_listed = true }) refl refl refl
-lists s (reply.ChangedPage other) read = still s (record s { is_listed = true }) refl refl refl
-lists s (reply.Query query) read = still s (record s { is_listed = true }) refl refl refl
-lists s reply.Gone read = still s (record s { is_listed = true }) refl refl refl
-lists s reply.Cells read = still s (record s { is_listed = true }) refl refl refl
-lists s reply.Waits read = still s (record s { is_listed = true }) refl refl refl
-lists s reply.Raised read = still s (record s { is_listed = true }) refl refl refl
-lists s reply.NotRaised read = still s (record s { is_listed = true }) refl refl refl
-lists s (reply.Status status) read = still s (record s { is_listed = true }) refl refl refl
-lists s reply.NotLost read = still s (record s { is_listed = true }) refl refl refl
-lists s (reply.ClaimTaken by) read = still s (record s { is_listed = true }) refl refl refl
-lists s reply.Claimed read = still s (record s { is_listed = true }) refl refl refl
-lists s (reply.Drawn lrsn) read = still s (record s { is_listed = true }) refl refl refl
-lists s (reply.Stale index) read = still s (record s { is_listed = true }) refl refl refl
-lists s (reply.LrsnEnd at) read = still s (record s { is_listed = true }) refl refl refl
+lists s reply.Done read = still s (record s { is_listed = true }) refl refl refl refl refl
+lists s reply.Nothing read = still s (record s { is_listed = true }) refl refl refl refl refl
+lists s reply.Found read = still s (record s { is_listed = true }) refl refl refl refl refl
+lists s reply.NoData read = still s (record s { is_listed = true }) refl refl refl refl refl
+lists s reply.CacheFull read = still s (record s { is_listed = true }) refl refl refl refl refl
+lists s reply.Lost read = still s (record s { is_listed = true }) refl refl refl refl refl
+lists s reply.Written read = still s (record s { is_listed = true }) refl refl refl refl refl
+lists s reply.Valid read = still s (record s { is_listed = true }) refl refl refl refl refl
+lists s reply.Invalid read = still s (record s { is_listed = true }) refl refl refl refl refl
+lists s reply.Taken read = still s (record s { is_listed = true }) refl refl refl refl refl
+lists s reply.NotChanged read = still s (record s { is_listed = true }) refl refl refl refl refl
+lists s (reply.Locked by) read = still s (record s { is_listed = true }) refl refl refl refl refl
+lists s reply.NotHeld read = still s (record s { is_listed = true }) refl refl refl refl refl
+lists s (reply.ChangedPage other) read = still s (record s { is_listed = true }) refl refl refl refl refl
+lists s (reply.Query query) read = still s (record s { is_listed = true }) refl refl refl refl refl
+lists s reply.Gone read = still s (record s { is_listed = true }) refl refl refl refl refl
+lists s reply.Cells read = still s (record s { is_listed = true }) refl refl refl refl refl
+lists s reply.Waits read = still s (record s { is_listed = true }) refl refl refl refl refl
+lists s reply.Raised read = still s (record s { is_listed = true }) refl refl refl refl refl
+lists s reply.NotRaised read = still s (record s { is_listed = true }) refl refl refl refl refl
+lists s (reply.Status status) read = still s (record s { is_listed = true }) refl refl refl refl refl
+lists s reply.NotLost read = still s (record s { is_listed = true }) refl refl refl refl refl
+lists s (reply.ClaimTaken by) read = still s (record s { is_listed = true }) refl refl refl refl refl
+lists s reply.Claimed read = still s (record s { is_listed = true }) refl refl refl refl refl
+lists s (reply.Drawn lrsn) read = still s (record s { is_listed = true }) refl refl refl refl refl
+lists s (reply.Stale index) read = still s (record s { is_listed = true }) refl refl refl refl refl
+lists s (reply.LrsnEnd at) read = still s (record s { is_listed = true }) refl refl refl refl refl
 
 freed : (s : RestartState) (o : Option TurnKey) → Near s (page_freed s o)
 freed s None = near s
-freed s (Some key) = still s (page_freed s (Some key)) refl refl refl
+freed s (Some key) = still s (page_freed s (Some key)) refl refl refl refl refl
 
 pub page_purged : (s : RestartState) (answer : Reply) → Near s (page_purged_after s answer)
 page_purged s (reply.Granted version) = near s
@@ -237,109 +237,109 @@ name_purged s n (reply.LrsnEnd at) = near s
 
 -- ---- the page's lock, and the end
 pub claims : (s : RestartState) (id : ℕ) (answer : Reply) → Near s (claim_after s id answer)
-claims s id (reply.Granted version) = still s (claim_after s id (reply.Granted version)) refl refl refl
-claims s id (reply.Retained by) = still s (claim_after s id (reply.Retained by)) refl refl refl
-claims s id (reply.RecordsFull limit) = still s (claim_after s id (reply.RecordsFull limit)) refl refl refl
-claims s id (reply.Contention share exclusive version) = still s (claim_after s id (reply.Contention share exclusive version)) refl refl refl
-claims s id (reply.Moved version) = still s (claim_after s id (reply.Moved version)) refl refl refl
-claims s id (reply.RetainedLock other mode) = still s (claim_after s id (reply.RetainedLock other mode)) refl refl refl
-claims s id reply.Done = still s (claim_after s id reply.Done) refl refl refl
-claims s id reply.Nothing = still s (claim_after s id reply.Nothing) refl refl refl
-claims s id reply.Found = still s (claim_after s id reply.Found) refl refl refl
-claims s id reply.NoData = still s (claim_after s id reply.NoData) refl refl refl
-claims s id reply.CacheFull = still s (claim_after s id reply.CacheFull) refl refl refl
-claims s id reply.Lost = still s (claim_after s id reply.Lost) refl refl refl
-claims s id reply.Written = still s (claim_after s id reply.Written) refl refl refl
-claims s id reply.Valid = still s (claim_after s id reply.Valid) refl refl refl
-claims s id reply.Invalid = still s (claim_after s id reply.Invalid) refl refl refl
-claims s id reply.Taken = still s (claim_after s id reply.Taken) refl refl refl
-claims s id reply.NotChanged = still s (claim_after s id reply.NotChanged) refl refl refl
-claims s id (reply.Locked by) = still s (claim_after s id (reply.Locked by)) refl refl refl
-claims s id reply.NotHeld = still s (claim_after s id reply.NotHeld) refl refl refl
-claims s id (reply.ChangedPage other) = still s (claim_after s id (reply.ChangedPage other)) refl refl refl
-claims s id (reply.Query query) = still s (claim_after s id (reply.Query query)) refl refl refl
-claims s id reply.Gone = still s (claim_after s id reply.Gone) refl refl refl
-claims s id reply.Cells = still s (claim_after s id reply.Cells) refl refl refl
-claims s id reply.Waits = still s (claim_after s id reply.Waits) refl refl refl
-claims s id reply.Raised = still s (claim_after s id reply.Raised) refl refl refl
-claims s id reply.NotRaised = still s (claim_after s id reply.NotRaised) refl refl refl
-claims s id (reply.Status status) = still s (claim_after s id (reply.Status status)) refl refl refl
-claims s id reply.NotLost = still s (claim_after s id reply.NotLost) refl refl refl
-claims s id (reply.ClaimTaken by) = still s (claim_after s id (reply.ClaimTaken by)) refl refl refl
-claims s id reply.Claimed = still s (claim_after s id reply.Claimed) refl refl refl
-claims s id (reply.Drawn lrsn) = still s (claim_after s id (reply.Drawn lrsn)) refl refl refl
-claims s id (reply.Stale index) = still s (claim_after s id (reply.Stale index)) refl refl refl
-claims s id (reply.LrsnEnd at) = still s (claim_after s id (reply.LrsnEnd at)) refl refl refl
+claims s id (reply.Granted version) = still s (claim_after s id (reply.Granted version)) refl refl refl refl refl
+claims s id (reply.Retained by) = still s (claim_after s id (reply.Retained by)) refl refl refl refl refl
+claims s id (reply.RecordsFull limit) = still s (claim_after s id (reply.RecordsFull limit)) refl refl refl refl refl
+claims s id (reply.Contention share exclusive version) = still s (claim_after s id (reply.Contention share exclusive version)) refl refl refl refl refl
+claims s id (reply.Moved version) = still s (claim_after s id (reply.Moved version)) refl refl refl refl refl
+claims s id (reply.RetainedLock other mode) = still s (claim_after s id (reply.RetainedLock other mode)) refl refl refl refl refl
+claims s id reply.Done = still s (claim_after s id reply.Done) refl refl refl refl refl
+claims s id reply.Nothing = still s (claim_after s id reply.Nothing) refl refl refl refl refl
+claims s id reply.Found = still s (claim_after s id reply.Found) refl refl refl refl refl
+claims s id reply.NoData = still s (claim_after s id reply.NoData) refl refl refl refl refl
+claims s id reply.CacheFull = still s (claim_after s id reply.CacheFull) refl refl refl refl refl
+claims s id reply.Lost = still s (claim_after s id reply.Lost) refl refl refl refl refl
+claims s id reply.Written = still s (claim_after s id reply.Written) refl refl refl refl refl
+claims s id reply.Valid = still s (claim_after s id reply.Valid) refl refl refl refl refl
+claims s id reply.Invalid = still s (claim_after s id reply.Invalid) refl refl refl refl refl
+claims s id reply.Taken = still s (claim_after s id reply.Taken) refl refl refl refl refl
+claims s id reply.NotChanged = still s (claim_after s id reply.NotChanged) refl refl refl refl refl
+claims s id (reply.Locked by) = still s (claim_after s id (reply.Locked by)) refl refl refl refl refl
+claims s id reply.NotHeld = still s (claim_after s id reply.NotHeld) refl refl refl refl refl
+claims s id (reply.ChangedPage other) = still s (claim_after s id (reply.ChangedPage other)) refl refl refl refl refl
+claims s id (reply.Query query) = still s (claim_after s id (reply.Query query)) refl refl refl refl refl
+claims s id reply.Gone = still s (claim_after s id reply.Gone) refl refl refl refl refl
+claims s id reply.Cells = still s (claim_after s id reply.Cells) refl refl refl refl refl
+claims s id reply.Waits = still s (claim_after s id reply.Waits) refl refl refl refl refl
+claims s id reply.Raised = still s (claim_after s id reply.Raised) refl refl refl refl refl
+claims s id reply.NotRaised = still s (claim_after s id reply.NotRaised) refl refl refl refl refl
+claims s id (reply.Status status) = still s (claim_after s id (reply.Status status)) refl refl refl refl refl
+claims s id reply.NotLost = still s (claim_after s id reply.NotLost) refl refl refl refl refl
+claims s id (reply.ClaimTaken by) = still s (claim_after s id (reply.ClaimTaken by)) refl refl refl refl refl
+claims s id reply.Claimed = still s (claim_after s id reply.Claimed) refl refl refl refl refl
+claims s id (reply.Drawn lrsn) = still s (claim_after s id (reply.Drawn lrsn)) refl refl refl refl refl
+claims s id (reply.Stale index) = still s (claim_after s id (reply.Stale index)) refl refl refl refl refl
+claims s id (reply.LrsnEnd at) = still s (claim_after s id (reply.LrsnEnd at)) refl refl refl refl refl
 
 pub releases : (s : RestartState) (answer : Reply) → Near s (released_after s answer)
-releases s (reply.Granted version) = still s (released_after s (reply.Granted version)) refl refl refl
-releases s (reply.Retained by) = still s (released_after s (reply.Retained by)) refl refl refl
-releases s (reply.RecordsFull limit) = still s (released_after s (reply.RecordsFull limit)) refl refl refl
-releases s (reply.Contention share exclusive version) = still s (released_after s (reply.Contention share exclusive version)) refl refl refl
-releases s (reply.Moved version) = still s (released_after s (reply.Moved version)) refl refl refl
-releases s (reply.RetainedLock other mode) = still s (released_after s (reply.RetainedLock other mode)) refl refl refl
-releases s reply.Done = still s (released_after s reply.Done) refl refl refl
-releases s reply.Nothing = still s (released_after s reply.Nothing) refl refl refl
-releases s reply.Found = still s (released_after s reply.Found) refl refl refl
-releases s reply.NoData = still s (released_after s reply.NoData) refl refl refl
-releases s reply.CacheFull = still s (released_after s reply.CacheFull) refl refl refl
-releases s reply.Lost = still s (released_after s reply.Lost) refl refl refl
-releases s reply.Written = still s (released_after s reply.Written) refl refl refl
-releases s reply.Valid = still s (released_after s reply.Valid) refl refl refl
-releases s reply.Invalid = still s (released_after s reply.Invalid) refl refl refl
-releases s reply.Taken = still s (released_after s reply.Taken) refl refl refl
-releases s reply.NotChanged = still s (released_after s reply.NotChanged) refl refl refl
-releases s (reply.Locked by) = still s (released_after s (reply.Locked by)) refl refl refl
-releases s reply.NotHeld = still s (released_after s reply.NotHeld) refl refl refl
-releases s (reply.ChangedPage other) = still s (released_after s (reply.ChangedPage other)) refl refl refl
-releases s (reply.Query query) = still s (released_after s (reply.Query query)) refl refl refl
-releases s reply.Gone = still s (released_after s reply.Gone) refl refl refl
-releases s reply.Cells = still s (released_after s reply.Cells) refl refl refl
-releases s reply.Waits = still s (released_after s reply.Waits) refl refl refl
-releases s reply.Raised = still s (released_after s reply.Raised) refl refl refl
-releases s reply.NotRaised = still s (released_after s reply.NotRaised) refl refl refl
-releases s (reply.Status status) = still s (released_after s (reply.Status status)) refl refl refl
-releases s reply.NotLost = still s (released_after s reply.NotLost) refl refl refl
-releases s (reply.ClaimTaken by) = still s (released_after s (reply.ClaimTaken by)) refl refl refl
-releases s reply.Claimed = still s (released_after s reply.Claimed) refl refl refl
-releases s (reply.Drawn lrsn) = still s (released_after s (reply.Drawn lrsn)) refl refl refl
-releases s (reply.Stale index) = still s (released_after s (reply.Stale index)) refl refl refl
-releases s (reply.LrsnEnd at) = still s (released_after s (reply.LrsnEnd at)) refl refl refl
+releases s (reply.Granted version) = still s (released_after s (reply.Granted version)) refl refl refl refl refl
+releases s (reply.Retained by) = still s (released_after s (reply.Retained by)) refl refl refl refl refl
+releases s (reply.RecordsFull limit) = still s (released_after s (reply.RecordsFull limit)) refl refl refl refl refl
+releases s (reply.Contention share exclusive version) = still s (released_after s (reply.Contention share exclusive version)) refl refl refl refl refl
+releases s (reply.Moved version) = still s (released_after s (reply.Moved version)) refl refl refl refl refl
+releases s (reply.RetainedLock other mode) = still s (released_after s (reply.RetainedLock other mode)) refl refl refl refl refl
+releases s reply.Done = still s (released_after s reply.Done) refl refl refl refl refl
+releases s reply.Nothing = still s (released_after s reply.Nothing) refl refl refl refl refl
+releases s reply.Found = still s (released_after s reply.Found) refl refl refl refl refl
+releases s reply.NoData = still s (released_after s reply.NoData) refl refl refl refl refl
+releases s reply.CacheFull = still s (released_after s reply.CacheFull) refl refl refl refl refl
+releases s reply.Lost = still s (released_after s reply.Lost) refl refl refl refl refl
+releases s reply.Written = still s (released_after s reply.Written) refl refl refl refl refl
+releases s reply.Valid = still s (released_after s reply.Valid) refl refl refl refl refl
+releases s reply.Invalid = still s (released_after s reply.Invalid) refl refl refl refl refl
+releases s reply.Taken = still s (released_after s reply.Taken) refl refl refl refl refl
+releases s reply.NotChanged = still s (released_after s reply.NotChanged) refl refl refl refl refl
+releases s (reply.Locked by) = still s (released_after s (reply.Locked by)) refl refl refl refl refl
+releases s reply.NotHeld = still s (released_after s reply.NotHeld) refl refl refl refl refl
+releases s (reply.ChangedPage other) = still s (released_after s (reply.ChangedPage other)) refl refl refl refl refl
+releases s (reply.Query query) = still s (released_after s (reply.Query query)) refl refl refl refl refl
+releases s reply.Gone = still s (released_after s reply.Gone) refl refl refl refl refl
+releases s reply.Cells = still s (released_after s reply.Cells) refl refl refl refl refl
+releases s reply.Waits = still s (released_after s reply.Waits) refl refl refl refl refl
+releases s reply.Raised = still s (released_after s reply.Raised) refl refl refl refl refl
+releases s reply.NotRaised = still s (released_after s reply.NotRaised) refl refl refl refl refl
+releases s (reply.Status status) = still s (released_after s (reply.Status status)) refl refl refl refl refl
+releases s reply.NotLost = still s (released_after s reply.NotLost) refl refl refl refl refl
+releases s (reply.ClaimTaken by) = still s (released_after s (reply.ClaimTaken by)) refl refl refl refl refl
+releases s reply.Claimed = still s (released_after s reply.Claimed) refl refl refl refl refl
+releases s (reply.Drawn lrsn) = still s (released_after s (reply.Drawn lrsn)) refl refl refl refl refl
+releases s (reply.Stale index) = still s (released_after s (reply.Stale index)) refl refl refl refl refl
+releases s (reply.LrsnEnd at) = still s (released_after s (reply.LrsnEnd at)) refl refl refl refl refl
 
 pub ups : (s : RestartState) (answer : Reply) → Near s (up_after s answer)
-ups s (reply.Granted version) = still s (up_after s (reply.Granted version)) refl refl refl
-ups s (reply.Retained by) = still s (up_after s (reply.Retained by)) refl refl refl
-ups s (reply.RecordsFull limit) = still s (up_after s (reply.RecordsFull limit)) refl refl refl
-ups s (reply.Contention share exclusive version) = still s (up_after s (reply.Contention share exclusive version)) refl refl refl
-ups s (reply.Moved version) = still s (up_after s (reply.Moved version)) refl refl refl
-ups s (reply.RetainedLock other mode) = still s (up_after s (reply.RetainedLock other mode)) refl refl refl
-ups s reply.Done = still s (up_after s reply.Done) refl refl refl
-ups s reply.Nothing = still s (up_after s reply.Nothing) refl refl refl
-ups s reply.Found = still s (up_after s reply.Found) refl refl refl
-ups s reply.NoData = still s (up_after s reply.NoData) refl refl refl
-ups s reply.CacheFull = still s (up_after s reply.CacheFull) refl refl refl
-ups s reply.Lost = still s (up_after s reply.Lost) refl refl refl
-ups s reply.Written = still s (up_after s reply.Written) refl refl refl
-ups s reply.Valid = still s (up_after s reply.Valid) refl refl refl
-ups s reply.Invalid = still s (up_after s reply.Invalid) refl refl refl
-ups s reply.Taken = still s (up_after s reply.Taken) refl refl refl
-ups s reply.NotChanged = still s (up_after s reply.NotChanged) refl refl refl
-ups s (reply.Locked by) = still s (up_after s (reply.Locked by)) refl refl refl
-ups s reply.NotHeld = still s (up_after s reply.NotHeld) refl refl refl
-ups s (reply.ChangedPage other) = still s (up_after s (reply.ChangedPage other)) refl refl refl
-ups s (reply.Query query) = still s (up_after s (reply.Query query)) refl refl refl
-ups s reply.Gone = still s (up_after s reply.Gone) refl refl refl
-ups s reply.Cells = still s (up_after s reply.Cells) refl refl refl
-ups s reply.Waits = still s (up_after s reply.Waits) refl refl refl
-ups s reply.Raised = still s (up_after s reply.Raised) refl refl refl
-ups s reply.NotRaised = still s (up_after s reply.NotRaised) refl refl refl
-ups s (reply.Status status) = still s (up_after s (reply.Status status)) refl refl refl
-ups s reply.NotLost = still s (up_after s reply.NotLost) refl refl refl
-ups s (reply.ClaimTaken by) = still s (up_after s (reply.ClaimTaken by)) refl refl refl
-ups s reply.Claimed = still s (up_after s reply.Claimed) refl refl refl
-ups s (reply.Drawn lrsn) = still s (up_after s (reply.Drawn lrsn)) refl refl refl
-ups s (reply.Stale index) = still s (up_after s (reply.Stale index)) refl refl refl
-ups s (reply.LrsnEnd at) = still s (up_after s (reply.LrsnEnd at)) refl refl refl
+ups s (reply.Granted version) = still s (up_after s (reply.Granted version)) refl refl refl refl refl
+ups s (reply.Retained by) = still s (up_after s (reply.Retained by)) refl refl refl refl refl
+ups s (reply.RecordsFull limit) = still s (up_after s (reply.RecordsFull limit)) refl refl refl refl refl
+ups s (reply.Contention share exclusive version) = still s (up_after s (reply.Contention share exclusive version)) refl refl refl refl refl
+ups s (reply.Moved version) = still s (up_after s (reply.Moved version)) refl refl refl refl refl
+ups s (reply.RetainedLock other mode) = still s (up_after s (reply.RetainedLock other mode)) refl refl refl refl refl
+ups s reply.Done = still s (up_after s reply.Done) refl refl refl refl refl
+ups s reply.Nothing = still s (up_after s reply.Nothing) refl refl refl refl refl
+ups s reply.Found = still s (up_after s reply.Found) refl refl refl refl refl
+ups s reply.NoData = still s (up_after s reply.NoData) refl refl refl refl refl
+ups s reply.CacheFull = still s (up_after s reply.CacheFull) refl refl refl refl refl
+ups s reply.Lost = still s (up_after s reply.Lost) refl refl refl refl refl
+ups s reply.Written = still s (up_after s reply.Written) refl refl refl refl refl
+ups s reply.Valid = still s (up_after s reply.Valid) refl refl refl refl refl
+ups s reply.Invalid = still s (up_after s reply.Invalid) refl refl refl refl refl
+ups s reply.Taken = still s (up_after s reply.Taken) refl refl refl refl refl
+ups s reply.NotChanged = still s (up_after s reply.NotChanged) refl refl refl refl refl
+ups s (reply.Locked by) = still s (up_after s (reply.Locked by)) refl refl refl refl refl
+ups s reply.NotHeld = still s (up_after s reply.NotHeld) refl refl refl refl refl
+ups s (reply.ChangedPage other) = still s (up_after s (reply.ChangedPage other)) refl refl refl refl refl
+ups s (reply.Query query) = still s (up_after s (reply.Query query)) refl refl refl refl refl
+ups s reply.Gone = still s (up_after s reply.Gone) refl refl refl refl refl
+ups s reply.Cells = still s (up_after s reply.Cells) refl refl refl refl refl
+ups s reply.Waits = still s (up_after s reply.Waits) refl refl refl refl refl
+ups s reply.Raised = still s (up_after s reply.Raised) refl refl refl refl refl
+ups s reply.NotRaised = still s (up_after s reply.NotRaised) refl refl refl refl refl
+ups s (reply.Status status) = still s (up_after s (reply.Status status)) refl refl refl refl refl
+ups s reply.NotLost = still s (up_after s reply.NotLost) refl refl refl refl refl
+ups s (reply.ClaimTaken by) = still s (up_after s (reply.ClaimTaken by)) refl refl refl refl refl
+ups s reply.Claimed = still s (up_after s reply.Claimed) refl refl refl refl refl
+ups s (reply.Drawn lrsn) = still s (up_after s (reply.Drawn lrsn)) refl refl refl refl refl
+ups s (reply.Stale index) = still s (up_after s (reply.Stale index)) refl refl refl refl refl
+ups s (reply.LrsnEnd at) = still s (up_after s (reply.LrsnEnd at)) refl refl refl refl refl
 
 -- ---- changes that are taken back
 -- whose newest change stands is open
@@ -362,9 +362,12 @@ none_undone : (id : ℕ) (b : Bool) → (if b then after_end (after_back no_tran
 none_undone id true = refl
 none_undone id false = refl
 
+none_newest : (id : ℕ) (it : Newest) → newest no_trans id ≡ Some it → ⊥
+none_newest id it e = some_none it e
+
 undone : (s : RestartState) (id lrsn : ℕ) (o : Option Newest) → newest s.trans id ≡ o → Near s (undone_as s id lrsn o)
 undone s id lrsn None is = near s
-undone s id lrsn (Some it) is = trans_near s (undone_as s id lrsn (Some it)) refl refl
+undone s id lrsn (Some it) is = trans_near s (undone_as s id lrsn (Some it)) refl (λ e. absurd (none_newest id it (sym (ap (λ (z : TransState). newest z id) e) ∙ is))) refl refl
     (λ e. ap (λ (z : TransState). if is_last s.trans id then after_end (after_back z id) id else after_back z id) e ∙ none_undone id (is_last s.trans id))
     (undone_trans s id (is_last s.trans id) (newest_open (tran_in s.trans id) it is))
 
@@ -380,7 +383,7 @@ drawn : (h : Held) (id lrsn : ℕ) → Near h.marks (drawn_after h id lrsn).mark
 drawn h id lrsn = either_held (may_undo h.marks id lrsn) h.marks (drawn_after_by h id lrsn (newest h.marks.trans id)) h (drawn_by h id lrsn (newest h.marks.trans id)) (near h.marks)
 
 stale : (h : Held) (index : ℕ) (id : ℕ) → Near h.marks (settle_undo_after h id (reply.Stale index)).marks
-stale h index id = still h.marks (settle_undo_after h id (reply.Stale index)).marks refl refl refl
+stale h index id = still h.marks (settle_undo_after h id (reply.Stale index)).marks refl refl refl refl refl
 
 pub undoes : (h : Held) (id : ℕ) (answer : Reply) → Near h.marks (settle_undo_after h id answer).marks
 undoes h id (reply.Granted version) = near h.marks
@@ -420,11 +423,11 @@ undoes h id (reply.LrsnEnd at) = near h.marks
 -- ---- local moves
 retained : (s : RestartState) (o : Option TurnKey) → Near s (retained_from s o)
 retained s None = near s
-retained s (Some key) = still s (retained_from s (Some key)) refl refl refl
+retained s (Some key) = still s (retained_from s (Some key)) refl refl refl refl refl
 
 taken_up : (s : RestartState) (o : Option PageId) → Near s (undone_from s o)
 taken_up s None = near s
-taken_up s (Some p) = still s (undone_from s (Some p)) refl refl refl
+taken_up s (Some p) = still s (undone_from s (Some p)) refl refl refl refl refl
 
 -- a transaction that is closed was open
 undone_open : (o : Option RestartTran) → is_undone_by o ≡ true → IfSome o (λ x. is_open x ≡ true)
@@ -437,8 +440,12 @@ may_close_open s id e =
     let q = and_parts (not (is_some s.trans.ending)) (is_undone s.trans id && fits_in s.log (closing_record s id)) p.1 in
     (and_parts (is_undone s.trans id) (fits_in s.log (closing_record s id)) q.1).0
 
+none_closed : (id : ℕ) → is_undone no_trans id ≡ true → ⊥
+none_closed id e = absurd cc
+
 closes : (s : RestartState) (id : ℕ) → may_close s id ≡ true → Near s (record s { log = after_put s.log (closing_record s id); trans = after_end s.trans id })
-closes s id may = trans_near s (record s { log = after_put s.log (closing_record s id); trans = after_end s.trans id }) refl refl
+closes s id may = trans_near s (record s { log = after_put s.log (closing_record s id); trans = after_end s.trans id }) refl
+    (λ e. absurd (none_closed id (sym (ap (λ (z : TransState). is_undone z id) e) ∙ may_close_open s id may))) refl refl
     (λ e. ap (λ (z : TransState). after_end z id) e)
     (ends s.own.records s.trans id (undone_open (tran_in s.trans id) (may_close_open s id may)))
 
@@ -449,7 +456,7 @@ close_by s id false may = near s
 one : (x : Local) (s : RestartState) → Near s (moved x s)
 one TakeUpRetained s = either (is_none s.hand.page) s (retained_from s (slice_get s.pages 0)) s (retained s (slice_get s.pages 0)) (near s)
 one (TakeUpUndone id) s = either (is_none s.hand.page && is_recovered s) s (undone_from s (page_undone s.trans id)) s (taken_up s (page_undone s.trans id)) (near s)
-one PutDown s = either (may_put_down s.hand s.claim) s (with_hand s no_hand) s (still s (with_hand s no_hand) refl refl refl) (near s)
+one PutDown s = either (may_put_down s.hand s.claim) s (with_hand s no_hand) s (still s (with_hand s no_hand) refl refl refl refl refl) (near s)
 one (Close id) s = close_by s id (may_close s id) refl
 
 all : (xs : List Local) (s : RestartState) → Near s (all_moved xs s)

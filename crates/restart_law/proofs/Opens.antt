@@ -28,22 +28,26 @@ Keeps s t = OpensStand s → OpensStand t
 
 -- ---- where nothing is freed, and nothing read
 pub record Near (s t : RestartState) : Type 0 where
+  pub member : t.member ≡ s.member
+  pub idle : s.trans ≡ no_trans → t.log.pending ≡ s.log.pending
   pub read : t.own.is_read ≡ s.own.is_read
   pub reader : t.own.reader ≡ s.own.reader
   pub records : t.own.records ≡ s.own.records
   pub unread_names : s.own.is_read ≡ false → s.names ≡ no_names → t.names ≡ no_names
-  pub unread_trans : s.own.is_read ≡ false → s.trans ≡ no_trans → t.trans ≡ no_trans
+  pub none : s.trans ≡ no_trans → t.trans ≡ no_trans
   pub spaces : length t.names.spaces ≡ length s.names.spaces
   pub needed : (n : Name) → IsMarked s.names n → (mark_of s.names n).needed ≤ (mark_of t.names n).needed
   pub less : Less s.own.records s.trans t.trans
 
 pub near : (s : RestartState) → Near s s
 near s = record {
+  member = refl;
+  idle = λ _. refl;
   read = refl;
   reader = refl;
   records = refl;
   unread_names = λ _ e. e;
-  unread_trans = λ _ e. e;
+  none = λ e. e;
   spaces = refl;
   needed = λ n known. omega arith;
   less = less s.own.records s.trans;
@@ -51,11 +55,13 @@ near s = record {
 
 pub near_on : (s t u : RestartState) → Near s t → Near t u → Near s u
 near_on s t u a b = record {
+  member = b.member ∙ a.member;
+  idle = λ e. b.idle (a.none e) ∙ a.idle e;
+  none = λ e. b.none (a.none e);
   read = b.read ∙ a.read;
   reader = b.reader ∙ a.reader;
   records = b.records ∙ a.records;
   unread_names = λ r e. b.unread_names (a.read ∙ r) (a.unread_names r e);
-  unread_trans = λ r e. b.unread_trans (a.read ∙ r) (a.unread_trans r e);
   spaces = b.spaces ∙ a.spaces;
   needed = λ n known. let p = a.needed n known in let q = b.needed n (marked_on s.names t.names n a.spaces known) in omega arith;
   less = less_on s.own.records s.trans t.trans u.trans a.less (subst (λ (z : List LogRecord). Less z t.trans u.trans) a.records b.less);
@@ -64,7 +70,7 @@ near_on s t u a b = record {
 pub near_keeps : (s t : RestartState) → Near s t → Keeps s t
 near_keeps s t n o = record {
   none_needed = λ r. let q = sym n.read ∙ r in n.unread_names q (o.none_needed q);
-  none_open = λ r. let q = sym n.read ∙ r in n.unread_trans q (o.none_open q);
+  none_open = λ r. n.none (o.none_open (sym n.read ∙ r));
   reader = λ r. n.reader ∙ o.reader (sym n.read ∙ r);
   from_log = subst (λ (z : List LogRecord). AreFrom z t.trans.list) (sym n.records) (n.less.from_log o.from_log);
   needed = λ few m known. all (subst (λ (z : List LogRecord). FewNeeds z) n.records few) m (marked_on t.names s.names m (sym n.spaces) known);
@@ -92,11 +98,13 @@ as_needed s n q b known = put_needed s n q (record { retained = b; needed = (mar
 
 mark_names : (s : RestartState) (n : Name) (b : Bool) → s.own.is_read ≡ true → Near s (record s { names = marked s.names n (record { retained = b; needed = (mark_of s.names n).needed }) })
 mark_names s n b read = record {
+  member = refl;
+  idle = λ _. refl;
   read = refl;
   reader = refl;
   records = refl;
   unread_names = λ r _. absurd (both_ways s.own.is_read r read);
-  unread_trans = λ _ e. e;
+  none = λ e. e;
   spaces = more_spaces s.names n (record { retained = b; needed = (mark_of s.names n).needed });
   needed = λ q known. let e = as_needed s.names n q b known in omega arith;
   less = less s.own.records s.trans;
@@ -121,11 +129,13 @@ none_purged n = ap (λ (b : Bool). if b then marked no_names n (record { retaine
 
 pub purges : (s : RestartState) (n : Name) → Near s (record s { names = purged_now s.names n })
 purges s n = record {
+  member = refl;
+  idle = λ _. refl;
   read = refl;
   reader = refl;
   records = refl;
   unread_names = λ _ e. ap (λ (z : NameState). purged_now z n) e ∙ none_purged n;
-  unread_trans = λ _ e. e;
+  none = λ e. e;
   spaces = spaces_by (mark_of s.names n).retained;
   needed = λ q known. needed_by q known (mark_of s.names n).retained;
   less = less s.own.records s.trans;
@@ -140,13 +150,15 @@ purges s n = record {
     needed_by q known false = omega arith
 
 -- ---- transactions
-pub trans_near : (s t : RestartState) → t.own ≡ s.own → t.names ≡ s.names → (s.trans ≡ no_trans → t.trans ≡ no_trans) → Less s.own.records s.trans t.trans → Near s t
-trans_near s t own names none l = record {
+pub trans_near : (s t : RestartState) → t.member ≡ s.member → (s.trans ≡ no_trans → t.log.pending ≡ s.log.pending) → t.own ≡ s.own → t.names ≡ s.names → (s.trans ≡ no_trans → t.trans ≡ no_trans) → Less s.own.records s.trans t.trans → Near s t
+trans_near s t member idle own names none l = record {
+  member = member;
+  idle = idle;
   read = ap (λ (z : OwnState). z.is_read) own;
   reader = ap (λ (z : OwnState). z.reader) own;
   records = ap (λ (z : OwnState). z.records) own;
   unread_names = λ _ e. names ∙ e;
-  unread_trans = λ _ e. none e;
+  none = none;
   spaces = ap (λ (z : NameState). length z.spaces) names;
   needed = λ n known. subst (λ (z : NameState). (mark_of s.names n).needed ≤ (mark_of z n).needed) (sym names) (omega arith);
   less = l;

@@ -6,9 +6,9 @@ use Rattle.ds_disk.specs.declared.disk.DiskError.TheVariants as error
 use Rattle.log_reader.specs.declared.calls.LogReply.{LogReply}
 use Rattle.log_reader.specs.declared.calls.LogReply.TheVariants as logged
 use Rattle.log_reader.specs.Lending.{with_block}
-use Rattle.log_reader.specs.Readers.{ReaderState, after_reply, is_whole}
+use Rattle.log_reader.specs.Readers.{ReaderState, after_reply, is_whole, parts_read}
 use Rattle.log_record.specs.declared.log.Log.{Log}
-use Rattle.log_record.specs.Logs.{Parts, parts_in}
+use Rattle.log_record.specs.Logs.{Parts}
 use Rattle.log_rows.specs.Rows.{OpenTell}
 use Rattle.log_trans.specs.declared.damage.Damaged.{Damaged}
 use Rattle.log_trans.specs.Damage.{log_damage}
@@ -41,8 +41,8 @@ whole law s t r m (Ok p) there e = judged law s t r (log_from m p) (log_damage (
 read_by : OpenTell → (s t : RestartState) (r q : ReaderState) → s.own.reader ≡ Some r → t ≡ with_own s (own_with s.own None) → Keeps s (read_after t q)
 read_by law s t r q there e = by (is_whole q)
   where
-    by : (b : Bool) → Keeps s (if b then whole_after t q.member (parts_in q.bytes) else with_own t (own_with t.own (Some q)))
-    by true = whole law s t r q.member (parts_in q.bytes) there e
+    by : (b : Bool) → Keeps s (if b then whole_after t q.member (parts_read q) else with_own t (own_with t.own (Some q)))
+    by true = whole law s t r q.member (parts_read q) there e
     by false = reader_in s (with_own t (own_with t.own (Some q))) r (Some q) there (ap (λ (z : RestartState). with_own z (own_with z.own (Some q))) e)
 
 reads_as : OpenTell → (s : RestartState) (o : Option ReaderState) (answer : LogReply) → s.own.reader ≡ o → Keeps s (reader_after s o answer)
@@ -86,7 +86,7 @@ block_goes w v h k at count done None there e = at_marks h.marks k h e.2 (keeps 
 block_goes w v h k at count done (Some r) there e =
     at_marks h.marks k (with_reader h (with_block r e.block)) e.held (reader_in h.marks (with_own h.marks (own_with h.marks.own (Some (with_block r e.block)))) r (Some (with_block r e.block)) there refl)
 
-called : (w v : Drive) (h k : Held) (x : RestartSent) (done : Result Got DiskError) → Calls w h x done v k → Keeps h.marks k.marks
+pub called : (w v : Drive) (h k : Held) (x : RestartSent) (done : Result Got DiskError) → Calls w h x done v k → Keeps h.marks k.marks
 called w v h k sent.LogLength done e = at_marks h.marks k h e.1 (keeps h.marks)
 called w v h k (sent.ReadLog at count) done e = block_goes w v h k at count done h.marks.own.reader refl e
 called w v h k (sent.CutLog long) done e = at_marks h.marks k h e.1 (keeps h.marks)

@@ -27,7 +27,7 @@ use Rattle.restart_marks.specs.Needs.{need_of}
 use Rattle.restart_marks.specs.OwnNeeds.{recovered_test}
 use Rattle.restart_marks.specs.State.{RestartState}
 use Rattle.restart_marks.specs.Tested.{Tested, after, passed, when}
-use Rattle.restart_law.specs.Opens.{AreNeeded, FewNeeds, IsMarked, IsSpared, OpensStand, OpensTell, PurgesSpare, is_named, is_over, needs_by, needs_in, needs_left, needs_of, needs_still, one_if}
+use Rattle.restart_law.specs.Opens.{AreNeeded, FewNeeds, IsMarked, IsSpared, OpensStand, OpensTell, OpensTouch, PurgesSpare, PurgesSpareLeft, is_named, is_over, needs_by, needs_in, needs_left, needs_of, needs_still, one_if}
 use Rattle.restart_law.proofs.Events.{after_first, holds, when_first, when_rest}
 use Rattle.restart_law.proofs.Trans.{AreFrom}
 
@@ -42,7 +42,7 @@ or_swap false false c h = or_last c h
     or_last true e = refl
     or_last false e = e
 
-touches_tran : BothTell → (x : RestartTran) (s : Spot) → touches (open_of x) s ≡ true → touches x.tran s ≡ true
+pub touches_tran : BothTell → OpensTouch
 touches_tran law x s h =
     let n : ℕ = kept_in x in
     let split : (has_row x.tran.undone s || has_row (drop n x.tran.undo) s) ≡ has_row (x.tran.undone ++ drop n x.tran.undo) s = sym (law.rows x.tran.undone (drop n x.tran.undo) s) in
@@ -161,3 +161,30 @@ purges_spare law s n x o few e =
     let zero_needed : (mark_of s.names n).needed ≡ 0 = eqb-true (mark_of s.names n).needed 0 none in
     let most = o.needed few n (is_marked s.names n retained) in
     all_spared law n s.trans.list (omega arith)
+
+-- ---- all that aren't over
+going_needs : (n : Name) (x : RestartTran) → is_over x.stage ≡ false → needs_still n x ≡ needs_by n x.tran
+going_needs n x going = ap (λ (b : Bool). if b then 0 else needs_by n x.tran) going
+
+left_spared : (n : Name) (xs : List RestartTran) → needs_left n xs ≤ 0 → AllByRecursion (λ (y : RestartTran). is_over y.stage ≡ false → IsSpared n y.tran) xs
+left_spared n [] none = tt
+left_spared n (x ∷ xs) none = (λ going s h. (λ is. never going s h (inl is), λ is. never going s h (inr is)), left_spared n xs (omega arith))
+  where
+    never : is_over x.stage ≡ false → (s : Spot) → touches x.tran s ≡ true → NamesSpot s n → ⊥
+    never going s h is =
+        let p = tran_needs s n x.tran is h in
+        let q = going_needs n x going in
+        omega arith
+
+pub purges_spare_left : PurgesSpareLeft
+purges_spare_left s n x o few e =
+    let mark : NameMark = mark_of s.names n in
+    let unneeded : Tested = when (mark.needed == 0) test.StillNeeded passed in
+    let own : Tested = when mark.retained test.NotRetained unneeded in
+    let rest : Tested = after (recovered_test s) (when (not s.hand.changed) test.StillChanged (when (length s.log.pending == 0) test.StillPending passed)) in
+    let first : holds own ≡ true = tests_first own rest (after_first (after own rest) (Ok (sent.Command (command.Purge n))) x e) in
+    let retained : mark.retained ≡ true = when_first mark.retained test.NotRetained unneeded first in
+    let none : (mark.needed == 0) ≡ true = when_first (mark.needed == 0) test.StillNeeded passed (when_rest mark.retained test.NotRetained unneeded first) in
+    let zero_needed : (mark_of s.names n).needed ≡ 0 = eqb-true (mark_of s.names n).needed 0 none in
+    let most = o.needed few n (is_marked s.names n retained) in
+    left_spared n s.trans.list (omega arith)

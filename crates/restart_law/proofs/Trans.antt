@@ -1,7 +1,8 @@
 -- The transactions that are left open, as they come and go.
 use Rattle.std.proofs.Common.{◌≡◌, ℕ, zero, suc, ◌+◌, ◌-◌, ◌≤◌, refl, sym, ◌∙◌, ap, subst, arith, Bool, true, false, List, [], ◌∷◌, ◌++◌, length, Option, Some, None}
-use Rattle.std.specs.Prelude.{◌^◌, ◌&&◌, ◌==◌, not, min, IfSome, if◌then◌else◌, slice_get, slice_set}
+use Rattle.std.specs.Prelude.{map, ◌^◌, ◌&&◌, ◌==◌, not, min, IfSome, if◌then◌else◌, slice_get, slice_set}
 use Rattle.std.specs.List.{AllByRecursion}
+use Rattle.std.proofs.lemmas.Bool.{both_ways}
 use Rattle.ds_model.specs.declared.lock.Name.{Name}
 use Rattle.ds_model.specs.declared.log.LogRecord.{LogRecord}
 use Rattle.log_trans.specs.declared.opened.OpenTran.{OpenTran}
@@ -11,7 +12,7 @@ use Rattle.restart_records.specs.declared.trans.RestartStage.TheVariants as stag
 use Rattle.restart_records.specs.declared.trans.RestartTran.{RestartTran}
 use Rattle.restart_records.specs.Maps.{place_at, with_place}
 use Rattle.restart_records.specs.Trans.{TransState, added, after_back, after_back_at, after_end, after_end_at, after_finish, after_finish_at, all_added, ended_at, ended_from, ending_in, is_open, is_open_stage, no_trans, over_at, over_from, taken_back, taken_back_from, tran_at, tran_in}
-use Rattle.restart_law.specs.Opens.{IsEnding, is_over, needs_among, needs_by, needs_left, needs_still}
+use Rattle.restart_law.specs.Opens.{GoOn, IsEnding, is_over, needs_among, needs_by, needs_left, needs_still}
 
 same_some : (a b : RestartTran) → Some a ≡ Some b → a ≡ b
 same_some a b e = cc
@@ -25,15 +26,34 @@ pub record Less (records : List LogRecord) (t u : TransState) : Type 0 where
   pub needs : (n : Name) → needs_left n u.list ≤ needs_left n t.list
   pub from_log : AreFrom records t.list → AreFrom records u.list
   pub ending : IsEnding t → IsEnding u
+  pub goes : GoOn t.list u.list
+
+pub go_on : (list : List RestartTran) → GoOn list list
+go_on [] = tt
+go_on (x ∷ xs) = ((refl, λ e. e), go_on xs)
+
+pub go_on_on : (a b c : List RestartTran) → GoOn a b → GoOn b c → GoOn a c
+go_on_on [] [] [] p q = tt
+go_on_on [] [] (z ∷ zs) p q = q
+go_on_on [] (y ∷ ys) c p q = absurd p
+go_on_on (x ∷ xs) [] c p q = absurd p
+go_on_on (x ∷ xs) (y ∷ ys) [] p q = absurd q
+go_on_on (x ∷ xs) (y ∷ ys) (z ∷ zs) p q = ((q.0.0 ∙ p.0.0, λ e. q.0.1 (p.0.1 e)), go_on_on xs ys zs p.1 q.1)
+
+set_goes : (list : List RestartTran) (at : ℕ) (x y : RestartTran) → slice_get list at ≡ Some x → y.tran ≡ x.tran → (is_over x.stage ≡ true → is_over y.stage ≡ true) → GoOn list (slice_set list at y)
+set_goes [] at x y is same over = tt
+set_goes (z ∷ zs) zero x y is same over = ((same ∙ sym (ap (λ (w : RestartTran). w.tran) (same_some z x is)), λ e. over (ap (λ (w : RestartTran). is_over w.stage) (sym (same_some z x is)) ∙ e)), go_on zs)
+set_goes (z ∷ zs) (suc at) x y is same over = ((refl, λ e. e), set_goes zs at x y is same over)
 
 pub less : (records : List LogRecord) (t : TransState) → Less records t t
-less records t = record { needs = λ n. omega arith; from_log = λ f. f; ending = λ e. e }
+less records t = record { needs = λ n. omega arith; from_log = λ f. f; ending = λ e. e; goes = go_on t.list }
 
 pub less_on : (records : List LogRecord) (t u v : TransState) → Less records t u → Less records u v → Less records t v
 less_on records t u v a b = record {
   needs = λ n. let p = a.needs n in let q = b.needs n in omega arith;
   from_log = λ f. b.from_log (a.from_log f);
   ending = λ e. b.ending (a.ending e);
+  goes = go_on_on t.list u.list v.list a.goes b.goes;
 }
 
 -- ---- one of them is changed
@@ -62,12 +82,13 @@ set_ending list None at y new old = old
 set_ending list (Some k) at y new old = set_get list at k y new old
 
 -- one that needs as much as before, or less
-changed : (records : List LogRecord) (t u : TransState) (at : ℕ) (x y : RestartTran) → slice_get t.list at ≡ Some x → y.tran ≡ x.tran → ((n : Name) → needs_still n y ≤ needs_still n x) → u.list ≡ slice_set t.list at y
+changed : (records : List LogRecord) (t u : TransState) (at : ℕ) (x y : RestartTran) → slice_get t.list at ≡ Some x → y.tran ≡ x.tran → ((n : Name) → needs_still n y ≤ needs_still n x) → (is_over x.stage ≡ true → is_over y.stage ≡ true) → u.list ≡ slice_set t.list at y
     → (IsEnding t → IsEnding u) → Less records t u
-changed records t u at x y is same fewer e ending = record {
+changed records t u at x y is same fewer over e ending = record {
   needs = λ n. subst (λ (z : List RestartTran). needs_left n z ≤ needs_left n t.list) (sym e) (let p = set_needs n t.list at x y is in let q = fewer n in omega arith);
   from_log = λ f. subst (λ (z : List RestartTran). AreFrom records z) (sym e) (set_from records t.list at x y is same f);
   ending = ending;
+  goes = subst (λ (z : List RestartTran). GoOn t.list z) (sym e) (set_goes t.list at x y is same over);
 }
 
 -- ---- a change of it is taken back
@@ -77,6 +98,7 @@ back_from records t at (Some x) is = record {
   needs = λ n. let p = set_needs n t.list at x (record x { stands = x.stands - 1 }) is in omega arith;
   from_log = set_from records t.list at x (record x { stands = x.stands - 1 }) is refl;
   ending = λ e. by_stage e;
+  goes = set_goes t.list at x (record x { stands = x.stands - 1 }) is refl (λ e. e);
 }
   where
     in_place : (list : List RestartTran) (k : ℕ) → slice_get list k ≡ Some x → (j : ℕ) → IfSome (slice_get list j) NotOver → IfSome (slice_get (slice_set list k (record x { stands = x.stands - 1 })) j) NotOver
@@ -117,7 +139,7 @@ at_place (z ∷ zs) (suc at) y new = at_place zs at y new
 ended_at_place : (records : List LogRecord) (t : TransState) (at : ℕ) (o : Option RestartTran) → slice_get t.list at ≡ o → IfSome o (λ x. is_open x ≡ true) → Less records t (ended_from t at o)
 ended_at_place records t at None is opened = less records t
 ended_at_place records t at (Some x) is opened =
-    changed records t (ended_from t at (Some x)) at x (record x { stage = stage.Ended }) is refl (λ n. ended_needs n x opened) refl
+    changed records t (ended_from t at (Some x)) at x (record x { stage = stage.Ended }) is refl (λ n. ended_needs n x opened) (λ e. absurd (both_ways (is_over x.stage) (open_stands x.stage opened) e)) refl
     (λ e. at_place t.list at (record x { stage = stage.Ended }) refl)
 
 ended_in : (records : List LogRecord) (t : TransState) (o : Option ℕ) → IfSome (tran_at t o) (λ x. is_open x ≡ true) → Less records t (after_end_at t o)
@@ -166,20 +188,22 @@ pub record Frees (records : List LogRecord) (t u : TransState) (o : Option Resta
   pub needs : (n : Name) → needs_left n u.list + freed_by n o ≤ needs_left n t.list
   pub from_log : AreFrom records t.list → AreFrom records u.list
   pub ending : IsEnding u
+  pub goes : GoOn t.list u.list
 
 over_needs : (n : Name) (x : RestartTran) → NotOver x → needs_still n x ≡ needs_by n x.tran
 over_needs n x e = ap (λ (b : Bool). if b then 0 else needs_by n x.tran) e
 
 over_place : (records : List LogRecord) (t : TransState) (at : ℕ) (o : Option RestartTran) → slice_get t.list at ≡ o → IfSome o NotOver → Frees records t (over_from (record t { ending = None }) at o) o
-over_place records t at None is stands = record { needs = λ n. omega arith; from_log = λ f. f; ending = tt }
+over_place records t at None is stands = record { needs = λ n. omega arith; from_log = λ f. f; ending = tt; goes = go_on t.list }
 over_place records t at (Some x) is stands = record {
   needs = λ n. let p = set_needs n t.list at x (record x { stage = stage.Over }) is in let q = over_needs n x stands in omega arith;
   from_log = set_from records t.list at x (record x { stage = stage.Over }) is refl;
   ending = tt;
+  goes = set_goes t.list at x (record x { stage = stage.Over }) is refl (λ e. refl);
 }
 
 finish_at : (records : List LogRecord) (t : TransState) (o : Option ℕ) → t.ending ≡ o → IfSome o (λ at. IfSome (slice_get t.list at) NotOver) → Frees records t (after_finish_at t o) (tran_at t o)
-finish_at records t None is stands = record { needs = λ n. omega arith; from_log = λ f. f; ending = subst (λ (z : Option ℕ). IfSome z (λ at. IfSome (slice_get t.list at) NotOver)) (sym is) tt }
+finish_at records t None is stands = record { needs = λ n. omega arith; from_log = λ f. f; ending = subst (λ (z : Option ℕ). IfSome z (λ at. IfSome (slice_get t.list at) NotOver)) (sym is) tt; goes = go_on t.list }
 finish_at records t (Some at) is stands = over_place records t at (slice_get t.list at) refl stands
 
 pub finish : (records : List LogRecord) (t : TransState) → IsEnding t → Frees records t (after_finish t) (ending_in t)
@@ -208,3 +232,20 @@ added_from records t (o ∷ os) f new = added_from records (added t o) os (last_
 pub added_ending : (t : TransState) (os : List OpenTran) → (all_added t os).ending ≡ t.ending
 added_ending t [] = refl
 added_ending t (o ∷ os) = added_ending (added t o) os
+
+-- the transactions of the list are those of the log
+pub added_are : (t : TransState) (os : List OpenTran) → map (λ (x : RestartTran). x.tran) (all_added t os).list ≡ map (λ (x : RestartTran). x.tran) t.list ++ os
+added_are t [] = sym (none_behind (map (λ (x : RestartTran). x.tran) t.list))
+  where
+    none_behind : (xs : List OpenTran) → xs ++ [] ≡ xs
+    none_behind [] = refl
+    none_behind (x ∷ xs) = ap (λ (z : List OpenTran). x ∷ z) (none_behind xs)
+added_are t (o ∷ os) = added_are (added t o) os ∙ (ap (λ (z : List OpenTran). z ++ os) (last_is t.list) ∙ moved (map (λ (x : RestartTran). x.tran) t.list))
+  where
+    last_is : (list : List RestartTran) → map (λ (x : RestartTran). x.tran) (list ++ record { tran = o; stands = length o.undo; stage = stage.Open } ∷ []) ≡ map (λ (x : RestartTran). x.tran) list ++ o ∷ []
+    last_is [] = refl
+    last_is (x ∷ xs) = ap (λ (z : List OpenTran). x.tran ∷ z) (last_is xs)
+
+    moved : (xs : List OpenTran) → (xs ++ o ∷ []) ++ os ≡ xs ++ (o ∷ os)
+    moved [] = refl
+    moved (x ∷ xs) = ap (λ (z : List OpenTran). x ∷ z) (moved xs)

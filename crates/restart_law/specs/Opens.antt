@@ -1,5 +1,5 @@
 -- What a restart has left open, beside the log that it has read, and the names that this needs.
-use Rattle.std.specs.Prelude.{◌≡◌, ◌≢◌, ℕ, ◌+◌, ◌-◌, ◌^◌, ◌≤◌, ◌==◌, nat_lt, ◌&&◌, Bool, true, false, List, [], ◌∷◌, length, IfSome, None, Ok, slice_get, if◌then◌else◌}
+use Rattle.std.specs.Prelude.{◌≡◌, ◌≢◌, ℕ, ◌+◌, ◌-◌, ◌^◌, ◌≤◌, ◌==◌, nat_lt, ◌&&◌, Bool, true, false, List, [], ◌∷◌, length, map, IfSome, None, Ok, slice_get, if◌then◌else◌}
 use Rattle.std.specs.List.{AllByRecursion}
 use Rattle.ds_model.specs.Rows.{Spot}
 use Rattle.ds_model.specs.declared.lock.Name.{Name}
@@ -16,7 +16,7 @@ use Rattle.restart_records.specs.declared.trans.RestartStage.{RestartStage}
 use Rattle.restart_records.specs.declared.trans.RestartStage.TheVariants as stage
 use Rattle.restart_records.specs.declared.trans.RestartTran.{RestartTran}
 use Rattle.restart_records.specs.Names.{NameState, mark_of, no_names}
-use Rattle.restart_records.specs.Trans.{TransState, no_trans, opened_among}
+use Rattle.restart_records.specs.Trans.{TransState, no_trans, open_of, opened_among}
 use Rattle.restart_marks.specs.declared.intent.RestartIntent.TheVariants as intent
 use Rattle.restart_marks.specs.declared.intent.RestartSent.{RestartSent}
 use Rattle.restart_marks.specs.Adopt.{adopted_after}
@@ -101,6 +101,15 @@ pub record OpensStand (s : RestartState) : Type 0 where
   pub needed : FewNeeds s.own.records → AreNeeded s.names s.trans.list
   pub ending : IsEnding s.trans
 
+-- ---- how the list of them goes on
+
+-- each is the same transaction, and one that is over stays so
+abbrev pub GoOn : List RestartTran → List RestartTran → Type 0
+GoOn [] [] = Unit {0}
+GoOn [] (y ∷ ys) = ⊥
+GoOn (x ∷ xs) [] = ⊥
+GoOn (x ∷ xs) (y ∷ ys) = ((y.tran ≡ x.tran) × (is_over x.stage ≡ true → is_over y.stage ≡ true)) × GoOn xs ys
+
 -- ---- the laws
 
 abbrev pub OpensBegin : Type 0
@@ -115,9 +124,27 @@ OpensHand = (s : RestartState) → OpensStand s → OpensStand (adopted_after s)
 abbrev pub OpensTell : Type 0
 OpensTell = (s : RestartState) → OpensStand s → AllByRecursion (IsOpenIn s.own.records) (opened_among s.trans.list)
 
+-- what is handed over of a transaction has no rows but those that the transaction has changed
+abbrev pub OpensTouch : Type 0
+OpensTouch = (x : RestartTran) (s : Spot) → touches (open_of x) s ≡ true → touches x.tran s ≡ true
+
 -- the name is neither a row's that the transaction has changed nor that of its table space
 abbrev pub IsSpared : Name → OpenTran → Type 0
 IsSpared n t = (s : Spot) → touches t s ≡ true → (n ≢ name.Space s.0) × (n ≢ name.Row s.0 s.1)
 
 abbrev pub PurgesSpare : Type 0
 PurgesSpare = (s : RestartState) (n : Name) (x : RestartSent) → OpensStand s → FewNeeds s.own.records → need_of s (intent.Purge n) ≡ Ok x → AllByRecursion (IsSpared n) (opened_among s.trans.list)
+
+-- The same of all transactions that aren't over. In the event in which the log is read they are those that it leaves open; behind any other
+-- they are the same.
+abbrev pub PurgesSpareLeft : Type 0
+PurgesSpareLeft = (s : RestartState) (n : Name) (x : RestartSent) → OpensStand s → FewNeeds s.own.records → need_of s (intent.Purge n) ≡ Ok x → AllByRecursion (λ (y : RestartTran). is_over y.stage ≡ false → IsSpared n y.tran) s.trans.list
+
+pub record ListGoes (s t : RestartState) : Type 0 where
+  pub read : s.own.is_read ≡ true → GoOn s.trans.list t.trans.list
+  pub records : s.own.is_read ≡ true → t.own.records ≡ s.own.records
+  pub still_read : s.own.is_read ≡ true → t.own.is_read ≡ true
+  pub reads : s.own.is_read ≡ false → t.own.is_read ≡ true → map (λ (y : RestartTran). y.tran) t.trans.list ≡ open_trans t.own.records
+
+abbrev pub ListsGo : Type 0
+ListsGo = (u v : World) (h k : Held) (x : RestartSent) (a : Answered) → Happens u h x a v k → OpensStand h.marks → ListGoes h.marks k.marks

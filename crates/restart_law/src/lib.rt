@@ -5,9 +5,21 @@
 //! The crate has definitions and proofs alone. Its functions do nothing: their contracts are the theorems.
 #![tactic(auto)]
 
-ghost use Rattle.restart_law.specs.Opens.{OpensBegin, OpensHand, OpensStay, OpensTell, PurgesSpare};
+ghost use Rattle.restart_law.specs.Opens.{
+  ListsGo,
+  OpensBegin,
+  OpensHand,
+  OpensStay,
+  OpensTell,
+  OpensTouch,
+  PurgesSpare,
+  PurgesSpareLeft,
+};
+ghost use Rattle.restart_law.specs.Reads.{ReadsBegin, ReadsStay};
 
+use log_reader::reader_laws;
 use log_rows::{both_tell, open_trans_tell};
+use log_starts::starts_stay;
 
 /// So it is of a restart that begins, and no event of it changes that, nor does what its member takes over from it.
 pub fn opens_stay()
@@ -22,7 +34,28 @@ pub fn opens_stay()
 /// records have changed for them; and it frees the record of no name that one of these needs.
 pub fn opens_tell()
     ensures tell { OpensTell }
+    ensures touch { OpensTouch }
     ensures spare { PurgesSpare }
+    ensures left { PurgesSpareLeft }
 {
     both_tell();
+}
+
+/// Over a disk that tells what it holds, what a restart has read are the last records of its member's log on disk as it was before the
+/// restart changed it, behind whole records: all of it, or what follows a Checkpoint that names its own place.
+pub fn reads_true()
+    ensures begin { ReadsBegin }
+    ensures event { ReadsStay }
+{
+    reader_laws();
+    starts_stay();
+    open_trans_tell();
+}
+
+/// Once the log is read, the restart's transactions stay the same, and one that is over stays so; where it is read, they are those that it
+/// leaves open.
+pub fn lists_go()
+    ensures { ListsGo }
+{
+    open_trans_tell();
 }

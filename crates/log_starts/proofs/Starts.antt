@@ -1,0 +1,111 @@
+-- Where a reader's records begin, as it reads on.
+use Rattle.std.proofs.Common.{◌≡◌, ℕ, get_or, ◌+◌, ◌-◌, ◌<◌, ◌≤◌, refl, sym, ◌∙◌, ap, subst, arith, Bool, true, false, inl, inr, List, [], ◌∷◌, ◌++◌, length, take, drop, Result, Ok, Err}
+use Rattle.std.specs.Prelude.{◌⊎◌, ◌≢◌, ◌&&◌, ◌||◌, nat_lt}
+use Rattle.std.proofs.lemmas.Bool.{and_parts, cases_lt, cond_both}
+use Rattle.std.proofs.lemmas.List.{drop-drop, get_or-drop, length-take-le, take-append-le, take_all}
+use Rattle.std.proofs.Math.ListN.{get_or-append}
+use Rattle.std.proofs.Math.Seq.{get_or-append_right}
+use Rattle.ds_model.specs.RecordBytes.{is_written, record_bytes}
+use Rattle.ds_model.specs.declared.log.LogRecord.{LogRecord}
+use Rattle.log_record.specs.declared.fault.RecordFault.{RecordFault}
+use Rattle.log_record.specs.declared.fault.RecordFault.TheVariants.{NotWhole}
+use Rattle.log_record.specs.Reading.{Found, record_in}
+use Rattle.log_head.specs.Laws.{FirstIsWhole, FrontDecides, NoneIsWhole}
+use Rattle.log_head.specs.Whole.{whole_records}
+use Rattle.log_reader.specs.declared.held.Mark.{Mark}
+use Rattle.log_reader.specs.Held.{HeldState, begins_at, first_mark, grown, marked_all, marked_one, names, names_other, nothing_held, settled, with_mark}
+use Rattle.log_reader.specs.Keeping.{AreBytes}
+use Rattle.log_starts.specs.Starts.{BeginsAt, GrownBegins, MayBegin, NamesOwn, NothingBegins}
+
+-- a record that is read in bytes stands there
+abbrev pub FoundInBytes : Type 0
+FoundInBytes = (bytes : List ℕ) (r : LogRecord) (n : ℕ) → AreBytes bytes → record_in bytes ≡ Ok (r, n) → Found bytes r n
+
+-- ---- bytes
+drop_bytes : (k : ℕ) (bytes : List ℕ) → AreBytes bytes → AreBytes (drop k bytes)
+drop_bytes k bytes h i = subst (λ (b : ℕ). b < 256) (sym (get_or-drop k bytes i 0)) (h (k + i))
+
+both_bytes : (a b : List ℕ) → AreBytes a → AreBytes b → AreBytes (a ++ b)
+both_bytes a b h k i = elim (cases_lt i (length a)) [
+  | inl less ↦ subst (λ (x : ℕ). x < 256) (sym (get_or-append a b 0 i less)) (h i)
+  | inr more ↦ subst (λ (x : ℕ). x < 256) (sym (get_or-append_right a b i 0 more)) (k (i - length a))
+]
+
+-- ---- one that stands at the front is read, whatever follows
+some_record : (x : LogRecord × ℕ) → Ok x ≡ Err NotWhole → ⊥
+some_record x e = cc
+
+front_whole : (a b : List ℕ) → take (length a) (a ++ b) ≡ a
+front_whole a b = take-append-le (length a) a b (omega arith) ∙ take_all (length a) a (omega arith)
+
+read_on : FrontDecides → (a b : List ℕ) (r : LogRecord) (n : ℕ) → record_in a ≡ Ok (r, n) → record_in (a ++ b) ≡ Ok (r, n)
+read_on law a b r n e =
+    let front : record_in (take (length a) (a ++ b)) ≡ Ok (r, n) = ap record_in (front_whole a b) ∙ e in
+    law (a ++ b) (length a) (λ q. some_record (r, n) (sym front ∙ q)) ∙ front
+
+-- ---- the mark from which bytes are kept
+abbrev Named : ℕ → List ℕ → Mark → Type 0
+Named start bytes m = (m.from ≡ 0) ⊎ NamesOwn (start + m.from) (drop m.from bytes)
+
+one_behind : (start : ℕ) (m : Mark) (r : LogRecord) → (marked_one start m r).to ≡ m.to + length (record_bytes r)
+one_behind start m r = cond_both (begins_at (start + m.to) r) (record { from = m.to; to = m.to + length (record_bytes r); has_other = m.has_other }) (record { from = m.from; to = m.to + length (record_bytes r); has_other = m.has_other || names_other (start + m.to) r.body })
+    (λ (z : Mark). z.to ≡ m.to + length (record_bytes r)) (λ e. refl) (λ e. refl)
+
+one_named : (start : ℕ) (bytes : List ℕ) (m : Mark) (r : LogRecord) (n : ℕ) → record_in (drop m.to bytes) ≡ Ok (r, n) → Named start bytes m → Named start bytes (marked_one start m r)
+one_named start bytes m r n read named = cond_both (begins_at (start + m.to) r) (record { from = m.to; to = m.to + length (record_bytes r); has_other = m.has_other }) (record { from = m.from; to = m.to + length (record_bytes r); has_other = m.has_other || names_other (start + m.to) r.body })
+    (λ (z : Mark). Named start bytes z) (λ e. inr (record { made = r; size = n; read = read; own = (and_parts (is_written r.version) (names (start + m.to) r.body) e).1 })) (λ e. named)
+
+no_more : (x : LogRecord) (xs : List LogRecord) → x ∷ xs ≡ [] → ⊥
+no_more x xs e = cc
+
+size_is : (bytes : List ℕ) (r : LogRecord) (n : ℕ) → Found bytes r n → n ≡ length (record_bytes r)
+size_is bytes r n f = sym (length-take-le n bytes f.within) ∙ ap (λ (t : List ℕ). length t) f.spelled
+
+module _ (found : FoundInBytes) (first : FirstIsWhole) (none : NoneIsWhole) where
+  abbrev NamesRest : ℕ → List ℕ → List LogRecord → Type 0
+  NamesRest start bytes rs = (m : Mark) → Named start bytes m → whole_records (drop m.to bytes) ≡ rs → Named start bytes (marked_all start m rs)
+
+  read_named : (start : ℕ) (bytes : List ℕ) (m : Mark) (r : LogRecord) (rs : List LogRecord) (f : Result (LogRecord × ℕ) RecordFault) → AreBytes bytes → Named start bytes m → whole_records (drop m.to bytes) ≡ r ∷ rs → record_in (drop m.to bytes) ≡ f → NamesRest start bytes rs
+      → Named start bytes (marked_all start (marked_one start m r) rs)
+  read_named start bytes m r rs (Err fault) h named e read rest = absurd (no_more r rs (sym e ∙ none (drop m.to bytes) fault read))
+  read_named start bytes m r rs (Ok (x, n)) h named e read rest =
+      let both : x ∷ whole_records (drop n (drop m.to bytes)) ≡ r ∷ rs = sym (first (drop m.to bytes) x n read) ∙ e in
+      let same : x ≡ r = cc in
+      let behind : whole_records (drop n (drop m.to bytes)) ≡ rs = cc in
+      let here : record_in (drop m.to bytes) ≡ Ok (r, n) = read ∙ ap (λ (y : LogRecord). Ok (y, n)) same in
+      let size = size_is (drop m.to bytes) r n (found (drop m.to bytes) r n (drop_bytes m.to bytes h) here) in
+      let at : (marked_one start m r).to ≡ m.to + n = one_behind start m r ∙ ap (λ (k : ℕ). m.to + k) (sym size) in
+      let left : whole_records (drop (marked_one start m r).to bytes) ≡ rs = ap (λ (k : ℕ). whole_records (drop k bytes)) at ∙ ap whole_records (sym (drop-drop n m.to bytes)) ∙ behind in
+      rest (marked_one start m r) (one_named start bytes m r n here named) left
+
+  all_named : (start : ℕ) (bytes : List ℕ) (rs : List LogRecord) → AreBytes bytes → NamesRest start bytes rs
+  all_named start bytes [] h = λ m named e. named
+  all_named start bytes (r ∷ rs) h = λ m named e. read_named start bytes m r rs (record_in (drop m.to bytes)) h named e refl (all_named start bytes rs h)
+
+  -- ---- what is kept from there on
+  from_mark : (h : HeldState) (m : Mark) → Named h.start h.bytes m → BeginsAt h → MayBegin (h.start + m.from) (drop m.from h.bytes)
+  from_mark h m (inr own) begins = inr own
+  from_mark h m (inl zero) (inl start) = inl (omega (arith, zero, start))
+  from_mark h m (inl zero) (inr own) = inr (subst (λ (k : ℕ). NamesOwn k (drop m.from h.bytes)) (sym at) (subst (λ (k : ℕ). NamesOwn h.start (drop k h.bytes)) (sym zero) own))
+    where
+      at : h.start + m.from ≡ h.start
+      at = omega (arith, zero)
+
+  marked : (h : HeldState) (m : Mark) → Named h.start h.bytes m → BeginsAt h → BeginsAt (with_mark h m)
+  marked h m named begins = cond_both m.has_other (nothing_held true) (record { start = h.start + m.from; end = h.end; bytes = drop m.from h.bytes; passed = m.to - m.from; keeps_all = h.keeps_all }) BeginsAt (λ _. inl refl) (λ _. from_mark h m named begins)
+
+  settled_begins : (h : HeldState) → AreBytes h.bytes → BeginsAt h → BeginsAt (settled h)
+  unfolding settled
+  settled_begins h are begins = cond_both (h.keeps_all || nat_lt (length h.bytes) h.passed) h (with_mark h (marked_all h.start (first_mark h.passed) (whole_records (drop h.passed h.bytes)))) BeginsAt
+      (λ _. begins) (λ _. marked h (marked_all h.start (first_mark h.passed) (whole_records (drop h.passed h.bytes))) (all_named h.start h.bytes (whole_records (drop h.passed h.bytes)) are (first_mark h.passed) (inl refl) refl) begins)
+
+  more_begins : FrontDecides → (h : HeldState) (more : List ℕ) → MayBegin h.start h.bytes → MayBegin h.start (h.bytes ++ more)
+  more_begins law h more (inl start) = inl start
+  more_begins law h more (inr own) = inr (record { made = own.made; size = own.size; read = read_on law h.bytes more own.made own.size own.read; own = own.own })
+
+  pub grown_begins : FrontDecides → GrownBegins
+  grown_begins law h more are new begins =
+      settled_begins (record { start = h.start; end = h.end + length more; bytes = h.bytes ++ more; passed = h.passed; keeps_all = h.keeps_all }) (both_bytes h.bytes more are new) (more_begins law h more begins)
+
+pub nothing_begins : NothingBegins
+nothing_begins keeps_all = inl refl

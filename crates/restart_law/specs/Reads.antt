@@ -1,0 +1,58 @@
+-- The log that a restart reads, beside the one that the disk tells.
+use Rattle.std.specs.Prelude.{◌≡◌, ◌≢◌, ℕ, true, false, List, [], length, take, drop, Some, Ok, IfSome}
+use Rattle.ds_disk.specs.Contents.{Contents, log_of}
+use Rattle.ds_model.specs.declared.log.LogRecord.{LogRecord}
+use Rattle.log_reader.specs.Keeping.{AreBytes, AreWhole, IsOf}
+use Rattle.log_reader.specs.Readers.{ReaderState}
+use Rattle.log_starts.specs.Starts.{BeginsAt, MayBegin}
+use Rattle.log_record.specs.Logs.{Parts, parts_in}
+use Rattle.member_intents.specs.declared.outcome.Answered.{Answered}
+use Rattle.member_intents.specs.declared.outcome.Answered.TheVariants as answered
+use Rattle.restart_marks.specs.declared.intent.RestartSent.{RestartSent}
+use Rattle.restart_marks.specs.State.{IsFresh, RestartState}
+use Rattle.restart_resources.specs.Calls.{Drive}
+use Rattle.restart_resources.specs.Events.{Happens, World}
+use Rattle.restart_resources.specs.Held.{Held}
+use Rattle.restart_law.specs.Opens.{OpensStand}
+
+-- what is kept are bytes of these, behind whole records of them, from the first on or from a Checkpoint that names its place; and their number
+-- is the one that was told, if one was
+pub record ReadsFront (member : ℕ) (bytes : List ℕ) (r : ReaderState) : Type 0 where
+  pub own : r.member ≡ member
+  pub held : IsOf bytes r.held
+  pub begins : BeginsAt r.held
+  pub told : IfSome r.length_told (λ long. long ≡ length bytes)
+
+-- The records are those of the bytes from this one on, before which whole records stand: it is the first, or a Checkpoint begins there that names
+-- it.
+pub record AreLast (bytes : List ℕ) (records : List LogRecord) : Type 0 where
+  pub start : ℕ
+  pub whole : AreWhole (take start bytes)
+  pub begins : MayBegin start (drop start bytes)
+  pub parts : Parts
+  pub told : parts_in (drop start bytes) ≡ Ok parts
+  pub are : records ≡ parts.records
+
+-- As long as the log isn't read whole, a front of these bytes is, and no record waits; then its records are their last ones.
+pub record ReadsTrue (bytes : List ℕ) (s : RestartState) : Type 0 where
+  pub reading : s.own.is_read ≡ false → IfSome s.own.reader (ReadsFront s.member bytes)
+  pub idle : s.own.is_read ≡ false → s.log.pending ≡ []
+  pub records : s.own.is_read ≡ true → AreLast bytes s.own.records
+
+-- the disk tells these bytes as the log of the member
+pub record TellsLog (drive : Drive) (member : ℕ) (bytes : List ℕ) : Type 0 where
+  pub contents : Contents
+  pub told : drive.contents ≡ Some contents
+  pub log : log_of contents.logs member ≡ bytes
+
+abbrev pub ReadsBegin : Type 0
+ReadsBegin = (member : ℕ) (bytes : List ℕ) (s : RestartState) → IsFresh member s → ReadsTrue bytes s
+
+-- they are bytes, and the disk tells them as long as the log isn't read whole; and what is read is true
+pub record StillReads (bytes : List ℕ) (drive : Drive) (s : RestartState) : Type 0 where
+  pub are : AreBytes bytes
+  pub reads : ReadsTrue bytes s
+  pub tells : s.own.is_read ≡ false → TellsLog drive s.member bytes
+
+abbrev pub ReadsStay : Type 0
+ReadsStay = (bytes : List ℕ) (u v : World) (h k : Held) (x : RestartSent) (a : Answered) → Happens u h x a v k → a ≢ answered.Failed → OpensStand h.marks → StillReads bytes u.drive h.marks → StillReads bytes v.drive k.marks
