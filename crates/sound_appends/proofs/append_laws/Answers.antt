@@ -1,0 +1,17 @@
+use Rattle.std.proofs.Common.{◌≡◌, List, [], ◌∷◌, sym, subst}
+use Rattle.ds_model.specs.declared.log.LogRecord.{LogRecord}
+use Rattle.log_record.specs.declared.log.Log.{Log}
+use Rattle.sound_appends.specs.Appends.{AppendsAll}
+use Rattle.sound_appends.specs.Laws.{KeepsTransactions, KeepsTurns, KeepsNumbers, AreSoundLogs}
+use Rattle.sound_appends.proofs.append_laws.Goals as goal
+
+all_keep : KeepsTransactions → KeepsTurns → KeepsNumbers → (records : List LogRecord) (logs after : List Log) → AppendsAll logs records after → AreSoundLogs logs → AreSoundLogs after
+all_keep t u n [] logs after h s = subst AreSoundLogs (sym h) s
+all_keep t u n (r ∷ rs) logs after h s = all_keep t u n rs h.0 after h.2 (record {
+  transactions = t logs h.0 r h.1 s.transactions;
+  turns = u logs h.0 r h.1 s.turns;
+  numbers = n logs h.0 r h.1 s.transactions s.numbers;
+})
+
+pub returns : goal.returns
+returns c = all_keep c.transaction_laws.ensures.transactions c.turn_laws.ensures.turns c.transaction_laws.ensures.numbers
