@@ -20,6 +20,7 @@ use Rattle.log_merge.specs.Merging.{all_records}
 use Rattle.sound_disk.specs.Settled.{is_row_change, takes_back, is_open}
 use Rattle.sound_disk.specs.Numbers_left.{open_changes, NumbersAreLeft}
 use Rattle.sound_disk.specs.Transactions.{drawn_numbers, is_among, all_differ, speak_of, stands_apart, stand_apart, EachFollows, AreTransactions}
+use Rattle.sound_disk.specs.Laws.{with_record}
 use Rattle.sound_appends.specs.Appends.{course_of, Compensates, IsNext, Appends}
 use Rattle.sound_appends.proofs.Numbers.{until, all_split, all_with, greatest_more, no_row_change, no_commit}
 use Rattle.sound_appends.proofs.Left.{is_change, has_change, is_taken, numbers, among_more, drawn_more, differ_tail, differ_front, differ_back, differ_parts, ChangeParts, change_parts, change_drawn, next_among, AreNamed, undo_of, AreLeft, are_left, commits, or_nothing}
