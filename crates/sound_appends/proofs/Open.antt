@@ -55,7 +55,7 @@ open_if true false true takes = refl
 open_if true false false takes = refl
 
 -- it is open behind the record where it was, and isn't taken back by it
-open_between : (xs ys : List LogRecord) (r s : LogRecord) → is_commit r.body ≡ false → is_open (xs ++ r ∷ ys) s ≡ (is_open (xs ++ ys) s && not (takes_back s.lrsn r.body))
+pub open_between : (xs ys : List LogRecord) (r s : LogRecord) → is_commit r.body ≡ false → is_open (xs ++ r ∷ ys) s ≡ (is_open (xs ++ ys) s && not (takes_back s.lrsn r.body))
 open_between xs ys r s none =
     ap (λ (b : Bool). is_row_change s.body && not (b || is_taken s.lrsn (xs ++ r ∷ ys))) (commit_between xs ys r s.tran none)
     ∙ ap (λ (b : Bool). is_row_change s.body && not (has_commit (xs ++ ys) s.tran || b)) (any_between (λ (u : LogRecord). takes_back s.lrsn u.body) xs ys r)
@@ -67,7 +67,7 @@ filter_past p xs ys r none =
     ∙ ap (λ (b : Bool). filter p xs ++ cond b (r ∷ filter p ys) (filter p ys)) none
     ∙ sym (filter-append p xs ys)
 
-no_row_open : (rs : List LogRecord) (r : LogRecord) → is_row_change r.body ≡ false → is_open rs r ≡ false
+pub no_row_open : (rs : List LogRecord) (r : LogRecord) → is_row_change r.body ≡ false → is_open rs r ≡ false
 no_row_open rs r none = ap (λ (b : Bool). b && not (has_commit rs r.tran || is_taken r.lrsn rs)) none
 
 abbrev still_open : List LogRecord → LogRecord → LogRecord → Bool

@@ -3,6 +3,7 @@ use Rattle.ds_model.specs.declared.log.LogRecord.{LogRecord}
 use Rattle.log_record.specs.declared.log.Log.{Log}
 use Rattle.sound_appends.specs.Appends.{AppendsAll}
 use Rattle.sound_appends.specs.Laws.{KeepsTransactions, KeepsTurns, KeepsNumbers, AreSoundLogs}
+use Rattle.sound_appends.proofs.Same.{same_keep}
 use Rattle.sound_appends.proofs.append_laws.Goals as goal
 
 all_keep : KeepsTransactions → KeepsTurns → KeepsNumbers → (records : List LogRecord) (logs after : List Log) → AppendsAll logs records after → AreSoundLogs logs → AreSoundLogs after
@@ -13,5 +14,8 @@ all_keep t u n (r ∷ rs) logs after h s = all_keep t u n rs h.0 after h.2 (reco
   numbers = n logs h.0 r h.1 s.transactions s.numbers;
 })
 
-pub returns : goal.returns
-returns c = all_keep c.transaction_laws.ensures.transactions c.turn_laws.ensures.turns c.transaction_laws.ensures.numbers
+pub returns-clause-all : goal.returns-clause-all
+returns-clause-all c = all_keep c.transaction_laws.ensures.transactions c.turn_laws.ensures.turns c.transaction_laws.ensures.numbers
+
+pub returns-clause-same : goal.returns-clause-same
+returns-clause-same c = λ logs others e h. same_keep logs others e h
