@@ -1,5 +1,5 @@
 -- What is appended stands behind all merged records, and rows are changed in turn as before.
-use Rattle.std.proofs.Common.{◌≡◌, ℕ, ◌+◌, ◌<◌, ◌≤◌, max, Bool, true, false, cond, leb, List, [], ◌∷◌, ◌++◌, refl, sym, ap, subst, ◌∙◌, arith, append_assoc}
+use Rattle.std.proofs.Common.{◌≡◌, ℕ, ◌<◌, max, Bool, true, false, cond, leb, List, [], ◌∷◌, ◌++◌, refl, sym, ap, subst, ◌∙◌, arith, append_assoc}
 use Rattle.std.specs.Prelude.{nat_le, ◌&&◌}
 use Rattle.std.proofs.lemmas.Bool.{le-leb, lt-leb, cond-true, cond-false}
 use Rattle.std.proofs.lemmas.List.{append-nil}
@@ -13,7 +13,6 @@ use Rattle.log_trans.specs.Numbers.{greatest}
 use Rattle.log_merge.specs.Merging.{is_merged, kept, all_records, in_order}
 use Rattle.sound_disk.specs.Turns.{is_in_turn, are_in_turn, ChangeInTurn}
 use Rattle.sound_disk.specs.Versions.{merged}
-use Rattle.sound_disk.specs.Laws.{with_record}
 use Rattle.sound_appends.specs.Appends.{IsNext, Appends}
 use Rattle.sound_appends.proofs.Numbers.{until, all_split, all_with, greatest_more, above_all, same_table}
 

@@ -1,26 +1,25 @@
 -- The records of transactions fit each other with a record more.
-use Rattle.std.proofs.Common.{◌≡◌, ◌≢◌, ℕ, ◌+◌, ◌-◌, ◌<◌, ◌≤◌, max, Bool, true, false, cond, List, [], ◌∷◌, ◌++◌, length, Option, Some, None, inl, inr, refl, sym, ap, subst, ◌∙◌, arith, append_assoc}
+use Rattle.std.proofs.Common.{◌≡◌, ℕ, ◌-◌, ◌<◌, Bool, true, false, cond, List, [], ◌∷◌, ◌++◌, length, Some, None, inl, inr, refl, sym, ap, subst, ◌∙◌, arith, append_assoc}
 use Rattle.std.specs.Prelude.{◌==◌, not, ◌||◌, ◌&&◌, slice_get}
-use Rattle.std.specs.List.{list_any, list_all, AllByRecursion}
+use Rattle.std.specs.List.{AllByRecursion}
 use Rattle.std.proofs.lemmas.Bool.{or_cases, or_parts, or_from, or_left, or_right, and_from, and_parts, eqb-true, eq-eqb, ne_eqb, both_ways, cases_Bool}
 use Rattle.std.proofs.lemmas.List.{append-nil}
 use Rattle.std.proofs.lemmas.List.Folds.{list_any-append, list_all-append}
 use Rattle.ds_model.specs.declared.log.LogRecord.{LogRecord}
-use Rattle.ds_model.specs.declared.log.RowChange.{RowChange}
 use Rattle.ds_model.specs.declared.log.Body.{Body}
 use Rattle.ds_model.specs.declared.log.Body.TheVariants as body
 use Rattle.ds_model.specs.RecordBytes.{IsAllowed, TranFits, is_of_tran}
 use Rattle.log_record.specs.declared.log.Log.{Log}
 use Rattle.log_record.specs.Changes.{is_drawn}
 use Rattle.log_trans.specs.declared.course.Course.{Course}
-use Rattle.log_trans.specs.Courses.{new_course, is_next, has_number, after_body}
+use Rattle.log_trans.specs.Courses.{new_course, is_next, after_body}
 use Rattle.log_trans.specs.Damage.{body_fault, nothing_undone, unless, tran_at, undone_at}
 use Rattle.log_trans.specs.Numbers.{greatest}
 use Rattle.log_merge.specs.Merging.{all_records}
 use Rattle.sound_disk.specs.Laws.{with_record}
-use Rattle.sound_disk.specs.Transactions.{drawn_numbers, is_among, all_differ, speak_of, stands_apart, stand_apart, course_in, is_named, InvertsBody, Inverts, TakesBack, MayFollow, EachFollows, AreTransactions}
-use Rattle.sound_appends.specs.Appends.{course_of, Compensates, Closes, IsNext, Appends}
-use Rattle.sound_appends.proofs.Numbers.{until, all_split, all_with, greatest_more, above_all}
+use Rattle.sound_disk.specs.Transactions.{drawn_numbers, is_among, all_differ, speak_of, stands_apart, stand_apart, course_in, Inverts, TakesBack, MayFollow, EachFollows, AreTransactions}
+use Rattle.sound_appends.specs.Appends.{course_of, IsNext, Appends}
+use Rattle.sound_appends.proofs.Numbers.{until, all_split, all_with, above_all}
 use Rattle.sound_appends.proofs.Left.{eq_turn, among_more, drawn_more, differ_tail}
 use Rattle.sound_appends.proofs.Open.{apart_from, is_next_by}
 
@@ -62,7 +61,7 @@ numbers_with xs ys r h high =
     let old : all_differ ((0 ∷ drawn_numbers xs) ++ drawn_numbers ys) ≡ true = subst (λ (ns : List ℕ). all_differ (0 ∷ ns) ≡ true) split h in
     let new : is_drawn r.body ≡ true → is_among r.lrsn ((0 ∷ drawn_numbers xs) ++ drawn_numbers ys) ≡ false =
     λ is. let low = high is in subst (λ (ns : List ℕ). is_among r.lrsn (0 ∷ ns) ≡ false) split
-      (or_from (0 == r.lrsn) (is_among r.lrsn (drawn_numbers (xs ++ ys))) (ne_eqb 0 r.lrsn (λ e. omega (arith, low, e))) (not_above r.lrsn (xs ++ ys) low)) in
+    (or_from (0 == r.lrsn) (is_among r.lrsn (drawn_numbers (xs ++ ys))) (ne_eqb 0 r.lrsn (λ e. omega (arith, low, e))) (not_above r.lrsn (xs ++ ys) low)) in
     subst (λ (ns : List ℕ). all_differ (0 ∷ ns) ≡ true) (sym (drawn_more xs (r ∷ ys))) (differ_if (is_drawn r.body) (0 ∷ drawn_numbers xs) (drawn_numbers ys) r.lrsn old new)
 
 -- ---- homes

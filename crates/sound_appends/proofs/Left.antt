@@ -1,5 +1,5 @@
 -- What a transaction's records of a log leave to be undone: row changes of the log that no compensation of it takes back.
-use Rattle.std.proofs.Common.{◌≡◌, ◌≢◌, ℕ, zero, suc, ◌+◌, ◌-◌, ◌<◌, ◌≤◌, Bool, true, false, cond, List, [], ◌∷◌, ◌++◌, length, take, Option, Some, None, inl, inr, refl, sym, ap, subst, ◌∙◌, arith, append_assoc}
+use Rattle.std.proofs.Common.{◌≡◌, ℕ, zero, suc, ◌+◌, ◌-◌, ◌<◌, Bool, true, false, cond, List, [], ◌∷◌, ◌++◌, length, take, Option, Some, None, inl, inr, refl, sym, ap, subst, ◌∙◌, arith, append_assoc}
 use Rattle.std.specs.Prelude.{◌==◌, not, ◌||◌, ◌&&◌, slice_get}
 use Rattle.std.specs.List.{list_any}
 use Rattle.std.proofs.lemmas.Bool.{cond_both, or_cases, or_parts, or_from, or_left, or_right, and_parts, eqb-true, eq-eqb, both_ways, false_from_ne_true, not-true}
@@ -328,8 +328,8 @@ taken_own rs r k body.RestartEnd h fits is = absurd cc
 other_record : (rs : List LogRecord) (r : LogRecord) (t : ℕ) → AreLeft rs → all_differ (drawn_numbers rs) ≡ true → MayFollow rs r → (r.tran == t) ≡ false → IsLeft (rs ++ r ∷ []) t (undo_of rs t)
 other_record rs r t h differ f other =
     left_stays rs r t (undo_of rs t) (h.left t) (λ k m. false_from_ne_true (takes_back k r.body) (λ is.
-      let same : r.tran ≡ t = one_tran r.tran t k rs differ (taken_own rs r k r.body (h.left r.tran) f.fits is) ((h.left t).made k m) in
-      both_ways (r.tran == t) other (eq-eqb r.tran t same)))
+    let same : r.tran ≡ t = one_tran r.tran t k rs differ (taken_own rs r k r.body (h.left r.tran) f.fits is) ((h.left t).made k m) in
+    both_ways (r.tran == t) other (eq-eqb r.tran t same)))
 
 pub course_last : (c : Course) (t : ℕ) (earlier : List LogRecord) (r : LogRecord) → course_in c t (earlier ++ r ∷ []) ≡ cond (r.tran == t) (after_body (course_in c t earlier) r r.body) (course_in c t earlier)
 course_last c t [] r = refl
@@ -356,10 +356,10 @@ left_with : (rs : List LogRecord) (r : LogRecord) → AreLeft rs → all_differ 
 left_with rs r h differ f = record {
   named = named_more rs r h f;
   left = λ t. subst (λ (c : Course). IsLeft (rs ++ r ∷ []) t c.undo) (sym (course_last new_course t rs r))
-    (cond_both (r.tran == t) (after_body (course_in new_course t rs) r r.body) (course_in new_course t rs) (λ (c : Course). IsLeft (rs ++ r ∷ []) t c.undo)
-    (λ own. own_record rs r t (course_in new_course t rs) r.body h.named (h.left t) refl own
+      (cond_both (r.tran == t) (after_body (course_in new_course t rs) r r.body) (course_in new_course t rs) (λ (c : Course). IsLeft (rs ++ r ∷ []) t c.undo)
+      (λ own. own_record rs r t (course_in new_course t rs) r.body h.named (h.left t) refl own
       (subst (λ (u : ℕ). body_fault (course_in new_course u rs) r r.body ≡ None) (eqb-true r.tran t own) f.fits) (new_number rs r differ))
-    (λ other. other_record rs r t h (differ_before rs r differ) f other));
+      (λ other. other_record rs r t h (differ_before rs r differ) f other));
 }
 
 left_none : AreLeft []

@@ -7,3 +7,4 @@ pub mod Fitting
 pub mod Same
 pub mod Checkpoints
 pub mod Pages
+pub mod Example

@@ -1,5 +1,5 @@
 -- The records of logs with one record more, and their greatest number.
-use Rattle.std.proofs.Common.{◌≡◌, ℕ, ◌+◌, ◌<◌, ◌≤◌, max, Bool, true, false, cond, List, [], ◌∷◌, ◌++◌, refl, sym, ap, subst, ◌∙◌, arith, append_assoc}
+use Rattle.std.proofs.Common.{◌≡◌, ◌+◌, max, true, false, List, [], ◌∷◌, ◌++◌, refl, sym, ap, ◌∙◌, arith, append_assoc}
 use Rattle.std.proofs.lemmas.Grind.{flat_map-append}
 use Rattle.ds_model.specs.declared.log.LogRecord.{LogRecord}
 use Rattle.ds_model.specs.declared.log.Body.{Body}
@@ -11,7 +11,7 @@ use Rattle.log_trans.specs.Numbers.{greatest}
 use Rattle.log_merge.specs.Merging.{is_merged, all_records}
 use Rattle.sound_disk.specs.Laws.{with_record}
 use Rattle.sound_disk.specs.Settled.{is_row_change}
-use Rattle.sound_appends.specs.Appends.{IsNext, Appends}
+use Rattle.sound_appends.specs.Appends.{IsNext}
 
 -- ---- all records
 

@@ -1,5 +1,5 @@
 -- Which row changes are open behind a record that a restart appends: those that were, without the one that it takes back.
-use Rattle.std.proofs.Common.{◌≡◌, ◌≢◌, ℕ, ◌+◌, ◌^◌, ◌*◌, ◌<◌, ◌≤◌, max, Bool, true, false, cond, List, [], ◌∷◌, ◌++◌, length, take, Option, Some, None, inl, inr, refl, sym, ap, subst, ◌∙◌, arith, append_assoc}
+use Rattle.std.proofs.Common.{◌≡◌, ℕ, ◌+◌, ◌^◌, ◌*◌, ◌<◌, ◌≤◌, max, Bool, true, false, cond, List, [], ◌∷◌, ◌++◌, length, Some, inl, inr, refl, sym, ap, subst, ◌∙◌, arith}
 use Rattle.std.specs.Prelude.{◌==◌, not, ◌||◌, ◌&&◌, filter, slice_get, ◌-◌}
 use Rattle.std.specs.List.{list_any, AllByRecursion}
 use Rattle.std.proofs.lemmas.Bool.{or_cases, or_parts, or_from, or_left, or_right, and_from, and_parts, eqb-true, eq-eqb, ne_eqb, both_ways, false_from_ne_true}
@@ -23,7 +23,7 @@ use Rattle.sound_disk.specs.Transactions.{drawn_numbers, is_among, all_differ, s
 use Rattle.sound_disk.specs.Laws.{with_record}
 use Rattle.sound_appends.specs.Appends.{course_of, Compensates, IsNext, Appends}
 use Rattle.sound_appends.proofs.Numbers.{until, all_split, all_with, greatest_more, no_row_change, no_commit}
-use Rattle.sound_appends.proofs.Left.{is_change, has_change, is_taken, numbers, among_more, drawn_more, differ_tail, differ_front, differ_back, differ_parts, ChangeParts, change_parts, change_drawn, next_among, AreNamed, undo_of, AreLeft, are_left, commits, or_nothing}
+use Rattle.sound_appends.proofs.Left.{is_change, has_change, is_taken, numbers, among_more, drawn_more, differ_tail, differ_front, differ_back, differ_parts, change_parts, change_drawn, next_among, AreNamed, undo_of, AreLeft, are_left, commits}
 
 -- ---- one record more among others
 
@@ -138,7 +138,7 @@ apart_from t (r ∷ rs) others h some is =
     let p = and_parts ((r.tran == 0) || not (speak_of r.tran others)) (stands_apart rs others) h in
     elim (or_cases (r.tran == t) (speak_of t rs) is) [
       | inl e ↦ (let same : r.tran ≡ t = eqb-true r.tran t e in
-        some_not (t == 0) (speak_of t others) some (subst (λ (n : ℕ). ((n == 0) || not (speak_of n others)) ≡ true) same p.0))
+          some_not (t == 0) (speak_of t others) some (subst (λ (n : ℕ). ((n == 0) || not (speak_of n others)) ≡ true) same p.0))
       | inr e ↦ apart_from t rs others p.1 some e
     ]
 

@@ -1,5 +1,5 @@
 -- The pages of the disk are versions by the records and one more.
-use Rattle.std.proofs.Common.{◌≡◌, ℕ, suc, ◌+◌, ◌-◌, ◌<◌, Bool, true, false, cond, List, [], ◌∷◌, ◌++◌, length, Option, Some, None, inl, inr, refl, sym, ap, subst, ◌∙◌, arith, append_assoc}
+use Rattle.std.proofs.Common.{◌≡◌, ℕ, ◌+◌, ◌-◌, Bool, true, false, List, [], ◌∷◌, ◌++◌, length, Option, Some, inl, inr, refl, sym, ap, subst, ◌∙◌, arith, append_assoc}
 use Rattle.std.specs.Prelude.{not, ◌||◌, ◌&&◌, slice_get}
 use Rattle.std.specs.List.{list_any}
 use Rattle.std.proofs.lemmas.Bool.{or_cases, or_left, or_right, and_from, and_parts, both_ways}
@@ -17,7 +17,7 @@ use Rattle.page_images.specs.Images.{Images}
 use Rattle.page_chain.specs.Chains.{IsVersion}
 use Rattle.restart_plan.specs.Opened.{is_restart_end}
 use Rattle.restart_plan.specs.Renewal.{is_old as is_old_record, is_ended, asks_renewal, must_renew}
-use Rattle.sound_disk.specs.Versions.{merged, current, MayStand, AreVersions}
+use Rattle.sound_disk.specs.Versions.{merged, current, AreVersions}
 use Rattle.sound_disk.specs.Laws.{with_record}
 use Rattle.sound_appends.specs.Appends.{Appends}
 use Rattle.sound_appends.specs.Laws.{StandsBehind, AreRenewedBefore}
@@ -81,5 +81,5 @@ keeps_versions behind at logs after r h none v = λ id. record {
   header = (v id).header;
   version = subst (λ (rs : List LogRecord). IsVersion id rs (current (at id))) (sym (behind logs after r h)) (version_with id (merged logs) (kept (r ∷ [])) (current (at id)) (v id).version);
   renewing = λ old. subst (λ (ls : List Log). must_renew ls ≡ true) (sym h.after_are)
-    (renewing at id h.front h.log h.back r r.body refl none old (subst (λ (ls : List Log). must_renew ls ≡ true) h.logs_are ((v id).renewing old)));
+      (renewing at id h.front h.log h.back r r.body refl none old (subst (λ (ls : List Log). must_renew ls ≡ true) h.logs_are ((v id).renewing old)));
 }

@@ -1,5 +1,5 @@
 -- The clauses that speak of records alone hold of all logs with the same records.
-use Rattle.std.proofs.Common.{◌≡◌, ℕ, ◌+◌, ◌*◌, ◌^◌, ◌<◌, Bool, true, List, [], ◌∷◌, ◌++◌, length, map, refl, sym, ap, subst, ◌∙◌}
+use Rattle.std.proofs.Common.{◌≡◌, ◌+◌, ◌*◌, ◌^◌, ◌<◌, Bool, true, List, [], ◌∷◌, ◌++◌, length, refl, sym, ap, subst, ◌∙◌}
 use Rattle.std.specs.Prelude.{◌&&◌}
 use Rattle.std.specs.List.{AllByRecursion}
 use Rattle.ds_base.specs.Ids.{lrsn_width}
@@ -7,9 +7,9 @@ use Rattle.ds_model.specs.declared.log.LogRecord.{LogRecord}
 use Rattle.log_record.specs.declared.log.Log.{Log}
 use Rattle.log_trans.specs.Numbers.{greatest}
 use Rattle.log_merge.specs.Merging.{all_records, in_order}
-use Rattle.sound_disk.specs.Transactions.{drawn_numbers, all_differ, stands_apart, stand_apart, EachFollows, AreTransactions}
+use Rattle.sound_disk.specs.Transactions.{drawn_numbers, all_differ, stands_apart, stand_apart, EachFollows}
 use Rattle.sound_disk.specs.Turns.{are_in_turn}
-use Rattle.sound_disk.specs.Numbers_left.{open_changes, NumbersAreLeft}
+use Rattle.sound_disk.specs.Numbers_left.{open_changes}
 use Rattle.sound_disk.specs.Laws.{records_of}
 use Rattle.sound_appends.specs.Laws.{AreSoundLogs}
 

@@ -1,5 +1,5 @@
 -- What a group restart appends to the logs of a disk, one record after the other.
-use Rattle.std.specs.Prelude.{◌≡◌, ℕ, ◌+◌, ◌-◌, ◌≤◌, ◌==◌, false, not, List, [], ◌∷◌, ◌++◌, length, slice_get, Some}
+use Rattle.std.specs.Prelude.{◌≡◌, ℕ, ◌+◌, ◌-◌, ◌≤◌, ◌==◌, false, List, [], ◌∷◌, ◌++◌, length, slice_get, Some}
 use Rattle.ds_model.specs.declared.log.LogRecord.{LogRecord}
 use Rattle.ds_model.specs.declared.log.RowChange.{RowChange}
 use Rattle.ds_model.specs.declared.log.Body.{Body}
@@ -33,7 +33,7 @@ pub record RepeatsNumber (logs : List Log) (log : Log) (r : LogRecord) : Type 0 
   pub low : last_number 0 log.records ≤ r.lrsn
   pub high : r.lrsn ≤ greatest (all_records logs)
 
--- of a transaction that has no Commit: all its row changes are undone
+-- all row changes of the transaction are undone, of which it has had some
 pub record Closes (logs : List Log) (log : Log) (r : LogRecord) : Type 0 where
   pub number : RepeatsNumber logs log r
   pub undone : length (course_of log r.tran).undo ≡ 0

@@ -3,6 +3,7 @@
 //! The crate has definitions and proofs alone. Its functions do nothing: their contracts are the laws.
 #![tactic(auto)]
 
+ghost use Rattle.sound_appends.specs.Example.{RollsBack};
 ghost use Rattle.sound_appends.specs.Laws.{CutKeepsWhole, KeepsAll, KeepsCheckpoints, KeepsNumbers, KeepsTransactions, KeepsTurns, KeepsVersions, KeepsWhole, SameRecordsKeep, StandsBehind, TornKeepsWhole};
 
 /// Each log is whole records still, whose numbers never fall, with a record that a restart appends, whole or cut short, and where
@@ -46,3 +47,8 @@ pub fn page_laws()
 {
     turn_laws();
 }
+
+/// An open row change is taken back, its transaction ends, and its log gets a Checkpoint and a RestartEnd.
+pub fn rollback_example()
+    ensures { RollsBack }
+{}
