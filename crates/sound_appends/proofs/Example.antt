@@ -81,4 +81,5 @@ closes = record {
 }
 
 pub rolls_back : RollsBack
-rolls_back = (with_record begun (record_of 2 0 body.RestartEnd) ∷ others, (undone ∷ others, undoes, (ended ∷ others, ends, (begun ∷ others, begins, (with_record begun (record_of 2 0 body.RestartEnd) ∷ others, closes, refl)))))
+unfolding undoes ends begins closes
+rolls_back = (with_record begun (record_of 2 0 body.RestartEnd) ∷ others, (undone ∷ others, undoes, refl, (ended ∷ others, ends, refl, (begun ∷ others, begins, refl, (with_record begun (record_of 2 0 body.RestartEnd) ∷ others, closes, refl, refl)))))

@@ -61,7 +61,7 @@ pub record Appends (logs : List Log) (r : LogRecord) (after : List Log) : Type 0
   pub allowed : IsAllowed r
   pub next : IsNext logs log r r.body
 
--- one record after the other
-abbrev pub AppendsAll : List Log → List LogRecord → List Log → Type 0
+-- these members get these records, one after the other
+abbrev pub AppendsAll : List Log → List (ℕ × LogRecord) → List Log → Type 0
 AppendsAll logs [] after = after ≡ logs
-AppendsAll logs (r ∷ rs) after = (mid : List Log) × Appends logs r mid × AppendsAll mid rs after
+AppendsAll logs (w ∷ ws) after = (mid : List Log) × (h : Appends logs w.1 mid) × (h.log.member ≡ w.0) × AppendsAll mid ws after

@@ -60,7 +60,7 @@ pub record AreSoundLogs (logs : List Log) : Type 0 where
 
 -- so do all records that are appended, one after the other
 abbrev pub KeepsAll : Type 0
-KeepsAll = (records : List LogRecord) (logs after : List Log) → AppendsAll logs records after → AreSoundLogs logs → AreSoundLogs after
+KeepsAll = (writes : List (ℕ × LogRecord)) (logs after : List Log) → AppendsAll logs writes after → AreSoundLogs logs → AreSoundLogs after
 
 -- tails don't matter to them
 abbrev pub SameRecordsKeep : Type 0

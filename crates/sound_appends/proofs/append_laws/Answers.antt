@@ -1,4 +1,4 @@
-use Rattle.std.proofs.Common.{List, [], ◌∷◌, sym, subst}
+use Rattle.std.proofs.Common.{ℕ, List, [], ◌∷◌, sym, subst}
 use Rattle.ds_model.specs.declared.log.LogRecord.{LogRecord}
 use Rattle.log_record.specs.declared.log.Log.{Log}
 use Rattle.sound_appends.specs.Appends.{AppendsAll}
@@ -6,12 +6,12 @@ use Rattle.sound_appends.specs.Laws.{KeepsTransactions, KeepsTurns, KeepsNumbers
 use Rattle.sound_appends.proofs.Same.{same_keep}
 use Rattle.sound_appends.proofs.append_laws.Goals as goal
 
-all_keep : KeepsTransactions → KeepsTurns → KeepsNumbers → (records : List LogRecord) (logs after : List Log) → AppendsAll logs records after → AreSoundLogs logs → AreSoundLogs after
+all_keep : KeepsTransactions → KeepsTurns → KeepsNumbers → (writes : List (ℕ × LogRecord)) (logs after : List Log) → AppendsAll logs writes after → AreSoundLogs logs → AreSoundLogs after
 all_keep t u n [] logs after h s = subst AreSoundLogs (sym h) s
-all_keep t u n (r ∷ rs) logs after h s = all_keep t u n rs h.0 after h.2 (record {
-  transactions = t logs h.0 r h.1 s.transactions;
-  turns = u logs h.0 r h.1 s.turns;
-  numbers = n logs h.0 r h.1 s.transactions s.numbers;
+all_keep t u n (w ∷ ws) logs after h s = all_keep t u n ws h.0 after h.3 (record {
+  transactions = t logs h.0 w.1 h.1 s.transactions;
+  turns = u logs h.0 w.1 h.1 s.turns;
+  numbers = n logs h.0 w.1 h.1 s.transactions s.numbers;
 })
 
 pub returns-clause-all : goal.returns-clause-all

@@ -1,0 +1,13 @@
+//! What the plan of a group restart asks of the logs of a sound disk.
+//!
+//! The crate has definitions and proofs alone. Its functions do nothing: their contracts are the laws.
+#![tactic(auto)]
+
+ghost use Rattle.sound_plans.specs.Opens.{OpensTell, SomeIsUndone};
+
+/// The transactions that a restart finds open in a log have no Commit there, and what is to be undone of each is what its records
+/// leave. Where that is nothing, the transaction was rolled back whole.
+pub fn open_laws()
+    ensures tell { OpensTell }
+    ensures undone { SomeIsUndone }
+{}
