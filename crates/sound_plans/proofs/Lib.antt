@@ -1,1 +1,4 @@
 pub mod Opens
+pub mod Logs
+pub mod Closings
+pub mod Queues

@@ -4,10 +4,16 @@
 #![tactic(auto)]
 
 ghost use Rattle.sound_plans.specs.Opens.{OpensTell, SomeIsUndone};
+ghost use Rattle.sound_plans.specs.Queues.{ClosingsAppend};
 
 /// The transactions that a restart finds open in a log have no Commit there, and what is to be undone of each is what its records
 /// leave. Where that is nothing, the transaction was rolled back whole.
 pub fn open_laws()
     ensures tell { OpensTell }
     ensures undone { SomeIsUndone }
+{}
+
+/// Closings of transactions that fit the logs are records that a restart appends, one after the other.
+pub fn closing_laws()
+    ensures { ClosingsAppend }
 {}

@@ -1,0 +1,1 @@
+-- A queue that fits the logs is appended one compensation after the other.
