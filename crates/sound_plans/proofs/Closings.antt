@@ -1,8 +1,7 @@
 -- Closings that fit the logs are appended one after the other.
-use Rattle.std.proofs.Common.{◌≡◌, ℕ, ◌+◌, ◌<◌, ◌≤◌, max, Bool, true, false, cond, List, [], ◌∷◌, ◌++◌, length, inl, inr, refl, sym, ap, subst, ◌∙◌, arith}
+use Rattle.std.proofs.Common.{◌≡◌, ℕ, ◌≤◌, max, Bool, true, false, cond, List, [], ◌∷◌, ◌++◌, length, inl, inr, refl, sym, ap, subst, ◌∙◌, arith}
 use Rattle.std.specs.Prelude.{◌==◌}
-use Rattle.std.specs.List.{AllByRecursion}
-use Rattle.std.proofs.lemmas.Bool.{cond_both, cases_Bool, eqb-true}
+use Rattle.std.proofs.lemmas.Bool.{cases_Bool, eqb-true}
 use Rattle.ds_model.specs.declared.log.LogRecord.{LogRecord}
 use Rattle.ds_model.specs.declared.log.Body.TheVariants as body
 use Rattle.log_record.specs.declared.log.Log.{Log}
@@ -13,12 +12,11 @@ use Rattle.log_merge.specs.Merging.{all_records}
 use Rattle.restart_plan.specs.declared.opened.Closing.{Closing}
 use Rattle.group_restart.specs.Records.{ended}
 use Rattle.sound_disk.specs.Laws.{last_number}
-use Rattle.sound_appends.specs.Appends.{IsNext, RepeatsNumber, Closes, AppendsAll}
 use Rattle.sound_appends.proofs.Numbers.{until, all_split, greatest_more}
 use Rattle.sound_appends.proofs.Left.{course_last}
 use Rattle.sound_plans.specs.Opens.{course_of}
-use Rattle.sound_plans.specs.Queues.{has_log, records_for, closing_writes, CanClose, ClosingsFit, ClosingsAppend}
-use Rattle.sound_plans.proofs.Logs.{put_record, AtMember, at_member, has_still, records_own, records_other, PutIs, put_is}
+use Rattle.sound_plans.specs.Queues.{has_log, records_for, CanClose, ClosingsFit, ClosingsAppend}
+use Rattle.sound_plans.proofs.Logs.{put_record, at_member, has_still, records_own, records_other, PutIs, put_is}
 
 -- ---- numbers
 

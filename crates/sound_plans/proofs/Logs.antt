@@ -1,18 +1,16 @@
 -- A member's log gets one record more.
-use Rattle.std.proofs.Common.{◌≡◌, ℕ, ◌+◌, ◌<◌, ◌≤◌, max, Bool, true, false, cond, List, [], ◌∷◌, ◌++◌, length, inl, inr, refl, sym, ap, subst, ◌∙◌, arith}
+use Rattle.std.proofs.Common.{◌≡◌, ℕ, max, Bool, true, false, cond, List, [], ◌∷◌, ◌++◌, inl, inr, refl, sym, ap, subst, ◌∙◌, arith}
 use Rattle.std.specs.Prelude.{◌==◌, ◌||◌}
-use Rattle.std.specs.List.{list_any}
-use Rattle.std.proofs.lemmas.Bool.{cond_both, cases_Bool, or_cases, or_left, or_right, eqb-true, eq-eqb, ne_eqb, both_ways}
+use Rattle.std.proofs.lemmas.Bool.{cond_both, cases_Bool, or_cases, eqb-true, eq-eqb, both_ways}
 use Rattle.std.proofs.lemmas.Bool.Decides.{nat_tests}
 use Rattle.ds_model.specs.declared.log.LogRecord.{LogRecord}
-use Rattle.ds_model.specs.declared.log.Body.{Body}
 use Rattle.ds_model.specs.RecordBytes.{IsAllowed}
 use Rattle.log_record.specs.declared.log.Log.{Log}
 use Rattle.log_trans.specs.declared.course.Course.{Course}
 use Rattle.log_trans.specs.Courses.{new_course, after_body}
 use Rattle.log_trans.specs.Numbers.{greatest}
 use Rattle.log_merge.specs.Merging.{all_records}
-use Rattle.sound_disk.specs.Laws.{last_number, with_record}
+use Rattle.sound_disk.specs.Laws.{with_record}
 use Rattle.sound_appends.specs.Appends.{IsNext, Appends}
 use Rattle.sound_appends.proofs.Numbers.{until, all_split, all_with, greatest_more}
 use Rattle.sound_appends.proofs.Left.{course_last}

@@ -1,8 +1,8 @@
 -- A queue that fits the logs is appended one compensation after the other.
-use Rattle.std.proofs.Common.{◌≡◌, ◌≢◌, ℕ, ◌+◌, ◌-◌, ◌<◌, ◌≤◌, ◌^◌, max, Bool, true, false, cond, List, [], ◌∷◌, ◌++◌, length, take, drop, reverse, Option, Some, None, inl, inr, refl, sym, ap, subst, ◌∙◌, arith, length-append, length-drop}
+use Rattle.std.proofs.Common.{◌≡◌, ◌≢◌, ℕ, ◌+◌, ◌-◌, ◌<◌, ◌^◌, Bool, true, false, cond, List, [], ◌∷◌, ◌++◌, length, take, drop, reverse, Some, inl, inr, refl, sym, ap, subst, ◌∙◌, arith, length-append, length-drop}
 use Rattle.std.specs.Prelude.{◌⊎◌, ◌==◌, ◌&&◌, filter, slice_get}
 use Rattle.std.specs.List.{AllByRecursion}
-use Rattle.std.proofs.lemmas.Bool.{cond_both, cases_Bool, and_parts, and_cases, eqb-true, eq-eqb, ne_eqb}
+use Rattle.std.proofs.lemmas.Bool.{cond_both, cases_Bool, and_parts, eqb-true, eq-eqb, ne_eqb}
 use Rattle.std.proofs.lemmas.List.{reverse-append, take_at, length_push}
 use Rattle.ds_model.specs.declared.log.LogRecord.{LogRecord}
 use Rattle.ds_model.specs.declared.log.RowChange.{RowChange}
@@ -14,7 +14,7 @@ use Rattle.ds_model.specs.RecordBytes.{IsNumber, IsAllowed, ChangeIsAllowed, Bod
 use Rattle.log_record.specs.Changes.{inverse}
 use Rattle.log_record.specs.declared.log.Log.{Log}
 use Rattle.log_trans.specs.declared.course.Course.{Course}
-use Rattle.log_trans.specs.Courses.{is_next, undone_one, after_body}
+use Rattle.log_trans.specs.Courses.{undone_one}
 use Rattle.log_trans.specs.Numbers.{greatest}
 use Rattle.log_merge.specs.Merging.{all_records}
 use Rattle.restart_plan.specs.declared.opened.Undo.{Undo}
@@ -22,12 +22,12 @@ use Rattle.restart_plan.specs.Opened.{undo}
 use Rattle.group_restart.specs.Records.{ended, compensation}
 use Rattle.sound_disk.specs.Laws.{last_number}
 use Rattle.sound_disk.specs.Transactions.{InvertsBody}
-use Rattle.sound_appends.specs.Appends.{IsNext, Compensates, Closes, AppendsAll}
+use Rattle.sound_appends.specs.Appends.{IsNext, AppendsAll}
 use Rattle.sound_appends.proofs.Open.{is_next_by}
 use Rattle.sound_plans.specs.Opens.{course_of}
 use Rattle.sound_plans.specs.Queues.{Writes, undo_writes, has_log, records_for, undo_before, undos, IsOwnChange, IsQueueOf, is_of, QueueFits, QueueAppends}
 use Rattle.sound_plans.proofs.Logs.{put_record, has_still, records_own, records_other, greatest_put, course_own, course_beside, PutIs, put_is}
-use Rattle.sound_plans.proofs.Closings.{SameUndo, same_undo, ended_leaves, last_with}
+use Rattle.sound_plans.proofs.Closings.{SameUndo, ended_leaves, last_with}
 
 -- ---- the last of a list
 
