@@ -58,7 +58,7 @@ eq_turn m n = grind (arith, nat_tests)
 pub among_more : (n : ℕ) (xs ys : List ℕ) → is_among n (xs ++ ys) ≡ (is_among n xs || is_among n ys)
 among_more n xs ys = list_any-append (λ (m : ℕ). m == n) xs ys
 
-numbers_more : (xs ys : List LogRecord) → numbers (xs ++ ys) ≡ numbers xs ++ numbers ys
+pub numbers_more : (xs ys : List LogRecord) → numbers (xs ++ ys) ≡ numbers xs ++ numbers ys
 numbers_more [] ys = refl
 numbers_more (x ∷ xs) ys = ap (λ (ns : List ℕ). x.lrsn ∷ ns) (numbers_more xs ys)
 
@@ -75,7 +75,7 @@ drawn_more (x ∷ xs) ys = drawn_when (is_drawn x.body) x.lrsn (drawn_numbers (x
 pub differ_tail : (x : ℕ) (xs : List ℕ) → all_differ (x ∷ xs) ≡ true → (is_among x xs ≡ false) × (all_differ xs ≡ true)
 differ_tail x xs h = let p = and_parts (not (is_among x xs)) (all_differ xs) h in (not-true (is_among x xs) p.0, p.1)
 
-differ_from : (x : ℕ) (xs : List ℕ) → is_among x xs ≡ false → all_differ xs ≡ true → all_differ (x ∷ xs) ≡ true
+pub differ_from : (x : ℕ) (xs : List ℕ) → is_among x xs ≡ false → all_differ xs ≡ true → all_differ (x ∷ xs) ≡ true
 differ_from x xs h k = ap (λ (b : Bool). not b && all_differ xs) h ∙ k
 
 pub differ_front : (xs ys : List ℕ) → all_differ (xs ++ ys) ≡ true → all_differ xs ≡ true
@@ -344,15 +344,15 @@ named_more rs r h f = λ k is.
     ] in
     ap (is_among k) (drawn_more rs (r ∷ [])) ∙ among_more k (drawn_numbers rs) (drawn_numbers (r ∷ [])) ∙ or_left (is_among k (drawn_numbers rs)) (is_among k (drawn_numbers (r ∷ []))) old
 
-new_number : (rs : List LogRecord) (r : LogRecord) → all_differ (drawn_numbers (rs ++ r ∷ [])) ≡ true → is_drawn r.body ≡ true → is_among r.lrsn (drawn_numbers rs) ≡ false
+pub new_number : (rs : List LogRecord) (r : LogRecord) → all_differ (drawn_numbers (rs ++ r ∷ [])) ≡ true → is_drawn r.body ≡ true → is_among r.lrsn (drawn_numbers rs) ≡ false
 new_number rs r h is =
     let split : all_differ (drawn_numbers rs ++ drawn_numbers (r ∷ [])) ≡ true = subst (λ (ns : List ℕ). all_differ ns ≡ true) (drawn_more rs (r ∷ [])) h in
     false_from_ne_true (is_among r.lrsn (drawn_numbers rs)) (λ m. differ_parts (drawn_numbers rs) (drawn_numbers (r ∷ [])) r.lrsn split m (among_here (is_drawn r.body) r.lrsn r.lrsn [] is (itself r.lrsn)))
 
-differ_before : (rs : List LogRecord) (r : LogRecord) → all_differ (drawn_numbers (rs ++ r ∷ [])) ≡ true → all_differ (drawn_numbers rs) ≡ true
+pub differ_before : (rs : List LogRecord) (r : LogRecord) → all_differ (drawn_numbers (rs ++ r ∷ [])) ≡ true → all_differ (drawn_numbers rs) ≡ true
 differ_before rs r h = differ_front (drawn_numbers rs) (drawn_numbers (r ∷ [])) (subst (λ (ns : List ℕ). all_differ ns ≡ true) (drawn_more rs (r ∷ [])) h)
 
-left_with : (rs : List LogRecord) (r : LogRecord) → AreLeft rs → all_differ (drawn_numbers (rs ++ r ∷ [])) ≡ true → MayFollow rs r → AreLeft (rs ++ r ∷ [])
+pub left_with : (rs : List LogRecord) (r : LogRecord) → AreLeft rs → all_differ (drawn_numbers (rs ++ r ∷ [])) ≡ true → MayFollow rs r → AreLeft (rs ++ r ∷ [])
 left_with rs r h differ f = record {
   named = named_more rs r h f;
   left = λ t. subst (λ (c : Course). IsLeft (rs ++ r ∷ []) t c.undo) (sym (course_last new_course t rs r))
@@ -362,7 +362,7 @@ left_with rs r h differ f = record {
       (λ other. other_record rs r t h (differ_before rs r differ) f other));
 }
 
-left_none : AreLeft []
+pub left_none : AreLeft []
 left_none = record {
   left = λ t. record { made = λ k is. absurd cc; kept = λ k is. absurd cc; differ = refl };
   named = λ k is. absurd cc;

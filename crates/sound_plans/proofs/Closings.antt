@@ -68,7 +68,7 @@ ended_leaves logs member lrsn tran m t h = elim (cases_Bool (member == m)) [
 
 -- ---- one closing
 
-closes : (logs : List Log) (c : Closing) → CanClose logs c → PutIs logs c.member (ended c.lrsn c.tran)
+pub closes : (logs : List Log) (c : Closing) → CanClose logs c → PutIs logs c.member (ended c.lrsn c.tran)
 closes logs c h =
     let last = last_of_member logs c.member (ended c.lrsn c.tran) h.has in
     put_is logs c.member (ended c.lrsn c.tran) h.has h.allowed (λ log is. record {
@@ -103,7 +103,7 @@ closes_still logs c d h k =
       allowed = k.allowed;
     }
 
-all_close_still : (logs : List Log) (c : Closing) (cs : List Closing) → CanClose logs c → ClosingsFit logs cs → ClosingsFit (put_record logs c.member (ended c.lrsn c.tran)) cs
+pub all_close_still : (logs : List Log) (c : Closing) (cs : List Closing) → CanClose logs c → ClosingsFit logs cs → ClosingsFit (put_record logs c.member (ended c.lrsn c.tran)) cs
 all_close_still logs c [] h k = tt
 all_close_still logs c (d ∷ cs) h k = (closes_still logs c d h k.0, all_close_still logs c cs h k.1)
 

@@ -2,3 +2,10 @@ pub mod Opens
 pub mod Logs
 pub mod Closings
 pub mod Queues
+pub mod Inserted
+pub mod Neat
+pub mod Members
+pub mod Planned_closings
+pub mod Planned_queue
+pub mod Planned
+pub mod Ended

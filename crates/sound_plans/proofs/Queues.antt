@@ -31,12 +31,12 @@ use Rattle.sound_plans.proofs.Closings.{SameUndo, ended_leaves, last_with}
 
 -- ---- the last of a list
 
-record Snoc (xs : List LogRecord) : Type 0 where
-  init : List LogRecord
-  last : LogRecord
-  split : xs ≡ init ++ last ∷ []
+pub record Snoc (xs : List LogRecord) : Type 0 where
+  pub init : List LogRecord
+  pub last : LogRecord
+  pub split : xs ≡ init ++ last ∷ []
 
-snoc_view : (xs : List LogRecord) → (xs ≡ []) ⊎ Snoc xs
+pub snoc_view : (xs : List LogRecord) → (xs ≡ []) ⊎ Snoc xs
 snoc_view [] = inl refl
 snoc_view (x ∷ xs) = elim (snoc_view xs) [
   | inl e ↦ inr (record { init = []; last = x; split = ap (λ (l : List LogRecord). x ∷ l) e })
@@ -50,7 +50,7 @@ got_at (x ∷ init) r = got_at init r
 before_last : (init : List LogRecord) (r : LogRecord) → length init ≡ length (init ++ r ∷ []) - 1
 before_last init r = let size = length_push init r in omega (arith, size)
 
-got_last : (us init : List LogRecord) (r : LogRecord) → us ≡ init ++ r ∷ [] → slice_get us (length us - 1) ≡ Some r
+pub got_last : (us init : List LogRecord) (r : LogRecord) → us ≡ init ++ r ∷ [] → slice_get us (length us - 1) ≡ Some r
 got_last us init r e =
     subst (λ (l : List LogRecord). slice_get l (length l - 1) ≡ Some r) (sym e) (subst (λ (n : ℕ). slice_get (init ++ r ∷ []) n ≡ Some r) (before_last init r) (got_at init r))
 
@@ -61,7 +61,7 @@ all_front : (P : LogRecord → Type 0) (xs ys : List LogRecord) → AllByRecursi
 all_front P [] ys h = tt
 all_front P (x ∷ xs) ys h = (h.0, all_front P xs ys h.1)
 
-all_last : (P : LogRecord → Type 0) (xs : List LogRecord) (r : LogRecord) → AllByRecursion P (xs ++ r ∷ []) → P r
+pub all_last : (P : LogRecord → Type 0) (xs : List LogRecord) (r : LogRecord) → AllByRecursion P (xs ++ r ∷ []) → P r
 all_last P [] r h = h.0
 all_last P (x ∷ xs) r h = all_last P xs r h.1
 
@@ -132,7 +132,7 @@ head_of m t u us c own is = elim (snoc_view c.undo) [
 
 -- ---- the compensation may stand in a log
 
-wide : (v : Version) (n : ℕ) → IsNumber v n → IsNumber version.Two n
+pub wide : (v : Version) (n : ℕ) → IsNumber v n → IsNumber version.Two n
 wide version.One n h = omega arith
 wide version.Two n h = h
 
@@ -287,7 +287,7 @@ fits_behind logs u us n fits =
       ]
     ]
 
-fits_ended : (logs : List Log) (m lrsn t : ℕ) (us : List Undo) → has_log logs m ≡ true → QueueFits logs us → QueueFits (put_record logs m (ended lrsn t)) us
+pub fits_ended : (logs : List Log) (m lrsn t : ℕ) (us : List Undo) → has_log logs m ≡ true → QueueFits logs us → QueueFits (put_record logs m (ended lrsn t)) us
 fits_ended logs m lrsn t us has fits = λ k s. elim (fits k s) [
   | inl e ↦ inl e
   | inr q ↦ inr (queue_moves logs (put_record logs m (ended lrsn t)) k s (filter (is_of k s) us) (has_still logs m (ended lrsn t) k) (ended_leaves logs m lrsn t k s has) q)

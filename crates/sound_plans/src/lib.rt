@@ -3,14 +3,16 @@
 //! The crate has definitions and proofs alone. Its functions do nothing: their contracts are the laws.
 #![tactic(auto)]
 
-ghost use Rattle.sound_plans.specs.Opens.{OpensTell, SomeIsUndone};
+ghost use Rattle.sound_plans.specs.Opens.{EndsWhereNothingIsLeft, OpensTell, SomeIsUndone};
+ghost use Rattle.sound_plans.specs.Plans.{ClosingsOfPlanFit, PlanAppends, QueueOfPlanFits};
 ghost use Rattle.sound_plans.specs.Queues.{ClosingsAppend, QueueAppends};
 
 /// The transactions that a restart finds open in a log have no Commit there, and what is to be undone of each is what its records
-/// leave. Where that is nothing, the transaction was rolled back whole.
+/// leave. Where that is nothing, the transaction was rolled back whole, and it has ended, as one with a Commit has.
 pub fn open_laws()
     ensures tell { OpensTell }
     ensures undone { SomeIsUndone }
+    ensures ended { EndsWhereNothingIsLeft }
 {}
 
 /// Closings of transactions that fit the logs are records that a restart appends, one after the other.
@@ -23,3 +25,14 @@ pub fn closing_laws()
 pub fn queue_laws()
     ensures { QueueAppends }
 {}
+
+/// The closings and the queue of the plan of whole logs, whose records fit each other, fit them. So all that the plan closes and
+/// undoes is appended, one record after the other, if there are numbers for it.
+pub fn plan_laws()
+    ensures closings { ClosingsOfPlanFit }
+    ensures queue { QueueOfPlanFits }
+    ensures appends { PlanAppends }
+{
+    open_laws();
+    queue_laws();
+}
