@@ -9,3 +9,4 @@ pub mod Planned_closings
 pub mod Planned_queue
 pub mod Planned
 pub mod Ended
+pub mod Courses

@@ -54,7 +54,7 @@ pub got_last : (us init : List LogRecord) (r : LogRecord) → us ≡ init ++ r �
 got_last us init r e =
     subst (λ (l : List LogRecord). slice_get l (length l - 1) ≡ Some r) (sym e) (subst (λ (n : ℕ). slice_get (init ++ r ∷ []) n ≡ Some r) (before_last init r) (got_at init r))
 
-all_but_last : (us init : List LogRecord) (r : LogRecord) → us ≡ init ++ r ∷ [] → take (length us - 1) us ≡ init
+pub all_but_last : (us init : List LogRecord) (r : LogRecord) → us ≡ init ++ r ∷ [] → take (length us - 1) us ≡ init
 all_but_last us init r e = subst (λ (l : List LogRecord). take (length l - 1) l ≡ init) (sym e) (take_at init (r ∷ []) (length (init ++ r ∷ []) - 1) (before_last init r))
 
 all_front : (P : LogRecord → Type 0) (xs ys : List LogRecord) → AllByRecursion P (xs ++ ys) → AllByRecursion P xs
@@ -101,16 +101,16 @@ undos_with m t b (x ∷ init) r c is =
 -- ---- the head of the queue
 
 -- the last row change that isn't undone, and what is left behind it
-record Head (m t : ℕ) (u : Undo) (us : List Undo) (c : Course) : Type 0 where
-  init : List LogRecord
-  made : LogRecord
-  split : c.undo ≡ init ++ made ∷ []
-  own : IsOwnChange t made
-  rest_own : AllByRecursion (IsOwnChange t) init
-  is : u ≡ undo m t made.lrsn (last_flag true init) own.change
-  rest : us ≡ reverse (undos m t true init)
+pub record Head (m t : ℕ) (u : Undo) (us : List Undo) (c : Course) : Type 0 where
+  pub init : List LogRecord
+  pub made : LogRecord
+  pub split : c.undo ≡ init ++ made ∷ []
+  pub own : IsOwnChange t made
+  pub rest_own : AllByRecursion (IsOwnChange t) init
+  pub is : u ≡ undo m t made.lrsn (last_flag true init) own.change
+  pub rest : us ≡ reverse (undos m t true init)
 
-head_of : (m t : ℕ) (u : Undo) (us : List Undo) (c : Course) → AllByRecursion (IsOwnChange t) c.undo → u ∷ us ≡ reverse (undos m t true c.undo) → Head m t u us c
+pub head_of : (m t : ℕ) (u : Undo) (us : List Undo) (c : Course) → AllByRecursion (IsOwnChange t) c.undo → u ∷ us ≡ reverse (undos m t true c.undo) → Head m t u us c
 head_of m t u us c own is = elim (snoc_view c.undo) [
   | inl e ↦ (let none : u ∷ us ≡ [] = is ∙ ap (λ (l : List LogRecord). reverse (undos m t true l)) e in absurd cc)
   | inr s ↦ (
@@ -185,7 +185,7 @@ head_inverts m t u us c h =
     let change : u.change ≡ h.own.change = ap (λ (v : Undo). v.change) h.is in
     subst (InvertsBody (inverse u.change)) (sym h.own.body_is) (ap inverse change)
 
-undoes : (logs : List Log) (u : Undo) (us : List Undo) (q : IsQueueOf logs u.member u.tran (u ∷ us)) → Head u.member u.tran u us (course_of (records_for logs u.member) u.tran) → greatest (all_records logs) + 1 < 2 ^ 80
+pub undoes : (logs : List Log) (u : Undo) (us : List Undo) (q : IsQueueOf logs u.member u.tran (u ∷ us)) → Head u.member u.tran u us (course_of (records_for logs u.member) u.tran) → greatest (all_records logs) + 1 < 2 ^ 80
     → PutIs logs u.member (compensation u (greatest (all_records logs) + 1))
 undoes logs u us q h small =
     let c = course_of (records_for logs u.member) u.tran in
@@ -256,7 +256,7 @@ is_own : (u : Undo) → is_of u.member u.tran u ≡ true
 is_own u = ap (λ (b : Bool). b && (u.tran == u.tran)) (eq-eqb u.member u.member refl) ∙ eq-eqb u.tran u.tran refl
 
 -- of the transaction of the first change there is a queue
-first_queue : (logs : List Log) (u : Undo) (us : List Undo) → QueueFits logs (u ∷ us) → IsQueueOf logs u.member u.tran (u ∷ filter (is_of u.member u.tran) us)
+pub first_queue : (logs : List Log) (u : Undo) (us : List Undo) → QueueFits logs (u ∷ us) → IsQueueOf logs u.member u.tran (u ∷ filter (is_of u.member u.tran) us)
 first_queue logs u us fits =
     let own : filter (is_of u.member u.tran) (u ∷ us) ≡ u ∷ filter (is_of u.member u.tran) us = filter_own u.member u.tran u us (is_own u) in
     elim (fits u.member u.tran) [
@@ -267,7 +267,7 @@ first_queue logs u us fits =
 Fitting : List Log → ℕ → ℕ → List Undo → Type 0
 Fitting logs m t us = (us ≡ []) ⊎ IsQueueOf logs m t us
 
-fits_behind : (logs : List Log) (u : Undo) (us : List Undo) (n : ℕ) → QueueFits logs (u ∷ us) → QueueFits (put_record logs u.member (compensation u n)) us
+pub fits_behind : (logs : List Log) (u : Undo) (us : List Undo) (n : ℕ) → QueueFits logs (u ∷ us) → QueueFits (put_record logs u.member (compensation u n)) us
 fits_behind logs u us n fits =
     let q = first_queue logs u us fits in
     let h = head_of u.member u.tran u (filter (is_of u.member u.tran) us) (course_of (records_for logs u.member) u.tran) q.own q.is in
@@ -302,7 +302,7 @@ popped c init r e =
     let last : length (drop (length c.undo - 1) c.undo) ≡ length c.undo - (length c.undo - 1) = length-drop (length c.undo - 1) c.undo in
     ne_eqb (length (undone_one c).undone) 0 (λ z. omega (arith, some, size, last, z))
 
-ends : (logs : List Log) (u : Undo) (us : List Undo) (n : ℕ) (q : IsQueueOf logs u.member u.tran (u ∷ us)) → Head u.member u.tran u us (course_of (records_for logs u.member) u.tran) → u.is_last ≡ true → n ≡ greatest (all_records logs) + 1 → n < 2 ^ 80
+pub ends : (logs : List Log) (u : Undo) (us : List Undo) (n : ℕ) (q : IsQueueOf logs u.member u.tran (u ∷ us)) → Head u.member u.tran u us (course_of (records_for logs u.member) u.tran) → u.is_last ≡ true → n ≡ greatest (all_records logs) + 1 → n < 2 ^ 80
     → PutIs (put_record logs u.member (compensation u n)) u.member (ended n u.tran)
 ends logs u us n q h last e small =
     let c = course_of (records_for logs u.member) u.tran in
