@@ -67,7 +67,7 @@ all_last P (x ∷ xs) r h = all_last P xs r h.1
 
 -- ---- what is undone of a transaction
 
-last_flag : Bool → List LogRecord → Bool
+pub last_flag : Bool → List LogRecord → Bool
 last_flag b [] = b
 last_flag b (x ∷ xs) = false
 
@@ -263,9 +263,6 @@ first_queue logs u us fits =
       | inl e ↦ (let none : u ∷ filter (is_of u.member u.tran) us ≡ [] = sym own ∙ e in absurd cc)
       | inr q ↦ subst (IsQueueOf logs u.member u.tran) own q
     ]
-
-Fitting : List Log → ℕ → ℕ → List Undo → Type 0
-Fitting logs m t us = (us ≡ []) ⊎ IsQueueOf logs m t us
 
 pub fits_behind : (logs : List Log) (u : Undo) (us : List Undo) (n : ℕ) → QueueFits logs (u ∷ us) → QueueFits (put_record logs u.member (compensation u n)) us
 fits_behind logs u us n fits =
