@@ -16,15 +16,16 @@ use Rattle.restart_plan.specs.Ends.{end_of}
 use Rattle.group_restart.specs.declared.stage.Stage.{Stage}
 use Rattle.group_restart.specs.declared.stage.Stage.TheVariants as stage
 use Rattle.group_restart.specs.Machine.{Restart}
-use Rattle.group_restart.specs.Records.{ended, compensation, ending}
+use Rattle.group_restart.specs.Records.{ended, checkpoint, restart_end, compensation, ending}
 use Rattle.group_restart.specs.Undo.{undo_fault, undoing}
 use Rattle.group_restart.specs.Course.{Next, go, with_plan, with_added, rest_closings, rest_undo, rest_endings, ending_or, next_ending, rest_old, renewal_or, next_renewal, undo_or, next_undo, closing_or, next_closing, too_few_numbers, has_numbers, numbered, counted, begin_undo, undone, undo_at, undo_unless, undo_one, undo_first, take_undone, take_old, appended, take_done}
+use Rattle.sound_disk.specs.Laws.{last_number}
 use Rattle.sound_appends.specs.Appends.{AppendsAll}
-use Rattle.sound_plans.specs.Queues.{has_log, records_for, CanClose, ClosingsFit, IsQueueOf, is_of, QueueFits}
-use Rattle.sound_plans.specs.Courses.{Owes, ClosesNext, UndoesNext, IsDueIn, IsDue, writes_of, GoesOnBehind, UndoBegins, ClosingGoes, UndoGoes, PagesGo}
+use Rattle.sound_plans.specs.Queues.{has_log, records_for, length_for, CanClose, ClosingsFit, IsQueueOf, is_of, QueueFits}
+use Rattle.sound_plans.specs.Courses.{EndingAppends, Owes, ClosesNext, UndoesNext, IsDueIn, IsDue, writes_of, GoesOnBehind, UndoBegins, ClosingGoes, UndoGoes, PagesGo}
 use Rattle.sound_plans.specs.Opens.{course_of}
-use Rattle.sound_plans.proofs.Logs.{put_record, has_still, greatest_put, PutIs}
-use Rattle.sound_plans.proofs.Closings.{last_of_member, closes, all_close_still}
+use Rattle.sound_plans.proofs.Logs.{put_record, has_still, records_own, greatest_put, PutIs, put_is_at}
+use Rattle.sound_plans.proofs.Closings.{last_of_member, last_with, closes, all_close_still}
 use Rattle.sound_plans.proofs.Queues.{Head, head_of, first_queue, undoes, ends, fits_behind, fits_ended}
 
 -- ---- the stages from the last one to the first
@@ -186,4 +187,33 @@ undo_goes h member page logs d =
       done.after,
       subst (λ (ws : List (ℕ × LogRecord)). AppendsAll logs ws done.after) writes done.appends,
       λ e. done.owes,
+    )
+
+-- ---- the ends of logs
+
+pub ending_appends : EndingAppends
+ending_appends logs member counter has e allowed =
+    let at = length_for logs member in
+    let first = checkpoint counter at in
+    let second = restart_end counter in
+    let last = last_of_member logs member first has in
+    let begun = put_record logs member first in
+    let top = greatest_put logs member first has in
+    let begins : PutIs logs member first = put_is_at logs member first has allowed.0 (λ log is size. (
+      record {
+        low = let k : last_number 0 log.records ≡ last_number 0 (records_for logs member) = ap (last_number 0) is in omega (arith, k, last, e);
+        high = omega (arith, e);
+      },
+      sym size,
+    )) in
+    let has_begun : has_log begun member ≡ true = has_still logs member first member ∙ has in
+    let low : last_number 0 (records_for begun member) ≡ counter = ap (last_number 0) (records_own logs member first has) ∙ last_with 0 (records_for logs member) first in
+    let closes_it : PutIs begun member second = put_is_at begun member second has_begun allowed.1.0 (λ log is size. record {
+      low = let k : last_number 0 log.records ≡ counter = ap (last_number 0) is ∙ low in omega (arith, k);
+      high = omega (arith, e, top);
+    }) in
+    let top_behind = greatest_put begun member second has_begun in (
+      put_record begun member second,
+      (begun, begins.appends, begins.member_is, (put_record begun member second, closes_it.appends, closes_it.member_is, refl)),
+      omega (arith, e, top, top_behind),
     )

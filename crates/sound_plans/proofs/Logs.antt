@@ -15,7 +15,7 @@ use Rattle.sound_appends.specs.Appends.{IsNext, Appends}
 use Rattle.sound_appends.proofs.Numbers.{until, all_split, all_with, greatest_more}
 use Rattle.sound_appends.proofs.Left.{course_last}
 use Rattle.sound_plans.specs.Opens.{course_of}
-use Rattle.sound_plans.specs.Queues.{has_log, records_for}
+use Rattle.sound_plans.specs.Queues.{has_log, records_for, length_for}
 
 abbrev pub put_record : List Log → ℕ → LogRecord → List Log
 put_record [] member r = []
@@ -31,6 +31,7 @@ pub record AtMember (logs : List Log) (member : ℕ) (r : LogRecord) : Type 0 wh
   pub put_are : put_record logs member r ≡ front ++ with_record log r ∷ back
   pub member_is : log.member ≡ member
   pub records_are : log.records ≡ records_for logs member
+  pub length_is : log.length ≡ length_for logs member
 
 at_first : (log : Log) (logs : List Log) (member : ℕ) (r : LogRecord) → (log.member == member) ≡ true → AtMember (log ∷ logs) member r
 at_first log logs member r is = record {
@@ -41,6 +42,7 @@ at_first log logs member r is = record {
   put_are = ap (λ (b : Bool). cond b (with_record log r ∷ logs) (log ∷ put_record logs member r)) is;
   member_is = eqb-true log.member member is;
   records_are = sym (ap (λ (b : Bool). cond b log.records (records_for logs member)) is);
+  length_is = sym (ap (λ (b : Bool). cond b log.length (length_for logs member)) is);
 }
 
 at_later : (log : Log) (logs : List Log) (member : ℕ) (r : LogRecord) → (log.member == member) ≡ false → AtMember logs member r → AtMember (log ∷ logs) member r
@@ -52,6 +54,7 @@ at_later log logs member r other a = record {
   put_are = ap (λ (b : Bool). cond b (with_record log r ∷ logs) (log ∷ put_record logs member r)) other ∙ ap (λ (ls : List Log). log ∷ ls) a.put_are;
   member_is = a.member_is;
   records_are = a.records_are ∙ sym (ap (λ (b : Bool). cond b log.records (records_for logs member)) other);
+  length_is = a.length_is ∙ sym (ap (λ (b : Bool). cond b log.length (length_for logs member)) other);
 }
 
 pub at_member : (logs : List Log) (member : ℕ) (r : LogRecord) → has_log logs member ≡ true → AtMember logs member r
@@ -141,10 +144,13 @@ pub record PutIs (logs : List Log) (member : ℕ) (r : LogRecord) : Type 0 where
   pub appends : Appends logs r (put_record logs member r)
   pub member_is : appends.log.member ≡ member
 
-pub put_is : (logs : List Log) (member : ℕ) (r : LogRecord) → has_log logs member ≡ true → IsAllowed r → ((log : Log) → log.records ≡ records_for logs member → IsNext logs log r r.body) → PutIs logs member r
-put_is logs member r h allowed next =
+pub put_is_at : (logs : List Log) (member : ℕ) (r : LogRecord) → has_log logs member ≡ true → IsAllowed r → ((log : Log) → log.records ≡ records_for logs member → log.length ≡ length_for logs member → IsNext logs log r r.body) → PutIs logs member r
+put_is_at logs member r h allowed next =
     let a = at_member logs member r h in
     record {
-      appends = record { front = a.front; log = a.log; back = a.back; logs_are = a.logs_are; after_are = a.put_are; allowed = allowed; next = next a.log a.records_are };
+      appends = record { front = a.front; log = a.log; back = a.back; logs_are = a.logs_are; after_are = a.put_are; allowed = allowed; next = next a.log a.records_are a.length_is };
       member_is = a.member_is;
     }
+
+pub put_is : (logs : List Log) (member : ℕ) (r : LogRecord) → has_log logs member ≡ true → IsAllowed r → ((log : Log) → log.records ≡ records_for logs member → IsNext logs log r r.body) → PutIs logs member r
+put_is logs member r h allowed next = put_is_at logs member r h allowed (λ log records size. next log records)

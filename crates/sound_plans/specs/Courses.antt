@@ -1,7 +1,9 @@
 -- A group restart that has brought its pages forward appends what fits the logs, call by call.
-use Rattle.std.specs.Prelude.{◌≡◌, ℕ, ◌+◌, ◌<◌, ◌^◌, List, [], ◌∷◌, map}
+use Rattle.std.specs.Prelude.{◌≡◌, ℕ, ◌+◌, ◌<◌, ◌^◌, true, List, [], ◌∷◌, map}
+use Rattle.std.specs.List.{AllByRecursion}
 use Rattle.ds_base.specs.declared.names.PageId.{PageId}
 use Rattle.ds_model.specs.declared.log.LogRecord.{LogRecord}
+use Rattle.ds_model.specs.RecordBytes.{IsAllowed}
 use Rattle.log_record.specs.declared.log.Log.{Log}
 use Rattle.log_trans.specs.Numbers.{greatest}
 use Rattle.log_merge.specs.Merging.{all_records}
@@ -11,11 +13,11 @@ use Rattle.group_restart.specs.declared.calls.State.TheVariants as state
 use Rattle.group_restart.specs.declared.stage.Stage.{Stage}
 use Rattle.group_restart.specs.declared.stage.Stage.TheVariants as stage
 use Rattle.group_restart.specs.Machine.{Restart}
-use Rattle.group_restart.specs.Records.{ended}
+use Rattle.group_restart.specs.Records.{ended, ending}
 use Rattle.group_restart.specs.Undo.{undoing}
 use Rattle.group_restart.specs.Course.{Next, begin_undo, take_done}
 use Rattle.sound_appends.specs.Appends.{AppendsAll}
-use Rattle.sound_plans.specs.Queues.{Writes, CanClose, ClosingsFit, QueueFits}
+use Rattle.sound_plans.specs.Queues.{Writes, has_log, length_for, CanClose, ClosingsFit, QueueFits}
 
 -- ---- what is still to be done
 
@@ -86,3 +88,8 @@ pub record PagesGo : Type 0 where
   pub undo_write : (h : Restart) (page : PageId) (logs : List Log) → IsDueIn (stage.UndoWrite page) h logs → IsDue (take_done h (stage.UndoWrite page)) logs
   pub renew_read : (h : Restart) (page : PageId) (logs : List Log) → IsDueIn (stage.RenewRead page) h logs → IsDue (take_done h (stage.RenewRead page)) logs
   pub renew_write : (h : Restart) (page : PageId) (logs : List Log) → IsDueIn (stage.RenewWrite page) h logs → IsDue (take_done h (stage.RenewWrite page)) logs
+
+-- the Checkpoint that names the end of a log, and the RestartEnd, under the greatest number
+abbrev pub EndingAppends : Type 0
+EndingAppends = (logs : List Log) (member counter : ℕ) → has_log logs member ≡ true → counter ≡ greatest (all_records logs) → AllByRecursion IsAllowed (ending counter (length_for logs member))
+    → (after : List Log) × AppendsAll logs (writes_of member (ending counter (length_for logs member))) after × (counter ≡ greatest (all_records after))

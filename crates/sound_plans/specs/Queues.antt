@@ -40,6 +40,11 @@ abbrev pub records_for : List Log → ℕ → List LogRecord
 records_for [] member = []
 records_for (log ∷ logs) member = if log.member == member then log.records else records_for logs member
 
+-- how many bytes the whole records of the member's log have
+abbrev pub length_for : List Log → ℕ → ℕ
+length_for [] member = 0
+length_for (log ∷ logs) member = if log.member == member then log.length else length_for logs member
+
 -- ---- closings
 
 -- all row changes of the transaction are undone, and the number is the last of its log

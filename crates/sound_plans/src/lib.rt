@@ -3,7 +3,7 @@
 //! The crate has definitions and proofs alone. Its functions do nothing: their contracts are the laws.
 #![tactic(auto)]
 
-ghost use Rattle.sound_plans.specs.Courses.{ClosingGoes, PagesGo, UndoBegins, UndoGoes};
+ghost use Rattle.sound_plans.specs.Courses.{ClosingGoes, EndingAppends, PagesGo, UndoBegins, UndoGoes};
 ghost use Rattle.sound_plans.specs.Opens.{EndsWhereNothingIsLeft, OpensTell, SomeIsUndone};
 ghost use Rattle.sound_plans.specs.Plans.{ClosingsOfPlanFit, PlanAppends, QueueOfPlanFits};
 ghost use Rattle.sound_plans.specs.Queues.{ClosingsAppend, QueueAppends};
@@ -38,11 +38,13 @@ pub fn plan_laws()
     queue_laws();
 }
 
-/// A group restart that has brought the pages forward, with a plan that fits the logs, appends just such records from then on,
-/// up to the ends of logs: each append of an Ended, or of a compensation, leads to logs for which what is left of the plan fits.
+/// A group restart that has brought the pages forward, with a plan that fits the logs, appends just such records from then on:
+/// each append of an Ended, or of a compensation, leads to logs for which what is left of the plan fits. So are the Checkpoint that
+/// names the end of a log, and the RestartEnd.
 pub fn course_laws()
     ensures begins { UndoBegins }
     ensures closing { ClosingGoes }
     ensures undo { UndoGoes }
     ensures pages { PagesGo }
+    ensures ending { EndingAppends }
 {}
