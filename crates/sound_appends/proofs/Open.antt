@@ -270,22 +270,27 @@ open_is rs t k s commit taken h =
     (open_when (is_row_change s.body) (has_commit rs s.tran) (is_taken s.lrsn rs) p.row (ap (has_commit rs) p.tran ∙ commit) (ap (λ (n : ℕ). is_taken n rs) p.number ∙ taken))
     (eq-eqb k s.lrsn (sym p.number))
 
--- one of the records is the row change that is taken back, and it is open
-one_open : (front : List Log) (log : Log) (back : List Log) (r : LogRecord) (change : RowChange) (k : ℕ) → AreTransactions (front ++ log ∷ back) → (r.tran == 0) ≡ false → Compensates (front ++ log ∷ back) log r change k
+-- a row change that is left of a transaction without a Commit is one of the records, and open
+pub open_among : (front : List Log) (log : Log) (back : List Log) (t k : ℕ) → AreTransactions (front ++ log ∷ back) → (t == 0) ≡ false → is_among k (numbers (undo_of log.records t)) ≡ true → (course_of log t).is_committed ≡ false
     → list_any (λ (s : LogRecord). is_open (until front log ++ all_records back) s && (k == s.lrsn)) (until front log ++ all_records back) ≡ true
-one_open front log back r change k t some c =
+open_among front log back t k trans some among uncommitted =
     let all = until front log ++ all_records back in
-    let a = around front log back t in
-    let among : is_among k (numbers (undo_of log.records r.tran)) ≡ true = next_among (undo_of log.records r.tran) k (is_next_by (course_of log r.tran) c.made k c.last c.number_is) in
-    let made : has_change r.tran k log.records ≡ true = (a.here.left r.tran).made k among in
-    let alone = stands_alone front log back r.tran t.homes some (change_spoken r.tran k log.records made) in
-    let commit : has_commit all r.tran ≡ false = commit_nowhere front log back r.tran alone c.uncommitted in
-    let taken : is_taken k all ≡ false = taken_nowhere front log back r.tran k a among in
+    let a = around front log back trans in
+    let made : has_change t k log.records ≡ true = (a.here.left t).made k among in
+    let alone = stands_alone front log back t trans.homes some (change_spoken t k log.records made) in
+    let commit : has_commit all t ≡ false = commit_nowhere front log back t alone uncommitted in
+    let taken : is_taken k all ≡ false = taken_nowhere front log back t k a among in
     let passes : LogRecord → Bool = λ s. is_open all s && (k == s.lrsn) in
-    let own : list_any passes log.records ≡ true = any_weaker (λ (s : LogRecord). is_change r.tran k s) passes log.records (λ s h. open_is all r.tran k s commit taken h) made in
+    let own : list_any passes log.records ≡ true = any_weaker (λ (s : LogRecord). is_change t k s) passes log.records (λ s h. open_is all t k s commit taken h) made in
     list_any-append passes (until front log) (all_records back)
     ∙ or_left (list_any passes (until front log)) (list_any passes (all_records back))
     (list_any-append passes (all_records front) log.records ∙ or_right (list_any passes (all_records front)) (list_any passes log.records) own)
+
+-- so is the one that a compensation takes back
+one_open : (front : List Log) (log : Log) (back : List Log) (r : LogRecord) (change : RowChange) (k : ℕ) → AreTransactions (front ++ log ∷ back) → (r.tran == 0) ≡ false → Compensates (front ++ log ∷ back) log r change k
+    → list_any (λ (s : LogRecord). is_open (until front log ++ all_records back) s && (k == s.lrsn)) (until front log ++ all_records back) ≡ true
+one_open front log back r change k t some c =
+    open_among front log back r.tran k t some (next_among (undo_of log.records r.tran) k (is_next_by (course_of log r.tran) c.made k c.last c.number_is)) c.uncommitted
 
 -- ---- numbers
 

@@ -10,3 +10,4 @@ pub mod Planned_queue
 pub mod Planned
 pub mod Ended
 pub mod Courses
+pub mod Counted

@@ -33,21 +33,21 @@ use Rattle.sound_plans.proofs.Neat.{AreStrict, IsNeat, AreNeat}
 
 -- ---- what is put into the map
 
-abbrev put_tran : ℕ → OpenTran → List Undo
+abbrev pub put_tran : ℕ → OpenTran → List Undo
 put_tran m t = cond (t.id == 0) [] (cond (length t.undo == 0) [] (undos m t.id true t.undo))
 
-abbrev put_trans : ℕ → List OpenTran → List Undo
+abbrev pub put_trans : ℕ → List OpenTran → List Undo
 put_trans m [] = []
 put_trans m (t ∷ ts) = put_tran m t ++ put_trans m ts
 
-abbrev put_last : ℕ → List OpenTran → Option LogRecord → List Undo
+abbrev pub put_last : ℕ → List OpenTran → Option LogRecord → List Undo
 put_last m ts None = []
 put_last m ts (Some last) = put_trans m ts
 
-abbrev put_log : Log → List Undo
+abbrev pub put_log : Log → List Undo
 put_log log = put_last log.member (open_trans log.records) (slice_get log.records (length log.records - 1))
 
-abbrev put_logs : List Log → List Undo
+abbrev pub put_logs : List Log → List Undo
 put_logs [] = []
 put_logs (log ∷ logs) = put_log log ++ put_logs logs
 
@@ -89,7 +89,7 @@ last_put o m ts None = refl
 last_put o m ts (Some last) =
     trans_put m last.lrsn (cond (needs_end last ts) (with_ending o m) o) ts ∙ ap (λ (c : Changes). put_all c (put_trans m ts)) (ending_if (needs_end last ts) o m)
 
-logs_put : (o : Opened) (logs : List Log) → (with_logs o logs).undo ≡ put_all o.undo (put_logs logs)
+pub logs_put : (o : Opened) (logs : List Log) → (with_logs o logs).undo ≡ put_all o.undo (put_logs logs)
 logs_put o [] = refl
 logs_put o (log ∷ logs) =
     logs_put (with_log o log) logs
@@ -182,11 +182,17 @@ tran_differs m t h =
 -- a number among those that are put is that of a row change of one of the transactions
 record Owner (rs : List LogRecord) (ts : List OpenTran) (k : ℕ) : Type 0 where
   id : ℕ
+  some : id ≢ 0
   listed : is_among id (ids ts) ≡ true
+  among : is_among k (numbers (undo_of rs id)) ≡ true
+  uncommitted : (course_of rs id).is_committed ≡ false
   made : has_change id k rs ≡ true
 
+tran_left : (m : ℕ) (t : OpenTran) (rs : List LogRecord) (k : ℕ) → IsOpenTran rs t → is_among k (numbers_of (put_tran m t)) ≡ true → is_among k (numbers (undo_of rs t.id)) ≡ true
+tran_left m t rs k o h = subst (λ (us : List LogRecord). is_among k (numbers us) ≡ true) o.undo_is (tran_among m t k h)
+
 tran_made : (m : ℕ) (t : OpenTran) (rs : List LogRecord) (k : ℕ) → AreLeft rs → IsOpenTran rs t → is_among k (numbers_of (put_tran m t)) ≡ true → has_change t.id k rs ≡ true
-tran_made m t rs k left o h = (left.left t.id).made k (subst (λ (us : List LogRecord). is_among k (numbers us) ≡ true) o.undo_is (tran_among m t k h))
+tran_made m t rs k left o h = (left.left t.id).made k (tran_left m t rs k o h)
 
 owner_of : (m : ℕ) (ts : List OpenTran) (rs : List LogRecord) (k : ℕ) → AreLeft rs → AllByRecursion (IsOpenTran rs) ts → is_among k (numbers_of (put_trans m ts)) ≡ true → Owner rs ts k
 owner_of m [] rs k left o h = absurd (none_among k h)
@@ -194,8 +200,17 @@ owner_of m (t ∷ ts) rs k left o h =
     let parts : (is_among k (numbers_of (put_tran m t)) || is_among k (numbers_of (put_trans m ts))) ≡ true =
     sym (among_more k (numbers_of (put_tran m t)) (numbers_of (put_trans m ts))) ∙ sym (ap (is_among k) (map-append (λ (u : Undo). u.lrsn) (put_tran m t) (put_trans m ts))) ∙ h in
     elim (or_cases (is_among k (numbers_of (put_tran m t))) (is_among k (numbers_of (put_trans m ts))) parts) [
-      | inl e ↦ record { id = t.id; listed = or_left (t.id == t.id) (is_among t.id (ids ts)) (eq-eqb t.id t.id refl); made = tran_made m t rs k left o.0 e }
-      | inr e ↦ (let w = owner_of m ts rs k left o.1 e in record { id = w.id; listed = or_right (t.id == w.id) (is_among w.id (ids ts)) w.listed; made = w.made })
+      | inl e ↦ record {
+        id = t.id;
+        some = o.0.numbered;
+        listed = or_left (t.id == t.id) (is_among t.id (ids ts)) (eq-eqb t.id t.id refl);
+        among = tran_left m t rs k o.0 e;
+        uncommitted = o.0.uncommitted;
+        made = tran_made m t rs k left o.0 e;
+      }
+      | inr e ↦ (
+          let w = owner_of m ts rs k left o.1 e in
+          record { id = w.id; some = w.some; listed = or_right (t.id == w.id) (is_among w.id (ids ts)) w.listed; among = w.among; uncommitted = w.uncommitted; made = w.made })
     ]
 
 differ_join : (xs ys : List ℕ) → all_differ xs ≡ true → all_differ ys ≡ true → ((k : ℕ) → is_among k xs ≡ true → is_among k ys ≡ true → ⊥) → all_differ (xs ++ ys) ≡ true
@@ -224,6 +239,20 @@ last_differs : (m : ℕ) (ts : List OpenTran) (found : Option LogRecord) (rs : L
 last_differs m ts None rs left differ o h = refl
 last_differs m ts (Some last) rs left differ o h = trans_differ m ts rs left differ o h
 
+-- one of these logs' open transactions has a row change of this number
+pub record LogOwner (log : Log) (k : ℕ) : Type 0 where
+  pub id : ℕ
+  pub some : id ≢ 0
+  pub among : is_among k (numbers (undo_of log.records id)) ≡ true
+  pub uncommitted : (course_of log.records id).is_committed ≡ false
+
+last_owner : (log : Log) (m : ℕ) (ts : List OpenTran) (found : Option LogRecord) (k : ℕ) → AreLeft log.records → AllByRecursion (IsOpenTran log.records) ts → is_among k (numbers_of (put_last m ts found)) ≡ true → LogOwner log k
+last_owner log m ts None k left o h = absurd (none_among k h)
+last_owner log m ts (Some last) k left o h = let w = owner_of m ts log.records k left o h in record { id = w.id; some = w.some; among = w.among; uncommitted = w.uncommitted }
+
+pub log_owner : OpensTell → (log : Log) (k : ℕ) → IsSoundLog log → is_among k (numbers_of (put_log log)) ≡ true → LogOwner log k
+log_owner tell log k s h = last_owner log log.member (open_trans log.records) (slice_get log.records (length log.records - 1)) k s.left (tell log.records) h
+
 log_among : OpensTell → (log : Log) (k : ℕ) → IsSoundLog log → is_among k (numbers_of (put_log log)) ≡ true → is_among k (drawn_numbers log.records) ≡ true
 log_among tell log k s h = last_among log.member (open_trans log.records) (slice_get log.records (length log.records - 1)) log.records k s.left (tell log.records) h
 
@@ -239,7 +268,7 @@ logs_among tell (log ∷ logs) k s h =
     ] in
     ap (is_among k) (drawn_more log.records (all_records logs)) ∙ among_more k (drawn_numbers log.records) (drawn_numbers (all_records logs)) ∙ either
 
-logs_differ : OpensTell → (logs : List Log) → AllByRecursion IsSoundLog logs → all_differ (drawn_numbers (all_records logs)) ≡ true → all_differ (numbers_of (put_logs logs)) ≡ true
+pub logs_differ : OpensTell → (logs : List Log) → AllByRecursion IsSoundLog logs → all_differ (drawn_numbers (all_records logs)) ≡ true → all_differ (numbers_of (put_logs logs)) ≡ true
 logs_differ tell [] s differ = refl
 logs_differ tell (log ∷ logs) s differ =
     let parts : all_differ (drawn_numbers log.records ++ drawn_numbers (all_records logs)) ≡ true = subst (λ (ns : List ℕ). all_differ ns ≡ true) (drawn_more log.records (all_records logs)) differ in

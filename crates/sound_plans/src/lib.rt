@@ -5,7 +5,7 @@
 
 ghost use Rattle.sound_plans.specs.Courses.{ClosingGoes, EndingAppends, PagesGo, UndoBegins, UndoGoes};
 ghost use Rattle.sound_plans.specs.Opens.{EndsWhereNothingIsLeft, OpensTell, SomeIsUndone};
-ghost use Rattle.sound_plans.specs.Plans.{ClosingsOfPlanFit, PlanAppends, QueueOfPlanFits};
+ghost use Rattle.sound_plans.specs.Plans.{ClosingsOfPlanFit, NumbersSuffice, PlanAppends, QueueOfPlanFits};
 ghost use Rattle.sound_plans.specs.Queues.{ClosingsAppend, QueueAppends};
 
 /// The transactions that a restart finds open in a log have no Commit there, and what is to be undone of each is what its records
@@ -28,11 +28,12 @@ pub fn queue_laws()
 {}
 
 /// The closings and the queue of the plan of whole logs, whose records fit each other, fit them. So all that the plan closes and
-/// undoes is appended, one record after the other, if there are numbers for it.
+/// undoes is appended, one record after the other, if there are numbers for it; and there are where numbers are left.
 pub fn plan_laws()
     ensures closings { ClosingsOfPlanFit }
     ensures queue { QueueOfPlanFits }
     ensures appends { PlanAppends }
+    ensures numbers { NumbersSuffice }
 {
     open_laws();
     queue_laws();
