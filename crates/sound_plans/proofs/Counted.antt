@@ -21,7 +21,7 @@ use Rattle.sound_disk.specs.Numbers_left.{open_changes, NumbersAreLeft}
 use Rattle.sound_disk.specs.Settled.{is_open}
 use Rattle.sound_disk.specs.Transactions.{is_among, all_differ, AreTransactions}
 use Rattle.sound_disk.specs.Whole_logs.{AreWholeLogs}
-use Rattle.sound_appends.proofs.Numbers.{all_split}
+use Rattle.sound_appends.proofs.Numbers.{until, all_split}
 use Rattle.sound_appends.proofs.Left.{numbers, among_more, differ_tail}
 use Rattle.sound_appends.proofs.Open.{open_among}
 use Rattle.sound_plans.specs.Opens.{IsOpenTran, OpensTell}
@@ -115,8 +115,9 @@ log_open : OpensTell → (front : List Log) (log : Log) (back : List Log) (k : �
     → is_among k (numbers (open_changes (all_records (front ++ log ∷ back)))) ≡ true
 log_open tell front log back k t s h =
     let w = log_owner tell log k s h in
+    let all = until front log ++ all_records back in
     subst (λ (rs : List LogRecord). is_among k (numbers (open_changes rs)) ≡ true) (sym (all_split front log back))
-    (any_filter (is_open _) k _ (open_among front log back w.id k t (ne_eqb w.id 0 w.some) w.among w.uncommitted))
+    (any_filter (is_open all) k all (open_among front log back w.id k t (ne_eqb w.id 0 w.some) w.among w.uncommitted))
 
 logs_open : OpensTell → (front logs : List Log) (k : ℕ) → AreTransactions (front ++ logs) → AllByRecursion IsSoundLog logs → is_among k (numbers_of (put_logs logs)) ≡ true → is_among k (numbers (open_changes (all_records (front ++ logs)))) ≡ true
 logs_open tell front [] k t s h = absurd cc
