@@ -1,34 +1,31 @@
 -- For all that a plan undoes there are numbers where numbers are left for the open row changes.
-use Rattle.std.proofs.Common.{◌≡◌, ◌≢◌, ℕ, ◌+◌, ◌*◌, ◌^◌, ◌<◌, ◌≤◌, Bool, true, false, cond, List, [], ◌∷◌, ◌++◌, length, map, reverse, inl, inr, refl, sym, ap, subst, ◌∙◌, arith, append_assoc}
+use Rattle.std.proofs.Common.{◌≡◌, ℕ, ◌+◌, ◌^◌, ◌<◌, ◌≤◌, Bool, true, false, cond, List, [], ◌∷◌, ◌++◌, length, reverse, inl, inr, refl, sym, ap, subst, ◌∙◌, arith, append_assoc}
 use Rattle.std.specs.Prelude.{◌==◌, ◌||◌, ◌&&◌, filter}
 use Rattle.std.specs.List.{list_any, AllByRecursion}
 use Rattle.std.specs.Ordering.{nat_cmp}
 use Rattle.std.specs.Cmp.{nat_cmp_total}
 use Rattle.std.specs.FinMap.{entries, empty, insert, len, contains_key, len-entries, len-empty, len-insert}
-use Rattle.std.proofs.lemmas.Bool.{cond_both, cases_Bool, or_cases, or_from, or_left, or_right, and_parts, both_ways, eqb-true, eq-eqb, ne_eqb, false_from_ne_true}
+use Rattle.std.proofs.lemmas.Bool.{cond_both, cases_Bool, or_cases, or_left, or_right, and_parts, both_ways, eqb-true, eq-eqb, ne_eqb, false_from_ne_true}
 use Rattle.std.proofs.lemmas.List.{length-map, length-reverse, map-append}
 use Rattle.ds_model.specs.declared.log.LogRecord.{LogRecord}
 use Rattle.log_record.specs.declared.log.Log.{Log}
-use Rattle.log_trans.specs.declared.opened.OpenTran.{OpenTran}
-use Rattle.log_trans.specs.Courses.{open_trans}
 use Rattle.log_trans.specs.Numbers.{greatest}
 use Rattle.log_merge.specs.Merging.{all_records}
 use Rattle.restart_plan.specs.declared.opened.Undo.{Undo}
 use Rattle.restart_plan.specs.Opened.{Changes, nothing_open, with_logs}
 use Rattle.restart_plan.specs.Plans.{plan_of}
 use Rattle.restart_plan.specs.Values.{falling}
-use Rattle.sound_disk.specs.Numbers_left.{open_changes, NumbersAreLeft}
+use Rattle.sound_disk.specs.Numbers_left.{open_changes}
 use Rattle.sound_disk.specs.Settled.{is_open}
 use Rattle.sound_disk.specs.Transactions.{is_among, all_differ, AreTransactions}
-use Rattle.sound_disk.specs.Whole_logs.{AreWholeLogs}
 use Rattle.sound_appends.proofs.Numbers.{until, all_split}
 use Rattle.sound_appends.proofs.Left.{numbers, among_more, differ_tail}
 use Rattle.sound_appends.proofs.Open.{open_among}
-use Rattle.sound_plans.specs.Opens.{IsOpenTran, OpensTell}
+use Rattle.sound_plans.specs.Opens.{OpensTell}
 use Rattle.sound_plans.specs.Plans.{NumbersSuffice}
-use Rattle.sound_plans.proofs.Inserted.{Entries, undos_in, numbers_of, put_all}
+use Rattle.sound_plans.proofs.Inserted.{Entries, numbers_of, put_all}
 use Rattle.sound_plans.proofs.Members.{IsSoundLog, each_sound, all_numbers}
-use Rattle.sound_plans.proofs.Planned_queue.{put_log, put_logs, logs_put, logs_differ, LogOwner, log_owner}
+use Rattle.sound_plans.proofs.Planned_queue.{put_log, put_logs, logs_put, logs_differ, log_owner}
 
 -- ---- how many are put
 

@@ -1,32 +1,28 @@
 -- Call by call the course appends what fits the logs.
-use Rattle.std.proofs.Common.{◌≡◌, ℕ, ◌+◌, ◌<◌, ◌≤◌, ◌^◌, max, Bool, true, false, cond, List, [], ◌∷◌, ◌++◌, length, drop, map, Option, Some, None, inl, inr, refl, sym, ap, subst, ◌∙◌, arith}
+use Rattle.std.proofs.Common.{◌≡◌, ℕ, ◌+◌, ◌<◌, ◌^◌, true, List, [], ◌∷◌, drop, Option, Some, None, refl, sym, ap, subst, ◌∙◌, arith}
 use Rattle.std.specs.Prelude.{nat_lt, slice_get, filter}
-use Rattle.std.specs.List.{AllByRecursion}
-use Rattle.std.proofs.lemmas.Bool.{cond_both, cases_Bool, ltb-true}
+use Rattle.std.proofs.lemmas.Bool.{cond_both, ltb-true}
 use Rattle.ds_base.specs.declared.names.PageId.{PageId}
 use Rattle.ds_model.specs.declared.log.LogRecord.{LogRecord}
 use Rattle.page_format.specs.Fields.{is_old, renewed}
-use Rattle.page_chain.specs.Chains.{row_patch}
 use Rattle.log_record.specs.declared.log.Log.{Log}
 use Rattle.log_trans.specs.Numbers.{greatest}
 use Rattle.log_merge.specs.Merging.{all_records}
 use Rattle.restart_plan.specs.declared.opened.Closing.{Closing}
 use Rattle.restart_plan.specs.declared.opened.Undo.{Undo}
-use Rattle.restart_plan.specs.Ends.{end_of}
-use Rattle.group_restart.specs.declared.stage.Stage.{Stage}
 use Rattle.group_restart.specs.declared.stage.Stage.TheVariants as stage
 use Rattle.group_restart.specs.Machine.{Restart}
-use Rattle.group_restart.specs.Records.{ended, checkpoint, restart_end, compensation, ending}
+use Rattle.group_restart.specs.Records.{ended, checkpoint, restart_end, compensation}
 use Rattle.group_restart.specs.Undo.{undo_fault, undoing}
-use Rattle.group_restart.specs.Course.{Next, go, with_plan, with_added, rest_closings, rest_undo, rest_endings, ending_or, next_ending, rest_old, renewal_or, next_renewal, undo_or, next_undo, closing_or, next_closing, too_few_numbers, has_numbers, numbered, counted, begin_undo, undone, undo_at, undo_unless, undo_one, undo_first, take_undone, take_old, appended, take_done}
+use Rattle.group_restart.specs.Course.{Next, go, with_plan, rest_closings, rest_undo, rest_endings, ending_or, next_ending, rest_old, renewal_or, next_renewal, undo_or, next_undo, closing_or, next_closing, too_few_numbers, has_numbers, numbered, counted, begin_undo, undone, undo_at, undo_unless, undo_one, undo_first, take_undone, take_old, appended}
 use Rattle.sound_disk.specs.Laws.{last_number}
 use Rattle.sound_appends.specs.Appends.{AppendsAll}
-use Rattle.sound_plans.specs.Queues.{has_log, records_for, length_for, CanClose, ClosingsFit, IsQueueOf, is_of, QueueFits}
-use Rattle.sound_plans.specs.Courses.{EndingAppends, Owes, ClosesNext, UndoesNext, IsDueIn, IsDue, writes_of, GoesOnBehind, UndoBegins, ClosingGoes, UndoGoes, PagesGo}
+use Rattle.sound_plans.specs.Queues.{has_log, records_for, length_for, CanClose, ClosingsFit, is_of, QueueFits}
+use Rattle.sound_plans.specs.Courses.{EndingAppends, Owes, IsDue, writes_of, UndoBegins, ClosingGoes, UndoGoes, PagesGo}
 use Rattle.sound_plans.specs.Opens.{course_of}
 use Rattle.sound_plans.proofs.Logs.{put_record, has_still, records_own, greatest_put, PutIs, put_is_at}
 use Rattle.sound_plans.proofs.Closings.{last_of_member, last_with, closes, all_close_still}
-use Rattle.sound_plans.proofs.Queues.{Head, head_of, first_queue, undoes, ends, fits_behind, fits_ended}
+use Rattle.sound_plans.proofs.Queues.{head_of, first_queue, undoes, ends, fits_behind, fits_ended}
 
 -- ---- the stages from the last one to the first
 

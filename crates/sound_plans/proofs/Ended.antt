@@ -1,20 +1,19 @@
 -- A transaction that has committed, or of which nothing is left to be undone, has ended.
-use Rattle.std.proofs.Common.{◌≡◌, ℕ, zero, suc, ◌+◌, ◌-◌, ◌<◌, ◌≤◌, Bool, true, false, cond, List, [], ◌∷◌, ◌++◌, length, take, inl, inr, refl, sym, ap, subst, ◌∙◌, arith, append_assoc}
+use Rattle.std.proofs.Common.{◌≡◌, ℕ, ◌-◌, Bool, true, false, List, [], ◌∷◌, ◌++◌, length, take, inl, inr, refl, sym, ap, subst, ◌∙◌, append_assoc}
 use Rattle.std.specs.Prelude.{◌⊎◌, ◌==◌, not, ◌||◌, ◌&&◌}
-use Rattle.std.specs.List.{list_any, list_all}
-use Rattle.std.proofs.lemmas.Bool.{cond_both, cases_Bool, or_cases, or_parts, or_from, or_left, or_right, and_from, and_parts, both_ways, eqb-true, eq-eqb, false_from_ne_true}
+use Rattle.std.specs.List.{list_all}
+use Rattle.std.proofs.lemmas.Bool.{cond_both, cases_Bool, or_cases, or_parts, or_from, or_left, or_right, and_from, both_ways, eqb-true, eq-eqb}
 use Rattle.std.proofs.lemmas.List.{append-nil, nil_from_length}
 use Rattle.std.proofs.lemmas.List.Folds.{list_any-append}
 use Rattle.ds_model.specs.declared.log.LogRecord.{LogRecord}
 use Rattle.ds_model.specs.declared.log.RowChange.{RowChange}
 use Rattle.ds_model.specs.declared.log.Body.{Body}
 use Rattle.ds_model.specs.declared.log.Body.TheVariants as body
-use Rattle.ds_model.specs.Logs.{is_commit, has_commit}
+use Rattle.ds_model.specs.Logs.{has_commit}
 use Rattle.log_trans.specs.declared.course.Course.{Course}
 use Rattle.log_trans.specs.Courses.{new_course, has_number, is_next, undone_one, row_record, after_body}
-use Rattle.log_trans.specs.Damage.{body_fault}
-use Rattle.sound_disk.specs.Settled.{is_row_change, takes_back, is_open, has_ended}
-use Rattle.sound_disk.specs.Transactions.{is_among, course_in, MayFollow, EachFollows}
+use Rattle.sound_disk.specs.Settled.{is_row_change, takes_back, is_open}
+use Rattle.sound_disk.specs.Transactions.{is_among, course_in}
 use Rattle.sound_appends.proofs.Left.{is_change, has_change, is_taken, numbers, numbers_more, among_more, change_parts, undo_of, course_last, commits, itself}
 use Rattle.sound_plans.specs.Opens.{course_of, EndsWhereNothingIsLeft}
 use Rattle.sound_plans.proofs.Queues.{Snoc, snoc_view, got_last, all_but_last}

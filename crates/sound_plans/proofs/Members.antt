@@ -1,12 +1,11 @@
 -- What holds of each log of whole logs whose records fit each other, and the log of a member.
-use Rattle.std.proofs.Common.{◌≡◌, ℕ, suc, ◌+◌, ◌<◌, ◌≤◌, Bool, true, false, cond, List, [], ◌∷◌, ◌++◌, length, inl, inr, refl, sym, ap, subst, ◌∙◌, arith}
-use Rattle.std.specs.Prelude.{◌==◌, ◌||◌}
+use Rattle.std.proofs.Common.{◌≡◌, ℕ, ◌+◌, ◌<◌, Bool, true, false, cond, List, [], ◌∷◌, ◌++◌, refl, ap, subst, ◌∙◌, arith}
+use Rattle.std.specs.Prelude.{◌==◌}
 use Rattle.std.specs.List.{AllByRecursion}
 use Rattle.std.proofs.lemmas.Bool.{or_left, or_right, eq-eqb, ne_eqb}
-use Rattle.ds_model.specs.declared.log.LogRecord.{LogRecord}
 use Rattle.ds_model.specs.RecordBytes.{IsAllowed}
 use Rattle.log_record.specs.declared.log.Log.{Log}
-use Rattle.log_merge.specs.Merging.{all_records, RisesFrom}
+use Rattle.log_merge.specs.Merging.{all_records}
 use Rattle.sound_disk.specs.Transactions.{drawn_numbers, all_differ, EachFollows, AreTransactions}
 use Rattle.sound_disk.specs.Whole_logs.{AreWholeLogs}
 use Rattle.sound_appends.proofs.Left.{drawn_more, differ_tail, differ_front, differ_back, AreLeft, are_left}

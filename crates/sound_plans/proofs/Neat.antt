@@ -1,8 +1,8 @@
 -- What is to be undone of a transaction are row changes of it, whose numbers rise.
-use Rattle.std.proofs.Common.{◌≡◌, ℕ, zero, suc, ◌+◌, ◌-◌, ◌<◌, ◌≤◌, Bool, true, false, cond, List, [], ◌∷◌, ◌++◌, length, take, inl, inr, refl, sym, ap, subst, ◌∙◌, arith, append_assoc}
-use Rattle.std.specs.Prelude.{◌==◌, ◌||◌}
+use Rattle.std.proofs.Common.{◌≡◌, ℕ, zero, suc, ◌-◌, ◌<◌, ◌≤◌, true, false, List, [], ◌∷◌, ◌++◌, length, take, inl, inr, refl, sym, ap, subst, ◌∙◌, arith, append_assoc}
+use Rattle.std.specs.Prelude.{◌==◌}
 use Rattle.std.specs.List.{AllByRecursion}
-use Rattle.std.proofs.lemmas.Bool.{cond_both, or_cases, or_left, or_right, both_ways, eqb-true, eq-eqb}
+use Rattle.std.proofs.lemmas.Bool.{cond_both, or_cases, or_left, or_right, both_ways, eqb-true}
 use Rattle.std.proofs.lemmas.List.{append-nil}
 use Rattle.ds_model.specs.declared.log.LogRecord.{LogRecord}
 use Rattle.ds_model.specs.declared.log.RowChange.{RowChange}
@@ -13,9 +13,8 @@ use Rattle.log_record.specs.Changes.{is_drawn}
 use Rattle.log_trans.specs.declared.course.Course.{Course}
 use Rattle.log_trans.specs.Courses.{new_course, is_next, undone_one, row_record, after_body}
 use Rattle.log_merge.specs.Merging.{RisesFrom}
-use Rattle.sound_disk.specs.Transactions.{drawn_numbers, is_among, all_differ, course_in, MayFollow, EachFollows}
-use Rattle.sound_disk.specs.Laws.{last_number}
-use Rattle.sound_appends.proofs.Left.{has_change, is_change, ChangeParts, change_parts, numbers, change_drawn, drawn_more, differ_front, IsLeft, AreLeft, undo_of, course_last, left_none, left_with, new_number, itself}
+use Rattle.sound_disk.specs.Transactions.{drawn_numbers, is_among, all_differ, course_in, EachFollows}
+use Rattle.sound_appends.proofs.Left.{has_change, is_change, change_parts, numbers, change_drawn, drawn_more, differ_front, IsLeft, AreLeft, undo_of, course_last, left_none, left_with, new_number, itself}
 use Rattle.sound_plans.specs.Queues.{IsOwnChange}
 
 -- ---- records whose numbers rise

@@ -1,7 +1,5 @@
 -- All that a plan closes and undoes is appended.
-use Rattle.std.proofs.Common.{◌≡◌, ℕ, ◌+◌, ◌<◌, ◌≤◌, ◌^◌, max, List, [], ◌∷◌, ◌++◌, length, inl, inr, refl, sym, ap, subst, ◌∙◌, arith}
-use Rattle.std.specs.List.{AllByRecursion}
-use Rattle.ds_model.specs.declared.log.LogRecord.{LogRecord}
+use Rattle.std.proofs.Common.{◌≡◌, ℕ, ◌+◌, ◌<◌, ◌^◌, List, [], ◌∷◌, ◌++◌, length, refl, sym, subst, arith}
 use Rattle.log_record.specs.declared.log.Log.{Log}
 use Rattle.log_trans.specs.Numbers.{greatest}
 use Rattle.log_merge.specs.Merging.{all_records}

@@ -1,6 +1,6 @@
 -- The closings of a plan fit the logs.
-use Rattle.std.proofs.Common.{◌≡◌, ◌≢◌, ℕ, ◌+◌, ◌-◌, ◌<◌, ◌≤◌, ◌^◌, Bool, true, false, cond, List, [], ◌∷◌, ◌++◌, length, Option, Some, None, inl, inr, refl, sym, ap, subst, ◌∙◌, arith}
-use Rattle.std.specs.Prelude.{◌==◌, ◌||◌, slice_get}
+use Rattle.std.proofs.Common.{◌≡◌, ℕ, ◌-◌, true, cond, List, [], ◌∷◌, ◌++◌, length, Option, Some, None, inl, inr, refl, sym, ap, subst, ◌∙◌}
+use Rattle.std.specs.Prelude.{◌==◌, slice_get}
 use Rattle.std.specs.List.{AllByRecursion}
 use Rattle.std.proofs.lemmas.Bool.{cond_both, or_cases, eqb-true}
 use Rattle.ds_model.specs.declared.log.LogRecord.{LogRecord}
@@ -13,15 +13,13 @@ use Rattle.restart_plan.specs.declared.opened.Closing.{Closing}
 use Rattle.restart_plan.specs.declared.opened.Opened.{Opened}
 use Rattle.restart_plan.specs.Opened.{nothing_open, closing, closed, with_undo, with_changes, with_tran, with_trans, with_ending, needs_end, with_last, with_log, with_logs}
 use Rattle.restart_plan.specs.Plans.{plan_of}
-use Rattle.group_restart.specs.Records.{ended}
 use Rattle.sound_disk.specs.Laws.{last_number}
-use Rattle.sound_disk.specs.Transactions.{speak_of, AreTransactions}
-use Rattle.sound_disk.specs.Whole_logs.{AreWholeLogs}
+use Rattle.sound_disk.specs.Transactions.{speak_of}
 use Rattle.sound_plans.specs.Opens.{course_of, IsOpenTran, OpensTell, SomeIsUndone}
 use Rattle.sound_plans.specs.Queues.{CanClose, ClosingsFit}
 use Rattle.sound_plans.specs.Plans.{ClosingsOfPlanFit}
 use Rattle.sound_plans.proofs.Closings.{last_with}
-use Rattle.sound_plans.proofs.Queues.{Snoc, snoc_view, got_last, all_last, wide}
+use Rattle.sound_plans.proofs.Queues.{snoc_view, got_last, all_last, wide}
 use Rattle.sound_plans.proofs.Members.{IsSoundLog, each_sound, IsHome, each_home}
 
 -- ---- numbers that may stand in a record

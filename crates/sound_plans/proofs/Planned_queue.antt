@@ -1,5 +1,5 @@
 -- The queue of a plan fits the logs.
-use Rattle.std.proofs.Common.{◌≡◌, ◌≢◌, ℕ, ◌+◌, ◌-◌, ◌<◌, ◌≤◌, Bool, true, false, cond, List, [], ◌∷◌, ◌++◌, length, map, reverse, Option, Some, None, inl, inr, refl, sym, ap, subst, ◌∙◌, arith}
+use Rattle.std.proofs.Common.{◌≡◌, ◌≢◌, ℕ, ◌+◌, ◌-◌, ◌<◌, Bool, true, false, cond, List, [], ◌∷◌, ◌++◌, length, map, reverse, Option, Some, None, inl, inr, refl, sym, ap, subst, ◌∙◌, arith}
 use Rattle.std.specs.Prelude.{◌⊎◌, ◌==◌, ◌||◌, ◌&&◌, T, filter, slice_get}
 use Rattle.std.specs.List.{AllByRecursion}
 use Rattle.std.specs.Ordering.{nat_cmp, is_lt}
@@ -21,15 +21,15 @@ use Rattle.restart_plan.specs.declared.opened.Opened.{Opened}
 use Rattle.restart_plan.specs.declared.opened.Undo.{Undo}
 use Rattle.restart_plan.specs.Opened.{Changes, nothing_open, closing, closed, with_undo, with_change, with_changes, with_tran, with_trans, with_ending, needs_end, with_last, with_log, with_logs}
 use Rattle.restart_plan.specs.Plans.{plan_of}
-use Rattle.sound_disk.specs.Transactions.{drawn_numbers, is_among, all_differ, AreTransactions}
+use Rattle.sound_disk.specs.Transactions.{drawn_numbers, is_among, all_differ}
 use Rattle.sound_disk.specs.Whole_logs.{AreWholeLogs}
-use Rattle.sound_appends.proofs.Left.{has_change, numbers, among_more, drawn_more, differ_tail, differ_from, differ_front, differ_back, differ_parts, change_drawn, one_tran, IsLeft, AreLeft, undo_of}
+use Rattle.sound_appends.proofs.Left.{has_change, numbers, among_more, drawn_more, differ_tail, differ_from, differ_back, differ_parts, change_drawn, one_tran, AreLeft, undo_of}
 use Rattle.sound_plans.specs.Opens.{course_of, IsOpenTran, OpensTell}
-use Rattle.sound_plans.specs.Queues.{has_log, records_for, undo_before, undos, IsQueueOf, is_of, QueueFits}
+use Rattle.sound_plans.specs.Queues.{has_log, records_for, undo_before, undos, IsQueueOf, is_of}
 use Rattle.sound_plans.specs.Plans.{QueueOfPlanFits}
 use Rattle.sound_plans.proofs.Inserted.{undos_in, numbers_of, put_all, AreRising, in_order, turned}
 use Rattle.sound_plans.proofs.Members.{IsSoundLog, each_sound, all_numbers, IsHome, each_home}
-use Rattle.sound_plans.proofs.Neat.{AreStrict, IsNeat, AreNeat}
+use Rattle.sound_plans.proofs.Neat.{AreStrict, IsNeat}
 
 -- ---- what is put into the map
 
