@@ -1,0 +1,10 @@
+pub mod Numbers
+pub mod Whole
+pub mod Behind
+pub mod Left
+pub mod Open
+pub mod Fitting
+pub mod Same
+pub mod Checkpoints
+pub mod Pages
+pub mod Example

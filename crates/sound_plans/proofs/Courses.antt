@@ -1,0 +1,215 @@
+-- Call by call the course appends what fits the logs.
+use Rattle.std.proofs.Common.{◌≡◌, ℕ, ◌+◌, ◌<◌, ◌^◌, true, List, [], ◌∷◌, drop, Option, Some, None, refl, sym, ap, subst, ◌∙◌, arith}
+use Rattle.std.specs.Prelude.{nat_lt, slice_get, filter}
+use Rattle.std.proofs.lemmas.Bool.{cond_both, ltb-true}
+use Rattle.ds_base.specs.declared.names.PageId.{PageId}
+use Rattle.ds_model.specs.declared.log.LogRecord.{LogRecord}
+use Rattle.page_format.specs.Fields.{is_old, renewed}
+use Rattle.log_record.specs.declared.log.Log.{Log}
+use Rattle.log_trans.specs.Numbers.{greatest}
+use Rattle.log_merge.specs.Merging.{all_records}
+use Rattle.restart_plan.specs.declared.opened.Closing.{Closing}
+use Rattle.restart_plan.specs.declared.opened.Undo.{Undo}
+use Rattle.group_restart.specs.declared.stage.Stage.TheVariants as stage
+use Rattle.group_restart.specs.Machine.{Restart}
+use Rattle.group_restart.specs.Records.{ended, checkpoint, restart_end, compensation}
+use Rattle.group_restart.specs.Undo.{undo_fault, undoing}
+use Rattle.group_restart.specs.Course.{Next, go, with_plan, rest_closings, rest_undo, rest_endings, ending_or, next_ending, rest_old, renewal_or, next_renewal, undo_or, next_undo, closing_or, next_closing, too_few_numbers, has_numbers, numbered, counted, begin_undo, undone, undo_at, undo_unless, undo_one, undo_first, take_undone, take_old, appended}
+use Rattle.sound_disk.specs.Laws.{last_number}
+use Rattle.sound_appends.specs.Appends.{AppendsAll}
+use Rattle.sound_plans.specs.Queues.{has_log, records_for, length_for, CanClose, ClosingsFit, is_of, QueueFits}
+use Rattle.sound_plans.specs.Courses.{EndingAppends, Owes, IsDue, writes_of, UndoBegins, ClosingGoes, UndoGoes, PagesGo}
+use Rattle.sound_plans.specs.Opens.{course_of}
+use Rattle.sound_plans.proofs.Logs.{put_record, has_still, records_own, greatest_put, PutIs, put_is_at}
+use Rattle.sound_plans.proofs.Closings.{last_of_member, last_with, closes, all_close_still}
+use Rattle.sound_plans.proofs.Queues.{head_of, first_queue, undoes, ends, fits_behind, fits_ended}
+
+-- ---- the stages from the last one to the first
+
+ending_due : (logs : List Log) (h : Restart) (next : Option ℕ) → Owes h.plan.undo h.counter logs → IsDue (ending_or h next) logs
+ending_due logs h None o = λ e. absurd cc
+ending_due logs h (Some member) o = λ e. o
+
+next_ending_due : (logs : List Log) (h : Restart) → Owes h.plan.undo h.counter logs → IsDue (next_ending h) logs
+unfolding next_ending
+next_ending_due logs h o = ending_due logs (with_plan h (rest_endings h.plan)) (slice_get h.plan.endings 0) o
+
+renewal_due : (logs : List Log) (h : Restart) (next : Option PageId) → Owes h.plan.undo h.counter logs → IsDue (renewal_or h next) logs
+renewal_due logs h None o = next_ending_due logs h o
+renewal_due logs h (Some page) o = λ e. o
+
+next_renewal_due : (logs : List Log) (h : Restart) → Owes h.plan.undo h.counter logs → IsDue (next_renewal h) logs
+unfolding next_renewal
+next_renewal_due logs h o = renewal_due logs (rest_old h) (slice_get h.old_pages 0) o
+
+undo_due : (logs : List Log) (h : Restart) (next : Option Undo) → Owes h.plan.undo h.counter logs → IsDue (undo_or h next) logs
+undo_due logs h None o = next_renewal_due logs h o
+undo_due logs h (Some u) o = λ e. o
+
+next_undo_due : (logs : List Log) (h : Restart) → Owes h.plan.undo h.counter logs → IsDue (next_undo h) logs
+unfolding next_undo
+next_undo_due logs h o = undo_due logs h (slice_get h.plan.undo 0) o
+
+-- ---- closings
+
+first_closing : (logs : List Log) (cs : List Closing) (c : Closing) → ClosingsFit logs cs → slice_get cs 0 ≡ Some c → CanClose logs c
+first_closing logs [] c h e = absurd cc
+first_closing logs (x ∷ cs) c h e = let same : x ≡ c = cc in subst (CanClose logs) same h.0
+
+rest_close : (logs : List Log) (cs : List Closing) → ClosingsFit logs cs → ClosingsFit logs (drop 1 cs)
+rest_close logs [] h = tt
+rest_close logs (x ∷ cs) h = h.1
+
+-- the first of these is taken out of the list
+closing_due : (logs : List Log) (h : Restart) (next : Option Closing) → ((c : Closing) → next ≡ Some c → CanClose logs c) → ClosingsFit logs h.plan.closings → Owes h.plan.undo h.counter logs → IsDue (closing_or h next) logs
+closing_due logs h None first rest o = next_undo_due logs h o
+closing_due logs h (Some c) first rest o = λ e. record { closing = c; member_is = refl; added_is = refl; can = first c refl; rest = rest; owes = o }
+
+next_closing_due : (logs : List Log) (h : Restart) → ClosingsFit logs h.plan.closings → Owes h.plan.undo h.counter logs → IsDue (next_closing h) logs
+unfolding next_closing
+next_closing_due logs h fits o =
+    closing_due logs (with_plan h (rest_closings h.plan)) (slice_get h.plan.closings 0) (λ c e. first_closing logs h.plan.closings c fits e) (rest_close logs h.plan.closings fits) o
+
+numbered_due : (logs : List Log) (h : Restart) → ClosingsFit logs h.plan.closings → Owes h.plan.undo h.counter logs → IsDue (numbered h) logs
+numbered_due logs h fits o = cond_both (has_numbers h) (next_closing h) (too_few_numbers h) (λ (n : Next). IsDue n logs) (λ e. next_closing_due logs h fits o) (λ e. λ is. absurd cc)
+
+pub undo_begins : UndoBegins
+unfolding begin_undo
+undo_begins h logs fits queue number = numbered_due logs (counted h) fits (record { queue = queue; number = number })
+
+-- ---- undo
+
+undone_due : (logs : List Log) (h : Restart) (u : Undo) (lrsn : ℕ) → QueueFits logs (u ∷ h.plan.undo) → lrsn ≡ greatest (all_records logs) + 1 → lrsn < 2 ^ 80 → IsDue (undone h u lrsn) logs
+unfolding undone
+undone_due logs h u lrsn queue number small = λ e. record { first = u; member_is = refl; added_is = refl; queue = queue; number = number; small = small }
+
+undo_at_due : (logs : List Log) (h : Restart) (u : Undo) (lrsn : ℕ) → QueueFits logs (u ∷ h.plan.undo) → lrsn ≡ greatest (all_records logs) + 1 → IsDue (undo_at h u lrsn) logs
+undo_at_due logs h u lrsn queue number =
+    cond_both (nat_lt lrsn (2 ^ 80)) (undone h u lrsn) (too_few_numbers h) (λ (n : Next). IsDue n logs) (λ e. undone_due logs h u lrsn queue number (ltb-true lrsn (2 ^ 80) e)) (λ e. λ is. absurd cc)
+
+undo_unless_due : (logs : List Log) (h : Restart) (u : Undo) (fault : Option ℕ) → QueueFits logs (u ∷ h.plan.undo) → h.counter ≡ greatest (all_records logs) → IsDue (undo_unless h u fault) logs
+undo_unless_due logs h u (Some at) queue number = λ e. absurd cc
+undo_unless_due logs h u None queue number = undo_at_due logs h u (h.counter + 1) queue (ap (λ (n : ℕ). n + 1) number)
+
+undo_one_due : (logs : List Log) (h : Restart) (u : Undo) → QueueFits logs (u ∷ h.plan.undo) → h.counter ≡ greatest (all_records logs) → IsDue (undo_one h u) logs
+unfolding undo_one
+undo_one_due logs h u queue number = undo_unless_due logs h u (undo_fault u.change h.page) queue number
+
+no_undos : (us : List Undo) → slice_get us 0 ≡ None → us ≡ drop 1 us
+no_undos [] e = refl
+no_undos (x ∷ us) e = absurd cc
+
+some_undos : (us : List Undo) (u : Undo) → slice_get us 0 ≡ Some u → us ≡ u ∷ drop 1 us
+some_undos [] u e = absurd cc
+some_undos (x ∷ us) u e = let same : x ≡ u = cc in ap (λ (v : Undo). v ∷ us) same
+
+undo_first_due : (logs : List Log) (h : Restart) (all : List Undo) (next : Option Undo) → slice_get all 0 ≡ next → h.plan.undo ≡ drop 1 all → Owes all h.counter logs → IsDue (undo_first h next) logs
+undo_first_due logs h all None e rest o = next_renewal_due logs h (record { queue = subst (QueueFits logs) (no_undos all e ∙ sym rest) o.queue; number = o.number })
+undo_first_due logs h all (Some u) e rest o = undo_one_due logs h u (subst (QueueFits logs) (some_undos all u e ∙ ap (λ (us : List Undo). u ∷ us) (sym rest)) o.queue) o.number
+
+take_undone_due : (logs : List Log) (h : Restart) → Owes h.plan.undo h.counter logs → IsDue (take_undone h) logs
+unfolding take_undone
+take_undone_due logs h o = undo_first_due logs (with_plan h (rest_undo h.plan)) h.plan.undo (slice_get h.plan.undo 0) refl refl o
+
+take_old_due : (logs : List Log) (h : Restart) (page : PageId) → Owes h.plan.undo h.counter logs → IsDue (take_old h page) logs
+unfolding take_old
+take_old_due logs h page o = cond_both (is_old h.page) (go (record h { page = renewed h.page }) (stage.RenewWrite page)) (next_renewal h) (λ (n : Next). IsDue n logs) (λ e. λ is. o) (λ e. next_renewal_due logs h o)
+
+pub pages_go : PagesGo
+pages_go = record {
+  undo_read = λ h page logs o. take_undone_due logs h o;
+  undo_write = λ h page logs o. next_undo_due logs h o;
+  renew_read = λ h page logs o. take_old_due logs h page o;
+  renew_write = λ h page logs o. next_renewal_due logs h o;
+}
+
+-- ---- appends
+
+owes_behind : (logs : List Log) (c : Closing) (us : List Undo) (counter : ℕ) → CanClose logs c → Owes us counter logs → Owes us counter (put_record logs c.member (ended c.lrsn c.tran))
+owes_behind logs c us counter can o =
+    let last = last_of_member logs c.member (ended c.lrsn c.tran) can.has in
+    let top = greatest_put logs c.member (ended c.lrsn c.tran) can.has in
+    let number = can.number in
+    let same = o.number in
+    record { queue = fits_ended logs c.member c.lrsn c.tran us can.has o.queue; number = omega (arith, last, top, number, same) }
+
+pub closing_goes : ClosingGoes
+closing_goes h member logs d =
+    let c = d.closing in
+    let after = put_record logs c.member (ended c.lrsn c.tran) in
+    let p = closes logs c d.can in
+    let writes : (c.member, ended c.lrsn c.tran) ∷ [] ≡ writes_of member h.added = ap (λ (m : ℕ). writes_of m (ended c.lrsn c.tran ∷ [])) (sym d.member_is) ∙ ap (writes_of member) (sym d.added_is) in (
+      after,
+      subst (λ (ws : List (ℕ × LogRecord)). AppendsAll logs ws after) writes (after, p.appends, p.member_is, refl),
+      next_closing_due after (appended h member) (all_close_still logs c h.plan.closings d.can d.rest) (owes_behind logs c h.plan.undo h.counter d.can d.owes),
+    )
+
+-- behind the compensation, and the Ended where it is the last
+record Undone (logs : List Log) (u : Undo) (us : List Undo) (n : ℕ) (records : List LogRecord) : Type 0 where
+  after : List Log
+  appends : AppendsAll logs (writes_of u.member records) after
+  owes : Owes us n after
+
+undo_done : (logs : List Log) (u : Undo) (us : List Undo) (n : ℕ) → QueueFits logs (u ∷ us) → n ≡ greatest (all_records logs) + 1 → n < 2 ^ 80 → Undone logs u us n (undoing u n)
+undo_done logs u us n fits e small =
+    let q = first_queue logs u us fits in
+    let rest = filter (is_of u.member u.tran) us in
+    let h = head_of u.member u.tran u rest (course_of (records_for logs u.member) u.tran) q.own q.is in
+    let p : PutIs logs u.member (compensation u n) = subst (λ (k : ℕ). PutIs logs u.member (compensation u k)) (sym e) (undoes logs u rest q h (subst (λ (k : ℕ). k < 2 ^ 80) e small)) in
+    let mid = put_record logs u.member (compensation u n) in
+    let top = greatest_put logs u.member (compensation u n) q.has in
+    let fits_mid = fits_behind logs u us n fits in
+    let has_mid : has_log mid u.member ≡ true = has_still logs u.member (compensation u n) u.member ∙ q.has in
+    cond_both u.is_last (ended n u.tran ∷ []) [] (λ (rs : List LogRecord). Undone logs u us n (compensation u n ∷ rs))
+    (λ last.
+    let behind = put_record mid u.member (ended n u.tran) in
+    let r = ends logs u rest n q h last e small in
+    let top_behind = greatest_put mid u.member (ended n u.tran) has_mid in
+    record {
+      after = behind;
+      appends = (mid, p.appends, p.member_is, (behind, r.appends, r.member_is, refl));
+      owes = record { queue = fits_ended mid u.member n u.tran us has_mid fits_mid; number = omega (arith, e, top, top_behind) };
+    })
+    (λ more. record {
+      after = mid;
+      appends = (mid, p.appends, p.member_is, refl);
+      owes = record { queue = fits_mid; number = omega (arith, e, top) };
+    })
+
+pub undo_goes : UndoGoes
+undo_goes h member page logs d =
+    let done = undo_done logs d.first h.plan.undo h.counter d.queue d.number d.small in
+    let writes : writes_of d.first.member (undoing d.first h.counter) ≡ writes_of member h.added = ap (λ (m : ℕ). writes_of m (undoing d.first h.counter)) (sym d.member_is) ∙ ap (writes_of member) (sym d.added_is) in (
+      done.after,
+      subst (λ (ws : List (ℕ × LogRecord)). AppendsAll logs ws done.after) writes done.appends,
+      λ e. done.owes,
+    )
+
+-- ---- the ends of logs
+
+pub ending_appends : EndingAppends
+ending_appends logs member counter has e allowed =
+    let at = length_for logs member in
+    let first = checkpoint counter at in
+    let second = restart_end counter in
+    let last = last_of_member logs member first has in
+    let begun = put_record logs member first in
+    let top = greatest_put logs member first has in
+    let begins : PutIs logs member first = put_is_at logs member first has allowed.0 (λ log is size. (
+      record {
+        low = let k : last_number 0 log.records ≡ last_number 0 (records_for logs member) = ap (last_number 0) is in omega (arith, k, last, e);
+        high = omega (arith, e);
+      },
+      sym size,
+    )) in
+    let has_begun : has_log begun member ≡ true = has_still logs member first member ∙ has in
+    let low : last_number 0 (records_for begun member) ≡ counter = ap (last_number 0) (records_own logs member first has) ∙ last_with 0 (records_for logs member) first in
+    let closes_it : PutIs begun member second = put_is_at begun member second has_begun allowed.1.0 (λ log is size. record {
+      low = let k : last_number 0 log.records ≡ counter = ap (last_number 0) is ∙ low in omega (arith, k);
+      high = omega (arith, e, top);
+    }) in
+    let top_behind = greatest_put begun member second has_begun in (
+      put_record begun member second,
+      (begun, begins.appends, begins.member_is, (put_record begun member second, closes_it.appends, closes_it.member_is, refl)),
+      omega (arith, e, top, top_behind),
+    )

@@ -1,0 +1,13 @@
+pub mod Opens
+pub mod Logs
+pub mod Closings
+pub mod Queues
+pub mod Inserted
+pub mod Neat
+pub mod Members
+pub mod Planned_closings
+pub mod Planned_queue
+pub mod Planned
+pub mod Ended
+pub mod Courses
+pub mod Counted

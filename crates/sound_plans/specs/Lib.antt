@@ -1,0 +1,4 @@
+pub mod Opens
+pub mod Queues
+pub mod Plans
+pub mod Courses

@@ -1,0 +1,51 @@
+//! What the plan of a group restart asks of the logs of a sound disk.
+//!
+//! The crate has definitions and proofs alone. Its functions do nothing: their contracts are the laws.
+#![tactic(auto)]
+
+ghost use Rattle.sound_plans.specs.Courses.{ClosingGoes, EndingAppends, PagesGo, UndoBegins, UndoGoes};
+ghost use Rattle.sound_plans.specs.Opens.{EndsWhereNothingIsLeft, OpensTell, SomeIsUndone};
+ghost use Rattle.sound_plans.specs.Plans.{ClosingsOfPlanFit, NumbersSuffice, PlanAppends, QueueOfPlanFits};
+ghost use Rattle.sound_plans.specs.Queues.{ClosingsAppend, QueueAppends};
+
+/// The transactions that a restart finds open in a log have no Commit there, and what is to be undone of each is what its records
+/// leave. Where that is nothing, the transaction was rolled back whole, and it has ended, as one with a Commit has.
+pub fn open_laws()
+    ensures tell { OpensTell }
+    ensures undone { SomeIsUndone }
+    ensures ended { EndsWhereNothingIsLeft }
+{}
+
+/// Closings of transactions that fit the logs are records that a restart appends, one after the other.
+pub fn closing_laws()
+    ensures { ClosingsAppend }
+{}
+
+/// So are the compensations of a queue that has, of each transaction, all that is to be undone, the last change first: each under
+/// the next number, and behind the last one of a transaction its Ended.
+pub fn queue_laws()
+    ensures { QueueAppends }
+{}
+
+/// The closings and the queue of the plan of whole logs, whose records fit each other, fit them. So all that the plan closes and
+/// undoes is appended, one record after the other, if there are numbers for it; and there are where numbers are left.
+pub fn plan_laws()
+    ensures closings { ClosingsOfPlanFit }
+    ensures queue { QueueOfPlanFits }
+    ensures appends { PlanAppends }
+    ensures numbers { NumbersSuffice }
+{
+    open_laws();
+    queue_laws();
+}
+
+/// A group restart that has brought the pages forward, with a plan that fits the logs, appends just such records from then on:
+/// each append of an Ended, or of a compensation, leads to logs for which what is left of the plan fits. So are the Checkpoint that
+/// names the end of a log, and the RestartEnd.
+pub fn course_laws()
+    ensures begins { UndoBegins }
+    ensures closing { ClosingGoes }
+    ensures undo { UndoGoes }
+    ensures pages { PagesGo }
+    ensures ending { EndingAppends }
+{}
