@@ -1,0 +1,6 @@
+pub mod Stands
+pub mod Hands
+pub mod Locks
+pub mod Undoes
+pub mod Locals
+pub mod Bringing
