@@ -34,7 +34,7 @@ use Rattle.page_world.specs.Groups.{IsMade as IsMadeGroup, StartsTied}
 use Rattle.page_intents.specs.Numbers.{AreNumbered}
 use Rattle.page_intents.specs.Stands.{copy_in, copy_of, IsUp}
 use Rattle.page_intents.specs.Castouts.{cast_of, HasCast}
-use Rattle.page_events.specs.Beside.{Shows}
+use Rattle.page_members.specs.Members.{Shows}
 use Rattle.page_groups.specs.Groups.{GroupStands, GroupsStart, among, made}
 
 -- ---- free frames

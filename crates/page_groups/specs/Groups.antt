@@ -12,12 +12,12 @@ use Rattle.member_resources.specs.Events.{Ends, Happens}
 use Rattle.page_protocol.specs.Page.{put}
 use Rattle.page_protocol.specs.Moves.{World, Move, Run, start}
 use Rattle.page_world.specs.Numbers.{set_of}
-use Rattle.page_world.specs.Holdings.{Holdings, no_cast, no_copy}
+use Rattle.page_world.specs.Holdings.{Holdings, no_cast, no_copy, with_facility}
+use Rattle.page_world.specs.Failing.{without}
 use Rattle.page_intents.specs.Stands.{IsUp}
 use Rattle.page_intents.specs.Castouts.{HasCast}
-use Rattle.page_events.specs.Beside.{Shows}
-use Rattle.page_events.specs.Events.{Supplied}
-use Rattle.page_members.specs.Members.{Group}
+-- given out again: a member beside its group, any event of it, and the failure of a member
+pub use Rattle.page_members.specs.Members.{Beside, EventGoes, FailuresGo, Group, GroupGoes, IsRecorded, Leads, SameOthers, Shows, Supplied, ToldGoes, page_named, page_taken}
 
 -- by member: whether it is up, and what it holds
 pub record GroupStands (w : World) (u : event.World) (g : Holdings) (content : ℕ → ℕ → List ℕ) (forced : ℕ → ℕ) (up : ℕ → Bool) (hs : ℕ → Held) : Type 0 where
@@ -28,6 +28,22 @@ pub record GroupStands (w : World) (u : event.World) (g : Holdings) (content : �
   pub named : (m : ℕ) → up m ≡ true → (hs m).marks.member ≡ m
   pub each : (m : ℕ) → up m ≡ true → IsUp g forced (kept_of (hs m))
   pub casts : (m : ℕ) → up m ≡ true → HasCast g (hs m).marks.member (hs m).cast (hs m).buffer
+
+-- so each member that is up stands beside the group
+abbrev pub EachIsBeside : Type 0
+EachIsBeside = (w : World) (u : event.World) (g : Holdings) (content : ℕ → ℕ → List ℕ) (forced : ℕ → ℕ) (up : ℕ → Bool) (hs : ℕ → Held) (m : ℕ)
+    → GroupStands w u g content forced up hs → up m ≡ true → Beside w u g content forced (hs m)
+
+-- where an event of one of them leads, the whole group stands
+abbrev pub LeadsStand : Type 0
+LeadsStand = (w : World) (u v : event.World) (g : Holdings) (content : ℕ → ℕ → List ℕ) (forced : ℕ → ℕ) (up : ℕ → Bool) (hs : ℕ → Held) (m : ℕ) (k : Held)
+    → GroupStands w u g content forced up hs → up m ≡ true → (a : Leads w v g content forced (hs m) k) → GroupStands a.world v a.left a.versions a.force up (put hs m k)
+
+-- and where the failure of a member does
+abbrev pub FailsStand : Type 0
+FailsStand = (w : World) (u v : event.World) (g : Holdings) (content : ℕ → ℕ → List ℕ) (forced : ℕ → ℕ) (up : ℕ → Bool) (hs : ℕ → Held) (m : ℕ)
+    → GroupStands w u g content forced up hs → v.drive ≡ u.drive → (a : GroupGoes w g (with_facility (without g m) v.facility) content forced m)
+    → GroupStands a.world v (with_facility (without g m) v.facility) content forced (put up m false) hs
 
 -- moves lead to a good world beside what is left
 pub record GroupLeads (w : World) (v : event.World) (up : ℕ → Bool) (hs : ℕ → Held) : Type 0 where

@@ -4,11 +4,11 @@
 //! The crate has definitions and proofs alone. Its functions do nothing: their contracts are the theorems.
 #![tactic(auto)]
 
-ghost use Rattle.page_groups.specs.Groups.{GroupsStart, MembersFail, MembersGo, ToldGo};
+ghost use Rattle.page_groups.specs.Groups.{EachIsBeside, FailsStand, GroupsStart, LeadsStand, MembersFail, MembersGo, ToldGo};
 
 use cache_structure::keeps_entries_apart;
-use page_events::{events_go, others_stay_up};
-use page_members::failures_go;
+use page_members::others_stay_up;
+pub use page_members::{events_go, failures_go};
 use page_protocol::coherent_pages;
 use page_world::groups_begin;
 
@@ -27,6 +27,15 @@ pub fn members_fail()
     ensures { MembersFail }
 {
     failures_go();
+    others_stay_up();
+}
+
+/// A member that is up stands beside its group; and where an event of one, or the failure of any, leads, the whole group stands.
+pub fn groups_stand()
+    ensures beside { EachIsBeside }
+    ensures event { LeadsStand }
+    ensures failure { FailsStand }
+{
     others_stay_up();
 }
 

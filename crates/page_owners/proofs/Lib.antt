@@ -1,0 +1,4 @@
+pub mod InX
+pub mod Supplying
+pub mod Steps
+pub mod Starting
