@@ -1,7 +1,6 @@
 -- A group as it was made, over an empty disk.
-use Rattle.std.proofs.Common.{◌≡◌, ◌≢◌, ℕ, zero, suc, ◌+◌, ◌<◌, ◌≤◌, refl, sym, ap, subst, ◌∙◌, Bool, true, false, List, [], ◌∷◌, Option, Some, None, length, replicate, arith}
-use Rattle.std.specs.Prelude.{◌==◌, ◌&&◌, nat_le, if◌then◌else◌, is_some, slice_get, slice_index_or}
-use Rattle.std.specs.Option.{option_map_or}
+use Rattle.std.proofs.Common.{◌≡◌, ℕ, zero, suc, ◌+◌, ◌≤◌, refl, sym, ap, subst, ◌∙◌, true, false, List, [], Option, Some, None, length, replicate, arith}
+use Rattle.std.specs.Prelude.{nat_le, is_some, slice_index_or}
 use Rattle.std.proofs.lemmas.Bool.{and_parts, both_ways, cond-true, leb-true}
 use Rattle.std.proofs.lemmas.List.{length-replicate}
 use Rattle.std.proofs.lemmas.Option.{none-some}
@@ -18,11 +17,9 @@ use Rattle.list_structure.specs.States.{IsNew as AreNewLists}
 use Rattle.facility.specs.States.{IsMade}
 use Rattle.page_index.specs.Places.{AreApart, page_at as placed_at}
 use Rattle.page_index.proofs.CallerLemmas.{finds}
-use Rattle.member_pool.specs.declared.frame.Frame.{Frame}
 use Rattle.member_pool.specs.Frames.{find_page, free_frame, page_of}
 use Rattle.member_pool.specs.Heads.{HeadState, all_free}
 use Rattle.member_log.specs.Buffers.{LogBuffer}
-use Rattle.member_marks.specs.State.{IsFresh}
 use Rattle.member_marks.specs.Claims.{has_page}
 use Rattle.member_resources.specs.Held.{Held, IsNew, zeros}
 use Rattle.member_resources.specs.Settled.{kept_of}
@@ -33,7 +30,7 @@ use Rattle.page_world.specs.Numbers.{page_at}
 use Rattle.page_world.specs.Groups.{IsMade as IsMadeGroup, StartsTied}
 use Rattle.page_intents.specs.Numbers.{AreNumbered}
 use Rattle.page_intents.specs.Stands.{copy_in, copy_of, IsUp}
-use Rattle.page_intents.specs.Castouts.{cast_of, HasCast}
+use Rattle.page_intents.specs.Castouts.{cast_of}
 use Rattle.page_members.specs.Members.{Shows}
 use Rattle.page_groups.specs.Groups.{GroupStands, GroupsStart, among, made}
 

@@ -1,5 +1,5 @@
 -- A group whose members are up, or hold nothing, beside its good world of pages; and events of its members.
-use Rattle.std.specs.Prelude.{◌≡◌, ℕ, ◌≤◌, ◌==◌, ◌&&◌, nat_le, Bool, true, false, if◌then◌else◌, List, None}
+use Rattle.std.specs.Prelude.{◌≡◌, ℕ, ◌≤◌, ◌&&◌, nat_le, Bool, true, false, List, None}
 use Rattle.ds_base.specs.declared.names.Sizes.{Sizes}
 use Rattle.facility.specs.States.{Held as Facility, IsMade, MemberFailed}
 use Rattle.member_intents.specs.declared.intent.Intent.{Intent}

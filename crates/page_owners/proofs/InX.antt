@@ -36,7 +36,7 @@ use Rattle.member_effects.specs.Claims.{Claims as SettlesClaims, Enters, EntersP
 use Rattle.member_effects.specs.Closing.{ended_after, page_released_after, released_after}
 use Rattle.needs_law.specs.Lawful.{EndsTran, Lawful, SendsLawfully}
 use Rattle.member_resources.specs.declared.prepared.Prepared.{Prepared}
-use Rattle.member_resources.specs.Held.{Held, IsNew, begun, with_marks}
+use Rattle.member_resources.specs.Held.{Held, begun, with_marks}
 use Rattle.member_resources.specs.Events as event
 use Rattle.member_resources.specs.Events.{Runs, asked_for, holder_in}
 use Rattle.member_resources.specs.Prepared.{Reserves, needed, setting_of}

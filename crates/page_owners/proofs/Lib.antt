@@ -2,3 +2,4 @@ pub mod InX
 pub mod Supplying
 pub mod Steps
 pub mod Starting
+pub mod Runs

@@ -1,27 +1,24 @@
 -- A group as it was made stands beside the start of both worlds.
-use Rattle.std.proofs.Common.{◌≡◌, ℕ, zero, suc, ◌+◌, ◌≤◌, refl, sym, ◌∙◌, ap, subst, arith, Bool, true, false, List, [], length, Option, Some, None, replicate}
-use Rattle.std.specs.Prelude.{◌&&◌, nat_le, nat_lt, if◌then◌else◌, slice_index_or}
+use Rattle.std.proofs.Common.{◌≡◌, ℕ, zero, suc, ◌+◌, ◌≤◌, refl, sym, ◌∙◌, ap, subst, arith, Bool, true, false, List, [], length, None, replicate}
+use Rattle.std.specs.Prelude.{nat_lt, if◌then◌else◌, slice_index_or}
 use Rattle.std.proofs.lemmas.Option.{none-some}
 use Rattle.ds_base.specs.declared.names.Sizes.{Sizes}
-use Rattle.lock_names.specs.declared.mode.Mode.{Mode}
 use Rattle.lock_structure.specs.Locks.{Locks}
 use Rattle.list_structure.specs.States.{IsNew as AreNewLists}
 use Rattle.lock_manager.specs.declared.claim.Claim.{Claim}
 use Rattle.lock_manager.specs.declared.claim.Rollback.{Rollback}
 use Rattle.lock_manager.specs.Buckets.{AreDistinct}
 use Rattle.lock_manager.specs.Claims.{mode_in}
-use Rattle.facility.specs.States.{IsMade}
 use Rattle.lock_protocol.specs.Machine.{start as lock_start}
 use Rattle.lock_protocol.specs.Sound.{StartsSound}
 use Rattle.lock_world.specs.Books.{AreApart, IsBook}
-use Rattle.lock_world.specs.Failing.{KnowsNone, StartsTied}
+use Rattle.lock_world.specs.Failing.{StartsTied}
 use Rattle.lock_world.specs.Numbers.{name_at}
-use Rattle.lock_world.specs.Tied.{Claims, Tied}
+use Rattle.lock_world.specs.Tied.{Tied}
 use Rattle.lock_world.specs.Views.{claim_in, claims_from, entry_in, is_slot}
 use Rattle.marks_law.specs.Slots.{SlotsBegin}
 use Rattle.member_resources.specs.Held.{Held, IsNew}
-use Rattle.member_resources.specs.Events as event
-use Rattle.page_groups.specs.Groups.{GroupsStart as PagesStart, GroupStands, among, made, Shows}
+use Rattle.page_groups.specs.Groups.{GroupsStart as PagesStart, GroupStands, among, made}
 use Rattle.page_protocol.specs.Moves.{start}
 use Rattle.page_owners.specs.Owners.{BeginInX, LocksStand}
 use Rattle.page_owners.specs.Groups.{GroupsStart}

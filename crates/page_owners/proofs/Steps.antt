@@ -1,9 +1,7 @@
 -- An event of one member, in both worlds, and all others as they were.
 use Rattle.std.proofs.Common.{◌≡◌, ◌≢◌, ℕ, ◌≤◌, refl, sym, ◌∙◌, ap, subst, Bool, true, false, inl, inr, List, [], ◌∷◌, length, Option, Some, None}
-use Rattle.std.specs.Prelude.{◌==◌, ◌&&◌, if◌then◌else◌}
+use Rattle.std.specs.Prelude.{◌==◌, if◌then◌else◌}
 use Rattle.std.proofs.lemmas.Bool.{both_ways, cases_Bool, cases_eq, cond-false, cond-true, eq-eqb, ne_eqb}
-use Rattle.std.proofs.lemmas.Option.{same_Some}
-use Rattle.ds_base.specs.Ids.{IsMember}
 use Rattle.ds_model.specs.declared.lock.Name.TheVariants as name
 use Rattle.lock_names.specs.Entries.{entry_number}
 use Rattle.lock_names.specs.Modes.{is_recorded}
@@ -12,27 +10,23 @@ use Rattle.lock_names.specs.declared.mode.Mode.TheVariants.{X}
 use Rattle.list_structure.specs.Standings.{status_of}
 use Rattle.lock_structure.specs.Locks.{Locks}
 use Rattle.list_structure.specs.States.{ListsState}
-use Rattle.lock_manager.specs.Managers.{claims_of, held_by}
+use Rattle.lock_manager.specs.Managers.{claims_of}
 use Rattle.facility.specs.States.{Held as Facility, MemberFailed}
 use Rattle.lock_protocol.specs.Machine.{World as LockWorld, failed, retained_claim}
 use Rattle.lock_protocol.specs.Moves.{Move as LockMove, Fail}
 use Rattle.lock_protocol.specs.Own.{OthersKeep}
 use Rattle.lock_protocol.specs.Sound.{RunKeepsSound, Sound}
 use Rattle.lock_world.specs.Books.{SlotHas}
-use Rattle.lock_world.specs.Failing.{FailsMoves, Forgets}
+use Rattle.lock_world.specs.Failing.{FailsMoves}
 use Rattle.lock_world.specs.Numbers.{number, name_at}
 use Rattle.lock_world.specs.Tied.{Claims, Moved}
-use Rattle.lock_world.specs.Views.{claim_in, entry_in}
-use Rattle.lock_intents.specs.Stands.{Goes, IsUp, Leads as ClaimsLead}
+use Rattle.lock_world.specs.Views.{entry_in}
+use Rattle.lock_intents.specs.Stands.{Goes, Leads as ClaimsLead}
 use Rattle.lock_events.specs.Events.{EventGoes, ToldGoes}
 use Rattle.marks_law.specs.Slots.{SlotsReach, SlotsStand, SlotsStay}
-use Rattle.member_intents.specs.declared.intent.Intent.{Intent}
-use Rattle.member_intents.specs.declared.outcome.Answered.{Answered}
-use Rattle.member_intents.specs.declared.outcome.Sent.{Sent}
 use Rattle.member_marks.specs.Claims.{has_page}
 use Rattle.member_resources.specs.Held.{Held, begun}
 use Rattle.member_resources.specs.Events as event
-use Rattle.member_resources.specs.Events.{Happens}
 use Rattle.page_protocol.specs.Page.{put}
 use Rattle.page_protocol.specs.Moves.{World}
 use Rattle.page_world.specs.Numbers.{page_at, AreNumbered}

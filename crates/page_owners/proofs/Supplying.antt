@@ -1,7 +1,7 @@
 -- A page's lock is granted where the member has it, or nobody.
-use Rattle.std.proofs.Common.{◌≡◌, ◌≢◌, ℕ, refl, sym, ◌∙◌, ap, subst, Bool, true, false, inl, inr, List, Option, Some, None}
-use Rattle.std.specs.Prelude.{◌==◌, ◌||◌, if◌then◌else◌, is_some}
-use Rattle.std.proofs.lemmas.Bool.{both_ways, cases_eq, cond-false, cond-true, eq-eqb, ne_eqb}
+use Rattle.std.proofs.Common.{◌≡◌, ◌≢◌, ℕ, refl, sym, ◌∙◌, ap, subst, Bool, true, false, inl, inr, Option, Some, None}
+use Rattle.std.specs.Prelude.{◌==◌, if◌then◌else◌, is_some}
+use Rattle.std.proofs.lemmas.Bool.{cases_eq, cond-false, cond-true, eq-eqb, ne_eqb}
 use Rattle.std.proofs.lemmas.Option.{none-some, same_Some}
 use Rattle.ds_base.specs.declared.names.PageId.{PageId}
 use Rattle.ds_model.specs.declared.lock.Name.{Name}
@@ -9,9 +9,8 @@ use Rattle.ds_model.specs.declared.lock.Name.TheVariants as name
 use Rattle.lock_names.specs.declared.mode.Mode.{Mode}
 use Rattle.lock_names.specs.declared.mode.Mode.TheVariants.{X}
 use Rattle.list_structure.specs.Standings.{is_live}
-use Rattle.lock_manager.specs.declared.claim.Claim.{Claim}
-use Rattle.lock_manager.specs.Claims.{joined, mode_in}
-use Rattle.lock_manager.specs.Managers.{claims_of, held_by}
+use Rattle.lock_manager.specs.Claims.{joined}
+use Rattle.lock_manager.specs.Managers.{held_by}
 use Rattle.facility.specs.declared.command.Command.TheVariants as command
 use Rattle.facility.specs.declared.command.Reply.{Reply}
 use Rattle.facility.specs.declared.command.Reply.TheVariants as reply
@@ -46,7 +45,7 @@ use Rattle.member_resources.specs.Held.{Held, begun}
 use Rattle.member_resources.specs.Events as event
 use Rattle.member_resources.specs.Events.{Happens, Runs, holder_in}
 use Rattle.member_resources.specs.Prepared.{HasSpare, Reserves, setting_of}
-use Rattle.page_world.specs.Numbers.{page_at, page_number, AreNumbered}
+use Rattle.page_world.specs.Numbers.{page_number, AreNumbered}
 use Rattle.page_world.specs.Holdings.{Holdings}
 use Rattle.page_groups.specs.Groups.{page_named, page_taken}
 use Rattle.page_owners.specs.Owners.{LocksStand, OwnersClaim}

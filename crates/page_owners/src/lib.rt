@@ -6,6 +6,7 @@
 
 ghost use Rattle.page_owners.specs.Groups.{EventsGo, FailuresGo, GroupsStart, LocksSupply, ToldGo};
 ghost use Rattle.page_owners.specs.Owners.{BeginInX, StayInX, ToldInX};
+ghost use Rattle.page_owners.specs.Runs.{RunsStand};
 
 use lock_events::events_go as locks_go;
 use lock_protocol::{claims_give, keeps_sound, moves_leave_others};
@@ -81,4 +82,14 @@ pub fn groups_start()
     groups_begin();
     pages_start();
     pages_in_x();
+}
+
+/// So for each list of events from there on, of members that are up, and of failures, the group stands beside a good world of pages that
+/// moves lead to, and a sound world of locks.
+pub fn groups_run()
+    ensures { RunsStand }
+{
+    groups_start();
+    members_go();
+    members_fail();
 }

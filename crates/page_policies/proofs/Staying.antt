@@ -11,16 +11,15 @@ use Rattle.lock_manager.specs.declared.claim.Ask.{Ask}
 use Rattle.lock_manager.specs.declared.claim.Ask.TheVariants as ask
 use Rattle.lock_manager.specs.declared.claim.Claim.{Claim}
 use Rattle.lock_manager.specs.Claims.{mode_in}
-use Rattle.lock_manager.specs.Managers.{Book, slots, claims_of, ask_of, given, with_claims, after_release, release_told, ended, after_release_at, after_postponed_release, dropped, is_postponed}
+use Rattle.lock_manager.specs.Managers.{Book, slots, claims_of, ask_of, given, with_claims, after_release, release_told, ended, after_postponed_release, dropped, is_postponed}
 use Rattle.facility.specs.States.{Held}
 use Rattle.member_pool.specs.Frames.{find_page, is_unpinned}
 use Rattle.member_pool.specs.Heads.{HeadState, free_in, head_of, placed_in}
-use Rattle.member_log.specs.Buffers.{LogBuffer}
 use Rattle.member_trans.specs.declared.fate.Owner.{Owner}
 use Rattle.member_trans.specs.declared.fate.Owner.TheVariants as owner
 use Rattle.member_trans.specs.Trans.{may_begin, is_forward, may_postpone as may_postpone_tran}
 use Rattle.member_marks.specs.State.{MarksState, agents_of, slot_tran, with_heads, with_trans, with_locks}
-use Rattle.member_marks.specs.Claims.{is_agent, is_for_agents, may_claim, has_page, has_spare, entered_as, entered, after_enter, slot_released, rollback_releasing, rollback_released, after_release_of, slot_over, after_end_of, lock_place, noted_released, offered_memory}
+use Rattle.member_marks.specs.Claims.{is_agent, is_for_agents, may_claim, has_spare, entered_as, entered, after_enter, slot_released, rollback_releasing, after_release_of, slot_over, after_end_of, lock_place, noted_released, offered_memory}
 use Rattle.member_marks.specs.Frames.{placed_at, after_place, may_pin, after_pin, may_unpin, after_unpin}
 use Rattle.member_marks.specs.Local.{Local, Claim as TryClaim, Begin, Refuse, Abort, RefuseForMemory, Place, Pin, Unpin, Postpone, WaitFor, moved, all_moved, Reaches, tried_as, entered_at_home, after_claim, after_begin, with_lock_room, begun_with}
 use Rattle.member_marks.specs.Rollbacks.{can_postpone, postponed_for_member, after_postpone, waiting_for, after_wait, retainer}
@@ -30,8 +29,7 @@ use Rattle.page_protocol.specs.Moves.{World, Move, Run}
 use Rattle.page_protocol.specs.Always.{AlwaysGood}
 use Rattle.page_world.specs.Numbers.{set_of}
 use Rattle.page_world.specs.Holdings.{Copy, Holdings, with_facility}
-use Rattle.page_world.specs.Tied.{Moved}
-use Rattle.page_intents.specs.Stands.{copy_of, IsUp, behind, Goes}
+use Rattle.page_intents.specs.Stands.{copy_of, behind, Goes}
 use Rattle.page_intents.specs.Frames.{Begins}
 use Rattle.page_intents.specs.Owners.{LeavesPages, StayGoes}
 use Rattle.page_intents.specs.Locals.{PinGoes, PlaceGoes, UnpinGoes}

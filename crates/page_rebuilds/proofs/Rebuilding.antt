@@ -35,7 +35,7 @@ use Rattle.rebuild_resources.specs.Calls.{Stores}
 use Rattle.rebuild_resources.specs.Calls as calls
 use Rattle.rebuild_resources.specs.Events as rebuilding
 use Rattle.rebuild_resources.specs.Events.{Runs}
-use Rattle.rebuild_resources.specs.Needs.{Need, call_sent, first_sent, hand_sent, need_of, read_log_need, read_page_need, rebuilt_need, when, write_page_need}
+use Rattle.rebuild_resources.specs.Needs.{Need, call_sent, first_sent, hand_sent, need_of, when}
 use Rattle.rebuild_resources.specs.State.{RebuildState}
 use Rattle.page_protocol.specs.Page.{Page, put, rebuild}
 use Rattle.page_protocol.specs.Moves.{World, At, ReadLog, Rebuild, Rebuilt, IsRead, Run, log_read, with_cache}
