@@ -17,7 +17,7 @@ use Rattle.page_world.specs.Failing.{without}
 use Rattle.page_intents.specs.Stands.{IsUp}
 use Rattle.page_intents.specs.Castouts.{HasCast}
 -- given out again: a member beside its group, any event of it, and the failure of a member
-pub use Rattle.page_members.specs.Members.{Beside, EventGoes, FailuresGo, Group, GroupGoes, IsRecorded, Leads, SameOthers, Shows, Supplied, ToldGoes, page_named, page_taken}
+pub use Rattle.page_members.specs.Members.{Beside, EventGoes, FailuresGo, Group, GroupGoes, IsRecorded, Leads, SameOthers, Shows, Supplied, ToldGoes, WritesShow, page_named, page_taken}
 
 -- by member: whether it is up, and what it holds
 pub record GroupStands (w : World) (u : event.World) (g : Holdings) (content : ℕ → ℕ → List ℕ) (forced : ℕ → ℕ) (up : ℕ → Bool) (hs : ℕ → Held) : Type 0 where
@@ -75,17 +75,26 @@ MembersFail = (w : World) (u v : event.World) (g : Holdings) (content : ℕ → 
 abbrev pub among : ℕ → ℕ → Bool
 among members m = nat_le 1 m && nat_le m members
 
--- what a group holds as it is made
-abbrev pub made : Facility → (ℕ → List ℕ) → Holdings
-made f pages = record {
+-- what a group holds as it is made, over a disk with these pages, where so many records stand in the logs
+abbrev pub made_over : Facility → (ℕ → List ℕ) → (ℕ → ℕ) → Holdings
+made_over f pages stable = record {
   facility = f;
   disk = pages;
-  stable = λ m. 0;
-  written = λ m. 0;
+  stable = stable;
+  written = stable;
   copies = λ m n. no_copy;
   casts = λ m n. no_cast;
   owner = λ n. None;
 }
+
+abbrev pub made : Facility → (ℕ → List ℕ) → Holdings
+made f pages = made_over f pages (λ m. 0)
+
+-- each of its members is up, and casts out nothing
+abbrev pub MembersBegin : Type 0
+MembersBegin = (f : Facility) (pages : ℕ → List ℕ) (stable : ℕ → ℕ) (counter : ℕ) (sizes : Sizes) (m : ℕ) (h : Held)
+    → IsMade sizes counter f → sizes.members ≤ 32 → among sizes.members m ≡ true → IsNew m sizes h
+    → IsUp (made_over f pages stable) (λ k. 0) (kept_of h) × HasCast (made_over f pages stable) h.marks.member h.cast h.buffer
 
 -- over a disk with these pages, and empty logs: no number was drawn yet
 abbrev pub GroupsStart : Type 0

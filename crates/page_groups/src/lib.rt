@@ -4,11 +4,11 @@
 //! The crate has definitions and proofs alone. Its functions do nothing: their contracts are the theorems.
 #![tactic(auto)]
 
-ghost use Rattle.page_groups.specs.Groups.{EachIsBeside, FailsStand, GroupsStart, LeadsStand, MembersFail, MembersGo, ToldGo};
+ghost use Rattle.page_groups.specs.Groups.{EachIsBeside, FailsStand, GroupsStart, LeadsStand, MembersBegin, MembersFail, MembersGo, ToldGo};
 
 use cache_structure::keeps_entries_apart;
 use page_members::others_stay_up;
-pub use page_members::{events_go, failures_go};
+pub use page_members::{events_go, failures_go, writes_show};
 use page_protocol::coherent_pages;
 use page_world::groups_begin;
 
@@ -39,9 +39,10 @@ pub fn groups_stand()
     others_stay_up();
 }
 
-/// A group as it was made, over a disk without logs, stands beside the start of the world.
+/// The members of a group as it is made are up. Over a disk without logs it stands beside the start of the world.
 pub fn groups_start()
-    ensures { GroupsStart }
+    ensures members { MembersBegin }
+    ensures group { GroupsStart }
 {
     groups_begin();
     coherent_pages();

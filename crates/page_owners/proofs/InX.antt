@@ -262,18 +262,19 @@ is_lawful law u h i place s p e =
     let c = setting_of h (holder_in u.facility h.cast) place in
     law h.marks h.pages c i s (needs_sent (need_of h.marks h.pages c i) (intent_plan h.marks h.pages h.limit i) s p e)
 
+ran_in_x : ClaimsStay → OwnClaimsStay → (h now k : Held) (u v : event.World) (c : Setting) (i : Intent) (s : Sent) (p : Plan) (place : ℕ) (a : Answered) (told : Told)
+    → Lawful h.marks h.pages c i s → Runs u now i s p place a told v k → OwnInX now.marks → OwnInX k.marks
+ran_in_x quiet own h now k u v c i s p place a told lawful r x = elim (cases_Bool (changes_claims i)) [
+  | inl so ↦ changes_x own h now k u v s p place a told x c i so lawful r
+  | inr still ↦ same_x now.marks k.marks (ap (λ (z : Book). claims_of z 0) (quiet u v now k i s p place a told still r).locks) x
+]
+
 pub stay_in_x : ClaimsStay → OwnClaimsStay → SendsLawfully → StayInX
 stay_in_x quiet own law u v h k i place s a happens x =
-    let ready = happens.ready in
-    let now = begun ready place in
-    let begins : OwnInX now.marks = same_x h.marks now.marks (ready_own h ready i happens.reserves) x in
-    let runs = happens.runs in
-    let after : OwnInX happens.after.marks = elim (cases_Bool (changes_claims i)) [
-      | inl so ↦ changes_x own h now happens.after u v s happens.plan place a happens.said begins (setting_of h (holder_in u.facility h.cast) place) i so (is_lawful law u h i place s happens.plan happens.lawful) runs
-      | inr not ↦ same_x now.marks happens.after.marks (ap (λ (z : Book). claims_of z 0) (quiet u v now happens.after i s happens.plan place a happens.said not runs).locks) begins
-    ] in
-    let reached : OwnInX k.marks = same_x happens.after.marks k.marks (own.reaches happens.after.marks k.marks happens.ends.0) after in
-    reached
+    let now = begun happens.ready place in
+    let begins : OwnInX now.marks = same_x h.marks now.marks (ready_own h happens.ready i happens.reserves) x in
+    same_x happens.after.marks k.marks (own.reaches happens.after.marks k.marks happens.ends.0)
+    (ran_in_x quiet own h now happens.after u v (setting_of h (holder_in u.facility h.cast) place) i s happens.plan place a happens.said (is_lawful law u h i place s happens.plan happens.lawful) happens.runs begins)
 
 pub told_in_x : OwnClaimsStay → ToldInX
 told_in_x own h k place ends x = same_x (begun h place).marks k.marks (own.reaches (begun h place).marks k.marks ends.0) x

@@ -97,7 +97,7 @@ module _ (starts : StartsTied) (sound : StartsSound) (slots : SlotsBegin) (in_x 
               among = paged.among;
               few = subst (λ z. z ≤ 32) (sym kept) few;
               up = paged.up;
-              size = h.marks.sizes.1.0 ∙ sym entries;
+              size = h.marks.sizes.1 ∙ sym entries;
               book = book m sizes (hs m) h agents;
             };
             slots = slots m sizes (hs m) h;

@@ -164,15 +164,15 @@ told_go facts w l u g content forced held left up hs m k place b e leads ends =
     both_lead facts w l u u g content forced held left up hs m k b e leads
     (facts.page_told w u g content forced (hs m) k place beside ends)
     (facts.told l u held left (hs m) k place b.sound b.tied stands.up stands.knows ends leads)
-    (facts.reach (begun (hs m) place).marks k.marks ends.0 (record { count = stands.slots.count; own = stands.slots.own; commits = refl })) (facts.told_x (hs m) k place ends stands.in_x)
+    (facts.reach (begun (hs m) place).marks k.marks ends.0 (record { count = stands.slots.count; own = stands.slots.own; commits = stands.slots.commits })) (facts.told_x (hs m) k place ends stands.in_x)
 
 -- ---- a member fails: its claims in X stay
+recorded_x : ◌≡◌ {A = Option Mode} (if is_recorded X then Some X else None) (Some X)
+unfolding is_recorded
+recorded_x = refl
+
 kept_claim : (b : Bool) (o : Option Mode) → o ≡ Some X → (if b then retained_claim o else o) ≡ Some X
 kept_claim true o e = ap retained_claim e ∙ recorded_x
-  where
-    recorded_x : (if is_recorded X then Some X else None) ≡ Some X
-    unfolding is_recorded
-    recorded_x = refl
 kept_claim false o e = e
 
 pub members_fail : RunKeepsSound → FailsMoves → PagesFail → FailsStand → FailuresGo

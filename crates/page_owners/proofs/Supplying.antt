@@ -1,5 +1,5 @@
 -- A page's lock is granted where the member has it, or nobody.
-use Rattle.std.proofs.Common.{◌≡◌, ◌≢◌, ℕ, refl, sym, ◌∙◌, ap, subst, Bool, true, false, inl, inr, Option, Some, None}
+use Rattle.std.proofs.Common.{◌≡◌, ◌≢◌, ℕ, refl, sym, ◌∙◌, ap, subst, arith, Bool, true, false, inl, inr, Option, Some, None}
 use Rattle.std.specs.Prelude.{◌==◌, if◌then◌else◌, is_some}
 use Rattle.std.proofs.lemmas.Bool.{cases_eq, cond-false, cond-true, eq-eqb, ne_eqb}
 use Rattle.std.proofs.lemmas.Option.{none-some, same_Some}
@@ -177,7 +177,6 @@ module _ (facts : Facts) (l : LockWorld) (u v : event.World) (g : Holdings) (hel
 pub locks_supply : Facts → LocksSupply
 locks_supply facts w l u v g content forced held up hs m k i place s a b e happens given =
     let stands = b.each m e in
-    let is_up = b.pages.each m e in
     record {
       distinct = stands.up.book.once 0;
       free = λ page version taken_is granted none. free page version taken_is granted none (g.owner (page_number page)) refl;

@@ -2,4 +2,4 @@ use Rattle.page_owners.proofs.groups_start.Goals as goal
 use Rattle.page_owners.proofs.Starting.{groups_start}
 
 pub returns : goal.returns
-returns c = groups_start c.groups_begin.ensures.starts c.keeps_sound.ensures.start c.slots_stay.ensures.begin c.pages_in_x.ensures.begin c.pages_start.ensures
+returns c = groups_start c.groups_begin.ensures.starts c.keeps_sound.ensures.start c.slots_stay.ensures.begin c.pages_in_x.ensures.begin c.pages_start.ensures.group
