@@ -17,7 +17,7 @@ use Rattle.page_world.specs.Failing.{without}
 use Rattle.page_intents.specs.Stands.{IsUp}
 use Rattle.page_intents.specs.Castouts.{HasCast}
 -- given out again: a member beside its group, any event of it, and the failure of a member
-pub use Rattle.page_members.specs.Members.{Beside, EventGoes, FailuresGo, Group, GroupGoes, IsRecorded, Leads, SameOthers, Shows, Supplied, ToldGoes, WritesShow, page_named, page_taken}
+pub use Rattle.page_members.specs.Members.{Beside, EventGoes, FailuresGo, Group, GroupGoes, IsRecorded, Leads, SameOthers, Shows, Supplied, ToldGoes, page_named, page_taken}
 
 -- by member: whether it is up, and what it holds
 pub record GroupStands (w : World) (u : event.World) (g : Holdings) (content : ℕ → ℕ → List ℕ) (forced : ℕ → ℕ) (up : ℕ → Bool) (hs : ℕ → Held) : Type 0 where

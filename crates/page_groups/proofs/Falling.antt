@@ -9,8 +9,8 @@ use Rattle.page_protocol.specs.Moves.{World, GroupFail, Forward, Compensate, App
 use Rattle.page_protocol.specs.Always.{AlwaysGood}
 use Rattle.page_world.specs.Groups.{AppendsMoves, CompensatesMoves, FallsAgain, FallsMoves, ForwardsMoves, Remains, content_with}
 use Rattle.page_world.specs.Numbers.{page_number, set_of}
-use Rattle.page_groups.specs.Groups.{Shows, WritesShow}
-use Rattle.page_falls.specs.Falls.{CompensationsGo, GroupsFall, GroupsFallAgain, PageGoes, PagesGo, RecordsGo, appended}
+use Rattle.page_members.specs.Members.{Shows, WritesShow}
+use Rattle.page_groups.specs.Falls.{CompensationsGo, GroupsFall, GroupsFallAgain, PageGoes, PagesGo, RecordsGo, appended}
 
 abbrev IsShown : World → (ℕ → ℕ → List ℕ) → Type 0
 IsShown w content = (n i : ℕ) → i < (w.pages n).last → lrsn_of (content n (i + 1)) ≡ (w.pages n).lrsn i

@@ -1,5 +1,5 @@
-use Rattle.page_falls.proofs.restarts_go.Goals as goal
-use Rattle.page_falls.proofs.Falling.{compensations_go, pages_go, records_go}
+use Rattle.page_groups.proofs.restarts_go.Goals as goal
+use Rattle.page_groups.proofs.Falling.{compensations_go, pages_go, records_go}
 
 pub returns : goal.returns
 returns c =

@@ -15,7 +15,8 @@ use Rattle.page_protocol.specs.Always.{Good}
 use Rattle.page_world.specs.Groups.{AreDrawn, DownTied, Remains, content_with}
 use Rattle.page_world.specs.Holdings.{Holdings}
 use Rattle.page_world.specs.Numbers.{page_number, set_of}
-use Rattle.page_groups.specs.Groups.{Group, GroupStands, Shows, among, made_over}
+use Rattle.page_members.specs.Members.{Group, Shows}
+use Rattle.page_groups.specs.Groups.{GroupStands, among, made_over}
 
 -- what is left of the group stands beside a good world, whose versions show their numbers
 pub record Fallen (w : World) (r : Remains) (content : ℕ → ℕ → List ℕ) : Type 0 where

@@ -1,5 +1,5 @@
-use Rattle.page_falls.proofs.groups_fall.Goals as goal
-use Rattle.page_falls.proofs.Falling.{falls, falls_again}
+use Rattle.page_groups.proofs.groups_fall.Goals as goal
+use Rattle.page_groups.proofs.Falling.{falls, falls_again}
 
 pub returns : goal.returns
 returns c =

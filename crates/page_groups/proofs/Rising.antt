@@ -14,7 +14,7 @@ use Rattle.page_world.specs.Groups.{IsMade as IsMadeGroup, Remains, RisesMoves}
 use Rattle.page_world.specs.Numbers.{set_of}
 use Rattle.page_intents.specs.Numbers.{AreNumbered}
 use Rattle.page_groups.specs.Groups.{MembersBegin, made_over}
-use Rattle.page_falls.specs.Falls.{Fallen, GroupsRise}
+use Rattle.page_groups.specs.Falls.{Fallen, GroupsRise}
 
 made_group : (r : Remains) (u : event.World) (sizes : Sizes) → IsMade sizes r.counter u.facility → sizes.members ≤ 32 → IsMadeGroup (made_over u.facility r.disk r.stable)
 made_group r u sizes f few =
