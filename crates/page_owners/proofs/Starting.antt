@@ -4,7 +4,10 @@ use Rattle.std.specs.Prelude.{nat_lt, if◌then◌else◌, slice_index_or}
 use Rattle.std.proofs.lemmas.Option.{none-some}
 use Rattle.ds_base.specs.declared.names.Sizes.{Sizes}
 use Rattle.lock_structure.specs.Locks.{Locks}
+use Rattle.list_structure.specs.declared.standing.MemberStatus.TheVariants.{Up}
+use Rattle.list_structure.specs.Standings.{status_of}
 use Rattle.list_structure.specs.States.{IsNew as AreNewLists}
+use Rattle.facility.specs.States.{Held as Facility}
 use Rattle.lock_manager.specs.declared.claim.Claim.{Claim}
 use Rattle.lock_manager.specs.declared.claim.Rollback.{Rollback}
 use Rattle.lock_manager.specs.Buckets.{AreDistinct}
@@ -21,7 +24,7 @@ use Rattle.member_resources.specs.Held.{Held, IsNew}
 use Rattle.page_groups.specs.Groups.{GroupsStart as PagesStart, GroupStands, among, made}
 use Rattle.page_protocol.specs.Moves.{start}
 use Rattle.page_owners.specs.Owners.{BeginInX, LocksStand}
-use Rattle.page_owners.specs.Groups.{GroupsStart}
+use Rattle.page_owners.specs.Groups.{GroupsBegin, GroupsStart}
 
 -- ---- no claims
 abbrev nothing : List Claim
@@ -67,40 +70,40 @@ module _ (m : ℕ) (sizes : Sizes) (h : Held) (new : IsNew m sizes h) where
           omega (arith, many, none, same)
 
 -- ---- the group
-module _ (starts : StartsTied) (sound : StartsSound) (slots : SlotsBegin) (in_x : BeginInX) (pages_start : PagesStart) where
-  pub groups_start : GroupsStart
-  groups_start u pages sizes held hs f shows few agents knows new = record {
-    pages = stood;
-    sound = sound (entry_in u.facility.locks);
-    tied = subst (λ (z : Locks). Tied lock_start z u.facility.lists held) (sym f.locks_empty)
-        (starts sizes.locks sizes.records (sizes.pool + 128) sizes.agents u.facility.lists held (subst (λ z. z ≤ 32) (sym kept) few) (subst (λ z. AreNewLists u.facility.lists z sizes.agents) (sym kept) f.lists_new) knows);
-    owners = λ n k e. absurd (none-some k e);
-    each = λ m e. each m e (new m e);
-  }
-    where
-      kept : u.facility.lists.members ≡ sizes.members
-      kept = f.lists_new.members_kept
+pub groups_begin : StartsTied → StartsSound → SlotsBegin → BeginInX → GroupsBegin
+groups_begin starts sound slots in_x w u g content forced counter sizes held hs stood free f few agents knows new = record {
+  pages = stood;
+  sound = sound (entry_in u.facility.locks);
+  tied = subst (λ (z : Locks). Tied lock_start z u.facility.lists held) (sym f.locks_empty)
+      (starts sizes.locks sizes.records (sizes.pool + 128) sizes.agents u.facility.lists held (subst (λ z. z ≤ 32) (sym kept) few) (subst (λ z. AreNewLists u.facility.lists z sizes.agents) (sym kept) f.lists_new) knows);
+  owners = λ n k e. absurd (none-some k (sym (free n) ∙ e));
+  each = λ m e. each m e (new m e);
+}
+  where
+    kept : u.facility.lists.members ≡ sizes.members
+    kept = f.lists_new.members_kept
 
-      stood : GroupStands start u (made u.facility pages) (λ n v. pages n) (λ m. 0) (among sizes.members) hs
-      stood = pages_start u pages sizes hs f shows few new
+    entries : length u.facility.locks.entries ≡ sizes.locks
+    entries = ap (λ (z : Locks). length z.entries) f.locks_empty ∙ so_many sizes.locks _
 
-      entries : length u.facility.locks.entries ≡ sizes.locks
-      entries = ap (λ (z : Locks). length z.entries) f.locks_empty ∙ so_many sizes.locks _
+    each : (m : ℕ) → among sizes.members m ≡ true → IsNew m sizes (hs m) → LocksStand u.facility held (hs m).marks
+    each m e h =
+        let paged = stood.each m e in
+        let most : (hs m).marks.member ≤ u.facility.lists.members = subst (λ (z : Facility). (hs m).marks.member ≤ z.lists.members) stood.facility paged.among in
+        record {
+          up = record {
+            member = (paged.least, omega (arith, most, kept, few));
+            among = most;
+            few = subst (λ z. z ≤ 32) (sym kept) few;
+            up = subst (λ (z : Facility). status_of z.lists.statuses (hs m).marks.member ≡ Up) stood.facility paged.up;
+            size = h.marks.sizes.1 ∙ sym entries;
+            book = book m sizes (hs m) h agents;
+          };
+          slots = slots m sizes (hs m) h;
+          knows = λ o c. knows (hs m).marks.member o c ∙ sym (claims_none m sizes (hs m) h o c);
+          in_x = in_x m sizes (hs m) h;
+        }
 
-      each : (m : ℕ) → among sizes.members m ≡ true → IsNew m sizes (hs m) → LocksStand u.facility held (hs m).marks
-      each m e h =
-          let paged = stood.each m e in
-          let most = paged.among in
-          record {
-            up = record {
-              member = (paged.least, omega (arith, most, kept, few));
-              among = paged.among;
-              few = subst (λ z. z ≤ 32) (sym kept) few;
-              up = paged.up;
-              size = h.marks.sizes.1 ∙ sym entries;
-              book = book m sizes (hs m) h agents;
-            };
-            slots = slots m sizes (hs m) h;
-            knows = λ o c. knows (hs m).marks.member o c ∙ sym (claims_none m sizes (hs m) h o c);
-            in_x = in_x m sizes (hs m) h;
-          }
+pub groups_start : GroupsBegin → PagesStart → GroupsStart
+groups_start begin pages_start u pages sizes held hs f shows few agents knows new =
+    begin start u (made u.facility pages) (λ n v. pages n) (λ m. 0) 0 sizes held hs (pages_start u pages sizes hs f shows few new) (λ n. refl) f few agents knows new

@@ -90,7 +90,7 @@ other_stands f v held left m p h same named ne others s =
 
 -- ---- owners claim their pages behind an event of one member
 module _ (facts : Facts) (w : World) (l : LockWorld) (u v : event.World) (g : Holdings) (content : ℕ → ℕ → List ℕ) (forced : ℕ → ℕ) (held left : Claims) (up : ℕ → Bool) (hs : ℕ → Held) (m : ℕ) (k : Held)
-  (b : BothStand w l u g content forced held up hs) (e : up m ≡ true) (leads : ClaimsLead held left (hs m).marks k.marks) (paged : Leads w v g content forced (hs m) k) (locked : Goes l u.facility v.facility left (hs m).marks k.marks) (slots : SlotsStand k.marks) (in_x : OwnInX k.marks) where
+    (b : BothStand w l u g content forced held up hs) (e : up m ≡ true) (leads : ClaimsLead held left (hs m).marks k.marks) (paged : Leads w v g content forced (hs m) k) (locked : Goes l u.facility v.facility left (hs m).marks k.marks) (slots : SlotsStand k.marks) (in_x : OwnInX k.marks) where
   named : (hs m).marks.member ≡ m
   named = b.pages.named m e
 

@@ -1,5 +1,5 @@
 -- A group beside its good world of pages and its sound world of locks.
-use Rattle.std.specs.Prelude.{◌≡◌, ℕ, ◌≤◌, Bool, true, false, List}
+use Rattle.std.specs.Prelude.{◌≡◌, ℕ, ◌≤◌, Bool, true, false, List, None}
 use Rattle.ds_base.specs.Ids.{IsMember}
 use Rattle.ds_base.specs.declared.names.Sizes.{Sizes}
 use Rattle.facility.specs.States.{IsMade, MemberFailed}
@@ -63,6 +63,12 @@ ToldGo = (w : World) (l : LockWorld) (u : event.World) (g : Holdings) (content :
 abbrev pub FailuresGo : Type 0
 FailuresGo = (w : World) (l : LockWorld) (u v : event.World) (g : Holdings) (content : ℕ → ℕ → List ℕ) (forced : ℕ → ℕ) (held left : Claims) (up : ℕ → Bool) (hs : ℕ → Held) (m : ℕ)
     → BothStand w l u g content forced held up hs → IsMember m → u.facility.lists.members ≤ 32 → MemberFailed u.facility m v.facility → v.drive ≡ u.drive → Forgets held left m → BothLead w l u v left (put up m false) hs
+
+-- a group as it is made, which stands beside its good world of pages
+abbrev pub GroupsBegin : Type 0
+GroupsBegin = (w : World) (u : event.World) (g : Holdings) (content : ℕ → ℕ → List ℕ) (forced : ℕ → ℕ) (counter : ℕ) (sizes : Sizes) (held : Claims) (hs : ℕ → Held)
+    → GroupStands w u g content forced (among sizes.members) hs → ((n : ℕ) → g.owner n ≡ None) → IsMade sizes counter u.facility → sizes.members ≤ 32 → sizes.agents ≤ 16 → KnowsNone held
+    → ((m : ℕ) → among sizes.members m ≡ true → IsNew m sizes (hs m)) → BothStand w lock_start u g content forced held (among sizes.members) hs
 
 -- a group as it was made, over a disk without logs
 abbrev pub GroupsStart : Type 0

@@ -4,7 +4,7 @@
 //! The crate has definitions and proofs alone. Its functions do nothing: their contracts are the theorems.
 #![tactic(auto)]
 
-ghost use Rattle.page_owners.specs.Groups.{EventsGo, FailuresGo, GroupsStart, LocksSupply, ToldGo};
+ghost use Rattle.page_owners.specs.Groups.{EventsGo, FailuresGo, GroupsBegin, GroupsStart, LocksSupply, ToldGo};
 ghost use Rattle.page_owners.specs.Owners.{BeginInX, StayInX, ToldInX};
 ghost use Rattle.page_owners.specs.Runs.{RunsStand};
 
@@ -13,9 +13,7 @@ use lock_protocol::{claims_give, keeps_sound, moves_leave_others};
 use lock_world::{books_tell, failures_are_moves, groups_begin, names_have_numbers};
 use marks_law::{claims_stay, slots_stay};
 use needs_law::sends_lawfully;
-use page_groups::{
-    events_go as pages_go, failures_go, groups_stand, groups_start as pages_start,
-};
+use page_groups::{events_go as pages_go, failures_go, groups_stand, groups_start as pages_start};
 use page_policies::own_claims_stay;
 use page_world::pages_have_numbers;
 
@@ -73,9 +71,11 @@ pub fn members_fail()
     groups_stand();
 }
 
-/// A group as it was made, over a disk without logs, stands beside the start of both worlds.
+/// A group as it is made, whatever its world of pages, stands beside the start of the world of locks too; and over a disk without logs beside
+/// the start of both worlds.
 pub fn groups_start()
-    ensures { GroupsStart }
+    ensures begin { GroupsBegin }
+    ensures start { GroupsStart }
 {
     keeps_sound();
     slots_stay();
