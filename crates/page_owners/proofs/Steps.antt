@@ -29,7 +29,7 @@ use Rattle.member_resources.specs.Held.{Held, begun}
 use Rattle.member_resources.specs.Events as event
 use Rattle.page_protocol.specs.Page.{put}
 use Rattle.page_protocol.specs.Moves.{World}
-use Rattle.page_world.specs.Numbers.{page_at, AreNumbered}
+use Rattle.page_world.specs.Numbers.{page_at}
 use Rattle.page_world.specs.Holdings.{Holdings, with_facility}
 use Rattle.page_world.specs.Failing.{without}
 use Rattle.page_groups.specs.Groups.{EachIsBeside, FailsStand, LeadsStand, Leads, SameOthers, EventGoes as PagesGo, ToldGoes as PagesTold, FailuresGo as PagesFail}
@@ -39,7 +39,6 @@ use Rattle.page_owners.proofs.InX.{held_x}
 use Rattle.page_owners.proofs.Supplying.{claim_tied, slot_claim}
 
 pub record Facts : Type 0 where
-  pub pages : AreNumbered
   pub has : SlotHas
   pub run : RunKeepsSound
   pub others : OthersKeep

@@ -20,7 +20,7 @@ use Rattle.lock_protocol.specs.Own.{OthersKeep}
 use Rattle.lock_protocol.specs.Sound.{RunKeepsSound, Sound}
 use Rattle.lock_protocol.specs.Words.{SoundGives}
 use Rattle.lock_world.specs.Books.{SlotHas}
-use Rattle.lock_world.specs.Numbers.{number, AreNumbered as AreNames}
+use Rattle.lock_world.specs.Numbers.{number}
 use Rattle.lock_world.specs.Tied.{Claims, ClaimTied, Tied}
 use Rattle.lock_world.specs.Views.{claim_in, entry_in}
 use Rattle.lock_intents.specs.Stands.{Goes, IsUp, Leads}
@@ -54,7 +54,6 @@ use Rattle.page_owners.proofs.InX.{is_lawful, ran}
 
 pub record Facts : Type 0 where
   pub lawful : SendsLawfully
-  pub names : AreNames
   pub pages : AreNumbered
   pub has : SlotHas
   pub gives : SoundGives

@@ -10,7 +10,7 @@ ghost use Rattle.page_owners.specs.Runs.{RunsStand};
 
 use lock_events::events_go as locks_go;
 use lock_protocol::{claims_give, keeps_sound, moves_leave_others};
-use lock_world::{books_tell, failures_are_moves, groups_begin, names_have_numbers};
+use lock_world::{books_tell, failures_are_moves, groups_begin};
 use marks_law::{claims_stay, slots_stay};
 use needs_law::sends_lawfully;
 use page_groups::{events_go as pages_go, failures_go, groups_stand, groups_start as pages_start};
@@ -33,7 +33,6 @@ pub fn pages_in_x()
 pub fn locks_supply()
     ensures { LocksSupply }
 {
-    names_have_numbers();
     pages_have_numbers();
     books_tell();
     claims_give();
@@ -49,7 +48,6 @@ pub fn members_go()
     ensures event { EventsGo }
     ensures told { ToldGo }
 {
-    pages_have_numbers();
     books_tell();
     keeps_sound();
     moves_leave_others();

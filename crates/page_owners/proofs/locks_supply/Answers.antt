@@ -5,7 +5,6 @@ pub returns : goal.returns
 returns c =
     let facts : Facts = record {
       lawful = c.sends_lawfully.ensures;
-      names = c.names_have_numbers.ensures;
       pages = c.pages_have_numbers.ensures;
       has = c.books_tell.ensures.slot;
       gives = c.claims_give.ensures.gives;

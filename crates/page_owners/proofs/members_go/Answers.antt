@@ -5,7 +5,6 @@ pub returns : goal.returns
 returns c =
     let slots = c.slots_stay.ensures in
     let facts : Facts = record {
-      pages = c.pages_have_numbers.ensures;
       has = c.books_tell.ensures.slot;
       run = c.keeps_sound.ensures.run;
       others = c.moves_leave_others.ensures.others;
