@@ -1,8 +1,7 @@
 -- A new event begins: what holds of the member, and of what is wanted.
-use Rattle.std.proofs.Common.{◌≡◌, ℕ, zero, suc, refl, sym, ap, subst, ◌∙◌, Bool, true, false, List, [], ◌∷◌, slice_set, Option, Some, None}
+use Rattle.std.proofs.Common.{◌≡◌, ℕ, zero, suc, refl, sym, ap, subst, ◌∙◌, List, [], ◌∷◌, slice_set, Option, Some, None}
 use Rattle.std.specs.Prelude.{slice_index_or}
 use Rattle.ds_base.specs.declared.names.PageId.{PageId}
-use Rattle.ds_base.specs.declared.names.Place.{Place}
 use Rattle.ds_model.specs.declared.lock.Name.{Name}
 use Rattle.ds_model.specs.declared.lock.Name.TheVariants as name
 use Rattle.lock_names.specs.declared.mode.Mode.{Mode}
@@ -14,9 +13,8 @@ use Rattle.member_intents.specs.declared.outcome.Sent.{Sent}
 use Rattle.member_trans.specs.declared.fate.Owner.{Owner}
 use Rattle.member_trans.specs.declared.fate.Owner.TheVariants as owner
 use Rattle.member_trans.specs.Trans.{TranState, free_tran, is_forward, with_room}
-use Rattle.member_marks.specs.State.{MarksState, slot_tran}
 use Rattle.member_needs.specs.Records.{frame_of, place_by}
-use Rattle.needs_law.specs.Lawful.{Appends, Changes, Commits, FillsFrame, FreesFrame, HoldsNth, HoldsPage, MayChange, MayClaim, MayGive, ReadsFrame, ReleasesPage, TestsFrame, Undoes, WritesFrame}
+use Rattle.needs_law.specs.Lawful.{Appends, Changes, Commits, FillsFrame, FreesFrame, HoldsNth, HoldsPage, MayChange, MayClaim, MayGive, ReadsFrame, TestsFrame, Undoes, WritesFrame}
 use Rattle.member_resources.specs.Events.{Drive}
 use Rattle.member_resources.specs.Held.{Held, begun, with_spare}
 use Rattle.member_resources.specs.Prepared.{with_change_room}

@@ -5,7 +5,7 @@ use Rattle.std.specs.Ordering.{nat_cmp, eq_by_cmp, is_eq, ordering_then}
 use Rattle.std.specs.declared.cmp.Ordering.{Ordering}
 use Rattle.std.specs.declared.cmp.Ordering.TheVariants.{Less, Equal, Greater}
 use Rattle.std.specs.FinMap.{get, insert, get-insert}
-use Rattle.std.proofs.lemmas.Bool.{and_parts, cases_eq, cond-true, cond-false, eq-eqb, eqb-true, false_from_ne_true, lt-ltb, ne_eqb}
+use Rattle.std.proofs.lemmas.Bool.{and_parts, cases_eq, cond-true, eq-eqb, eqb-true, false_from_ne_true, lt-ltb}
 use Rattle.std.proofs.lemmas.Bool.Decides.{nat_tests}
 use Rattle.std.proofs.lemmas.Option.{none-some, slice_get_within}
 use Rattle.ds_base.specs.declared.names.PageId.{PageId}
@@ -37,7 +37,6 @@ use Rattle.page_protocol.specs.Moves.{World}
 use Rattle.page_world.specs.Numbers.{page_number, page_at, AreNumbered}
 use Rattle.page_world.specs.Holdings.{Holdings}
 use Rattle.page_intents.specs.Stands.{behind, Goes}
-use Rattle.page_intents.specs.Frames.{filled_kept}
 use Rattle.page_intents.specs.Logs.{all_forced}
 use Rattle.page_events.specs.Beside.{Shows, SameOthers, Leads}
 use Rattle.page_events.proofs.Facts.{Facts}

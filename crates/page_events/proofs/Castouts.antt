@@ -1,9 +1,8 @@
 -- A castout: its page is read under the castout lock, written to disk, and the castout ends.
-use Rattle.std.proofs.Common.{◌≡◌, ◌≢◌, ℕ, refl, sym, ◌∙◌, ap, subst, Bool, true, false, inl, inr, List, Option, Some, None, Ok, arith}
-use Rattle.std.specs.Prelude.{◌⊎◌, ◌==◌, not, ◌||◌, if◌then◌else◌}
+use Rattle.std.proofs.Common.{◌≡◌, ◌≢◌, ℕ, refl, sym, ◌∙◌, ap, subst, Bool, true, false, inl, inr, List, Option, Some, None, arith}
+use Rattle.std.specs.Prelude.{◌⊎◌, not, ◌||◌}
 use Rattle.std.specs.FinMap.{insert}
-use Rattle.std.proofs.lemmas.Bool.{both_ways, cases_Bool, eqb-true, eq-eqb, or_cases}
-use Rattle.std.proofs.lemmas.Option.{same_Some}
+use Rattle.std.proofs.lemmas.Bool.{both_ways, eqb-true, eq-eqb, or_cases}
 use Rattle.ds_base.specs.declared.names.PageId.{PageId}
 use Rattle.ds_disk.specs.Contents.{Contents}
 use Rattle.cache_structure.specs.Directory.{Directory, after_castout_done, after_castout_read, castout_of}
@@ -33,7 +32,7 @@ use Rattle.page_protocol.specs.Page.{put}
 use Rattle.page_protocol.specs.Moves.{World}
 use Rattle.page_world.specs.Numbers.{page_number}
 use Rattle.page_world.specs.Holdings.{Holdings}
-use Rattle.page_intents.specs.Castouts.{HasCast, cast_behind, taken_cast}
+use Rattle.page_intents.specs.Castouts.{cast_behind, taken_cast}
 use Rattle.page_events.specs.Beside.{Leads}
 use Rattle.page_events.proofs.Facts.{Facts}
 use Rattle.page_events.proofs.Made.{KeepsStandings, Now, cast_left, cast_stays, made, others_cast, standings_same}

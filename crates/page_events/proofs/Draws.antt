@@ -9,7 +9,6 @@ use Rattle.ds_model.specs.declared.fate.Refusal.TheVariants as refusal
 use Rattle.cache_structure.specs.Directory.{bit}
 use Rattle.cache_structure.specs.Sound.{IsSound}
 use Rattle.facility.specs.declared.command.Command.TheVariants as command
-use Rattle.facility.specs.declared.command.Indexes.{Indexes}
 use Rattle.facility.specs.declared.command.Reply.{Reply}
 use Rattle.facility.specs.declared.command.Reply.TheVariants as reply
 use Rattle.facility.specs.Counting.{DrawsNumber, DrawsUndo, counter_after, draw_reply, drawn as number_drawn, drawn_to, first_stale, given, limit}
@@ -31,12 +30,11 @@ use Rattle.member_needs.specs.Records.{change_page, frame_of, indexes_of}
 use Rattle.member_effects.specs.Kept.{Kept}
 use Rattle.member_effects.specs.Changes.{committed_after, drawn_after, undone_after, with_marks as kept_with}
 use Rattle.member_effects.specs.declared.told.Told.{Told}
-use Rattle.needs_law.specs.Lawful.{Changes, Commits, HoldsNth, HoldsPage, HoldsPages, Undoes}
+use Rattle.needs_law.specs.Lawful.{Changes, Commits, HoldsNth, HoldsPage, Undoes}
 use Rattle.member_resources.specs.Held.{Held, with_marks}
 use Rattle.member_resources.specs.Settled.{drawn, kept_of, undone, with_kept}
 use Rattle.member_resources.specs.Events as event
 use Rattle.member_resources.specs.Events.{Drive, RunsCommand}
-use Rattle.page_protocol.specs.Page.{put}
 use Rattle.page_protocol.specs.Moves.{World}
 use Rattle.page_world.specs.Draws.{content_behind}
 use Rattle.page_world.specs.Holdings.{Holdings, KeepsPages}
@@ -46,7 +44,7 @@ use Rattle.page_intents.specs.Owners.{LeavesPages}
 use Rattle.page_events.specs.Beside.{Leads, SameOthers}
 use Rattle.page_events.specs.Events.{IsRecorded}
 use Rattle.page_events.proofs.Facts.{Facts}
-use Rattle.page_events.proofs.Made.{KeepsStandings, Now, Stays, behind_leads, made, put_other, stay_leads}
+use Rattle.page_events.proofs.Made.{KeepsStandings, Now, behind_leads, made, put_other, stay_leads}
 use Rattle.page_events.proofs.Calls.{same_standings}
 use Rattle.page_events.proofs.Frames.{drive_on}
 use Rattle.page_events.proofs.Quiet.{keeps_itself}

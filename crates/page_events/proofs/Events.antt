@@ -1,6 +1,6 @@
 -- Any event, by its intent: what is run and settled, and then the policy's local moves.
 use Rattle.std.proofs.Common.{◌≡◌, ◌≢◌, ℕ, refl, sym, ◌∙◌, ap, subst, Bool, true, false, inr, List, [], ◌∷◌, Result, Ok, Err}
-use Rattle.std.specs.Prelude.{◌==◌, if◌then◌else◌}
+use Rattle.std.specs.Prelude.{◌==◌}
 use Rattle.std.proofs.lemmas.Bool.{cond-false, cond-true}
 use Rattle.ds_model.specs.declared.lock.Name.{Name}
 use Rattle.lock_names.specs.declared.mode.Mode.{Mode}
@@ -32,13 +32,13 @@ use Rattle.member_effects.specs.declared.told.Told.{Told}
 use Rattle.needs_law.specs.Lawful.{Lawful, Releases, WritesCast, EndsCast, EndsTran, Purges}
 use Rattle.member_resources.specs.declared.prepared.Prepared.{Prepared}
 use Rattle.member_resources.specs.Events as event
-use Rattle.member_resources.specs.Events.{Drive, Happens, Runs, RunsCommand, holder_in}
+use Rattle.member_resources.specs.Events.{Drive, Runs, RunsCommand, holder_in}
 use Rattle.member_resources.specs.Held.{Held, begun, with_marks, with_spare}
 use Rattle.member_resources.specs.Prepared.{Reserves, is_holder, needed, setting_of, with_change_room}
 use Rattle.page_protocol.specs.Moves.{World}
 use Rattle.page_world.specs.Holdings.{Holdings, KeepsPages}
 use Rattle.page_intents.specs.Owners.{LeavesPages}
-use Rattle.page_events.specs.Beside.{Beside, Leads, SameOthers}
+use Rattle.page_events.specs.Beside.{Leads, SameOthers}
 use Rattle.page_events.specs.Events.{EventGoes, IsRecorded, Supplied, ToldGoes}
 use Rattle.page_events.specs.Quiet.{leaves_pages}
 use Rattle.page_events.proofs.Facts.{Facts}

@@ -1,11 +1,9 @@
 -- Commands about frames: a page is read, tested and written, and a frame is made free.
 use Rattle.std.proofs.Common.{◌≡◌, ℕ, zero, suc, ◌<◌, refl, sym, ◌∙◌, ap, subst, Bool, true, false, List, [], ◌∷◌, length, slice_set, Option, arith}
-use Rattle.std.specs.Prelude.{if◌then◌else◌, nat_lt, slice_index_or}
+use Rattle.std.specs.Prelude.{nat_lt, slice_index_or}
 use Rattle.std.proofs.lemmas.Bool.{both_ways, cond-true, cond-false, lt-ltb}
-use Rattle.ds_base.specs.declared.names.PageId.{PageId}
 use Rattle.cache_structure.specs.Directory.{Directory, after_read, after_unregister, after_write}
 use Rattle.cache_structure.specs.Sound.{IsSound}
-use Rattle.facility.specs.declared.command.Command.{Command}
 use Rattle.facility.specs.declared.command.Command.TheVariants as command
 use Rattle.facility.specs.States.{Held as Facility}
 use Rattle.member_intents.specs.declared.intent.Intent.TheVariants as intent

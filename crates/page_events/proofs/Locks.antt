@@ -15,7 +15,6 @@ use Rattle.lock_manager.specs.Managers.{claims_of, page_told}
 use Rattle.cache_structure.specs.Directory.{after_lose}
 use Rattle.cache_structure.specs.Sound.{IsSound}
 use Rattle.list_structure.specs.declared.query.Cell.{Cell}
-use Rattle.list_structure.specs.declared.query.CellAnswer.{CellAnswer}
 use Rattle.list_structure.specs.declared.query.CellAnswer.TheVariants as cell
 use Rattle.facility.specs.declared.command.Command.{Command}
 use Rattle.facility.specs.declared.command.Command.TheVariants as command

@@ -1,6 +1,6 @@
 -- What an event leads to, from its moves: all else of the group, and events one after the other.
-use Rattle.std.proofs.Common.{◌≡◌, ◌≢◌, ℕ, ◌≤◌, refl, sym, ◌∙◌, ap, subst, Bool, true, false, List, [], ◌∷◌, ◌++◌, Option, Some, None, arith}
-use Rattle.std.specs.Prelude.{◌==◌, if◌then◌else◌}
+use Rattle.std.proofs.Common.{◌≡◌, ◌≢◌, ℕ, ◌≤◌, refl, sym, ◌∙◌, ap, subst, List, [], ◌∷◌, ◌++◌, Option, arith}
+use Rattle.std.specs.Prelude.{◌==◌}
 use Rattle.std.proofs.lemmas.Bool.{cond-true, cond-false, eq-eqb, ne_eqb}
 use Rattle.cache_structure.specs.Sound.{IsSound}
 use Rattle.list_structure.specs.Standings.{status_of}
@@ -17,12 +17,12 @@ use Rattle.page_protocol.specs.Moves.{World, Move, Run}
 use Rattle.page_protocol.specs.Page.{put}
 use Rattle.page_protocol.specs.Always.{AlwaysGood}
 use Rattle.page_world.specs.Numbers.{set_of}
-use Rattle.page_world.specs.Holdings.{Cast, Holdings, KeepsPages, with_facility}
+use Rattle.page_world.specs.Holdings.{Holdings, KeepsPages, with_facility}
 use Rattle.page_intents.specs.Stands.{AreBehind, copy_of, behind, Goes}
 use Rattle.page_intents.specs.Frames.{Begins}
 use Rattle.page_intents.specs.Castouts.{cast_of, cast_behind, HasCast}
 use Rattle.page_intents.specs.Owners.{LeavesPages}
-use Rattle.page_events.specs.Beside.{Shows, Beside, SameOthers, OthersStayUp, Leads}
+use Rattle.page_events.specs.Beside.{Shows, SameOthers, OthersStayUp, Leads}
 use Rattle.page_events.proofs.Facts.{Facts}
 
 -- where the facility is what the group holds of it

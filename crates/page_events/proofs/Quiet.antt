@@ -1,6 +1,5 @@
 -- Commands that change nothing that pages know of.
-use Rattle.std.proofs.Common.{◌≡◌, ℕ, refl, sym, ap, subst, Bool, true, false, List}
-use Rattle.std.specs.Prelude.{if◌then◌else◌}
+use Rattle.std.proofs.Common.{◌≡◌, ℕ, refl, sym, subst}
 use Rattle.std.proofs.lemmas.Bool.{cond_both}
 use Rattle.ds_model.specs.declared.lock.Name.{Name}
 use Rattle.lock_names.specs.declared.mode.Mode.{Mode}
@@ -9,15 +8,13 @@ use Rattle.list_structure.specs.declared.query.CellAnswer.{CellAnswer}
 use Rattle.list_structure.specs.declared.wait.Wait.{Wait}
 use Rattle.list_structure.specs.States.{ListsState, is_settled}
 use Rattle.list_structure.specs.Waits.{wait_for, with_wait}
-use Rattle.facility.specs.declared.command.Command.{Command}
 use Rattle.facility.specs.declared.command.Command.TheVariants as command
 use Rattle.facility.specs.declared.command.Reply.{Reply}
 use Rattle.facility.specs.declared.command.Reply.TheVariants as reply
-use Rattle.facility.specs.Commands.{Executes}
 use Rattle.facility.specs.ListCommands.{AnswersQuery, waiting}
 use Rattle.facility.specs.States.{Held, ring}
 use Rattle.page_world.specs.Holdings.{KeepsPages}
-use Rattle.page_events.specs.Quiet.{CommandsLeave, leaves_pages}
+use Rattle.page_events.specs.Quiet.{CommandsLeave}
 
 -- what is left is this, which keeps what pages know of
 keeps_as : (f g x : Held) → g ≡ x → KeepsPages f x → KeepsPages f g

@@ -1,12 +1,12 @@
 -- What follows from the tests of an event and its plan: that a record of the system and a Commit have room.
-use Rattle.std.proofs.Common.{◌≡◌, ◌≢◌, ℕ, refl, sym, ◌∙◌, ap, subst, Bool, true, false, List, Option, Some, None, Result, Ok, Err, arith, length}
+use Rattle.std.proofs.Common.{◌≡◌, ◌≢◌, ℕ, refl, sym, ap, subst, Bool, true, false, List, Option, Some, None, Result, Ok, Err}
 use Rattle.std.specs.Prelude.{◌==◌, ◌&&◌, not, nat_le, if◌then◌else◌}
 use Rattle.std.proofs.lemmas.Bool.{and_from, ne_eqb}
 use Rattle.ds_base.specs.declared.names.PageId.{PageId}
 use Rattle.ds_base.specs.declared.names.Place.{Place}
 use Rattle.ds_base.specs.Pages.{heap_page}
 use Rattle.ds_model.specs.declared.log.Body.TheVariants as body
-use Rattle.ds_model.specs.RecordBytes.{length_of, record_bytes}
+use Rattle.ds_model.specs.RecordBytes.{length_of}
 use Rattle.log_record.proofs.Records.{whole_length}
 use Rattle.page_format.specs.declared.patch.Patch.{Patch}
 use Rattle.page_plans.specs.declared.action.Action.{Action}
@@ -26,7 +26,7 @@ use Rattle.member_marks.specs.Records.{commit_record, fits_in, may_commit}
 use Rattle.member_needs.specs.declared.plans.Plan.{Plan}
 use Rattle.member_needs.specs.declared.plans.Plan.TheVariants as plan
 use Rattle.member_needs.specs.Plans.{change_plan, row_or_fault, row_with, system_with}
-use Rattle.member_needs.specs.Records.{page_of, row_change_bytes, short_bytes}
+use Rattle.member_needs.specs.Records.{page_of, row_change_bytes}
 use Rattle.member_effects.specs.Changes.{system_record}
 use Rattle.needs_law.specs.Lawful.{Commits}
 use Rattle.page_intents.specs.Draws.{IsPut}

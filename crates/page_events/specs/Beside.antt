@@ -1,5 +1,7 @@
 -- A member that is up in its good world of pages, beside the disk and what the group holds.
-use Rattle.std.specs.Prelude.{◌≡◌, ◌≢◌, ℕ, ◌≤◌, List, Option, Some}
+use Rattle.std.specs.Prelude.{◌≡◌, ◌≢◌, ℕ, ◌≤◌, List, Some}
+use Rattle.std.specs.FinMap.{insert}
+use Rattle.ds_base.specs.declared.names.PageId.{PageId}
 use Rattle.ds_disk.specs.Contents.{Contents}
 use Rattle.ds_disk.specs.Pages as disk
 use Rattle.list_structure.specs.Standings.{status_of}
@@ -7,8 +9,9 @@ use Rattle.member_resources.specs.Held.{Held}
 use Rattle.member_resources.specs.Settled.{kept_of}
 use Rattle.member_resources.specs.Events as event
 use Rattle.member_resources.specs.Events.{Drive}
+use Rattle.page_protocol.specs.Page.{put}
 use Rattle.page_protocol.specs.Moves.{World, Move, Run}
-use Rattle.page_world.specs.Numbers.{page_at, set_of}
+use Rattle.page_world.specs.Numbers.{page_at, page_number, set_of}
 use Rattle.page_world.specs.Holdings.{Holdings}
 use Rattle.page_intents.specs.Stands.{IsUp}
 use Rattle.page_intents.specs.Frames.{Begins}
@@ -19,6 +22,10 @@ pub record Shows (drive : Drive) (pages : ℕ → List ℕ) : Type 0 where
   pub contents : Contents
   pub told : drive.contents ≡ Some contents
   pub each : (n : ℕ) → disk.page_at contents.pages (page_at n) ≡ pages n
+
+-- so it does behind a page that was written there
+abbrev pub WritesShow : Type 0
+WritesShow = (d e : Drive) (pages : ℕ → List ℕ) (s : Shows d pages) (x : Contents) (id : PageId) (bytes : List ℕ) → e.contents ≡ Some x → x.pages ≡ insert s.contents.pages id bytes → Shows e (put pages (page_number id) bytes)
 
 -- what the group holds is what is there, and of this member what it has
 pub record Beside (w : World) (u : event.World) (g : Holdings) (content : ℕ → ℕ → List ℕ) (forced : ℕ → ℕ) (h : Held) : Type 0 where

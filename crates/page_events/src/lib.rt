@@ -4,7 +4,7 @@
 //! The crate has definitions and proofs alone. Its functions do nothing: their contracts are the theorems.
 #![tactic(auto)]
 
-ghost use Rattle.page_events.specs.Beside.{OthersStayUp};
+ghost use Rattle.page_events.specs.Beside.{OthersStayUp, WritesShow};
 ghost use Rattle.page_events.specs.Events.{EventGoes, ToldGoes};
 ghost use Rattle.page_events.specs.Quiet.{CommandsLeave};
 
@@ -53,3 +53,10 @@ pub fn others_stay_up()
 pub fn commands_leave()
     ensures { CommandsLeave }
 {}
+
+/// A disk that tells its pages tells them behind the write of one.
+pub fn writes_show()
+    ensures { WritesShow }
+{
+    pages_have_numbers();
+}

@@ -1,5 +1,5 @@
 -- A group whose members are up, or hold nothing, beside its good world of pages; and events of its members.
-use Rattle.std.specs.Prelude.{◌≡◌, ℕ, ◌≤◌, ◌==◌, ◌&&◌, nat_le, Bool, true, false, if◌then◌else◌, List, None}
+use Rattle.std.specs.Prelude.{◌≡◌, ℕ, ◌≤◌, ◌&&◌, nat_le, Bool, true, false, List, None}
 use Rattle.ds_base.specs.declared.names.Sizes.{Sizes}
 use Rattle.facility.specs.States.{Held as Facility, IsMade, MemberFailed}
 use Rattle.member_intents.specs.declared.intent.Intent.{Intent}
@@ -12,12 +12,12 @@ use Rattle.member_resources.specs.Events.{Ends, Happens}
 use Rattle.page_protocol.specs.Page.{put}
 use Rattle.page_protocol.specs.Moves.{World, Move, Run, start}
 use Rattle.page_world.specs.Numbers.{set_of}
-use Rattle.page_world.specs.Holdings.{Holdings, no_cast, no_copy}
+use Rattle.page_world.specs.Holdings.{Holdings, no_cast, no_copy, with_facility}
+use Rattle.page_world.specs.Failing.{without}
 use Rattle.page_intents.specs.Stands.{IsUp}
 use Rattle.page_intents.specs.Castouts.{HasCast}
-use Rattle.page_events.specs.Beside.{Shows}
-use Rattle.page_events.specs.Events.{Supplied}
-use Rattle.page_members.specs.Members.{Group}
+-- given out again: a member beside its group, any event of it, and the failure of a member
+pub use Rattle.page_members.specs.Members.{Beside, EventGoes, FailuresGo, Group, GroupGoes, IsRecorded, Leads, SameOthers, Shows, Supplied, ToldGoes, page_named, page_taken}
 
 -- by member: whether it is up, and what it holds
 pub record GroupStands (w : World) (u : event.World) (g : Holdings) (content : ℕ → ℕ → List ℕ) (forced : ℕ → ℕ) (up : ℕ → Bool) (hs : ℕ → Held) : Type 0 where
@@ -28,6 +28,22 @@ pub record GroupStands (w : World) (u : event.World) (g : Holdings) (content : �
   pub named : (m : ℕ) → up m ≡ true → (hs m).marks.member ≡ m
   pub each : (m : ℕ) → up m ≡ true → IsUp g forced (kept_of (hs m))
   pub casts : (m : ℕ) → up m ≡ true → HasCast g (hs m).marks.member (hs m).cast (hs m).buffer
+
+-- so each member that is up stands beside the group
+abbrev pub EachIsBeside : Type 0
+EachIsBeside = (w : World) (u : event.World) (g : Holdings) (content : ℕ → ℕ → List ℕ) (forced : ℕ → ℕ) (up : ℕ → Bool) (hs : ℕ → Held) (m : ℕ)
+    → GroupStands w u g content forced up hs → up m ≡ true → Beside w u g content forced (hs m)
+
+-- where an event of one of them leads, the whole group stands
+abbrev pub LeadsStand : Type 0
+LeadsStand = (w : World) (u v : event.World) (g : Holdings) (content : ℕ → ℕ → List ℕ) (forced : ℕ → ℕ) (up : ℕ → Bool) (hs : ℕ → Held) (m : ℕ) (k : Held)
+    → GroupStands w u g content forced up hs → up m ≡ true → (a : Leads w v g content forced (hs m) k) → GroupStands a.world v a.left a.versions a.force up (put hs m k)
+
+-- and where the failure of a member does
+abbrev pub FailsStand : Type 0
+FailsStand = (w : World) (u v : event.World) (g : Holdings) (content : ℕ → ℕ → List ℕ) (forced : ℕ → ℕ) (up : ℕ → Bool) (hs : ℕ → Held) (m : ℕ)
+    → GroupStands w u g content forced up hs → v.drive ≡ u.drive → (a : GroupGoes w g (with_facility (without g m) v.facility) content forced m)
+    → GroupStands a.world v (with_facility (without g m) v.facility) content forced (put up m false) hs
 
 -- moves lead to a good world beside what is left
 pub record GroupLeads (w : World) (v : event.World) (up : ℕ → Bool) (hs : ℕ → Held) : Type 0 where
@@ -59,17 +75,26 @@ MembersFail = (w : World) (u v : event.World) (g : Holdings) (content : ℕ → 
 abbrev pub among : ℕ → ℕ → Bool
 among members m = nat_le 1 m && nat_le m members
 
--- what a group holds as it is made
-abbrev pub made : Facility → (ℕ → List ℕ) → Holdings
-made f pages = record {
+-- what a group holds as it is made, over a disk with these pages, where so many records stand in the logs
+abbrev pub made_over : Facility → (ℕ → List ℕ) → (ℕ → ℕ) → Holdings
+made_over f pages stable = record {
   facility = f;
   disk = pages;
-  stable = λ m. 0;
-  written = λ m. 0;
+  stable = stable;
+  written = stable;
   copies = λ m n. no_copy;
   casts = λ m n. no_cast;
   owner = λ n. None;
 }
+
+abbrev pub made : Facility → (ℕ → List ℕ) → Holdings
+made f pages = made_over f pages (λ m. 0)
+
+-- each of its members is up, and casts out nothing
+abbrev pub MembersBegin : Type 0
+MembersBegin = (f : Facility) (pages : ℕ → List ℕ) (stable : ℕ → ℕ) (counter : ℕ) (sizes : Sizes) (m : ℕ) (h : Held)
+    → IsMade sizes counter f → sizes.members ≤ 32 → among sizes.members m ≡ true → IsNew m sizes h
+    → IsUp (made_over f pages stable) (λ k. 0) (kept_of h) × HasCast (made_over f pages stable) h.marks.member h.cast h.buffer
 
 -- over a disk with these pages, and empty logs: no number was drawn yet
 abbrev pub GroupsStart : Type 0

@@ -1,6 +1,6 @@
 -- A member that fails: the numbers of what is left, and all else of the others.
 use Rattle.std.proofs.Common.{◌≡◌, ◌≢◌, ℕ, ◌<◌, ◌≤◌, refl, sym, ap, subst, ◌∙◌, false, List, [], ◌∷◌, arith, slice_set}
-use Rattle.std.specs.Prelude.{◌-◌, ◌==◌, if◌then◌else◌, slice_index_or}
+use Rattle.std.specs.Prelude.{◌-◌, ◌==◌}
 use Rattle.std.proofs.lemmas.Bool.{cond-false, ne_eqb}
 use Rattle.std.proofs.lemmas.List.{get_or-set_other}
 use Rattle.cache_structure.specs.Directory.{Directory, after_fail}
@@ -10,7 +10,7 @@ use Rattle.list_structure.specs.declared.standing.MemberStatus.TheVariants as st
 use Rattle.list_structure.specs.States.{ListsState}
 use Rattle.list_structure.specs.Standings.{status_of}
 use Rattle.facility.specs.States.{Held, MemberFailed}
-use Rattle.page_protocol.specs.Page.{put, fail}
+use Rattle.page_protocol.specs.Page.{fail}
 use Rattle.page_protocol.specs.Moves.{World, Fail, IsCut, failed}
 use Rattle.page_protocol.specs.Always.{AlwaysGood}
 use Rattle.page_world.specs.Numbers.{set_of}

@@ -1,5 +1,5 @@
 -- A member whose restart begins, and ends.
-use Rattle.std.proofs.Common.{◌≡◌, ◌≢◌, ℕ, ◌≤◌, refl, sym, ap, subst, ◌∙◌, false, List, [], ◌∷◌, arith}
+use Rattle.std.proofs.Common.{ℕ, refl, sym, subst, ◌∙◌, false, List, [], ◌∷◌, arith}
 use Rattle.cache_structure.specs.Sound.{IsSound}
 use Rattle.list_structure.specs.declared.standing.MemberStatus.{MemberStatus}
 use Rattle.facility.specs.States.{Held}

@@ -11,7 +11,10 @@ use Rattle.page_world.specs.Holdings.{Holdings, StandsAs, with_facility}
 use Rattle.page_world.specs.Failing.{without}
 use Rattle.page_world.specs.Tied.{Tied}
 use Rattle.page_intents.specs.Numbers.{AreNumbered}
-use Rattle.page_events.specs.Beside.{SameOthers}
+-- given out again: a member beside its group, and any event of it
+pub use Rattle.page_events.specs.Beside.{Beside, Leads, OthersStayUp, SameOthers, Shows, WritesShow}
+pub use Rattle.page_events.specs.Events.{EventGoes, IsRecorded, Supplied, ToldGoes, page_named, page_taken}
+pub use Rattle.page_events.specs.Quiet.{CommandsLeave, leaves_pages}
 
 -- a good world that stands beside a group, whose versions show their numbers
 pub record Group (w : World) (g : Holdings) (content : ℕ → ℕ → List ℕ) (forced : ℕ → ℕ) : Type 0 where

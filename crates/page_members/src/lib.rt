@@ -6,6 +6,7 @@
 ghost use Rattle.page_members.specs.Members.{FailuresGo, OpensGo, RestartsGo};
 
 use cache_structure::keeps_entries_apart;
+pub use page_events::{commands_leave, events_go, others_stay_up, writes_show};
 use page_protocol::coherent_pages;
 use page_world::failures_are_moves;
 

@@ -1,9 +1,8 @@
 -- A change of a row, and one that takes it back, leave their number in the page.
-use Rattle.std.proofs.Common.{◌≡◌, ℕ, ◌^◌, ◌<◌, refl, sym, ap, subst, ◌∙◌, Bool, true, false, List, [], length, Option, Some, None, slice_set}
-use Rattle.std.specs.Prelude.{◌==◌, if◌then◌else◌, nat_lt}
+use Rattle.std.proofs.Common.{◌≡◌, ℕ, ◌^◌, ◌<◌, ap, subst, ◌∙◌, true, List, [], length, Option, Some, None, slice_set}
+use Rattle.std.specs.Prelude.{nat_lt}
 use Rattle.std.proofs.lemmas.Bool.{cond-true, eqb-true, lt-ltb}
 use Rattle.std.proofs.lemmas.List.{get_or-set_same}
-use Rattle.ds_base.specs.declared.names.PageId.{PageId}
 use Rattle.ds_model.specs.declared.log.RowChange.{RowChange}
 use Rattle.page_format.specs.Fields.{lrsn_of}
 use Rattle.page_format.specs.Header.{slots_per_page}

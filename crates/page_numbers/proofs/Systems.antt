@@ -1,12 +1,9 @@
 -- A change of the system leaves its number in each of its pages.
-use Rattle.std.proofs.Common.{◌≡◌, ◌≢◌, ℕ, zero, suc, ◌^◌, ◌<◌, refl, sym, ap, subst, ◌∙◌, Bool, true, false, inl, inr, List, [], ◌∷◌, length, Option, Some, None, slice_set}
-use Rattle.std.specs.Prelude.{◌⊎◌, ◌||◌, ◌==◌, if◌then◌else◌, nat_lt}
-use Rattle.std.specs.List.{list_any}
+use Rattle.std.proofs.Common.{◌≡◌, ℕ, zero, suc, ◌^◌, ◌<◌, refl, sym, ap, subst, ◌∙◌, Bool, true, false, inl, inr, List, [], ◌∷◌, length, Option, Some, None, slice_set}
+use Rattle.std.specs.Prelude.{◌⊎◌, ◌||◌, nat_lt}
 use Rattle.std.proofs.lemmas.Bool.{cases_eq, cond-false, cond-true, cond_both, lt-ltb, ltb-true, or_cases}
 use Rattle.std.proofs.lemmas.List.{get_or-set_other, length-set}
-use Rattle.std.proofs.lemmas.Option.{same_Some}
 use Rattle.ds_base.specs.declared.names.PageId.{PageId}
-use Rattle.ds_base.specs.Pages.{same_page}
 use Rattle.page_format.specs.declared.patch.Patch.{Patch}
 use Rattle.page_format.specs.Fields.{lrsn_of, page_size}
 use Rattle.heap_space.specs.Written.{written}
@@ -15,13 +12,12 @@ use Rattle.write_order.specs.Ranks.{rank_of}
 use Rattle.member_pool.specs.declared.frame.Frame.{Frame}
 use Rattle.member_pool.specs.Frames.{frame_at}
 use Rattle.member_pool.specs.Heads.{HeadState, marked, with_head}
-use Rattle.member_intents.specs.declared.intent.Frames.{Frames}
 use Rattle.member_marks.specs.State.{MarksState, with_heads}
 use Rattle.member_marks.specs.Frames.{after_marked, frame_in, is_placed}
 use Rattle.member_needs.specs.Records.{frame_of}
 use Rattle.member_effects.specs.Kept.{Kept}
-use Rattle.member_effects.specs.Changes.{bytes_at, patched_frame, patched_nth, patched_page, put_page}
-use Rattle.page_intents.specs.Draws.{in_frames, is_frame}
+use Rattle.member_effects.specs.Changes.{bytes_at, patched_nth, patched_page, put_page}
+use Rattle.page_intents.specs.Draws.{is_frame}
 use Rattle.page_numbers.specs.Numbers.{HasPage, IsPatched, LieWithin, PatchesShow}
 use Rattle.page_numbers.proofs.Rows.{framed, set_at}
 use Rattle.page_numbers.proofs.Stamps.{Laws, written_shows, written_whole}

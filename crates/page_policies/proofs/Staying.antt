@@ -1,6 +1,6 @@
 -- Locks and ends of transactions leave the member's page claims, and so do all local moves.
 use Rattle.std.proofs.Common.{◌≡◌, ◌≢◌, ℕ, zero, suc, ◌+◌, refl, sym, ap, subst, ◌∙◌, Bool, true, false, inl, inr, List, [], ◌∷◌, ◌++◌, Option, Some, None, arith, slice_set}
-use Rattle.std.specs.Prelude.{◌==◌, ◌&&◌, not, nat_lt, nat_le, remove, if◌then◌else◌, is_some, slice_index_or}
+use Rattle.std.specs.Prelude.{◌==◌, ◌&&◌, not, nat_lt, nat_le, remove, if◌then◌else◌, is_none, is_some, slice_index_or}
 use Rattle.std.proofs.lemmas.Bool.{and_parts, cases_eq, cond-true, cond-false, eq-eqb, ne_eqb}
 use Rattle.std.proofs.lemmas.List.{get_or-set_other}
 use Rattle.ds_base.specs.declared.names.PageId.{PageId}
@@ -11,15 +11,16 @@ use Rattle.lock_manager.specs.declared.claim.Ask.{Ask}
 use Rattle.lock_manager.specs.declared.claim.Ask.TheVariants as ask
 use Rattle.lock_manager.specs.declared.claim.Claim.{Claim}
 use Rattle.lock_manager.specs.Claims.{mode_in}
-use Rattle.lock_manager.specs.Managers.{Book, slots, claims_of, ask_of, given, with_claims, after_release, release_told, ended, after_release_at, after_postponed_release, dropped, is_postponed}
+use Rattle.lock_manager.specs.Managers.{Book, slots, claims_of, ask_of, given, with_claims, after_release, release_told, ended, after_postponed_release, dropped, is_postponed}
 use Rattle.facility.specs.States.{Held}
-use Rattle.member_pool.specs.Heads.{HeadState}
-use Rattle.member_log.specs.Buffers.{LogBuffer}
+use Rattle.member_pool.specs.Frames.{find_page, is_unpinned}
+use Rattle.member_pool.specs.Heads.{HeadState, free_in, head_of, placed_in}
 use Rattle.member_trans.specs.declared.fate.Owner.{Owner}
 use Rattle.member_trans.specs.declared.fate.Owner.TheVariants as owner
 use Rattle.member_trans.specs.Trans.{may_begin, is_forward, may_postpone as may_postpone_tran}
-use Rattle.member_marks.specs.State.{MarksState, agents_of, slot_tran, with_trans, with_locks}
-use Rattle.member_marks.specs.Claims.{is_agent, is_for_agents, may_claim, has_page, has_spare, entered_as, entered, after_enter, slot_released, rollback_releasing, rollback_released, after_release_of, slot_over, after_end_of, lock_place, noted_released, offered_memory}
+use Rattle.member_marks.specs.State.{MarksState, agents_of, slot_tran, with_heads, with_trans, with_locks}
+use Rattle.member_marks.specs.Claims.{is_agent, is_for_agents, may_claim, has_spare, entered_as, entered, after_enter, slot_released, rollback_releasing, after_release_of, slot_over, after_end_of, lock_place, noted_released, offered_memory}
+use Rattle.member_marks.specs.Frames.{placed_at, after_place, may_pin, after_pin, may_unpin, after_unpin}
 use Rattle.member_marks.specs.Local.{Local, Claim as TryClaim, Begin, Refuse, Abort, RefuseForMemory, Place, Pin, Unpin, Postpone, WaitFor, moved, all_moved, Reaches, tried_as, entered_at_home, after_claim, after_begin, with_lock_room, begun_with}
 use Rattle.member_marks.specs.Rollbacks.{can_postpone, postponed_for_member, after_postpone, waiting_for, after_wait, retainer}
 use Rattle.member_effects.specs.Kept.{Kept}
@@ -28,12 +29,11 @@ use Rattle.page_protocol.specs.Moves.{World, Move, Run}
 use Rattle.page_protocol.specs.Always.{AlwaysGood}
 use Rattle.page_world.specs.Numbers.{set_of}
 use Rattle.page_world.specs.Holdings.{Copy, Holdings, with_facility}
-use Rattle.page_world.specs.Tied.{Moved}
-use Rattle.page_intents.specs.Stands.{copy_of, IsUp, behind, Goes}
+use Rattle.page_intents.specs.Stands.{copy_of, behind, Goes}
 use Rattle.page_intents.specs.Frames.{Begins}
 use Rattle.page_intents.specs.Owners.{LeavesPages, StayGoes}
 use Rattle.page_intents.specs.Locals.{PinGoes, PlaceGoes, UnpinGoes}
-use Rattle.page_policies.specs.Locals.{TransLeavePages, LocalGoes, ReachesGoes}
+use Rattle.page_policies.specs.Locals.{OwnClaimsStay, TransLeavePages, LocalGoes, ReachesGoes}
 
 -- ---- the claims of the member itself
 record Own (s t : MarksState) : Type 0 where
@@ -176,27 +176,76 @@ still law w g content forced k t b o =
     whole : with_facility g g.facility ≡ behind g g.facility k.marks.member (with_marks k t)
     whole = λ i. record g { facility = g.facility; copies = λ p n. each p n i }
 
+claim_own : (s : MarksState) (slot : ℕ) (n : Name) (m : Mode) (has_memory : Bool) (spare : ℕ) → Own s (after_claim s slot n m s.trans.place has_memory spare)
+claim_own s slot n m has_memory spare =
+    if_so s (tried_as s slot n m s.trans.place has_memory spare (ask_of s.locks slot n m)) (may_claim s slot n)
+    (λ e. tried_own s slot n m s.trans.place has_memory spare (ask_of s.locks slot n m) (agent_slot s slot (is_forward (slot_tran s slot).stage && is_for_agents n) e))
+
+begin_own : (s : MarksState) (slot n : ℕ) (has_memory : Bool) (lock_room room : ℕ) → Own s (after_begin s slot n has_memory lock_room room)
+begin_own s slot n has_memory lock_room room =
+    if_so s (with_trans (with_lock_room s lock_room) (begun_with s.trans slot n has_memory room)) (may_begin s.trans slot) (λ e. record { member = refl; heads = refl; log = refl; claims = refl })
+
+postpone_own : (s : MarksState) (slot : ℕ) → Own s (after_postpone s slot)
+postpone_own s slot =
+    if_so s (postponed_for_member s slot (retainer s (owner.Slot slot))) (can_postpone s slot)
+    (λ e. postponed_own s slot (retainer s (owner.Slot slot)) (agent_slot s slot (may_postpone_tran s.trans slot && (nat_lt 0 s.locks.room && not (is_postponed s.locks (slot_tran s slot).first))) e))
+
+wait_own : (s : MarksState) (id : ℕ) → Own s (after_wait s id)
+wait_own s id = if_so s (waiting_for s id (retainer s (owner.Rollback id))) (is_postponed s.locks id) (λ e. waiting_own s id (retainer s (owner.Rollback id)))
+
 pub local_goes : PlaceGoes → PinGoes → UnpinGoes → StayGoes → LocalGoes
 local_goes place pin unpin law w g content forced k (TryClaim slot n m has_memory spare) b =
-    still law w g content forced k (after_claim k.marks slot n m k.marks.trans.place has_memory spare) b
-    (if_so k.marks (tried_as k.marks slot n m k.marks.trans.place has_memory spare (ask_of k.marks.locks slot n m)) (may_claim k.marks slot n)
-    (λ e. tried_own k.marks slot n m k.marks.trans.place has_memory spare (ask_of k.marks.locks slot n m) (agent_slot k.marks slot (is_forward (slot_tran k.marks slot).stage && is_for_agents n) e)))
+    still law w g content forced k (after_claim k.marks slot n m k.marks.trans.place has_memory spare) b (claim_own k.marks slot n m has_memory spare)
 local_goes place pin unpin law w g content forced k (Begin slot n has_memory lock_room room) b =
-    still law w g content forced k (after_begin k.marks slot n has_memory lock_room room) b
-    (if_so k.marks (with_trans (with_lock_room k.marks lock_room) (begun_with k.marks.trans slot n has_memory room)) (may_begin k.marks.trans slot) (λ e. record { member = refl; heads = refl; log = refl; claims = refl }))
+    still law w g content forced k (after_begin k.marks slot n has_memory lock_room room) b (begin_own k.marks slot n has_memory lock_room room)
 local_goes place pin unpin law w g content forced k (Refuse slot) b = still law w g content forced k (moved (Refuse slot) k.marks) b (record { member = refl; heads = refl; log = refl; claims = refl })
 local_goes place pin unpin law w g content forced k (Abort slot) b = still law w g content forced k (moved (Abort slot) k.marks) b (record { member = refl; heads = refl; log = refl; claims = refl })
 local_goes place pin unpin law w g content forced k (RefuseForMemory slot) b = still law w g content forced k (moved (RefuseForMemory slot) k.marks) b (record { member = refl; heads = refl; log = refl; claims = refl })
 local_goes place pin unpin law w g content forced k (Place p) b = place w g content forced k p b
 local_goes place pin unpin law w g content forced k (Pin at) b = pin w g content forced k at b
 local_goes place pin unpin law w g content forced k (Unpin at) b = unpin w g content forced k at b
-local_goes place pin unpin law w g content forced k (Postpone slot) b =
-    still law w g content forced k (after_postpone k.marks slot) b
-    (if_so k.marks (postponed_for_member k.marks slot (retainer k.marks (owner.Slot slot))) (can_postpone k.marks slot)
-    (λ e. postponed_own k.marks slot (retainer k.marks (owner.Slot slot)) (agent_slot k.marks slot (may_postpone_tran k.marks.trans slot && (nat_lt 0 k.marks.locks.room && not (is_postponed k.marks.locks (slot_tran k.marks slot).first))) e)))
-local_goes place pin unpin law w g content forced k (WaitFor id) b =
-    still law w g content forced k (after_wait k.marks id) b
-    (if_so k.marks (waiting_for k.marks id (retainer k.marks (owner.Rollback id))) (is_postponed k.marks.locks id) (λ e. waiting_own k.marks id (retainer k.marks (owner.Rollback id))))
+local_goes place pin unpin law w g content forced k (Postpone slot) b = still law w g content forced k (after_postpone k.marks slot) b (postpone_own k.marks slot)
+local_goes place pin unpin law w g content forced k (WaitFor id) b = still law w g content forced k (after_wait k.marks id) b (wait_own k.marks id)
+
+-- ---- the claims of the member itself behind local moves
+locks_if : (s t : MarksState) (b : Bool) → t.locks ≡ s.locks → (if b then t else s).locks ≡ s.locks
+locks_if s t true e = e
+locks_if s t false e = refl
+
+placed_locks : (s : MarksState) (p : PageId) (o : Option ℕ) → (placed_at s p o).locks ≡ s.locks
+placed_locks s p None = refl
+placed_locks s p (Some at) = locks_if s (with_heads s (placed_in s.heads at p)) (is_unpinned (head_of s.heads at)) refl
+
+own_of : (s t : MarksState) → t.locks ≡ s.locks → claims_of t.locks 0 ≡ claims_of s.locks 0
+own_of s t e = ap (λ (z : Book). claims_of z 0) e
+
+local_own : (x : Local) (s : MarksState) → claims_of (moved x s).locks 0 ≡ claims_of s.locks 0
+local_own (TryClaim slot n m has_memory spare) s = (claim_own s slot n m has_memory spare).claims
+local_own (Begin slot n has_memory lock_room room) s = (begin_own s slot n has_memory lock_room room).claims
+local_own (Refuse slot) s = refl
+local_own (Abort slot) s = refl
+local_own (RefuseForMemory slot) s = refl
+local_own (Place p) s = own_of s (after_place s p) (locks_if s (placed_at s p (free_in s.heads)) (is_none (find_page s.heads.frames p)) (placed_locks s p (free_in s.heads)))
+local_own (Pin at) s = own_of s (after_pin s at) (locks_if s _ (may_pin s.heads at) refl)
+local_own (Unpin at) s = own_of s (after_unpin s at) (locks_if s _ (may_unpin s.heads at) refl)
+local_own (Postpone slot) s = (postpone_own s slot).claims
+local_own (WaitFor id) s = (wait_own s id).claims
+
+all_own : (xs : List Local) (s : MarksState) → claims_of (all_moved xs s).locks 0 ≡ claims_of s.locks 0
+all_own [] s = refl
+all_own (x ∷ xs) s = all_own xs (moved x s) ∙ local_own x s
+
+reach_own : (s t : MarksState) → Reaches s t → claims_of t.locks 0 ≡ claims_of s.locks 0
+unfolding Reaches
+reach_own s t r = ap (λ (z : MarksState). claims_of z.locks 0) r.1 ∙ all_own r.0 s
+
+pub own_stay : OwnClaimsStay
+own_stay = record {
+  enters = λ s slot n m event. (enter_own s slot n m event).claims;
+  releases = λ s o. (released_own s o).claims;
+  ends = λ s o. (ended_own s o).claims;
+  reaches = reach_own;
+}
 
 -- ---- several
 run_on : (w mid v : World) (xs ys : List Move) → Run set_of w xs mid → Run set_of mid ys v → Run set_of w (xs ++ ys) v

@@ -3,6 +3,7 @@ use Rattle.std.specs.Prelude.{◌≡◌, ℕ, List}
 use Rattle.ds_model.specs.declared.lock.Name.{Name}
 use Rattle.ds_model.specs.declared.fate.Refusal.{Refusal}
 use Rattle.lock_names.specs.declared.mode.Mode.{Mode}
+use Rattle.lock_manager.specs.Managers.{claims_of}
 use Rattle.member_trans.specs.declared.fate.Owner.{Owner}
 use Rattle.member_marks.specs.State.{MarksState}
 use Rattle.member_marks.specs.Claims.{offered, after_enter, after_release_of, after_end_of}
@@ -21,6 +22,13 @@ pub record TransLeavePages : Type 0 where
   pub releases : (s : MarksState) (o : Owner) → LeavesPages s (after_release_of s o)
   pub ends : (s : MarksState) (o : Owner) → LeavesPages s (after_end_of s o)
   pub offers : (s : MarksState) (o : Owner) (r : Refusal) (place : ℕ) → LeavesPages s (offered s o r place)
+
+-- the claims of the member itself stay in all this, and in all that a policy reaches by local moves
+pub record OwnClaimsStay : Type 0 where
+  pub enters : (s : MarksState) (slot : ℕ) (n : Name) (m : Mode) (event : ℕ) → claims_of (after_enter s slot n m event).locks 0 ≡ claims_of s.locks 0
+  pub releases : (s : MarksState) (o : Owner) → claims_of (after_release_of s o).locks 0 ≡ claims_of s.locks 0
+  pub ends : (s : MarksState) (o : Owner) → claims_of (after_end_of s o).locks 0 ≡ claims_of s.locks 0
+  pub reaches : (s t : MarksState) → Reaches s t → claims_of t.locks 0 ≡ claims_of s.locks 0
 
 -- any local move, and all that a policy reaches by some of them
 abbrev pub LocalGoes : Type 0

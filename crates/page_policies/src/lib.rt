@@ -4,7 +4,7 @@
 //! The crate has definitions and proofs alone. Its functions do nothing: their contracts are the theorems.
 #![tactic(auto)]
 
-ghost use Rattle.page_policies.specs.Locals.{LocalGoes, ReachesGoes, TransLeavePages};
+ghost use Rattle.page_policies.specs.Locals.{LocalGoes, OwnClaimsStay, ReachesGoes, TransLeavePages};
 
 use page_intents::{locals_stay, others_stay};
 use page_protocol::coherent_pages;
@@ -22,4 +22,9 @@ pub fn policies_go()
 /// The locks of transactions, their ends and their refusals leave the frames, the log and the page claims of the member.
 pub fn transactions_leave()
     ensures { TransLeavePages }
+{}
+
+/// They leave the claims of the member itself, and so do all local moves.
+pub fn own_claims_stay()
+    ensures { OwnClaimsStay }
 {}

@@ -1,0 +1,136 @@
+-- The failure of a group, and the steps of its restart: the numbers that versions show.
+use Rattle.std.proofs.Common.{◌≡◌, ◌≢◌, ℕ, ◌+◌, ◌<◌, ◌≤◌, refl, sym, ◌∙◌, ap, subst, arith, Bool, true, inl, inr, List, [], ◌∷◌}
+use Rattle.std.specs.Prelude.{◌==◌, ◌&&◌, if◌then◌else◌}
+use Rattle.std.proofs.lemmas.Bool.{and_from, and_parts, cases_eq, cond-false, cond-true, eq-eqb, eqb-true, false_from_ne_true, ne_eqb}
+use Rattle.ds_disk.specs.Contents.{Contents}
+use Rattle.page_format.specs.Fields.{lrsn_of}
+use Rattle.page_protocol.specs.Page.{Page, all_fail, brought_forward, compensate, put}
+use Rattle.page_protocol.specs.Moves.{World, GroupFail, Forward, Compensate, Append, all_failed, longer}
+use Rattle.page_protocol.specs.Always.{AlwaysGood}
+use Rattle.page_world.specs.Groups.{AppendsMoves, CompensatesMoves, FallsAgain, FallsMoves, ForwardsMoves, Remains, content_with}
+use Rattle.page_world.specs.Numbers.{page_number, set_of}
+use Rattle.page_members.specs.Members.{Shows, WritesShow}
+use Rattle.page_groups.specs.Falls.{CompensationsGo, GroupsFall, GroupsFallAgain, PageGoes, PagesGo, RecordsGo, appended}
+
+abbrev IsShown : World → (ℕ → ℕ → List ℕ) → Type 0
+IsShown w content = (n i : ℕ) → i < (w.pages n).last → lrsn_of (content n (i + 1)) ≡ (w.pages n).lrsn i
+
+shown_as : (w v : World) (content : ℕ → ℕ → List ℕ) → w ≡ v → IsShown v content → IsShown w content
+shown_as w v content e s = subst (λ z. IsShown z content) (sym e) s
+
+-- ---- the group fails
+shown_cut : (w : World) (content : ℕ → ℕ → List ℕ) (cut : ℕ → ℕ) (counter : ℕ) → ((n : ℕ) → cut n ≤ (w.pages n).last) → IsShown w content
+    → IsShown (record { down = true; group = all_failed w.group counter; pages = λ n. all_fail (w.pages n) (cut n) }) content
+shown_cut w content cut counter short s n i l = (let most = short n in s n i (omega (arith, l, most)))
+
+pub falls : AlwaysGood → FallsMoves → GroupsFall
+falls good law w g content forced counter b drawn =
+    let it = law w g content counter b.good b.tied drawn in
+    let cut = it.0 in
+    let moved = it.1 in
+    record {
+      moves = GroupFail cut counter ∷ [];
+      world = moved.world;
+      run = moved.run;
+      fallen = record {
+        good = good set_of (GroupFail cut counter ∷ []) w moved.world b.good moved.run;
+        tied = moved.tied;
+        shown = shown_as moved.world _ content (moved.run.2 ∙ moved.run.1.2) (shown_cut w content cut counter (λ n. (moved.run.1.0 n).short) b.numbered.shown);
+      };
+    }
+
+pub falls_again : AlwaysGood → FallsAgain → GroupsFallAgain
+falls_again good law w r content counter b drawn =
+    let it = law w r content counter b.good b.tied drawn in
+    let cut = it.0 in
+    let moved = it.1 in
+    record {
+      moves = GroupFail cut counter ∷ [];
+      world = moved.world;
+      run = moved.run;
+      fallen = record {
+        good = good set_of (GroupFail cut counter ∷ []) w moved.world b.good moved.run;
+        tied = moved.tied;
+        shown = shown_as moved.world _ content (moved.run.2 ∙ moved.run.1.2) (shown_cut w content cut counter (λ n. (moved.run.1.0 n).short) b.shown);
+      };
+    }
+
+-- ---- one page changes
+abbrev PageShown : (ℕ → List ℕ) → Page → Type 0
+PageShown content p = (i : ℕ) → i < p.last → lrsn_of (content (i + 1)) ≡ p.lrsn i
+
+shown_put : (w : World) (content : ℕ → ℕ → List ℕ) (n : ℕ) (q : Page) → PageShown (content n) q → ((j : ℕ) → j ≢ n → PageShown (content j) (w.pages j)) → (j : ℕ) → PageShown (content j) (put w.pages n q j)
+shown_put w content n q here there j = elim (cases_eq j n) [
+  | inl e ↦ subst (PageShown (content j)) (sym (cond-true (j == n) q (w.pages j) (eq-eqb j n e))) (subst (λ z. PageShown (content z) q) (sym e) here)
+  | inr ne ↦ subst (PageShown (content j)) (sym (cond-false (j == n) q (w.pages j) (ne_eqb j n ne))) (there j ne)
+]
+
+pub pages_go : AlwaysGood → ForwardsMoves → WritesShow → PagesGo
+pages_go good law show d e w r content id bytes x b s told is led =
+    let n = page_number id in
+    let moved = law w r content n led.version b.tied led.later led.there in
+    subst (λ z. PageGoes w e (record r { disk = put r.disk n z }) content) (sym led.same)
+    (record {
+      falls = record {
+        moves = Forward n led.version ∷ [];
+        world = moved.world;
+        run = moved.run;
+        fallen = record {
+          good = good set_of (Forward n led.version ∷ []) w moved.world b.good moved.run;
+          tied = moved.tied;
+          shown = shown_as moved.world (record { down = true; group = w.group; pages = put w.pages n (brought_forward (w.pages n) led.version) }) content (moved.run.2 ∙ moved.run.1.3) (shown_put w content n (brought_forward (w.pages n) led.version) (b.shown n) (λ j ne. b.shown j));
+        };
+      };
+      drive = subst (λ z. Shows e (put r.disk n z)) led.same (show d e r.disk s x id bytes told is);
+    })
+
+-- ---- records
+pub records_go : AlwaysGood → AppendsMoves → RecordsGo
+records_go good law w r content m b =
+    let moved = law w r content m b.tied in
+    record {
+      moves = Append m ∷ [];
+      world = moved.world;
+      run = moved.run;
+      fallen = record {
+        good = good set_of (Append m ∷ []) w moved.world b.good moved.run;
+        tied = moved.tied;
+        shown = shown_as moved.world (record { down = true; group = longer w.group m; pages = w.pages }) content (moved.run.2 ∙ moved.run.1.1) b.shown;
+      };
+    }
+
+pub compensations_go : AlwaysGood → CompensatesMoves → CompensationsGo
+compensations_go good law w r content n m bytes b number =
+    let moved = law w r content n m bytes b.good b.tied in
+    record {
+      moves = Compensate n m ∷ [];
+      world = moved.world;
+      run = moved.run;
+      fallen = record {
+        good = good set_of (Compensate n m ∷ []) w moved.world b.good moved.run;
+        tied = moved.tied;
+        shown = shown_as moved.world (record { down = true; group = longer w.group m; pages = put w.pages n q }) now (moved.run.2 ∙ moved.run.1.1) (shown_put w now n q here there);
+      };
+    }
+  where
+    now : ℕ → ℕ → List ℕ
+    now = content_with content n ((w.pages n).last + 1) bytes
+
+    q : Page
+    q = compensate (w.pages n) m (w.group.stable m) (w.group.counter + 1)
+
+    here : PageShown (now n) q
+    here i l = elim (cases_eq i (w.pages n).last) [
+      | inl e ↦ ap lrsn_of (cond-true ((n == n) && (i + 1 == (w.pages n).last + 1)) bytes (content n (i + 1)) (and_from (n == n) (i + 1 == (w.pages n).last + 1) (eq-eqb n n refl) (eq-eqb (i + 1) ((w.pages n).last + 1) (ap (λ z. z + 1) e))))
+          ∙ number ∙ ap (λ z. z + 1) (sym b.tied.counter) ∙ sym (cond-true (i == (w.pages n).last) (w.group.counter + 1) ((w.pages n).lrsn i) (eq-eqb i (w.pages n).last e))
+      | inr ne ↦ ap lrsn_of (cond-false ((n == n) && (i + 1 == (w.pages n).last + 1)) bytes (content n (i + 1)) (false_from_ne_true ((n == n) && (i + 1 == (w.pages n).last + 1)) (λ x. ne (same (eqb-true (i + 1) ((w.pages n).last + 1) (and_parts (n == n) (i + 1 == (w.pages n).last + 1) x).1)))))
+          ∙ b.shown n i (omega (arith, l, ne)) ∙ sym (cond-false (i == (w.pages n).last) (w.group.counter + 1) ((w.pages n).lrsn i) (ne_eqb i (w.pages n).last ne))
+    ]
+      where
+        same : i + 1 ≡ (w.pages n).last + 1 → i ≡ (w.pages n).last
+        same x = omega (arith, x)
+
+    there : (j : ℕ) → j ≢ n → PageShown (now j) (w.pages j)
+    there j ne i l =
+        ap lrsn_of (cond-false ((j == n) && (i + 1 == (w.pages n).last + 1)) bytes (content j (i + 1)) (false_from_ne_true ((j == n) && (i + 1 == (w.pages n).last + 1)) (λ x. ne (eqb-true j n (and_parts (j == n) (i + 1 == (w.pages n).last + 1) x).0))))
+        ∙ b.shown j i l

@@ -1,0 +1,5 @@
+pub mod InX
+pub mod Supplying
+pub mod Steps
+pub mod Starting
+pub mod Runs

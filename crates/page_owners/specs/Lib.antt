@@ -1,0 +1,3 @@
+pub mod Owners
+pub mod Groups
+pub mod Runs

@@ -1,0 +1,5 @@
+pub mod Chains
+pub mod Standing
+pub mod Hands
+pub mod Owning
+pub mod Undoing

@@ -1,0 +1,4 @@
+pub mod Stands
+pub mod Hands
+pub mod Locks
+pub mod Undoes

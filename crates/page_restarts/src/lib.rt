@@ -1,0 +1,67 @@
+//! The intents of a member's restart about pages, as moves in the world of pages: what it does with the page in its hand, with page locks and
+//! with its log buffer.
+//!
+//! The crate has definitions and proofs alone. Its functions do nothing: their contracts are the theorems.
+#![tactic(auto)]
+
+ghost use Rattle.page_restarts.specs.Hands.{FillGoes, ForwardGoes, PutsDown, ReadGoes, TakesUp, TestGoes, WriteGoes};
+ghost use Rattle.page_restarts.specs.Locks.{AppendGoes, GiveUpGoes, LockGoes, StayGoes};
+ghost use Rattle.page_restarts.specs.Undoes.{UndoGoes};
+
+use page_world::{
+    draws_are_moves, frames_are_moves, losses_are_moves, owners_are_moves, pages_have_numbers,
+    reads_are_moves, refusals_stay, writes_are_moves,
+};
+
+/// A page that is taken up, and one that is put aside without changes.
+pub fn hands_go()
+    ensures up { TakesUp }
+    ensures down { PutsDown }
+{
+    frames_are_moves();
+}
+
+/// A page that is read, whatever the reply, and one that is filled from disk.
+pub fn reads_go()
+    ensures read { ReadGoes }
+    ensures fill { FillGoes }
+{
+    reads_are_moves();
+    refusals_stay();
+    frames_are_moves();
+}
+
+/// A page whose bit is tested, and one that the own log brings to its last version.
+pub fn forwards_go()
+    ensures test { TestGoes }
+    ensures forward { ForwardGoes }
+{
+    frames_are_moves();
+}
+
+/// A changed page that is written, whatever the reply, where the own log has all its changes.
+pub fn writes_go()
+    ensures { WriteGoes }
+{
+    writes_are_moves();
+    refusals_stay();
+}
+
+/// A page lock that is granted, one that is given up, and the append of the log buffer; and all else that leaves the page in hand.
+pub fn owners_go()
+    ensures lock { LockGoes }
+    ensures give_up { GiveUpGoes }
+    ensures append { AppendGoes }
+    ensures stay { StayGoes }
+{
+    pages_have_numbers();
+    owners_are_moves();
+    losses_are_moves();
+}
+
+/// A number that is drawn for a compensation, which changes the page in hand.
+pub fn undoes_go()
+    ensures { UndoGoes }
+{
+    draws_are_moves();
+}
