@@ -47,27 +47,27 @@ use Rattle.page_owners.specs.Owners.{AreInX, BeginInX, OwnInX, StayInX, ToldInX}
 -- ---- lists of claims
 in_without : (cs : List Claim) (n : Name) → AreInX cs → AreInX (without cs n)
 in_without [] n x = tt
-in_without (c ∷ cs) n x = by (same_name c.name n)
+in_without (c ∷ cs) n x = by (same_name c.name n) (in_without cs n x.1)
   where
-    by : (b : Bool) → AreInX (if b then cs else c ∷ without cs n)
-    by true = x.1
-    by false = (x.0, in_without cs n x.1)
+    by : (b : Bool) → AreInX (without cs n) → AreInX (if b then cs else c ∷ without cs n)
+    by true rest = x.1
+    by false rest = (x.0, rest)
 
 in_with : (cs : List Claim) (n : Name) → AreInX (without cs n) → mode_in cs n ≡ Some X → AreInX cs
 in_with [] n x e = tt
-in_with (c ∷ cs) n x e = by (same_name c.name n) x e
+in_with (c ∷ cs) n x e = by (same_name c.name n) (in_with cs n) x e
   where
-    by : (b : Bool) → AreInX (if b then cs else c ∷ without cs n) → (if b then Some c.mode else mode_in cs n) ≡ Some X → (c.mode ≡ X) × AreInX cs
-    by true y f = (same_Some c.mode X f, y)
-    by false y f = (y.0, in_with cs n y.1 f)
+    by : (b : Bool) → (AreInX (without cs n) → mode_in cs n ≡ Some X → AreInX cs) → AreInX (if b then cs else c ∷ without cs n) → (if b then Some c.mode else mode_in cs n) ≡ Some X → (c.mode ≡ X) × AreInX cs
+    by true rest y f = (same_Some c.mode X f, y)
+    by false rest y f = (y.0, rest y.1 f)
 
 pub held_x : (cs : List Claim) (n : Name) → AreInX cs → is_some (mode_in cs n) ≡ true → mode_in cs n ≡ Some X
 held_x [] n x e = absurd (cc e)
-held_x (c ∷ cs) n x e = by (same_name c.name n) e
+held_x (c ∷ cs) n x e = by (same_name c.name n) (held_x cs n x.1) e
   where
-    by : (b : Bool) → is_some (if b then Some c.mode else mode_in cs n) ≡ true → (if b then Some c.mode else mode_in cs n) ≡ Some X
-    by true f = ap Some x.0
-    by false f = held_x cs n x.1 f
+    by : (b : Bool) → (is_some (mode_in cs n) ≡ true → mode_in cs n ≡ Some X) → is_some (if b then Some c.mode else mode_in cs n) ≡ true → (if b then Some c.mode else mode_in cs n) ≡ Some X
+    by true rest f = ap Some x.0
+    by false rest f = rest f
 
 join_x : (m : Mode) → join_of m X ≡ X
 unfolding join_of
@@ -111,7 +111,7 @@ claims_x own s t o n m place (reply.Retained by) e x = same_x s t (ap (λ (z : M
 claims_x own s t o n m place (reply.RecordsFull limit) e x = same_x s t (ap (λ (z : MarksState). claims_of z.locks 0) e) x
 claims_x own s t o n m place (reply.Contention share exclusive version) e x = same_x s t (ap (λ (z : MarksState). claims_of z.locks 0) e) x
 claims_x own s t o n m place (reply.Moved version) e x = same_x s t (ap (λ (z : MarksState). claims_of z.locks 0) e) x
-claims_x own s t o n m place (reply.RetainedLock named x) e x = same_x s t (ap (λ (z : MarksState). claims_of z.locks 0) e) x
+claims_x own s t o n m place (reply.RetainedLock named mode) e x = same_x s t (ap (λ (z : MarksState). claims_of z.locks 0) e) x
 claims_x own s t o n m place reply.Done e x = same_x s t (ap (λ (z : MarksState). claims_of z.locks 0) e) x
 claims_x own s t o n m place reply.Nothing e x = same_x s t (ap (λ (z : MarksState). claims_of z.locks 0) e) x
 claims_x own s t o n m place reply.Found e x = same_x s t (ap (λ (z : MarksState). claims_of z.locks 0) e) x

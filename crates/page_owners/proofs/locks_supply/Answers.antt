@@ -10,6 +10,6 @@ returns c =
       gives = c.claims_give.ensures.gives;
       run = c.keeps_sound.ensures.run;
       others = c.moves_leave_others.ensures.others;
-      event = c.locks_go.ensures.event;
+      event = c.events_go.ensures.event;
     } in
     locks_supply facts
