@@ -5,12 +5,13 @@ use Rattle.std.proofs.lemmas.Bool.{and_from, and_parts, cases_eq, cond-false, co
 use Rattle.ds_disk.specs.Contents.{Contents}
 use Rattle.page_format.specs.Fields.{lrsn_of}
 use Rattle.page_protocol.specs.Page.{Page, all_fail, brought_forward, compensate, put}
-use Rattle.page_protocol.specs.Moves.{World, GroupFail, Forward, Compensate, Append, all_failed, longer}
-use Rattle.page_protocol.specs.Always.{AlwaysGood}
-use Rattle.page_world.specs.Groups.{AppendsMoves, CompensatesMoves, FallsAgain, FallsMoves, ForwardsMoves, Remains, content_with}
+use Rattle.page_protocol.specs.Moves.{World, Run, GroupFail, Forward, Compensate, Append, AreDrawnBy, IsWholeCut, all_failed, longer}
+use Rattle.page_protocol.specs.Always.{AlwaysGood, Good}
+use Rattle.page_protocol.specs.Words.{GroupFailureIsPossible}
+use Rattle.page_world.specs.Groups.{AppendsMoves, CompensatesMoves, ForwardsMoves, Remains, content_with}
 use Rattle.page_world.specs.Numbers.{page_number, set_of}
 use Rattle.page_members.specs.Members.{Shows, WritesShow}
-use Rattle.page_groups.specs.Falls.{CompensationsGo, GroupsFall, GroupsFallAgain, PageGoes, PagesGo, RecordsGo, appended}
+use Rattle.page_groups.specs.Falls.{AreDrawnTo, CompensationsGo, FallsTo, GroupsFall, GroupsFallAgain, PageGoes, PagesGo, RecordsGo, appended, remains}
 
 abbrev IsShown : World → (ℕ → ℕ → List ℕ) → Type 0
 IsShown w content = (n i : ℕ) → i < (w.pages n).last → lrsn_of (content n (i + 1)) ≡ (w.pages n).lrsn i
@@ -23,37 +24,38 @@ shown_cut : (w : World) (content : ℕ → ℕ → List ℕ) (cut : ℕ → ℕ)
     → IsShown (record { down = true; group = all_failed w.group counter; pages = λ n. all_fail (w.pages n) (cut n) }) content
 shown_cut w content cut counter short s n i l = (let most = short n in s n i (omega (arith, l, most)))
 
-pub falls : AlwaysGood → FallsMoves → GroupsFall
-falls good law w g content forced counter b drawn =
-    let it = law w g content counter b.good b.tied drawn in
-    let cut = it.0 in
-    let moved = it.1 in
-    record {
-      moves = GroupFail cut counter ∷ [];
-      world = moved.world;
-      run = moved.run;
-      fallen = record {
-        good = good set_of (GroupFail cut counter ∷ []) w moved.world b.good moved.run;
-        tied = moved.tied;
-        shown = shown_as moved.world _ content (moved.run.2 ∙ moved.run.1.2) (shown_cut w content cut counter (λ n. (moved.run.1.0 n).short) b.numbered.shown);
-      };
-    }
+-- of each page's changes those are left that the logs have on disk
+drawn_by : (w : World) (counter n cut : ℕ) → AreDrawnTo w counter → IsWholeCut w.group (w.pages n) cut → AreDrawnBy (w.pages n) cut counter
+drawn_by w counter n cut drawn s i l = (let most = s.short in drawn n i (omega (arith, l, most)) (s.kept i l))
 
-pub falls_again : AlwaysGood → FallsAgain → GroupsFallAgain
-falls_again good law w r content counter b drawn =
-    let it = law w r content counter b.good b.tied drawn in
-    let cut = it.0 in
-    let moved = it.1 in
-    record {
-      moves = GroupFail cut counter ∷ [];
-      world = moved.world;
-      run = moved.run;
-      fallen = record {
-        good = good set_of (GroupFail cut counter ∷ []) w moved.world b.good moved.run;
-        tied = moved.tied;
-        shown = shown_as moved.world _ content (moved.run.2 ∙ moved.run.1.2) (shown_cut w content cut counter (λ n. (moved.run.1.0 n).short) b.shown);
-      };
-    }
+abbrev fallen_world : World → (ℕ → ℕ) → ℕ → World
+fallen_world w cut counter = record { down = true; group = all_failed w.group counter; pages = λ n. all_fail (w.pages n) (cut n) }
+
+-- the disk and the logs stay, and a good world stands beside them
+left_fallen : AlwaysGood → GroupFailureIsPossible → (w : World) (r : Remains) (content : ℕ → ℕ → List ℕ) (counter : ℕ) → Good w → AreDrawnTo w counter → r.counter ≡ counter → ((m : ℕ) → w.group.stable m ≡ r.stable m) → ((n : ℕ) → r.disk n ≡ content n (w.pages n).disk) → IsShown w content → FallsTo w r content
+left_fallen always possible w r content counter good drawn counted stable disk shown = record {
+  moves = GroupFail cut counter ∷ [];
+  world = fallen_world w cut counter;
+  run = run;
+  fallen = record {
+    good = always set_of (GroupFail cut counter ∷ []) w (fallen_world w cut counter) good run;
+    tied = record { down = refl; counter = sym counted; stable = stable; written = stable; disk = disk; clean = λ n. refl };
+    shown = shown_cut w content cut counter (λ n. (possible w good n).1.short) shown;
+  };
+}
+  where
+    cut : ℕ → ℕ
+    cut n = (possible w good n).0
+
+    run : Run set_of w (GroupFail cut counter ∷ []) (fallen_world w cut counter)
+    run = (fallen_world w cut counter, ((λ n. (possible w good n).1), (λ n. drawn_by w counter n (cut n) drawn (possible w good n).1), refl), refl)
+
+pub falls : AlwaysGood → GroupFailureIsPossible → GroupsFall
+falls always possible w g content forced counter b drawn =
+    left_fallen always possible w (remains g counter) content counter b.good drawn refl b.tied.stable (λ n. (b.tied.pages n).disk) b.numbered.shown
+
+pub falls_again : AlwaysGood → GroupFailureIsPossible → GroupsFallAgain
+falls_again always possible w r content counter b drawn = left_fallen always possible w (record r { counter = counter }) content counter b.good drawn refl b.tied.stable b.tied.disk b.shown
 
 -- ---- one page changes
 abbrev PageShown : (ℕ → List ℕ) → Page → Type 0

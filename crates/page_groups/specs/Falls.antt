@@ -12,7 +12,7 @@ use Rattle.member_resources.specs.Events.{Drive}
 use Rattle.page_protocol.specs.Page.{put}
 use Rattle.page_protocol.specs.Moves.{World, Move, Run}
 use Rattle.page_protocol.specs.Always.{Good}
-use Rattle.page_world.specs.Groups.{AreDrawn, DownTied, Remains, content_with}
+use Rattle.page_world.specs.Groups.{DownTied, Remains, content_with}
 use Rattle.page_world.specs.Holdings.{Holdings}
 use Rattle.page_world.specs.Numbers.{page_number, set_of}
 use Rattle.page_members.specs.Members.{Group, Shows}
@@ -36,13 +36,17 @@ pub record FallsTo (w : World) (r : Remains) (content : ℕ → ℕ → List ℕ
 abbrev pub remains : Holdings → ℕ → Remains
 remains g counter = record { disk = g.disk; stable = g.stable; counter = counter }
 
--- all members and the cache, where no record on disk has a greater number than this one
+-- no change of a page that a log has on disk has a greater number than this one
+abbrev pub AreDrawnTo : World → ℕ → Type 0
+AreDrawnTo w counter = (n i : ℕ) → i < (w.pages n).last → (w.pages n).place i < w.group.stable ((w.pages n).author i) → (w.pages n).lrsn i ≤ counter
+
+-- all members and the cache
 abbrev pub GroupsFall : Type 0
-GroupsFall = (w : World) (g : Holdings) (content : ℕ → ℕ → List ℕ) (forced : ℕ → ℕ) (counter : ℕ) → Group w g content forced → AreDrawn w counter → FallsTo w (remains g counter) content
+GroupsFall = (w : World) (g : Holdings) (content : ℕ → ℕ → List ℕ) (forced : ℕ → ℕ) (counter : ℕ) → Group w g content forced → AreDrawnTo w counter → FallsTo w (remains g counter) content
 
 -- and once more, while its restart is in hand
 abbrev pub GroupsFallAgain : Type 0
-GroupsFallAgain = (w : World) (r : Remains) (content : ℕ → ℕ → List ℕ) (counter : ℕ) → Fallen w r content → AreDrawn w counter → FallsTo w (record r { counter = counter }) content
+GroupsFallAgain = (w : World) (r : Remains) (content : ℕ → ℕ → List ℕ) (counter : ℕ) → Fallen w r content → AreDrawnTo w counter → FallsTo w (record r { counter = counter }) content
 
 -- ---- its restart
 

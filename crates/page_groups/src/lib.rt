@@ -11,7 +11,7 @@ ghost use Rattle.page_groups.specs.Groups.{EachIsBeside, FailsStand, GroupsStart
 use cache_structure::keeps_entries_apart;
 use page_members::{others_stay_up, writes_show};
 pub use page_members::{events_go, failures_go};
-use page_protocol::coherent_pages;
+use page_protocol::{coherent_pages, logs_have_prefixes};
 use page_world::{group_failures_are_moves, groups_begin};
 
 /// Where a group stands beside its good world of pages, any event of any of its members that is up is moves, behind which it stands
@@ -57,7 +57,7 @@ pub fn groups_fall()
     ensures falls { GroupsFall }
     ensures again { GroupsFallAgain }
 {
-    group_failures_are_moves();
+    logs_have_prefixes();
     coherent_pages();
 }
 

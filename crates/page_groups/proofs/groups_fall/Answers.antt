@@ -3,6 +3,6 @@ use Rattle.page_groups.proofs.Falling.{falls, falls_again}
 
 pub returns : goal.returns
 returns c =
-    let moves = c.group_failures_are_moves.ensures in
     let good = c.coherent_pages.ensures.run in
-    record { falls = falls good moves.falls; again = falls_again good moves.falls_again }
+    let possible = c.logs_have_prefixes.ensures.group_failure in
+    record { falls = falls good possible; again = falls_again good possible }
