@@ -3,3 +3,4 @@ pub mod Standing
 pub mod Hands
 pub mod Owning
 pub mod Undoing
+pub mod Locals

@@ -2,3 +2,4 @@ pub mod Stands
 pub mod Hands
 pub mod Locks
 pub mod Undoes
+pub mod Locals

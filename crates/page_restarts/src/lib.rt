@@ -5,20 +5,31 @@
 #![tactic(auto)]
 
 ghost use Rattle.page_restarts.specs.Hands.{FillGoes, ForwardGoes, PutsDown, ReadGoes, TakesUp, TestGoes, WriteGoes};
+ghost use Rattle.page_restarts.specs.Locals.{PutsAside, ReachesGo};
 ghost use Rattle.page_restarts.specs.Locks.{AppendGoes, GiveUpGoes, LockGoes, StayGoes};
 ghost use Rattle.page_restarts.specs.Undoes.{UndoGoes};
 
+use page_protocol::coherent_pages;
 use page_world::{
     draws_are_moves, frames_are_moves, losses_are_moves, owners_are_moves, pages_have_numbers,
     reads_are_moves, refusals_stay, writes_are_moves,
 };
 
-/// A page that is taken up, and one that is put aside without changes.
+/// A page that is taken up, and one that is put aside: without changes, or with changes that are on disk in the own log.
 pub fn hands_go()
     ensures up { TakesUp }
     ensures down { PutsDown }
+    ensures aside { PutsAside }
 {
     frames_are_moves();
+}
+
+/// All that the policy of a restart does by local moves: pages that it takes up and puts aside, and transactions that it closes.
+pub fn locals_go()
+    ensures { ReachesGo }
+{
+    hands_go();
+    coherent_pages();
 }
 
 /// A page that is read, whatever the reply, and one that is filled from disk.

@@ -1,7 +1,8 @@
 use Rattle.page_restarts.proofs.hands_go.Goals as goal
 use Rattle.page_restarts.proofs.Hands.{puts_down, takes_up}
+use Rattle.page_restarts.proofs.Locals.{puts_aside}
 
 pub returns : goal.returns
 returns c =
     let frames = c.frames_are_moves.ensures in
-    record { up = takes_up frames.places; down = puts_down frames.leaves }
+    record { up = takes_up frames.places; down = puts_down frames.leaves; aside = puts_aside }

@@ -1,0 +1,320 @@
+-- Local moves of a restart, one behind the other.
+use Rattle.std.proofs.Common.{◌≡◌, ◌≢◌, ℕ, zero, suc, ◌+◌, ◌<◌, ◌≤◌, refl, sym, ap, subst, ◌∙◌, arith, Bool, true, false, inl, inr, List, [], ◌∷◌, ◌++◌, Option, Some, None}
+use Rattle.std.specs.Prelude.{◌==◌, ◌&&◌, ◌||◌, not, if◌then◌else◌, is_none, is_some, slice_get, unwrap_or}
+use Rattle.std.specs.List.{count_by, flat_map}
+use Rattle.std.proofs.lemmas.Bool.{and_parts, cases_eq, cond-false, cond-true, eq-eqb, ne_eqb}
+use Rattle.std.proofs.lemmas.Grind.{flat_map-append}
+use Rattle.std.proofs.lemmas.List.{append-nil}
+use Rattle.std.proofs.lemmas.List.Sums.{sum_by-append}
+use Rattle.ds_base.specs.declared.names.PageId.{PageId}
+use Rattle.ds_model.specs.declared.log.LogRecord.{LogRecord}
+use Rattle.ds_model.specs.RecordBytes.{record_bytes}
+use Rattle.log_record.specs.Changes.{is_drawn}
+use Rattle.member_log.specs.Buffers.{LogBuffer, after_put}
+use Rattle.cache_structure.specs.Directory.{Directory, bit, castout_of, is_registered}
+use Rattle.list_structure.specs.Standings.{status_of}
+use Rattle.restart_records.specs.declared.queue.TurnKey.{TurnKey}
+use Rattle.restart_records.specs.Trans.{after_end, page_undone}
+use Rattle.restart_marks.specs.Moves.{Local, TakeUpRetained, TakeUpUndone, PutDown, Close, Reaches, all_moved, claims_hand, closing_record, is_recovered, may_close, may_put_down, moved, retained_from, undone_from}
+use Rattle.restart_marks.specs.State.{RestartState, no_hand, with_hand}
+use Rattle.restart_resources.specs.Held.{Held, with_marks}
+use Rattle.page_protocol.specs.Page.{Page, Restarting, Failed, drop_frame, fail, put, unfilled}
+use Rattle.page_protocol.specs.Moves.{World, Move, Run, Fail, Restart, IsCut, failed, restarting}
+use Rattle.page_protocol.specs.Always.{AlwaysGood}
+use Rattle.page_protocol.specs.Coherent.{Coherent}
+use Rattle.page_world.specs.Holdings.{Copy, no_copy, Holdings, as_status, held_of}
+use Rattle.page_world.specs.Numbers.{page_at, page_number, set_of}
+use Rattle.page_world.specs.Tied.{AreApart, Moved, PageTied, Tied, bit_in}
+use Rattle.page_intents.specs.Numbers.{AreNumbered}
+use Rattle.page_intents.specs.Stands.{AreBehind}
+use Rattle.page_restarts.specs.Hands.{PutsDown, TakesUp}
+use Rattle.page_restarts.specs.Locals.{CastsNone, MayPark, PutsAside, ReachesGo}
+use Rattle.page_restarts.specs.Stands.{Begins, Goes, IsRestarting, behind, copy_of}
+use Rattle.page_restarts.proofs.Chains.{numbered_along}
+use Rattle.page_restarts.proofs.Hands.{coherent}
+
+-- ---- a changed page is put aside: the member fails, with nothing to lose, and restarts
+castout_left : (m : ℕ) (o : Option ℕ) → o ≢ Some m → (if (unwrap_or o (m + 1)) == m then None else o) ≡ o
+castout_left m None ne = cond-false ((m + 1) == m) None None (ne_eqb (m + 1) m (λ e. omega (arith, e)))
+castout_left m (Some k) ne = cond-false (k == m) None (Some k) (ne_eqb k m (λ e. ne (ap Some e)))
+
+page_left : (p : Page) (m : ℕ) → p.castout ≢ Some m → fail p m p.last ≡ drop_frame p m
+page_left p m ne =
+    let e = castout_left m p.castout ne in
+    λ i. record (drop_frame p m) { castout = e i }
+
+abbrev without_copies : Holdings → ℕ → Holdings
+without_copies g m = record g { copies = λ k j. if k == m then no_copy else g.copies k j }
+
+page_dropped : (g : Holdings) (m n : ℕ) (p : Page) (content : ℕ → List ℕ) → PageTied (held_of g n) p content → PageTied (held_of (without_copies g m) n) (drop_frame p m) content
+page_dropped g m n p content t = record {
+  bytes = t.bytes;
+  changed = t.changed;
+  there = t.there;
+  castout = t.castout;
+  written = t.written;
+  disk = t.disk;
+  bit = λ k. elim (k == m) as (λ z. bit_in (if z then no_copy else g.copies k n) (is_registered d id k (if z then no_copy else g.copies k n).index) ≡ (if z then false else p.bit k)) [ true ↦ refl | false ↦ t.bit k ];
+  own = λ k. elim (k == m) as (λ z. (if z then no_copy else g.copies k n).placed ≡ true → (if z then no_copy else g.copies k n).noted ≡ true → bit d k (if z then no_copy else g.copies k n).index ≡ true → is_registered d id k (if z then no_copy else g.copies k n).index ≡ true) [
+    | true ↦ never
+    | false ↦ t.own k
+  ];
+  filled = λ k. elim (k == m) as (λ z. (if z then no_copy else g.copies k n).filled ≡ (if z then unfilled 0 false else p.frame k).filled) [ true ↦ refl | false ↦ t.filled k ];
+  marked = λ k. elim (k == m) as (λ z. (if z then no_copy else g.copies k n).marked ≡ (if z then unfilled 0 false else p.frame k).marked) [ true ↦ refl | false ↦ t.marked k ];
+  same = λ k. elim (k == m) as (λ z. (if z then unfilled 0 false else p.frame k).filled ≡ true → (if z then no_copy else g.copies k n).bytes ≡ content (if z then unfilled 0 false else p.frame k).version) [ true ↦ unfilled_bytes | false ↦ t.same k ];
+  indirect = λ k. elim (k == m) as (λ z. (if z then unfilled 0 false else p.frame k).direct ≡ false) [ true ↦ refl | false ↦ t.indirect k ];
+  buffer = t.buffer;
+  sent = t.sent;
+  owner = t.owner;
+  part = t.part;
+}
+  where
+    d : Directory
+    d = g.facility.directory
+
+    id : PageId
+    id = page_at n
+
+    never : {A : Type 0} → no_copy.placed ≡ true → A
+    never e = absurd (cc e)
+
+    unfilled_bytes : (unfilled 0 false).filled ≡ true → no_copy.bytes ≡ content 0
+    unfilled_bytes e = absurd (cc e)
+
+apart_left : (g : Holdings) (m : ℕ) → AreApart g → AreApart (without_copies g m)
+apart_left g m a k i j = by (k == m)
+  where
+    by : (b : Bool) → (if b then no_copy else g.copies k i).placed ≡ true → (if b then no_copy else g.copies k j).placed ≡ true → (if b then no_copy else g.copies k i).index ≡ (if b then no_copy else g.copies k j).index → i ≡ j
+    by true x y e = absurd (cc x)
+    by false x y e = a k i j x y e
+
+pub puts_aside : PutsAside
+puts_aside w g content forced h b none all = record {
+  moves = Fail m cut ∷ Restart m ∷ [];
+  moved = record { world = last; run = (first, (b.tied.running, cuts, refl), (last, (refl, cond-true (m == m) Failed (w.group.status m) (eq-eqb m m refl), refl), refl)); tied = tied };
+  numbered = numbered_along w last content forced (λ n. refl) refl refl b.numbered;
+  same = refl;
+  stands = record {
+    least = b.restarts.least;
+    among = b.restarts.among;
+    restarts = b.restarts.restarts;
+    log = b.restarts.log;
+    last = b.restarts.last;
+    pending = b.restarts.pending;
+    full = λ e. absurd (cc e);
+    shows = λ e. absurd (cc e);
+    copies = λ j. cond-true (m == m) no_copy (g.copies m j) (eq-eqb m m refl);
+  };
+}
+  where
+    m : ℕ
+    m = h.marks.member
+
+    cut : ℕ → ℕ
+    cut n = (w.pages n).last
+
+    first : World
+    first = record { down = false; group = failed w.group m; pages = λ n. fail (w.pages n) m (cut n) }
+
+    last : World
+    last = record { down = false; group = restarting (failed w.group m) m; pages = λ n. fail (w.pages n) m (cut n) }
+
+    -- all that it has written is stable
+    level : w.group.written m ≡ w.group.stable m
+    level = b.tied.written m ∙ sym all ∙ sym (b.tied.stable m)
+
+    cuts : (n : ℕ) → IsCut w.group m (w.pages n) (cut n)
+    cuts n = record {
+      short = omega arith;
+      kept = λ i l own. subst (λ z. (w.pages n).place i < z) (ap w.group.written own ∙ level) ((coherent w.group (w.pages n) w.down b.tied.running (b.good.stands n)).written i l);
+      gone = λ i le l. absurd (omega (arith, le, l));
+    }
+
+    free : (n : ℕ) → (w.pages n).castout ≢ Some m
+    free n e = none n ((b.tied.pages n).castout ∙ e)
+
+    status : (k : ℕ) → 1 ≤ k → k ≤ g.facility.lists.members → put (put w.group.status m Failed) m Restarting k ≡ as_status (status_of g.facility.lists.statuses k)
+    status k least most = elim (cases_eq k m) [
+      | inl e ↦ cond-true (k == m) Restarting (put w.group.status m Failed k) (eq-eqb k m e) ∙ sym (ap as_status (ap (status_of g.facility.lists.statuses) e ∙ b.restarts.restarts))
+      | inr ne ↦ cond-false (k == m) Restarting (put w.group.status m Failed k) (ne_eqb k m ne) ∙ cond-false (k == m) Failed (w.group.status k) (ne_eqb k m ne) ∙ b.tied.status k least most
+    ]
+
+    written : (k : ℕ) → put w.group.written m (w.group.stable m) k ≡ g.written k
+    written k = elim (cases_eq k m) [
+      | inl e ↦ cond-true (k == m) (w.group.stable m) (w.group.written k) (eq-eqb k m e) ∙ b.tied.stable m ∙ all ∙ sym (ap g.written e)
+      | inr ne ↦ cond-false (k == m) (w.group.stable m) (w.group.written k) (ne_eqb k m ne) ∙ b.tied.written k
+    ]
+
+    tied : Tied last (without_copies g m) content
+    tied = record {
+      running = refl;
+      lost = b.tied.lost;
+      counter = b.tied.counter;
+      status = status;
+      stable = b.tied.stable;
+      written = written;
+      apart = apart_left g m b.tied.apart;
+      pages = λ n. subst (λ (p : Page). PageTied (held_of (without_copies g m) n) p (content n)) (sym (page_left (w.pages n) m (free n))) (page_dropped g m n (w.pages n) (content n) (b.tied.pages n));
+    }
+
+-- ---- the copies are as they were
+behind_same : (g : Holdings) (forced : ℕ → ℕ) (h t : Held) → IsRestarting g forced h → ((j : ℕ) → copy_of t j ≡ copy_of h j) → behind g g.facility h.marks.member t ≡ g
+behind_same g forced h t r same = λ i. record g { copies = λ k j. each k j i }
+  where
+    each : (k j : ℕ) → (if k == h.marks.member then copy_of t j else g.copies k j) ≡ g.copies k j
+    each k j = elim (cases_eq k h.marks.member) [
+      | inl e ↦ cond-true (k == h.marks.member) (copy_of t j) (g.copies k j) (eq-eqb k h.marks.member e) ∙ same j ∙ sym (r.copies j) ∙ sym (ap (λ z. g.copies z j) e)
+      | inr ne ↦ cond-false (k == h.marks.member) (copy_of t j) (g.copies k j) (ne_eqb k h.marks.member ne)
+    ]
+
+-- ---- a record that draws no number
+none_more : (stable count : ℕ) (bytes : List ℕ) (r : LogRecord) → is_drawn r.body ≡ false → AreBehind stable count bytes → AreBehind stable count (bytes ++ record_bytes r)
+none_more stable count bytes r drawn b =
+    let none : count_by (λ (x : LogRecord). is_drawn x.body) (r ∷ []) ≡ 0 = ap (λ z. 0 + (if z then 1 else 0)) drawn in
+    let both : count_by (λ (x : LogRecord). is_drawn x.body) (b.records ++ r ∷ []) ≡ count_by (λ (x : LogRecord). is_drawn x.body) b.records + count_by (λ (x : LogRecord). is_drawn x.body) (r ∷ []) =
+    sum_by-append (λ (x : LogRecord). if is_drawn x.body then 1 else 0) b.records (r ∷ []) in
+    let before = b.counted in
+    record {
+      records = b.records ++ r ∷ [];
+      spelled = ap (λ z. z ++ record_bytes r) b.spelled ∙ ap (λ z. flat_map record_bytes b.records ++ z) (sym (append-nil (record_bytes r))) ∙ sym (flat_map-append record_bytes b.records (r ∷ []));
+      counted = omega (arith, none, both, before);
+    }
+
+-- ---- one local move
+none_of : {A : Type 0} → (o : Option A) → is_none o ≡ true → o ≡ None
+none_of None e = refl
+none_of (Some x) e = absurd (cc e)
+
+is_kept : (changed key : Bool) → changed ≡ true → (not changed || key) ≡ true → key ≡ true
+is_kept true key e f = f
+is_kept false key e f = absurd (cc e)
+
+module _ (takes : TakesUp) (puts : PutsDown) (w : World) (g : Holdings) (content : ℕ → ℕ → List ℕ) (forced : ℕ → ℕ) (h : Held) (b : Begins w g content forced h) (none : CastsNone g h.marks.member) (park : MayPark g h) where
+  abbrev s : RestartState
+  s = h.marks
+
+  abbrev Left : RestartState → Type 0
+  Left t = Goes w content forced (behind g g.facility h.marks.member (with_marks h t)) h (with_marks h t)
+
+  idle : Left s
+  idle = record {
+    moves = [];
+    moved = record { world = w; run = refl; tied = subst (λ z. Tied w z content) (sym same) b.tied };
+    numbered = b.numbered;
+    same = refl;
+    stands = subst (λ z. IsRestarting z forced h) (sym same) b.restarts;
+  }
+    where
+      same : behind g g.facility h.marks.member h ≡ g
+      same = behind_same g forced h h b.restarts (λ j. refl)
+
+  branch : (x : Bool) (t : RestartState) → (x ≡ true → Left t) → Left (if x then t else s)
+  branch true t f = f refl
+  branch false t f = idle
+
+  retained : (o : Option TurnKey) → s.hand.page ≡ None → Left (retained_from s o)
+  retained None e = idle
+  retained (Some key) e = takes w g content forced h key.page (Some key) b e
+
+  undone : (o : Option PageId) → s.hand.page ≡ None → Left (undone_from s o)
+  undone None e = idle
+  undone (Some p) e = takes w g content forced h p None b e
+
+  put_aside : (x : Bool) → s.hand.changed ≡ x → may_put_down s.hand s.claim ≡ true → Left (with_hand s no_hand)
+  put_aside false e may = puts w g content forced h b e
+  put_aside true e may = puts_aside w g content forced h b none (park e (is_kept s.hand.changed (is_some s.hand.key) e (and_parts (not (claims_hand s.claim s.hand.page)) (not s.hand.changed || is_some s.hand.key) may).1))
+
+  closes : (id : ℕ) → Left (record s { log = after_put s.log (closing_record s id); trans = after_end s.trans id })
+  closes id = record {
+    moves = [];
+    moved = record { world = w; run = refl; tied = subst (λ z. Tied w z content) (sym same) b.tied };
+    numbered = b.numbered;
+    same = refl;
+    stands = subst (λ z. IsRestarting z forced t) (sym same) (record {
+      least = b.restarts.least;
+      among = b.restarts.among;
+      restarts = b.restarts.restarts;
+      log = b.restarts.log;
+      last = b.restarts.last;
+      pending = none_more (g.stable s.member) (g.written s.member) s.log.pending (closing_record s id) refl b.restarts.pending;
+      full = b.restarts.full;
+      shows = b.restarts.shows;
+      copies = b.restarts.copies;
+    });
+  }
+    where
+      t : Held
+      t = with_marks h (record s { log = after_put s.log (closing_record s id); trans = after_end s.trans id })
+
+      same : behind g g.facility h.marks.member t ≡ g
+      same = behind_same g forced h t b.restarts (λ j. refl)
+
+  one : (x : Local) → Left (moved x s)
+  one TakeUpRetained = branch (is_none s.hand.page) (retained_from s (slice_get s.pages 0)) (λ e. retained (slice_get s.pages 0) (none_of s.hand.page e))
+  one (TakeUpUndone id) = branch (is_none s.hand.page && is_recovered s) (undone_from s (page_undone s.trans id)) (λ e. undone (page_undone s.trans id) (none_of s.hand.page (and_parts (is_none s.hand.page) (is_recovered s) e).0))
+  one PutDown = branch (may_put_down s.hand s.claim) (with_hand s no_hand) (λ e. put_aside s.hand.changed refl e)
+  one (Close id) = branch (may_close s id) (record s { log = after_put s.log (closing_record s id); trans = after_end s.trans id }) (λ e. closes id)
+
+-- a page in hand that may be put aside still may be
+abbrev Parks : Holdings → ℕ → RestartState → Type 0
+Parks g m t = t.hand.changed ≡ true → is_some t.hand.key ≡ true → g.stable m ≡ g.written m
+
+park_if : (g : Holdings) (m : ℕ) (x : Bool) (s t : RestartState) → Parks g m s → Parks g m t → Parks g m (if x then t else s)
+park_if g m true s t a b = b
+park_if g m false s t a b = a
+
+park_retained : (g : Holdings) (m : ℕ) (s : RestartState) (o : Option TurnKey) → Parks g m s → Parks g m (retained_from s o)
+park_retained g m s None a = a
+park_retained g m s (Some key) a = λ e _. absurd (cc e)
+
+park_undone : (g : Holdings) (m : ℕ) (s : RestartState) (o : Option PageId) → Parks g m s → Parks g m (undone_from s o)
+park_undone g m s None a = a
+park_undone g m s (Some p) a = λ e _. absurd (cc e)
+
+park_one : (g : Holdings) (m : ℕ) (x : Local) (s : RestartState) → Parks g m s → Parks g m (moved x s)
+park_one g m TakeUpRetained s a = park_if g m (is_none s.hand.page) s (retained_from s (slice_get s.pages 0)) a (park_retained g m s (slice_get s.pages 0) a)
+park_one g m (TakeUpUndone id) s a = park_if g m (is_none s.hand.page && is_recovered s) s (undone_from s (page_undone s.trans id)) a (park_undone g m s (page_undone s.trans id) a)
+park_one g m PutDown s a = park_if g m (may_put_down s.hand s.claim) s (with_hand s no_hand) a (λ e _. absurd (cc e))
+park_one g m (Close id) s a = park_if g m (may_close s id) s (record s { log = after_put s.log (closing_record s id); trans = after_end s.trans id }) a a
+
+-- ---- several
+run_on : (w mid v : World) (xs ys : List Move) → Run set_of w xs mid → Run set_of mid ys v → Run set_of w (xs ++ ys) v
+run_on w mid v [] ys r q = subst (λ x. Run set_of x ys v) r q
+run_on w mid v (e ∷ es) ys r q = (r.0, r.1, run_on r.0 mid v es ys r.2 q)
+
+behind_twice : (g : Holdings) (m j : ℕ) (t k : Held) → j ≡ m → behind (behind g g.facility m t) g.facility j k ≡ behind g g.facility m k
+behind_twice g m j t k e = subst (λ z. behind (behind g g.facility m t) g.facility z k ≡ behind g g.facility m k) (sym e) (λ i. record g { copies = λ p n. each p n i })
+  where
+    each : (p n : ℕ) → (if p == m then copy_of k n else if p == m then copy_of t n else g.copies p n) ≡ (if p == m then copy_of k n else g.copies p n)
+    each p n = elim (p == m) as (λ z. (if z then copy_of k n else if z then copy_of t n else g.copies p n) ≡ (if z then copy_of k n else g.copies p n)) [ true ↦ refl | false ↦ refl ]
+
+goes_on : (w : World) (g : Holdings) (content : ℕ → ℕ → List ℕ) (forced : ℕ → ℕ) (h t k : Held) → (a : Goes w content forced (behind g g.facility h.marks.member t) h t)
+    → Goes a.moved.world content forced (behind (behind g g.facility h.marks.member t) g.facility t.marks.member k) t k → Goes w content forced (behind g g.facility h.marks.member k) h k
+goes_on w g content forced h t k a c =
+    let same = behind_twice g h.marks.member t.marks.member t k a.same in
+    record {
+      moves = a.moves ++ c.moves;
+      moved = record { world = c.moved.world; run = run_on w a.moved.world c.moved.world a.moves c.moves a.moved.run c.moved.run; tied = subst (λ z. Tied c.moved.world z content) same c.moved.tied };
+      numbered = c.numbered;
+      same = c.same ∙ a.same;
+      stands = subst (λ z. IsRestarting z forced k) same c.stands;
+    }
+
+all_go : AlwaysGood → TakesUp → PutsDown → (xs : List Local) (w : World) (g : Holdings) (content : ℕ → ℕ → List ℕ) (forced : ℕ → ℕ) (h : Held) → Begins w g content forced h → CastsNone g h.marks.member → MayPark g h
+    → Goes w content forced (behind g g.facility h.marks.member (with_marks h (all_moved xs h.marks))) h (with_marks h (all_moved xs h.marks))
+all_go good takes puts [] w g content forced h b none park = idle takes puts w g content forced h b none park
+all_go good takes puts (x ∷ xs) w g content forced h b none park =
+    let t = with_marks h (moved x h.marks) in
+    let a = one takes puts w g content forced h b none park x in
+    let left = behind g g.facility h.marks.member t in
+    goes_on w g content forced h t (with_marks h (all_moved xs (moved x h.marks))) a
+    (all_go good takes puts xs a.moved.world left content forced t
+    (record { good = good set_of a.moves w a.moved.world b.good a.moved.run; tied = a.moved.tied; numbered = a.numbered; sound = b.sound; restarts = a.stands })
+    (λ n. subst (λ z. castout_of g.facility.directory (page_at n) ≢ Some z) (sym a.same) (none n))
+    (subst (λ z. Parks g z (moved x h.marks)) (sym a.same) (park_one g h.marks.member x h.marks park)))
+
+pub reaches_go : AlwaysGood → TakesUp → PutsDown → ReachesGo
+unfolding Reaches
+reaches_go good takes puts w g content forced h k b none park ends =
+    let is : k ≡ with_marks h (all_moved ends.0.0 h.marks) = ends.1 ∙ ap (with_marks h) ends.0.1 in
+    subst (λ (z : Held). Goes w content forced (behind g g.facility h.marks.member z) h z) (sym is) (all_go good takes puts ends.0.0 w g content forced h b none park)
