@@ -37,11 +37,37 @@ step_chain g p q (Redo m) s = ap chain_of s.4
 step_chain g p q (Purge m) s = ap chain_of s.5
 step_chain g p q (Rebuild n) s = ap chain_of s.2
 
-put_chain : (pages : ℕ → Page) (n : ℕ) (q : Page) → chain_of q ≡ chain_of (pages n) → (k : ℕ) → chain_of (put pages n q k) ≡ chain_of (pages k)
-put_chain pages n q e k = elim (cases_eq k n) [
-  | inl same ↦ ap chain_of (cond-true (k == n) q (pages k) (eq-eqb k n same)) ∙ e ∙ sym (ap (λ z. chain_of (pages z)) same)
-  | inr ne ↦ ap chain_of (cond-false (k == n) q (pages k) (ne_eqb k n ne))
+-- moves that leave the castout lock of their page
+abbrev pub leaves_castout : PageMove → Bool
+leaves_castout (CastoutRead m v) = false
+leaves_castout (CastoutDone m) = false
+leaves_castout _ = true
+
+step_castout : (g : Group) (p q : Page) (e : PageMove) → leaves_castout e ≡ true → PageStep g p e q → q.castout ≡ p.castout
+step_castout g p q (Read m direct) so s = ap (λ (x : Page). x.castout) s.4
+step_castout g p q (ReadDisk m) so s = ap (λ (x : Page). x.castout) s.3
+step_castout g p q (Write m) so s = ap (λ (x : Page). x.castout) s.4
+step_castout g p q (WriteDirect m) so s = ap (λ (x : Page). x.castout) s.4
+step_castout g p q (CastoutRead m v) never s = absurd (cc never)
+step_castout g p q (CastoutWrite m) so s = ap (λ (x : Page). x.castout) s.1
+step_castout g p q (CastoutDone m) never s = absurd (cc never)
+step_castout g p q Reclaim so s = ap (λ (x : Page). x.castout) s.2
+step_castout g p q (DropFrame m) so s = ap (λ (x : Page). x.castout) s.1
+step_castout g p q (Lock m) so s = ap (λ (x : Page). x.castout) s.2
+step_castout g p q (Unlock m) so s = ap (λ (x : Page). x.castout) s.4
+step_castout g p q (Redo m) so s = ap (λ (x : Page). x.castout) s.4
+step_castout g p q (Purge m) so s = ap (λ (x : Page). x.castout) s.5
+step_castout g p q (Rebuild n) so s = ap (λ (x : Page). x.castout) s.2
+
+-- what holds of a page that is put, and of each other one
+put_part : {A : Type 0} → (f : Page → A) (pages : ℕ → Page) (n : ℕ) (q : Page) → f q ≡ f (pages n) → (k : ℕ) → f (put pages n q k) ≡ f (pages k)
+put_part f pages n q e k = elim (cases_eq k n) [
+  | inl same ↦ ap f (cond-true (k == n) q (pages k) (eq-eqb k n same)) ∙ e ∙ sym (ap (λ z. f (pages z)) same)
+  | inr ne ↦ ap f (cond-false (k == n) q (pages k) (ne_eqb k n ne))
 ]
+
+put_chain : (pages : ℕ → Page) (n : ℕ) (q : Page) → chain_of q ≡ chain_of (pages n) → (k : ℕ) → chain_of (put pages n q k) ≡ chain_of (pages k)
+put_chain pages n q e k = put_part chain_of pages n q e k
 
 -- what the numbers say of a page
 abbrev Shows : (ℕ → List ℕ) → Chain → Type 0
@@ -60,11 +86,11 @@ numbered_along w v content forced same stable counter t = record {
 -- ---- lists of such moves
 pub AtPages : List Move → Type 0
 AtPages [] = Unit {0}
-AtPages (e ∷ es) = ((n : ℕ) × (x : PageMove) × (e ≡ At n x)) × AtPages es
+AtPages (e ∷ es) = ((n : ℕ) × (x : PageMove) × (e ≡ At n x) × (leaves_castout x ≡ true)) × AtPages es
 
-pub at_one : (n : ℕ) (e : PageMove) → AtPages (At n e ∷ [])
+pub at_one : (n : ℕ) (e : PageMove) → leaves_castout e ≡ true → AtPages (At n e ∷ [])
 unfolding AtPages
-at_one n e = ((n, e, refl), tt)
+at_one n e so = ((n, e, refl, so), tt)
 
 pub at_none : AtPages []
 unfolding AtPages
@@ -73,14 +99,14 @@ at_none = tt
 at_reclaim : (o : Option Entry) (es : List Move) → AtPages es → AtPages (reclaim_of o ++ es)
 unfolding AtPages
 at_reclaim None es a = a
-at_reclaim (Some e) es a = ((_, _, refl), a)
+at_reclaim (Some e) es a = ((_, _, refl, refl), a)
 
-pub at_entry : (d : Directory) (id : PageId) (n : ℕ) (e : PageMove) → AtPages (entry_moves d id ++ At n e ∷ [])
-at_entry d id n e = by (is_some (entry_of d.entries id) || has_free_place d)
+pub at_entry : (d : Directory) (id : PageId) (n : ℕ) (e : PageMove) → leaves_castout e ≡ true → AtPages (entry_moves d id ++ At n e ∷ [])
+at_entry d id n e so = by (is_some (entry_of d.entries id) || has_free_place d)
   where
     by : (b : Bool) → AtPages ((if b then [] else reclaim_of (reclaimable d)) ++ At n e ∷ [])
-    by true = at_one n e
-    by false = at_reclaim (reclaimable d) (At n e ∷ []) (at_one n e)
+    by true = at_one n e so
+    by false = at_reclaim (reclaimable d) (At n e ∷ []) (at_one n e so)
 
 at_step : (w v : World) (n : ℕ) (e : PageMove) (content : ℕ → ℕ → List ℕ) (forced : ℕ → ℕ) → Step set_of w (At n e) v → AreNumbered w content forced → AreNumbered v content forced
 at_step w v n e content forced s t =
@@ -92,3 +118,22 @@ unfolding AtPages
 numbered_on w v [] content forced a r t = subst (λ x. AreNumbered x content forced) (sym r) t
 numbered_on w v (e ∷ es) content forced a r t =
     numbered_on r.0 v es content forced a.1 r.2 (at_step w r.0 a.0.0 a.0.1 content forced (subst (λ x. Step set_of w x r.0) a.0.2 r.1) t)
+
+-- ---- what they leave of each page
+pub record SamePage (p q : Page) : Type 0 where
+  pub chain : chain_of q ≡ chain_of p
+  pub castout : q.castout ≡ p.castout
+
+page_step : (w v : World) (n : ℕ) (e : PageMove) → leaves_castout e ≡ true → Step set_of w (At n e) v → (k : ℕ) → SamePage (w.pages k) (v.pages k)
+page_step w v n e so s k = subst (λ (x : World). SamePage (w.pages k) (x.pages k)) (sym s.1.2) (record {
+  chain = put_chain w.pages n s.1.0 (step_chain w.group (w.pages n) s.1.0 e s.1.1) k;
+  castout = put_part (λ (x : Page). x.castout) w.pages n s.1.0 (step_castout w.group (w.pages n) s.1.0 e so s.1.1) k;
+})
+
+pub pages_stay : (w v : World) (es : List Move) → AtPages es → Run set_of w es v → (k : ℕ) → SamePage (w.pages k) (v.pages k)
+unfolding AtPages
+pages_stay w v [] a r k = subst (λ (x : World). SamePage (w.pages k) (x.pages k)) (sym r) (record { chain = refl; castout = refl })
+pages_stay w v (e ∷ es) a r k =
+    let first = page_step w r.0 a.0.0 a.0.1 a.0.3 (subst (λ x. Step set_of w x r.0) a.0.2 r.1) k in
+    let rest = pages_stay r.0 v es a.1 r.2 k in
+    record { chain = rest.chain ∙ first.chain; castout = rest.castout ∙ first.castout }

@@ -36,7 +36,7 @@ use Rattle.page_world.specs.Holdings.{Copy, no_copy, Holdings, held_of, with_cop
 use Rattle.page_world.specs.Numbers.{page_at, page_number}
 use Rattle.page_world.specs.Refusals.{ReadRefused, WriteRefused}
 use Rattle.page_world.specs.Tied.{PageTied, Tied, bit_in}
-use Rattle.page_restarts.specs.Stands.{Begins, Goes, behind, hand_copy}
+use Rattle.page_restarts.specs.Stands.{Begins, GoesAlong, behind, hand_copy}
 use Rattle.page_restarts.specs.Hands.{FillGoes, ForwardGoes, PutsDown, ReadGoes, TakesUp, TestGoes, WriteGoes}
 use Rattle.page_restarts.proofs.Chains.{at_entry, at_none, at_one}
 use Rattle.page_restarts.proofs.Standing.{SameMembers, copy_here, copy_none, copy_there, goes_by, has_copy, has_frame, is_live_restarting, leaves_hand, quiet_by, same_members}
@@ -129,7 +129,7 @@ puts_down law w g content forced h b clean = by h.marks.hand.page refl
     t : Held
     t = with_marks h (with_hand h.marks no_hand)
 
-    by : (o : Option PageId) → h.marks.hand.page ≡ o → Goes w content forced (behind g g.facility h.marks.member t) h t
+    by : (o : Option PageId) → h.marks.hand.page ≡ o → GoesAlong w content forced (behind g g.facility h.marks.member t) h t
     by None e =
         quiet_by w g content forced g.facility h t 0 b.tied b.numbered b.restarts
         (record { member = refl; log = refl; full = λ x. absurd (cc x); shows = λ x. absurd (cc x); here = sym (b.restarts.copies 0 ∙ copy_none h 0 e); there = λ j ne. sym (copy_none h j e) }) refl
@@ -138,7 +138,7 @@ puts_down law w g content forced h b clean = by h.marks.hand.page refl
         let n = page_number p in
         let c = has_copy g forced h p b.restarts e in
         goes_by w g content forced g.facility h t n no_copy (At n (DropFrame m) ∷ []) b.numbered b.restarts
-        (record { member = refl; log = refl; full = λ x. absurd (cc x); shows = λ x. absurd (cc x); here = refl; there = λ j ne. sym (copy_there h p j e ne) }) (unchanged g.facility) (at_one n (DropFrame m))
+        (record { member = refl; log = refl; full = λ x. absurd (cc x); shows = λ x. absurd (cc x); here = refl; there = λ j ne. sym (copy_there h p j e ne) }) (unchanged g.facility) (at_one n (DropFrame m) refl)
         (law w g content m n b.tied (ap (λ (x : Copy). x.marked) c ∙ clean))
 
 -- ---- it is read
@@ -159,7 +159,7 @@ changed_shows false page bytes old last shows e x = absurd (cc x)
 module _ (finds : FindsMoves) (registers : RegistersMoves) (refused : ReadRefused) (w : World) (g : Holdings) (content : ℕ → ℕ → List ℕ) (forced : ℕ → ℕ) (h after : Held) (p : PageId) (page bytes : List ℕ) (answer : Reply) (v : Facility) (b : Begins w g content forced h) (has : h.marks.hand.page ≡ Some p) (lent : h.marks.hand.changed ≡ false → page ≡ h.page)
     (r : ReadsPage g.facility h.marks.member p 0 page answer v bytes) (marks : after.marks ≡ h.marks) (left : after.page ≡ (if h.marks.hand.changed then h.page else bytes)) where
   abbrev Left : Reply → Type 0
-  Left a = Goes w content forced (behind g v h.marks.member (read_in after a)) h (read_in after a)
+  Left a = GoesAlong w content forced (behind g v h.marks.member (read_in after a)) h (read_in after a)
 
   so : (a : Reply) → answer ≡ a → Left a → Left answer
   so a e x = subst (λ z. Left z) (sym e) x
@@ -171,8 +171,8 @@ module _ (finds : FindsMoves) (registers : RegistersMoves) (refused : ReadRefuse
   is_now : (a : Reply) → read_in after a ≡ now a
   is_now a = ap (λ (z : RestartState). record { marks = with_hand z (read_after z.hand a); page = after.page; spare = after.spare }) marks
 
-  as_now : (a : Reply) → Goes w content forced (behind g v h.marks.member (now a)) h (now a) → Left a
-  as_now a x = subst (λ (z : Held). Goes w content forced (behind g v h.marks.member z) h z) (sym (is_now a)) x
+  as_now : (a : Reply) → GoesAlong w content forced (behind g v h.marks.member (now a)) h (now a) → Left a
+  as_now a x = subst (λ (z : Held). GoesAlong w content forced (behind g v h.marks.member z) h z) (sym (is_now a)) x
 
   n : ℕ
   n = page_number p
@@ -191,7 +191,7 @@ module _ (finds : FindsMoves) (registers : RegistersMoves) (refused : ReadRefuse
       let no = refused g.facility v h.marks.member 0 p page bytes answer (subst (λ z. (z ≡ reply.CacheFull) ⊎ (z ≡ reply.Lost)) (sym e) which) r in
       let old : after.page ≡ h.page = left ∙ kept_bytes h.marks.hand.changed h.page page bytes no.1 lent in
       let t : Held = record { marks = h.marks; page = after.page; spare = after.spare } in
-      as_now a (subst (λ (z : Hand). Goes w content forced (behind g v h.marks.member (record { marks = with_hand h.marks z; page = after.page; spare = after.spare })) h (record { marks = with_hand h.marks z; page = after.page; spare = after.spare })) (sym same)
+      as_now a (subst (λ (z : Hand). GoesAlong w content forced (behind g v h.marks.member (record { marks = with_hand h.marks z; page = after.page; spare = after.spare })) h (record { marks = with_hand h.marks z; page = after.page; spare = after.spare })) (sym same)
       (quiet_by w g content forced v h t (page_number p) b.tied b.numbered b.restarts
       (leaves_hand h t p (g.copies h.marks.member (page_number p)) has has refl refl b.restarts.full shows_on (ap (hand_copy h.marks.hand) old ∙ sym c)) no.0))
 
@@ -203,7 +203,7 @@ module _ (finds : FindsMoves) (registers : RegistersMoves) (refused : ReadRefuse
       as_now reply.Found
       (goes_by w g content forced v h t (page_number p) (found_copy (g.copies h.marks.member (page_number p)) bytes) (entry_moves g.facility.directory p ++ At (page_number p) (Read h.marks.member false) ∷ []) b.numbered b.restarts
       (leaves_hand h t p (found_copy (g.copies h.marks.member (page_number p)) bytes) has has refl refl (λ x. refl) shows_on (copy ∙ ap (λ (z : Copy). found_copy z bytes) (sym c)))
-      (same_members g.facility v _ r.1 (record { members = refl; statuses = refl; counter = refl })) (at_entry g.facility.directory p (page_number p) (Read h.marks.member false))
+      (same_members g.facility v _ r.1 (record { members = refl; statuses = refl; counter = refl })) (at_entry g.facility.directory p (page_number p) (Read h.marks.member false) refl)
       (finds w g content h.marks.member 0 p page bytes v b.good b.tied b.sound (is_live_restarting g forced h b.restarts) (has_frame g forced h p b.restarts has) (subst (λ z. ReadsPage g.facility h.marks.member p 0 page z v bytes) is r)))
 
   empty : read_reply g.facility.directory p ≡ read.NoData → answer ≡ reply.NoData → Left reply.NoData
@@ -216,7 +216,7 @@ module _ (finds : FindsMoves) (registers : RegistersMoves) (refused : ReadRefuse
       as_now reply.NoData
       (goes_by w g content forced v h t (page_number p) (empty_copy (g.copies h.marks.member (page_number p))) (entry_moves d p ++ At (page_number p) (Read h.marks.member false) ∷ []) b.numbered b.restarts
       (leaves_hand h t p (empty_copy (g.copies h.marks.member (page_number p))) has has refl refl (λ x. x) shows_on (copy ∙ ap empty_copy (sym c)))
-      (same_members g.facility v _ r.1 (record { members = refl; statuses = refl; counter = refl })) (at_entry d p (page_number p) (Read h.marks.member false))
+      (same_members g.facility v _ r.1 (record { members = refl; statuses = refl; counter = refl })) (at_entry d p (page_number p) (Read h.marks.member false) refl)
       (registers w g content h.marks.member 0 p page bytes v b.good b.tied b.sound (is_live_restarting g forced h b.restarts) (has_frame g forced h p b.restarts has) (subst (λ z. ReadsPage g.facility h.marks.member p 0 page z v bytes) is r)))
 
   read_by : (x : ReadReply) → read_reply g.facility.directory p ≡ x → Left answer
@@ -250,7 +250,7 @@ fill_goes law w g content forced h p b has registered unfilled =
     let clean : hand.changed ≡ true → hand.filled ≡ true = b.restarts.full in
     let copy : hand_copy t.marks.hand t.page ≡ filled_copy (hand_copy hand h.page) bytes = ap (λ z. record (hand_copy hand h.page) { filled = true; noted = z; bytes = bytes }) noted in
     goes_by w g content forced g.facility h t n (filled_copy (g.copies m n) bytes) (At n (ReadDisk m) ∷ []) b.numbered b.restarts
-    (leaves_hand h t p (filled_copy (g.copies m n) bytes) has has refl refl (λ x. refl) (λ x. absurd (both_ways hand.filled unfilled (clean x))) (copy ∙ ap (λ (z : Copy). filled_copy z bytes) (sym c))) (unchanged g.facility) (at_one n (ReadDisk m))
+    (leaves_hand h t p (filled_copy (g.copies m n) bytes) has has refl refl (λ x. refl) (λ x. absurd (both_ways hand.filled unfilled (clean x))) (copy ∙ ap (λ (z : Copy). filled_copy z bytes) (sym c))) (unchanged g.facility) (at_one n (ReadDisk m) refl)
     (law w g content m n b.tied (is_live_restarting g forced h b.restarts) (ap (λ (z : Copy). z.filled) c ∙ unfilled))
 
 -- ---- it is tested: a filled frame counts as registered all along
@@ -262,15 +262,15 @@ tested_copy hand page x filled =
 pub test_goes : TestGoes
 test_goes w g content forced h p answer v b has filled r = by (bit g.facility.directory h.marks.member 0) r.0
   where
-    left : (x : Bool) → (let t = with_marks h (with_hand h.marks (record h.marks.hand { registered = x })) in Goes w content forced (behind g v h.marks.member t) h t)
+    left : (x : Bool) → (let t = with_marks h (with_hand h.marks (record h.marks.hand { registered = x })) in GoesAlong w content forced (behind g v h.marks.member t) h t)
     left x =
         let t = with_marks h (with_hand h.marks (record h.marks.hand { registered = x })) in
         quiet_by w g content forced v h t (page_number p) b.tied b.numbered b.restarts
         (leaves_hand h t p (g.copies h.marks.member (page_number p)) has has refl refl b.restarts.full b.restarts.shows (tested_copy h.marks.hand h.page x filled ∙ sym (has_copy g forced h p b.restarts has))) r.1
 
-    by : (x : Bool) → answer ≡ (if x then reply.Valid else reply.Invalid) → Goes w content forced (behind g v h.marks.member (tested_in h answer)) h (tested_in h answer)
-    by true e = subst (λ a. Goes w content forced (behind g v h.marks.member (tested_in h a)) h (tested_in h a)) (sym e) (left true)
-    by false e = subst (λ a. Goes w content forced (behind g v h.marks.member (tested_in h a)) h (tested_in h a)) (sym e) (left false)
+    by : (x : Bool) → answer ≡ (if x then reply.Valid else reply.Invalid) → GoesAlong w content forced (behind g v h.marks.member (tested_in h answer)) h (tested_in h answer)
+    by true e = subst (λ a. GoesAlong w content forced (behind g v h.marks.member (tested_in h a)) h (tested_in h a)) (sym e) (left true)
+    by false e = subst (λ a. GoesAlong w content forced (behind g v h.marks.member (tested_in h a)) h (tested_in h a)) (sym e) (left false)
 
 -- ---- it is brought forward
 record Raised (s t : RestartState) (p : PageId) (number : ℕ) : Type 0 where
@@ -297,9 +297,9 @@ ready_raised s key p number rank keyed has =
 
 pub forward_goes : RedoesMoves → ForwardGoes
 forward_goes law w g content forced h p key b has filled keyed valid outcome raises =
-    subst (λ (z : Held). Goes w content forced (behind g g.facility h.marks.member z) h z) (sym is)
+    subst (λ (z : Held). GoesAlong w content forced (behind g g.facility h.marks.member z) h z) (sym is)
     (goes_by w g content forced g.facility h t n (redone_copy (g.copies m n) (content n (w.pages n).last)) (At n (Redo m) ∷ []) b.numbered b.restarts
-    (leaves_hand h t p (redone_copy (g.copies m n) (content n (w.pages n).last)) has x.page x.member x.log (λ _. x.filled ∙ filled) (λ _. sym x.last) (copy ∙ ap (λ (z : Copy). redone_copy z (content n (w.pages n).last)) (sym c))) (unchanged g.facility) (at_one n (Redo m))
+    (leaves_hand h t p (redone_copy (g.copies m n) (content n (w.pages n).last)) has x.page x.member x.log (λ _. x.filled ∙ filled) (λ _. sym x.last) (copy ∙ ap (λ (z : Copy). redone_copy z (content n (w.pages n).last)) (sym c))) (unchanged g.facility) (at_one n (Redo m) refl)
     (law w g content m n 0 b.tied b.restarts.least b.restarts.among b.restarts.restarts raises.own (has_frame g forced h p b.restarts has) (ap (λ (z : Copy). z.noted) c ∙ or_second h.marks.hand.registered h.marks.hand.filled filled) (ap (λ (z : Copy). z.filled) c ∙ filled) valid))
   where
     m : ℕ
@@ -394,7 +394,7 @@ all_stable w g content forced h p b has changed stable i l = elim (cases_lt i q.
 module _ (writes : WritesMoves) (refused : WriteRefused) (w : World) (g : Holdings) (content : ℕ → ℕ → List ℕ) (forced : ℕ → ℕ) (h : Held) (p : PageId) (answer : Reply) (v : Facility) (b : Begins w g content forced h) (has : h.marks.hand.page ≡ Some p) (changed : h.marks.hand.changed ≡ true) (stable : h.marks.hand.last ≤ h.marks.log.stable)
     (r : WritesPage g.facility h.marks.member p 0 h.page answer v) where
   abbrev Written : Reply → Type 0
-  Written a = Goes w content forced (behind g v h.marks.member (with_marks h (with_hand h.marks (written_after h.marks.hand a)))) h (with_marks h (with_hand h.marks (written_after h.marks.hand a)))
+  Written a = GoesAlong w content forced (behind g v h.marks.member (with_marks h (with_hand h.marks (written_after h.marks.hand a)))) h (with_marks h (with_hand h.marks (written_after h.marks.hand a)))
 
   written_as : (a : Reply) → answer ≡ a → Written a → Written answer
   written_as a e x = subst (λ z. Written z) (sym e) x
@@ -402,7 +402,7 @@ module _ (writes : WritesMoves) (refused : WriteRefused) (w : World) (g : Holdin
   not_written : (a : Reply) → answer ≡ a → (a ≡ reply.CacheFull) ⊎ (a ≡ reply.Lost) → written_after h.marks.hand a ≡ h.marks.hand → Written a
   not_written a e which same =
       let no = refused g.facility v h.marks.member 0 p h.page answer (subst (λ z. (z ≡ reply.CacheFull) ⊎ (z ≡ reply.Lost)) (sym e) which) r in
-      subst (λ (z : Hand). Goes w content forced (behind g v h.marks.member (with_marks h (with_hand h.marks z))) h (with_marks h (with_hand h.marks z))) (sym same)
+      subst (λ (z : Hand). GoesAlong w content forced (behind g v h.marks.member (with_marks h (with_hand h.marks z))) h (with_marks h (with_hand h.marks z))) (sym same)
       (quiet_by w g content forced v h h (page_number p) b.tied b.numbered b.restarts
       (leaves_hand h h p (g.copies h.marks.member (page_number p)) has has refl refl b.restarts.full b.restarts.shows (sym (has_copy g forced h p b.restarts has))) no)
 
@@ -416,7 +416,7 @@ module _ (writes : WritesMoves) (refused : WriteRefused) (w : World) (g : Holdin
       written_as reply.Written is
       (goes_by w g content forced v h t n (written_copy (g.copies m n)) (entry_moves g.facility.directory p ++ At n (Write m) ∷ []) b.numbered b.restarts
       (leaves_hand h t p (written_copy (g.copies m n)) has has refl refl (λ x. absurd (cc x)) (λ x. absurd (cc x)) (ap written_copy (sym c)))
-      (same_members g.facility v _ r.1 (record { members = refl; statuses = refl; counter = refl })) (at_entry g.facility.directory p n (Write m))
+      (same_members g.facility v _ r.1 (record { members = refl; statuses = refl; counter = refl })) (at_entry g.facility.directory p n (Write m) refl)
       (writes w g content m 0 p h.page v b.good b.tied b.sound (is_live_restarting g forced h b.restarts) (has_frame g forced h p b.restarts has)
       (ap (λ (z : Copy). z.marked) c ∙ changed) (ap (λ (z : Copy). z.bytes) c) (all_stable w g content forced h p b has changed stable) (subst (λ z. WritesPage g.facility m p 0 h.page z v) is r)))
   written_by write.CacheFull e = let is : answer ≡ reply.CacheFull = r.0 ∙ ap reply_to_write e in written_as reply.CacheFull is (not_written reply.CacheFull is (inl refl) refl)

@@ -4,3 +4,4 @@ pub mod Hands
 pub mod Owning
 pub mod Undoing
 pub mod Locals
+pub mod Bringing

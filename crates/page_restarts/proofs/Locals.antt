@@ -32,6 +32,7 @@ use Rattle.page_restarts.specs.Locals.{CastsNone, MayPark, PutsAside, ReachesGo}
 use Rattle.page_restarts.specs.Stands.{Begins, Goes, IsRestarting, behind, copy_of}
 use Rattle.page_restarts.proofs.Chains.{numbered_along}
 use Rattle.page_restarts.proofs.Hands.{coherent}
+use Rattle.page_restarts.proofs.Standing.{goes_on}
 
 -- ---- a changed page is put aside: the member fails, with nothing to lose, and restarts
 castout_left : (m : ℕ) (o : Option ℕ) → o ≢ Some m → (if (unwrap_or o (m + 1)) == m then None else o) ≡ o
@@ -93,6 +94,7 @@ puts_aside w g content forced h b none all = record {
   moves = Fail m cut ∷ Restart m ∷ [];
   moved = record { world = last; run = (first, (b.tied.running, cuts, refl), (last, (refl, cond-true (m == m) Failed (w.group.status m) (eq-eqb m m refl), refl), refl)); tied = tied };
   numbered = numbered_along w last content forced (λ n. refl) refl refl b.numbered;
+  casts = λ n. castout_left m (w.pages n).castout (free n);
   same = refl;
   stands = record {
     least = b.restarts.least;
@@ -201,6 +203,7 @@ module _ (takes : TakesUp) (puts : PutsDown) (w : World) (g : Holdings) (content
     moves = [];
     moved = record { world = w; run = refl; tied = subst (λ z. Tied w z content) (sym same) b.tied };
     numbered = b.numbered;
+    casts = λ n. refl;
     same = refl;
     stands = subst (λ z. IsRestarting z forced h) (sym same) b.restarts;
   }
@@ -214,14 +217,14 @@ module _ (takes : TakesUp) (puts : PutsDown) (w : World) (g : Holdings) (content
 
   retained : (o : Option TurnKey) → s.hand.page ≡ None → Left (retained_from s o)
   retained None e = idle
-  retained (Some key) e = takes w g content forced h key.page (Some key) b e
+  retained (Some key) e = (takes w g content forced h key.page (Some key) b e).goes
 
   undone : (o : Option PageId) → s.hand.page ≡ None → Left (undone_from s o)
   undone None e = idle
-  undone (Some p) e = takes w g content forced h p None b e
+  undone (Some p) e = (takes w g content forced h p None b e).goes
 
   put_aside : (x : Bool) → s.hand.changed ≡ x → may_put_down s.hand s.claim ≡ true → Left (with_hand s no_hand)
-  put_aside false e may = puts w g content forced h b e
+  put_aside false e may = (puts w g content forced h b e).goes
   put_aside true e may = puts_aside w g content forced h b none (park e (is_kept s.hand.changed (is_some s.hand.key) e (and_parts (not (claims_hand s.claim s.hand.page)) (not s.hand.changed || is_some s.hand.key) may).1))
 
   closes : (id : ℕ) → Left (record s { log = after_put s.log (closing_record s id); trans = after_end s.trans id })
@@ -229,6 +232,7 @@ module _ (takes : TakesUp) (puts : PutsDown) (w : World) (g : Holdings) (content
     moves = [];
     moved = record { world = w; run = refl; tied = subst (λ z. Tied w z content) (sym same) b.tied };
     numbered = b.numbered;
+    casts = λ n. refl;
     same = refl;
     stands = subst (λ z. IsRestarting z forced t) (sym same) (record {
       least = b.restarts.least;
@@ -278,28 +282,6 @@ park_one g m PutDown s a = park_if g m (may_put_down s.hand s.claim) s (with_han
 park_one g m (Close id) s a = park_if g m (may_close s id) s (record s { log = after_put s.log (closing_record s id); trans = after_end s.trans id }) a a
 
 -- ---- several
-run_on : (w mid v : World) (xs ys : List Move) → Run set_of w xs mid → Run set_of mid ys v → Run set_of w (xs ++ ys) v
-run_on w mid v [] ys r q = subst (λ x. Run set_of x ys v) r q
-run_on w mid v (e ∷ es) ys r q = (r.0, r.1, run_on r.0 mid v es ys r.2 q)
-
-behind_twice : (g : Holdings) (m j : ℕ) (t k : Held) → j ≡ m → behind (behind g g.facility m t) g.facility j k ≡ behind g g.facility m k
-behind_twice g m j t k e = subst (λ z. behind (behind g g.facility m t) g.facility z k ≡ behind g g.facility m k) (sym e) (λ i. record g { copies = λ p n. each p n i })
-  where
-    each : (p n : ℕ) → (if p == m then copy_of k n else if p == m then copy_of t n else g.copies p n) ≡ (if p == m then copy_of k n else g.copies p n)
-    each p n = elim (p == m) as (λ z. (if z then copy_of k n else if z then copy_of t n else g.copies p n) ≡ (if z then copy_of k n else g.copies p n)) [ true ↦ refl | false ↦ refl ]
-
-goes_on : (w : World) (g : Holdings) (content : ℕ → ℕ → List ℕ) (forced : ℕ → ℕ) (h t k : Held) → (a : Goes w content forced (behind g g.facility h.marks.member t) h t)
-    → Goes a.moved.world content forced (behind (behind g g.facility h.marks.member t) g.facility t.marks.member k) t k → Goes w content forced (behind g g.facility h.marks.member k) h k
-goes_on w g content forced h t k a c =
-    let same = behind_twice g h.marks.member t.marks.member t k a.same in
-    record {
-      moves = a.moves ++ c.moves;
-      moved = record { world = c.moved.world; run = run_on w a.moved.world c.moved.world a.moves c.moves a.moved.run c.moved.run; tied = subst (λ z. Tied c.moved.world z content) same c.moved.tied };
-      numbered = c.numbered;
-      same = c.same ∙ a.same;
-      stands = subst (λ z. IsRestarting z forced k) same c.stands;
-    }
-
 all_go : AlwaysGood → TakesUp → PutsDown → (xs : List Local) (w : World) (g : Holdings) (content : ℕ → ℕ → List ℕ) (forced : ℕ → ℕ) (h : Held) → Begins w g content forced h → CastsNone g h.marks.member → MayPark g h
     → Goes w content forced (behind g g.facility h.marks.member (with_marks h (all_moved xs h.marks))) h (with_marks h (all_moved xs h.marks))
 all_go good takes puts [] w g content forced h b none park = idle takes puts w g content forced h b none park
@@ -307,7 +289,7 @@ all_go good takes puts (x ∷ xs) w g content forced h b none park =
     let t = with_marks h (moved x h.marks) in
     let a = one takes puts w g content forced h b none park x in
     let left = behind g g.facility h.marks.member t in
-    goes_on w g content forced h t (with_marks h (all_moved xs (moved x h.marks))) a
+    goes_on w g content forced g.facility h t (with_marks h (all_moved xs (moved x h.marks))) a
     (all_go good takes puts xs a.moved.world left content forced t
     (record { good = good set_of a.moves w a.moved.world b.good a.moved.run; tied = a.moved.tied; numbered = a.numbered; sound = b.sound; restarts = a.stands })
     (λ n. subst (λ z. castout_of g.facility.directory (page_at n) ≢ Some z) (sym a.same) (none n))

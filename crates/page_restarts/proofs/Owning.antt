@@ -19,12 +19,12 @@ use Rattle.page_intents.specs.Numbers.{AreNumbered}
 use Rattle.page_intents.specs.Stands.{AreBehind}
 use Rattle.page_restarts.specs.Locks.{AppendGoes, GiveUpGoes, LockGoes, StayGoes}
 use Rattle.page_restarts.specs.Stands.{Begins, Goes, IsRestarting, SameHand, copy_for, copy_of, hand_copy}
-use Rattle.page_restarts.proofs.Chains.{AtPages, at_none, at_one, numbered_on}
+use Rattle.page_restarts.proofs.Chains.{AtPages, at_none, at_one, numbered_on, pages_stay}
 use Rattle.page_restarts.proofs.Hands.{coherent}
 use Rattle.page_restarts.proofs.Standing.{copy_there, has_copy, is_live_restarting}
 
 -- ---- the same page in hand
-same_of : (h t : Held) (n : ℕ) → SameHand h t → copy_of t n ≡ copy_of h n
+pub same_of : (h t : Held) (n : ℕ) → SameHand h t → copy_of t n ≡ copy_of h n
 same_of h t n s =
     let copy = s.copy in
     let page = s.page in
@@ -46,7 +46,7 @@ still g forced h t v owner r keeps s = record {
 goes_as : (w : World) (g : Holdings) (content : ℕ → ℕ → List ℕ) (forced : ℕ → ℕ) (h t : Held) (v : Facility) (owner : ℕ → Option ℕ) (moves : List Move) → Begins w g content forced h → KeepsPages g.facility v → SameHand h t → AtPages moves
     → Moved w moves (record g { facility = v; owner = owner }) content → Goes w content forced (record g { facility = v; owner = owner }) h t
 goes_as w g content forced h t v owner moves b keeps s pages moved =
-    record { moves = moves; moved = moved; numbered = numbered_on w moved.world moves content forced pages moved.run b.numbered; same = s.member; stands = still g forced h t v owner b.restarts keeps s }
+    record { moves = moves; moved = moved; numbered = numbered_on w moved.world moves content forced pages moved.run b.numbered; casts = λ k. (pages_stay w moved.world moves pages moved.run k).castout; same = s.member; stands = still g forced h t v owner b.restarts keeps s }
 
 pub stay_goes : StaysTied → StayGoes
 stay_goes law w g content forced h t v b keeps s = goes_as w g content forced h t v g.owner [] b keeps s at_none (law w g content v b.tied keeps)
@@ -55,7 +55,7 @@ pub lock_goes : LocksMoves → LockGoes
 lock_goes law w g content forced h t p v b free keeps s =
     let m = h.marks.member in
     let n = page_number p in
-    goes_as w g content forced h t v (put g.owner n (Some m)) (At n (Lock m) ∷ []) b keeps s (at_one n (Lock m)) (law w g content m n v b.tied (is_live_restarting g forced h b.restarts) free keeps)
+    goes_as w g content forced h t v (put g.owner n (Some m)) (At n (Lock m) ∷ []) b keeps s (at_one n (Lock m) refl) (law w g content m n v b.tied (is_live_restarting g forced h b.restarts) free keeps)
 
 -- ---- a page that isn't in hand has no copy
 unmarked : (g : Holdings) (forced : ℕ → ℕ) (h : Held) (p : PageId) → IsRestarting g forced h → (h.marks.hand.page ≡ Some p → h.marks.hand.changed ≡ false) → ((q : PageId) → page_number q ≡ page_number p → q ≡ p) → (g.copies h.marks.member (page_number p)).marked ≡ false
@@ -75,7 +75,7 @@ pub give_up_goes : ((p q : PageId) → page_number q ≡ page_number p → q ≡
 give_up_goes one law w g content forced h t p v b own clean written keeps s =
     let m = h.marks.member in
     let n = page_number p in
-    goes_as w g content forced h t v (put g.owner n None) (At n (Purge m) ∷ []) b keeps s (at_one n (Purge m))
+    goes_as w g content forced h t v (put g.owner n None) (At n (Purge m) ∷ []) b keeps s (at_one n (Purge m) refl)
     (law w g content m n v b.tied b.restarts.least b.restarts.among b.restarts.restarts own (unmarked g forced h p b.restarts clean (one p)) written keeps)
 
 -- ---- the append
@@ -114,6 +114,7 @@ append_goes law w g content forced h b =
       moves = Force m (g.written m) ∷ [];
       moved = moved;
       numbered = subst (λ z. AreNumbered z content (put forced m h.marks.log.last)) (sym (moved.run.2 ∙ moved.run.1.3)) numbered;
+      casts = λ k. ap (λ (z : World). (z.pages k).castout) (moved.run.2 ∙ moved.run.1.3);
       same = refl;
       stands = record {
         least = r.least;

@@ -1,5 +1,5 @@
 -- A restart that is still in hand behind an event, with the page in its hand.
-use Rattle.std.proofs.Common.{◌≡◌, ◌≢◌, ℕ, ◌≤◌, refl, sym, ap, subst, ◌∙◌, true, inl, inr, List, [], Some, None}
+use Rattle.std.proofs.Common.{◌≡◌, ◌≢◌, ℕ, ◌≤◌, refl, sym, ap, subst, ◌∙◌, true, false, inl, inr, List, [], ◌∷◌, ◌++◌, Some, None}
 use Rattle.std.specs.Prelude.{◌==◌, ◌&&◌, if◌then◌else◌}
 use Rattle.std.proofs.lemmas.Bool.{and_from, and_parts, cases_eq, cond-false, cond-true, eq-eqb, eqb-true, false_from_ne_true, ne_eqb}
 use Rattle.ds_base.specs.declared.names.PageId.{PageId}
@@ -8,15 +8,15 @@ use Rattle.list_structure.specs.Standings.{is_live, status_of}
 use Rattle.facility.specs.States.{Held as Facility}
 use Rattle.member_log.specs.Buffers.{LogBuffer}
 use Rattle.restart_resources.specs.Held.{Held}
-use Rattle.page_protocol.specs.Moves.{World, Move}
+use Rattle.page_protocol.specs.Moves.{World, Move, Run}
 use Rattle.page_world.specs.Cache.{HasFrame, IsLive}
 use Rattle.page_world.specs.Holdings.{Copy, no_copy, Holdings, with_copy, with_facility}
-use Rattle.page_world.specs.Numbers.{page_number}
+use Rattle.page_world.specs.Numbers.{page_number, set_of}
 use Rattle.page_world.specs.Tied.{Moved, Tied}
 use Rattle.page_intents.specs.Numbers.{AreNumbered}
 use Rattle.page_intents.specs.Stands.{AreBehind}
-use Rattle.page_restarts.specs.Stands.{Goes, IsRestarting, behind, copy_for, copy_of, hand_copy}
-use Rattle.page_restarts.proofs.Chains.{AtPages, at_none, numbered_on}
+use Rattle.page_restarts.specs.Stands.{Goes, GoesAlong, IsRestarting, behind, copy_for, copy_of, hand_copy}
+use Rattle.page_restarts.proofs.Chains.{AtPages, Chain, at_none, numbered_on, pages_stay}
 
 -- ---- the copies
 pub copy_here : (h : Held) (p : PageId) → h.marks.hand.page ≡ Some p → copy_of h (page_number p) ≡ hand_copy h.marks.hand h.page
@@ -100,10 +100,20 @@ pub same_holdings : (g : Holdings) (forced : ℕ → ℕ) (v : Facility) (h t : 
 same_holdings g forced v h t n c r left = λ i. record g { facility = v; copies = λ p j. copies_same g forced v h t n c r left p j i }
 
 pub goes_by : (w : World) (g : Holdings) (content : ℕ → ℕ → List ℕ) (forced : ℕ → ℕ) (v : Facility) (h t : Held) (n : ℕ) (c : Copy) (moves : List Move)
-    → AreNumbered w content forced → IsRestarting g forced h → Leaves h t n c → SameMembers g.facility v → AtPages moves → Moved w moves (with_facility (with_copy g h.marks.member n c) v) content → Goes w content forced (behind g v h.marks.member t) h t
+    → AreNumbered w content forced → IsRestarting g forced h → Leaves h t n c → SameMembers g.facility v → AtPages moves → Moved w moves (with_facility (with_copy g h.marks.member n c) v) content → GoesAlong w content forced (behind g v h.marks.member t) h t
 goes_by w g content forced v h t n c moves numbered r left same pages moved =
     let m = subst (λ z. Moved w moves z content) (same_holdings g forced v h t n c r left) moved in
-    record { moves = moves; moved = m; numbered = numbered_on w m.world moves content forced pages m.run numbered; same = left.member; stands = still g forced v h t n c r left same }
+    record {
+      goes = record {
+        moves = moves;
+        moved = m;
+        numbered = numbered_on w m.world moves content forced pages m.run numbered;
+        casts = λ k. (pages_stay w m.world moves pages m.run k).castout;
+        same = left.member;
+        stands = still g forced v h t n c r left same;
+      };
+      last = λ k. ap (λ (x : Chain). x.last) (pages_stay w m.world moves pages m.run k).chain;
+    }
 
 -- ---- an event that is no move
 same_copy : (g : Holdings) (m n : ℕ) → with_copy g m n (g.copies m n) ≡ g
@@ -119,8 +129,37 @@ same_copy g m n = λ i. record g { copies = λ p j. each p j i }
     ]
 
 pub quiet_by : (w : World) (g : Holdings) (content : ℕ → ℕ → List ℕ) (forced : ℕ → ℕ) (v : Facility) (h t : Held) (n : ℕ)
-    → Tied w g content → AreNumbered w content forced → IsRestarting g forced h → Leaves h t n (g.copies h.marks.member n) → v ≡ g.facility → Goes w content forced (behind g v h.marks.member t) h t
+    → Tied w g content → AreNumbered w content forced → IsRestarting g forced h → Leaves h t n (g.copies h.marks.member n) → v ≡ g.facility → GoesAlong w content forced (behind g v h.marks.member t) h t
 quiet_by w g content forced v h t n tied numbered r left e =
     let same : with_facility (with_copy g h.marks.member n (g.copies h.marks.member n)) v ≡ g = ap (λ (f : Facility). with_facility (with_copy g h.marks.member n (g.copies h.marks.member n)) f) e ∙ same_copy g h.marks.member n in
     goes_by w g content forced v h t n (g.copies h.marks.member n) [] numbered r left (same_members g.facility v g.facility e (record { members = refl; statuses = refl; counter = refl })) at_none
     (record { world = w; run = refl; tied = subst (λ z. Tied w z content) (sym same) tied })
+
+-- ---- two events, one behind the other
+run_on : (w mid v : World) (xs ys : List Move) → Run set_of w xs mid → Run set_of mid ys v → Run set_of w (xs ++ ys) v
+run_on w mid v [] ys r q = subst (λ x. Run set_of x ys v) r q
+run_on w mid v (e ∷ es) ys r q = (r.0, r.1, run_on r.0 mid v es ys r.2 q)
+
+behind_twice : (g : Holdings) (v : Facility) (m j : ℕ) (t k : Held) → j ≡ m → behind (behind g v m t) v j k ≡ behind g v m k
+behind_twice g v m j t k e = subst (λ z. behind (behind g v m t) v z k ≡ behind g v m k) (sym e) (λ i. record g { facility = v; copies = λ p n. each p n i })
+  where
+    each : (p n : ℕ) → (if p == m then copy_of k n else if p == m then copy_of t n else g.copies p n) ≡ (if p == m then copy_of k n else g.copies p n)
+    each p n = elim (p == m) as (λ z. (if z then copy_of k n else if z then copy_of t n else g.copies p n) ≡ (if z then copy_of k n else g.copies p n)) [ true ↦ refl | false ↦ refl ]
+
+pub goes_on : (w : World) (g : Holdings) (content : ℕ → ℕ → List ℕ) (forced : ℕ → ℕ) (v : Facility) (h t k : Held) → (a : Goes w content forced (behind g v h.marks.member t) h t)
+    → Goes a.moved.world content forced (behind (behind g v h.marks.member t) v t.marks.member k) t k → Goes w content forced (behind g v h.marks.member k) h k
+goes_on w g content forced v h t k a c =
+    let same = behind_twice g v h.marks.member t.marks.member t k a.same in
+    record {
+      moves = a.moves ++ c.moves;
+      moved = record { world = c.moved.world; run = run_on w a.moved.world c.moved.world a.moves c.moves a.moved.run c.moved.run; tied = subst (λ z. Tied c.moved.world z content) same c.moved.tied };
+      numbered = c.numbered;
+      casts = λ n. c.casts n ∙ a.casts n;
+      same = c.same ∙ a.same;
+      stands = subst (λ z. IsRestarting z forced k) same c.stands;
+    }
+
+pub along_on : (w : World) (g : Holdings) (content : ℕ → ℕ → List ℕ) (forced : ℕ → ℕ) (v : Facility) (h t k : Held) → (a : GoesAlong w content forced (behind g v h.marks.member t) h t)
+    → GoesAlong a.goes.moved.world content forced (behind (behind g v h.marks.member t) v t.marks.member k) t k → GoesAlong w content forced (behind g v h.marks.member k) h k
+unfolding goes_on
+along_on w g content forced v h t k a c = record { goes = goes_on w g content forced v h t k a.goes c.goes; last = λ n. c.last n ∙ a.last n }

@@ -79,6 +79,7 @@ undo_goes law w g content forced h t p number v b has filled own newest r u = re
   moves = Draw m touched ∷ [];
   moved = moved;
   numbered = subst (λ z. AreNumbered z now forced) (sym (moved.run.2 ∙ moved.run.1.2)) (numbered_drawn w content forced m number touched (λ j. t.page) b.numbered (drawn_is.0 ∙ ap (λ z. z + 1) (sym b.tied.counter)) (λ j e. u.shows));
+  casts = λ k. ap (λ (z : World). (z.pages k).castout) (moved.run.2 ∙ moved.run.1.2) ∙ changed_castout k (touched k);
   same = u.member;
   stands = stands;
 }
@@ -94,6 +95,10 @@ undo_goes law w g content forced h t p number v b has filled own newest r u = re
 
     now : ℕ → ℕ → List ℕ
     now = content_behind w touched (λ j. t.page) content
+
+    changed_castout : (k : ℕ) (x : Bool) → (if x then change (w.pages k) m (w.group.written m) (w.group.counter + 1) else w.pages k).castout ≡ (w.pages k).castout
+    changed_castout k true = refl
+    changed_castout k false = refl
 
     indexes : Indexes
     indexes = record { count = 1; at = 0 ∷ 0 ∷ 0 ∷ [] }

@@ -3,3 +3,4 @@ pub mod Hands
 pub mod Locks
 pub mod Undoes
 pub mod Locals
+pub mod Bringing

@@ -56,14 +56,20 @@ pub record Begins (w : World) (g : Holdings) (content : ℕ → ℕ → List ℕ
 abbrev pub behind : Holdings → Facility → ℕ → Held → Holdings
 behind g v m t = record g { facility = v; copies = λ k n. if k == m then copy_of t n else g.copies k n }
 
--- moves lead to a world that stands beside what an event of it has left, whose versions still show their numbers; and its restart is still
--- in hand
+-- moves lead to a world that stands beside what an event of it has left, whose versions still show their numbers, with the castout locks as
+-- they were; and its restart is still in hand
 pub record Goes (w : World) (content : ℕ → ℕ → List ℕ) (forced : ℕ → ℕ) (left : Holdings) (h t : Held) : Type 0 where
   pub moves : List Move
   pub moved : Moved w moves left content
   pub numbered : AreNumbered moved.world content forced
+  pub casts : (n : ℕ) → (moved.world.pages n).castout ≡ (w.pages n).castout
   pub same : t.marks.member ≡ h.marks.member
   pub stands : IsRestarting left forced t
+
+-- and no page has changed
+pub record GoesAlong (w : World) (content : ℕ → ℕ → List ℕ) (forced : ℕ → ℕ) (left : Holdings) (h t : Held) : Type 0 where
+  pub goes : Goes w content forced left h t
+  pub last : (n : ℕ) → (goes.moved.world.pages n).last ≡ (w.pages n).last
 
 -- ---- an event that leaves the page in hand, and the log
 pub record SameHand (h t : Held) : Type 0 where

@@ -4,11 +4,13 @@
 //! The crate has definitions and proofs alone. Its functions do nothing: their contracts are the theorems.
 #![tactic(auto)]
 
+ghost use Rattle.page_restarts.specs.Bringing.{BringGoes, ReadsOn, TestsOn};
 ghost use Rattle.page_restarts.specs.Hands.{FillGoes, ForwardGoes, PutsDown, ReadGoes, TakesUp, TestGoes, WriteGoes};
 ghost use Rattle.page_restarts.specs.Locals.{PutsAside, ReachesGo};
 ghost use Rattle.page_restarts.specs.Locks.{AppendGoes, GiveUpGoes, LockGoes, StayGoes};
 ghost use Rattle.page_restarts.specs.Undoes.{UndoGoes};
 
+use cache_structure::keeps_entries_apart;
 use page_protocol::coherent_pages;
 use page_world::{
     draws_are_moves, frames_are_moves, losses_are_moves, owners_are_moves, pages_have_numbers,
@@ -48,6 +50,18 @@ pub fn forwards_go()
     ensures forward { ForwardGoes }
 {
     frames_are_moves();
+}
+
+/// The page in hand is brought forward in the event in which its bit is seen to be set: whatever the reply to a read or a test of it.
+pub fn hands_brought_forward()
+    ensures bring { BringGoes }
+    ensures read { ReadsOn }
+    ensures test { TestsOn }
+{
+    keeps_entries_apart();
+    coherent_pages();
+    reads_go();
+    forwards_go();
 }
 
 /// A changed page that is written, whatever the reply, where the own log has all its changes.
