@@ -1,6 +1,6 @@
 -- Logs of whole records that are read by blocks.
-use Rattle.std.proofs.Common.{◌≡◌, ℕ, zero, suc, ◌+◌, ◌-◌, ◌<◌, Bool, true, false, cond, List, [], ◌∷◌, ◌++◌, length, get_or, set, take, drop, Option, Some, None, Result, Ok, Err, refl, sym, ap, subst, ◌∙◌, arith}
-use Rattle.std.specs.Prelude.{nat_lt, min}
+use Rattle.std.proofs.Common.{◌≡◌, ℕ, zero, suc, ◌+◌, ◌-◌, ◌<◌, Bool, true, false, true≢false, ◌||◌, cond, List, [], ◌∷◌, ◌++◌, length, get_or, set, take, drop, Option, Some, None, Result, Ok, Err, refl, sym, ap, subst, ◌∙◌, arith}
+use Rattle.std.specs.Prelude.{nat_lt, min, ◌==◌, ◌&&◌}
 use Rattle.std.specs.List.{AllByRecursion}
 use Rattle.std.proofs.lemmas.Bool.{ltb-true, ltb-false}
 use Rattle.std.proofs.lemmas.List.{drop_at}
@@ -19,15 +19,18 @@ use Rattle.log_head.specs.Laws.{NothingIsShort, PartsAreWhole, TakenIsFirst, Rec
 use Rattle.log_heads.specs.declared.taken.Taken.{Taken}
 use Rattle.log_heads.specs.declared.taken.Taken.TheVariants as taken
 use Rattle.log_heads.specs.Heads.{HeadsState, head_at, heads_of, AreStarts, or_else, stop_of, first_stop, least_from, taken_record, taken_by, taken_of, heads_by, after_taken, after_fill}
-use Rattle.log_heads.specs.Logs.{AreOf, left, NoneFalls, GoesOn, IsFilled}
+use Rattle.log_heads.specs.Logs.{AreOf, left, together, NoneFalls, GoesOn, IsFilled}
 use Rattle.report_check.specs.Records.{records_of}
 use Rattle.opening_rows.specs.Reading.{AreLogsOf}
 use Rattle.opening_rows.specs.Surveyed.{lengths_of}
 use Rattle.std.specs.FinMap as finite
 use Rattle.ds_model.specs.Rows.{Rows}
-use Rattle.ds_model.specs.Logs.{after_body}
-use Rattle.opening_rows.specs.Rows.{IsWhole, AreWhole, Stand, Comes, IsNextOfAll, rows_by}
-use Rattle.opening_rows.proofs.Order.{row_more, rows_done}
+use Rattle.std.specs.BTreeSet as set
+use Rattle.std.specs.Ordering.{nat_cmp}
+use Rattle.ds_model.specs.Logs.{is_commit, has_commit, by_lrsn}
+use Rattle.opening_rows.specs.Rows.{IsWhole, AreWhole, Stand, Comes, IsNextOfAll, rows_by, counts, IsAdded, IsMade}
+use Rattle.opening_rows.specs.declared.made.Made.{Made}
+use Rattle.opening_rows.proofs.Order.{row_more, rows_done, none_together, commits_by}
 
 abbrev Read : Type 0
 Read = Result (LogRecord × ℕ) RecordFault
@@ -241,34 +244,70 @@ start parts bytes logs starts ends z long is rise are =
     subst (λ (l : List ℕ). Start bytes (heads_of starts l) logs) (sym is)
     (record { stand = record { of = b.of; whole = b.whole }; left_is = b.left_is; none = subst NoneFalls (sym b.left_is) (none_falls logs rise) })
 
--- ---- rows
+-- ---- what is made of records
 
--- what is left of the logs gives of these rows what all of it gave
-pub record IsRest (logs : List (List ℕ)) (keeps : ℕ → Bool) (start now : List HeadState) (rows : Rows) : Type 0 where
+none_found : (f p x : Bool) → f ≡ (p && false) → (f || x) ≡ x
+none_found true true x e = absurd (true≢false e)
+none_found true false x e = absurd (true≢false e)
+none_found false p x e = refl
+
+found_on : (f g p a b : Bool) → g ≡ (f || (p && (a || false))) → (g || (p && b)) ≡ (f || (p && (a || b)))
+found_on true g p a b e = ap (λ (x : Bool). x || (p && b)) e
+found_on false g true true b e = ap (λ (x : Bool). x || b) e
+found_on false g true false b e = ap (λ (x : Bool). x || b) e
+found_on false g false a b e = ap (λ (x : Bool). x || false) e
+
+found_all : (f p c d : Bool) → c ≡ false → (f || (p && c)) ≡ d → f ≡ d
+found_all true p c d none e = e
+found_all false true c d none e = sym none ∙ e
+found_all false false c d none e = e
+
+abbrev commits_left : List (List ℕ) → List HeadState → ℕ → Bool
+commits_left logs heads tran = has_commit (by_lrsn (together (left logs heads))) tran
+
+-- what is left of the logs gives beside this what all of it gave
+pub record IsRest (logs : List (List ℕ)) (pending committed : ℕ → Bool) (start now : List HeadState) (m : Made) : Type 0 where
   pub stand : Stand logs now
   pub none : NoneFalls (left logs now)
-  pub rest : rows_by keeps rows (left logs now) ≡ rows_by keeps finite.empty (left logs start)
+  pub rest : rows_by (counts pending committed) m.rows (left logs now) ≡ rows_by (counts pending committed) finite.empty (left logs start)
+  pub found : (tran : ℕ) → (set.contains nat_cmp m.found tran || (pending tran && commits_left logs now tran)) ≡ (pending tran && commits_left logs start tran)
 
-abbrev pub RowsSoFar : List (List ℕ) → (ℕ → Bool) → List HeadState → List HeadState → Rows → Type 0
-RowsSoFar logs keeps start now rows = Stand logs start → NoneFalls (left logs start) → IsRest logs keeps start now rows
+abbrev pub MadeSoFar : List (List ℕ) → (ℕ → Bool) → (ℕ → Bool) → List HeadState → List HeadState → Made → Type 0
+MadeSoFar logs pending committed start now m = Stand logs start → NoneFalls (left logs start) → IsRest logs pending committed start now m
 
-pub rows_start : (logs : List (List ℕ)) (keeps : ℕ → Bool) (start : List HeadState) → RowsSoFar logs keeps start start finite.empty
-rows_start logs keeps start = λ stand none. record { stand = stand; none = none; rest = refl }
+pub made_start : (logs : List (List ℕ)) (pending committed : ℕ → Bool) (start : List HeadState) (m : Made) → IsMade pending committed [] m → MadeSoFar logs pending committed start start m
+made_start logs pending committed start m is = λ stand none. record {
+  stand = stand;
+  none = none;
+  rest = ap (λ (rows : Rows). rows_by (counts pending committed) rows (left logs start)) is.rows_are;
+  found = λ tran. none_found (set.contains nat_cmp m.found tran) (pending tran) (pending tran && commits_left logs start tran) (is.found_are tran);
+}
 
-pub rows_on : (logs : List (List ℕ)) (keeps : ℕ → Bool) (start old new : List HeadState) (rows after : Rows) (r : LogRecord) → RowsSoFar logs keeps start old rows
-    → (Stand logs old → Stand logs new × IsNextOfAll (left logs old) (Some r) (left logs new)) → after ≡ cond (keeps r.tran) (after_body rows r.body) rows → RowsSoFar logs keeps start new after
-rows_on logs keeps start old new rows after r so_far next is = λ stand none.
+pub made_on : (logs : List (List ℕ)) (pending committed : ℕ → Bool) (start old new : List HeadState) (m after : Made) (r : LogRecord) → MadeSoFar logs pending committed start old m
+    → (Stand logs old → Stand logs new × IsNextOfAll (left logs old) (Some r) (left logs new)) → IsAdded pending committed m after r → MadeSoFar logs pending committed start new after
+made_on logs pending committed start old new m after r so_far next is = λ stand none.
     let s = so_far stand none in
     let n = next s.stand in
     let t = n.1.1 in
+    let lowest : by_lrsn (together (left logs old)) ≡ r ∷ by_lrsn (together (left logs new)) = t.lowest s.none in
     record {
       stand = n.0;
       none = t.rises s.none;
-      rest = ap (λ (m : Rows). rows_by keeps m (left logs new)) is ∙ sym (row_more keeps rows n.1.0 r (left logs old) (left logs new) t s.none) ∙ s.rest;
+      rest = ap (λ (rows : Rows). rows_by (counts pending committed) rows (left logs new)) is.rows_are ∙ sym (row_more (counts pending committed) m.rows n.1.0 r (left logs old) (left logs new) t s.none) ∙ s.rest;
+      found = λ tran.
+          found_on (set.contains nat_cmp m.found tran) (set.contains nat_cmp after.found tran) (pending tran) (is_commit r.body && (r.tran == tran)) (commits_left logs new tran) (is.found_are tran)
+          ∙ ap (λ (l : List LogRecord). set.contains nat_cmp m.found tran || (pending tran && has_commit l tran)) (sym lowest)
+          ∙ s.found tran;
     }
 
-pub rows_end : (logs : List (List ℕ)) (keeps : ℕ → Bool) (start old new : List HeadState) (rows : Rows) → RowsSoFar logs keeps start old rows
-    → (Stand logs old → Stand logs new × IsNextOfAll (left logs old) None (left logs new)) → Stand logs start → NoneFalls (left logs start) → rows ≡ rows_by keeps finite.empty (left logs start)
-rows_end logs keeps start old new rows so_far next stand none =
+pub made_end : (logs : List (List ℕ)) (pending committed : ℕ → Bool) (start old new : List HeadState) (m : Made) → MadeSoFar logs pending committed start old m
+    → (Stand logs old → Stand logs new × IsNextOfAll (left logs old) None (left logs new)) → Stand logs start → NoneFalls (left logs start) → IsMade pending committed (left logs start) m
+made_end logs pending committed start old new m so_far next stand none =
     let s = so_far stand none in
-    sym (rows_done keeps rows (left logs old) (next s.stand).1) ∙ s.rest
+    let over = (next s.stand).1 in
+    record {
+      rows_are = sym (rows_done (counts pending committed) m.rows (left logs old) over) ∙ s.rest;
+      found_are = λ tran.
+          found_all (set.contains nat_cmp m.found tran) (pending tran) (commits_left logs old tran) (pending tran && commits_left logs start tran) (ap (λ (l : List LogRecord). has_commit (by_lrsn l) tran) (none_together (left logs old) over)) (s.found tran)
+          ∙ ap (λ (b : Bool). pending tran && b) (commits_by (together (left logs start)) tran);
+    }

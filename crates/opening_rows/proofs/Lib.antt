@@ -1,4 +1,5 @@
 mod Told
+mod Committing
 mod Surveys
 mod Steps
 mod Opens

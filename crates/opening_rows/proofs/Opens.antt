@@ -1,12 +1,10 @@
 -- The survey of all logs, and what the rows stand for.
-use Rattle.std.proofs.Common.{◌≡◌, ℕ, ◌+◌, ◌-◌, ◌<◌, Bool, ◌||◌, List, [], ◌∷◌, ◌++◌, length, take, get_or, Option, Some, None, Ok, refl, sym, ap, subst, ◌∙◌, arith}
-use Rattle.std.specs.Prelude.{◌==◌, ◌&&◌, IsErrOf}
+use Rattle.std.proofs.Common.{◌≡◌, ℕ, ◌+◌, ◌-◌, ◌<◌, Bool, false, List, [], ◌∷◌, ◌++◌, length, take, get_or, Option, Some, None, Ok, refl, sym, ap, subst, ◌∙◌, arith}
+use Rattle.std.specs.Prelude.{IsErrOf}
 use Rattle.std.proofs.lemmas.List.{append-nil, map-append, take_all, take_more}
 use Rattle.std.proofs.lemmas.List.Concat.{flat_map-append}
-use Rattle.std.proofs.lemmas.List.Folds.{list_any-append}
 use Rattle.ds_disk.specs.Contents.{Contents, log_of, WhenTold}
 use Rattle.ds_model.specs.declared.log.LogRecord.{LogRecord}
-use Rattle.ds_model.specs.Logs.{has_commit, is_commit}
 use Rattle.log_record.specs.declared.log.Log.{Log}
 use Rattle.log_record.specs.Logs.{IsLogOf}
 use Rattle.log_merge.specs.Merging.{RisesFrom, all_records, NoneFalls}
@@ -16,10 +14,12 @@ use Rattle.opening_rows.specs.declared.fault.LogsFault.TheVariants.{Failed, Dama
 use Rattle.opening_rows.specs.declared.opening.Opening.{Opening}
 use Rattle.opening_rows.specs.Reading.{AreLogsOf, ReadsBy}
 use Rattle.opening_rows.specs.Opening.{record_counts, stood_for, OpensAs}
+use Rattle.opening_rows.specs.Pending.{is_pending}
 use Rattle.opening_rows.specs.Survey.{IsSurveyed}
 use Rattle.opening_rows.specs.Surveyed.{lengths_of, AreSurveyed}
 use Rattle.opening_rows.specs.Rows.{AreSurveyedAs}
 use Rattle.opening_rows.proofs.Told.{reads_on, reads_to}
+use Rattle.opening_rows.proofs.Committing.{pending_more}
 
 -- ---- one log more
 
@@ -36,8 +36,8 @@ none_more (l ∷ ls) log h is = (h.0, none_more ls log h.1 is)
 records_more : (logs : List Log) (log : Log) → all_records (logs ++ log ∷ []) ≡ all_records logs ++ log.records
 records_more logs log = flat_map-append (λ (l : Log). l.records) logs (log ∷ []) ∙ ap (λ (t : List LogRecord). all_records logs ++ t) (append-nil log.records)
 
-commits_more : (logs : List Log) (log : Log) (tran : ℕ) → has_commit (all_records (logs ++ log ∷ [])) tran ≡ (has_commit (all_records logs) tran || has_commit log.records tran)
-commits_more logs log tran = ap (λ (l : List LogRecord). has_commit l tran) (records_more logs log) ∙ list_any-append (λ (x : LogRecord). is_commit x.body && (x.tran == tran)) (all_records logs) log.records
+pending_on : (logs : List Log) (log : Log) (tran : ℕ) → is_pending tran false (all_records (logs ++ log ∷ [])) ≡ is_pending tran (is_pending tran false (all_records logs)) log.records
+pending_on logs log tran = ap (λ (l : List LogRecord). is_pending tran false l) (records_more logs log) ∙ pending_more tran false (all_records logs) log.records
 
 at_place : (n : ℕ) → n + 1 - 1 ≡ n
 at_place n = omega arith
@@ -56,11 +56,11 @@ more_surveyed bss n member end count ends had ends_now had_now before now lt its
       rise = none_more s.logs log s.rise one.rises;
       ends_are = ends_is ∙ ap (λ (l : List ℕ). l ++ end ∷ []) s.ends_are ∙ ap (λ (k : ℕ). lengths_of s.logs ++ k ∷ []) one.end_is ∙ sym (map-append (λ (l : Log). l.length) s.logs (log ∷ []));
       had_are = had_is ∙ ap (λ (l : List ℕ). l ++ count ∷ []) s.had_are ∙ ap (λ (k : ℕ). record_counts s.logs ++ k ∷ []) one.count_is ∙ sym (map-append (λ (l : Log). length l.records) s.logs (log ∷ []));
-      commits = λ tran. one.commits tran ∙ ap (λ (b : Bool). b || has_commit log.records tran) (s.commits tran) ∙ sym (commits_more s.logs log tran);
+      pending_are = λ tran. one.pending_are tran ∙ ap (λ (b : Bool). is_pending tran b log.records) (s.pending_are tran) ∙ sym (pending_on s.logs log tran);
     }
 
-pub none_surveyed : (bss : List (List ℕ)) (now : ℕ → Bool) → ((tran : ℕ) → now tran ≡ has_commit [] tran) → AreSurveyed (take 0 bss) [] [] now
-none_surveyed bss now none = record { logs = []; are = tt; rise = tt; ends_are = refl; had_are = refl; commits = none }
+pub none_surveyed : (bss : List (List ℕ)) (now : ℕ → Bool) → ((tran : ℕ) → now tran ≡ false) → AreSurveyed (take 0 bss) [] [] now
+none_surveyed bss now none = record { logs = []; are = tt; rise = tt; ends_are = refl; had_are = refl; pending_are = none }
 
 pub all_surveyed : (a : Option Contents) (n : ℕ) (ends had : List ℕ) (now : ℕ → Bool) → n ≡ 32 → ((c : Contents) → a ≡ Some c → length c.logs ≡ 32)
     → WhenTold a (λ c. length c.logs ≡ 32 → AreSurveyed (take n c.logs) ends had now) → WhenTold a (λ c. AreSurveyed c.logs ends had now)
@@ -77,11 +77,11 @@ opens c ends now opening s rows = record {
   logs = s.logs;
   are = s.are;
   rise = s.rise;
-  is = record { rows_are = rows s.logs (record { are = s.are; rise = s.rise; ends_are = s.ends_are; commits = s.commits }); had_is = s.had_are };
+  is = record { rows_are = rows s.logs (record { are = s.are; rise = s.rise; ends_are = s.ends_are; pending_are = s.pending_are }); had_is = s.had_are };
 }
 
 pub surveyed_as : (bytes : List (List ℕ)) (ends had : List ℕ) (now : ℕ → Bool) (s : AreSurveyed bytes ends had now) → AreSurveyedAs bytes ends now s.logs
-surveyed_as bytes ends had now s = record { are = s.are; rise = s.rise; ends_are = s.ends_are; commits = s.commits }
+surveyed_as bytes ends had now s = record { are = s.are; rise = s.rise; ends_are = s.ends_are; pending_are = s.pending_are }
 
 pub opened : {X : Type 0} (a b e : Option Contents) (n k m : ℕ) (IsP : X → Contents → Type 0) (x : X) (ends had : List ℕ) (now : ℕ → Bool) (rows : List Row) (opening : Opening) (BadP BadQ BadR : ℕ → ℕ → Contents → Type 0)
     → ReadsBy a b n k IsP BadP (Ok x) → ((c : Contents) → IsP x c → AreSurveyed c.logs ends had now) → ReadsBy b e k m (λ (r : List Row) (c : Contents). (logs : List Log) → AreSurveyedAs c.logs ends now logs → r ≡ stood_for logs) BadQ (Ok rows)

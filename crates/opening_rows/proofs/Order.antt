@@ -1,17 +1,21 @@
 -- Records of some transactions, in the order of their numbers.
-use Rattle.std.proofs.Common.{◌≡◌, ℕ, ◌<◌, ◌≤◌, Bool, true, false, cond, leb, List, [], ◌∷◌, ◌++◌, refl, sym, ap, ◌∙◌, arith}
+use Rattle.std.proofs.Common.{◌≡◌, ℕ, ◌<◌, ◌≤◌, Bool, true, false, true≢false, ◌||◌, cond, leb, List, [], ◌∷◌, ◌++◌, refl, sym, ap, subst, ◌∙◌, append_assoc, arith}
+use Rattle.std.specs.Prelude.{◌==◌, ◌&&◌}
 use Rattle.std.specs.List.{filter, AllByRecursion}
 use Rattle.std.specs.FinMap as finite
 use Rattle.std.proofs.lemmas.List.Folds.{flat_map-map}
-use Rattle.std.proofs.lemmas.List.Elements.{filter_agree}
 use Rattle.ds_model.specs.declared.log.LogRecord.{LogRecord}
+use Rattle.ds_model.specs.declared.log.Body.{Body}
+use Rattle.ds_model.specs.declared.log.Body.TheVariants as body
 use Rattle.ds_model.specs.Rows.{Rows}
-use Rattle.ds_model.specs.Logs.{has_commit, put_by_lrsn, by_lrsn, after_body, after_records, rows_of_logs}
+use Rattle.ds_model.specs.Logs.{is_commit, has_commit, put_by_lrsn, by_lrsn, after_body, after_records, rows_of_logs}
 use Rattle.log_record.specs.declared.log.Log.{Log}
 use Rattle.log_merge.specs.Merging.{RisesFrom, all_records}
 use Rattle.log_heads.specs.Logs.{together, NoneFalls, IsTaken}
 use Rattle.report_check.specs.Records.{records_of}
-use Rattle.opening_rows.specs.Rows.{AreRead, rows_by}
+use Rattle.opening_rows.specs.Pending.{is_pending}
+use Rattle.opening_rows.specs.Rows.{AreRead, rows_by, counts}
+use Rattle.opening_rows.proofs.Committing.{is_change, has_change, change_at, counts_right}
 
 leb-within : (m n : ℕ) → m ≤ n → leb m n ≡ true
 leb-within m n h = grind arith
@@ -106,7 +110,7 @@ row_more keeps rows member r before after is none =
     ap (λ (l : List LogRecord). after_records rows (filter (λ (x : LogRecord). keeps x.tran) l)) (is.lowest none)
     ∙ step_when (keeps r.tran) rows r (filter (λ (x : LogRecord). keeps x.tran) (by_lrsn (together after)))
 
-none_together : (lists : List (List LogRecord)) → AreRead lists → together lists ≡ []
+pub none_together : (lists : List (List LogRecord)) → AreRead lists → together lists ≡ []
 none_together [] h = refl
 none_together (l ∷ ls) h = ap (λ (x : List LogRecord). x ++ together ls) h.0 ∙ none_together ls h.1
 
@@ -114,11 +118,80 @@ none_together (l ∷ ls) h = ap (λ (x : List LogRecord). x ++ together ls) h.0 
 pub rows_done : (keeps : ℕ → Bool) (rows : Rows) (lists : List (List LogRecord)) → AreRead lists → rows_by keeps rows lists ≡ rows
 rows_done keeps rows lists h = ap (λ (l : List LogRecord). after_records rows (filter (λ (x : LogRecord). keeps x.tran) (by_lrsn l))) (none_together lists h)
 
+-- ---- transactions that have committed
+
+or_turned : (a b c : Bool) → (a || (b || c)) ≡ (b || (a || c))
+or_turned true true c = refl
+or_turned true false c = refl
+or_turned false b c = refl
+
+commits_put_when : (b : Bool) (r s : LogRecord) (ss us : List LogRecord) (tran : ℕ) → has_commit us tran ≡ has_commit (r ∷ ss) tran → has_commit (cond b (r ∷ s ∷ ss) (s ∷ us)) tran ≡ has_commit (r ∷ s ∷ ss) tran
+commits_put_when true r s ss us tran e = refl
+commits_put_when false r s ss us tran e =
+    ap (λ (x : Bool). (is_commit s.body && (s.tran == tran)) || x) e ∙ or_turned (is_commit s.body && (s.tran == tran)) (is_commit r.body && (r.tran == tran)) (has_commit ss tran)
+
+commits_put : (r : LogRecord) (l : List LogRecord) (tran : ℕ) → has_commit (put_by_lrsn r l) tran ≡ has_commit (r ∷ l) tran
+commits_put r [] tran = refl
+commits_put r (s ∷ ss) tran = commits_put_when (leb r.lrsn s.lrsn) r s ss (put_by_lrsn r ss) tran (commits_put r ss tran)
+
+-- the order says nothing of them
+pub commits_by : (l : List LogRecord) (tran : ℕ) → has_commit (by_lrsn l) tran ≡ has_commit l tran
+commits_by [] tran = refl
+commits_by (r ∷ rs) tran = commits_put r (by_lrsn rs) tran ∙ ap (λ (x : Bool). (is_commit r.body && (r.tran == tran)) || x) (commits_by rs tran)
+
+-- ---- rows of other records
+
+unchanged : (b : Body) (rows : Rows) → is_change b ≡ false → after_body rows b ≡ rows
+unchanged body.Commit rows e = refl
+unchanged (body.RowChange change) rows e = absurd (true≢false e)
+unchanged (body.Compensation change undone) rows e = refl
+unchanged (body.System patches) rows e = refl
+unchanged body.Ended rows e = refl
+unchanged (body.Checkpoint offset) rows e = refl
+unchanged body.RestartEnd rows e = refl
+
+changes_when : (b c : Bool) (rows : Rows) (r : LogRecord) (xs ys : List LogRecord) → is_change r.body ≡ b → ((m : Rows) → after_records m xs ≡ after_records m ys) → after_records rows (cond c (r ∷ xs) xs) ≡ after_records rows (cond (b && c) (r ∷ ys) ys)
+changes_when true true rows r xs ys e same = same (after_body rows r.body)
+changes_when true false rows r xs ys e same = same rows
+changes_when false true rows r xs ys e same = ap (λ (m : Rows). after_records m xs) (unchanged r.body rows e) ∙ same rows
+changes_when false false rows r xs ys e same = same rows
+
+abbrev changes_of : (LogRecord → Bool) → LogRecord → Bool
+changes_of p r = is_change r.body && p r
+
+-- only row changes count
+changes_only : (p : LogRecord → Bool) (l : List LogRecord) (rows : Rows) → after_records rows (filter p l) ≡ after_records rows (filter (changes_of p) l)
+changes_only p [] rows = refl
+changes_only p (r ∷ rs) rows = changes_when (is_change r.body) (p r) rows r (filter p rs) (filter (changes_of p) rs) refl (λ m. changes_only p rs m)
+
+and_when : (a b c : Bool) → (a ≡ true → b ≡ c) → (a && b) ≡ (a && c)
+and_when true b c h = h refl
+and_when false b c h = refl
+
+behind : (pre rs : List LogRecord) (r : LogRecord) → (pre ++ r ∷ []) ++ rs ≡ pre ++ r ∷ rs
+behind pre rs r = append_assoc pre (r ∷ []) rs
+
+-- tests that agree on transactions with row changes keep the same of these
+changes_agree : (p q : ℕ → Bool) (pre rs : List LogRecord) → ((tran : ℕ) → has_change (pre ++ rs) tran ≡ true → p tran ≡ q tran) → filter (changes_of (λ (r : LogRecord). p r.tran)) rs ≡ filter (changes_of (λ (r : LogRecord). q r.tran)) rs
+changes_agree p q pre [] same = refl
+changes_agree p q pre (r ∷ rs) same =
+    ap (λ (b : Bool). cond b (r ∷ filter (changes_of (λ (x : LogRecord). p x.tran)) rs) (filter (changes_of (λ (x : LogRecord). p x.tran)) rs)) (and_when (is_change r.body) (p r.tran) (q r.tran) (λ is. same r.tran (change_at pre rs r is)))
+    ∙ ap (λ (l : List LogRecord). cond (is_change r.body && q r.tran) (r ∷ l) l) (changes_agree p q (pre ++ r ∷ []) rs (λ tran has. same tran (subst (λ (l : List LogRecord). has_change l tran ≡ true) (behind pre rs r) has)))
+
+rows_agree : (p q : ℕ → Bool) (l : List LogRecord) → ((tran : ℕ) → has_change l tran ≡ true → p tran ≡ q tran)
+    → after_records finite.empty (filter (λ (r : LogRecord). p r.tran) (by_lrsn l)) ≡ after_records finite.empty (filter (λ (r : LogRecord). q r.tran) (by_lrsn l))
+rows_agree p q l same =
+    let f : LogRecord → Bool = λ r. p r.tran in
+    let g : LogRecord → Bool = λ r. q r.tran in
+    changes_only f (by_lrsn l) finite.empty
+    ∙ ap (after_records finite.empty) (kept_by (changes_of f) l ∙ ap by_lrsn (changes_agree p q [] l same) ∙ sym (kept_by (changes_of g) l))
+    ∙ sym (changes_only g (by_lrsn l) finite.empty)
+
 -- the rows for which logs stand
-pub rows_are : (keeps : ℕ → Bool) (logs : List Log) → ((tran : ℕ) → keeps tran ≡ has_commit (all_records logs) tran) → rows_by keeps finite.empty (records_of logs) ≡ rows_of_logs (records_of logs)
-rows_are keeps logs h =
+pub rows_are : (pending committed : ℕ → Bool) (logs : List Log) → ((tran : ℕ) → pending tran ≡ is_pending tran false (all_records logs)) → ((tran : ℕ) → committed tran ≡ (pending tran && has_commit (together (records_of logs)) tran))
+    → rows_by (counts pending committed) finite.empty (records_of logs) ≡ rows_of_logs (records_of logs)
+rows_are pending committed logs are found =
     let all : List LogRecord = together (records_of logs) in
     let same : all ≡ all_records logs = flat_map-map (λ (l : List LogRecord). l) (λ (l : Log). l.records) logs in
-    let agree : (x : LogRecord) → keeps x.tran ≡ has_commit all x.tran = λ x. h x.tran ∙ ap (λ (l : List LogRecord). has_commit l x.tran) (sym same) in
-    ap (after_records finite.empty)
-    (kept_by (λ (x : LogRecord). keeps x.tran) all ∙ ap by_lrsn (filter_agree (λ (x : LogRecord). keeps x.tran) (λ (x : LogRecord). has_commit all x.tran) agree all))
+    let its : (tran : ℕ) → pending tran ≡ is_pending tran false all = λ tran. are tran ∙ ap (λ (l : List LogRecord). is_pending tran false l) (sym same) in
+    rows_agree (counts pending committed) (has_commit all) all (λ tran has. counts_right pending committed all tran (its tran) (found tran) has) ∙ ap (after_records finite.empty) (kept_by (λ (r : LogRecord). has_commit all r.tran) all)

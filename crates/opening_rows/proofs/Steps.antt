@@ -1,9 +1,8 @@
 -- A step of the survey of a log of a disk.
-use Rattle.std.proofs.Common.{◌≡◌, inl, inr, ℕ, ◌+◌, ◌<◌, Bool, true, false, ◌||◌, List, [], ◌∷◌, ◌++◌, length, take, Option, Some, None, Result, Ok, Err, sym, ap, subst, ◌∙◌, arith}
+use Rattle.std.proofs.Common.{◌≡◌, inl, inr, ℕ, ◌+◌, ◌<◌, Bool, true, false, List, [], ◌∷◌, ◌++◌, length, take, Option, Some, None, Result, Ok, Err, sym, ap, subst, ◌∙◌, arith}
 use Rattle.std.specs.Prelude.{IsErrAnd, IsErrOf}
 use Rattle.ds_disk.specs.Contents.{Contents, log_of}
 use Rattle.ds_model.specs.declared.log.LogRecord.{LogRecord}
-use Rattle.ds_model.specs.Logs.{has_commit}
 use Rattle.log_record.specs.Reading.{record_in}
 use Rattle.log_head.specs.Heads.{HeadState, IsShort, IsOf, left_bytes}
 use Rattle.log_head.specs.Laws.{PartsGoOn, PartsEnd, PartsAreBad}
@@ -11,6 +10,7 @@ use Rattle.disk_heads.specs.Records.{IsSound, IsPast, IsNext, IsBadAt}
 use Rattle.opening_rows.specs.declared.fault.LogsFault.{LogsFault}
 use Rattle.opening_rows.specs.declared.fault.LogsFault.TheVariants.{Failed, Damaged}
 use Rattle.opening_rows.specs.Reading.{number_at, HasDamage, FallsAt, BreaksAt, ReadsBy}
+use Rattle.opening_rows.specs.Pending.{is_pending}
 use Rattle.opening_rows.specs.Survey.{IsCounted, IsPassed, GoesOn, IsOver, Passes, IsSurveyed}
 use Rattle.opening_rows.specs.Surveyed.{AreSurveyed}
 use Rattle.opening_rows.specs.declared.survey.Found.{Found}
@@ -62,7 +62,7 @@ pub goes_some : (h g : HeadState) (next : Option LogRecord) (r : LogRecord) → 
 goes_some h g next r e p = record { behind = forward next r h g e p; within = p.within; end_is = p.end_is; sound = p.sound }
 
 pub step_some : PartsGoOn → (a b : Option Contents) (n k member : ℕ) (h g late : HeadState) (low count low_now count_now : ℕ) (now later : ℕ → Bool) (next : Option LogRecord) (r : LogRecord)
-    → ReadsBy a b n k (NextIn member h g) (BadIn member h) (Ok next) → next ≡ Some r → IsPast h g next → IsCounted low low_now count count_now r → ((tran : ℕ) → later tran ≡ (now tran || has_commit (r ∷ []) tran)) → late ≡ g
+    → ReadsBy a b n k (NextIn member h g) (BadIn member h) (Ok next) → next ≡ Some r → IsPast h g next → IsCounted low low_now count count_now r → ((tran : ℕ) → later tran ≡ is_pending tran (now tran) (r ∷ [])) → late ≡ g
     → ReadsBy a b n k (PassedIn member h low count now late low_now count_now later) (BreaksIn member h low count now) (Ok true)
 step_some goes a b n k member h g late low count low_now count_now now later next r p is past counted noted same =
     subst (λ (j : HeadState). ReadsBy a b n k (PassedIn member h low count now j low_now count_now later) (BreaksIn member h low count now) (Ok true)) (sym same)

@@ -1,13 +1,10 @@
 -- Records of a log that are passed one after the other.
-use Rattle.std.proofs.Common.{◌≡◌, ℕ, ◌+◌, ◌-◌, ◌<◌, ◌≤◌, Bool, true, false, ◌||◌, List, [], ◌∷◌, ◌++◌, length, take, drop, Some, None, Result, Ok, Err, refl, sym, ap, subst, ◌∙◌, append_assoc, arith}
-use Rattle.std.specs.Prelude.{◌==◌, ◌&&◌}
+use Rattle.std.proofs.Common.{◌≡◌, ℕ, ◌+◌, ◌-◌, ◌<◌, ◌≤◌, Bool, true, false, List, [], ◌∷◌, ◌++◌, length, take, drop, Some, None, Result, Ok, Err, refl, sym, ap, subst, ◌∙◌, append_assoc, arith}
 use Rattle.std.specs.List.{AllByRecursion}
 use Rattle.std.proofs.lemmas.List.{append-nil, length-append, take_all, take_at, drop_at}
 use Rattle.std.proofs.lemmas.List.Concat.{flat_map-append}
-use Rattle.std.proofs.lemmas.List.Folds.{list_any-append}
 use Rattle.ds_model.specs.declared.log.LogRecord.{LogRecord}
 use Rattle.ds_model.specs.RecordBytes.{record_bytes, log_bytes, IsAllowed}
-use Rattle.ds_model.specs.Logs.{has_commit, is_commit}
 use Rattle.log_record.specs.declared.log.Log.{Log}
 use Rattle.log_record.specs.Reading.{record_in}
 use Rattle.log_record.specs.Logs.{Parts, parts_in, parts_of, IsLogOf}
@@ -17,7 +14,9 @@ use Rattle.log_head.specs.Heads.{HeadState, IsShort, IsOf, left_bytes}
 use Rattle.log_head.specs.Laws.{PartsGoOn, PartsEnd, PartsAreBad}
 use Rattle.disk_heads.specs.Records.{IsNext, IsBadAt}
 use Rattle.opening_rows.specs.Reading.{last_number, number_at, FallsAt}
+use Rattle.opening_rows.specs.Pending.{is_pending}
 use Rattle.opening_rows.specs.Survey.{put_before, IsCounted, IsPassed, Passes, IsSurveyed}
+use Rattle.opening_rows.proofs.Committing.{pending_more}
 
 -- ---- one record more
 
@@ -36,17 +35,6 @@ allowed_more (s ∷ ss) r h is = (h.0, allowed_more ss r h.1 is)
 bytes_more : (rs : List LogRecord) (r : LogRecord) → log_bytes (rs ++ r ∷ []) ≡ log_bytes rs ++ record_bytes r
 bytes_more rs r = flat_map-append record_bytes rs (r ∷ []) ∙ ap (λ (t : List ℕ). log_bytes rs ++ t) (append-nil (record_bytes r))
 
-commit_more : (rs : List LogRecord) (r : LogRecord) (tran : ℕ) → has_commit (rs ++ r ∷ []) tran ≡ (has_commit rs tran || has_commit (r ∷ []) tran)
-commit_more rs r tran = list_any-append (λ (x : LogRecord). is_commit x.body && (x.tran == tran)) rs (r ∷ [])
-
-or_behind : (a b c : Bool) → ((a || b) || c) ≡ (a || (b || c))
-or_behind true b c = refl
-or_behind false b c = refl
-
-or_none : (a : Bool) → a ≡ (a || false)
-or_none true = refl
-or_none false = refl
-
 abbrev pub ok_parts : Parts → Result Parts ℕ
 ok_parts p = Ok p
 
@@ -63,7 +51,7 @@ parts_more rs at r n (Err k) = let e : at + (n + k) ≡ at + n + k = omega arith
 
 -- the record that was taken is counted
 pub one_more : PartsGoOn → (log : List ℕ) (h g : HeadState) (r : LogRecord) (low low_now count count_now : ℕ) (before now later : ℕ → Bool) → IsPassed log h low count before now → IsNext log h g (Some r) → g.end ≡ h.end
-    → IsCounted low low_now count count_now r → ((tran : ℕ) → later tran ≡ (now tran || has_commit (r ∷ []) tran)) → IsPassed log g low_now count_now before later
+    → IsCounted low low_now count count_now r → ((tran : ℕ) → later tran ≡ is_pending tran (now tran) (r ∷ [])) → IsPassed log g low_now count_now before later
 one_more goes log h g r low low_now count count_now before now later p n end counted noted =
     let f = n.next_of in
     let rs : List LogRecord = p.records in
@@ -84,8 +72,7 @@ one_more goes log h g r low low_now count count_now before now later p n end cou
       rises = rises_more 0 rs r p.rises (subst (λ (k : ℕ). k ≤ r.lrsn) p.low_is counted.rises);
       low_is = counted.low_is ∙ sym (last_more 0 rs r);
       count_is = omega (arith, counted.count_is, p.count_is, length-append rs (r ∷ []));
-      commits = λ tran. noted tran ∙ ap (λ (b : Bool). b || has_commit (r ∷ []) tran) (p.commits tran) ∙ or_behind (before tran) (has_commit rs tran) (has_commit (r ∷ []) tran)
-          ∙ ap (λ (b : Bool). before tran || b) (sym (commit_more rs r tran));
+      pending_are = λ tran. noted tran ∙ ap (λ (b : Bool). is_pending tran b (r ∷ [])) (p.pending_are tran) ∙ sym (pending_more tran (before tran) rs (r ∷ []));
     }
 
 -- its number is lower
@@ -122,7 +109,7 @@ none_more log h g low count before now p n end at =
       rises = p.rises;
       low_is = p.low_is;
       count_is = p.count_is;
-      commits = p.commits;
+      pending_are = p.pending_are;
     }
 
 pub none_over : (log : List ℕ) (h g : HeadState) → IsNext log h g None → IsShort (record_in (left_bytes log g))
@@ -149,7 +136,7 @@ nothing_passed log n before is =
       rises = tt;
       low_is = refl;
       count_is = refl;
-      commits = λ tran. or_none (before tran);
+      pending_are = λ tran. refl;
     }
 
 pub surveyed : PartsEnd → (log : List ℕ) (h : HeadState) (low count : ℕ) (before now : ℕ → Bool) → IsPassed log h low count before now → IsShort (record_in (left_bytes log h)) → IsSurveyed log h.at count before now
@@ -171,14 +158,14 @@ surveyed ends log h low count before now p short =
       rises = p.rises;
       end_is = refl;
       count_is = p.count_is;
-      commits = p.commits;
+      pending_are = p.pending_are;
     }
 
 -- ---- a step of the survey
 
 -- a record was passed
 pub passes_on : PartsGoOn → (log : List ℕ) (h g : HeadState) (r : LogRecord) (low low_now count count_now : ℕ) (before now later : ℕ → Bool) → (IsOf log h → IsNext log h g (Some r)) → g.end ≡ h.end
-    → IsCounted low low_now count count_now r → ((tran : ℕ) → later tran ≡ (now tran || has_commit (r ∷ []) tran)) → IsPassed log h low count before now → Passes log g low_now count_now before later true
+    → IsCounted low low_now count count_now r → ((tran : ℕ) → later tran ≡ is_pending tran (now tran) (r ∷ [])) → IsPassed log h low count before now → Passes log g low_now count_now before later true
 passes_on goes log h g r low low_now count count_now before now later n end counted noted p =
     record { passed = one_more goes log h g r low low_now count count_now before now later p (n p.of) end counted noted; over = tt }
 

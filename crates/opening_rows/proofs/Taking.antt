@@ -1,11 +1,8 @@
 -- The records of all logs of a disk, one after the other.
-use Rattle.std.proofs.Common.{◌≡◌, ℕ, Bool, cond, List, Option, Some, None, Result, Ok, Err, sym, subst, ◌∙◌, arith}
+use Rattle.std.proofs.Common.{◌≡◌, ℕ, Bool, List, [], Option, Some, None, Result, Ok, Err, subst, ◌∙◌, arith}
 use Rattle.std.specs.Prelude.{IsErrOf, IsErrAnd}
-use Rattle.std.specs.FinMap as finite
 use Rattle.ds_disk.specs.Contents.{Contents}
 use Rattle.ds_model.specs.declared.log.LogRecord.{LogRecord}
-use Rattle.ds_model.specs.Rows.{Rows}
-use Rattle.ds_model.specs.Logs.{after_body}
 use Rattle.log_head.specs.Heads.{HeadState}
 use Rattle.log_heads.specs.declared.taken.Taken.{Taken}
 use Rattle.log_heads.specs.declared.taken.Taken.TheVariants as taken
@@ -13,9 +10,10 @@ use Rattle.log_heads.specs.Logs.{left, NoneFalls}
 use Rattle.opening_rows.specs.declared.fault.LogsFault.{LogsFault}
 use Rattle.opening_rows.specs.declared.fault.LogsFault.TheVariants.{Failed, Damaged}
 use Rattle.opening_rows.specs.Reading.{ReadsBy}
-use Rattle.opening_rows.specs.Rows.{Stand, AreKept, Comes, IsNextOfAll, rows_by}
+use Rattle.opening_rows.specs.declared.made.Made.{Made}
+use Rattle.opening_rows.specs.Rows.{Stand, AreKept, Comes, IsNextOfAll, IsAdded, IsMade}
 use Rattle.opening_rows.proofs.Told.{same_at, told_all, reads_on, reads_to, err_on}
-use Rattle.opening_rows.proofs.Heads.{RowsSoFar, rows_start, rows_on, rows_end}
+use Rattle.opening_rows.proofs.Heads.{MadeSoFar, made_start, made_on, made_end}
 
 no_error : {U : Type 0} (u : U) (m at : ℕ) → IsErrOf {T = U} {E = LogsFault} (Ok u) (Damaged m at) → ⊥
 no_error u m at e = cc
@@ -79,43 +77,42 @@ bad_came {Y = Y} a b n k m at h0 h1 t IsBad IsR x p e =
     no : IsErrOf {T = Y} (Err (Damaged m at)) Failed → ⊥
     no h = cc
 
--- ---- rows
+-- ---- what is made of records
 
-abbrev pub SoFar : (ℕ → Bool) → List HeadState → List HeadState → Rows → Contents → Type 0
-SoFar keeps start now rows c = RowsSoFar c.logs keeps start now rows
+abbrev pub SoFar : (ℕ → Bool) → (ℕ → Bool) → List HeadState → List HeadState → Made → Contents → Type 0
+SoFar pending committed start now m c = MadeSoFar c.logs pending committed start now m
 
-pub rows_begin : (a : Option Contents) (n : ℕ) (keeps : ℕ → Bool) (start : List HeadState) (rows : Rows) (x : ℕ) → rows ≡ finite.empty → ReadsBy a a n n (λ (w : ℕ) c. SoFar keeps start start rows c) (λ m at c. ⊥) (Ok x)
-rows_begin a n keeps start rows x is =
-    subst (λ (y : Rows). ReadsBy a a n n (λ (w : ℕ) c. SoFar keeps start start y c) (λ m at c. ⊥) (Ok x)) (sym is)
-    (reads_none a n (λ (w : ℕ) c. SoFar keeps start start finite.empty c) (λ m at c. ⊥) x (λ c. rows_start c.logs keeps start))
+abbrev pub MadeOf : (ℕ → Bool) → (ℕ → Bool) → List HeadState → Made → Contents → Type 0
+MadeOf pending committed start m c = Stand c.logs start → NoneFalls (left c.logs start) → IsMade pending committed (left c.logs start) m
+
+pub made_begin : (a : Option Contents) (n : ℕ) (pending committed : ℕ → Bool) (start : List HeadState) (m : Made) (x : ℕ) → IsMade pending committed [] m → ReadsBy a a n n (λ (w : ℕ) c. SoFar pending committed start start m c) (λ m at c. ⊥) (Ok x)
+made_begin a n pending committed start m x is = reads_none a n (λ (w : ℕ) c. SoFar pending committed start start m c) (λ m at c. ⊥) x (λ c. made_start c.logs pending committed start m is)
 
 abbrev pub NextOf : List HeadState → List HeadState → Option LogRecord → Contents → Type 0
 NextOf old new o c = Stand c.logs old → Stand c.logs new × IsNextOfAll (left c.logs old) o (left c.logs new)
 
-pub rows_more : (a b e : Option Contents) (n k j : ℕ) (keeps : ℕ → Bool) (start old new : List HeadState) (rows after : Rows) (o : Option LogRecord) (r : LogRecord) (IsBad BadQ : ℕ → ℕ → Contents → Type 0) (x z : ℕ)
-    → ReadsBy a b n k (λ (w : ℕ) c. SoFar keeps start old rows c) IsBad (Ok x) → ReadsBy b e k j (λ (w : Option LogRecord) c. NextOf old new w c) BadQ (Ok o) → o ≡ Some r → after ≡ cond (keeps r.tran) (after_body rows r.body) rows
-    → ReadsBy a e n j (λ (w : ℕ) c. SoFar keeps start new after c) (λ m at c. ⊥) (Ok z)
-rows_more a b e n k j keeps start old new rows after o r IsBad BadQ x z p q some is =
-    let on : ReadsBy a e n j (λ (w : Option LogRecord) c. w ≡ Some r → SoFar keeps start new after c) BadQ (Ok o) =
-    reads_on a b e n k j (λ (w : ℕ) c. SoFar keeps start old rows c) IsBad x (λ (w : Option LogRecord) c. NextOf old new w c) (λ (w : Option LogRecord) c. w ≡ Some r → SoFar keeps start new after c) BadQ BadQ (Ok o) p q
-    (λ w c so_far next is_some. rows_on c.logs keeps start old new rows after r so_far (subst (λ (v : Option LogRecord). NextOf old new v c) is_some next) is) (λ i l c so_far bad. bad) in
-    reads_to a e n j (λ (w : Option LogRecord) c. w ≡ Some r → SoFar keeps start new after c) BadQ o (λ (w : ℕ) c. SoFar keeps start new after c) (λ m at c. ⊥) (Ok z) on (λ c s. s some) (λ i l h. absurd (no_error z i l h)) (λ h. no_failure z h)
+pub made_more : (a b e : Option Contents) (n k j : ℕ) (pending committed : ℕ → Bool) (start old new : List HeadState) (m after : Made) (o : Option LogRecord) (r : LogRecord) (IsBad BadQ : ℕ → ℕ → Contents → Type 0) (x z : ℕ)
+    → ReadsBy a b n k (λ (w : ℕ) c. SoFar pending committed start old m c) IsBad (Ok x) → ReadsBy b e k j (λ (w : Option LogRecord) c. NextOf old new w c) BadQ (Ok o) → o ≡ Some r → IsAdded pending committed m after r
+    → ReadsBy a e n j (λ (w : ℕ) c. SoFar pending committed start new after c) (λ m at c. ⊥) (Ok z)
+made_more a b e n k j pending committed start old new m after o r IsBad BadQ x z p q some is =
+    let on : ReadsBy a e n j (λ (w : Option LogRecord) c. w ≡ Some r → SoFar pending committed start new after c) BadQ (Ok o) =
+    reads_on a b e n k j (λ (w : ℕ) c. SoFar pending committed start old m c) IsBad x (λ (w : Option LogRecord) c. NextOf old new w c) (λ (w : Option LogRecord) c. w ≡ Some r → SoFar pending committed start new after c) BadQ BadQ (Ok o) p q
+    (λ w c so_far next is_some. made_on c.logs pending committed start old new m after r so_far (subst (λ (v : Option LogRecord). NextOf old new v c) is_some next) is) (λ i l c so_far bad. bad) in
+    reads_to a e n j (λ (w : Option LogRecord) c. w ≡ Some r → SoFar pending committed start new after c) BadQ o (λ (w : ℕ) c. SoFar pending committed start new after c) (λ m at c. ⊥) (Ok z) on (λ c s. s some) (λ i l h. absurd (no_error z i l h)) (λ h. no_failure z h)
 
-pub rows_over : (a b e : Option Contents) (n k j : ℕ) (keeps : ℕ → Bool) (start old new : List HeadState) (rows : Rows) (o : Option LogRecord) (IsBad BadQ BadR : ℕ → ℕ → Contents → Type 0) (x : ℕ)
-    → ReadsBy a b n k (λ (w : ℕ) c. SoFar keeps start old rows c) IsBad (Ok x) → ReadsBy b e k j (λ (w : Option LogRecord) c. NextOf old new w c) BadQ (Ok o) → o ≡ None
-    → ReadsBy a e n j (λ (w : Rows) c. Stand c.logs start → NoneFalls (left c.logs start) → w ≡ rows_by keeps finite.empty (left c.logs start)) BadR (Ok rows)
-rows_over a b e n k j keeps start old new rows o IsBad BadQ BadR x p q none =
-    let on : ReadsBy a e n j (λ (w : Option LogRecord) c. w ≡ None → Stand c.logs start → NoneFalls (left c.logs start) → rows ≡ rows_by keeps finite.empty (left c.logs start)) BadQ (Ok o) =
-    reads_on a b e n k j (λ (w : ℕ) c. SoFar keeps start old rows c) IsBad x (λ (w : Option LogRecord) c. NextOf old new w c)
-    (λ (w : Option LogRecord) c. w ≡ None → Stand c.logs start → NoneFalls (left c.logs start) → rows ≡ rows_by keeps finite.empty (left c.logs start)) BadQ BadQ (Ok o) p q
-    (λ w c so_far next is_none. rows_end c.logs keeps start old new rows so_far (subst (λ (v : Option LogRecord). NextOf old new v c) is_none next)) (λ i l c so_far bad. bad) in
-    reads_to a e n j (λ (w : Option LogRecord) c. w ≡ None → Stand c.logs start → NoneFalls (left c.logs start) → rows ≡ rows_by keeps finite.empty (left c.logs start)) BadQ o
-    (λ (w : Rows) c. Stand c.logs start → NoneFalls (left c.logs start) → w ≡ rows_by keeps finite.empty (left c.logs start)) BadR (Ok rows) on (λ c s. s none) (λ i l h. absurd (no_error rows i l h)) (λ h. no_failure rows h)
+pub made_over : (a b e : Option Contents) (n k j : ℕ) (pending committed : ℕ → Bool) (start old new : List HeadState) (m : Made) (o : Option LogRecord) (IsBad BadQ BadR : ℕ → ℕ → Contents → Type 0) (x : ℕ)
+    → ReadsBy a b n k (λ (w : ℕ) c. SoFar pending committed start old m c) IsBad (Ok x) → ReadsBy b e k j (λ (w : Option LogRecord) c. NextOf old new w c) BadQ (Ok o) → o ≡ None
+    → ReadsBy a e n j (λ (w : Made) c. MadeOf pending committed start w c) BadR (Ok m)
+made_over a b e n k j pending committed start old new m o IsBad BadQ BadR x p q none =
+    let on : ReadsBy a e n j (λ (w : Option LogRecord) c. w ≡ None → MadeOf pending committed start m c) BadQ (Ok o) =
+    reads_on a b e n k j (λ (w : ℕ) c. SoFar pending committed start old m c) IsBad x (λ (w : Option LogRecord) c. NextOf old new w c) (λ (w : Option LogRecord) c. w ≡ None → MadeOf pending committed start m c) BadQ BadQ (Ok o) p q
+    (λ w c so_far next is_none. made_end c.logs pending committed start old new m so_far (subst (λ (v : Option LogRecord). NextOf old new v c) is_none next)) (λ i l c so_far bad. bad) in
+    reads_to a e n j (λ (w : Option LogRecord) c. w ≡ None → MadeOf pending committed start m c) BadQ o (λ (w : Made) c. MadeOf pending committed start w c) BadR (Ok m) on (λ c s. s none) (λ i l h. absurd (no_error m i l h)) (λ h. no_failure m h)
 
 -- nothing else is met
-pub rows_unmet : {Y : Type 0} (a b e : Option Contents) (n k j : ℕ) (keeps : ℕ → Bool) (start old : List HeadState) (rows : Rows) (IsBad : ℕ → ℕ → Contents → Type 0) (IsQ : Option LogRecord → Contents → Type 0) (IsR : Y → Contents → Type 0) (x : ℕ) (f : LogsFault) (r : Result Y LogsFault)
-    → IsErrAnd r (λ (z : LogsFault). z ≡ f) → ReadsBy a b n k (λ (w : ℕ) c. SoFar keeps start old rows c) IsBad (Ok x) → ReadsBy b e k j IsQ (λ m at c. Stand c.logs old → ⊥) (Err f)
+pub made_unmet : {Y : Type 0} (a b e : Option Contents) (n k j : ℕ) (pending committed : ℕ → Bool) (start old : List HeadState) (m : Made) (IsBad : ℕ → ℕ → Contents → Type 0) (IsQ : Option LogRecord → Contents → Type 0) (IsR : Y → Contents → Type 0) (x : ℕ) (f : LogsFault) (r : Result Y LogsFault)
+    → IsErrAnd r (λ (z : LogsFault). z ≡ f) → ReadsBy a b n k (λ (w : ℕ) c. SoFar pending committed start old m c) IsBad (Ok x) → ReadsBy b e k j IsQ (λ m at c. Stand c.logs old → ⊥) (Err f)
     → ReadsBy a e n j IsR (λ m at c. Stand c.logs start → NoneFalls (left c.logs start) → ⊥) r
-rows_unmet a b e n k j keeps start old rows IsBad IsQ IsR x f r is p q =
-    err_on a b e n k j (λ (w : ℕ) c. SoFar keeps start old rows c) IsBad x IsQ IsR (λ m at c. Stand c.logs old → ⊥) (λ m at c. Stand c.logs start → NoneFalls (left c.logs start) → ⊥) f r is p q
+made_unmet a b e n k j pending committed start old m IsBad IsQ IsR x f r is p q =
+    err_on a b e n k j (λ (w : ℕ) c. SoFar pending committed start old m c) IsBad x IsQ IsR (λ m at c. Stand c.logs old → ⊥) (λ m at c. Stand c.logs start → NoneFalls (left c.logs start) → ⊥) f r is p q
     (λ m at c so_far bad stand none. bad (so_far stand none).stand)

@@ -1,5 +1,6 @@
 pub mod Reading
 pub mod Opening
+pub mod Pending
 pub mod Survey
 pub mod Surveyed
 pub mod Rows

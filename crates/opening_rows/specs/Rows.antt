@@ -1,10 +1,13 @@
 -- The rows of logs that were surveyed, by the records that are left of them.
-use Rattle.std.specs.Prelude.{◌≡◌, ℕ, Bool, List, [], ◌∷◌, Option, None, Some, filter}
+use Rattle.std.specs.Prelude.{◌≡◌, ◌||◌, ◌&&◌, ℕ, Bool, false, not, if◌then◌else◌, List, [], ◌∷◌, Option, None, Some, filter}
 use Rattle.std.specs.List.{AllByRecursion}
+use Rattle.std.specs.BTreeSet as set
+use Rattle.std.specs.FinMap as finite
+use Rattle.std.specs.Ordering.{nat_cmp}
 use Rattle.ds_model.specs.declared.log.LogRecord.{LogRecord}
 use Rattle.ds_model.specs.RecordBytes.{log_bytes, IsAllowed}
 use Rattle.ds_model.specs.Rows.{Rows}
-use Rattle.ds_model.specs.Logs.{by_lrsn, after_records, has_commit}
+use Rattle.ds_model.specs.Logs.{by_lrsn, after_body, after_records, has_commit}
 use Rattle.log_record.specs.declared.log.Log.{Log}
 use Rattle.log_merge.specs.Merging.{all_records, NoneFalls}
 use Rattle.log_head.specs.Heads.{HeadState, left_bytes, left_of}
@@ -13,6 +16,8 @@ use Rattle.log_heads.specs.declared.taken.Taken.TheVariants as taken
 use Rattle.log_heads.specs.Logs.{AreOf, left, together, IsTaken}
 use Rattle.opening_rows.specs.Reading.{AreLogsOf}
 use Rattle.opening_rows.specs.Surveyed.{lengths_of}
+use Rattle.opening_rows.specs.Pending.{is_pending}
+use Rattle.opening_rows.specs.declared.made.Made.{Made}
 
 -- what is left of each log, as far as it is read, are whole records
 abbrev pub IsWhole : List ℕ → HeadState → Type 0
@@ -54,9 +59,23 @@ IsNextOfAll old (Some r) new = (member : ℕ) × IsTaken member r old new
 abbrev pub rows_by : (ℕ → Bool) → Rows → List (List LogRecord) → Rows
 rows_by keeps rows lists = after_records rows (filter (λ (r : LogRecord). keeps r.tran) (by_lrsn (together lists)))
 
+-- the row changes of a transaction count: it isn't pending, or it is one of those that have committed all the same
+abbrev pub counts : (ℕ → Bool) → (ℕ → Bool) → ℕ → Bool
+counts pending committed tran = not (pending tran) || committed tran
+
+-- what was made of one record more: its row change is done, if it counts, and its transaction is found, if it is pending and this is a Commit record
+pub record IsAdded (pending committed : ℕ → Bool) (old new : Made) (r : LogRecord) : Type 0 where
+  pub rows_are : new.rows ≡ (if counts pending committed r.tran then after_body old.rows r.body else old.rows)
+  pub found_are : (tran : ℕ) → set.contains nat_cmp new.found tran ≡ (set.contains nat_cmp old.found tran || (pending tran && has_commit (r ∷ []) tran))
+
+-- what was made of the records of these logs: the rows, and which of the pending transactions have a Commit record among them
+pub record IsMade (pending committed : ℕ → Bool) (lists : List (List LogRecord)) (m : Made) : Type 0 where
+  pub rows_are : m.rows ≡ rows_by (counts pending committed) finite.empty lists
+  pub found_are : (tran : ℕ) → set.contains nat_cmp m.found tran ≡ (pending tran && has_commit (together lists) tran)
+
 -- the bytes are those of these logs, whose numbers don't fall, and which were surveyed so
 pub record AreSurveyedAs (bytes : List (List ℕ)) (ends : List ℕ) (now : ℕ → Bool) (logs : List Log) : Type 0 where
   pub are : AreLogsOf bytes logs
   pub rise : NoneFalls logs
   pub ends_are : ends ≡ lengths_of logs
-  pub commits : (tran : ℕ) → now tran ≡ has_commit (all_records logs) tran
+  pub pending_are : (tran : ℕ) → now tran ≡ is_pending tran false (all_records logs)

@@ -1,9 +1,8 @@
 -- The survey of a log.
-use Rattle.std.specs.Prelude.{◌≡◌, ◌||◌, ℕ, ◌+◌, ◌<◌, ◌≤◌, Bool, true, false, List, ◌++◌, length, Result, Ok, Err}
+use Rattle.std.specs.Prelude.{◌≡◌, ℕ, ◌+◌, ◌<◌, ◌≤◌, Bool, true, false, List, ◌++◌, length, Result, Ok, Err}
 use Rattle.std.specs.List.{AllByRecursion}
 use Rattle.ds_model.specs.declared.log.LogRecord.{LogRecord}
 use Rattle.ds_model.specs.RecordBytes.{log_bytes, IsAllowed}
-use Rattle.ds_model.specs.Logs.{has_commit}
 use Rattle.log_record.specs.declared.log.Log.{Log}
 use Rattle.log_record.specs.Reading.{record_in}
 use Rattle.log_record.specs.Logs.{Parts, parts_in, IsLogOf}
@@ -11,14 +10,15 @@ use Rattle.log_merge.specs.Merging.{RisesFrom}
 use Rattle.log_head.specs.Heads.{HeadState, IsShort, IsOf, left_bytes}
 use Rattle.disk_heads.specs.Records.{IsSound}
 use Rattle.opening_rows.specs.Reading.{last_number}
+use Rattle.opening_rows.specs.Pending.{is_pending}
 
 -- the parts of a log of which these records were passed, up to this byte of it, by the parts of what follows
 abbrev pub put_before : List LogRecord → ℕ → Result Parts ℕ → Result Parts ℕ
 put_before records at (Ok p) = Ok (record { records = records ++ p.records; size = at + p.size; tail = p.tail })
 put_before records at (Err field) = Err (at + field)
 
--- Records of a log were passed, whose numbers don't fall: the last of them, how many they are, and which transactions have a Commit record,
--- beside those that had one before.
+-- Records of a log were passed, whose numbers don't fall: the last of them, how many they are, and which transactions are pending, by those that
+-- were before.
 pub record IsPassed (log : List ℕ) (head : HeadState) (low count : ℕ) (before now : ℕ → Bool) : Type 0 where
   pub records : List LogRecord
   pub of : IsOf log head
@@ -30,7 +30,7 @@ pub record IsPassed (log : List ℕ) (head : HeadState) (low count : ℕ) (befor
   pub rises : RisesFrom 0 records
   pub low_is : low ≡ last_number 0 records
   pub count_is : count ≡ length records
-  pub commits : (tran : ℕ) → now tran ≡ (before tran || has_commit records tran)
+  pub pending_are : (tran : ℕ) → now tran ≡ is_pending tran (before tran) records
 
 -- one record more is counted, whose number isn't lower than the last
 pub record IsCounted (low low_now count count_now : ℕ) (r : LogRecord) : Type 0 where
@@ -58,12 +58,12 @@ pub record Passes (log : List ℕ) (head : HeadState) (low count : ℕ) (before 
   pub passed : IsPassed log head low count before now
   pub over : IsOver log head more
 
--- The bytes are those of a log whose numbers don't fall: where its whole records end, how many they are, and which transactions have a
--- Commit record, beside those that had one before.
+-- The bytes are those of a log whose numbers don't fall: where its whole records end, how many they are, and which transactions are pending, by
+-- those that were before.
 pub record IsSurveyed (bytes : List ℕ) (end count : ℕ) (before now : ℕ → Bool) : Type 0 where
   pub log : Log
   pub is_log : IsLogOf bytes log
   pub rises : RisesFrom 0 log.records
   pub end_is : end ≡ log.length
   pub count_is : count ≡ length log.records
-  pub commits : (tran : ℕ) → now tran ≡ (before tran || has_commit log.records tran)
+  pub pending_are : (tran : ℕ) → now tran ≡ is_pending tran (before tran) log.records

@@ -94,8 +94,9 @@ fn check_by_blocks<D: Disk>(
 /// answers the rows that the logs stand for.
 ///
 /// The logs are read by blocks: no more of a log is in memory than a block, the longest record, and the records of the
-/// transactions that have committed since the opening. Only logs that can't be read so, for damage or for a number that is lower
-/// than the one before it in its log, are read whole.
+/// transactions that have committed since the opening. Beside them are the rows, and the number of each transaction that has
+/// changed one and hasn't committed, whether it was open or rolled back. Only logs that can't be read so, for damage or for a
+/// number that is lower than the one before it in its log, are read whole.
 pub fn check_report<D: Disk>(
     alloc: Global,
     disk: &mut D,

@@ -7,6 +7,7 @@ mod fault;
 mod kept;
 mod laws;
 mod logs;
+mod made;
 mod opening;
 mod reading;
 mod rows;

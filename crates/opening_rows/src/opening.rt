@@ -20,9 +20,9 @@ pub struct Opening {
     pub had: Vec<usize>,
 }
 
-/// Reads the logs as they stand, by blocks: no more of a log is in memory than a block and the longest record. What a stop
-/// cut short at the end of a log is no damage, and no record. A number that is lower than the one before it in its log is
-/// damage.
+/// Reads the logs as they stand, by blocks: no more of a log is in memory than a block and the longest record, and beside
+/// these the rows, and the number of each transaction that has changed one and hasn't committed. What a stop cut short at the
+/// end of a log is no damage, and no record. A number that is lower than the one before it in its log is damage.
 pub fn read_opening<D: Disk>(alloc: Global, disk: &mut D) -> Result<Opening, LogsFault>
     ensures opening { ReadsBy (D.contents disk.old) (D.contents disk.new) (D.faults disk.old) (D.faults disk.new) (λ opening c. OpensAs c opening) BreaksAt result }
     ensures in_order { IfOk result (λ opening. AreSorted opening.rows) }

@@ -1,70 +1,32 @@
 //! The rows for which logs stand that were surveyed.
 
-ghost use Rattle.std.specs.Prelude.{◌≡◌, ◌+◌, ◌<◌, ◌≤◌, ◌^◌, ℕ, List, length, if◌then◌else◌, IfOk, OnOk};
+ghost use Rattle.std.specs.Prelude.{◌≡◌, ◌+◌, ◌<◌, ◌≤◌, ◌^◌, ℕ, List, length, IfOk, OnOk};
 ghost use Rattle.std.specs.BTreeSet as set;
-ghost use Rattle.std.specs.FinMap as finite;
 ghost use Rattle.std.specs.Ordering.{nat_cmp};
 ghost use Rattle.ds_disk.specs.Contents.{log_of};
 ghost use Rattle.ds_model.specs.Rows.{AreSorted};
-ghost use Rattle.ds_model.specs.Logs as model;
 ghost use Rattle.log_record.specs.declared.log.Log.{Log};
 ghost use Rattle.log_heads.specs.Heads.{taken_of};
 ghost use Rattle.log_heads.specs.Logs.{left, work_left, NoneFalls};
 ghost use Rattle.log_heads.specs.declared.taken.Taken.TheVariants.{Wants};
 ghost use Rattle.disk_heads.specs.Reading.{AreAt};
+ghost use Rattle.report_check.specs.Records.{records_of};
 ghost use Rattle.opening_rows.specs.Reading.{ReadsBy};
 ghost use Rattle.opening_rows.specs.Opening.{stood_for};
-ghost use Rattle.opening_rows.specs.Rows.{Stand, AreKept, Comes, IsNextOfAll, rows_by, AreSurveyedAs};
+ghost use Rattle.opening_rows.specs.Rows.{Stand, AreKept, Comes, IsNextOfAll, IsMade, AreSurveyedAs};
 
 use crate::fault::{LogsFault, fault_in};
+use crate::made::{Made, nothing, take_in};
 use crate::surveyed::Surveyed;
 use disk_heads::read_at;
-use ds_base::{MemberId, NoMemory, RowList, Value};
+use ds_base::{MemberId, RowList};
 use ds_disk::Disk;
-use ds_model::{Body, LogRecord, RowChange};
+use ds_model::LogRecord;
 use log_head::{head_laws, whole_laws};
 use log_heads::{Heads, Taken, heads_laws};
 use log_record::reading_laws;
-use spot_map::SpotMap;
 use std::alloc::Global;
 use std::collections::BTreeSet;
-
-fn put(rows: &mut SpotMap<Value>, change: &RowChange) -> Result<(), NoMemory>
-    ensures { OnOk result (rows.new ≡ model.set_row rows.old change.now.table change.now.key change.now.after) }
-{
-    match change.after {
-        None => {
-            rows.remove(change.table, change.key);
-            Ok(())
-        }
-        Some(value) => rows.insert(change.table, change.key, value),
-    }
-}
-
-// Does the row change of a record, if it is one.
-fn apply(rows: &mut SpotMap<Value>, it: &LogRecord) -> Result<(), NoMemory>
-    ensures { OnOk result (rows.new ≡ model.after_body rows.old it.now.body) }
-{
-    match &it.body {
-        Body::RowChange { change } => put(rows, change),
-        _ => Ok(()),
-    }
-}
-
-// The same of a record whose transaction is one of these.
-fn apply_of(
-    rows: &mut SpotMap<Value>,
-    commits: &BTreeSet<u128>,
-    it: &LogRecord,
-) -> Result<(), NoMemory>
-    ensures { OnOk result (rows.new ≡ (if set.contains nat_cmp commits.now it.now.tran then model.after_body rows.old it.now.body else rows.old)) }
-{
-    if commits.contains(&it.tran.number()) {
-        apply(rows, it)
-    } else {
-        Ok(())
-    }
-}
 
 // Reads as many bytes of the member's log from this one on as there is room for.
 fn read_in<D: Disk>(
@@ -142,32 +104,55 @@ fn next_of_all<D: Disk>(
     }
 }
 
-// The rows that the records left of the logs give.
-fn rows_left<D: Disk>(
+// What is made of the records that are left of the logs.
+fn make_left<D: Disk>(
     alloc: Global,
     disk: &mut D,
     heads: &mut Heads,
-    commits: &BTreeSet<u128>,
+    pending: &BTreeSet<u128>,
+    committed: &BTreeSet<u128>,
     block: &mut [u8],
-) -> Result<SpotMap<Value>, LogsFault>
+) -> Result<Made, LogsFault>
     requires { heads.old.block ≡ length block.old }
     ensures { ReadsBy (D.contents disk.old) (D.contents disk.new) (D.faults disk.old) (D.faults disk.new)
-        (λ rows c. Stand c.logs heads.old.heads → NoneFalls (left c.logs heads.old.heads) → rows ≡ rows_by (set.contains nat_cmp commits.now) finite.empty (left c.logs heads.old.heads))
+        (λ made c. Stand c.logs heads.old.heads → NoneFalls (left c.logs heads.old.heads) → IsMade (set.contains nat_cmp pending.now) (set.contains nat_cmp committed.now) (left c.logs heads.old.heads) made)
         (λ m at c. Stand c.logs heads.old.heads → NoneFalls (left c.logs heads.old.heads) → ⊥) result }
 {
-    let mut rows = SpotMap::new(alloc);
+    let mut made = nothing(alloc);
     for _ in 0..u64::MAX {
         match next_of_all(alloc, disk, heads, block)? {
-            None => return Ok(rows),
-            Some(it) => apply_of(&mut rows, commits, &it)?,
+            None => return Ok(made),
+            Some(it) => take_in(&mut made, pending, committed, &it)?,
         }
     }
     // No disk has so many records.
     Err(LogsFault::NoMemory)
 }
 
+// What is made of the logs as far as they were surveyed, where these of the pending transactions have committed.
+fn make<D: Disk>(
+    alloc: Global,
+    disk: &mut D,
+    all: &Surveyed,
+    committed: &BTreeSet<u128>,
+    block: &mut [u8],
+) -> Result<Made, LogsFault>
+    requires ends { length all.now.ends.items ≡ 32 }
+    requires some { 1 ≤ length block.old }
+    requires fits { length block.old < 2 ^ 32 }
+    ensures { ReadsBy (D.contents disk.old) (D.contents disk.new) (D.faults disk.old) (D.faults disk.new)
+        (λ made c. (logs : List Log) → AreSurveyedAs c.logs all.now.ends.items (set.contains nat_cmp all.now.pending) logs → IsMade (set.contains nat_cmp all.now.pending) (set.contains nat_cmp committed.now) (records_of logs) made)
+        (λ m at c. (logs : List Log) → AreSurveyedAs c.logs all.now.ends.items (set.contains nat_cmp all.now.pending) logs → ⊥) result }
+{
+    whole_laws();
+    let mut heads = Heads::new(alloc, &[0u64; 32], &all.ends, block.len() as u32)?;
+    let made = make_left(alloc, disk, &mut heads, &all.pending, committed, block)?;
+    Ok(made)
+}
+
 /// The rows that the row changes of committed transactions leave, in the order of the numbers of their records. The logs are
-/// read as far as they were surveyed.
+/// read as far as they were surveyed. Where a Commit record of a pending transaction is met, which stands before one of its
+/// changes then, they are read once more: no sound disk has one.
 pub fn read_rows<D: Disk>(
     alloc: Global,
     disk: &mut D,
@@ -178,12 +163,17 @@ pub fn read_rows<D: Disk>(
     requires some { 1 ≤ length block.old }
     requires fits { length block.old < 2 ^ 32 }
     ensures rows { ReadsBy (D.contents disk.old) (D.contents disk.new) (D.faults disk.old) (D.faults disk.new)
-        (λ rows c. (logs : List Log) → AreSurveyedAs c.logs all.now.ends.items (set.contains nat_cmp all.now.commits) logs → rows ≡ stood_for logs)
-        (λ m at c. (logs : List Log) → AreSurveyedAs c.logs all.now.ends.items (set.contains nat_cmp all.now.commits) logs → ⊥) result }
+        (λ rows c. (logs : List Log) → AreSurveyedAs c.logs all.now.ends.items (set.contains nat_cmp all.now.pending) logs → rows ≡ stood_for logs)
+        (λ m at c. (logs : List Log) → AreSurveyedAs c.logs all.now.ends.items (set.contains nat_cmp all.now.pending) logs → ⊥) result }
     ensures in_order { IfOk result AreSorted }
 {
-    whole_laws();
-    let mut heads = Heads::new(alloc, &[0u64; 32], &all.ends, block.len() as u32)?;
-    let rows = rows_left(alloc, disk, &mut heads, &all.commits, block)?;
-    Ok(rows.into_rows(alloc)?)
+    let none = BTreeSet::new(alloc);
+    let first = make(alloc, disk, all, &none, block)?;
+    let Made { rows, found } = first;
+    if found.is_empty() {
+        return Ok(rows.into_rows(alloc)?);
+    }
+    drop(rows);
+    let again = make(alloc, disk, all, &found, block)?;
+    Ok(again.rows.into_rows(alloc)?)
 }

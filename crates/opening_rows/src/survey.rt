@@ -1,13 +1,13 @@
-//! The survey of a log of a disk: where its whole records end, how many they are, and which transactions they commit.
+//! The survey of a log of a disk: where its whole records end, how many they are, and which transactions are pending.
 
-ghost use Rattle.std.specs.Prelude.{◌≡◌, ◌⊎◌, ◌||◌, ◌+◌, ◌<◌, ◌≤◌, ◌^◌, ℕ, Bool, true, false, List, [], ◌∷◌, ◌++◌, length, IfOk, IsErrOf, OnOk};
+ghost use Rattle.std.specs.Prelude.{◌≡◌, ◌⊎◌, ◌+◌, ◌<◌, ◌≤◌, ◌^◌, ℕ, Bool, true, false, List, [], ◌∷◌, ◌++◌, length, IfOk, IsErrOf, OnOk};
 ghost use Rattle.std.specs.BTreeSet as set;
 ghost use Rattle.std.specs.Ordering.{nat_cmp};
 ghost use Rattle.ds_disk.specs.Contents.{log_of};
-ghost use Rattle.ds_model.specs.Logs.{has_commit};
 ghost use Rattle.log_head.specs.Heads.{IsOf};
 ghost use Rattle.disk_heads.specs.Records.{IsSound, IsPast, IsNext, IsBadAt};
 ghost use Rattle.opening_rows.specs.Reading.{ReadsBy, number_at, BreaksAt};
+ghost use Rattle.opening_rows.specs.Pending.{is_pending};
 ghost use Rattle.opening_rows.specs.Survey.{IsCounted, IsPassed, GoesOn, Passes, IsSurveyed};
 ghost use Rattle.opening_rows.specs.declared.fault.LogsFault.TheVariants.{Failed, Damaged};
 
@@ -45,14 +45,21 @@ fn number_behind(at: u64) -> Result<u64, NoMemory>
     at.checked_add(6).ok_or(NoMemory)
 }
 
-// Adds the transaction of a Commit record.
-fn note_commit(commits: &mut BTreeSet<u128>, it: &LogRecord) -> Result<(), NoMemory>
-    ensures { OnOk result ((tran : ℕ) → set.contains nat_cmp commits.new tran ≡ (set.contains nat_cmp commits.old tran || has_commit (it.now ∷ []) tran)) }
+// Adds the transaction of a row change to the pending ones, and takes out that of a Commit record.
+fn note(pending: &mut BTreeSet<u128>, it: &LogRecord) -> Result<(), NoMemory>
+    ensures { OnOk result ((tran : ℕ) → set.contains nat_cmp pending.new tran ≡ is_pending tran (set.contains nat_cmp pending.old tran) (it.now ∷ [])) }
 {
-    if let Body::Commit = it.body {
-        commits.insert(it.tran.number())?;
+    match it.body {
+        Body::RowChange { .. } => {
+            pending.insert(it.tran.number())?;
+            Ok(())
+        }
+        Body::Commit => {
+            pending.remove(&it.tran.number());
+            Ok(())
+        }
+        _ => Ok(()),
     }
-    Ok(())
 }
 
 // Counts a record that begins at this byte, and whose number may not be lower than the one before it.
@@ -79,22 +86,22 @@ fn count_record(
     Ok(())
 }
 
-// Counts such a record, and adds its transaction if it commits one.
+// Counts such a record, and notes whether its transaction is pending behind it.
 fn pass(
     survey: &mut Survey,
-    commits: &mut BTreeSet<u128>,
+    pending: &mut BTreeSet<u128>,
     member: MemberId,
     at: u64,
     it: &LogRecord,
 ) -> Result<(), LogsFault>
     ensures head { survey.new.head ≡ survey.old.head }
     ensures counted { OnOk result (IsCounted survey.old.low survey.new.low survey.old.count survey.new.count it.now) }
-    ensures noted { OnOk result ((tran : ℕ) → set.contains nat_cmp commits.new tran ≡ (set.contains nat_cmp commits.old tran || has_commit (it.now ∷ []) tran)) }
+    ensures noted { OnOk result ((tran : ℕ) → set.contains nat_cmp pending.new tran ≡ is_pending tran (set.contains nat_cmp pending.old tran) (it.now ∷ [])) }
     ensures damaged { (m k : ℕ) → IsErrOf result (Damaged m k) → (m ≡ member) × (k ≡ at + number_at) × (it.now.lrsn < survey.old.low) }
     ensures never { IsErrOf result Failed → ⊥ }
 {
     count_record(&mut survey.low, &mut survey.count, member, at, it)?;
-    note_commit(commits, it)?;
+    note(pending, it)?;
     Ok(())
 }
 
@@ -124,7 +131,7 @@ fn pass_one<D: Disk>(
     disk: &mut D,
     member: MemberId,
     survey: &mut Survey,
-    commits: &mut BTreeSet<u128>,
+    pending: &mut BTreeSet<u128>,
     block: &mut [u8],
 ) -> Result<bool, LogsFault>
     requires some { 1 ≤ length block.old }
@@ -132,8 +139,8 @@ fn pass_one<D: Disk>(
     requires sound { IsSound survey.old.head }
     ensures past { IfOk result (λ more. GoesOn survey.old.head survey.new.head more) }
     ensures passed { ReadsBy (D.contents disk.old) (D.contents disk.new) (D.faults disk.old) (D.faults disk.new)
-        (λ more c. (before : ℕ → Bool) → IsPassed (log_of c.logs member) survey.old.head survey.old.low survey.old.count before (set.contains nat_cmp commits.old) → Passes (log_of c.logs member) survey.new.head survey.new.low survey.new.count before (set.contains nat_cmp commits.new) more)
-        (λ m at c. (before : ℕ → Bool) → IsPassed (log_of c.logs member) survey.old.head survey.old.low survey.old.count before (set.contains nat_cmp commits.old) → BreaksAt m at c) result }
+        (λ more c. (before : ℕ → Bool) → IsPassed (log_of c.logs member) survey.old.head survey.old.low survey.old.count before (set.contains nat_cmp pending.old) → Passes (log_of c.logs member) survey.new.head survey.new.low survey.new.count before (set.contains nat_cmp pending.new) more)
+        (λ m at c. (before : ℕ → Bool) → IsPassed (log_of c.logs member) survey.old.head survey.old.low survey.old.count before (set.contains nat_cmp pending.old) → BreaksAt m at c) result }
 {
     whole_laws();
     let at = survey.head.at();
@@ -141,7 +148,7 @@ fn pass_one<D: Disk>(
     match next {
         None => Ok(false),
         Some(it) => {
-            pass(survey, commits, member, at, &it)?;
+            pass(survey, pending, member, at, &it)?;
             Ok(true)
         }
     }
@@ -157,17 +164,17 @@ pub fn length_of<D: Disk>(disk: &mut D, member: MemberId) -> Result<u64, LogsFau
     }
 }
 
-/// Surveys the log of a member up to its tail, and adds the transactions that its records commit.
+/// Surveys the log of a member up to its tail, and notes which transactions are pending behind its records.
 pub fn survey_log<D: Disk>(
     alloc: Global,
     disk: &mut D,
     member: MemberId,
-    commits: &mut BTreeSet<u128>,
+    pending: &mut BTreeSet<u128>,
     block: &mut [u8],
 ) -> Result<Found, LogsFault>
     requires some { 1 ≤ length block.old }
     requires fits { length block.old < 2 ^ 32 }
-    ensures { ReadsBy (D.contents disk.old) (D.contents disk.new) (D.faults disk.old) (D.faults disk.new) (λ found c. IsSurveyed (log_of c.logs member) found.end found.count (set.contains nat_cmp commits.old) (set.contains nat_cmp commits.new)) BreaksAt result }
+    ensures { ReadsBy (D.contents disk.old) (D.contents disk.new) (D.faults disk.old) (D.faults disk.new) (λ found c. IsSurveyed (log_of c.logs member) found.end found.count (set.contains nat_cmp pending.old) (set.contains nat_cmp pending.new)) BreaksAt result }
 {
     whole_laws();
     let length = length_of(disk, member)?;
@@ -178,7 +185,7 @@ pub fn survey_log<D: Disk>(
     };
     let mut more = true;
     while more {
-        more = pass_one(alloc, disk, member, &mut survey, commits, block)?;
+        more = pass_one(alloc, disk, member, &mut survey, pending, block)?;
     }
     Ok(Found {
         end: survey.head.at(),

@@ -21,8 +21,8 @@ pub struct Surveyed {
     pub ends: Vec<u64>,
     /// How many records each log has.
     pub had: Vec<usize>,
-    /// The transactions that have a Commit record.
-    pub commits: BTreeSet<u128>,
+    /// The transactions that are pending: they have changed a row, and no Commit record of theirs stands behind it.
+    pub pending: BTreeSet<u128>,
 }
 
 fn put(ends: &mut Vec<u64>, had: &mut Vec<usize>, found: Found) -> Result<(), NoMemory>
@@ -46,11 +46,11 @@ fn survey_next<D: Disk>(
     requires some { 1 ≤ length block.old }
     requires fits { length block.old < 2 ^ 32 }
     ensures surveyed { ReadsBy (D.contents disk.old) (D.contents disk.new) (D.faults disk.old) (D.faults disk.new)
-        (λ _ c. length c.logs ≡ 32 → AreSurveyed (take n c.logs) all.old.ends.items all.old.had.items (set.contains nat_cmp all.old.commits) → AreSurveyed (take (n + 1) c.logs) all.new.ends.items all.new.had.items (set.contains nat_cmp all.new.commits))
+        (λ _ c. length c.logs ≡ 32 → AreSurveyed (take n c.logs) all.old.ends.items all.old.had.items (set.contains nat_cmp all.old.pending) → AreSurveyed (take (n + 1) c.logs) all.new.ends.items all.new.had.items (set.contains nat_cmp all.new.pending))
         BreaksAt result }
     ensures one { OnOk result (length all.new.ends.items ≡ length all.old.ends.items + 1) }
 {
-    let found = survey_log(alloc, disk, member_behind(n), &mut all.commits, block)?;
+    let found = survey_log(alloc, disk, member_behind(n), &mut all.pending, block)?;
     put(&mut all.ends, &mut all.had, found)?;
     Ok(())
 }
@@ -64,13 +64,13 @@ pub fn survey_logs<D: Disk>(
     requires some { 1 ≤ length block.old }
     requires fits { length block.old < 2 ^ 32 }
     ensures surveyed { ReadsBy (D.contents disk.old) (D.contents disk.new) (D.faults disk.old) (D.faults disk.new)
-        (λ all c. AreSurveyed c.logs all.ends.items all.had.items (set.contains nat_cmp all.commits)) BreaksAt result }
+        (λ all c. AreSurveyed c.logs all.ends.items all.had.items (set.contains nat_cmp all.pending)) BreaksAt result }
     ensures count { IfOk result (λ all. length all.ends.items ≡ 32) }
 {
     let mut all = Surveyed {
         ends: Vec::new(alloc),
         had: Vec::new(alloc),
-        commits: BTreeSet::new(alloc),
+        pending: BTreeSet::new(alloc),
     };
     for n in 0..MEMBERS {
         survey_next(alloc, disk, n, &mut all, block)?;

@@ -8,8 +8,9 @@ use Rattle.byteorder.specs.Endian.{big_bytes, big_number}
 use Rattle.byteorder.specs.Numbers.{big_number-reads_back}
 use Rattle.ds_base.specs.Ids.{lrsn_width, IsLrsn}
 use Rattle.ds_base.specs.declared.names.PageId.{PageId}
-use Rattle.page_format.specs.Fields.{page_size, number_in}
-use Rattle.table_image_text.specs.Pages.{page_fault}
+use Rattle.page_format.specs.Fields.{page_size, number_in, lrsn_of}
+use Rattle.page_format.specs.Fields.{lrsn_at as page_lrsn_at}
+use Rattle.table_image_text.specs.Pages.{earlier, page_fault, fault_up_to}
 use Rattle.table_image_text.specs.Image.{mark, version, version_at, table_at, lrsn_at, heap_at, index_at, head_bytes, page_name, pages_bytes, image_with, heap_in, index_in, place_of, page_in}
 use Rattle.table_image_text.specs.Faults.{or_else, field_fault, mark_fault, version_fault, table_fault, name_fault, lrsn_fault, counts_fault, behind, fault_in_page, fault_in_pages, end_fault, pages_fault, image_fault}
 use Rattle.table_image_text.specs.Laws.{WrittenIsRead}
@@ -135,16 +136,20 @@ image_length at table lrsn heap index whole =
     ∙ ap (λ (m : ℕ). m + length (pages_bytes at table heap (heap + index))) (head_length table lrsn heap index)
     ∙ ap (λ (m : ℕ). 24 + m) (pages_length at table heap (heap + index) whole)
 
-page_right : (bytes : List ℕ) (table heap n : ℕ) → place_of n + page_size ≤ length bytes → page_fault (page_name table heap n) (page_in bytes n) ≡ None → fault_in_page bytes table heap n ≡ None
-page_right bytes table heap n le h =
-    ap (λ (b : Bool). cond b (Some (length bytes)) (behind (place_of n) (page_fault (page_name table heap n) (page_in bytes n)))) (not_less (length bytes) (place_of n + page_size) le)
+right_up_to : (greatest : ℕ) (id : PageId) (page : List ℕ) → page_fault id page ≡ None → lrsn_of page ≤ greatest → fault_up_to greatest id page ≡ None
+right_up_to greatest id page h le =
+    ap (λ (b : Bool). cond b (earlier page_lrsn_at (page_fault id page)) (page_fault id page)) (not_less greatest (lrsn_of page) le) ∙ h
+
+page_right : (bytes : List ℕ) (table greatest heap n : ℕ) → place_of n + page_size ≤ length bytes → fault_up_to greatest (page_name table heap n) (page_in bytes n) ≡ None → fault_in_page bytes table greatest heap n ≡ None
+page_right bytes table greatest heap n le h =
+    ap (λ (b : Bool). cond b (Some (length bytes)) (behind (place_of n) (fault_up_to greatest (page_name table heap n) (page_in bytes n)))) (not_less (length bytes) (place_of n + page_size) le)
     ∙ ap (λ (o : Option ℕ). behind (place_of n) o) h
 
-pages_right : (bytes : List ℕ) (table heap n more : ℕ) → ((m : ℕ) → n ≤ m → m < n + more → fault_in_page bytes table heap m ≡ None) → fault_in_pages bytes table heap n more ≡ None
-pages_right bytes table heap n zero h = refl
-pages_right bytes table heap n (suc more) h =
-    none_of_both (fault_in_page bytes table heap n) (fault_in_pages bytes table heap (suc n) more) (h n (omega arith) (omega arith))
-    (pages_right bytes table heap (suc n) more (λ m le less. h m (omega (arith, le)) (omega (arith, less))))
+pages_right : (bytes : List ℕ) (table greatest heap n more : ℕ) → ((m : ℕ) → n ≤ m → m < n + more → fault_in_page bytes table greatest heap m ≡ None) → fault_in_pages bytes table greatest heap n more ≡ None
+pages_right bytes table greatest heap n zero h = refl
+pages_right bytes table greatest heap n (suc more) h =
+    none_of_both (fault_in_page bytes table greatest heap n) (fault_in_pages bytes table greatest heap (suc n) more) (h n (omega arith) (omega arith))
+    (pages_right bytes table greatest heap (suc n) more (λ m le less. h m (omega (arith, le)) (omega (arith, less))))
 
 end_right : (bytes : List ℕ) (count : ℕ) → length bytes ≡ place_of count → end_fault bytes count ≡ None
 end_right bytes count h = ap (λ (b : Bool). cond b (Some (place_of count)) None) (not_less (place_of count) (length bytes) (omega (arith, h)))
@@ -154,7 +159,7 @@ end_right bytes count h = ap (λ (b : Bool). cond b (Some (place_of count)) None
 -- the parts of an image that has no fault
 allowed_by : (bytes : List ℕ) (table greatest heap index : ℕ) → heap_in bytes ≡ heap → index_in bytes ≡ index → length bytes ≡ place_of (heap + index)
     → bytes_eq (take 4 bytes) mark ≡ true → (slice_index bytes version_at == version) ≡ true → slice_index bytes table_at ≡ table → number_in bytes lrsn_at lrsn_width ≤ greatest
-    → ((n : ℕ) → n < heap + index → page_fault (page_name table heap n) (page_in bytes n) ≡ None)
+    → ((n : ℕ) → n < heap + index → fault_up_to greatest (page_name table heap n) (page_in bytes n) ≡ None)
     → image_fault bytes table greatest ≡ None
 unfolding image_fault
 allowed_by bytes table greatest heap index heap_is index_is long marked versioned named known pages =
@@ -170,16 +175,16 @@ allowed_by bytes table greatest heap index heap_is index_is long marked versione
     let counts : counts_fault bytes ≡ None =
     none_of_both (field_fault bytes heap_at 4 true) (field_fault bytes index_at 4 true) (field_right bytes heap_at 4 true (omega (arith, long)) refl) (field_right bytes index_at 4 true (omega (arith, long)) refl)
     in
-    let each : fault_in_pages bytes table heap 0 (heap + index) ≡ None =
-    pages_right bytes table heap 0 (heap + index) (λ m le less. page_right bytes table heap m (omega (arith, long, less)) (pages m (omega (arith, less))))
+    let each : fault_in_pages bytes table greatest heap 0 (heap + index) ≡ None =
+    pages_right bytes table greatest heap 0 (heap + index) (λ m le less. page_right bytes table greatest heap m (omega (arith, long, less)) (pages m (omega (arith, less))))
     in
-    let behind_all : pages_fault bytes table ≡ None =
-    ap (λ (m : ℕ). or_else (fault_in_pages bytes table m 0 (m + index_in bytes)) (end_fault bytes (m + index_in bytes))) heap_is
-    ∙ ap (λ (m : ℕ). or_else (fault_in_pages bytes table heap 0 (heap + m)) (end_fault bytes (heap + m))) index_is
-    ∙ none_of_both (fault_in_pages bytes table heap 0 (heap + index)) (end_fault bytes (heap + index)) each (end_right bytes (heap + index) long)
+    let behind_all : pages_fault bytes table greatest ≡ None =
+    ap (λ (m : ℕ). or_else (fault_in_pages bytes table greatest m 0 (m + index_in bytes)) (end_fault bytes (m + index_in bytes))) heap_is
+    ∙ ap (λ (m : ℕ). or_else (fault_in_pages bytes table greatest heap 0 (heap + m)) (end_fault bytes (heap + m))) index_is
+    ∙ none_of_both (fault_in_pages bytes table greatest heap 0 (heap + index)) (end_fault bytes (heap + index)) each (end_right bytes (heap + index) long)
     in
-    none_of_both (name_fault bytes table) (or_else (lrsn_fault bytes greatest) (or_else (counts_fault bytes) (pages_fault bytes table))) names
-    (none_of_both (lrsn_fault bytes greatest) (or_else (counts_fault bytes) (pages_fault bytes table)) number (none_of_both (counts_fault bytes) (pages_fault bytes table) counts behind_all))
+    none_of_both (name_fault bytes table) (or_else (lrsn_fault bytes greatest) (or_else (counts_fault bytes) (pages_fault bytes table greatest))) names
+    (none_of_both (lrsn_fault bytes greatest) (or_else (counts_fault bytes) (pages_fault bytes table greatest)) number (none_of_both (counts_fault bytes) (pages_fault bytes table greatest) counts behind_all))
 
 heap_read : (at : PageId → List ℕ) (table lrsn heap index : ℕ) → heap < 2 ^ 32 → heap_in (image_with at table lrsn heap index) ≡ heap
 heap_read at table lrsn heap index less =
@@ -195,7 +200,7 @@ lrsn_read at table lrsn heap index less =
     (after_name table lrsn heap index (pages_bytes at table heap (heap + index)))
 
 pub written_is_read : WrittenIsRead
-written_is_read at table lrsn heap index greatest in_range known heap_in_range index_in_range whole right =
+written_is_read at table lrsn heap index greatest in_range known heap_in_range index_in_range whole right numbers =
     let bytes = image_with at table lrsn heap index in
     let rest = pages_bytes at table heap (heap + index) in
     let number = lrsn_read at table lrsn heap index in_range in
@@ -204,7 +209,9 @@ written_is_read at table lrsn heap index greatest in_range known heap_in_range i
           allowed_by (image_with at table lrsn heap index) table greatest heap index (heap_read at table lrsn heap index heap_in_range) (index_read at table lrsn heap index index_in_range)
           (image_length at table lrsn heap index whole) (has_mark table lrsn heap index rest) (has_version table lrsn heap index rest) (has_table table lrsn heap index rest)
           (omega (arith, number, known))
-          (λ n less. ap (λ (p : List ℕ). page_fault (page_name table heap n) p) (page_behind_head at table lrsn heap index n whole less) ∙ right n less);
+          (λ n less.
+          ap (λ (p : List ℕ). fault_up_to greatest (page_name table heap n) p) (page_behind_head at table lrsn heap index n whole less)
+          ∙ right_up_to greatest (page_name table heap n) (at (page_name table heap n)) (right n less) (numbers n less));
       heap_is = heap_read at table lrsn heap index heap_in_range;
       index_is = index_read at table lrsn heap index index_in_range;
       pages_are = λ n less. page_behind_head at table lrsn heap index n whole less;

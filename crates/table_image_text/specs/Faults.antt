@@ -3,7 +3,7 @@ use Rattle.std.specs.Prelude.{ℕ, zero, suc, ◌+◌, ◌==◌, nat_lt, nat_le,
 use Rattle.std.specs.Str.{bytes_eq}
 use Rattle.ds_base.specs.Ids.{lrsn_width}
 use Rattle.page_format.specs.Fields.{page_size, number_in}
-use Rattle.table_image_text.specs.Pages.{page_fault}
+use Rattle.table_image_text.specs.Pages.{fault_up_to}
 use Rattle.table_image_text.specs.Image.{mark, version, mark_at, version_at, table_at, lrsn_at, heap_at, index_at, page_name, heap_in, index_in, place_of, page_in}
 
 -- the first of both, where there is one
@@ -47,15 +47,15 @@ behind place None = None
 behind place (Some at) = Some (place + at)
 
 -- of the page at this place: the image ends before it is whole, or it can't stand there
-abbrev pub fault_in_page : List ℕ → ℕ → ℕ → ℕ → Option ℕ
-fault_in_page bytes table heap n =
+abbrev pub fault_in_page : List ℕ → ℕ → ℕ → ℕ → ℕ → Option ℕ
+fault_in_page bytes table greatest heap n =
     if nat_lt (length bytes) (place_of n + page_size) then Some (length bytes)
-    else behind (place_of n) (page_fault (page_name table heap n) (page_in bytes n))
+    else behind (place_of n) (fault_up_to greatest (page_name table heap n) (page_in bytes n))
 
 -- of so many pages from this place on
-abbrev pub fault_in_pages : List ℕ → ℕ → ℕ → ℕ → ℕ → Option ℕ
-fault_in_pages bytes table heap n zero = None
-fault_in_pages bytes table heap n (suc more) = or_else (fault_in_page bytes table heap n) (fault_in_pages bytes table heap (suc n) more)
+abbrev pub fault_in_pages : List ℕ → ℕ → ℕ → ℕ → ℕ → ℕ → Option ℕ
+fault_in_pages bytes table greatest heap n zero = None
+fault_in_pages bytes table greatest heap n (suc more) = or_else (fault_in_page bytes table greatest heap n) (fault_in_pages bytes table greatest heap (suc n) more)
 
 -- the image goes on behind its pages
 abbrev pub end_fault : List ℕ → ℕ → Option ℕ
@@ -63,10 +63,10 @@ end_fault bytes count = if nat_lt (place_of count) (length bytes) then Some (pla
 
 -- ---- the whole image
 
-abbrev pub pages_fault : List ℕ → ℕ → Option ℕ
-pages_fault bytes table = or_else (fault_in_pages bytes table (heap_in bytes) 0 (heap_in bytes + index_in bytes)) (end_fault bytes (heap_in bytes + index_in bytes))
+abbrev pub pages_fault : List ℕ → ℕ → ℕ → Option ℕ
+pages_fault bytes table greatest = or_else (fault_in_pages bytes table greatest (heap_in bytes) 0 (heap_in bytes + index_in bytes)) (end_fault bytes (heap_in bytes + index_in bytes))
 
--- the first byte of the first field that isn't allowed, names another table or has a number above this one; or where the image ends
--- before its pages, or doesn't end behind them
+-- the first byte of the first field that isn't allowed, names another table or has a number above this one, of the head or of a page; or
+-- where the image ends before its pages, or doesn't end behind them
 unfoldable pub image_fault : List ℕ → ℕ → ℕ → Option ℕ
-image_fault bytes table greatest = or_else (name_fault bytes table) (or_else (lrsn_fault bytes greatest) (or_else (counts_fault bytes) (pages_fault bytes table)))
+image_fault bytes table greatest = or_else (name_fault bytes table) (or_else (lrsn_fault bytes greatest) (or_else (counts_fault bytes) (pages_fault bytes table greatest)))

@@ -1,7 +1,7 @@
 -- Which pages may stand in the image of a table, and how many its header pages count.
 use Rattle.std.specs.Prelude.{ℕ, ◌+◌, ◌-◌, ◌^◌, nat_lt, nat_le, ◌&&◌, if◌then◌else◌, List, Option, Some, None, Result, Ok, Err}
 use Rattle.ds_base.specs.declared.names.PageId.{PageId}
-use Rattle.page_format.specs.Fields.{version_at, is_old}
+use Rattle.page_format.specs.Fields.{version_at, lrsn_at, lrsn_of, is_old}
 use Rattle.page_format.specs.Header.{header_of}
 use Rattle.page_format.specs.declared.header.Header.{Header}
 use Rattle.page_format.specs.declared.header.NotAPage.{NotAPage}
@@ -13,13 +13,22 @@ use Rattle.index_leaf.specs.Changes.{next_at, next_page_of}
 
 -- ---- one page
 
-abbrev pub fault_by : Result Header NotAPage → List ℕ → Option ℕ
-fault_by (Err e) page = Some e.at
-fault_by (Ok header) page = if is_old page then Some version_at else None
+abbrev pub header_fault : Result Header NotAPage → Option ℕ
+header_fault (Err e) = Some e.at
+header_fault (Ok header) = None
+
+-- of two fields that can't stand there, the first
+abbrev pub earlier : ℕ → Option ℕ → Option ℕ
+earlier at None = Some at
+earlier at (Some other) = if nat_lt other at then Some other else Some at
 
 -- where the page shows that it can't stand in an image: a field of its header isn't the page's, or it is of version 1
 abbrev pub page_fault : PageId → List ℕ → Option ℕ
-page_fault id page = fault_by (header_of page id) page
+page_fault id page = if is_old page then earlier version_at (header_fault (header_of page id)) else header_fault (header_of page id)
+
+-- nor one whose number (LRSN) is above this one
+abbrev pub fault_up_to : ℕ → PageId → List ℕ → Option ℕ
+fault_up_to greatest id page = if nat_lt greatest (lrsn_of page) then earlier lrsn_at (page_fault id page) else page_fault id page
 
 -- ---- the pages that a header page counts
 

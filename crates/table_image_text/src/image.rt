@@ -7,7 +7,7 @@ ghost use Rattle.table_image_text.specs.Image.{head_size, lrsn_at, heap_in, inde
 ghost use Rattle.table_image_text.specs.Faults.{field_fault, mark_fault, version_fault, table_fault, name_fault, lrsn_fault, counts_fault, behind, fault_in_page, fault_in_pages, end_fault, pages_fault, image_fault};
 
 use crate::head::{HEAD_SIZE, MARK, VERSION};
-use crate::pages::page_fault;
+use crate::pages::fault_up_to;
 use byteorder::{BigEndian, ByteOrder};
 use ds_base::{Lrsn, NoMemory, PageId, TableId};
 use page_format::{PAGE_SIZE, Page};
@@ -181,30 +181,41 @@ fn fault_behind(place: u64, at: Option<u16>) -> Option<u64>
 }
 
 // The page is a room to work in.
-fn fault_in_page(page: &mut Page, bytes: &[u8], table: TableId, heap: u32, n: u64) -> Option<u64>
+fn fault_in_page(
+    page: &mut Page,
+    bytes: &[u8],
+    table: TableId,
+    greatest: Lrsn,
+    heap: u32,
+    n: u64,
+) -> Option<u64>
     requires { n < heap + 2 ^ 32 }
-    ensures { result ≡ fault_in_page bytes.now table heap n }
+    ensures { result ≡ fault_in_page bytes.now table greatest heap n }
 {
     let place = place_of(n);
     if (bytes.len() as u64) < place + PAGE_SIZE as u64 {
         return Some(bytes.len() as u64);
     }
     load_page(page, bytes, n);
-    fault_behind(place, page_fault(page, page_name(table, heap, n)))
+    fault_behind(
+        place,
+        fault_up_to(page, page_name(table, heap, n), greatest),
+    )
 }
 
 fn fault_in_pages(
     page: &mut Page,
     bytes: &[u8],
     table: TableId,
+    greatest: Lrsn,
     heap: u32,
     count: u64,
 ) -> Option<u64>
     requires { count ≤ heap + 2 ^ 32 }
-    ensures { result ≡ fault_in_pages bytes.now table heap 0 count }
+    ensures { result ≡ fault_in_pages bytes.now table greatest heap 0 count }
 {
     for n in 0..count {
-        match fault_in_page(page, bytes, table, heap, n) {
+        match fault_in_page(page, bytes, table, greatest, heap, n) {
             Some(at) => return Some(at),
             None => {}
         }
@@ -224,20 +235,20 @@ fn end_fault(bytes: &[u8], count: u64) -> Option<u64>
     }
 }
 
-fn pages_fault(page: &mut Page, bytes: &[u8], table: TableId) -> Option<u64>
+fn pages_fault(page: &mut Page, bytes: &[u8], table: TableId, greatest: Lrsn) -> Option<u64>
     requires { head_size ≤ length bytes.now }
-    ensures { result ≡ pages_fault bytes.now table }
+    ensures { result ≡ pages_fault bytes.now table greatest }
 {
     let heap = heap_pages(bytes);
     let count = u64::from(heap) + u64::from(index_pages(bytes));
-    if let Some(at) = fault_in_pages(page, bytes, table, heap, count) {
+    if let Some(at) = fault_in_pages(page, bytes, table, greatest, heap, count) {
         return Some(at);
     }
     end_fault(bytes, count)
 }
 
-/// Where the bytes are no image of the table: the first byte of the first field that isn't allowed, names another table or has
-/// a number (LRSN) above this one; or where the image ends before its pages are whole, or goes on behind them.
+/// Where the bytes are no image of the table: the first byte of the first field, of the head or of a page, that isn't allowed,
+/// names another table or has a number (LRSN) above this one; or where the image ends before its pages are whole, or goes on behind them.
 #[tactic(auto, unfolding(crate::specs::Faults::image_fault))]
 pub fn image_fault(
     alloc: Global,
@@ -257,5 +268,5 @@ pub fn image_fault(
         return Ok(Some(at));
     }
     let mut page = Page::zero(alloc)?;
-    Ok(pages_fault(&mut page, bytes, table))
+    Ok(pages_fault(&mut page, bytes, table, greatest))
 }

@@ -15,5 +15,5 @@ returns-in_err-rows-clause-opening g c =
 
 pub returns-clause-opening : goal.returns-clause-opening
 returns-clause-opening g c =
-    opened _ _ _ _ _ _ _ c.in_ok-all.all c.in_ok-all.all.ends.items c.in_ok-all.all.had.items (set.contains nat_cmp c.in_ok-all.all.commits) c.in_ok-rows.rows _ _ _ _
+    opened _ _ _ _ _ _ _ c.in_ok-all.all c.in_ok-all.all.ends.items c.in_ok-all.all.had.items (set.contains nat_cmp c.in_ok-all.all.pending) c.in_ok-rows.rows _ _ _ _
     c.in_ok-all.ensures.surveyed (λ x s. s) c.in_ok-rows.ensures.rows refl refl

@@ -11,7 +11,7 @@ use Rattle.opening_rows.proofs.survey.survey_log.Given as goal
 abbrev pub invariant-loop-more : goal.invariant-loop-more
 invariant-loop-more g l =
     ReadsBy (g.D.Disk.contents l.fn.disk) (g.D.Disk.contents l.disk) (g.D.Disk.faults l.fn.disk) (g.D.Disk.faults l.disk)
-    (λ (more : Bool) c. Passes (log_of c.logs l.member) l.survey.head l.survey.low l.survey.count (set.contains nat_cmp l.fn.commits) (set.contains nat_cmp l.commits) more) (λ member at c. ⊥) (Ok l.more)
+    (λ (more : Bool) c. Passes (log_of c.logs l.member) l.survey.head l.survey.low l.survey.count (set.contains nat_cmp l.fn.pending) (set.contains nat_cmp l.pending) more) (λ member at c. ⊥) (Ok l.more)
     × IsSound l.survey.head
 
 abbrev pub decreases-loop-more : goal.decreases-loop-more

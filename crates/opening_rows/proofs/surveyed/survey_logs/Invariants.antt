@@ -9,5 +9,5 @@ use Rattle.opening_rows.proofs.surveyed.survey_logs.Given as goal
 abbrev pub invariant-loop-n : goal.invariant-loop-n
 invariant-loop-n g l =
     ReadsBy (g.D.Disk.contents l.fn.disk) (g.D.Disk.contents l.disk) (g.D.Disk.faults l.fn.disk) (g.D.Disk.faults l.disk)
-    (λ (n : ℕ) c. length c.logs ≡ 32 → AreSurveyed (take n c.logs) l.all.ends.items l.all.had.items (set.contains nat_cmp l.all.commits)) (λ member at c. ⊥) (Ok l.n)
+    (λ (n : ℕ) c. length c.logs ≡ 32 → AreSurveyed (take n c.logs) l.all.ends.items l.all.had.items (set.contains nat_cmp l.all.pending)) (λ member at c. ⊥) (Ok l.n)
     × (length l.all.ends.items ≡ l.n)

@@ -1,0 +1,10 @@
+pub mod Told
+pub mod Left
+pub mod Name_lists
+pub mod Page_steps
+pub mod Held
+pub mod Own
+pub mod Steps
+pub mod Log_steps
+pub mod Image_whole
+pub mod Whole

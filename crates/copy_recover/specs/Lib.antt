@@ -1,0 +1,4 @@
+pub mod Recovered
+pub mod Recovering
+pub mod Reading
+pub mod Writing

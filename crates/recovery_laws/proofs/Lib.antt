@@ -1,0 +1,3 @@
+pub mod Reached
+pub mod Unhindered
+pub mod Sounds
