@@ -11,11 +11,7 @@ use Rattle.page_protocol.specs.Words.{GroupFailureIsPossible}
 use Rattle.page_world.specs.Groups.{AppendsMoves, CompensatesMoves, ForwardsMoves, Remains, content_with}
 use Rattle.page_world.specs.Numbers.{page_number, set_of}
 use Rattle.page_members.specs.Members.{Shows, WritesShow}
-<<<<<<< HEAD
 use Rattle.page_groups.specs.Falls.{AreDrawnTo, CompensationsGo, FallsTo, GroupsFall, GroupsFallAgain, PageGoes, PagesGo, RecordsGo, RenewalsGo, appended, remains}
-=======
-use Rattle.page_groups.specs.Falls.{AreDrawnTo, CompensationsGo, FallsTo, GroupsFall, GroupsFallAgain, PageGoes, PagesGo, RecordsGo, appended, remains}
->>>>>>> all
 
 abbrev IsShown : World → (ℕ → ℕ → List ℕ) → Type 0
 IsShown w content = (n i : ℕ) → i < (w.pages n).last → lrsn_of (content n (i + 1)) ≡ (w.pages n).lrsn i
@@ -90,7 +86,6 @@ pages_go good law show d e w r content id bytes x b s told is led =
       drive = subst (λ z. Shows e (put r.disk n z)) led.same (show d e r.disk s x id bytes told is);
     })
 
-<<<<<<< HEAD
 -- ---- a page of an older format
 pub renewals_go : WritesShow → RenewalsGo
 renewals_go show d e w r content id bytes x b s told is number = record {
@@ -133,8 +128,6 @@ renewals_go show d e w r content id bytes x b s told is number = record {
       | inr ne ↦ ap lrsn_of (other k (i + 1) (λ z. ne (eqb-true k n (and_parts (k == n) (i + 1 == v) z).0))) ∙ b.shown k i l
     ]
 
-=======
->>>>>>> all
 -- ---- records
 pub records_go : AlwaysGood → AppendsMoves → RecordsGo
 records_go good law w r content m b =

@@ -83,22 +83,14 @@ unfolding brought_at
 brought_page id page records places e = headed_page id page (picked records places) (header_of page id) e
 
 -- ---- an event that leaves the page in hand
-<<<<<<< HEAD
 same_goes : (w : World) (g : Holdings) (content : ℕ → ℕ → List ℕ) (forced : ℕ → ℕ) (h t : Held) → Begins w g content forced h → SameHand h t → t.marks.own ≡ h.marks.own → GoesAlong w content forced (behind g g.facility h.marks.member t) h t
 same_goes w g content forced h t b s own =
-=======
-same_goes : (w : World) (g : Holdings) (content : ℕ → ℕ → List ℕ) (forced : ℕ → ℕ) (h t : Held) → Begins w g content forced h → SameHand h t → GoesAlong w content forced (behind g g.facility h.marks.member t) h t
-same_goes w g content forced h t b s =
->>>>>>> all
     let r = b.restarts in
     quiet_by w g content forced g.facility h t 0 b.tied b.numbered r
     (record {
       member = s.member;
       log = s.log;
-<<<<<<< HEAD
       own = own;
-=======
->>>>>>> all
       full = λ e. ap (λ (c : Copy). c.filled) s.copy ∙ r.full (sym (ap (λ (c : Copy). c.marked) s.copy) ∙ e);
       shows = λ e. ap lrsn_of (ap (λ (c : Copy). c.bytes) s.copy) ∙ r.shows (sym (ap (λ (c : Copy). c.marked) s.copy) ∙ e) ∙ sym s.last;
       here = same_of h t 0 s ∙ sym (r.copies 0);
@@ -115,7 +107,6 @@ noted_same h key ranked number = by (key.turn == 0)
     by true = record { member = refl; log = refl; page = refl; copy = refl; last = refl }
     by false = record { member = refl; log = refl; page = refl; copy = refl; last = refl }
 
-<<<<<<< HEAD
 noted_own : (h : Held) (key ranked : TurnKey) (number : ℕ) → (with_hand (ranked_after h.marks key ranked) (hand_brought (ranked_after h.marks key ranked).hand false number)).own ≡ h.marks.own
 noted_own h key ranked number = by (key.turn == 0)
   where
@@ -123,8 +114,6 @@ noted_own h key ranked number = by (key.turn == 0)
     by true = refl
     by false = refl
 
-=======
->>>>>>> all
 itself : (h : Held) → SameHand h h
 itself h = record { member = refl; log = refl; page = refl; copy = refl; last = refl }
 
@@ -151,12 +140,8 @@ bring_goes law w g content forced h p b has filled valid forward = by h.marks.ha
         ap (λ o. noted_with h.marks o h.marks.hand.page false number rank) e ∙ ap (λ o. noted_with h.marks (Some key) o false number rank) has in
         subst (λ (z : Held). GoesAlong w content forced (behind g g.facility h.marks.member z) h z) (sym is)
         (same_goes w g content forced h (noted h p false) b
-<<<<<<< HEAD
         (subst (λ (z : RestartState). SameHand h (with_marks h (met z number))) (sym marks) (met_same h _ number (noted_same h key (ranked_key p rank) number)))
         (ap (λ (z : RestartState). z.own) marks ∙ noted_own h key (ranked_key p rank) number))
-=======
-        (subst (λ (z : RestartState). SameHand h (with_marks h (met z number))) (sym marks) (met_same h _ number (noted_same h key (ranked_key p rank) number))))
->>>>>>> all
 
     at : (key : TurnKey) → h.marks.hand.key ≡ Some key → (raised : Bool) → (own_forward p h.page h.marks).outcome ≡ Ok raised → (raised ≡ true → Raises w g content h p) → GoesAlong w content forced (behind g g.facility h.marks.member (bring_after h p)) h (bring_after h p)
     at key e true outcome raises = law w g content forced h p key b has filled e valid outcome (raises refl)
@@ -167,11 +152,7 @@ bring_goes law w g content forced h p b has filled valid forward = by h.marks.ha
         let is : bring_after h p ≡ with_marks h (met h.marks number) =
         cond-true (is_none h.marks.hand.key) (noted h p false) (brought_after (with_page h page) p (own_forward p h.page h.marks).outcome) (ap is_none e)
         ∙ ap (λ o. with_marks h (met (noted_with h.marks o h.marks.hand.page false number rank) number)) e in
-<<<<<<< HEAD
         subst (λ (z : Held). GoesAlong w content forced (behind g g.facility h.marks.member z) h z) (sym is) (same_goes w g content forced h (with_marks h (met h.marks number)) b (met_same h h.marks number (itself h)) refl)
-=======
-        subst (λ (z : Held). GoesAlong w content forced (behind g g.facility h.marks.member z) h z) (sym is) (same_goes w g content forced h (with_marks h (met h.marks number)) b (met_same h h.marks number (itself h)))
->>>>>>> all
     by (Some key) e = let f = forward key e in at key e f.0 f.1 f.2
 
 -- ---- behind a read

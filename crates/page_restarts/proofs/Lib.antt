@@ -5,10 +5,7 @@ pub mod Owning
 pub mod Undoing
 pub mod Locals
 pub mod Bringing
-<<<<<<< HEAD
 pub mod Leading
 pub mod Needs
 pub mod Events
 pub mod Ending
-=======
->>>>>>> all

@@ -4,8 +4,5 @@ pub mod Locks
 pub mod Undoes
 pub mod Locals
 pub mod Bringing
-<<<<<<< HEAD
 pub mod Beside
 pub mod Events
-=======
->>>>>>> all

@@ -5,20 +5,14 @@
 #![tactic(auto)]
 
 ghost use Rattle.page_restarts.specs.Bringing.{BringGoes, ReadsOn, TestsOn};
-<<<<<<< HEAD
 ghost use Rattle.page_restarts.specs.Events.{EndGoes, EventsGo};
-=======
->>>>>>> all
 ghost use Rattle.page_restarts.specs.Hands.{FillGoes, ForwardGoes, PutsDown, ReadGoes, TakesUp, TestGoes, WriteGoes};
 ghost use Rattle.page_restarts.specs.Locals.{PutsAside, ReachesGo};
 ghost use Rattle.page_restarts.specs.Locks.{AppendGoes, GiveUpGoes, LockGoes, StayGoes};
 ghost use Rattle.page_restarts.specs.Undoes.{UndoGoes};
 
 use cache_structure::keeps_entries_apart;
-<<<<<<< HEAD
 use page_members::{commands_leave, restarts_go};
-=======
->>>>>>> all
 use page_protocol::coherent_pages;
 use page_world::{
     draws_are_moves, frames_are_moves, losses_are_moves, owners_are_moves, pages_have_numbers,
@@ -98,7 +92,6 @@ pub fn undoes_go()
 {
     draws_are_moves();
 }
-<<<<<<< HEAD
 
 /// Any event of a restart that has read its log, but for its end, whatever was wanted, whatever the answer, and whatever local moves the policy
 /// has made of it, leads to a good world that stands beside what is left, with its restart still in hand.
@@ -124,5 +117,3 @@ pub fn ends_go()
 {
     restarts_go();
 }
-=======
->>>>>>> all
