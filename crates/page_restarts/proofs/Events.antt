@@ -5,7 +5,7 @@ use Rattle.std.proofs.lemmas.Bool.{and_parts, both_ways, cond-false, cond-true, 
 use Rattle.ds_base.specs.declared.names.PageId.{PageId}
 use Rattle.ds_model.specs.declared.lock.Name.{Name}
 use Rattle.ds_model.specs.declared.lock.Name.TheVariants as name
-use Rattle.ds_disk.specs.Contents.{Contents, log_of, with_log}
+use Rattle.ds_disk.specs.Contents.{Contents}
 use Rattle.ds_disk.specs.Pages as disk
 use Rattle.ds_disk.specs.Pages.{Pages}
 use Rattle.ds_disk.specs.declared.disk.DiskError.{DiskError}
@@ -363,11 +363,9 @@ module _ (facts : Facts) (w : World) (u v : Outside) (g : Holdings) (content : �
       let on = went_on u.drive v.drive.contents g.disk b.drive _ told.0.ok.2 in
       let is : k ≡ with_marks h (forced_after h.marks) = stored.2 ∙ ap (got_after r.after sent.AppendLog) on.2.0 ∙ ap (λ (z : Held). with_marks z (forced_after z.marks)) told.1 in
       let m = h.marks.member in
-      subst (λ (z : Held). Led w v g content forced h z) (sym is) (record {
-        leads = made facts.good w u v g (all_forced g m) content content forced (put forced m h.marks.log.last) h (with_marks h (forced_after h.marks)) b (facts.append w g content forced h b.begins)
-            (b.facility ∙ sym same) (pages_on on.0 on.1 (ap (λ (z : Contents). z.pages) on.2.1)) b.begins.sound b.read (others_forced g forced m h.marks.log.last) (λ n i l. refl);
-        level = λ c e. cond-true (m == m) (g.written m) (g.stable m) (eq-eqb m m refl);
-      })
+      subst (λ (z : Held). Led w v g content forced h z) (sym is)
+      (made facts.good w u v g (all_forced g m) content content forced (put forced m h.marks.log.last) h (with_marks h (forced_after h.marks)) b (facts.append w g content forced h b.begins)
+      (b.facility ∙ sym same) (pages_on on.0 on.1 (ap (λ (z : Contents). z.pages) on.2.1)) b.begins.sound b.read (others_forced g forced m h.marks.log.last) (λ n i l. refl) (λ c e. cond-true (m == m) (g.written m) (g.stable m) (eq-eqb m m refl)))
 
   -- ---- what follows the whole records is cut
   cuts : (long : ℕ) → RunsCall (as_restarting u).drive h (sent.CutLog long) a said (as_restarting v).drive k → v.facility ≡ u.facility → Goes
@@ -407,13 +405,11 @@ module _ (facts : Facts) (w : World) (u v : Outside) (g : Holdings) (content : �
           let goes = facts.undo w g content forced h k p number v.facility b.begins placed filled y.own y.newest (subst (λ z. DrawsUndo g.facility m (record { count = 1; at = 0 ∷ 0 ∷ 0 ∷ [] }) z v.facility) is draws) undone in
           let own : k.marks.own ≡ h.marks.own = ap (λ (z : Held). z.marks.own) (r.settles ∙ ap (settle_undo_after r.after id) is) ∙ drawn_own r.after id number ∙ ap (λ (z : Held). z.marks.own) back in
           let counter : g.facility.counter ≤ v.facility.counter = (let e : v.facility.counter ≡ counter_after (first_stale g.facility.directory m (0 ∷ [])) g.facility.counter = ap (λ (z : Facility). z.counter) draws.1 in let f : counter_after (first_stale g.facility.directory m (0 ∷ [])) g.facility.counter ≡ g.facility.counter + 1 = ap (λ o. counter_after o g.facility.counter) none in omega (arith, e, f)) in
-          record {
-            leads = made facts.good w u v g (undone_behind g v.facility m k) content (content_behind w (λ j. j == n) (λ j. k.page) content) forced forced h k b goes
-                refl (drive_on drive) (subst (λ (f : Facility). IsSound f.directory) (sym draws.1) b.begins.sound) (ap (λ (z : OwnState). z.is_read) own ∙ b.read)
-                (others_undone g v.facility forced m k (record { members = ap (λ (f : Facility). f.lists.members) draws.1; statuses = ap (λ (f : Facility). f.lists.statuses) draws.1; counter = counter }))
-                (λ j i l. cond-false ((j == n) && (i == (w.pages j).last + 1)) k.page (content j i) (false_from_ne_true ((j == n) && (i == (w.pages j).last + 1)) (λ z. beyond i (w.pages j).last l (eqb-true i ((w.pages j).last + 1) (and_parts (j == n) (i == (w.pages j).last + 1) z).1))));
-            level = λ c e. absurd (quiet.undrawn number c e (r.is ∙ ap answered.Reply is));
-          }
+          made facts.good w u v g (undone_behind g v.facility m k) content (content_behind w (λ j. j == n) (λ j. k.page) content) forced forced h k b goes
+          refl (drive_on drive) (subst (λ (f : Facility). IsSound f.directory) (sym draws.1) b.begins.sound) (ap (λ (z : OwnState). z.is_read) own ∙ b.read)
+          (others_undone g v.facility forced m k (record { members = ap (λ (f : Facility). f.lists.members) draws.1; statuses = ap (λ (f : Facility). f.lists.statuses) draws.1; counter = counter }))
+          (λ j i l. cond-false ((j == n) && (i == (w.pages j).last + 1)) k.page (content j i) (false_from_ne_true ((j == n) && (i == (w.pages j).last + 1)) (λ z. beyond i (w.pages j).last l (eqb-true i ((w.pages j).last + 1) (and_parts (j == n) (i == (w.pages j).last + 1) z).1))))
+          (λ c e. absurd (quiet.undrawn number c e (r.is ∙ ap answered.Reply is)))
 
       stale : (index : ℕ) → first_stale g.facility.directory h.marks.member (0 ∷ []) ≡ Some index → r.answer ≡ reply.Stale index → Goes
       stale index some is =

@@ -169,42 +169,41 @@ still_none w v g left content versions m t u same none n e = none n ((t.pages n)
 
 pub made : AlwaysGood → (w : World) (u v : Outside) (g left : Holdings) (content versions : ℕ → ℕ → List ℕ) (forced force : ℕ → ℕ) (h k : Held)
     → Beside w u g content forced h → Goes w versions force left h k → left.facility ≡ v.facility → Shows v.drive left.disk → IsSound left.facility.directory → k.marks.own.is_read ≡ true
-    → SameOthers g left forced force h.marks.member → ((n i : ℕ) → i ≤ (w.pages n).last → versions n i ≡ content n i) → Leads w v g content forced h k
-made law w u v g left content versions forced force h k b goes facility drive sound read others kept = record {
-  moves = goes.moves;
-  world = goes.moved.world;
-  run = goes.moved.run;
-  left = left;
-  versions = versions;
-  force = force;
-  beside = record {
-    begins = record { good = law set_of goes.moves w goes.moved.world b.begins.good goes.moved.run; tied = goes.moved.tied; numbered = goes.numbered; sound = sound; restarts = goes.stands };
-    facility = facility;
-    drive = drive;
-    casts = subst (λ m. CastsNone left m) (sym goes.same) (still_none w goes.moved.world g left content versions h.marks.member b.begins.tied goes.moved.tied goes.casts b.casts);
-    read = read;
+    → SameOthers g left forced force h.marks.member → ((n i : ℕ) → i ≤ (w.pages n).last → versions n i ≡ content n i) → Level left h.marks.member k → Led w v g content forced h k
+made law w u v g left content versions forced force h k b goes facility drive sound read others kept level = record {
+  leads = record {
+    moves = goes.moves;
+    world = goes.moved.world;
+    run = goes.moved.run;
+    left = left;
+    versions = versions;
+    force = force;
+    beside = record {
+      begins = record { good = law set_of goes.moves w goes.moved.world b.begins.good goes.moved.run; tied = goes.moved.tied; numbered = goes.numbered; sound = sound; restarts = goes.stands };
+      facility = facility;
+      drive = drive;
+      casts = subst (λ m. CastsNone left m) (sym goes.same) (still_none w goes.moved.world g left content versions h.marks.member b.begins.tied goes.moved.tied goes.casts b.casts);
+      read = read;
+    };
+    same = goes.same;
+    others = others;
+    kept = kept;
   };
-  same = goes.same;
-  others = others;
-  kept = kept;
+  level = level;
 }
 
 -- ---- an event that leaves the page in hand
 pub stay_leads : Facts → (w : World) (u v : Outside) (g : Holdings) (content : ℕ → ℕ → List ℕ) (forced : ℕ → ℕ) (h k : Held)
     → Beside w u g content forced h → KeepsPages g.facility v.facility → Shows v.drive g.disk → SameHand h k → k.marks.own.is_read ≡ true → Level g h.marks.member k → Led w v g content forced h k
-stay_leads facts w u v g content forced h k b keeps drive s read level = record {
-  leads = made facts.good w u v g (with_facility g v.facility) content content forced forced h k b (facts.stay w g content forced h k v.facility b.begins keeps s)
-      refl drive (subst IsSound (sym keeps.directory) b.begins.sound) read (others_facility g v.facility forced h.marks.member (standings_of g.facility v.facility keeps)) (λ n i l. refl);
-  level = level;
-}
+stay_leads facts w u v g content forced h k b keeps drive s read level =
+    made facts.good w u v g (with_facility g v.facility) content content forced forced h k b (facts.stay w g content forced h k v.facility b.begins keeps s)
+    refl drive (subst IsSound (sym keeps.directory) b.begins.sound) read (others_facility g v.facility forced h.marks.member (standings_of g.facility v.facility keeps)) (λ n i l. refl) level
 
 -- ---- one that changes it
 pub behind_leads : Facts → (w : World) (u v : Outside) (g : Holdings) (content : ℕ → ℕ → List ℕ) (forced : ℕ → ℕ) (h k : Held)
     → Beside w u g content forced h → Goes w content forced (behind g v.facility h.marks.member k) h k → KeepsStandings g.facility v.facility → IsSound v.facility.directory → Shows v.drive g.disk → k.marks.own.is_read ≡ true → Level g h.marks.member k → Led w v g content forced h k
-behind_leads facts w u v g content forced h k b goes keeps sound drive read level = record {
-  leads = made facts.good w u v g (behind g v.facility h.marks.member k) content content forced forced h k b goes refl drive sound read (others_behind g v.facility forced h.marks.member k keeps) (λ n i l. refl);
-  level = level;
-}
+behind_leads facts w u v g content forced h k b goes keeps sound drive read level =
+    made facts.good w u v g (behind g v.facility h.marks.member k) content content forced forced h k b goes refl drive sound read (others_behind g v.facility forced h.marks.member k keeps) (λ n i l. refl) level
 
 -- ---- the registration of index 0 is dropped, while no page is in hand
 away : (g : Holdings) (forced : ℕ → ℕ) (h : Held) → IsRestarting g forced h → h.marks.hand.page ≡ None → (j : ℕ) → g.copies h.marks.member j ≡ no_copy
@@ -279,30 +278,24 @@ unregister_goes places law w g content forced h answer v b none r = record {
 
 pub unregister_leads : Facts → (w : World) (u v : Outside) (g : Holdings) (content : ℕ → ℕ → List ℕ) (forced : ℕ → ℕ) (h k : Held) (answer : Reply)
     → Beside w u g content forced h → h.marks.hand.page ≡ None → UnregistersFrame g.facility h.marks.member 0 answer v.facility → Shows v.drive g.disk → k ≡ h → Level g h.marks.member h → Led w v g content forced h k
-unregister_leads facts w u v g content forced h k answer b none r drive is level = subst (λ (z : Held). Led w v g content forced h z) (sym is) (record {
-  leads = made facts.good w u v g (with_facility g v.facility) content content forced forced h h b (unregister_goes facts.places facts.unregisters w g content forced h answer v.facility b.begins none r)
-      refl drive (subst (λ (z : Facility). IsSound z.directory) (sym r.1) (facts.sound.unregister g.facility.directory h.marks.member 0 b.begins.sound)) b.read
-      (others_facility g v.facility forced h.marks.member (directory_standings g.facility v.facility (after_unregister g.facility.directory h.marks.member 0) r.1)) (λ n i l. refl);
-  level = level;
-})
+unregister_leads facts w u v g content forced h k answer b none r drive is level = subst (λ (z : Held). Led w v g content forced h z) (sym is) (
+    made facts.good w u v g (with_facility g v.facility) content content forced forced h h b (unregister_goes facts.places facts.unregisters w g content forced h answer v.facility b.begins none r)
+    refl drive (subst (λ (z : Facility). IsSound z.directory) (sym r.1) (facts.sound.unregister g.facility.directory h.marks.member 0 b.begins.sound)) b.read
+    (others_facility g v.facility forced h.marks.member (directory_standings g.facility v.facility (after_unregister g.facility.directory h.marks.member 0) r.1)) (λ n i l. refl) level)
 
 -- ---- page locks
 pub lock_leads : Facts → (w : World) (u v : Outside) (g : Holdings) (content : ℕ → ℕ → List ℕ) (forced : ℕ → ℕ) (h k : Held) (p : PageId)
     → Beside w u g content forced h → g.owner (page_number p) ≡ None → KeepsPages g.facility v.facility → Shows v.drive g.disk → SameHand h k → k.marks.own.is_read ≡ true → Level g h.marks.member k → Led w v g content forced h k
-lock_leads facts w u v g content forced h k p b free keeps drive s read level = record {
-  leads = made facts.good w u v g (owned_by g v.facility (page_number p) (Some h.marks.member)) content content forced forced h k b (facts.lock w g content forced h k p v.facility b.begins free keeps s)
-      refl drive (subst IsSound (sym keeps.directory) b.begins.sound) read
-      (others_owned g v.facility forced h.marks.member (page_number p) (Some h.marks.member) (standings_of g.facility v.facility keeps) (λ j ne e. none-some j (sym free ∙ e)) (λ j ne e. ne (sym (same_Some h.marks.member j e)))) (λ n i l. refl);
-  level = level;
-}
+lock_leads facts w u v g content forced h k p b free keeps drive s read level =
+    made facts.good w u v g (owned_by g v.facility (page_number p) (Some h.marks.member)) content content forced forced h k b (facts.lock w g content forced h k p v.facility b.begins free keeps s)
+    refl drive (subst IsSound (sym keeps.directory) b.begins.sound) read
+    (others_owned g v.facility forced h.marks.member (page_number p) (Some h.marks.member) (standings_of g.facility v.facility keeps) (λ j ne e. none-some j (sym free ∙ e)) (λ j ne e. ne (sym (same_Some h.marks.member j e)))) (λ n i l. refl) level
 
 pub give_up_leads : Facts → (w : World) (u v : Outside) (g : Holdings) (content : ℕ → ℕ → List ℕ) (forced : ℕ → ℕ) (h k : Held) (p : PageId)
     → Beside w u g content forced h → Goes w content forced (owned_by g v.facility (page_number p) None) h k → g.owner (page_number p) ≡ Some h.marks.member → KeepsPages g.facility v.facility → Shows v.drive g.disk → k.marks.own.is_read ≡ true → Level g h.marks.member k → Led w v g content forced h k
-give_up_leads facts w u v g content forced h k p b goes own keeps drive read level = record {
-  leads = made facts.good w u v g (owned_by g v.facility (page_number p) None) content content forced forced h k b goes refl drive (subst IsSound (sym keeps.directory) b.begins.sound) read
-      (others_owned g v.facility forced h.marks.member (page_number p) None (standings_of g.facility v.facility keeps) (λ j ne e. ne (sym (same_Some h.marks.member j (sym own ∙ e)))) (λ j ne e. none-some j e)) (λ n i l. refl);
-  level = level;
-}
+give_up_leads facts w u v g content forced h k p b goes own keeps drive read level =
+    made facts.good w u v g (owned_by g v.facility (page_number p) None) content content forced forced h k b goes refl drive (subst IsSound (sym keeps.directory) b.begins.sound) read
+    (others_owned g v.facility forced h.marks.member (page_number p) None (standings_of g.facility v.facility keeps) (λ j ne e. ne (sym (same_Some h.marks.member j (sym own ∙ e)))) (λ j ne e. none-some j e)) (λ n i l. refl) level
 
 -- ---- and then the policy's local moves
 others_on : (g mid left : Holdings) (forced between force : ℕ → ℕ) (m p : ℕ) → p ≡ m → SameOthers g mid forced between m → SameOthers mid left between force p → SameOthers g left forced force m
