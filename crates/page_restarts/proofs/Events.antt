@@ -210,7 +210,7 @@ beyond i last l e = omega (arith, l, e)
 
 -- nothing is read once more
 read_once : (x : Bool) → x ≡ true → (rest : Result RestartSent RestartTest) (s : RestartSent) → after (when (not x) test.AlreadyRead passed) rest ≡ Ok s → ⊥
-read_once true yes rest s e = err_ok test.AlreadyRead s (Err test.AlreadyRead) refl e
+read_once true so rest s e = err_ok test.AlreadyRead s (Err test.AlreadyRead) refl e
 read_once false never rest s e = cc never
 
 module _ (facts : Facts) (w : World) (u v : Outside) (g : Holdings) (content : ℕ → ℕ → List ℕ) (forced : ℕ → ℕ) (h k : Held) (a : Answered) (said : RestartTold) (b : Beside w u g content forced h) (quiet : IsQuiet g h k a) (works : a ≢ answered.Failed) where
@@ -238,19 +238,19 @@ module _ (facts : Facts) (w : World) (u v : Outside) (g : Holdings) (content : �
 
   -- ---- a command that lends no page
   lent : (c : Command) (e : Held) (answer : Reply) → is_hand h c ≡ false → Executed h u.facility c (is_hand h c) answer e v.facility → Executed h u.facility c false answer e v.facility
-  lent c e answer no x = subst (λ z. Executed h u.facility c z answer e v.facility) no x
+  lent c e answer unlent x = subst (λ z. Executed h u.facility c z answer e v.facility) unlent x
 
   -- and leaves all that pages know of
   quietly : (i : RestartIntent) (c : Command) → leaves_pages c ≡ true → is_hand h c ≡ false → RunsCommand u.facility h i c a said v.facility k → (as_restarting v).drive ≡ (as_restarting u).drive
       → ((x : List ℕ) (answer : Reply) → Executes u.facility h.marks.member c h.spare answer v.facility x → Keeps h (settled (record h { spare = x }) i answer)) → Goes
-  quietly i c leaves no r drive keeps =
-      let e = lent c r.after r.answer no r.gives.executed in
+  quietly i c leaves unlent r drive keeps =
+      let e = lent c r.after r.answer unlent r.gives.executed in
       stays (subst (λ (f : Facility). KeepsPages f v.facility) (sym b.facility) (facts.leave u.facility v.facility h.marks.member c h.spare r.after.spare r.answer leaves e.executes)) (drive_on drive)
       (keeps_as h (settled (record h { spare = r.after.spare }) i r.answer) k (r.settles ∙ ap (λ (z : Held). settled z i r.answer) e.back) (keeps r.after.spare r.answer e.executes))
 
   kept_of : (i : RestartIntent) (c : Command) → leaves_pages c ≡ true → is_hand h c ≡ false → RunsCommand u.facility h i c a said v.facility k → KeepsPages g.facility v.facility
-  kept_of i c leaves no r =
-      let e = lent c r.after r.answer no r.gives.executed in
+  kept_of i c leaves unlent r =
+      let e = lent c r.after r.answer unlent r.gives.executed in
       subst (λ (f : Facility). KeepsPages f v.facility) (sym b.facility) (facts.leave u.facility v.facility h.marks.member c h.spare r.after.spare r.answer leaves e.executes)
 
   -- ---- the page in hand is read
@@ -476,7 +476,7 @@ module _ (facts : Facts) (w : World) (u v : Outside) (g : Holdings) (content : �
       let c = command.Obtain (name.Page x.0) X in
       let q = ran (intent.Obtain id) s (sent.Command c) x.2 r in
       let y = q.0.gives.executed in
-      takes x.0 q.0.answer (λ yes. subst (λ o. MayTake g h.marks.member o) x.1 (given c x.2 q.0 yes)) (kept_of (intent.Obtain id) c refl refl q.0) (drive_on q.1)
+      takes x.0 q.0.answer (λ so. subst (λ o. MayTake g h.marks.member o) x.1 (given c x.2 q.0 so)) (kept_of (intent.Obtain id) c refl refl q.0) (drive_on q.1)
       (keeps_as h (with_marks (record h { spare = q.0.after.spare }) (claim_after h.marks id q.0.answer)) k (q.0.settles ∙ ap (λ (z : Held). with_marks z (claim_after z.marks id q.0.answer)) y.back) (claimed_keeps h q.0.after.spare id q.0.answer))
   by_intent (intent.Ask id to) s e up r given =
       let x = asks_page (λ page. command.Ask 0 to (name.Page page) X) s (page_undone h.marks.trans id) e in
@@ -492,7 +492,7 @@ module _ (facts : Facts) (w : World) (u v : Outside) (g : Holdings) (content : �
       let c = command.Grant 0 (name.Page x.0) X in
       let q = ran (intent.Grant id) s (sent.Command c) x.2 r in
       let y = q.0.gives.executed in
-      takes x.0 q.0.answer (λ yes. subst (λ o. MayTake g h.marks.member o) x.1 (given c x.2 q.0 yes)) (kept_of (intent.Grant id) c refl refl q.0) (drive_on q.1)
+      takes x.0 q.0.answer (λ so. subst (λ o. MayTake g h.marks.member o) x.1 (given c x.2 q.0 so)) (kept_of (intent.Grant id) c refl refl q.0) (drive_on q.1)
       (keeps_as h (with_marks (record h { spare = q.0.after.spare }) (claim_after h.marks id q.0.answer)) k (q.0.settles ∙ ap (λ (z : Held). with_marks z (claim_after z.marks id q.0.answer)) y.back) (claimed_keeps h q.0.after.spare id q.0.answer))
   by_intent (intent.Status m) s e up r given =
       let q = ran (intent.Status m) s (sent.Command (command.Status m)) (just_as (sent.Command (command.Status m)) s e) r in
