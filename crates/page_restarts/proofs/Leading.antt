@@ -25,8 +25,9 @@ use Rattle.page_world.specs.Numbers.{page_at, page_number, set_of}
 use Rattle.page_world.specs.Tied.{Moved, Tied}
 use Rattle.page_intents.specs.Logs.{all_forced}
 use Rattle.page_intents.specs.Owners.{owned_by}
+use Rattle.page_intents.specs.Stands.{AreBehind}
 use Rattle.page_members.specs.Members.{CommandsLeave, SameOthers, Shows}
-use Rattle.page_restarts.specs.Beside.{Beside, Leads}
+use Rattle.page_restarts.specs.Beside.{Beside, Leads, OthersRestart}
 use Rattle.page_restarts.specs.Bringing.{ReadsOn, TestsOn}
 use Rattle.page_restarts.specs.Hands.{FillGoes, WriteGoes}
 use Rattle.page_restarts.specs.Locals.{CastsNone, ReachesGo}
@@ -154,6 +155,24 @@ others_owned g f forced m p now s was is = record {
     | inr away ↦ sym (cond-false (n == p) now (g.owner n) (ne_eqb n p away)) ∙ e
   ];
 }
+
+-- ---- the restarts of others are still in hand
+pub others_restart : OthersRestart
+others_restart g left forced force m h same ne r =
+    let k = h.marks.member in
+    let counter = same.counter in
+    let last = r.last in
+    record {
+      least = r.least;
+      among = subst (λ z. k ≤ z) (sym same.members) r.among;
+      restarts = same.statuses k r.least ne ∙ r.restarts;
+      log = same.log k ne ∙ r.log;
+      last = omega (arith, counter, last);
+      pending = subst (λ z. AreBehind z (left.written k) h.marks.log.pending) (sym (same.stable k ne)) (subst (λ z. AreBehind (g.stable k) z h.marks.log.pending) (sym (same.written k ne)) r.pending);
+      full = r.full;
+      shows = r.shows;
+      copies = λ n. same.copies k n ne ∙ r.copies n;
+    }
 
 -- ---- what is left, with what it takes to put the page aside that is in hand then
 abbrev pub Level : Holdings → ℕ → Held → Type 0

@@ -1,5 +1,5 @@
 -- A member whose restart has read its log, in its good world of pages, beside the disk and what the group holds.
-use Rattle.std.specs.Prelude.{◌≡◌, ℕ, ◌≤◌, true, List}
+use Rattle.std.specs.Prelude.{◌≡◌, ◌≢◌, ℕ, ◌≤◌, true, List}
 use Rattle.member_resources.specs.Events.{World as Outside}
 use Rattle.restart_resources.specs.Events as restarting
 use Rattle.restart_resources.specs.Held.{Held}
@@ -8,7 +8,7 @@ use Rattle.page_world.specs.Numbers.{set_of}
 use Rattle.page_world.specs.Holdings.{Holdings}
 use Rattle.page_members.specs.Members.{SameOthers, Shows}
 use Rattle.page_restarts.specs.Locals.{CastsNone}
-use Rattle.page_restarts.specs.Stands.{Begins}
+use Rattle.page_restarts.specs.Stands.{Begins, IsRestarting}
 
 -- the facility and the disk, as a restart sees them
 abbrev pub as_restarting : Outside → restarting.World
@@ -35,3 +35,7 @@ pub record Leads (w : World) (v : Outside) (g : Holdings) (content : ℕ → ℕ
   pub same : k.marks.member ≡ h.marks.member
   pub others : SameOthers g left forced force h.marks.member
   pub kept : (n i : ℕ) → i ≤ (w.pages n).last → versions n i ≡ content n i
+
+-- where an event of one member leaves what the group holds of all others, the restart of each of them is still in hand
+abbrev pub OthersRestart : Type 0
+OthersRestart = (g left : Holdings) (forced force : ℕ → ℕ) (m : ℕ) (h : Held) → SameOthers g left forced force m → h.marks.member ≢ m → IsRestarting g forced h → IsRestarting left force h

@@ -4,6 +4,7 @@
 //! The crate has definitions and proofs alone. Its functions do nothing: their contracts are the theorems.
 #![tactic(auto)]
 
+ghost use Rattle.page_restarts.specs.Beside.{OthersRestart};
 ghost use Rattle.page_restarts.specs.Bringing.{BringGoes, ReadsOn, TestsOn};
 ghost use Rattle.page_restarts.specs.Events.{EndGoes, EventsGo};
 ghost use Rattle.page_restarts.specs.Hands.{FillGoes, ForwardGoes, PutsDown, ReadGoes, TakesUp, TestGoes, WriteGoes};
@@ -117,3 +118,8 @@ pub fn ends_go()
 {
     restarts_go();
 }
+
+/// Where an event of one member leaves what the group holds of all others, the restart of each of them that is in hand still is.
+pub fn others_still_restart()
+    ensures { OthersRestart }
+{}
