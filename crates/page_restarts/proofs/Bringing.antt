@@ -1,6 +1,6 @@
 -- The page in hand is brought forward in the event in which its bit is seen.
 use Rattle.std.proofs.Common.{◌≡◌, ◌≢◌, ℕ, refl, sym, ap, subst, ◌∙◌, Bool, true, false, List, [], ◌∷◌, Option, Some, None, Result, Ok, Err}
-use Rattle.std.specs.Prelude.{◌==◌, ◌&&◌, ◌||◌, if◌then◌else◌, cond, is_none, is_some, max, nat_lt}
+use Rattle.std.specs.Prelude.{◌==◌, ◌&&◌, ◌||◌, if◌then◌else◌, is_none, is_some, nat_lt}
 use Rattle.std.specs.Option.{option_map_or}
 use Rattle.std.proofs.lemmas.Bool.{and_from, cond-false, cond-true, eq-eqb}
 use Rattle.ds_base.specs.declared.names.PageId.{PageId}
@@ -22,7 +22,7 @@ use Rattle.cache_structure.specs.Replies.{read_reply}
 use Rattle.cache_structure.specs.Sound.{IsSound}
 use Rattle.facility.specs.declared.command.Reply.{Reply}
 use Rattle.facility.specs.declared.command.Reply.TheVariants as reply
-use Rattle.facility.specs.CacheCommands.{ReadsPage, reply_to_read}
+use Rattle.facility.specs.CacheCommands.{reply_to_read}
 use Rattle.facility.specs.States.{Held as Facility}
 use Rattle.restart_records.specs.declared.queue.TurnKey.{TurnKey}
 use Rattle.restart_records.specs.Queue.{ranked_key}
@@ -36,8 +36,7 @@ use Rattle.page_protocol.specs.Moves.{World}
 use Rattle.page_protocol.specs.Always.{AlwaysGood}
 use Rattle.page_world.specs.Holdings.{Copy, Holdings}
 use Rattle.page_world.specs.Numbers.{page_number, set_of}
-use Rattle.page_world.specs.Tied.{Tied}
-use Rattle.page_restarts.specs.Stands.{Begins, Goes, GoesAlong, SameHand, behind, copy_of, hand_copy}
+use Rattle.page_restarts.specs.Stands.{Begins, GoesAlong, SameHand, behind}
 use Rattle.page_restarts.specs.Hands.{ForwardGoes, Raises, ReadGoes, TestGoes}
 use Rattle.page_restarts.specs.Bringing.{BringGoes, Forwards, ReadsOn, TestsOn}
 use Rattle.page_restarts.proofs.Owning.{same_of}

@@ -1,16 +1,11 @@
 -- The end of a restart.
-use Rattle.std.proofs.Common.{◌≡◌, ◌≢◌, ℕ, zero, suc, ◌≤◌, refl, sym, ◌∙◌, ap, subst, arith, Bool, true, false, List, [], ◌∷◌, Option, Some, None, Ok, slice_set}
+use Rattle.std.proofs.Common.{◌≡◌, ◌≢◌, ℕ, zero, suc, ◌≤◌, refl, sym, ◌∙◌, ap, subst, arith, List, [], ◌∷◌, None, Ok, slice_set}
 use Rattle.std.specs.Prelude.{◌-◌, ◌==◌, is_none, length, slice_index_or}
 use Rattle.std.proofs.lemmas.List.{get_or-set_other}
-use Rattle.list_structure.specs.declared.standing.MemberStatus.{MemberStatus}
 use Rattle.list_structure.specs.declared.standing.MemberStatus.TheVariants as standing
 use Rattle.list_structure.specs.Standings.{status_of}
-use Rattle.list_structure.specs.States.{ListsState}
 use Rattle.facility.specs.declared.command.Command.TheVariants as command
 use Rattle.facility.specs.States.{Held as Facility}
-use Rattle.member_resources.specs.Events.{World as Outside}
-use Rattle.restart_marks.specs.declared.intent.RestartIntent.{RestartIntent}
-use Rattle.restart_marks.specs.declared.intent.RestartIntent.TheVariants as intent
 use Rattle.restart_marks.specs.declared.intent.RestartSent.{RestartSent}
 use Rattle.restart_marks.specs.declared.intent.RestartSent.TheVariants as sent
 use Rattle.restart_marks.specs.declared.intent.RestartTest.TheVariants as test
@@ -20,10 +15,9 @@ use Rattle.restart_marks.specs.State.{RestartState}
 use Rattle.restart_marks.specs.Tested.{Tested, after, passed, when}
 use Rattle.restart_resources.specs.Calls as calls
 use Rattle.restart_resources.specs.Events.{Runs}
-use Rattle.restart_resources.specs.Held.{Held}
-use Rattle.page_world.specs.Holdings.{Holdings, StandsAs}
+use Rattle.page_world.specs.Holdings.{StandsAs}
 use Rattle.page_members.specs.Members.{OpensGo}
-use Rattle.page_restarts.specs.Beside.{Beside, as_restarting}
+use Rattle.page_restarts.specs.Beside.{as_restarting}
 use Rattle.page_restarts.specs.Events.{EndGoes}
 use Rattle.page_restarts.proofs.Needs.{after_first, after_tests, is_nothing, sent_as, when_first}
 use Rattle.page_restarts.proofs.Standing.{copy_none}

@@ -1,5 +1,5 @@
 -- Any event of a restart, by its intent: what is run and settled, and then the policy's local moves.
-use Rattle.std.proofs.Common.{◌≡◌, ◌≢◌, ℕ, ◌<◌, ◌≤◌, refl, sym, ◌∙◌, ap, subst, arith, Bool, true, false, inl, inr, List, [], ◌∷◌, Option, Some, None, Result, Ok, Err}
+use Rattle.std.proofs.Common.{◌≡◌, ◌≢◌, ℕ, ◌≤◌, refl, sym, ◌∙◌, ap, subst, arith, Bool, true, false, inl, inr, List, [], ◌∷◌, Option, Some, None, Result, Ok, Err}
 use Rattle.std.specs.Prelude.{◌+◌, ◌⊎◌, ◌==◌, ◌&&◌, not, if◌then◌else◌, is_none, length, slice_get}
 use Rattle.std.proofs.lemmas.Bool.{and_parts, both_ways, cond-false, cond-true, eq-eqb, eqb-true, false_from_ne_true}
 use Rattle.ds_base.specs.declared.names.PageId.{PageId}
@@ -14,7 +14,6 @@ use Rattle.lock_names.specs.declared.mode.Mode.{Mode}
 use Rattle.lock_names.specs.declared.mode.Mode.TheVariants.{X}
 use Rattle.cache_structure.specs.Directory.{after_read, after_write}
 use Rattle.cache_structure.specs.Sound.{IsSound}
-use Rattle.list_structure.specs.declared.standing.MemberStatus.TheVariants.{Up}
 use Rattle.facility.specs.declared.command.Command.{Command}
 use Rattle.facility.specs.declared.command.Command.TheVariants as command
 use Rattle.facility.specs.declared.command.Reply.{Reply}
@@ -47,20 +46,19 @@ use Rattle.restart_marks.specs.Hands.{filled_after, written_after}
 use Rattle.restart_marks.specs.Listing.{page_freed, record_after}
 use Rattle.restart_marks.specs.Locks.{claim_after}
 use Rattle.restart_marks.specs.LockNeeds.{undo_command}
-use Rattle.restart_marks.specs.Moves.{Local, TakeUpRetained, TakeUpUndone, PutDown, Close, Reaches, all_moved, closing_record, is_recovered, may_close, may_put_down, moved, retained_from, undone_from}
+use Rattle.restart_marks.specs.Moves.{Local, TakeUpRetained, TakeUpUndone, PutDown, Close, Reaches, all_moved, may_close, may_put_down, moved, retained_from, undone_from}
 use Rattle.restart_marks.specs.Needs.{need_of}
 use Rattle.restart_marks.specs.OwnNeeds.{call_sent, is_end_listed, recovered_test}
 use Rattle.restart_marks.specs.State.{RestartState, no_hand, with_hand, with_log}
 use Rattle.restart_marks.specs.Tested.{Tested, after, passed, when}
 use Rattle.restart_marks.specs.Undoing.{forced_after, hand_changed, may_undo, stale_after, taken_back_from, undone_as}
 use Rattle.restart_resources.specs.declared.calls.Got.{Got}
-use Rattle.restart_resources.specs.declared.calls.Got.TheVariants as got
 use Rattle.restart_resources.specs.Calls as calls
 use Rattle.restart_resources.specs.Calls.{Calls, RunsCall, Stores, got_after, tail_cut}
 use Rattle.restart_resources.specs.Events as restarting
 use Rattle.restart_resources.specs.Events.{Runs, RunsCommand}
 use Rattle.restart_resources.specs.Held.{Held, with_marks, with_page}
-use Rattle.restart_resources.specs.Lending.{Executed, is_hand, lent_bytes, with_bytes}
+use Rattle.restart_resources.specs.Lending.{Executed, is_hand}
 use Rattle.restart_resources.specs.Settled.{drawn_after_by, read_in, settle_undo_after, settled, tested_after, tested_in, undo_after_by}
 use Rattle.page_protocol.specs.Page.{put}
 use Rattle.page_protocol.specs.Moves.{World}
@@ -69,14 +67,14 @@ use Rattle.page_world.specs.Holdings.{Holdings, KeepsPages}
 use Rattle.page_world.specs.Numbers.{page_at, page_number}
 use Rattle.page_intents.specs.Logs.{all_forced}
 use Rattle.page_members.specs.Members.{Shows, leaves_pages}
-use Rattle.page_restarts.specs.Beside.{Beside, Leads, as_restarting}
+use Rattle.page_restarts.specs.Beside.{Beside, as_restarting}
 use Rattle.page_restarts.specs.Bringing.{Forwards}
-use Rattle.page_restarts.specs.Events.{EventsGo, IsGiven, IsQuiet, MayGiveUp, MayTake, MayUndo, Supplied, is_granted}
-use Rattle.page_restarts.specs.Stands.{GoesAlong, SameHand, behind, hand_copy}
+use Rattle.page_restarts.specs.Events.{EventsGo, IsGiven, IsQuiet, MayGiveUp, MayTake, MayUndo, is_granted}
+use Rattle.page_restarts.specs.Stands.{GoesAlong, SameHand, behind}
 use Rattle.page_restarts.specs.Undoes.{IsUndone, undone_behind}
 use Rattle.page_restarts.proofs.Hands.{tested_copy}
 use Rattle.page_restarts.proofs.Leading.{Facts, KeepsStandings, Led, Level, behind_leads, directory_standings, ended, give_up_leads, lock_leads, made, others_forced, others_undone, standings_same, stay_leads, unregister_leads, went_on}
-use Rattle.page_restarts.proofs.Needs.{FillsHand, PurgesHand, ReadsHand, ReleasesPage, TestsHand, UndoesHand, WritesHand, after_first, asks_page, err_ok, fills_hand, holds, is_nothing, just_as, locks_page, not_false, purges_hand, reads_hand, releases_page, sent_as, tests_hand, undoes_hand, when_first, writes_hand}
+use Rattle.page_restarts.proofs.Needs.{after_first, asks_page, err_ok, fills_hand, is_nothing, just_as, locks_page, purges_hand, reads_hand, releases_page, sent_as, tests_hand, undoes_hand, when_first, writes_hand}
 
 -- ---- what an answer leaves of the page in hand and of the own log
 record Keeps (h t : Held) : Type 0 where

@@ -1,21 +1,19 @@
 -- What an event of a restart leads to, from its moves.
 use Rattle.std.proofs.Common.{◌≡◌, ◌≢◌, ℕ, ◌≤◌, refl, sym, ap, subst, ◌∙◌, arith, Bool, true, false, inl, inr, List, [], ◌∷◌, ◌++◌, Option, Some, None}
-use Rattle.std.specs.Prelude.{◌+◌, ◌==◌, ◌&&◌, if◌then◌else◌, is_some}
+use Rattle.std.specs.Prelude.{◌+◌, ◌==◌, ◌&&◌, is_some}
 use Rattle.std.proofs.lemmas.Bool.{both_ways, cases_eq, cond-false, cond-true, eq-eqb, ne_eqb}
 use Rattle.std.proofs.lemmas.Option.{none-some, same_Some}
 use Rattle.ds_base.specs.declared.names.PageId.{PageId}
 use Rattle.ds_disk.specs.Contents.{Becomes, Contents}
-use Rattle.cache_structure.specs.Directory.{Directory, after_read, after_unregister, after_write, castout_of}
+use Rattle.cache_structure.specs.Directory.{Directory, after_read, after_unregister, after_write}
 use Rattle.cache_structure.specs.Sound.{IsSound}
 use Rattle.list_structure.specs.Standings.{status_of}
 use Rattle.facility.specs.declared.command.Reply.{Reply}
 use Rattle.facility.specs.CacheCommands.{UnregistersFrame}
 use Rattle.facility.specs.States.{Held as Facility}
-use Rattle.member_intents.specs.declared.outcome.Answered.{Answered}
 use Rattle.member_resources.specs.Events.{Drive, World as Outside}
-use Rattle.restart_marks.specs.State.{RestartState}
 use Rattle.restart_resources.specs.Events.{Ends}
-use Rattle.restart_resources.specs.Held.{Held, with_marks}
+use Rattle.restart_resources.specs.Held.{Held}
 use Rattle.page_protocol.specs.Page.{put}
 use Rattle.page_protocol.specs.Moves.{World, Move, At, DropFrame, Run}
 use Rattle.page_protocol.specs.Always.{AlwaysGood}
@@ -32,7 +30,7 @@ use Rattle.page_restarts.specs.Bringing.{ReadsOn, TestsOn}
 use Rattle.page_restarts.specs.Hands.{FillGoes, WriteGoes}
 use Rattle.page_restarts.specs.Locals.{CastsNone, ReachesGo}
 use Rattle.page_restarts.specs.Locks.{AppendGoes, GiveUpGoes, LockGoes, StayGoes}
-use Rattle.page_restarts.specs.Stands.{Begins, Goes, GoesAlong, IsRestarting, SameHand, behind, copy_of}
+use Rattle.page_restarts.specs.Stands.{Begins, Goes, IsRestarting, SameHand, behind, copy_of}
 use Rattle.page_restarts.specs.Undoes.{UndoGoes, undone_behind}
 use Rattle.page_restarts.proofs.Chains.{at_one, numbered_on, pages_stay}
 use Rattle.page_restarts.proofs.Standing.{copy_none}

@@ -1,20 +1,19 @@
 -- What a lawful intent of a restart sends, and what its tests show.
-use Rattle.std.proofs.Common.{◌≡◌, ℕ, ◌≤◌, refl, sym, ◌∙◌, ap, subst, Bool, true, false, Option, Some, None, Result, Ok, Err}
-use Rattle.std.specs.Prelude.{◌&&◌, ◌||◌, ◌==◌, not, is_none, is_some, length, nat_le}
+use Rattle.std.proofs.Common.{◌≡◌, ◌≤◌, refl, sym, ◌∙◌, ap, subst, Bool, true, false, Option, Some, None, Result, Ok, Err}
+use Rattle.std.specs.Prelude.{◌&&◌, ◌==◌, not, is_none, is_some, nat_le}
 use Rattle.std.proofs.lemmas.Bool.{and_from, eq-eqb, leb-true}
 use Rattle.ds_base.specs.declared.names.PageId.{PageId}
 use Rattle.ds_model.specs.declared.lock.Name.TheVariants as name
-use Rattle.lock_names.specs.declared.mode.Mode.TheVariants.{X}
 use Rattle.facility.specs.declared.command.Command.{Command}
 use Rattle.facility.specs.declared.command.Command.TheVariants as command
 use Rattle.restart_records.specs.declared.trans.Newest.{Newest}
-use Rattle.restart_records.specs.Trans.{page_of, page_undone}
+use Rattle.restart_records.specs.Trans.{page_of}
 use Rattle.restart_marks.specs.declared.intent.RestartSent.{RestartSent}
 use Rattle.restart_marks.specs.declared.intent.RestartSent.TheVariants as sent
 use Rattle.restart_marks.specs.declared.intent.RestartTest.{RestartTest}
 use Rattle.restart_marks.specs.declared.intent.RestartTest.TheVariants as test
 use Rattle.restart_marks.specs.HandNeeds.{owner_test, purges_page, reads, reads_page, writes}
-use Rattle.restart_marks.specs.LockNeeds.{asked_in, commands, free_test, is_row_retained, locks_in, log_test, releases, undo_command, undo_test, undo_with, unchanged_test, undone_hand_test}
+use Rattle.restart_marks.specs.LockNeeds.{asked_in, commands, free_test, is_row_retained, locks_in, log_test, releases, undo_command, undo_with, unchanged_test, undone_hand_test}
 use Rattle.restart_marks.specs.Moves.{is_claimed, is_claimed_as, is_same}
 use Rattle.restart_marks.specs.OwnNeeds.{listed_test, recovered_test}
 use Rattle.restart_marks.specs.State.{RestartState}
