@@ -11,7 +11,7 @@ use Rattle.page_protocol.specs.Words.{GroupFailureIsPossible}
 use Rattle.page_world.specs.Groups.{AppendsMoves, CompensatesMoves, ForwardsMoves, Remains, content_with}
 use Rattle.page_world.specs.Numbers.{page_number, set_of}
 use Rattle.page_members.specs.Members.{Shows, WritesShow}
-use Rattle.page_groups.specs.Falls.{AreDrawnTo, CompensationsGo, FallsTo, GroupsFall, GroupsFallAgain, PageGoes, PagesGo, RecordsGo, appended, remains}
+use Rattle.page_groups.specs.Falls.{AreDrawnTo, CompensationsGo, FallsTo, GroupsFall, GroupsFallAgain, PageGoes, PagesGo, RecordsGo, RenewalsGo, appended, remains}
 
 abbrev IsShown : World → (ℕ → ℕ → List ℕ) → Type 0
 IsShown w content = (n i : ℕ) → i < (w.pages n).last → lrsn_of (content n (i + 1)) ≡ (w.pages n).lrsn i
@@ -85,6 +85,48 @@ pages_go good law show d e w r content id bytes x b s told is led =
       };
       drive = subst (λ z. Shows e (put r.disk n z)) led.same (show d e r.disk s x id bytes told is);
     })
+
+-- ---- a page of an older format
+pub renewals_go : WritesShow → RenewalsGo
+renewals_go show d e w r content id bytes x b s told is number = record {
+  falls = record {
+    moves = [];
+    world = w;
+    run = refl;
+    fallen = record { good = b.good; tied = record { down = b.tied.down; counter = b.tied.counter; stable = b.tied.stable; written = b.tied.written; disk = disk; clean = b.tied.clean }; shown = shown };
+  };
+  drive = show d e r.disk s x id bytes told is;
+}
+  where
+    n : ℕ
+    n = page_number id
+
+    v : ℕ
+    v = (w.pages (page_number id)).disk
+
+    now : ℕ → ℕ → List ℕ
+    now = content_with content (page_number id) (w.pages (page_number id)).disk bytes
+
+    here : (k u : ℕ) → k ≡ n → u ≡ v → now k u ≡ bytes
+    here k u e f = cond-true ((k == n) && (u == v)) bytes (content k u) (and_from (k == n) (u == v) (eq-eqb k n e) (eq-eqb u v f))
+
+    other : (k u : ℕ) → (((k == n) && (u == v)) ≡ true → ⊥) → now k u ≡ content k u
+    other k u ne = cond-false ((k == n) && (u == v)) bytes (content k u) (false_from_ne_true ((k == n) && (u == v)) ne)
+
+    disk : (k : ℕ) → put r.disk n bytes k ≡ now k (w.pages k).disk
+    disk k = elim (cases_eq k n) [
+      | inl e ↦ cond-true (k == n) bytes (r.disk k) (eq-eqb k n e) ∙ sym (here k (w.pages k).disk e (ap (λ z. (w.pages z).disk) e))
+      | inr ne ↦ cond-false (k == n) bytes (r.disk k) (ne_eqb k n ne) ∙ b.tied.disk k ∙ sym (other k (w.pages k).disk (λ z. ne (eqb-true k n (and_parts (k == n) ((w.pages k).disk == v) z).0)))
+    ]
+
+    shown : (k i : ℕ) → i < (w.pages k).last → lrsn_of (now k (i + 1)) ≡ (w.pages k).lrsn i
+    shown k i l = elim (cases_eq k n) [
+      | inl e ↦ elim (cases_eq (i + 1) v) [
+        | inl f ↦ ap lrsn_of (here k (i + 1) e f) ∙ number ∙ ap lrsn_of (b.tied.disk n ∙ ap (content n) (sym f) ∙ ap (λ z. content z (i + 1)) (sym e)) ∙ b.shown k i l
+        | inr ne ↦ ap lrsn_of (other k (i + 1) (λ z. ne (eqb-true (i + 1) v (and_parts (k == n) (i + 1 == v) z).1))) ∙ b.shown k i l
+      ]
+      | inr ne ↦ ap lrsn_of (other k (i + 1) (λ z. ne (eqb-true k n (and_parts (k == n) (i + 1 == v) z).0))) ∙ b.shown k i l
+    ]
 
 -- ---- records
 pub records_go : AlwaysGood → AppendsMoves → RecordsGo

@@ -66,6 +66,12 @@ abbrev pub PagesGo : Type 0
 PagesGo = (d e : Drive) (w : World) (r : Remains) (content : ℕ → ℕ → List ℕ) (id : PageId) (bytes : List ℕ) (x : Contents)
     → Fallen w r content → (s : Shows d r.disk) → e.contents ≡ Some x → x.pages ≡ insert s.contents.pages id bytes → PageLeads w content id bytes → PageGoes w e (record r { disk = put r.disk (page_number id) bytes }) content
 
+-- a page of an older format is written anew: the bytes of its version are these from then on, and show the same number
+abbrev pub RenewalsGo : Type 0
+RenewalsGo = (d e : Drive) (w : World) (r : Remains) (content : ℕ → ℕ → List ℕ) (id : PageId) (bytes : List ℕ) (x : Contents)
+    → Fallen w r content → (s : Shows d r.disk) → e.contents ≡ Some x → x.pages ≡ insert s.contents.pages id bytes → lrsn_of bytes ≡ lrsn_of (r.disk (page_number id))
+    → PageGoes w e (record r { disk = put r.disk (page_number id) bytes }) (content_with content (page_number id) (w.pages (page_number id)).disk bytes)
+
 -- it appends a record that changes no page to a log, and one that takes a change back on this page, whose next version these bytes are
 abbrev pub appended : Remains → ℕ → Remains
 appended r m = record r { stable = put r.stable m (r.stable m + 1); counter = r.counter + 1 }

@@ -5,7 +5,7 @@
 //! The crate has definitions and proofs alone. Its functions do nothing: their contracts are the theorems.
 #![tactic(auto)]
 
-ghost use Rattle.page_groups.specs.Falls.{CompensationsGo, GroupsFall, GroupsFallAgain, GroupsRise, PagesGo, RecordsGo};
+ghost use Rattle.page_groups.specs.Falls.{CompensationsGo, GroupsFall, GroupsFallAgain, GroupsRise, PagesGo, RecordsGo, RenewalsGo};
 ghost use Rattle.page_groups.specs.Groups.{EachIsBeside, FailsStand, GroupsStart, LeadsStand, MembersBegin, MembersFail, MembersGo, ToldGo};
 
 use cache_structure::keeps_entries_apart;
@@ -61,10 +61,11 @@ pub fn groups_fall()
     coherent_pages();
 }
 
-/// So does each step of the restart: a page that it writes, of a version that is no earlier than the disk's, and a record that it appends,
-/// that changes no page or takes a change back.
+/// So does each step of the restart: a page that it writes, of a version that is no earlier than the disk's, or anew in the present format, and
+/// a record that it appends, that changes no page or takes a change back.
 pub fn restarts_go()
     ensures pages { PagesGo }
+    ensures renewals { RenewalsGo }
     ensures records { RecordsGo }
     ensures compensations { CompensationsGo }
 {

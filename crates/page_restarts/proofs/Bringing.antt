@@ -1,6 +1,6 @@
 -- The page in hand is brought forward in the event in which its bit is seen.
 use Rattle.std.proofs.Common.{◌≡◌, ◌≢◌, ℕ, refl, sym, ap, subst, ◌∙◌, Bool, true, false, List, [], ◌∷◌, Option, Some, None, Result, Ok, Err}
-use Rattle.std.specs.Prelude.{◌==◌, ◌&&◌, ◌||◌, if◌then◌else◌, cond, is_none, is_some, max, nat_lt}
+use Rattle.std.specs.Prelude.{◌==◌, ◌&&◌, ◌||◌, if◌then◌else◌, is_none, is_some, nat_lt}
 use Rattle.std.specs.Option.{option_map_or}
 use Rattle.std.proofs.lemmas.Bool.{and_from, cond-false, cond-true, eq-eqb}
 use Rattle.ds_base.specs.declared.names.PageId.{PageId}
@@ -22,7 +22,7 @@ use Rattle.cache_structure.specs.Replies.{read_reply}
 use Rattle.cache_structure.specs.Sound.{IsSound}
 use Rattle.facility.specs.declared.command.Reply.{Reply}
 use Rattle.facility.specs.declared.command.Reply.TheVariants as reply
-use Rattle.facility.specs.CacheCommands.{ReadsPage, reply_to_read}
+use Rattle.facility.specs.CacheCommands.{reply_to_read}
 use Rattle.facility.specs.States.{Held as Facility}
 use Rattle.restart_records.specs.declared.queue.TurnKey.{TurnKey}
 use Rattle.restart_records.specs.Queue.{ranked_key}
@@ -36,8 +36,7 @@ use Rattle.page_protocol.specs.Moves.{World}
 use Rattle.page_protocol.specs.Always.{AlwaysGood}
 use Rattle.page_world.specs.Holdings.{Copy, Holdings}
 use Rattle.page_world.specs.Numbers.{page_number, set_of}
-use Rattle.page_world.specs.Tied.{Tied}
-use Rattle.page_restarts.specs.Stands.{Begins, Goes, GoesAlong, SameHand, behind, copy_of, hand_copy}
+use Rattle.page_restarts.specs.Stands.{Begins, GoesAlong, SameHand, behind}
 use Rattle.page_restarts.specs.Hands.{ForwardGoes, Raises, ReadGoes, TestGoes}
 use Rattle.page_restarts.specs.Bringing.{BringGoes, Forwards, ReadsOn, TestsOn}
 use Rattle.page_restarts.proofs.Owning.{same_of}
@@ -83,13 +82,14 @@ unfolding brought_at
 brought_page id page records places e = headed_page id page (picked records places) (header_of page id) e
 
 -- ---- an event that leaves the page in hand
-same_goes : (w : World) (g : Holdings) (content : ℕ → ℕ → List ℕ) (forced : ℕ → ℕ) (h t : Held) → Begins w g content forced h → SameHand h t → GoesAlong w content forced (behind g g.facility h.marks.member t) h t
-same_goes w g content forced h t b s =
+same_goes : (w : World) (g : Holdings) (content : ℕ → ℕ → List ℕ) (forced : ℕ → ℕ) (h t : Held) → Begins w g content forced h → SameHand h t → t.marks.own ≡ h.marks.own → GoesAlong w content forced (behind g g.facility h.marks.member t) h t
+same_goes w g content forced h t b s own =
     let r = b.restarts in
     quiet_by w g content forced g.facility h t 0 b.tied b.numbered r
     (record {
       member = s.member;
       log = s.log;
+      own = own;
       full = λ e. ap (λ (c : Copy). c.filled) s.copy ∙ r.full (sym (ap (λ (c : Copy). c.marked) s.copy) ∙ e);
       shows = λ e. ap lrsn_of (ap (λ (c : Copy). c.bytes) s.copy) ∙ r.shows (sym (ap (λ (c : Copy). c.marked) s.copy) ∙ e) ∙ sym s.last;
       here = same_of h t 0 s ∙ sym (r.copies 0);
@@ -105,6 +105,13 @@ noted_same h key ranked number = by (key.turn == 0)
     by : (x : Bool) → (let u = if x then moved_to h.marks key ranked else h.marks in SameHand h (with_marks h (with_hand u (hand_brought u.hand false number))))
     by true = record { member = refl; log = refl; page = refl; copy = refl; last = refl }
     by false = record { member = refl; log = refl; page = refl; copy = refl; last = refl }
+
+noted_own : (h : Held) (key ranked : TurnKey) (number : ℕ) → (with_hand (ranked_after h.marks key ranked) (hand_brought (ranked_after h.marks key ranked).hand false number)).own ≡ h.marks.own
+noted_own h key ranked number = by (key.turn == 0)
+  where
+    by : (x : Bool) → (if x then moved_to h.marks key ranked else h.marks).own ≡ h.marks.own
+    by true = refl
+    by false = refl
 
 itself : (h : Held) → SameHand h h
 itself h = record { member = refl; log = refl; page = refl; copy = refl; last = refl }
@@ -132,7 +139,8 @@ bring_goes law w g content forced h p b has filled valid forward = by h.marks.ha
         ap (λ o. noted_with h.marks o h.marks.hand.page false number rank) e ∙ ap (λ o. noted_with h.marks (Some key) o false number rank) has in
         subst (λ (z : Held). GoesAlong w content forced (behind g g.facility h.marks.member z) h z) (sym is)
         (same_goes w g content forced h (noted h p false) b
-        (subst (λ (z : RestartState). SameHand h (with_marks h (met z number))) (sym marks) (met_same h _ number (noted_same h key (ranked_key p rank) number))))
+        (subst (λ (z : RestartState). SameHand h (with_marks h (met z number))) (sym marks) (met_same h _ number (noted_same h key (ranked_key p rank) number)))
+        (ap (λ (z : RestartState). z.own) marks ∙ noted_own h key (ranked_key p rank) number))
 
     at : (key : TurnKey) → h.marks.hand.key ≡ Some key → (raised : Bool) → (own_forward p h.page h.marks).outcome ≡ Ok raised → (raised ≡ true → Raises w g content h p) → GoesAlong w content forced (behind g g.facility h.marks.member (bring_after h p)) h (bring_after h p)
     at key e true outcome raises = law w g content forced h p key b has filled e valid outcome (raises refl)
@@ -143,7 +151,7 @@ bring_goes law w g content forced h p b has filled valid forward = by h.marks.ha
         let is : bring_after h p ≡ with_marks h (met h.marks number) =
         cond-true (is_none h.marks.hand.key) (noted h p false) (brought_after (with_page h page) p (own_forward p h.page h.marks).outcome) (ap is_none e)
         ∙ ap (λ o. with_marks h (met (noted_with h.marks o h.marks.hand.page false number rank) number)) e in
-        subst (λ (z : Held). GoesAlong w content forced (behind g g.facility h.marks.member z) h z) (sym is) (same_goes w g content forced h (with_marks h (met h.marks number)) b (met_same h h.marks number (itself h)))
+        subst (λ (z : Held). GoesAlong w content forced (behind g g.facility h.marks.member z) h z) (sym is) (same_goes w g content forced h (with_marks h (met h.marks number)) b (met_same h h.marks number (itself h)) refl)
     by (Some key) e = let f = forward key e in at key e f.0 f.1 f.2
 
 -- ---- behind a read

@@ -115,6 +115,7 @@ takes_up law w g content forced h p key b none =
     (record {
       member = refl;
       log = refl;
+      own = refl;
       full = λ e. absurd (cc e);
       shows = λ e. absurd (cc e);
       here = copy_here t p refl;
@@ -132,13 +133,13 @@ puts_down law w g content forced h b clean = by h.marks.hand.page refl
     by : (o : Option PageId) → h.marks.hand.page ≡ o → GoesAlong w content forced (behind g g.facility h.marks.member t) h t
     by None e =
         quiet_by w g content forced g.facility h t 0 b.tied b.numbered b.restarts
-        (record { member = refl; log = refl; full = λ x. absurd (cc x); shows = λ x. absurd (cc x); here = sym (b.restarts.copies 0 ∙ copy_none h 0 e); there = λ j ne. sym (copy_none h j e) }) refl
+        (record { member = refl; log = refl; own = refl; full = λ x. absurd (cc x); shows = λ x. absurd (cc x); here = sym (b.restarts.copies 0 ∙ copy_none h 0 e); there = λ j ne. sym (copy_none h j e) }) refl
     by (Some p) e =
         let m = h.marks.member in
         let n = page_number p in
         let c = has_copy g forced h p b.restarts e in
         goes_by w g content forced g.facility h t n no_copy (At n (DropFrame m) ∷ []) b.numbered b.restarts
-        (record { member = refl; log = refl; full = λ x. absurd (cc x); shows = λ x. absurd (cc x); here = refl; there = λ j ne. sym (copy_there h p j e ne) }) (unchanged g.facility) (at_one n (DropFrame m) refl)
+        (record { member = refl; log = refl; own = refl; full = λ x. absurd (cc x); shows = λ x. absurd (cc x); here = refl; there = λ j ne. sym (copy_there h p j e ne) }) (unchanged g.facility) (at_one n (DropFrame m) refl)
         (law w g content m n b.tied (ap (λ (x : Copy). x.marked) c ∙ clean))
 
 -- ---- it is read
@@ -193,7 +194,7 @@ module _ (finds : FindsMoves) (registers : RegistersMoves) (refused : ReadRefuse
       let t : Held = record { marks = h.marks; page = after.page; spare = after.spare } in
       as_now a (subst (λ (z : Hand). GoesAlong w content forced (behind g v h.marks.member (record { marks = with_hand h.marks z; page = after.page; spare = after.spare })) h (record { marks = with_hand h.marks z; page = after.page; spare = after.spare })) (sym same)
       (quiet_by w g content forced v h t (page_number p) b.tied b.numbered b.restarts
-      (leaves_hand h t p (g.copies h.marks.member (page_number p)) has has refl refl b.restarts.full shows_on (ap (hand_copy h.marks.hand) old ∙ sym c)) no.0))
+      (leaves_hand h t p (g.copies h.marks.member (page_number p)) has has refl refl refl b.restarts.full shows_on (ap (hand_copy h.marks.hand) old ∙ sym c)) no.0))
 
   found : answer ≡ reply.Found → Left reply.Found
   found is =
@@ -202,7 +203,7 @@ module _ (finds : FindsMoves) (registers : RegistersMoves) (refused : ReadRefuse
       let copy : hand_copy t.marks.hand t.page ≡ found_copy (hand_copy hand h.page) bytes = ap (λ z. record (hand_copy hand h.page) { filled = true; noted = true; bytes = z }) left in
       as_now reply.Found
       (goes_by w g content forced v h t (page_number p) (found_copy (g.copies h.marks.member (page_number p)) bytes) (entry_moves g.facility.directory p ++ At (page_number p) (Read h.marks.member false) ∷ []) b.numbered b.restarts
-      (leaves_hand h t p (found_copy (g.copies h.marks.member (page_number p)) bytes) has has refl refl (λ x. refl) shows_on (copy ∙ ap (λ (z : Copy). found_copy z bytes) (sym c)))
+      (leaves_hand h t p (found_copy (g.copies h.marks.member (page_number p)) bytes) has has refl refl refl (λ x. refl) shows_on (copy ∙ ap (λ (z : Copy). found_copy z bytes) (sym c)))
       (same_members g.facility v _ r.1 (record { members = refl; statuses = refl; counter = refl })) (at_entry g.facility.directory p (page_number p) (Read h.marks.member false) refl)
       (finds w g content h.marks.member 0 p page bytes v b.good b.tied b.sound (is_live_restarting g forced h b.restarts) (has_frame g forced h p b.restarts has) (subst (λ z. ReadsPage g.facility h.marks.member p 0 page z v bytes) is r)))
 
@@ -215,7 +216,7 @@ module _ (finds : FindsMoves) (registers : RegistersMoves) (refused : ReadRefuse
       let copy : hand_copy t.marks.hand t.page ≡ empty_copy (hand_copy hand h.page) = ap (λ z. record (hand_copy hand h.page) { filled = hand.changed; noted = true; bytes = z }) old in
       as_now reply.NoData
       (goes_by w g content forced v h t (page_number p) (empty_copy (g.copies h.marks.member (page_number p))) (entry_moves d p ++ At (page_number p) (Read h.marks.member false) ∷ []) b.numbered b.restarts
-      (leaves_hand h t p (empty_copy (g.copies h.marks.member (page_number p))) has has refl refl (λ x. x) shows_on (copy ∙ ap empty_copy (sym c)))
+      (leaves_hand h t p (empty_copy (g.copies h.marks.member (page_number p))) has has refl refl refl (λ x. x) shows_on (copy ∙ ap empty_copy (sym c)))
       (same_members g.facility v _ r.1 (record { members = refl; statuses = refl; counter = refl })) (at_entry d p (page_number p) (Read h.marks.member false) refl)
       (registers w g content h.marks.member 0 p page bytes v b.good b.tied b.sound (is_live_restarting g forced h b.restarts) (has_frame g forced h p b.restarts has) (subst (λ z. ReadsPage g.facility h.marks.member p 0 page z v bytes) is r)))
 
@@ -250,11 +251,11 @@ fill_goes law w g content forced h p b has registered unfilled =
     let clean : hand.changed ≡ true → hand.filled ≡ true = b.restarts.full in
     let copy : hand_copy t.marks.hand t.page ≡ filled_copy (hand_copy hand h.page) bytes = ap (λ z. record (hand_copy hand h.page) { filled = true; noted = z; bytes = bytes }) noted in
     goes_by w g content forced g.facility h t n (filled_copy (g.copies m n) bytes) (At n (ReadDisk m) ∷ []) b.numbered b.restarts
-    (leaves_hand h t p (filled_copy (g.copies m n) bytes) has has refl refl (λ x. refl) (λ x. absurd (both_ways hand.filled unfilled (clean x))) (copy ∙ ap (λ (z : Copy). filled_copy z bytes) (sym c))) (unchanged g.facility) (at_one n (ReadDisk m) refl)
+    (leaves_hand h t p (filled_copy (g.copies m n) bytes) has has refl refl refl (λ x. refl) (λ x. absurd (both_ways hand.filled unfilled (clean x))) (copy ∙ ap (λ (z : Copy). filled_copy z bytes) (sym c))) (unchanged g.facility) (at_one n (ReadDisk m) refl)
     (law w g content m n b.tied (is_live_restarting g forced h b.restarts) (ap (λ (z : Copy). z.filled) c ∙ unfilled))
 
 -- ---- it is tested: a filled frame counts as registered all along
-tested_copy : (hand : Hand) (page : List ℕ) (x : Bool) → hand.filled ≡ true → hand_copy (record hand { registered = x }) page ≡ hand_copy hand page
+pub tested_copy : (hand : Hand) (page : List ℕ) (x : Bool) → hand.filled ≡ true → hand_copy (record hand { registered = x }) page ≡ hand_copy hand page
 tested_copy hand page x filled =
     let noted : (x || hand.filled) ≡ (hand.registered || hand.filled) = or_second x hand.filled filled ∙ sym (or_second hand.registered hand.filled filled) in
     ap (λ z. record (hand_copy hand page) { noted = z }) noted
@@ -266,7 +267,7 @@ test_goes w g content forced h p answer v b has filled r = by (bit g.facility.di
     left x =
         let t = with_marks h (with_hand h.marks (record h.marks.hand { registered = x })) in
         quiet_by w g content forced v h t (page_number p) b.tied b.numbered b.restarts
-        (leaves_hand h t p (g.copies h.marks.member (page_number p)) has has refl refl b.restarts.full b.restarts.shows (tested_copy h.marks.hand h.page x filled ∙ sym (has_copy g forced h p b.restarts has))) r.1
+        (leaves_hand h t p (g.copies h.marks.member (page_number p)) has has refl refl refl b.restarts.full b.restarts.shows (tested_copy h.marks.hand h.page x filled ∙ sym (has_copy g forced h p b.restarts has))) r.1
 
     by : (x : Bool) → answer ≡ (if x then reply.Valid else reply.Invalid) → GoesAlong w content forced (behind g v h.marks.member (tested_in h answer)) h (tested_in h answer)
     by true e = subst (λ a. GoesAlong w content forced (behind g v h.marks.member (tested_in h a)) h (tested_in h a)) (sym e) (left true)
@@ -276,6 +277,7 @@ test_goes w g content forced h p answer v b has filled r = by (bit g.facility.di
 record Raised (s t : RestartState) (p : PageId) (number : ℕ) : Type 0 where
   pub member : t.member ≡ s.member
   pub log : t.log ≡ s.log
+  pub own : t.own ≡ s.own
   pub page : t.hand.page ≡ Some p
   pub filled : t.hand.filled ≡ s.hand.filled
   pub registered : t.hand.registered ≡ s.hand.registered
@@ -286,20 +288,20 @@ ranked_raised : (s : RestartState) (key ranked : TurnKey) (p : PageId) (number :
 ranked_raised s key ranked p number has = by (key.turn == 0)
   where
     by : (x : Bool) → (let u = if x then moved_to s key ranked else s in Raised s (with_hand u (hand_brought u.hand true number)) p number)
-    by true = record { member = refl; log = refl; page = has; filled = refl; registered = refl; changed = refl; last = refl }
-    by false = record { member = refl; log = refl; page = has; filled = refl; registered = refl; changed = refl; last = refl }
+    by true = record { member = refl; log = refl; own = refl; page = has; filled = refl; registered = refl; changed = refl; last = refl }
+    by false = record { member = refl; log = refl; own = refl; page = has; filled = refl; registered = refl; changed = refl; last = refl }
 
 ready_raised : (s : RestartState) (key : TurnKey) (p : PageId) (number : ℕ) (rank : Rank) → s.hand.key ≡ Some key → s.hand.page ≡ Some p → Raised s (ready_after s true number rank) p number
 ready_raised s key p number rank keyed has =
     let x = ranked_raised s key (ranked_key p rank) p number has in
     let is : noted_with s s.hand.key s.hand.page true number rank ≡ noted_with s (Some key) (Some p) true number rank = ap (λ o. noted_with s o s.hand.page true number rank) keyed ∙ ap (λ o. noted_with s (Some key) o true number rank) has in
-    subst (λ (z : RestartState). Raised s (met z number) p number) (sym is) (record { member = x.member; log = x.log; page = x.page; filled = x.filled; registered = x.registered; changed = x.changed; last = x.last })
+    subst (λ (z : RestartState). Raised s (met z number) p number) (sym is) (record { member = x.member; log = x.log; own = x.own; page = x.page; filled = x.filled; registered = x.registered; changed = x.changed; last = x.last })
 
 pub forward_goes : RedoesMoves → ForwardGoes
 forward_goes law w g content forced h p key b has filled keyed valid outcome raises =
     subst (λ (z : Held). GoesAlong w content forced (behind g g.facility h.marks.member z) h z) (sym is)
     (goes_by w g content forced g.facility h t n (redone_copy (g.copies m n) (content n (w.pages n).last)) (At n (Redo m) ∷ []) b.numbered b.restarts
-    (leaves_hand h t p (redone_copy (g.copies m n) (content n (w.pages n).last)) has x.page x.member x.log (λ _. x.filled ∙ filled) (λ _. sym x.last) (copy ∙ ap (λ (z : Copy). redone_copy z (content n (w.pages n).last)) (sym c))) (unchanged g.facility) (at_one n (Redo m) refl)
+    (leaves_hand h t p (redone_copy (g.copies m n) (content n (w.pages n).last)) has x.page x.member x.log x.own (λ _. x.filled ∙ filled) (λ _. sym x.last) (copy ∙ ap (λ (z : Copy). redone_copy z (content n (w.pages n).last)) (sym c))) (unchanged g.facility) (at_one n (Redo m) refl)
     (law w g content m n 0 b.tied b.restarts.least b.restarts.among b.restarts.restarts raises.own (has_frame g forced h p b.restarts has) (ap (λ (z : Copy). z.noted) c ∙ or_second h.marks.hand.registered h.marks.hand.filled filled) (ap (λ (z : Copy). z.filled) c ∙ filled) valid))
   where
     m : ℕ
@@ -404,7 +406,7 @@ module _ (writes : WritesMoves) (refused : WriteRefused) (w : World) (g : Holdin
       let no = refused g.facility v h.marks.member 0 p h.page answer (subst (λ z. (z ≡ reply.CacheFull) ⊎ (z ≡ reply.Lost)) (sym e) which) r in
       subst (λ (z : Hand). GoesAlong w content forced (behind g v h.marks.member (with_marks h (with_hand h.marks z))) h (with_marks h (with_hand h.marks z))) (sym same)
       (quiet_by w g content forced v h h (page_number p) b.tied b.numbered b.restarts
-      (leaves_hand h h p (g.copies h.marks.member (page_number p)) has has refl refl b.restarts.full b.restarts.shows (sym (has_copy g forced h p b.restarts has))) no)
+      (leaves_hand h h p (g.copies h.marks.member (page_number p)) has has refl refl refl b.restarts.full b.restarts.shows (sym (has_copy g forced h p b.restarts has))) no)
 
   written_by : (x : WriteReply) → write_reply g.facility.directory p ≡ x → Written answer
   written_by write.Written e =
@@ -415,7 +417,7 @@ module _ (writes : WritesMoves) (refused : WriteRefused) (w : World) (g : Holdin
       let t = with_marks h (with_hand h.marks (written_after h.marks.hand reply.Written)) in
       written_as reply.Written is
       (goes_by w g content forced v h t n (written_copy (g.copies m n)) (entry_moves g.facility.directory p ++ At n (Write m) ∷ []) b.numbered b.restarts
-      (leaves_hand h t p (written_copy (g.copies m n)) has has refl refl (λ x. absurd (cc x)) (λ x. absurd (cc x)) (ap written_copy (sym c)))
+      (leaves_hand h t p (written_copy (g.copies m n)) has has refl refl refl (λ x. absurd (cc x)) (λ x. absurd (cc x)) (ap written_copy (sym c)))
       (same_members g.facility v _ r.1 (record { members = refl; statuses = refl; counter = refl })) (at_entry g.facility.directory p n (Write m) refl)
       (writes w g content m 0 p h.page v b.good b.tied b.sound (is_live_restarting g forced h b.restarts) (has_frame g forced h p b.restarts has)
       (ap (λ (z : Copy). z.marked) c ∙ changed) (ap (λ (z : Copy). z.bytes) c) (all_stable w g content forced h p b has changed stable) (subst (λ z. WritesPage g.facility m p 0 h.page z v) is r)))

@@ -5,3 +5,7 @@ pub mod Owning
 pub mod Undoing
 pub mod Locals
 pub mod Bringing
+pub mod Leading
+pub mod Needs
+pub mod Events
+pub mod Ending

@@ -1,5 +1,5 @@
 -- Local moves of a restart, one behind the other.
-use Rattle.std.proofs.Common.{◌≡◌, ◌≢◌, ℕ, zero, suc, ◌+◌, ◌<◌, ◌≤◌, refl, sym, ap, subst, ◌∙◌, arith, Bool, true, false, inl, inr, List, [], ◌∷◌, ◌++◌, Option, Some, None}
+use Rattle.std.proofs.Common.{◌≡◌, ◌≢◌, ℕ, ◌+◌, ◌<◌, ◌≤◌, refl, sym, ap, subst, ◌∙◌, arith, Bool, true, false, inl, inr, List, [], ◌∷◌, ◌++◌, Option, Some, None}
 use Rattle.std.specs.Prelude.{◌==◌, ◌&&◌, ◌||◌, not, if◌then◌else◌, is_none, is_some, slice_get, unwrap_or}
 use Rattle.std.specs.List.{count_by, flat_map}
 use Rattle.std.proofs.lemmas.Bool.{and_parts, cases_eq, cond-false, cond-true, eq-eqb, ne_eqb}
@@ -10,7 +10,7 @@ use Rattle.ds_base.specs.declared.names.PageId.{PageId}
 use Rattle.ds_model.specs.declared.log.LogRecord.{LogRecord}
 use Rattle.ds_model.specs.RecordBytes.{record_bytes}
 use Rattle.log_record.specs.Changes.{is_drawn}
-use Rattle.member_log.specs.Buffers.{LogBuffer, after_put}
+use Rattle.member_log.specs.Buffers.{after_put}
 use Rattle.cache_structure.specs.Directory.{Directory, bit, castout_of, is_registered}
 use Rattle.list_structure.specs.Standings.{status_of}
 use Rattle.restart_records.specs.declared.queue.TurnKey.{TurnKey}
@@ -19,13 +19,11 @@ use Rattle.restart_marks.specs.Moves.{Local, TakeUpRetained, TakeUpUndone, PutDo
 use Rattle.restart_marks.specs.State.{RestartState, no_hand, with_hand}
 use Rattle.restart_resources.specs.Held.{Held, with_marks}
 use Rattle.page_protocol.specs.Page.{Page, Restarting, Failed, drop_frame, fail, put, unfilled}
-use Rattle.page_protocol.specs.Moves.{World, Move, Run, Fail, Restart, IsCut, failed, restarting}
+use Rattle.page_protocol.specs.Moves.{World, Fail, Restart, IsCut, failed, restarting}
 use Rattle.page_protocol.specs.Always.{AlwaysGood}
-use Rattle.page_protocol.specs.Coherent.{Coherent}
-use Rattle.page_world.specs.Holdings.{Copy, no_copy, Holdings, as_status, held_of}
-use Rattle.page_world.specs.Numbers.{page_at, page_number, set_of}
-use Rattle.page_world.specs.Tied.{AreApart, Moved, PageTied, Tied, bit_in}
-use Rattle.page_intents.specs.Numbers.{AreNumbered}
+use Rattle.page_world.specs.Holdings.{no_copy, Holdings, as_status, held_of}
+use Rattle.page_world.specs.Numbers.{page_at, set_of}
+use Rattle.page_world.specs.Tied.{AreApart, PageTied, Tied, bit_in}
 use Rattle.page_intents.specs.Stands.{AreBehind}
 use Rattle.page_restarts.specs.Hands.{PutsDown, TakesUp}
 use Rattle.page_restarts.specs.Locals.{CastsNone, MayPark, PutsAside, ReachesGo}

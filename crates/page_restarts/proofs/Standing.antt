@@ -45,17 +45,19 @@ is_live_restarting g forced h r = record { least = r.least; among = r.among; liv
 pub record Leaves (h t : Held) (n : ℕ) (c : Copy) : Type 0 where
   pub member : t.marks.member ≡ h.marks.member
   pub log : t.marks.log ≡ h.marks.log
+  pub own : t.marks.own ≡ h.marks.own
   pub full : t.marks.hand.changed ≡ true → t.marks.hand.filled ≡ true
   pub shows : t.marks.hand.changed ≡ true → lrsn_of t.page ≡ t.marks.hand.last
   pub here : copy_of t n ≡ c
   pub there : (j : ℕ) → j ≢ n → copy_of t j ≡ copy_of h j
 
 -- it keeps its page
-pub leaves_hand : (h t : Held) (p : PageId) (c : Copy) → h.marks.hand.page ≡ Some p → t.marks.hand.page ≡ Some p → t.marks.member ≡ h.marks.member → t.marks.log ≡ h.marks.log
+pub leaves_hand : (h t : Held) (p : PageId) (c : Copy) → h.marks.hand.page ≡ Some p → t.marks.hand.page ≡ Some p → t.marks.member ≡ h.marks.member → t.marks.log ≡ h.marks.log → t.marks.own ≡ h.marks.own
     → (t.marks.hand.changed ≡ true → t.marks.hand.filled ≡ true) → (t.marks.hand.changed ≡ true → lrsn_of t.page ≡ t.marks.hand.last) → hand_copy t.marks.hand t.page ≡ c → Leaves h t (page_number p) c
-leaves_hand h t p c was is member log full shows copy = record {
+leaves_hand h t p c was is member log own full shows copy = record {
   member = member;
   log = log;
+  own = own;
   full = full;
   shows = shows;
   here = copy_here t p is ∙ copy;
@@ -113,6 +115,7 @@ goes_by w g content forced v h t n c moves numbered r left same pages moved =
         stands = still g forced v h t n c r left same;
       };
       last = λ k. ap (λ (x : Chain). x.last) (pages_stay w m.world moves pages m.run k).chain;
+      own = left.own;
     }
 
 -- ---- an event that is no move
@@ -162,4 +165,4 @@ goes_on w g content forced v h t k a c =
 pub along_on : (w : World) (g : Holdings) (content : ℕ → ℕ → List ℕ) (forced : ℕ → ℕ) (v : Facility) (h t k : Held) → (a : GoesAlong w content forced (behind g v h.marks.member t) h t)
     → GoesAlong a.goes.moved.world content forced (behind (behind g v h.marks.member t) v t.marks.member k) t k → GoesAlong w content forced (behind g v h.marks.member k) h k
 unfolding goes_on
-along_on w g content forced v h t k a c = record { goes = goes_on w g content forced v h t k a.goes c.goes; last = λ n. c.last n ∙ a.last n }
+along_on w g content forced v h t k a c = record { goes = goes_on w g content forced v h t k a.goes c.goes; last = λ n. c.last n ∙ a.last n; own = c.own ∙ a.own }

@@ -4,3 +4,5 @@ pub mod Locks
 pub mod Undoes
 pub mod Locals
 pub mod Bringing
+pub mod Beside
+pub mod Events

@@ -66,10 +66,11 @@ pub record Goes (w : World) (content : ℕ → ℕ → List ℕ) (forced : ℕ �
   pub same : t.marks.member ≡ h.marks.member
   pub stands : IsRestarting left forced t
 
--- and no page has changed
+-- and no page has changed, and nothing of the own log
 pub record GoesAlong (w : World) (content : ℕ → ℕ → List ℕ) (forced : ℕ → ℕ) (left : Holdings) (h t : Held) : Type 0 where
   pub goes : Goes w content forced left h t
   pub last : (n : ℕ) → (goes.moved.world.pages n).last ≡ (w.pages n).last
+  pub own : t.marks.own ≡ h.marks.own
 
 -- ---- an event that leaves the page in hand, and the log
 pub record SameHand (h t : Held) : Type 0 where

@@ -4,13 +4,16 @@
 //! The crate has definitions and proofs alone. Its functions do nothing: their contracts are the theorems.
 #![tactic(auto)]
 
+ghost use Rattle.page_restarts.specs.Beside.{OthersRestart};
 ghost use Rattle.page_restarts.specs.Bringing.{BringGoes, ReadsOn, TestsOn};
+ghost use Rattle.page_restarts.specs.Events.{EndGoes, EventsGo};
 ghost use Rattle.page_restarts.specs.Hands.{FillGoes, ForwardGoes, PutsDown, ReadGoes, TakesUp, TestGoes, WriteGoes};
 ghost use Rattle.page_restarts.specs.Locals.{PutsAside, ReachesGo};
 ghost use Rattle.page_restarts.specs.Locks.{AppendGoes, GiveUpGoes, LockGoes, StayGoes};
 ghost use Rattle.page_restarts.specs.Undoes.{UndoGoes};
 
 use cache_structure::keeps_entries_apart;
+use page_members::{commands_leave, restarts_go};
 use page_protocol::coherent_pages;
 use page_world::{
     draws_are_moves, frames_are_moves, losses_are_moves, owners_are_moves, pages_have_numbers,
@@ -90,3 +93,33 @@ pub fn undoes_go()
 {
     draws_are_moves();
 }
+
+/// Any event of a restart that has read its log, but for its end, whatever was wanted, whatever the answer, and whatever local moves the policy
+/// has made of it, leads to a good world that stands beside what is left, with its restart still in hand.
+pub fn events_go()
+    ensures { EventsGo }
+{
+    pages_have_numbers();
+    frames_are_moves();
+    keeps_entries_apart();
+    coherent_pages();
+    commands_leave();
+    locals_go();
+    reads_go();
+    hands_brought_forward();
+    writes_go();
+    owners_go();
+    undoes_go();
+}
+
+/// The end of a restart whose member has no page lock left leads to a good world in which it is up, and has no copy of a page.
+pub fn ends_go()
+    ensures { EndGoes }
+{
+    restarts_go();
+}
+
+/// Where an event of one member leaves what the group holds of all others, the restart of each of them that is in hand still is.
+pub fn others_still_restart()
+    ensures { OthersRestart }
+{}

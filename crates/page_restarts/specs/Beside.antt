@@ -1,0 +1,41 @@
+-- A member whose restart has read its log, in its good world of pages, beside the disk and what the group holds.
+use Rattle.std.specs.Prelude.{◌≡◌, ◌≢◌, ℕ, ◌≤◌, true, List}
+use Rattle.member_resources.specs.Events.{World as Outside}
+use Rattle.restart_resources.specs.Events as restarting
+use Rattle.restart_resources.specs.Held.{Held}
+use Rattle.page_protocol.specs.Moves.{World, Move, Run}
+use Rattle.page_world.specs.Numbers.{set_of}
+use Rattle.page_world.specs.Holdings.{Holdings}
+use Rattle.page_members.specs.Members.{SameOthers, Shows}
+use Rattle.page_restarts.specs.Locals.{CastsNone}
+use Rattle.page_restarts.specs.Stands.{Begins, IsRestarting}
+
+-- the facility and the disk, as a restart sees them
+abbrev pub as_restarting : Outside → restarting.World
+as_restarting u = record { facility = u.facility; drive = record { alive = u.drive.alive; contents = u.drive.contents } }
+
+-- what the group holds is what is there, and of this member what its restart has; it casts nothing out
+pub record Beside (w : World) (u : Outside) (g : Holdings) (content : ℕ → ℕ → List ℕ) (forced : ℕ → ℕ) (h : Held) : Type 0 where
+  pub begins : Begins w g content forced h
+  pub facility : g.facility ≡ u.facility
+  pub drive : Shows u.drive g.disk
+  pub casts : CastsNone g h.marks.member
+  pub read : h.marks.own.is_read ≡ true
+
+-- moves lead to a good world beside what is left, in which the restart is still in hand, and all else of the others is as it was. The bytes of
+-- no version change
+pub record Leads (w : World) (v : Outside) (g : Holdings) (content : ℕ → ℕ → List ℕ) (forced : ℕ → ℕ) (h k : Held) : Type 0 where
+  pub moves : List Move
+  pub world : World
+  pub run : Run set_of w moves world
+  pub left : Holdings
+  pub versions : ℕ → ℕ → List ℕ
+  pub force : ℕ → ℕ
+  pub beside : Beside world v left versions force k
+  pub same : k.marks.member ≡ h.marks.member
+  pub others : SameOthers g left forced force h.marks.member
+  pub kept : (n i : ℕ) → i ≤ (w.pages n).last → versions n i ≡ content n i
+
+-- where an event of one member leaves what the group holds of all others, the restart of each of them is still in hand
+abbrev pub OthersRestart : Type 0
+OthersRestart = (g left : Holdings) (forced force : ℕ → ℕ) (m : ℕ) (h : Held) → SameOthers g left forced force m → h.marks.member ≢ m → IsRestarting g forced h → IsRestarting left force h
