@@ -91,9 +91,13 @@ pub record IsQueueOf (logs : List Log) (member tran : ℕ) (us : List Undo) : Ty
 abbrev pub is_of : ℕ → ℕ → Undo → Bool
 is_of member tran u = (u.member == member) && (u.tran == tran)
 
--- of each transaction the queue has all that is to be undone, or nothing
+-- nothing is to be undone of the transaction
+abbrev pub IsSettled : List Log → ℕ → ℕ → Type 0
+IsSettled logs member tran = ((course_of (records_for logs member) tran).is_committed ≡ true) ⊎ ((course_of (records_for logs member) tran).undo ≡ [])
+
+-- of each transaction the queue has all that is to be undone
 abbrev pub QueueFits : List Log → List Undo → Type 0
-QueueFits logs us = (member tran : ℕ) → (filter (is_of member tran) us ≡ []) ⊎ IsQueueOf logs member tran (filter (is_of member tran) us)
+QueueFits logs us = (member tran : ℕ) → ((filter (is_of member tran) us ≡ []) × IsSettled logs member tran) ⊎ IsQueueOf logs member tran (filter (is_of member tran) us)
 
 -- ---- laws
 
@@ -103,3 +107,7 @@ ClosingsAppend = (logs : List Log) (cs : List Closing) → ClosingsFit logs cs �
 abbrev pub QueueAppends : Type 0
 QueueAppends = (logs : List Log) (us : List Undo) → QueueFits logs us → greatest (all_records logs) + length us < 2 ^ 80
     → (after : List Log) × AppendsAll logs (undo_writes (greatest (all_records logs)) us) after
+
+-- where nothing is left in the queue, nothing is left to be undone
+abbrev pub EmptyQueueSettles : Type 0
+EmptyQueueSettles = (logs : List Log) → QueueFits logs [] → (member tran : ℕ) → IsSettled logs member tran
