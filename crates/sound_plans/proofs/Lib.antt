@@ -13,3 +13,4 @@ pub mod Courses
 pub mod Counted
 pub mod Settled
 pub mod Fitting_queue
+pub mod Done
