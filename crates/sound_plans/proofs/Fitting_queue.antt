@@ -1,5 +1,5 @@
 -- The queue of a plan fits the logs.
-use Rattle.std.proofs.Common.{◌≡◌, ℕ, List, [], reverse, inl, inr, refl, sym, ap, subst, ◌∙◌}
+use Rattle.std.proofs.Common.{◌≡◌, ℕ, List, [], reverse, inl, inr, sym, ap, subst, ◌∙◌}
 use Rattle.std.specs.Prelude.{◌⊎◌, filter}
 use Rattle.std.specs.FinMap.{entries, empty}
 use Rattle.log_record.specs.declared.log.Log.{Log}
@@ -10,12 +10,11 @@ use Rattle.sound_plans.specs.Opens.{OpensTell}
 use Rattle.sound_plans.specs.Queues.{IsQueueOf, IsSettled, is_of}
 use Rattle.sound_plans.specs.Plans.{QueueOfPlanFits}
 use Rattle.sound_plans.proofs.Inserted.{undos_in, put_all, in_order, turned}
-use Rattle.sound_plans.proofs.Members.{IsSoundLog, each_sound, all_numbers, each_home}
-use Rattle.sound_plans.proofs.Planned_queue.{put_logs, logs_put, logs_differ, FoundIn, PassesIn, logs_pass, passes_rise, put_tran_is, queue_of}
+use Rattle.sound_plans.proofs.Members.{each_sound, all_numbers, each_home}
+use Rattle.sound_plans.proofs.Planned_queue.{put_logs, logs_put, logs_differ, PassesIn, logs_pass, passes_rise, put_tran_is, queue_of}
 use Rattle.sound_plans.proofs.Settled.{nothing_settled}
 
 passes_fit : (all : List Log) (m t : ℕ) (us : List Undo) → (us ≡ [] → IsSettled all m t) → PassesIn all m t us → ((reverse us ≡ []) × IsSettled all m t) ⊎ IsQueueOf all m t (reverse us)
-unfolding PassesIn
 passes_fit all m t us settled (inl e) = inl (ap reverse e, settled e)
 passes_fit all m t us settled (inr f) = elim (put_tran_is m f.found.tran f.found.is_open_tran.numbered) [
   | inl e ↦ (let nothing : us ≡ [] = f.found.is ∙ e in inl (ap reverse nothing, settled nothing))

@@ -3,7 +3,7 @@ use Rattle.std.proofs.Common.{◌≡◌, ◌≢◌, ℕ, ◌+◌, ◌-◌, ◌<�
 use Rattle.std.specs.Prelude.{◌⊎◌, ◌==◌, ◌||◌, ◌&&◌, T, filter, slice_get}
 use Rattle.std.specs.List.{AllByRecursion}
 use Rattle.std.specs.Ordering.{nat_cmp, is_lt}
-use Rattle.std.specs.FinMap.{entries, entries_sorted, empty}
+use Rattle.std.specs.FinMap.{entries, entries_sorted}
 use Rattle.std.specs.FinMap.Entries.{below_all, is_sorted}
 use Rattle.std.proofs.lemmas.Bool.{cond_both, cases_Bool, or_cases, or_from, or_left, or_right, both_ways, eqb-true, eq-eqb, ne_eqb, false_from_ne_true}
 use Rattle.std.proofs.lemmas.Bool.Decides.{nat_tests}
@@ -19,16 +19,14 @@ use Rattle.log_trans.specs.Courses.{courses_of, is_open, open_among, open_tran, 
 use Rattle.log_merge.specs.Merging.{all_records}
 use Rattle.restart_plan.specs.declared.opened.Opened.{Opened}
 use Rattle.restart_plan.specs.declared.opened.Undo.{Undo}
-use Rattle.restart_plan.specs.Opened.{Changes, nothing_open, closing, closed, with_undo, with_change, with_changes, with_tran, with_trans, with_ending, needs_end, with_last, with_log, with_logs}
-use Rattle.restart_plan.specs.Plans.{plan_of}
+use Rattle.restart_plan.specs.Opened.{Changes, closing, closed, with_undo, with_change, with_changes, with_tran, with_trans, with_ending, needs_end, with_last, with_log, with_logs}
 use Rattle.sound_disk.specs.Transactions.{drawn_numbers, is_among, all_differ}
 use Rattle.sound_disk.specs.Whole_logs.{AreWholeLogs}
 use Rattle.sound_appends.proofs.Left.{has_change, numbers, among_more, drawn_more, differ_tail, differ_from, differ_back, differ_parts, change_drawn, one_tran, AreLeft, undo_of}
 use Rattle.sound_plans.specs.Opens.{course_of, IsOpenTran, OpensTell}
 use Rattle.sound_plans.specs.Queues.{has_log, records_for, undo_before, undos, IsQueueOf, is_of}
-use Rattle.sound_plans.specs.Plans.{QueueOfPlanFits}
-use Rattle.sound_plans.proofs.Inserted.{undos_in, numbers_of, put_all, AreRising, in_order, turned}
-use Rattle.sound_plans.proofs.Members.{IsSoundLog, each_sound, all_numbers, IsHome, each_home}
+use Rattle.sound_plans.proofs.Inserted.{numbers_of, put_all, AreRising}
+use Rattle.sound_plans.proofs.Members.{IsSoundLog, IsHome}
 use Rattle.sound_plans.proofs.Neat.{AreStrict, IsNeat}
 
 -- ---- what is put into the map
@@ -409,12 +407,11 @@ no_later_log m t k (b ∷ bytes) (log ∷ logs) w low =
     ∙ no_later_log m t (k + 1) bytes logs w.1 (omega (arith, low))
 
 passes_in : (all : List Log) (log : Log) (m t : ℕ) (us : List Undo) → IsSoundLog log → IsHome all log → log.member ≡ m → Passes log.records m t us → PassesIn all m t us
-unfolding Passes PassesIn
+unfolding Passes
 passes_in all log m t us s home is (inl e) = inl e
 passes_in all log m t us s home is (inr f) = inr (record { log = log; sound = s; home = home; member_is = is; found = f })
 
 pub logs_pass : OpensTell → (all : List Log) (m t k : ℕ) (bytes : List (List ℕ)) (logs : List Log) → AreWholeLogs k bytes logs → AllByRecursion IsSoundLog logs → AllByRecursion (λ (l : Log). IsHome all l) logs → PassesIn all m t (filter (is_of m t) (put_logs logs))
-unfolding PassesIn
 logs_pass tell all m t k [] [] w s home = inl refl
 logs_pass tell all m t k [] (log ∷ logs) w s home = absurd w
 logs_pass tell all m t k (b ∷ bytes) [] w s home = absurd w
@@ -461,7 +458,6 @@ found_rises all m t us f =
     subst AreRising (sym f.found.is) (tran_rises m o (subst AreStrict (sym f.found.is_open_tran.undo_is) (f.sound.neat o.id).strict))
 
 pub passes_rise : (all : List Log) (m t : ℕ) (us : List Undo) → PassesIn all m t us → AreRising us
-unfolding PassesIn
 passes_rise all m t us (inl e) = subst AreRising (sym e) tt
 passes_rise all m t us (inr f) = found_rises all m t us f
 

@@ -1,10 +1,10 @@
 -- Of transactions for which nothing is put into a plan's queue nothing is to be undone.
-use Rattle.std.proofs.Common.{◌≡◌, ◌≢◌, ℕ, zero, suc, ◌+◌, ◌-◌, ◌<◌, ◌≤◌, Bool, true, false, cond, List, [], ◌∷◌, ◌++◌, length, map, Option, Some, None, inl, inr, refl, sym, ap, subst, ◌∙◌, arith, append_assoc}
-use Rattle.std.specs.Prelude.{◌⊎◌, ◌==◌, not, ◌||◌, ◌&&◌, T, filter, slice_get}
+use Rattle.std.proofs.Common.{◌≡◌, ◌≢◌, ℕ, zero, suc, ◌-◌, ◌≤◌, Bool, true, false, cond, List, [], ◌∷◌, ◌++◌, length, map, Option, Some, None, inl, inr, refl, sym, ap, subst, ◌∙◌, arith, append_assoc}
+use Rattle.std.specs.Prelude.{◌⊎◌, ◌==◌, not, ◌||◌, ◌&&◌, filter, slice_get}
 use Rattle.std.specs.List.{AllByRecursion}
 use Rattle.std.specs.Ordering.{nat_cmp, eq_by_cmp}
 use Rattle.std.specs.FinMap.{entries, find, get, get-entries}
-use Rattle.std.proofs.lemmas.Bool.{cond_both, cases_Bool, or_cases, or_left, or_right, both_ways, eqb-true, eq-eqb, ne_eqb, false_from_ne_true}
+use Rattle.std.proofs.lemmas.Bool.{cond_both, cases_Bool, or_cases, or_left, or_right, both_ways, eqb-true, ne_eqb}
 use Rattle.std.proofs.lemmas.Bool.Decides.{nat_tests}
 use Rattle.std.proofs.lemmas.List.{append-nil, nil_from_length}
 use Rattle.std.proofs.lemmas.List.Elements.{filter-append}
@@ -19,13 +19,12 @@ use Rattle.log_trans.specs.Courses as courses
 use Rattle.log_trans.specs.Courses.{Courses, new_course, is_next, undone_one, after_body, courses_of, is_open, open_among, open_tran, open_trans}
 use Rattle.log_trans.specs.Damage.{body_fault, nothing_undone, unless, tran_at, undone_at}
 use Rattle.restart_plan.specs.declared.opened.Undo.{Undo}
-use Rattle.sound_disk.specs.Transactions.{is_among, speak_of, course_in, MayFollow, EachFollows}
+use Rattle.sound_disk.specs.Transactions.{is_among, course_in, MayFollow, EachFollows}
 use Rattle.sound_appends.proofs.Left.{course_last}
 use Rattle.sound_plans.specs.Opens.{course_of, IsOpenTran, OpensTell}
-use Rattle.sound_plans.specs.Queues.{has_log, records_for, undos, IsOwnChange, is_of, IsSettled}
+use Rattle.sound_plans.specs.Queues.{records_for, undos, IsOwnChange, is_of, IsSettled}
 use Rattle.sound_plans.proofs.Opens.{Tells, tells_all}
-use Rattle.sound_plans.proofs.Members.{IsSoundLog, IsHome}
-use Rattle.sound_plans.proofs.Neat.{IsNeat}
+use Rattle.sound_plans.proofs.Members.{IsSoundLog}
 use Rattle.sound_plans.proofs.Planned_queue.{put_tran, put_trans, put_last, put_log, put_logs, ids, all_pass, tran_of}
 use Rattle.sound_plans.proofs.Queues.{own_some, head_none}
 
