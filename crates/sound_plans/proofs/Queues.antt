@@ -14,7 +14,7 @@ use Rattle.ds_model.specs.RecordBytes.{IsNumber, IsAllowed, ChangeIsAllowed, Bod
 use Rattle.log_record.specs.Changes.{inverse}
 use Rattle.log_record.specs.declared.log.Log.{Log}
 use Rattle.log_trans.specs.declared.course.Course.{Course}
-use Rattle.log_trans.specs.Courses.{undone_one}
+use Rattle.log_trans.specs.Courses.{undone_one, after_body}
 use Rattle.log_trans.specs.Numbers.{greatest}
 use Rattle.log_merge.specs.Merging.{all_records}
 use Rattle.restart_plan.specs.declared.opened.Undo.{Undo}
@@ -27,7 +27,7 @@ use Rattle.sound_appends.proofs.Open.{is_next_by}
 use Rattle.sound_plans.specs.Opens.{course_of}
 use Rattle.sound_plans.specs.Queues.{Writes, undo_writes, has_log, records_for, undo_before, undos, IsOwnChange, IsQueueOf, IsSettled, is_of, QueueFits, QueueAppends, EmptyQueueSettles}
 use Rattle.sound_plans.proofs.Logs.{put_record, has_still, records_own, records_other, greatest_put, course_own, course_beside, PutIs, put_is}
-use Rattle.sound_plans.proofs.Closings.{SameUndo, ended_leaves, last_with}
+use Rattle.sound_plans.proofs.Closings.{SameUndo, put_leaves, last_with}
 
 -- ---- the last of a list
 
@@ -292,11 +292,15 @@ fits_behind logs u us n fits =
       ]
     ]
 
-pub fits_ended : (logs : List Log) (m lrsn t : ℕ) (us : List Undo) → has_log logs m ≡ true → QueueFits logs us → QueueFits (put_record logs m (ended lrsn t)) us
-fits_ended logs m lrsn t us has fits = λ k s. elim (fits k s) [
-  | inl e ↦ inl (e.0, settled_moves logs (put_record logs m (ended lrsn t)) k s (ended_leaves logs m lrsn t k s has) e.1)
-  | inr q ↦ inr (queue_moves logs (put_record logs m (ended lrsn t)) k s (filter (is_of k s) us) (has_still logs m (ended lrsn t) k) (ended_leaves logs m lrsn t k s has) q)
+-- a record that leaves each course what is to be undone
+pub fits_put : (logs : List Log) (m : ℕ) (r : LogRecord) (us : List Undo) → has_log logs m ≡ true → ((c : Course) → SameUndo (after_body c r r.body) c) → QueueFits logs us → QueueFits (put_record logs m r) us
+fits_put logs m r us has same fits = λ k s. elim (fits k s) [
+  | inl e ↦ inl (e.0, settled_moves logs (put_record logs m r) k s (put_leaves logs m r k s has same) e.1)
+  | inr q ↦ inr (queue_moves logs (put_record logs m r) k s (filter (is_of k s) us) (has_still logs m r k) (put_leaves logs m r k s has same) q)
 ]
+
+pub fits_ended : (logs : List Log) (m lrsn t : ℕ) (us : List Undo) → has_log logs m ≡ true → QueueFits logs us → QueueFits (put_record logs m (ended lrsn t)) us
+fits_ended logs m lrsn t us has fits = fits_put logs m (ended lrsn t) us has (λ c. record { undo = refl; undone = refl; committed = refl }) fits
 
 -- ---- the end of a transaction
 

@@ -3,7 +3,7 @@
 //! The crate has definitions and proofs alone. Its functions do nothing: their contracts are the laws.
 #![tactic(auto)]
 
-ghost use Rattle.sound_plans.specs.Courses.{ClosingGoes, EndingAppends, PagesGo, UndoBegins, UndoGoes};
+ghost use Rattle.sound_plans.specs.Courses.{ClosingGoes, EndingGoes, PagesGo, UndoBegins, UndoGoes};
 ghost use Rattle.sound_plans.specs.Opens.{EndsWhereNothingIsLeft, OpensTell, SomeIsUndone};
 ghost use Rattle.sound_plans.specs.Plans.{ClosingsOfPlanFit, NumbersSuffice, PlanAppends, QueueOfPlanFits};
 ghost use Rattle.sound_plans.specs.Queues.{ClosingsAppend, EmptyQueueSettles, QueueAppends, SettledIsDone};
@@ -45,12 +45,12 @@ pub fn plan_laws()
 }
 
 /// A group restart that has brought the pages forward, with a plan that fits the logs, appends just such records from then on:
-/// each append of an Ended, or of a compensation, leads to logs for which what is left of the plan fits. So are the Checkpoint that
-/// names the end of a log, and the RestartEnd.
+/// each append of an Ended, or of a compensation, leads to logs for which what is left of the plan fits. So does that of a
+/// Checkpoint, which names the end of its log, and of a RestartEnd, when nothing is to be undone any more.
 pub fn course_laws()
     ensures begins { UndoBegins }
     ensures closing { ClosingGoes }
     ensures undo { UndoGoes }
     ensures pages { PagesGo }
-    ensures ending { EndingAppends }
+    ensures ending { EndingGoes }
 {}
