@@ -121,7 +121,7 @@ take_undone_due : (logs : List Log) (h : Restart) → Owes h.plan.undo h.counter
 unfolding take_undone
 take_undone_due logs h o = undo_first_due logs (with_plan h (rest_undo h.plan)) h.plan.undo (slice_get h.plan.undo 0) refl refl o
 
-take_old_due : (logs : List Log) (h : Restart) (page : PageId) → Owes h.plan.undo h.counter logs → IsDue (take_old h page) logs
+take_old_due : (logs : List Log) (h : Restart) (page : PageId) → OwesNothing h.plan.undo h.counter logs → IsDue (take_old h page) logs
 unfolding take_old
 take_old_due logs h page o = cond_both (is_old h.page) (go (record h { page = renewed h.page }) (stage.RenewWrite page)) (next_renewal h) (λ (n : Next). IsDue n logs) (λ e. λ is. o) (λ e. next_renewal_due logs h o)
 
