@@ -1,6 +1,6 @@
 -- Call by call the course appends what fits the logs.
 use Rattle.std.specs.List.{AllByRecursion}
-use Rattle.std.proofs.Common.{◌≡◌, ℕ, ◌+◌, ◌<◌, ◌^◌, true, List, [], ◌∷◌, drop, Option, Some, None, refl, sym, ap, subst, ◌∙◌, arith, ◌≤◌}
+use Rattle.std.proofs.Common.{◌≡◌, ℕ, ◌+◌, ◌<◌, ◌^◌, true, List, [], ◌∷◌, drop, Option, Some, None, refl, sym, ap, subst, ◌∙◌, arith}
 use Rattle.std.specs.Prelude.{nat_lt, slice_get, filter}
 use Rattle.std.proofs.lemmas.Bool.{cond_both, ltb-true}
 use Rattle.ds_base.specs.declared.names.PageId.{PageId}
@@ -20,8 +20,8 @@ use Rattle.group_restart.specs.Undo.{undo_fault, undoing}
 use Rattle.group_restart.specs.Course.{Next, go, with_plan, rest_closings, rest_undo, rest_endings, ending_or, next_ending, rest_old, renewal_or, next_renewal, undo_or, next_undo, closing_or, next_closing, too_few_numbers, has_numbers, numbered, counted, begin_undo, undone, undo_at, undo_unless, undo_one, undo_first, take_undone, take_old, appended}
 use Rattle.sound_disk.specs.Laws.{last_number}
 use Rattle.sound_appends.specs.Appends.{AppendsAll}
-use Rattle.sound_plans.specs.Queues.{has_log, records_for, length_for, CanClose, ClosingsFit, is_of, QueueFits}
-use Rattle.sound_plans.specs.Courses.{Owes, OwesNothing, EndingGoes, IsDue, writes_of, UndoBegins, ClosingGoes, UndoGoes, PagesGo, EndsNext}
+use Rattle.sound_plans.specs.Queues.{has_log, records_for, CanClose, ClosingsFit, is_of, QueueFits}
+use Rattle.sound_plans.specs.Courses.{Owes, OwesNothing, EndingGoes, IsDue, writes_of, UndoBegins, ClosingGoes, UndoGoes, PagesGo}
 use Rattle.sound_plans.specs.Opens.{course_of}
 use Rattle.sound_plans.proofs.Logs.{put_record, has_still, records_own, greatest_put, PutIs, put_is_at}
 use Rattle.sound_plans.proofs.Closings.{last_of_member, last_with, closes, all_close_still, same_undo}
