@@ -8,3 +8,4 @@ pub mod Same
 pub mod Checkpoints
 pub mod Pages
 pub mod Example
+pub mod Stops

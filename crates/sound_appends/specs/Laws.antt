@@ -1,6 +1,6 @@
 -- What a group restart's appends keep of sound logs.
-use Rattle.std.specs.Prelude.{◌≡◌, ℕ, ◌<◌, true, false, List, [], ◌∷◌, ◌++◌, length, take}
-use Rattle.std.specs.List.{list_all}
+use Rattle.std.specs.Prelude.{◌≡◌, ℕ, ◌<◌, true, false, List, [], ◌∷◌, ◌++◌, length, take, map}
+use Rattle.std.specs.List.{list_all, AllByRecursion}
 use Rattle.ds_base.specs.declared.names.PageId.{PageId}
 use Rattle.ds_disk.specs.Contents.{Contents, log_of, with_log}
 use Rattle.ds_model.specs.declared.log.LogRecord.{LogRecord}
@@ -95,3 +95,14 @@ AreRenewedBefore at body.RestartEnd = (id : PageId) → is_old (at id) ≡ false
 -- the pages of the disk are versions still
 abbrev pub KeepsVersions : Type 0
 KeepsVersions = (at : Images) (logs after : List Log) (r : LogRecord) → Appends logs r after → AreRenewedBefore at r.body → AreVersions at logs → AreVersions at after
+
+-- ---- a stop inside an append
+
+abbrev pub HaveNoTails : List Log → Type 0
+HaveNoTails logs = AllByRecursion (λ (l : Log). l.tail ≡ 0) logs
+
+-- records for one member's log of which the first bytes alone were appended: what is left are sound logs
+abbrev pub AppendStops : Type 0
+AppendStops = (c : Contents) (logs after : List Log) (member : ℕ) (records : List LogRecord) (n : ℕ) → AppendsAll logs (map (λ (r : LogRecord). (member, r)) records) after
+    → AreWholeLogs 1 c.logs logs → HaveNoTails logs → AreSoundLogs logs
+    → (left : List Log) × AreWholeLogs 1 (with_log c member (log_of c.logs member ++ take n (log_bytes records))).logs left × AreSoundLogs left

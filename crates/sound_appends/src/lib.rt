@@ -4,7 +4,7 @@
 #![tactic(auto)]
 
 ghost use Rattle.sound_appends.specs.Example.{RollsBack};
-ghost use Rattle.sound_appends.specs.Laws.{CutKeepsWhole, KeepsAll, KeepsCheckpoints, KeepsNumbers, KeepsTransactions, KeepsTurns, KeepsVersions, KeepsWhole, SameRecordsKeep, StandsBehind, TornKeepsWhole};
+ghost use Rattle.sound_appends.specs.Laws.{AppendStops, CutKeepsWhole, KeepsAll, KeepsCheckpoints, KeepsNumbers, KeepsTransactions, KeepsTurns, KeepsVersions, KeepsWhole, SameRecordsKeep, StandsBehind, TornKeepsWhole};
 
 /// Each log is whole records still, whose numbers never fall, with a record that a restart appends, whole or cut short, and where
 /// its tail is cut off.
@@ -37,6 +37,16 @@ pub fn append_laws()
 {
     turn_laws();
     transaction_laws();
+}
+
+/// Where a stop cut an append of such records short, for one of the logs, what is left are sound logs again.
+pub fn stop_laws()
+    ensures { AppendStops }
+{
+    whole_laws();
+    turn_laws();
+    transaction_laws();
+    append_laws();
 }
 
 /// Checkpoints still name places of records before which nothing needs to be read again, where that holds before a Checkpoint

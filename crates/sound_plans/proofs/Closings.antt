@@ -3,7 +3,6 @@ use Rattle.std.proofs.Common.{◌≡◌, ℕ, ◌≤◌, max, Bool, true, false,
 use Rattle.std.specs.Prelude.{◌==◌}
 use Rattle.std.proofs.lemmas.Bool.{cases_Bool, eqb-true}
 use Rattle.ds_model.specs.declared.log.LogRecord.{LogRecord}
-use Rattle.ds_model.specs.declared.log.Body.TheVariants as body
 use Rattle.log_record.specs.declared.log.Log.{Log}
 use Rattle.log_trans.specs.declared.course.Course.{Course}
 use Rattle.log_trans.specs.Courses.{new_course, after_body}
@@ -49,22 +48,23 @@ pub record SameUndo (c d : Course) : Type 0 where
 pub same_undo : (c : Course) → SameUndo c c
 same_undo c = record { undo = refl; undone = refl; committed = refl }
 
-ended_if : (b : Bool) (c : Course) (r : LogRecord) → SameUndo (cond b (after_body c r body.Ended) c) c
-ended_if true c r = record { undo = refl; undone = refl; committed = refl }
-ended_if false c r = same_undo c
+same_if : (b : Bool) (c : Course) (r : LogRecord) → SameUndo (after_body c r r.body) c → SameUndo (cond b (after_body c r r.body) c) c
+same_if true c r h = h
+same_if false c r h = same_undo c
+
+pub put_leaves : (logs : List Log) (member : ℕ) (r : LogRecord) (m t : ℕ) → has_log logs member ≡ true → ((c : Course) → SameUndo (after_body c r r.body) c) → SameUndo (course_of (records_for (put_record logs member r) m) t) (course_of (records_for logs m) t)
+put_leaves logs member r m t h same = elim (cases_Bool (member == m)) [
+  | inl e ↦ (
+      let is : member ≡ m = eqb-true member m e in
+      subst (λ (k : ℕ). SameUndo (course_of (records_for (put_record logs member r) k) t) (course_of (records_for logs k) t)) is
+      (subst (λ (rs : List LogRecord). SameUndo (course_of rs t) (course_of (records_for logs member) t)) (sym (records_own logs member r h))
+      (subst (λ (c : Course). SameUndo c (course_of (records_for logs member) t)) (sym (course_last new_course t (records_for logs member) r))
+      (same_if (r.tran == t) (course_of (records_for logs member) t) r (same (course_of (records_for logs member) t))))))
+  | inr e ↦ subst (λ (rs : List LogRecord). SameUndo (course_of rs t) (course_of (records_for logs m) t)) (sym (records_other logs member r m e)) (same_undo (course_of (records_for logs m) t))
+]
 
 pub ended_leaves : (logs : List Log) (member lrsn tran m t : ℕ) → has_log logs member ≡ true → SameUndo (course_of (records_for (put_record logs member (ended lrsn tran)) m) t) (course_of (records_for logs m) t)
-ended_leaves logs member lrsn tran m t h = elim (cases_Bool (member == m)) [
-  | inl e ↦ (
-      let same : member ≡ m = eqb-true member m e in
-      let records : records_for (put_record logs member (ended lrsn tran)) member ≡ records_for logs member ++ ended lrsn tran ∷ [] = records_own logs member (ended lrsn tran) h in
-      subst (λ (k : ℕ). SameUndo (course_of (records_for (put_record logs member (ended lrsn tran)) k) t) (course_of (records_for logs k) t)) same
-      (subst (λ (rs : List LogRecord). SameUndo (course_of rs t) (course_of (records_for logs member) t)) (sym records)
-      (subst (λ (c : Course). SameUndo c (course_of (records_for logs member) t)) (sym (course_last new_course t (records_for logs member) (ended lrsn tran)))
-      (ended_if (tran == t) (course_of (records_for logs member) t) (ended lrsn tran)))))
-  | inr e ↦ (
-      subst (λ (rs : List LogRecord). SameUndo (course_of rs t) (course_of (records_for logs m) t)) (sym (records_other logs member (ended lrsn tran) m e)) (same_undo (course_of (records_for logs m) t)))
-]
+ended_leaves logs member lrsn tran m t h = put_leaves logs member (ended lrsn tran) m t h (λ c. record { undo = refl; undone = refl; committed = refl })
 
 -- ---- one closing
 

@@ -1,54 +1,61 @@
 -- Call by call the course appends what fits the logs.
+use Rattle.std.specs.List.{AllByRecursion}
 use Rattle.std.proofs.Common.{◌≡◌, ℕ, ◌+◌, ◌<◌, ◌^◌, true, List, [], ◌∷◌, drop, Option, Some, None, refl, sym, ap, subst, ◌∙◌, arith}
 use Rattle.std.specs.Prelude.{nat_lt, slice_get, filter}
 use Rattle.std.proofs.lemmas.Bool.{cond_both, ltb-true}
 use Rattle.ds_base.specs.declared.names.PageId.{PageId}
 use Rattle.ds_model.specs.declared.log.LogRecord.{LogRecord}
+use Rattle.ds_model.specs.RecordBytes.{IsAllowed}
 use Rattle.page_format.specs.Fields.{is_old, renewed}
 use Rattle.log_record.specs.declared.log.Log.{Log}
 use Rattle.log_trans.specs.Numbers.{greatest}
 use Rattle.log_merge.specs.Merging.{all_records}
 use Rattle.restart_plan.specs.declared.opened.Closing.{Closing}
 use Rattle.restart_plan.specs.declared.opened.Undo.{Undo}
+use Rattle.restart_plan.specs.Ends.{end_of}
 use Rattle.group_restart.specs.declared.stage.Stage.TheVariants as stage
 use Rattle.group_restart.specs.Machine.{Restart}
-use Rattle.group_restart.specs.Records.{ended, checkpoint, restart_end, compensation}
+use Rattle.group_restart.specs.Records.{ended, checkpoint, restart_end, compensation, ending}
 use Rattle.group_restart.specs.Undo.{undo_fault, undoing}
 use Rattle.group_restart.specs.Course.{Next, go, with_plan, rest_closings, rest_undo, rest_endings, ending_or, next_ending, rest_old, renewal_or, next_renewal, undo_or, next_undo, closing_or, next_closing, too_few_numbers, has_numbers, numbered, counted, begin_undo, undone, undo_at, undo_unless, undo_one, undo_first, take_undone, take_old, appended}
 use Rattle.sound_disk.specs.Laws.{last_number}
 use Rattle.sound_appends.specs.Appends.{AppendsAll}
-use Rattle.sound_plans.specs.Queues.{has_log, records_for, length_for, CanClose, ClosingsFit, is_of, QueueFits}
-use Rattle.sound_plans.specs.Courses.{EndingAppends, Owes, IsDue, writes_of, UndoBegins, ClosingGoes, UndoGoes, PagesGo}
+use Rattle.sound_plans.specs.Queues.{has_log, records_for, CanClose, ClosingsFit, is_of, QueueFits}
+use Rattle.sound_plans.specs.Courses.{Owes, OwesNothing, EndingGoes, IsDue, writes_of, UndoBegins, ClosingGoes, UndoGoes, PagesGo}
 use Rattle.sound_plans.specs.Opens.{course_of}
 use Rattle.sound_plans.proofs.Logs.{put_record, has_still, records_own, greatest_put, PutIs, put_is_at}
-use Rattle.sound_plans.proofs.Closings.{last_of_member, last_with, closes, all_close_still}
-use Rattle.sound_plans.proofs.Queues.{head_of, first_queue, undoes, ends, fits_behind, fits_ended}
+use Rattle.sound_plans.proofs.Closings.{last_of_member, last_with, closes, all_close_still, same_undo}
+use Rattle.sound_plans.proofs.Queues.{head_of, first_queue, undoes, ends, fits_behind, fits_ended, fits_put}
 
 -- ---- the stages from the last one to the first
 
-ending_due : (logs : List Log) (h : Restart) (next : Option ℕ) → Owes h.plan.undo h.counter logs → IsDue (ending_or h next) logs
+ending_due : (logs : List Log) (h : Restart) (next : Option ℕ) → OwesNothing h.plan.undo h.counter logs → IsDue (ending_or h next) logs
 ending_due logs h None o = λ e. absurd cc
-ending_due logs h (Some member) o = λ e. o
+ending_due logs h (Some member) o = λ e. record { added_is = refl; rest = o }
 
-next_ending_due : (logs : List Log) (h : Restart) → Owes h.plan.undo h.counter logs → IsDue (next_ending h) logs
+next_ending_due : (logs : List Log) (h : Restart) → OwesNothing h.plan.undo h.counter logs → IsDue (next_ending h) logs
 unfolding next_ending
 next_ending_due logs h o = ending_due logs (with_plan h (rest_endings h.plan)) (slice_get h.plan.endings 0) o
 
-renewal_due : (logs : List Log) (h : Restart) (next : Option PageId) → Owes h.plan.undo h.counter logs → IsDue (renewal_or h next) logs
+renewal_due : (logs : List Log) (h : Restart) (next : Option PageId) → OwesNothing h.plan.undo h.counter logs → IsDue (renewal_or h next) logs
 renewal_due logs h None o = next_ending_due logs h o
 renewal_due logs h (Some page) o = λ e. o
 
-next_renewal_due : (logs : List Log) (h : Restart) → Owes h.plan.undo h.counter logs → IsDue (next_renewal h) logs
+next_renewal_due : (logs : List Log) (h : Restart) → OwesNothing h.plan.undo h.counter logs → IsDue (next_renewal h) logs
 unfolding next_renewal
 next_renewal_due logs h o = renewal_due logs (rest_old h) (slice_get h.old_pages 0) o
 
-undo_due : (logs : List Log) (h : Restart) (next : Option Undo) → Owes h.plan.undo h.counter logs → IsDue (undo_or h next) logs
-undo_due logs h None o = next_renewal_due logs h o
-undo_due logs h (Some u) o = λ e. o
+none_first : (us : List Undo) → slice_get us 0 ≡ None → us ≡ []
+none_first [] e = refl
+none_first (x ∷ us) e = absurd cc
+
+undo_due : (logs : List Log) (h : Restart) (next : Option Undo) → slice_get h.plan.undo 0 ≡ next → Owes h.plan.undo h.counter logs → IsDue (undo_or h next) logs
+undo_due logs h None is o = next_renewal_due logs h (record { owes = o; none = none_first h.plan.undo is })
+undo_due logs h (Some u) is o = λ e. o
 
 next_undo_due : (logs : List Log) (h : Restart) → Owes h.plan.undo h.counter logs → IsDue (next_undo h) logs
 unfolding next_undo
-next_undo_due logs h o = undo_due logs h (slice_get h.plan.undo 0) o
+next_undo_due logs h o = undo_due logs h (slice_get h.plan.undo 0) refl o
 
 -- ---- closings
 
@@ -95,23 +102,26 @@ undo_one_due : (logs : List Log) (h : Restart) (u : Undo) → QueueFits logs (u 
 unfolding undo_one
 undo_one_due logs h u queue number = undo_unless_due logs h u (undo_fault u.change h.page) queue number
 
-no_undos : (us : List Undo) → slice_get us 0 ≡ None → us ≡ drop 1 us
-no_undos [] e = refl
-no_undos (x ∷ us) e = absurd cc
+none_rest : (us : List Undo) → slice_get us 0 ≡ None → drop 1 us ≡ []
+none_rest [] e = refl
+none_rest (x ∷ us) e = absurd cc
 
 some_undos : (us : List Undo) (u : Undo) → slice_get us 0 ≡ Some u → us ≡ u ∷ drop 1 us
 some_undos [] u e = absurd cc
 some_undos (x ∷ us) u e = let same : x ≡ u = cc in ap (λ (v : Undo). v ∷ us) same
 
 undo_first_due : (logs : List Log) (h : Restart) (all : List Undo) (next : Option Undo) → slice_get all 0 ≡ next → h.plan.undo ≡ drop 1 all → Owes all h.counter logs → IsDue (undo_first h next) logs
-undo_first_due logs h all None e rest o = next_renewal_due logs h (record { queue = subst (QueueFits logs) (no_undos all e ∙ sym rest) o.queue; number = o.number })
+undo_first_due logs h all None e rest o =
+    let empty : all ≡ [] = none_first all e in
+    let left : h.plan.undo ≡ [] = rest ∙ none_rest all e in
+    next_renewal_due logs h (record { owes = record { queue = subst (QueueFits logs) (empty ∙ sym left) o.queue; number = o.number }; none = left })
 undo_first_due logs h all (Some u) e rest o = undo_one_due logs h u (subst (QueueFits logs) (some_undos all u e ∙ ap (λ (us : List Undo). u ∷ us) (sym rest)) o.queue) o.number
 
 take_undone_due : (logs : List Log) (h : Restart) → Owes h.plan.undo h.counter logs → IsDue (take_undone h) logs
 unfolding take_undone
 take_undone_due logs h o = undo_first_due logs (with_plan h (rest_undo h.plan)) h.plan.undo (slice_get h.plan.undo 0) refl refl o
 
-take_old_due : (logs : List Log) (h : Restart) (page : PageId) → Owes h.plan.undo h.counter logs → IsDue (take_old h page) logs
+take_old_due : (logs : List Log) (h : Restart) (page : PageId) → OwesNothing h.plan.undo h.counter logs → IsDue (take_old h page) logs
 unfolding take_old
 take_old_due logs h page o = cond_both (is_old h.page) (go (record h { page = renewed h.page }) (stage.RenewWrite page)) (next_renewal h) (λ (n : Next). IsDue n logs) (λ e. λ is. o) (λ e. next_renewal_due logs h o)
 
@@ -187,29 +197,35 @@ undo_goes h member page logs d =
 
 -- ---- the ends of logs
 
-pub ending_appends : EndingAppends
-ending_appends logs member counter has e allowed =
-    let at = length_for logs member in
+pub ending_goes : EndingGoes
+ending_goes h member logs d has end allowed =
+    let counter = h.counter in
+    let at = end_of h.plan.ends member in
+    let e = d.rest.owes.number in
+    let both : AllByRecursion IsAllowed (ending counter at) = subst (AllByRecursion IsAllowed) d.added_is allowed in
     let first = checkpoint counter at in
     let second = restart_end counter in
     let last = last_of_member logs member first has in
     let begun = put_record logs member first in
     let top = greatest_put logs member first has in
-    let begins : PutIs logs member first = put_is_at logs member first has allowed.0 (λ log is size. (
+    let begins : PutIs logs member first = put_is_at logs member first has both.0 (λ log is size. (
       record {
         low = let k : last_number 0 log.records ≡ last_number 0 (records_for logs member) = ap (last_number 0) is in omega (arith, k, last, e);
         high = omega (arith, e);
       },
-      sym size,
+      end ∙ sym size,
     )) in
     let has_begun : has_log begun member ≡ true = has_still logs member first member ∙ has in
     let low : last_number 0 (records_for begun member) ≡ counter = ap (last_number 0) (records_own logs member first has) ∙ last_with 0 (records_for logs member) first in
-    let closes_it : PutIs begun member second = put_is_at begun member second has_begun allowed.1.0 (λ log is size. record {
+    let closes_it : PutIs begun member second = put_is_at begun member second has_begun both.1.0 (λ log is size. record {
       low = let k : last_number 0 log.records ≡ counter = ap (last_number 0) is ∙ low in omega (arith, k);
       high = omega (arith, e, top);
     }) in
-    let top_behind = greatest_put begun member second has_begun in (
-      put_record begun member second,
-      (begun, begins.appends, begins.member_is, (put_record begun member second, closes_it.appends, closes_it.member_is, refl)),
-      omega (arith, e, top, top_behind),
+    let top_behind = greatest_put begun member second has_begun in
+    let after = put_record begun member second in
+    let fits : QueueFits begun h.plan.undo = fits_put logs member first h.plan.undo has (λ c. same_undo c) d.rest.owes.queue in
+    let fits_behind_all : QueueFits after h.plan.undo = fits_put begun member second h.plan.undo has_begun (λ c. same_undo c) fits in (
+      after,
+      subst (λ (rs : List LogRecord). AppendsAll logs (writes_of member rs) after) (sym d.added_is) (begun, begins.appends, begins.member_is, (after, closes_it.appends, closes_it.member_is, refl)),
+      next_ending_due after (appended h member) (record { owes = record { queue = fits_behind_all; number = omega (arith, e, top, top_behind) }; none = d.rest.none }),
     )

@@ -11,3 +11,6 @@ pub mod Planned
 pub mod Ended
 pub mod Courses
 pub mod Counted
+pub mod Settled
+pub mod Fitting_queue
+pub mod Done

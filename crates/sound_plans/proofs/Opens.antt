@@ -47,10 +47,10 @@ some_if true v o = refl
 some_if false v o = refl
 
 -- of the records so far: the transactions of which they speak, and what these come to; no other has a course
-record Tells (earlier : List LogRecord) (m : Courses) : Type 0 where
-  none : get m 0 ≡ None
-  some : (t : ℕ) → (t == 0) ≡ false → is_some (get m t) ≡ speak_of t earlier
-  course : (t : ℕ) → (t == 0) ≡ false → courses.course_of (get m t) ≡ course_in new_course t earlier
+pub record Tells (earlier : List LogRecord) (m : Courses) : Type 0 where
+  pub none : get m 0 ≡ None
+  pub some : (t : ℕ) → (t == 0) ≡ false → is_some (get m t) ≡ speak_of t earlier
+  pub course : (t : ℕ) → (t == 0) ≡ false → courses.course_of (get m t) ≡ course_in new_course t earlier
 
 tells_none : Tells [] empty
 tells_none = record {
@@ -108,7 +108,7 @@ tells_from earlier [] m h = subst (λ (l : List LogRecord). Tells l m) (sym (app
 tells_from earlier (r ∷ rs) m h =
     subst (λ (l : List LogRecord). Tells l (courses_from (with_record m r) rs)) (append_assoc earlier (r ∷ []) rs) (tells_from (earlier ++ r ∷ []) rs (with_record m r) (tells_more earlier m r h))
 
-tells_all : (records : List LogRecord) → Tells records (courses_of records)
+pub tells_all : (records : List LogRecord) → Tells records (courses_of records)
 tells_all records = tells_from [] records empty tells_none
 
 -- ---- each entry is found by its key

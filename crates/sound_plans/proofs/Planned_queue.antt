@@ -3,7 +3,7 @@ use Rattle.std.proofs.Common.{◌≡◌, ◌≢◌, ℕ, ◌+◌, ◌-◌, ◌<�
 use Rattle.std.specs.Prelude.{◌⊎◌, ◌==◌, ◌||◌, ◌&&◌, T, filter, slice_get}
 use Rattle.std.specs.List.{AllByRecursion}
 use Rattle.std.specs.Ordering.{nat_cmp, is_lt}
-use Rattle.std.specs.FinMap.{entries, entries_sorted, empty}
+use Rattle.std.specs.FinMap.{entries, entries_sorted}
 use Rattle.std.specs.FinMap.Entries.{below_all, is_sorted}
 use Rattle.std.proofs.lemmas.Bool.{cond_both, cases_Bool, or_cases, or_from, or_left, or_right, both_ways, eqb-true, eq-eqb, ne_eqb, false_from_ne_true}
 use Rattle.std.proofs.lemmas.Bool.Decides.{nat_tests}
@@ -19,16 +19,14 @@ use Rattle.log_trans.specs.Courses.{courses_of, is_open, open_among, open_tran, 
 use Rattle.log_merge.specs.Merging.{all_records}
 use Rattle.restart_plan.specs.declared.opened.Opened.{Opened}
 use Rattle.restart_plan.specs.declared.opened.Undo.{Undo}
-use Rattle.restart_plan.specs.Opened.{Changes, nothing_open, closing, closed, with_undo, with_change, with_changes, with_tran, with_trans, with_ending, needs_end, with_last, with_log, with_logs}
-use Rattle.restart_plan.specs.Plans.{plan_of}
+use Rattle.restart_plan.specs.Opened.{Changes, closing, closed, with_undo, with_change, with_changes, with_tran, with_trans, with_ending, needs_end, with_last, with_log, with_logs}
 use Rattle.sound_disk.specs.Transactions.{drawn_numbers, is_among, all_differ}
 use Rattle.sound_disk.specs.Whole_logs.{AreWholeLogs}
 use Rattle.sound_appends.proofs.Left.{has_change, numbers, among_more, drawn_more, differ_tail, differ_from, differ_back, differ_parts, change_drawn, one_tran, AreLeft, undo_of}
 use Rattle.sound_plans.specs.Opens.{course_of, IsOpenTran, OpensTell}
 use Rattle.sound_plans.specs.Queues.{has_log, records_for, undo_before, undos, IsQueueOf, is_of}
-use Rattle.sound_plans.specs.Plans.{QueueOfPlanFits}
-use Rattle.sound_plans.proofs.Inserted.{undos_in, numbers_of, put_all, AreRising, in_order, turned}
-use Rattle.sound_plans.proofs.Members.{IsSoundLog, each_sound, all_numbers, IsHome, each_home}
+use Rattle.sound_plans.proofs.Inserted.{numbers_of, put_all, AreRising}
+use Rattle.sound_plans.proofs.Members.{IsSoundLog, IsHome}
 use Rattle.sound_plans.proofs.Neat.{AreStrict, IsNeat}
 
 -- ---- what is put into the map
@@ -98,7 +96,7 @@ logs_put o (log ∷ logs) =
 
 -- ---- the numbers of open transactions differ
 
-abbrev ids : List OpenTran → List ℕ
+abbrev pub ids : List OpenTran → List ℕ
 ids ts = map (λ (t : OpenTran). t.id) ts
 
 less_other : (x k : ℕ) → T (is_lt (nat_cmp x k)) → (k == x) ≡ false
@@ -297,12 +295,12 @@ undos_of : (m t : ℕ) (b : Bool) (rs : List LogRecord) → AreOf m t (undos m t
 undos_of m t b [] = tt
 undos_of m t b (r ∷ rs) = before_each (λ (u : Undo). (u.member ≡ m) × (u.tran ≡ t)) m t b r.lrsn r.body (undos m t false rs) (λ u p q e. (p, q)) (undos_of m t false rs)
 
-tran_of : (m : ℕ) (t : OpenTran) → AreOf m t.id (put_tran m t)
+pub tran_of : (m : ℕ) (t : OpenTran) → AreOf m t.id (put_tran m t)
 tran_of m t =
     cond_both (t.id == 0) [] (cond (length t.undo == 0) [] (undos m t.id true t.undo)) (AreOf m t.id) (λ z. tt)
     (λ z. cond_both (length t.undo == 0) [] (undos m t.id true t.undo) (AreOf m t.id) (λ e. tt) (λ e. undos_of m t.id true t.undo))
 
-all_pass : (m t : ℕ) (us : List Undo) → AreOf m t us → filter (is_of m t) us ≡ us
+pub all_pass : (m t : ℕ) (us : List Undo) → AreOf m t us → filter (is_of m t) us ≡ us
 all_pass m t [] h = refl
 all_pass m t (u ∷ us) h =
     let is : is_of m t u ≡ true = ap (λ (b : Bool). b && (u.tran == t)) (eq-eqb u.member m h.0.0) ∙ eq-eqb u.tran t h.0.1 in
@@ -355,11 +353,11 @@ other_log m t n ts None other = refl
 other_log m t n ts (Some last) other = other_member m t n ts other
 
 -- what is put for an open transaction of the log
-record Found (rs : List LogRecord) (m t : ℕ) (us : List Undo) : Type 0 where
-  tran : OpenTran
-  is_open_tran : IsOpenTran rs tran
-  id_is : tran.id ≡ t
-  is : us ≡ put_tran m tran
+pub record Found (rs : List LogRecord) (m t : ℕ) (us : List Undo) : Type 0 where
+  pub tran : OpenTran
+  pub is_open_tran : IsOpenTran rs tran
+  pub id_is : tran.id ≡ t
+  pub is : us ≡ put_tran m tran
 
 -- nothing, or all of it
 Passes : List LogRecord → ℕ → ℕ → List Undo → Type 0
@@ -389,14 +387,14 @@ last_passes m t ts None rs o h = inl refl
 last_passes m t ts (Some last) rs o h = trans_pass m t ts rs o h
 
 -- of the log of the member among all
-record FoundIn (all : List Log) (m t : ℕ) (us : List Undo) : Type 0 where
-  log : Log
-  sound : IsSoundLog log
-  home : IsHome all log
-  member_is : log.member ≡ m
-  found : Found log.records m t us
+pub record FoundIn (all : List Log) (m t : ℕ) (us : List Undo) : Type 0 where
+  pub log : Log
+  pub sound : IsSoundLog log
+  pub home : IsHome all log
+  pub member_is : log.member ≡ m
+  pub found : Found log.records m t us
 
-PassesIn : List Log → ℕ → ℕ → List Undo → Type 0
+abbrev pub PassesIn : List Log → ℕ → ℕ → List Undo → Type 0
 PassesIn all m t us = (us ≡ []) ⊎ FoundIn all m t us
 
 no_later_log : (m t k : ℕ) (bytes : List (List ℕ)) (logs : List Log) → AreWholeLogs k bytes logs → m < k → filter (is_of m t) (put_logs logs) ≡ []
@@ -409,12 +407,11 @@ no_later_log m t k (b ∷ bytes) (log ∷ logs) w low =
     ∙ no_later_log m t (k + 1) bytes logs w.1 (omega (arith, low))
 
 passes_in : (all : List Log) (log : Log) (m t : ℕ) (us : List Undo) → IsSoundLog log → IsHome all log → log.member ≡ m → Passes log.records m t us → PassesIn all m t us
-unfolding Passes PassesIn
+unfolding Passes
 passes_in all log m t us s home is (inl e) = inl e
 passes_in all log m t us s home is (inr f) = inr (record { log = log; sound = s; home = home; member_is = is; found = f })
 
-logs_pass : OpensTell → (all : List Log) (m t k : ℕ) (bytes : List (List ℕ)) (logs : List Log) → AreWholeLogs k bytes logs → AllByRecursion IsSoundLog logs → AllByRecursion (λ (l : Log). IsHome all l) logs → PassesIn all m t (filter (is_of m t) (put_logs logs))
-unfolding PassesIn
+pub logs_pass : OpensTell → (all : List Log) (m t k : ℕ) (bytes : List (List ℕ)) (logs : List Log) → AreWholeLogs k bytes logs → AllByRecursion IsSoundLog logs → AllByRecursion (λ (l : Log). IsHome all l) logs → PassesIn all m t (filter (is_of m t) (put_logs logs))
 logs_pass tell all m t k [] [] w s home = inl refl
 logs_pass tell all m t k [] (log ∷ logs) w s home = absurd w
 logs_pass tell all m t k (b ∷ bytes) [] w s home = absurd w
@@ -460,14 +457,13 @@ found_rises all m t us f =
     let o = f.found.tran in
     subst AreRising (sym f.found.is) (tran_rises m o (subst AreStrict (sym f.found.is_open_tran.undo_is) (f.sound.neat o.id).strict))
 
-passes_rise : (all : List Log) (m t : ℕ) (us : List Undo) → PassesIn all m t us → AreRising us
-unfolding PassesIn
+pub passes_rise : (all : List Log) (m t : ℕ) (us : List Undo) → PassesIn all m t us → AreRising us
 passes_rise all m t us (inl e) = subst AreRising (sym e) tt
 passes_rise all m t us (inr f) = found_rises all m t us f
 
 -- ---- the queue
 
-put_tran_is : (m : ℕ) (t : OpenTran) → t.id ≢ 0 → (put_tran m t ≡ []) ⊎ (put_tran m t ≡ undos m t.id true t.undo)
+pub put_tran_is : (m : ℕ) (t : OpenTran) → t.id ≢ 0 → (put_tran m t ≡ []) ⊎ (put_tran m t ≡ undos m t.id true t.undo)
 put_tran_is m t some =
     let first : put_tran m t ≡ cond (length t.undo == 0) [] (undos m t.id true t.undo) = ap (λ (b : Bool). cond b [] (cond (length t.undo == 0) [] (undos m t.id true t.undo))) (ne_eqb t.id 0 some) in
     elim (cases_Bool (length t.undo == 0)) [
@@ -475,7 +471,7 @@ put_tran_is m t some =
       | inr e ↦ inr (first ∙ ap (λ (b : Bool). cond b [] (undos m t.id true t.undo)) e)
     ]
 
-queue_of : (all : List Log) (m t : ℕ) (us : List Undo) (f : FoundIn all m t us) → us ≡ undos m f.found.tran.id true f.found.tran.undo → IsQueueOf all m t (reverse us)
+pub queue_of : (all : List Log) (m t : ℕ) (us : List Undo) (f : FoundIn all m t us) → us ≡ undos m f.found.tran.id true f.found.tran.undo → IsQueueOf all m t (reverse us)
 queue_of all m t us f is =
     let o = f.found.is_open_tran in
     let id = f.found.id_is in
@@ -489,23 +485,3 @@ queue_of all m t us f is =
       own = neat.own;
       is = ap reverse (is ∙ ap (λ (n : ℕ). undos m n true f.found.tran.undo) id ∙ ap (undos m t true) undo);
     }
-
-passes_fit : (all : List Log) (m t : ℕ) (us : List Undo) → PassesIn all m t us → (reverse us ≡ []) ⊎ IsQueueOf all m t (reverse us)
-unfolding PassesIn
-passes_fit all m t us (inl e) = inl (ap reverse e)
-passes_fit all m t us (inr f) = elim (put_tran_is m f.found.tran f.found.is_open_tran.numbered) [
-  | inl e ↦ inl (ap reverse (f.found.is ∙ e))
-  | inr e ↦ inr (queue_of all m t us f (f.found.is ∙ e))
-]
-
-pub queue_fits : OpensTell → QueueOfPlanFits
-unfolding plan_of
-queue_fits tell bytes logs w t = λ m n.
-    let s = each_sound bytes logs w t in
-    let passes : PassesIn logs m n (filter (is_of m n) (put_logs logs)) = logs_pass tell logs m n 1 bytes logs w s (each_home bytes logs w) in
-    let put : (with_logs nothing_open logs).undo ≡ put_all empty (put_logs logs) = logs_put nothing_open logs in
-    let same : filter (is_of m n) (plan_of logs).undo ≡ reverse (filter (is_of m n) (put_logs logs)) =
-    turned (is_of m n) (entries (with_logs nothing_open logs).undo)
-    ∙ ap (λ (c : Changes). reverse (filter (is_of m n) (undos_in (entries c)))) put
-    ∙ ap reverse (in_order (is_of m n) (put_logs logs) (logs_differ tell logs s (all_numbers logs t)) (passes_rise logs m n (filter (is_of m n) (put_logs logs)) passes)) in
-    subst (λ (us : List Undo). (us ≡ []) ⊎ IsQueueOf logs m n us) (sym same) (passes_fit logs m n (filter (is_of m n) (put_logs logs)) passes)

@@ -3,7 +3,7 @@ use Rattle.std.proofs.Common.{◌≡◌, ◌≢◌, ℕ, ◌+◌, ◌-◌, ◌<�
 use Rattle.std.specs.Prelude.{◌⊎◌, ◌==◌, ◌&&◌, filter, slice_get}
 use Rattle.std.specs.List.{AllByRecursion}
 use Rattle.std.proofs.lemmas.Bool.{cond_both, cases_Bool, and_parts, eqb-true, eq-eqb, ne_eqb}
-use Rattle.std.proofs.lemmas.List.{reverse-append, take_at, length_push}
+use Rattle.std.proofs.lemmas.List.{reverse-append, reverse-reverse, take_at, length_push}
 use Rattle.ds_model.specs.declared.log.LogRecord.{LogRecord}
 use Rattle.ds_model.specs.declared.log.RowChange.{RowChange}
 use Rattle.ds_model.specs.declared.log.Body.{Body}
@@ -14,7 +14,7 @@ use Rattle.ds_model.specs.RecordBytes.{IsNumber, IsAllowed, ChangeIsAllowed, Bod
 use Rattle.log_record.specs.Changes.{inverse}
 use Rattle.log_record.specs.declared.log.Log.{Log}
 use Rattle.log_trans.specs.declared.course.Course.{Course}
-use Rattle.log_trans.specs.Courses.{undone_one}
+use Rattle.log_trans.specs.Courses.{undone_one, after_body}
 use Rattle.log_trans.specs.Numbers.{greatest}
 use Rattle.log_merge.specs.Merging.{all_records}
 use Rattle.restart_plan.specs.declared.opened.Undo.{Undo}
@@ -25,9 +25,9 @@ use Rattle.sound_disk.specs.Transactions.{InvertsBody}
 use Rattle.sound_appends.specs.Appends.{IsNext, AppendsAll}
 use Rattle.sound_appends.proofs.Open.{is_next_by}
 use Rattle.sound_plans.specs.Opens.{course_of}
-use Rattle.sound_plans.specs.Queues.{Writes, undo_writes, has_log, records_for, undo_before, undos, IsOwnChange, IsQueueOf, is_of, QueueFits, QueueAppends}
+use Rattle.sound_plans.specs.Queues.{Writes, undo_writes, has_log, records_for, undo_before, undos, IsOwnChange, IsQueueOf, IsSettled, is_of, QueueFits, QueueAppends, EmptyQueueSettles}
 use Rattle.sound_plans.proofs.Logs.{put_record, has_still, records_own, records_other, greatest_put, course_own, course_beside, PutIs, put_is}
-use Rattle.sound_plans.proofs.Closings.{SameUndo, ended_leaves, last_with}
+use Rattle.sound_plans.proofs.Closings.{SameUndo, put_leaves, last_with}
 
 -- ---- the last of a list
 
@@ -147,7 +147,7 @@ inverse_allowed c h = record {
   after_is = h.before_is;
 }
 
-own_some : (t : ℕ) (r : LogRecord) → IsOwnChange t r → t ≢ 0
+pub own_some : (t : ℕ) (r : LogRecord) → IsOwnChange t r → t ≢ 0
 own_some t r h = subst (λ (n : ℕ). n ≢ 0) h.tran_is (subst (λ (b : Body). TranFits (is_of_tran b) r.tran) h.body_is h.allowed.tran_fits)
 
 own_change : (t : ℕ) (r : LogRecord) (h : IsOwnChange t r) → ChangeIsAllowed h.change
@@ -212,6 +212,10 @@ course_behind logs u us n q h =
 
 -- ---- the queue behind it
 
+settled_moves : (logs others : List Log) (m t : ℕ) → SameUndo (course_of (records_for others m) t) (course_of (records_for logs m) t) → IsSettled logs m t → IsSettled others m t
+settled_moves logs others m t same (inl e) = inl (same.committed ∙ e)
+settled_moves logs others m t same (inr e) = inr (same.undo ∙ e)
+
 queue_moves : (logs others : List Log) (m t : ℕ) (us : List Undo) → has_log others m ≡ has_log logs m → SameUndo (course_of (records_for others m) t) (course_of (records_for logs m) t) → IsQueueOf logs m t us → IsQueueOf others m t us
 queue_moves logs others m t us has same q = record {
   has = has ∙ q.has;
@@ -260,7 +264,7 @@ pub first_queue : (logs : List Log) (u : Undo) (us : List Undo) → QueueFits lo
 first_queue logs u us fits =
     let own : filter (is_of u.member u.tran) (u ∷ us) ≡ u ∷ filter (is_of u.member u.tran) us = filter_own u.member u.tran u us (is_own u) in
     elim (fits u.member u.tran) [
-      | inl e ↦ (let none : u ∷ filter (is_of u.member u.tran) us ≡ [] = sym own ∙ e in absurd cc)
+      | inl e ↦ (let none : u ∷ filter (is_of u.member u.tran) us ≡ [] = sym own ∙ e.0 in absurd cc)
       | inr q ↦ subst (IsQueueOf logs u.member u.tran) own q
     ]
 
@@ -277,18 +281,26 @@ fits_behind logs u us n fits =
           inr (subst (λ (k : ℕ). IsQueueOf (put_record logs u.member (compensation u n)) m k (filter (is_of m k) us)) tran
           (subst (λ (k : ℕ). IsQueueOf (put_record logs u.member (compensation u n)) k u.tran (filter (is_of k u.tran) us)) member rest)))
       | inr e ↦ elim (fits m t) [
-        | inl none ↦ inl (sym (filter_other m t u us e) ∙ none)
+        | inl none ↦ inl (
+          sym (filter_other m t u us e) ∙ none.0,
+          settled_moves logs (put_record logs u.member (compensation u n)) m t
+              (same_by (course_of (records_for (put_record logs u.member (compensation u n)) m) t) (course_of (records_for logs m) t) (course_apart logs u n m t q.has e)) none.1,
+        )
         | inr k ↦ inr (queue_moves logs (put_record logs u.member (compensation u n)) m t (filter (is_of m t) us) (has_still logs u.member (compensation u n) m)
             (same_by (course_of (records_for (put_record logs u.member (compensation u n)) m) t) (course_of (records_for logs m) t) (course_apart logs u n m t q.has e))
             (subst (IsQueueOf logs m t) (filter_other m t u us e) k))
       ]
     ]
 
-pub fits_ended : (logs : List Log) (m lrsn t : ℕ) (us : List Undo) → has_log logs m ≡ true → QueueFits logs us → QueueFits (put_record logs m (ended lrsn t)) us
-fits_ended logs m lrsn t us has fits = λ k s. elim (fits k s) [
-  | inl e ↦ inl e
-  | inr q ↦ inr (queue_moves logs (put_record logs m (ended lrsn t)) k s (filter (is_of k s) us) (has_still logs m (ended lrsn t) k) (ended_leaves logs m lrsn t k s has) q)
+-- a record that leaves each course what is to be undone
+pub fits_put : (logs : List Log) (m : ℕ) (r : LogRecord) (us : List Undo) → has_log logs m ≡ true → ((c : Course) → SameUndo (after_body c r r.body) c) → QueueFits logs us → QueueFits (put_record logs m r) us
+fits_put logs m r us has same fits = λ k s. elim (fits k s) [
+  | inl e ↦ inl (e.0, settled_moves logs (put_record logs m r) k s (put_leaves logs m r k s has same) e.1)
+  | inr q ↦ inr (queue_moves logs (put_record logs m r) k s (filter (is_of k s) us) (has_still logs m r k) (put_leaves logs m r k s has same) q)
 ]
+
+pub fits_ended : (logs : List Log) (m lrsn t : ℕ) (us : List Undo) → has_log logs m ≡ true → QueueFits logs us → QueueFits (put_record logs m (ended lrsn t)) us
+fits_ended logs m lrsn t us has fits = fits_put logs m (ended lrsn t) us has (λ c. record { undo = refl; undone = refl; committed = refl }) fits
 
 -- ---- the end of a transaction
 
@@ -356,3 +368,21 @@ queue_done (u ∷ us) logs n fits e small =
 pub queue_appends : QueueAppends
 unfolding Done
 queue_appends logs us fits small = queue_done us logs (greatest (all_records logs)) fits refl small
+
+-- ---- an empty queue
+
+pub head_none : (m t : ℕ) (b : Bool) (us : List LogRecord) → AllByRecursion (IsOwnChange t) us → undos m t b us ≡ [] → us ≡ []
+head_none m t b [] own h = refl
+head_none m t b (u ∷ us) own h =
+    let first : undo_before m t b u.lrsn u.body (undos m t false us) ≡ undo m t u.lrsn b own.0.change ∷ undos m t false us = ap (λ (d : Body). undo_before m t b u.lrsn d (undos m t false us)) own.0.body_is in
+    let none : undo m t u.lrsn b own.0.change ∷ undos m t false us ≡ [] = sym first ∙ h in
+    absurd cc
+
+none_reversed : (us : List Undo) → [] ≡ reverse us → us ≡ []
+none_reversed us h = sym (reverse-reverse us) ∙ ap reverse (sym h)
+
+pub empty_queue_settles : EmptyQueueSettles
+empty_queue_settles logs fits m t = elim (fits m t) [
+  | inl e ↦ e.1
+  | inr q ↦ inr (head_none m t true (course_of (records_for logs m) t).undo q.own (none_reversed (undos m t true (course_of (records_for logs m) t).undo) q.is))
+]

@@ -9,6 +9,7 @@ use Rattle.log_trans.specs.Numbers.{greatest}
 use Rattle.log_merge.specs.Merging.{all_records}
 use Rattle.restart_plan.specs.declared.opened.Closing.{Closing}
 use Rattle.restart_plan.specs.declared.opened.Undo.{Undo}
+use Rattle.restart_plan.specs.Ends.{end_of}
 use Rattle.group_restart.specs.declared.calls.State.TheVariants as state
 use Rattle.group_restart.specs.declared.stage.Stage.{Stage}
 use Rattle.group_restart.specs.declared.stage.Stage.TheVariants as stage
@@ -44,6 +45,16 @@ pub record UndoesNext (h : Restart) (member : ℕ) (logs : List Log) : Type 0 wh
   pub number : h.counter ≡ greatest (all_records logs) + 1
   pub small : h.counter < 2 ^ 80
 
+-- nothing is to be undone any more
+pub record OwesNothing (us : List Undo) (counter : ℕ) (logs : List Log) : Type 0 where
+  pub owes : Owes us counter logs
+  pub none : us ≡ []
+
+-- a Checkpoint and a RestartEnd are appended next
+pub record EndsNext (h : Restart) (member : ℕ) (logs : List Log) : Type 0 where
+  pub added_is : h.added ≡ ending h.counter (end_of h.plan.ends member)
+  pub rest : OwesNothing h.plan.undo h.counter logs
+
 -- before the call of this stage, of those behind the redo
 abbrev pub IsDueIn : Stage → Restart → List Log → Type 0
 IsDueIn stage.ReadLog h logs = ⊥
@@ -54,10 +65,10 @@ IsDueIn (stage.CloseAppend member) h logs = ClosesNext h member logs
 IsDueIn (stage.UndoRead page) h logs = Owes h.plan.undo h.counter logs
 IsDueIn (stage.UndoAppend member page) h logs = UndoesNext h member logs
 IsDueIn (stage.UndoWrite page) h logs = Owes h.plan.undo h.counter logs
-IsDueIn (stage.RenewRead page) h logs = Owes h.plan.undo h.counter logs
-IsDueIn (stage.RenewWrite page) h logs = Owes h.plan.undo h.counter logs
-IsDueIn (stage.EndAppend member) h logs = Owes h.plan.undo h.counter logs
-IsDueIn stage.End h logs = Owes h.plan.undo h.counter logs
+IsDueIn (stage.RenewRead page) h logs = OwesNothing h.plan.undo h.counter logs
+IsDueIn (stage.RenewWrite page) h logs = OwesNothing h.plan.undo h.counter logs
+IsDueIn (stage.EndAppend member) h logs = EndsNext h member logs
+IsDueIn stage.End h logs = OwesNothing h.plan.undo h.counter logs
 
 -- where it goes on
 abbrev pub IsDue : Next → List Log → Type 0
@@ -89,7 +100,7 @@ pub record PagesGo : Type 0 where
   pub renew_read : (h : Restart) (page : PageId) (logs : List Log) → IsDueIn (stage.RenewRead page) h logs → IsDue (take_done h (stage.RenewRead page)) logs
   pub renew_write : (h : Restart) (page : PageId) (logs : List Log) → IsDueIn (stage.RenewWrite page) h logs → IsDue (take_done h (stage.RenewWrite page)) logs
 
--- the Checkpoint that names the end of a log, and the RestartEnd, under the greatest number
-abbrev pub EndingAppends : Type 0
-EndingAppends = (logs : List Log) (member counter : ℕ) → has_log logs member ≡ true → counter ≡ greatest (all_records logs) → AllByRecursion IsAllowed (ending counter (length_for logs member))
-    → (after : List Log) × AppendsAll logs (writes_of member (ending counter (length_for logs member))) after × (counter ≡ greatest (all_records after))
+-- the Checkpoint names the end of its log, where the plan knows it
+abbrev pub EndingGoes : Type 0
+EndingGoes = (h : Restart) (member : ℕ) (logs : List Log) → IsDueIn (stage.EndAppend member) h logs → has_log logs member ≡ true → end_of h.plan.ends member ≡ length_for logs member → AllByRecursion IsAllowed h.added
+    → GoesOnBehind h member (stage.EndAppend member) logs

@@ -1,6 +1,6 @@
 -- What a group restart appends by the closings and the queue of its plan, and when these fit the logs.
-use Rattle.std.specs.Prelude.{◌≡◌, ◌⊎◌, ℕ, ◌+◌, ◌<◌, ◌^◌, ◌==◌, Bool, true, false, ◌&&◌, if◌then◌else◌, List, [], ◌∷◌, length, reverse, map, filter}
-use Rattle.std.specs.List.{list_any, AllByRecursion}
+use Rattle.std.specs.Prelude.{◌≡◌, ◌⊎◌, ℕ, ◌+◌, ◌<◌, ◌^◌, ◌==◌, Bool, true, false, ◌&&◌, if◌then◌else◌, List, [], ◌∷◌, length, reverse, map, filter, not, ◌||◌}
+use Rattle.std.specs.List.{list_any, list_all, AllByRecursion}
 use Rattle.ds_model.specs.declared.log.LogRecord.{LogRecord}
 use Rattle.ds_model.specs.declared.log.RowChange.{RowChange}
 use Rattle.ds_model.specs.declared.log.Body.{Body}
@@ -9,10 +9,12 @@ use Rattle.ds_model.specs.RecordBytes.{IsAllowed}
 use Rattle.log_record.specs.declared.log.Log.{Log}
 use Rattle.log_trans.specs.Numbers.{greatest}
 use Rattle.log_merge.specs.Merging.{all_records}
+use Rattle.page_images.specs.Images.{Images}
 use Rattle.restart_plan.specs.declared.opened.Closing.{Closing}
 use Rattle.restart_plan.specs.declared.opened.Undo.{Undo}
 use Rattle.restart_plan.specs.Opened.{undo}
 use Rattle.group_restart.specs.Records.{ended, compensation}
+use Rattle.sound_disk.specs.Checkpoints.{is_in_pages, changes_pages, is_done}
 use Rattle.sound_disk.specs.Laws.{last_number}
 use Rattle.sound_appends.specs.Appends.{AppendsAll}
 use Rattle.sound_plans.specs.Opens.{course_of}
@@ -91,9 +93,13 @@ pub record IsQueueOf (logs : List Log) (member tran : ℕ) (us : List Undo) : Ty
 abbrev pub is_of : ℕ → ℕ → Undo → Bool
 is_of member tran u = (u.member == member) && (u.tran == tran)
 
--- of each transaction the queue has all that is to be undone, or nothing
+-- nothing is to be undone of the transaction
+abbrev pub IsSettled : List Log → ℕ → ℕ → Type 0
+IsSettled logs member tran = ((course_of (records_for logs member) tran).is_committed ≡ true) ⊎ ((course_of (records_for logs member) tran).undo ≡ [])
+
+-- of each transaction the queue has all that is to be undone
 abbrev pub QueueFits : List Log → List Undo → Type 0
-QueueFits logs us = (member tran : ℕ) → (filter (is_of member tran) us ≡ []) ⊎ IsQueueOf logs member tran (filter (is_of member tran) us)
+QueueFits logs us = (member tran : ℕ) → ((filter (is_of member tran) us ≡ []) × IsSettled logs member tran) ⊎ IsQueueOf logs member tran (filter (is_of member tran) us)
 
 -- ---- laws
 
@@ -103,3 +109,12 @@ ClosingsAppend = (logs : List Log) (cs : List Closing) → ClosingsFit logs cs �
 abbrev pub QueueAppends : Type 0
 QueueAppends = (logs : List Log) (us : List Undo) → QueueFits logs us → greatest (all_records logs) + length us < 2 ^ 80
     → (after : List Log) × AppendsAll logs (undo_writes (greatest (all_records logs)) us) after
+
+-- where nothing is left in the queue, nothing is left to be undone
+abbrev pub EmptyQueueSettles : Type 0
+EmptyQueueSettles = (logs : List Log) → QueueFits logs [] → (member tran : ℕ) → IsSettled logs member tran
+
+-- before a Checkpoint that is appended nothing needs to be read again, where all transactions of the log are settled and its records are in the pages of the disk
+abbrev pub SettledIsDone : Type 0
+SettledIsDone = (at : Images) (logs : List Log) (member : ℕ) → ((tran : ℕ) → IsSettled logs member tran) → list_all (λ (r : LogRecord). not (changes_pages r) || is_in_pages at r) (records_for logs member) ≡ true
+    → list_all (is_done at (records_for logs member)) (records_for logs member) ≡ true

@@ -1,4 +1,4 @@
-use Rattle.sound_plans.proofs.Courses.{undo_begins, closing_goes, undo_goes, pages_go, ending_appends}
+use Rattle.sound_plans.proofs.Courses.{undo_begins, closing_goes, undo_goes, pages_go, ending_goes}
 use Rattle.sound_plans.proofs.course_laws.Goals as goal
 
 pub returns-clause-begins : goal.returns-clause-begins
@@ -14,4 +14,4 @@ pub returns-clause-pages : goal.returns-clause-pages
 returns-clause-pages c = pages_go
 
 pub returns-clause-ending : goal.returns-clause-ending
-returns-clause-ending c = ending_appends
+returns-clause-ending c = ending_goes
