@@ -326,6 +326,9 @@ wanted_last s last.Broken count w = absurd w
 pub wanted : (s : SearchState) (count : ℕ) → AreWanted (told_of s) count → count ≤ s.low
 wanted s count w = let is = wanted_last s (last_of s.hand) count w in omega (arith, is)
 
+pub wanted_there : (s : SearchState) (count : ℕ) → AreWanted (told_of s) count → (count ≤ s.low) × (count ≤ s.block)
+wanted_there s count w = let is = wanted_last s (last_of s.hand) count w in (omega (arith, is), omega (arith, is))
+
 pub filled_is : (log : List ℕ) (end : ℕ) (s : SearchState) (bytes : List ℕ) → IsOf log end s → AreWanted (told_of s) (length bytes) → AreBefore log s bytes → IsOf log end (filled s bytes)
 filled_is log end s bytes is w next =
     let n : ℕ = length bytes in

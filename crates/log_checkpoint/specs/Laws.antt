@@ -1,5 +1,5 @@
 -- What the search comes to.
-use Rattle.std.specs.Prelude.{◌≡◌, ℕ, ◌<◌, List, length, Some}
+use Rattle.std.specs.Prelude.{◌≡◌, ℕ, ◌<◌, ◌≤◌, List, length, Some}
 use Rattle.ds_model.specs.RecordBytes.{record_limit}
 use Rattle.log_checkpoint.specs.declared.found.Found.{Found}
 use Rattle.log_checkpoint.specs.Backwards.{SearchState, told_of, after_step, AreWanted, filled}
@@ -16,6 +16,10 @@ TellsSo = (log : List ℕ) (end : ℕ) (s : SearchState) (found : Found) → IsO
 -- bytes of the log before those in hand are in hand then
 abbrev pub FillIsOf : Type 0
 FillIsOf = (log : List ℕ) (end : ℕ) (s : SearchState) (bytes : List ℕ) → IsOf log end s → AreWanted (told_of s) (length bytes) → AreBefore log s bytes → IsOf log end (filled s bytes)
+
+-- as many bytes are wanted as are there before those in hand, and as may be asked for
+abbrev pub WantedIsThere : Type 0
+WantedIsThere = (s : SearchState) (count : ℕ) → AreWanted (told_of s) count → (count ≤ s.low) × (count ≤ s.block)
 
 -- where bytes are wanted, those in hand are fewer than a record may have
 abbrev pub WantedIsFew : Type 0
