@@ -1,12 +1,12 @@
 -- The search goes on until something is told.
-use Rattle.std.proofs.Common.{◌≡◌, ℕ, zero, suc, ◌+◌, ◌-◌, ◌<◌, ◌≤◌, Bool, true, false, cond, List, length, take, drop, Option, Some, None, refl, sym, ap, subst, ◌∙◌, arith}
+use Rattle.std.proofs.Common.{◌≡◌, ℕ, zero, suc, ◌-◌, ◌<◌, ◌≤◌, cond, length, take, drop, Option, Some, None, refl, sym, ap, subst, ◌∙◌, arith}
 use Rattle.std.specs.Prelude.{is_none}
 use Rattle.std.proofs.lemmas.List.{length-take-le}
 use Rattle.log_head.specs.Laws.{RecordHasSize}
 use Rattle.log_checkpoint.specs.declared.last.Last.{Last}
 use Rattle.log_checkpoint.specs.declared.last.Last.TheVariants as last
 use Rattle.log_checkpoint.specs.declared.found.Found.{Found}
-use Rattle.log_checkpoint.specs.Backwards.{last_of, SearchState, place_of, told_short, told_body, told_by, told_of, before, passed_by, after_step, passed_on, searched}
+use Rattle.log_checkpoint.specs.Backwards.{last_of, SearchState, told_by, told_of, passed_by, after_step, passed_on, searched}
 use Rattle.log_checkpoint.proofs.Steps.{is_last}
 
 -- ---- a record that is passed has bytes

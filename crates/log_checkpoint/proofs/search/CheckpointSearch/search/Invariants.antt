@@ -1,4 +1,4 @@
-use Rattle.std.proofs.Common.{◌≡◌, ℕ, ◌+◌, List, length, Option, Some}
+use Rattle.std.proofs.Common.{◌≡◌, ℕ, ◌+◌, List, length, Some}
 use Rattle.std.specs.Prelude.{IfSome, is_none, if◌then◌else◌}
 use Rattle.log_checkpoint.specs.Backwards.{told_of, searched}
 use Rattle.log_checkpoint.specs.Passed.{IsOf, HasPassed}
