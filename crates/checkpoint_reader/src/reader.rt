@@ -1,5 +1,6 @@
 ghost use Rattle.std.specs.Prelude.{◌≡◌, IfOk, OnOk};
 ghost use Rattle.std.specs.Borrow.{sem};
+ghost use Rattle.checkpoint_reader.specs.Readers.{call_by};
 
 use ds_base::{MemberId, NoMemory};
 use log_checkpoint::{CheckpointSearch, Found, search_laws};
@@ -99,7 +100,7 @@ impl CheckpointReader {
         ensures { OnOk result (self.new ≡ after_length self.old length) }
     {
         self.reader.enter(alloc, LogReply::Length(length))?;
-        if BLOCK as u64 < length && 0 < self.known && self.known <= length {
+        if (BLOCK as u64) < length && 0 < self.known && self.known <= length {
             let search = CheckpointSearch::new(alloc, self.known, BLOCK as u32);
             self.look_on(alloc, search)?;
         }

@@ -81,10 +81,10 @@ impl LogReader {
     }
 
     /// The bytes of the block.
-    pub fn bytes(&self) -> &[u8]
+    pub fn bytes(&self) -> &[u8; BLOCK]
         ensures { result.now ≡ self.now.block }
     {
-        &*self.block
+        &self.block
     }
 
     /// The log is read from this byte on, as if nothing of it was. Before it stand whole records, which aren't read then.
