@@ -52,7 +52,7 @@ both_whole a b x y = record {
 one_whole : (r : LogRecord) → IsAllowed r → AreWhole (record_bytes r)
 one_whole r is = record { records = r ∷ []; spelled = sym (append-nil (record_bytes r)); allowed = (is, tt) }
 
-take_none : (n : ℕ) → take n ([] {A = ℕ}) ≡ []
+take_none : (n : ℕ) → take {A = ℕ} n [] ≡ []
 take_none zero = refl
 take_none (suc n) = refl
 

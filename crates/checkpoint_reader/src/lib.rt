@@ -13,9 +13,11 @@
 //! that reads forward alone does.
 #![tactic(auto)]
 
+mod ends;
 mod laws;
 mod reader;
 
+pub use ends::KnownEnds;
 pub use laws::reader_laws;
 pub use log_reader::{BLOCK, LogCall, LogRead, LogReply, place_in};
 pub use log_record::Log;

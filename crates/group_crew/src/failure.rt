@@ -11,7 +11,8 @@ ghost use Rattle.group_crew.specs.States.{crew_state};
 
 use crate::crew::Crew;
 use cache_structure::CacheFace;
-use ds_base::{Lrsn, NoMemory};
+use checkpoint_reader::KnownEnds;
+use ds_base::{Lrsn, MemberId, NoMemory};
 use ds_disk::Disk;
 use group_member::{GroupSizes, MemberPart, Policy};
 use group_restart::{Call, GroupRestart, State};
@@ -26,16 +27,32 @@ fn rest<P>(parts: &mut [MemberPart<P>])
     }
 }
 
+// Where each log ends behind a group restart: up to there it is whole records.
+fn ends_behind(restart: &Option<GroupRestart>) -> KnownEnds {
+    let mut known = KnownEnds::nothing();
+    let Some(restart) = restart else {
+        return known;
+    };
+    for number in 1..33u64 {
+        if let Some(member) = MemberId::new(number) {
+            known.set(member, restart.end_of(member));
+        }
+    }
+    known
+}
+
 fn reset_all<P: Policy>(
     alloc: Global,
     parts: &mut [MemberPart<P>],
     sizes: &GroupSizes,
+    known: &KnownEnds,
 ) -> Result<(), NoMemory>
     ensures down { OnOk result (All (λ part. IsDown sizes.now.sizes (member_of part)) parts.new) }
     ensures same { map (λ part. part.id) parts.new ≡ map (λ part. part.id) parts.old }
 {
     for part in parts {
         part.reset(alloc, sizes)?;
+        part.known = *known;
     }
     Ok(())
 }
@@ -91,10 +108,11 @@ impl<C: CacheFace, P: Policy> Crew<C, P> {
         ensures restart { self.new.restart ≡ None }
         ensures others { self.new ≡ record self.old { facility = self.new.facility; parts = self.new.parts; restart = self.new.restart; is_own_stale = true; was_half = self.new.was_half } }
     {
+        let known = ends_behind(&self.restart);
         self.restart = None;
         self.facility.reset(counter);
         self.was_half = self.is_half();
         self.is_own_stale = true;
-        reset_all(alloc, &mut self.parts, &self.sizes)
+        reset_all(alloc, &mut self.parts, &self.sizes, &known)
     }
 }

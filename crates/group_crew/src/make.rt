@@ -6,6 +6,7 @@ ghost use Rattle.group_crew.specs.Making.{IsNewCrew};
 
 use crate::crew::Crew;
 use cache_structure::CacheFace;
+use checkpoint_reader::KnownEnds;
 use ds_base::{Lrsn, MemberId, NoMemory, Sizes};
 use ds_model::Script;
 use facility::Facility;
@@ -36,6 +37,7 @@ fn make_parts<P: Policy + Drop>(
             policy,
             restart: None,
             rebuild: None,
+            known: KnownEnds::nothing(),
             ready: 0,
             is_stale: true,
         })?;

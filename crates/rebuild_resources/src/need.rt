@@ -4,7 +4,7 @@ ghost use Rattle.rebuild_resources.specs.Needs.{need_of, call_sent, read_log_nee
 use crate::{Rebuild, RebuildIntent, RebuildSent, RebuildTest};
 use ds_base::MemberId;
 use facility::Command;
-use log_reader::LogCall;
+use checkpoint_reader::LogCall;
 
 fn call_sent(member: MemberId, call: LogCall) -> RebuildSent
     ensures { result ≡ call_sent member call }

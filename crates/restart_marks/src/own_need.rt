@@ -8,7 +8,7 @@ use crate::marks::RestartMarks;
 use facility::Command;
 use list_structure::MemberStatus;
 use lock_names::Name;
-use log_reader::LogCall;
+use checkpoint_reader::LogCall;
 
 fn call_sent(call: Option<LogCall>) -> Result<RestartSent, RestartTest>
     ensures { result ≡ call_sent call }
