@@ -11,9 +11,9 @@ ghost use Rattle.rebuild_resources.specs.declared.intent.RebuildFault.TheVariant
 ghost use Rattle.rebuild_resources.specs.Calls.{TellsLength, TellsBlock, ReadsPage, WritesPage, Calls, StoresDone, StoresGot, Stores, RunsCall};
 
 use crate::{Rebuild, RebuildFault, RebuildSent, RebuildTold};
+use checkpoint_reader::{BLOCK, CheckpointReader, LogReply};
 use ds_base::{MemberId, NoMemory, PageId};
 use ds_disk::{Disk, DiskError};
-use checkpoint_reader::{BLOCK, CheckpointReader, LogReply};
 use member_intents::Answered;
 use page_format::Page;
 use std::alloc::Global;

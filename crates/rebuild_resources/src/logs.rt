@@ -8,9 +8,9 @@ ghost use Rattle.rebuild_resources.specs.declared.told.RebuildTold.TheVariants a
 ghost use Rattle.rebuild_resources.specs.Logs.{logs_read, TakesWhole, TakesLog};
 
 use crate::{Rebuild, RebuildTold};
+use checkpoint_reader::{CheckpointReader, LogRead, LogReply};
 use ds_base::{MemberId, NoMemory, Volume};
 use log_merge::merge;
-use checkpoint_reader::{CheckpointReader, LogRead, LogReply};
 use log_record::Log;
 use page_records::by_page;
 use restart_plan::{Logs, Queue};

@@ -2,9 +2,9 @@ ghost use Rattle.std.specs.Prelude.{◌≡◌, length, IfOk, OnOk};
 ghost use Rattle.checkpoint_reader.specs.Readers.{IsNew};
 ghost use Rattle.rebuild_resources.specs.State.{IsNewRebuild, Begins, given_up};
 
+use checkpoint_reader::{CheckpointReader, KnownEnds};
 use ds_base::{MemberId, NoMemory, PageId};
 use log_merge::Merged;
-use checkpoint_reader::{CheckpointReader, KnownEnds};
 use page_format::Page;
 use page_records::PageRecords;
 use restart_plan::{Logs, Queue};

@@ -6,10 +6,10 @@ ghost use Rattle.restart_records.specs.Own.{own_with};
 ghost use Rattle.restart_records.specs.Maps.{places_at};
 
 use crate::hand::Hand;
+use checkpoint_reader::CheckpointReader;
 use ds_base::{Lrsn, MemberId, NoMemory, PageId, Sequence};
 use ds_model::LogRecord;
 use lock_names::Name;
-use checkpoint_reader::CheckpointReader;
 use member_log::MemberLog;
 use restart_records::{
     NameMark, Names, Newest, OwnLog, Queue, RestartTran, RestartTrans, TurnKey, page_of,

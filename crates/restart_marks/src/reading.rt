@@ -12,8 +12,8 @@ ghost use Rattle.restart_marks.specs.Reading.{entered, judged_told, judged_after
 
 use crate::marks::RestartMarks;
 use crate::told::RestartTold;
-use ds_base::{MemberId, NoMemory, Volume};
 use checkpoint_reader::{CheckpointReader, LogRead, LogReply, place_in};
+use ds_base::{MemberId, NoMemory, Volume};
 use log_record::Log;
 use log_trans::{Damaged, greatest_number, open_trans};
 use restart_records::{judge, last_number, places_of};

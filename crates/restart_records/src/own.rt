@@ -3,9 +3,9 @@ ghost use Rattle.restart_records.specs.Maps.{places_at};
 ghost use Rattle.restart_records.specs.Own.{IsNewLog, next_in, own_with, own_read, all_put, places_by_page};
 
 use crate::map::PlaceMap;
+use checkpoint_reader::{CheckpointReader, LogCall};
 use ds_base::{MemberId, NoMemory, PageId, Sequence};
 use ds_model::{LogRecord, RecordList};
-use checkpoint_reader::{CheckpointReader, LogCall};
 use log_record::Log;
 use page_records::{PageRecords, by_page};
 use std::alloc::Global;

@@ -11,9 +11,9 @@ ghost use Rattle.log_reader.specs.Readers.{block_size};
 ghost use Rattle.restart_resources.specs.Calls.{ReadsFront, CountsFront, ReadsBlock, ReadsInto, TellsLength, Cuts, Appends, Calls, done_told, done_after, got_told, got_after, Stores, RunsCall};
 
 use crate::RestartResources;
+use checkpoint_reader::{BLOCK, CheckpointReader, LogReply};
 use ds_base::{MemberId, NoMemory, PageId};
 use ds_disk::{Disk, DiskError};
-use checkpoint_reader::{BLOCK, CheckpointReader, LogReply};
 use member_intents::Answered;
 use restart_marks::{RestartFault, RestartSent, RestartTold};
 use std::alloc::Global;
