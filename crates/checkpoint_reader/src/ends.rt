@@ -4,7 +4,7 @@ use ds_base::MemberId;
 use std::marker::Model;
 
 /// Up to which byte each log is known to be whole records, in the order of the members: 0 where nothing is known.
-#[derive(Clone, Copy)]
+#[derive(Drop)]
 pub struct KnownEnds {
     ends: [u64; 32],
 }
@@ -32,6 +32,13 @@ impl KnownEnds {
         ensures { result ≡ nothing_known }
     {
         KnownEnds { ends: [0; 32] }
+    }
+
+    /// The same once more.
+    pub fn copied(&self) -> KnownEnds
+        ensures { result ≡ self.now }
+    {
+        KnownEnds { ends: self.ends }
     }
 
     /// Up to where the member's log is known to be whole records.

@@ -52,7 +52,7 @@ fn reset_all<P: Policy>(
 {
     for part in parts {
         part.reset(alloc, sizes)?;
-        part.known = *known;
+        part.known = known.copied();
     }
     Ok(())
 }

@@ -57,7 +57,7 @@ impl Rebuild {
     {
         Ok(Rebuild {
             member,
-            known: *known,
+            known: known.copied(),
             claimed: false,
             reader: first_reader(alloc, known)?,
             logs: Logs::new(alloc),
