@@ -10,9 +10,10 @@ ghost use Rattle.group_crew.specs.Failing.{BeginsAnew, GroupFails, StopsLast, dr
 ghost use Rattle.group_crew.specs.States.{crew_state};
 
 use crate::crew::Crew;
+use crate::ends::ends_behind;
 use cache_structure::CacheFace;
 use checkpoint_reader::KnownEnds;
-use ds_base::{Lrsn, MemberId, NoMemory};
+use ds_base::{Lrsn, NoMemory};
 use ds_disk::Disk;
 use group_member::{GroupSizes, MemberPart, Policy};
 use group_restart::{Call, GroupRestart, State};
@@ -25,20 +26,6 @@ fn rest<P>(parts: &mut [MemberPart<P>])
     for part in parts {
         part.ready = 0;
     }
-}
-
-// Where each log ends behind a group restart: up to there it is whole records.
-fn ends_behind(restart: &Option<GroupRestart>) -> KnownEnds {
-    let mut known = KnownEnds::nothing();
-    let Some(restart) = restart else {
-        return known;
-    };
-    for number in 1..33u64 {
-        if let Some(member) = MemberId::new(number) {
-            known.set(member, restart.end_of(member));
-        }
-    }
-    known
 }
 
 fn reset_all<P: Policy>(
@@ -100,6 +87,14 @@ impl<C: CacheFace, P: Policy> Crew<C, P> {
         Ok(())
     }
 
+    // Where the logs end behind the group restart in hand.
+    fn ends(&self) -> KnownEnds {
+        match &self.restart {
+            Some(restart) => ends_behind(restart),
+            None => KnownEnds::nothing(),
+        }
+    }
+
     /// The group restart is done, with this counter. All begin anew.
     pub fn reset(&mut self, alloc: Global, counter: Lrsn) -> Result<(), NoMemory>
         ensures anew { OnOk result (BeginsAnew counter (crew_state C.directory self.old) (crew_state C.directory self.new)) }
@@ -108,7 +103,7 @@ impl<C: CacheFace, P: Policy> Crew<C, P> {
         ensures restart { self.new.restart ≡ None }
         ensures others { self.new ≡ record self.old { facility = self.new.facility; parts = self.new.parts; restart = self.new.restart; is_own_stale = true; was_half = self.new.was_half } }
     {
-        let known = ends_behind(&self.restart);
+        let known = self.ends();
         self.restart = None;
         self.facility.reset(counter);
         self.was_half = self.is_half();
