@@ -1,4 +1,4 @@
-ghost use Rattle.std.specs.Prelude.{◌≡◌, ◌-◌};
+ghost use Rattle.std.specs.Prelude.{◌≡◌, ◌-◌, ◌<◌};
 
 use ds_base::MemberId;
 use std::marker::Model;
@@ -19,7 +19,8 @@ impl Model for KnownEnds {
 
 // Where the member's end stands.
 fn index_of(member: MemberId) -> usize
-    ensures { result ≡ member - 1 }
+    ensures place { result ≡ member - 1 }
+    ensures within { result < 32 }
 {
     member.number() as usize - 1
 }
@@ -55,8 +56,7 @@ impl KnownEnds {
     pub fn set(&mut self, member: MemberId, end: u64)
         ensures { self.new ≡ with_end self.old member end }
     {
-        if let Some(known) = self.ends.get_mut(index_of(member)) {
-            *known = end;
-        }
+        let at = index_of(member);
+        self.ends[at] = end;
     }
 }
