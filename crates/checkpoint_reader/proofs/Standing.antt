@@ -1,20 +1,19 @@
 -- What is kept of a log while the replies are the log's.
-use Rattle.std.proofs.Common.{◌≡◌, ℕ, zero, suc, ◌+◌, ◌-◌, ◌<◌, ◌≤◌, Bool, true, false, cond, List, [], ◌∷◌, ◌++◌, length, take, drop, Option, Some, None, refl, sym, ap, subst, ◌∙◌, arith, true≢false}
+use Rattle.std.proofs.Common.{◌≡◌, ℕ, zero, suc, ◌+◌, ◌-◌, ◌≤◌, Bool, true, false, cond, List, [], length, take, drop, Option, Some, None, refl, sym, ap, subst, ◌∙◌, arith, true≢false}
 use Rattle.std.specs.Prelude.{◌==◌, ◌&&◌, nat_le, nat_lt, min, IfSome, is_none}
 use Rattle.std.proofs.lemmas.Bool.{cond_both, eqb-true}
-use Rattle.std.proofs.lemmas.List.{length-drop, length-take-le, take-take, take_all}
+use Rattle.std.proofs.lemmas.List.{length-drop, length-take-le, take-take}
 use Rattle.log_checkpoint.specs.declared.found.Found.{Found}
 use Rattle.log_checkpoint.specs.declared.found.Found.TheVariants as found
 use Rattle.log_checkpoint.specs.Backwards.{SearchState, told_of, after_step, passed_on, searched, AreWanted, filled}
 use Rattle.log_checkpoint.specs.Laws.{StepIsOf, TellsSo, FillIsOf, WantedIsBefore}
 use Rattle.log_checkpoint.specs.Passed as search
 use Rattle.log_head.specs.Laws.{RecordHasSize, FrontDecides, NothingIsShort, PartsGoOn, PartsEnd, PartsAreBad}
-use Rattle.log_reader.specs.Held.{HeldState, nothing_held, held_from, grown}
+use Rattle.log_reader.specs.Held.{HeldState, held_from, grown}
 use Rattle.log_reader.specs.Keeping.{AreBytes, AreWhole, IsOf, HasLastOf, NothingIsOf, BeginningIsOf, KeepingIsOf, GrownIsOf}
 use Rattle.log_reader.specs.Keeping as kept
 use Rattle.log_reader.specs.Readers.{block_size, read_of, call_by}
 use Rattle.log_reader.specs.Readers as reader
-use Rattle.log_reader.specs.declared.calls.LogCall.{LogCall}
 use Rattle.log_reader.specs.declared.calls.LogReply.{LogReply}
 use Rattle.log_reader.specs.declared.calls.LogReply.TheVariants as reply
 use Rattle.log_reader.specs.declared.calls.LogRead.TheVariants as read

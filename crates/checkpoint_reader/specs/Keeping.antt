@@ -1,5 +1,5 @@
 -- What is kept of a log while the replies are the log's, and what is read of it in the end.
-use Rattle.std.specs.Prelude.{◌≡◌, ℕ, ◌+◌, ◌≤◌, List, length, take, drop, Option, None, Some, IfSome}
+use Rattle.std.specs.Prelude.{◌≡◌, ℕ, ◌+◌, ◌≤◌, List, length, take, drop, Some, IfSome}
 use Rattle.log_checkpoint.specs.declared.found.Found.TheVariants as found
 use Rattle.log_checkpoint.specs.Backwards.{told_of}
 use Rattle.log_checkpoint.specs.Passed as search

@@ -1,5 +1,5 @@
 -- A log that is read from its last checkpoint on.
-use Rattle.std.specs.Prelude.{◌≡◌, ℕ, ◌==◌, ◌&&◌, nat_lt, nat_le, Bool, true, false, if◌then◌else◌, List, [], take, Option, None, Some, Result, Ok, Err}
+use Rattle.std.specs.Prelude.{◌≡◌, ℕ, ◌==◌, ◌&&◌, nat_lt, nat_le, Bool, true, false, if◌then◌else◌, List, [], take, Option, None, Some, Result, Err}
 use Rattle.log_checkpoint.specs.declared.found.Found.{Found}
 use Rattle.log_checkpoint.specs.declared.found.Found.TheVariants as found
 use Rattle.log_checkpoint.specs.Backwards.{SearchState, told_of, searched, filled}
@@ -12,7 +12,6 @@ use Rattle.log_reader.specs.declared.calls.LogReply.{LogReply}
 use Rattle.log_reader.specs.declared.calls.LogReply.TheVariants as reply
 use Rattle.log_reader.specs.declared.calls.LogRead.{LogRead}
 use Rattle.log_reader.specs.declared.calls.LogRead.TheVariants as read
-use Rattle.log_record.specs.declared.log.Log.{Log}
 use Rattle.log_record.specs.Logs.{Parts}
 use Rattle.checkpoint_reader.specs.declared.reader.Looking.{Looking}
 
