@@ -9,4 +9,4 @@ mod restart;
 
 pub use group_restart::State;
 pub use laws::keeping_laws;
-pub use restart::restart_disk;
+pub use restart::{restart_disk, run_restart};

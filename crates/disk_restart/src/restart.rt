@@ -1,9 +1,11 @@
 ghost use Rattle.std.specs.Prelude.{◌≡◌, ◌≢◌, ◌≤◌, Ok, IfOk};
 ghost use Rattle.ds_base.specs.Causes.{Rose};
 ghost use Rattle.ds_disk.specs.Contents.{Becomes};
+ghost use Rattle.group_restart.specs.Course.{IsBegun};
 ghost use Rattle.group_restart.specs.declared.calls.State.TheVariants as state;
 ghost use Rattle.disk_restart.specs.Keeping.{KeepsRecords};
 
+use crate::laws::keeping_laws;
 use ds_base::NoMemory;
 use ds_disk::Disk;
 use group_restart::{GroupRestart, State};
@@ -11,11 +13,16 @@ use log_reader::reader_laws;
 use log_record::log_laws;
 use std::alloc::Global;
 
-/// Runs a group restart to its end.
+/// Runs a group restart that has only begun to its end.
 ///
 /// Whatever its end, also where a call of the disk fails or memory is wanting, each log has the row changes, the page changes
 /// for no transaction and the commits that it had.
-pub fn restart_disk<D: Disk>(alloc: Global, disk: &mut D) -> Result<State, NoMemory>
+pub fn run_restart<D: Disk>(
+    alloc: Global,
+    disk: &mut D,
+    restart: &mut GroupRestart,
+) -> Result<State, NoMemory>
+    requires { IsBegun restart.old }
     ensures later { D.faults disk.old ≤ D.faults disk.new }
     ensures failed { result ≡ Ok state.Failed → Rose (D.faults disk.old) (D.faults disk.new) }
     ensures ends { IfOk result (λ s. s ≢ state.Going) }
@@ -23,7 +30,6 @@ pub fn restart_disk<D: Disk>(alloc: Global, disk: &mut D) -> Result<State, NoMem
 {
     log_laws();
     reader_laws();
-    let mut restart = GroupRestart::new(alloc)?;
     for _ in 0..u64::MAX {
         let state = restart.step(alloc, disk)?;
         if state != State::Going {
@@ -31,4 +37,16 @@ pub fn restart_disk<D: Disk>(alloc: Global, disk: &mut D) -> Result<State, NoMem
         }
     }
     Err(NoMemory)
+}
+
+/// The same of one that is made for it.
+pub fn restart_disk<D: Disk>(alloc: Global, disk: &mut D) -> Result<State, NoMemory>
+    ensures later { D.faults disk.old ≤ D.faults disk.new }
+    ensures failed { result ≡ Ok state.Failed → Rose (D.faults disk.old) (D.faults disk.new) }
+    ensures ends { IfOk result (λ s. s ≢ state.Going) }
+    ensures keeps { Becomes (D.contents disk.old) (D.contents disk.new) KeepsRecords }
+{
+    keeping_laws();
+    let mut restart = GroupRestart::new(alloc)?;
+    run_restart(alloc, disk, &mut restart)
 }

@@ -10,11 +10,13 @@ ghost use Rattle.group_restart.specs.declared.calls.State.TheVariants as state;
 use crate::fault::{RunFault, StartFault};
 use crate::group::Group;
 use cache_structure::CacheFace;
-use disk_restart::{State, restart_disk};
+use checkpoint_reader::KnownEnds;
+use disk_restart::{State, keeping_laws, run_restart};
 use ds_base::{Lrsn, Sizes};
 use ds_disk::Disk;
 use ds_model::Script;
-use group_crew::{Crew, Policy};
+use group_crew::{Crew, Policy, ends_behind};
+use group_restart::GroupRestart;
 use std::alloc::Global;
 
 // The greatest number that was drawn for a log record, where a group restart has ended well.
@@ -30,15 +32,22 @@ fn counter_of(ended: &State) -> Result<Lrsn, RunFault>
     }
 }
 
-// Runs the group restart that opens the disk.
-fn open_disk<D: Disk>(alloc: Global, disk: &mut D) -> Result<Lrsn, RunFault>
+// Runs the group restart that opens the disk. Answers the greatest number, and where the logs end.
+fn open_disk<D: Disk>(alloc: Global, disk: &mut D) -> Result<(Lrsn, KnownEnds), RunFault>
     ensures keeps { Becomes (D.contents disk.old) (D.contents disk.new) KeepsRecords }
     ensures later { D.faults disk.old ≤ D.faults disk.new }
     ensures failed { IfErr result (λ why. why ≡ fault.Failed → Rose (D.faults disk.old) (D.faults disk.new)) }
     ensures lawful { IfErr result (λ why. (at : ℕ) → why ≢ fault.Unlawful at) }
 {
-    match restart_disk(alloc, disk) {
-        Ok(ended) => counter_of(&ended),
+    keeping_laws();
+    let Ok(mut restart) = GroupRestart::new(alloc) else {
+        return Err(RunFault::NoMemory);
+    };
+    match run_restart(alloc, disk, &mut restart) {
+        Ok(ended) => match counter_of(&ended) {
+            Ok(counter) => Ok((counter, ends_behind(&restart))),
+            Err(why) => Err(why),
+        },
         Err(_) => Err(RunFault::NoMemory),
     }
 }
@@ -68,11 +77,11 @@ impl<D: Disk, C: CacheFace + Drop, P: Policy + Drop> Group<D, C, P> {
         ensures lawful { IfErr result (λ why. (at : ℕ) → why.why ≢ fault.Unlawful at) }
     {
         let mut disk = disk;
-        let counter = match open_disk(alloc, &mut disk) {
-            Ok(counter) => counter,
+        let (counter, known) = match open_disk(alloc, &mut disk) {
+            Ok(opened) => opened,
             Err(why) => return Err(StartFault { disk, why }),
         };
-        match Crew::new(alloc, cache, sizes, counter, script, policies) {
+        match Crew::new(alloc, cache, sizes, counter, &known, script, policies) {
             Ok(crew) => Ok(Group {
                 disk,
                 crew,

@@ -47,7 +47,7 @@ fn begin_restart<P>(
         return Ok(false);
     }
     lists.set_status(part.id, MemberStatus::Restarting);
-    part.restart = Some(Restarting::new(alloc, part.id)?);
+    part.restart = Some(Restarting::new(alloc, part.id, part.known.of(part.id))?);
     Ok(true)
 }
 

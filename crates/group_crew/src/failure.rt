@@ -10,7 +10,9 @@ ghost use Rattle.group_crew.specs.Failing.{BeginsAnew, GroupFails, StopsLast, dr
 ghost use Rattle.group_crew.specs.States.{crew_state};
 
 use crate::crew::Crew;
+use crate::ends::ends_behind;
 use cache_structure::CacheFace;
+use checkpoint_reader::KnownEnds;
 use ds_base::{Lrsn, NoMemory};
 use ds_disk::Disk;
 use group_member::{GroupSizes, MemberPart, Policy};
@@ -30,12 +32,14 @@ fn reset_all<P: Policy>(
     alloc: Global,
     parts: &mut [MemberPart<P>],
     sizes: &GroupSizes,
+    known: &KnownEnds,
 ) -> Result<(), NoMemory>
     ensures down { OnOk result (All (λ part. IsDown sizes.now.sizes (member_of part)) parts.new) }
     ensures same { map (λ part. part.id) parts.new ≡ map (λ part. part.id) parts.old }
 {
     for part in parts {
         part.reset(alloc, sizes)?;
+        part.known = known.copied();
     }
     Ok(())
 }
@@ -83,6 +87,14 @@ impl<C: CacheFace, P: Policy> Crew<C, P> {
         Ok(())
     }
 
+    // Where the logs end behind the group restart in hand.
+    fn ends(&self) -> KnownEnds {
+        match &self.restart {
+            Some(restart) => ends_behind(restart),
+            None => KnownEnds::nothing(),
+        }
+    }
+
     /// The group restart is done, with this counter. All begin anew.
     pub fn reset(&mut self, alloc: Global, counter: Lrsn) -> Result<(), NoMemory>
         ensures anew { OnOk result (BeginsAnew counter (crew_state C.directory self.old) (crew_state C.directory self.new)) }
@@ -91,10 +103,11 @@ impl<C: CacheFace, P: Policy> Crew<C, P> {
         ensures restart { self.new.restart ≡ None }
         ensures others { self.new ≡ record self.old { facility = self.new.facility; parts = self.new.parts; restart = self.new.restart; is_own_stale = true; was_half = self.new.was_half } }
     {
+        let known = self.ends();
         self.restart = None;
         self.facility.reset(counter);
         self.was_half = self.is_half();
         self.is_own_stale = true;
-        reset_all(alloc, &mut self.parts, &self.sizes)
+        reset_all(alloc, &mut self.parts, &self.sizes, &known)
     }
 }

@@ -4,11 +4,13 @@
 
 mod begin;
 mod crew;
+mod ends;
 mod failure;
 mod make;
 mod member_step;
 
 pub use crew::{Crew, look_for};
+pub use ends::ends_behind;
 pub use failure::step_restart;
 pub use group_member::{
     CHOICES, EventFault, GroupSizes, MemberPart, Policy, Rebuilding, Restarting, Stepped,

@@ -6,6 +6,7 @@ ghost use Rattle.group_crew.specs.Making.{IsNewCrew};
 
 use crate::crew::Crew;
 use cache_structure::CacheFace;
+use checkpoint_reader::KnownEnds;
 use ds_base::{Lrsn, MemberId, NoMemory, Sizes};
 use ds_model::Script;
 use facility::Facility;
@@ -17,6 +18,7 @@ use std::alloc::Global;
 fn make_parts<P: Policy + Drop>(
     alloc: Global,
     sizes: &Sizes,
+    known: &KnownEnds,
     policies: Vec<P>,
 ) -> Result<Vec<MemberPart<P>>, NoMemory>
     requires { (1 ≤ sizes.now.locks) × (1 ≤ sizes.now.pool) }
@@ -36,6 +38,7 @@ fn make_parts<P: Policy + Drop>(
             policy,
             restart: None,
             rebuild: None,
+            known: known.copied(),
             ready: 0,
             is_stale: true,
         })?;
@@ -49,6 +52,7 @@ fn make_crew<C: CacheFace + Drop, P: Policy + Drop>(
     cache: C,
     sizes: &Sizes,
     counter: Lrsn,
+    known: &KnownEnds,
     script: Script,
     policies: Vec<P>,
 ) -> Result<Crew<C, P>, NoMemory>
@@ -60,7 +64,7 @@ fn make_crew<C: CacheFace + Drop, P: Policy + Drop>(
     ensures sized { IfOk result (λ crew. crew.sizes.sizes ≡ sizes.now) }
 {
     let facility = Facility::new(alloc, sizes, cache, counter)?;
-    let parts = make_parts(alloc, sizes, policies)?;
+    let parts = make_parts(alloc, sizes, known, policies)?;
     let fates = Fates::new(alloc, &script)?;
     let progress = Progress::new();
     Ok(Crew {
@@ -77,12 +81,13 @@ fn make_crew<C: CacheFace + Drop, P: Policy + Drop>(
 }
 
 impl<C: CacheFace + Drop, P: Policy + Drop> Crew<C, P> {
-    /// A crew with these policies, over an empty cache. Nothing is played.
+    /// A crew with these policies, over an empty cache, and logs that are whole records up to these ends. Nothing is played.
     pub fn new(
         alloc: Global,
         cache: C,
         sizes: &Sizes,
         counter: Lrsn,
+        known: &KnownEnds,
         script: Script,
         policies: Vec<P>,
     ) -> Result<Crew<C, P>, NoMemory>
@@ -93,7 +98,7 @@ impl<C: CacheFace + Drop, P: Policy + Drop> Crew<C, P> {
         ensures script { IfOk result (λ crew. crew.script ≡ script) }
         ensures sized { IfOk result (λ crew. crew.sizes.sizes ≡ sizes.now) }
     {
-        let mut crew = make_crew(alloc, cache, sizes, counter, script, policies)?;
+        let mut crew = make_crew(alloc, cache, sizes, counter, known, script, policies)?;
         crew.find_ready();
         Ok(crew)
     }

@@ -12,7 +12,7 @@ use Rattle.list_structure.specs.declared.standing.MemberStatus.TheVariants.{Rest
 use Rattle.list_structure.specs.Standings.{is_live, status_of}
 use Rattle.log_reader.specs.declared.calls.LogCall.{LogCall}
 use Rattle.log_reader.specs.declared.calls.LogCall.TheVariants as call
-use Rattle.log_reader.specs.Readers.{next_call}
+use Rattle.checkpoint_reader.specs.Readers.{next_call}
 use Rattle.page_records.specs.declared.places.PageRecords.{PageRecords}
 use Rattle.facility.specs.States.{Held as Facility}
 use Rattle.member_intents.specs.declared.outcome.Answered.{Answered}

@@ -8,6 +8,7 @@ use crate::rebuilding::Rebuilding;
 use crate::restarting::Restarting;
 use crate::resting::{changes_locks, frees_claimed, has_tran};
 use crate::sizes::GroupSizes;
+use checkpoint_reader::KnownEnds;
 use ds_base::{MemberId, NoMemory, TranId, Volume};
 use ds_model::{FailAt, TranList};
 use list_structure::Asker;
@@ -37,6 +38,8 @@ pub struct MemberPart<P> {
     pub restart: Option<Restarting>,
     /// The cache is lost, and this member rebuilds it, or waits for the one that does.
     pub rebuild: Option<Rebuilding>,
+    /// Up to where the logs are known to be whole records since the last group restart.
+    pub known: KnownEnds,
     /// A bit for each choice.
     pub ready: u32,
     /// What is ready has to be found again.

@@ -30,7 +30,7 @@ fn begin<P>(alloc: Global, part: &mut MemberPart<P>) -> Result<(), NoMemory>
     ensures rest { part.new ≡ record part.old { rebuild = part.new.rebuild } }
 {
     if part.rebuild.is_none() {
-        part.rebuild = Some(Rebuilding::new(alloc, part.id)?);
+        part.rebuild = Some(Rebuilding::new(alloc, part.id, &part.known)?);
     }
     Ok(())
 }

@@ -2,6 +2,7 @@ ghost use Rattle.std.specs.Prelude.{IfOk};
 ghost use Rattle.rebuild_resources.specs.State.{IsNewRebuild};
 
 use cache_rebuild::{CacheRebuild, Ended};
+use checkpoint_reader::KnownEnds;
 use ds_base::{MemberId, NoMemory, Volume};
 use rebuild_resources::Rebuild;
 use std::alloc::Global;
@@ -14,12 +15,12 @@ pub struct Rebuilding {
 }
 
 impl Rebuilding {
-    /// Nothing is claimed yet.
-    pub fn new(alloc: Global, member: MemberId) -> Result<Rebuilding, NoMemory>
+    /// Nothing is claimed yet. Up to these ends the logs are known to be whole records.
+    pub fn new(alloc: Global, member: MemberId, known: &KnownEnds) -> Result<Rebuilding, NoMemory>
         ensures { IfOk result (λ rebuilding. IsNewRebuild member rebuilding.resources) }
     {
         Ok(Rebuilding {
-            resources: Rebuild::new(alloc, member)?,
+            resources: Rebuild::new(alloc, member, known)?,
             policy: CacheRebuild::new(),
         })
     }

@@ -17,12 +17,12 @@ pub struct Restarting {
 }
 
 impl Restarting {
-    /// Nothing is done yet.
-    pub fn new(alloc: Global, member: MemberId) -> Result<Restarting, NoMemory>
+    /// Nothing is done yet, and the member's log is known to be whole records up to this byte.
+    pub fn new(alloc: Global, member: MemberId, known: u64) -> Result<Restarting, NoMemory>
         ensures { IfOk result (λ restarting. IsNew member restarting.resources) }
     {
         Ok(Restarting {
-            resources: RestartResources::new(alloc, member)?,
+            resources: RestartResources::new(alloc, member, known)?,
             policy: MemberRestart::new(alloc),
         })
     }

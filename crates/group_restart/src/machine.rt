@@ -1,6 +1,7 @@
 ghost use Rattle.std.specs.Prelude.{◌≡◌, ◌≤◌, [], Ok, IfOk, IsErrOf};
 ghost use Rattle.ds_base.specs.Causes.{Rose};
 ghost use Rattle.ds_disk.specs.declared.disk.DiskError.TheVariants.{Failed};
+ghost use Rattle.restart_plan.specs.Ends.{end_of};
 ghost use Rattle.restart_plan.specs.Plans as model;
 ghost use Rattle.group_restart.specs.Calls.{log_call, call_of};
 ghost use Rattle.group_restart.specs.Course.{IsBegun};
@@ -92,6 +93,13 @@ impl GroupRestart {
             page: Page::zero(alloc)?,
             added: Append::new(alloc),
         })
+    }
+
+    /// Where the member's log ends, whose whole records are all before it, once all is done.
+    pub fn end_of(&self, member: MemberId) -> u64
+        ensures { result ≡ end_of self.now.plan.ends member }
+    {
+        self.plan.ends.end_of(member)
     }
 
     /// The call that is made next. Once all is done, the length of a log is asked.

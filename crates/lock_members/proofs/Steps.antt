@@ -8,7 +8,7 @@ use Rattle.lock_manager.specs.Managers.{Book}
 use Rattle.list_structure.specs.Standings.{status_of}
 use Rattle.log_reader.specs.declared.calls.LogCall.{LogCall}
 use Rattle.log_reader.specs.declared.calls.LogCall.TheVariants as call
-use Rattle.log_reader.specs.Readers.{next_call}
+use Rattle.checkpoint_reader.specs.Readers.{next_call}
 use Rattle.page_records.specs.declared.places.PageRecords.{PageRecords}
 use Rattle.facility.specs.declared.command.Command.{Command}
 use Rattle.facility.specs.declared.command.Command.TheVariants as command

@@ -6,7 +6,7 @@ use Rattle.ds_model.specs.declared.lock.Name.{Name}
 use Rattle.ds_model.specs.declared.lock.Name.TheVariants as name
 use Rattle.facility.specs.declared.command.Reply.{Reply}
 use Rattle.facility.specs.declared.command.Reply.TheVariants as reply
-use Rattle.log_reader.specs.Readers.{ReaderState}
+use Rattle.checkpoint_reader.specs.Readers.{ReaderState}
 use Rattle.member_log.specs.Buffers.{after_put}
 use Rattle.page_format.specs.Fields.{lrsn_of}
 use Rattle.page_redo.specs.declared.fault.FieldFault.{FieldFault}

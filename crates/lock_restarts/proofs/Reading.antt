@@ -3,8 +3,8 @@ use Rattle.std.proofs.Common.{◌≡◌, ℕ, refl, sym, ◌∙◌, ap, subst, B
 use Rattle.std.specs.Prelude.{if◌then◌else◌}
 use Rattle.log_reader.specs.declared.calls.LogReply.{LogReply}
 use Rattle.log_reader.specs.declared.calls.LogReply.TheVariants as logged
-use Rattle.log_reader.specs.Lending.{with_block}
-use Rattle.log_reader.specs.Readers.{ReaderState, after_reply, is_whole, parts_read}
+use Rattle.checkpoint_reader.specs.Lending.{with_block}
+use Rattle.checkpoint_reader.specs.Readers.{ReaderState, after_reply, is_whole, parts_read}
 use Rattle.log_record.specs.declared.log.Log.{Log}
 use Rattle.log_record.specs.Logs.{Parts}
 use Rattle.log_trans.specs.declared.damage.Damaged.{Damaged}

@@ -1,3 +1,4 @@
 pub mod Ends
 pub mod Passes
+pub mod Searched
 pub mod Steps

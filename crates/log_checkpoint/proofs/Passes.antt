@@ -1,5 +1,5 @@
 -- Records that are passed from the end of what is in hand.
-use Rattle.std.proofs.Common.{◌≡◌, ℕ, ◌+◌, ◌-◌, ◌<◌, ◌≤◌, List, length, take, refl, sym, ap, ◌∙◌, arith}
+use Rattle.std.proofs.Common.{◌≡◌, ℕ, ◌≤◌, length, take, refl, sym, ap, ◌∙◌, arith}
 use Rattle.std.proofs.lemmas.List.{length-take, length-take-le, take-take, take_all}
 use Rattle.log_checkpoint.specs.Backwards.{SearchState}
 use Rattle.log_checkpoint.specs.Passed.{HasPassed}

@@ -1,8 +1,8 @@
 -- One step back, and what is told.
-use Rattle.std.proofs.Common.{◌≡◌, ℕ, zero, suc, ◌+◌, ◌-◌, ◌<◌, ◌≤◌, Bool, true, false, cond, ltb, eqb, List, [], ◌∷◌, ◌++◌, length, take, drop, Option, Some, None, Result, Ok, Err, refl, sym, ap, subst, ◌∙◌, arith, inl, inr}
+use Rattle.std.proofs.Common.{◌≡◌, ℕ, ◌+◌, ◌-◌, ◌<◌, ◌≤◌, Bool, true, false, cond, List, ◌++◌, length, take, drop, Option, Some, None, Result, Ok, Err, refl, sym, ap, subst, ◌∙◌, arith, inl, inr}
 use Rattle.std.specs.Prelude.{nat_lt, ◌==◌, min, IfSome}
 use Rattle.std.proofs.lemmas.Bool.{ltb-false, ltb-true, le-ltb, lt-ltb, eqb-true, eqb-false, eq-eqb, cases_lt}
-use Rattle.std.proofs.lemmas.List.{length-drop, length-take, length-append, length-take-le, take-take, take_at, drop_at, take_all, take_rest, drop-drop, drop-take, nil_from_length}
+use Rattle.std.proofs.lemmas.List.{length-drop, length-append, length-take-le, take-take, take_at, drop_at, drop-drop, drop-take}
 use Rattle.std.proofs.Math.Seq.{take-add}
 use Rattle.byteorder.specs.Endian.{big_number}
 use Rattle.ds_model.specs.declared.log.LogRecord.{LogRecord}
@@ -19,7 +19,7 @@ use Rattle.log_checkpoint.specs.declared.last.Last.TheVariants as last
 use Rattle.log_checkpoint.specs.declared.found.Found.{Found}
 use Rattle.log_checkpoint.specs.declared.found.Found.TheVariants as found
 use Rattle.log_checkpoint.specs.Backwards.{last_by, last_sized, last_size, last_of, SearchState, place_of, told_short, told_body, told_by, told_of, before, passed_by, after_step, AreWanted, filled}
-use Rattle.log_checkpoint.specs.Passed.{between, AreWhole, IsOther, HaveNone, ArePassed, BeginsLast, IsLast, IsOf, AreBefore, IsTold}
+use Rattle.log_checkpoint.specs.Passed.{between, AreWhole, IsOther, ArePassed, IsLast, IsOf, AreBefore, IsTold}
 use Rattle.log_checkpoint.proofs.Ends.{EndsWith, ends_with}
 
 abbrev Read : Type 0
@@ -325,6 +325,35 @@ wanted_last s last.Broken count w = absurd w
 
 pub wanted : (s : SearchState) (count : ℕ) → AreWanted (told_of s) count → count ≤ s.low
 wanted s count w = let is = wanted_last s (last_of s.hand) count w in omega (arith, is)
+
+-- the bytes that are wanted end where those in hand begin
+before_short : (none_low none : Bool) (low block at count : ℕ) → cond none_low (cond none found.Missing found.Broken) (found.Wants (low - min low block) (min low block)) ≡ found.Wants at count → (at + count ≡ low) × (count ≤ block)
+before_short true true low block at count e = absurd cc
+before_short true false low block at count e = absurd cc
+before_short false none low block at count e =
+    let p : low - min low block ≡ at = cc in
+    let q : min low block ≡ count = cc in
+    (omega (arith, p, q), omega (arith, q))
+
+before_body : (place : ℕ) (b : Body) (at count : ℕ) → told_body place b ≡ Some (found.Wants at count) → ⊥
+before_body place (body.RowChange change) at count e = cc
+before_body place (body.Compensation change undone) at count e = cc
+before_body place (body.System patches) at count e = cc
+before_body place body.Commit at count e = cc
+before_body place body.Ended at count e = cc
+before_body place (body.Checkpoint offset) at count e = cc
+before_body place body.RestartEnd at count e = cc
+
+before_by : (s : SearchState) (l : Last) (at count : ℕ) → told_by s l ≡ Some (found.Wants at count) → (at + count ≡ s.low) × (count ≤ s.block)
+before_by s (last.Record r n) at count e = absurd (before_body (place_of s - n) r.body at count e)
+before_by s last.Short at count e = before_short (s.low == 0) (length s.hand == 0) s.low s.block at count (of_some (told_short s) (found.Wants at count) e)
+  where
+    of_some : (f g : Found) → Some f ≡ Some g → f ≡ g
+    of_some f g h = cc
+before_by s last.Broken at count e = absurd cc
+
+pub wanted_before : (s : SearchState) (at count : ℕ) → told_of s ≡ Some (found.Wants at count) → (at + count ≡ s.low) × (count ≤ s.block)
+wanted_before s at count e = before_by s (last_of s.hand) at count e
 
 pub filled_is : (log : List ℕ) (end : ℕ) (s : SearchState) (bytes : List ℕ) → IsOf log end s → AreWanted (told_of s) (length bytes) → AreBefore log s bytes → IsOf log end (filled s bytes)
 filled_is log end s bytes is w next =

@@ -1,5 +1,5 @@
 -- A log that is read backwards, from the end of its whole records.
-use Rattle.std.specs.Prelude.{◌≡◌, ℕ, ◌+◌, ◌-◌, ◌≤◌, ◌==◌, nat_lt, min, if◌then◌else◌, List, [], ◌∷◌, ◌++◌, length, take, drop, Option, None, Some, Result, Ok, Err}
+use Rattle.std.specs.Prelude.{◌≡◌, ℕ, zero, suc, ◌+◌, ◌-◌, ◌≤◌, ◌==◌, nat_lt, min, is_none, if◌then◌else◌, List, ◌++◌, length, take, drop, Option, None, Some, Result, Ok, Err}
 use Rattle.byteorder.specs.Endian.{big_number}
 use Rattle.ds_model.specs.declared.log.LogRecord.{LogRecord}
 use Rattle.ds_model.specs.declared.log.Body.{Body}
@@ -88,6 +88,15 @@ passed_by s last.Broken told = s
 
 abbrev pub after_step : SearchState → SearchState
 after_step s = passed_by s (last_of s.hand) (told_of s)
+
+-- records are passed until something is told, so many at most
+abbrev pub passed_on : ℕ → SearchState → SearchState
+passed_on zero s = s
+passed_on (suc n) s = if is_none (told_of s) then passed_on n (after_step s) else s
+
+-- each record has bytes, so no more are in hand than these
+unfoldable pub searched : SearchState → SearchState
+searched s = passed_on (length s.hand) s
 
 -- so many bytes are wanted
 abbrev pub AreWanted : Option Found → ℕ → Type 0

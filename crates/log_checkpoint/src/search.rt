@@ -59,7 +59,7 @@ fn told_body(at: u64, body: &Body) -> Option<Found>
 }
 
 impl CheckpointSearch {
-    ghost use Rattle.log_checkpoint.specs.Backwards.{told_short, told_of, after_step, AreWanted, filled};
+    ghost use Rattle.log_checkpoint.specs.Backwards.{told_short, told_of, after_step, searched, AreWanted, filled};
     ghost use Rattle.log_checkpoint.specs.Passed.{AreBefore, IsOf, IsTold, HasPassed};
 
     /// A search from this end of the whole records of a log. At most so many bytes are asked for at once.
@@ -119,11 +119,13 @@ impl CheckpointSearch {
     /// Passes the records in hand, from the last one on, up to a checkpoint. After `NoMemory` some may be passed.
     #[tactic(auto, using(crate::proofs::Passes::pass_more))]
     pub fn search(&mut self, alloc: Global) -> Result<Found, NoMemory>
+        ensures exact { OnOk result (self.new ≡ searched self.old) }
         ensures told { IfOk result (λ found. told_of self.new ≡ Some found) }
         ensures log { (log : List ℕ) (end : ℕ) → IsOf log end self.old → IsOf log end self.new × IfOk result (λ found. IsTold log end found) }
         ensures passed { HasPassed self.old self.new }
     {
         search_laws();
+        log_head::whole_laws();
         let mut told = self.step(alloc)?;
         while told.is_none() {
             told = self.step(alloc)?;

@@ -16,7 +16,7 @@ use Rattle.log_record.specs.Logs.{Parts, parts_in, parts_of, behind}
 use Rattle.log_head.specs.Laws.{FirstIsWhole, NoneIsWhole, PartsGoOn}
 use Rattle.log_head.specs.Whole.{whole_records}
 use Rattle.log_reader.specs.declared.held.Mark.{Mark}
-use Rattle.log_reader.specs.Held.{HeldState, nothing_held, begins_at, names_other, marked_one, marked_all, first_mark, with_mark, settled, grown}
+use Rattle.log_reader.specs.Held.{HeldState, nothing_held, held_from, begins_at, names_other, marked_one, marked_all, first_mark, with_mark, settled, grown}
 use Rattle.log_reader.specs.Readers.{ReaderState, IsLogRead, parts_behind}
 use Rattle.log_reader.proofs.Marks.{one_behind}
 use Rattle.log_reader.specs.Keeping.{AreBytes, AreWhole, IsOf, HasLastOf}
@@ -138,6 +138,10 @@ module _ (found : FoundInBytes) (first : FirstIsWhole) (none : NoneIsWhole) wher
 
   pub nothing_is : (log : List ℕ) (keeps_all : Bool) → IsOf log (nothing_held keeps_all)
   nothing_is log keeps_all = record { within = omega arith; ends = refl; told = refl; bytes = λ i. subst (λ (x : ℕ). x < 256) (sym (get_or_past [] i 0 (omega arith))) (lit< tt); passed = omega arith; before = none_whole; looked = none_whole }
+
+  pub beginning_is : (log : List ℕ) (place : ℕ) → place ≤ length log → AreWhole (take place log) → IsOf log (held_from place)
+  beginning_is log place within whole =
+      record { within = within; ends = omega arith; told = refl; bytes = λ i. subst (λ (x : ℕ). x < 256) (sym (get_or_past [] i 0 (omega arith))) (lit< tt); passed = omega arith; before = whole; looked = none_whole }
 
   -- from the mark on
   from_mark : (log : List ℕ) (h : HeldState) (m : Mark) → IsOf log h → IsMark h.bytes m → IsOf log (record { start = h.start + m.from; end = h.end; bytes = drop m.from h.bytes; passed = m.to - m.from; keeps_all = h.keeps_all })

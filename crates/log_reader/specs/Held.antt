@@ -18,6 +18,10 @@ pub record HeldState : Type 0 where
 abbrev pub nothing_held : Bool → HeldState
 nothing_held keeps_all = record { start = 0; end = 0; bytes = []; passed = 0; keeps_all = keeps_all }
 
+-- nothing is kept yet of a log that is read from this byte on
+abbrev pub held_from : ℕ → HeldState
+held_from place = record { start = place; end = place; bytes = []; passed = 0; keeps_all = false }
+
 -- ---- one record
 
 -- it is a Checkpoint that names this byte

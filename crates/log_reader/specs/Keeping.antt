@@ -5,7 +5,7 @@ use Rattle.ds_model.specs.declared.log.LogRecord.{LogRecord}
 use Rattle.ds_model.specs.RecordBytes.{IsAllowed, log_bytes}
 use Rattle.log_record.specs.declared.log.Log.{Log}
 use Rattle.log_record.specs.Logs.{IsLogOf}
-use Rattle.log_reader.specs.Held.{HeldState, nothing_held, grown}
+use Rattle.log_reader.specs.Held.{HeldState, nothing_held, held_from, grown}
 use Rattle.log_reader.specs.Readers.{ReaderState, IsLogRead}
 
 abbrev pub AreBytes : List ℕ → Type 0
@@ -36,6 +36,10 @@ pub record HasLastOf (bytes : List ℕ) (log : Log) : Type 0 where
 
 abbrev pub NothingIsOf : Type 0
 NothingIsOf = (log : List ℕ) (keeps_all : Bool) → IsOf log (nothing_held keeps_all)
+
+-- behind whole records reading may begin
+abbrev pub BeginningIsOf : Type 0
+BeginningIsOf = (log : List ℕ) (place : ℕ) → place ≤ length log → AreWhole (take place log) → IsOf log (held_from place)
 
 -- the next bytes of the log, which begin a block
 abbrev pub GrownIsOf : Type 0

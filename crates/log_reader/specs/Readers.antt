@@ -4,7 +4,7 @@ use Rattle.std.specs.List.{AllByRecursion}
 use Rattle.ds_model.specs.RecordBytes.{IsAllowed, log_bytes}
 use Rattle.log_record.specs.declared.log.Log.{Log}
 use Rattle.log_record.specs.Logs.{Parts, parts_in, parts_of}
-use Rattle.log_reader.specs.Held.{HeldState, nothing_held, grown}
+use Rattle.log_reader.specs.Held.{HeldState, nothing_held, held_from, grown}
 use Rattle.log_reader.specs.declared.calls.LogCall.{LogCall}
 use Rattle.log_reader.specs.declared.calls.LogCall.TheVariants as call
 use Rattle.log_reader.specs.declared.calls.LogReply.{LogReply}
@@ -42,6 +42,10 @@ call_by at (Some long) = read_of at long
 -- the log's length is asked first
 abbrev pub next_call : ReaderState → LogCall
 next_call r = call_by r.held.end r.length_told
+
+-- the log is read from this byte on, as if nothing of it was
+abbrev pub read_from : ReaderState → ℕ → ReaderState
+read_from r place = record { member = r.member; length_told = r.length_told; held = held_from place; block = r.block }
 
 -- ---- replies
 

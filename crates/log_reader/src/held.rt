@@ -162,7 +162,7 @@ fn mark_records(alloc: Global, start: u64, bytes: &[u8], passed: usize) -> Resul
 
 impl Held {
     ghost use Rattle.std.specs.Prelude.{true};
-    ghost use Rattle.log_reader.specs.Held.{nothing_held, with_mark, settled, grown};
+    ghost use Rattle.log_reader.specs.Held.{nothing_held, held_from, with_mark, settled, grown};
 
     /// Nothing of a log.
     pub fn new(alloc: Global) -> Held
@@ -175,6 +175,17 @@ impl Held {
             passed: 0,
             keeps_all: false,
         }
+    }
+
+    /// Nothing of a log that is read from this byte on.
+    pub fn begin_at(&mut self, place: u64)
+        ensures { self.new ≡ held_from place }
+    {
+        self.start = place;
+        self.end = place;
+        self.bytes.clear();
+        self.passed = 0;
+        self.keeps_all = false;
     }
 
     /// Where the bytes begin in the log.

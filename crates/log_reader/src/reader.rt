@@ -38,7 +38,7 @@ fn are_bytes(block: &[u8])
 }
 
 impl LogReader {
-    ghost use Rattle.log_reader.specs.Readers.{IsNew, next_call, after_length, after_count, after_reply, is_whole, IsRead};
+    ghost use Rattle.log_reader.specs.Readers.{IsNew, next_call, read_from, after_length, after_count, after_reply, is_whole, IsRead};
     ghost use Rattle.log_reader.specs.Lending.{LendsBlock};
 
     /// A reader of the member's log, of which nothing is read yet.
@@ -80,6 +80,20 @@ impl LogReader {
         &mut self.block
     }
 
+    /// The bytes of the block.
+    pub fn bytes(&self) -> &[u8; BLOCK]
+        ensures { result.now ≡ self.now.block }
+    {
+        &self.block
+    }
+
+    /// The log is read from this byte on, as if nothing of it was. Before it stand whole records, which aren't read then.
+    pub fn begin_at(&mut self, place: u64)
+        ensures { self.new ≡ read_from self.old place }
+    {
+        self.held.begin_at(place);
+    }
+
     fn is_whole(&self) -> bool
         ensures { result ≡ is_whole self.now }
     {
@@ -109,7 +123,8 @@ impl LogReader {
         }
     }
 
-    fn enter(&mut self, alloc: Global, reply: LogReply) -> Result<(), NoMemory>
+    /// Takes the disk's reply, and tells nothing of the log.
+    pub fn enter(&mut self, alloc: Global, reply: LogReply) -> Result<(), NoMemory>
         ensures ok { OnOk result (self.new ≡ after_reply self.old reply) }
         ensures err { OnErr result (self.new ≡ self.old) }
     {
@@ -147,6 +162,16 @@ impl LogReader {
         }
     }
 
+    /// What is told of the log now: all that is kept of it, where all of it is read.
+    pub fn told(&self, alloc: Global) -> Result<LogRead, NoMemory>
+        ensures { IfOk result (λ read. IsRead self.now read) }
+    {
+        if !self.is_whole() {
+            return Ok(LogRead::More);
+        }
+        self.read(alloc)
+    }
+
     /// Takes the disk's reply: the log, where this was the last of its bytes.
     ///
     /// After `NoMemory` the reply may have been taken or not, and the reader is given up.
@@ -158,9 +183,6 @@ impl LogReader {
     {
         are_bytes(&*self.block);
         self.enter(alloc, reply)?;
-        if !self.is_whole() {
-            return Ok(LogRead::More);
-        }
-        self.read(alloc)
+        self.told(alloc)
     }
 }

@@ -8,7 +8,7 @@ use Rattle.ds_disk.specs.Pages.{page_at}
 use Rattle.ds_disk.specs.declared.disk.DiskError.{DiskError}
 use Rattle.ds_disk.specs.declared.disk.DiskError.TheVariants.{Failed}
 use Rattle.log_reader.specs.declared.calls.LogReply.TheVariants as logged
-use Rattle.log_reader.specs.Lending.{with_block}
+use Rattle.checkpoint_reader.specs.Lending.{with_block}
 use Rattle.log_reader.specs.Readers.{block_size}
 use Rattle.member_intents.specs.declared.outcome.Answered.{Answered}
 use Rattle.member_intents.specs.declared.outcome.Answered.TheVariants as answered

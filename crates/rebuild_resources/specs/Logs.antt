@@ -5,7 +5,7 @@ use Rattle.log_merge.specs.Merging.{all_records, in_order}
 use Rattle.log_reader.specs.declared.calls.LogRead.{LogRead}
 use Rattle.log_reader.specs.declared.calls.LogRead.TheVariants as read
 use Rattle.log_reader.specs.declared.calls.LogReply.{LogReply}
-use Rattle.log_reader.specs.Readers.{IsNew, IsRead, after_reply}
+use Rattle.checkpoint_reader.specs.Readers.{IsNew, IsRead, after_reply}
 use Rattle.log_record.specs.declared.log.Log.{Log}
 use Rattle.page_records.specs.Places.{by_page}
 use Rattle.rebuild_resources.specs.declared.told.RebuildTold.{RebuildTold}

@@ -4,7 +4,7 @@ use Rattle.ds_base.specs.declared.names.PageId.{PageId}
 use Rattle.facility.specs.declared.command.Command.TheVariants as command
 use Rattle.log_reader.specs.declared.calls.LogCall.{LogCall}
 use Rattle.log_reader.specs.declared.calls.LogCall.TheVariants as call
-use Rattle.log_reader.specs.Readers.{next_call}
+use Rattle.checkpoint_reader.specs.Readers.{next_call}
 use Rattle.page_records.specs.declared.places.PageRecords.{PageRecords}
 use Rattle.rebuild_resources.specs.declared.intent.RebuildIntent.{RebuildIntent}
 use Rattle.rebuild_resources.specs.declared.intent.RebuildIntent.TheVariants as intent

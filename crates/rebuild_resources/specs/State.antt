@@ -2,7 +2,7 @@
 use Rattle.std.specs.Prelude.{◌≡◌, ℕ, Bool, true, false, List, [], Option, None, replicate}
 use Rattle.ds_base.specs.declared.names.PageId.{PageId}
 use Rattle.ds_model.specs.declared.log.LogRecord.{LogRecord}
-use Rattle.log_reader.specs.Readers.{ReaderState, IsNew}
+use Rattle.checkpoint_reader.specs.Readers.{ReaderState, IsNew}
 use Rattle.log_record.specs.declared.log.Log.{Log}
 use Rattle.page_format.specs.Fields.{page_size}
 use Rattle.page_records.specs.declared.places.PageRecords.{PageRecords}

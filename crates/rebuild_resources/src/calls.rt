@@ -4,16 +4,16 @@ ghost use Rattle.std.specs.Prelude.{◌≡◌, ◌≤◌, length, min, Err, IfOk
 ghost use Rattle.ds_base.specs.Causes.{Rose};
 ghost use Rattle.ds_disk.specs.Answers.{HasCause};
 ghost use Rattle.ds_disk.specs.declared.disk.DiskError.TheVariants.{Failed};
-ghost use Rattle.log_reader.specs.Lending.{with_block};
+ghost use Rattle.checkpoint_reader.specs.Lending.{with_block};
 ghost use Rattle.log_reader.specs.Readers.{block_size};
 ghost use Rattle.member_intents.specs.declared.outcome.Answered.TheVariants as answered;
 ghost use Rattle.rebuild_resources.specs.declared.intent.RebuildFault.TheVariants as faults;
 ghost use Rattle.rebuild_resources.specs.Calls.{TellsLength, TellsBlock, ReadsPage, WritesPage, Calls, StoresDone, StoresGot, Stores, RunsCall};
 
 use crate::{Rebuild, RebuildFault, RebuildSent, RebuildTold};
+use checkpoint_reader::{BLOCK, CheckpointReader, LogReply};
 use ds_base::{MemberId, NoMemory, PageId};
 use ds_disk::{Disk, DiskError};
-use log_reader::{BLOCK, LogReader, LogReply};
 use member_intents::Answered;
 use page_format::Page;
 use std::alloc::Global;
@@ -55,7 +55,7 @@ fn read_block<D: Disk>(
     member: MemberId,
     at: u64,
     count: u32,
-    reader: &mut LogReader,
+    reader: &mut CheckpointReader,
 ) -> Result<Got, DiskError>
     ensures answers { TellsBlock member at (min count block_size) reader.new.block (record { alive = D.alive disk.old; contents = D.contents disk.old }) result (record { alive = D.alive disk.new; contents = D.contents disk.new }) }
     ensures reader { reader.new ≡ with_block reader.old reader.new.block }

@@ -8,9 +8,9 @@ ghost use Rattle.rebuild_resources.specs.declared.told.RebuildTold.TheVariants a
 ghost use Rattle.rebuild_resources.specs.Logs.{logs_read, TakesWhole, TakesLog};
 
 use crate::{Rebuild, RebuildTold};
+use checkpoint_reader::{CheckpointReader, LogRead, LogReply};
 use ds_base::{MemberId, NoMemory, Volume};
 use log_merge::merge;
-use log_reader::{LogRead, LogReader, LogReply};
 use log_record::Log;
 use page_records::by_page;
 use restart_plan::{Logs, Queue};
@@ -48,7 +48,7 @@ impl Rebuild {
         self.logs.add(log)?;
         match MemberId::new(self.reader.member().number() + 1) {
             Some(member) => {
-                self.reader = LogReader::new(alloc, member)?;
+                self.reader = CheckpointReader::new(alloc, member, self.known.of(member))?;
                 Ok(RebuildTold::LogBlock)
             }
             None => {

@@ -2,9 +2,9 @@ ghost use Rattle.std.specs.Prelude.{◌≡◌};
 ghost use Rattle.rebuild_resources.specs.Needs.{need_of, call_sent, read_log_need, read_page_need, write_page_need, rebuilt_need};
 
 use crate::{Rebuild, RebuildIntent, RebuildSent, RebuildTest};
+use checkpoint_reader::LogCall;
 use ds_base::MemberId;
 use facility::Command;
-use log_reader::LogCall;
 
 fn call_sent(member: MemberId, call: LogCall) -> RebuildSent
     ensures { result ≡ call_sent member call }

@@ -1,10 +1,10 @@
 ghost use Rattle.std.specs.Prelude.{◌≡◌, length, IfOk, OnOk};
-ghost use Rattle.log_reader.specs.Readers.{IsNew};
+ghost use Rattle.checkpoint_reader.specs.Readers.{IsNew};
 ghost use Rattle.rebuild_resources.specs.State.{IsNewRebuild, Begins, given_up};
 
+use checkpoint_reader::{CheckpointReader, KnownEnds};
 use ds_base::{MemberId, NoMemory, PageId};
 use log_merge::Merged;
-use log_reader::LogReader;
 use page_format::Page;
 use page_records::PageRecords;
 use restart_plan::{Logs, Queue};
@@ -18,7 +18,9 @@ pub struct Rebuild {
     /// It has the claim, and the cache isn't rebuilt.
     pub(crate) claimed: bool,
     /// Of the log that is read.
-    pub(crate) reader: LogReader,
+    pub(crate) reader: CheckpointReader,
+    /// Up to where the logs are known to be whole records.
+    pub(crate) known: KnownEnds,
     /// Those that are read under this claim, until all are.
     pub(crate) logs: Logs,
     /// The records of all logs, once they are read.
@@ -39,24 +41,25 @@ impl Model for Rebuild {
 }
 
 // A reader of the first log.
-fn first_reader(alloc: Global) -> Result<LogReader, NoMemory>
+fn first_reader(alloc: Global, known: &KnownEnds) -> Result<CheckpointReader, NoMemory>
     ensures { IfOk result (IsNew 1) }
 {
     let Some(member) = MemberId::new(1) else {
         unreachable!()
     };
-    LogReader::new(alloc, member)
+    CheckpointReader::new(alloc, member, known.of(member))
 }
 
 impl Rebuild {
-    /// Nothing is claimed or read yet.
-    pub fn new(alloc: Global, member: MemberId) -> Result<Rebuild, NoMemory>
+    /// Nothing is claimed or read yet. Up to these ends the logs are known to be whole records.
+    pub fn new(alloc: Global, member: MemberId, known: &KnownEnds) -> Result<Rebuild, NoMemory>
         ensures { IfOk result (IsNewRebuild member) }
     {
         Ok(Rebuild {
             member,
+            known: known.copied(),
             claimed: false,
-            reader: first_reader(alloc)?,
+            reader: first_reader(alloc, known)?,
             logs: Logs::new(alloc),
             merged: None,
             pages: Queue::new(alloc),
@@ -94,7 +97,7 @@ impl Rebuild {
     pub(crate) fn begin(&mut self, alloc: Global) -> Result<(), NoMemory>
         ensures { OnOk result (Begins self.old self.new) }
     {
-        self.reader = first_reader(alloc)?;
+        self.reader = first_reader(alloc, &self.known)?;
         self.give_up(alloc);
         self.claimed = true;
         Ok(())

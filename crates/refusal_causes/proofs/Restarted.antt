@@ -11,7 +11,7 @@ use Rattle.facility.specs.declared.command.Command.TheVariants as command
 use Rattle.facility.specs.States as facility
 use Rattle.log_reader.specs.declared.calls.LogCall.{LogCall}
 use Rattle.log_reader.specs.declared.calls.LogCall.TheVariants as call
-use Rattle.log_reader.specs.Readers.{next_call}
+use Rattle.checkpoint_reader.specs.Readers.{next_call}
 use Rattle.page_records.specs.declared.places.PageRecords.{PageRecords}
 use Rattle.member_intents.specs.declared.outcome.Answered.{Answered}
 use Rattle.rebuild_resources.specs.Events as rebuilding

@@ -5,7 +5,7 @@ use Rattle.std.proofs.lemmas.Bool.{both_ways}
 use Rattle.ds_model.specs.declared.lock.Name.{Name}
 use Rattle.ds_model.specs.declared.lock.Name.TheVariants as name
 use Rattle.ds_model.specs.declared.log.LogRecord.{LogRecord}
-use Rattle.log_reader.specs.Readers.{ReaderState}
+use Rattle.checkpoint_reader.specs.Readers.{ReaderState}
 use Rattle.log_record.specs.declared.log.Log.{Log}
 use Rattle.log_rows.specs.Rows.{OpenTell}
 use Rattle.log_trans.specs.Courses.{open_trans}

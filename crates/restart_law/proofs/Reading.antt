@@ -5,8 +5,8 @@ use Rattle.ds_disk.specs.declared.disk.DiskError.{DiskError}
 use Rattle.ds_disk.specs.declared.disk.DiskError.TheVariants as error
 use Rattle.log_reader.specs.declared.calls.LogReply.{LogReply}
 use Rattle.log_reader.specs.declared.calls.LogReply.TheVariants as logged
-use Rattle.log_reader.specs.Lending.{with_block}
-use Rattle.log_reader.specs.Readers.{ReaderState, after_reply, is_whole, parts_read}
+use Rattle.checkpoint_reader.specs.Lending.{with_block}
+use Rattle.checkpoint_reader.specs.Readers.{ReaderState, after_reply, is_whole, parts_read}
 use Rattle.log_record.specs.declared.log.Log.{Log}
 use Rattle.log_record.specs.Logs.{Parts}
 use Rattle.log_rows.specs.Rows.{OpenTell}

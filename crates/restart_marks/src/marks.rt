@@ -6,10 +6,10 @@ ghost use Rattle.restart_records.specs.Own.{own_with};
 ghost use Rattle.restart_records.specs.Maps.{places_at};
 
 use crate::hand::Hand;
+use checkpoint_reader::CheckpointReader;
 use ds_base::{Lrsn, MemberId, NoMemory, PageId, Sequence};
 use ds_model::LogRecord;
 use lock_names::Name;
-use log_reader::LogReader;
 use member_log::MemberLog;
 use restart_records::{
     NameMark, Names, Newest, OwnLog, Queue, RestartTran, RestartTrans, TurnKey, page_of,
@@ -54,13 +54,13 @@ impl Model for RestartMarks {
 }
 
 impl RestartMarks {
-    /// Nothing is read, known or held yet.
-    pub fn new(alloc: Global, member: MemberId) -> Result<RestartMarks, NoMemory>
+    /// Nothing is read, known or held yet, but that the member's log is whole records up to this byte.
+    pub fn new(alloc: Global, member: MemberId, known: u64) -> Result<RestartMarks, NoMemory>
         ensures { IfOk result (IsFresh member) }
     {
         Ok(RestartMarks {
             member,
-            own: OwnLog::new(alloc, member)?,
+            own: OwnLog::new(alloc, member, known)?,
             log: MemberLog::new(alloc, LOG_BUFFER)?,
             counter: 0,
             listed: 0,
@@ -202,14 +202,14 @@ impl RestartMarks {
     }
 
     /// Takes the reader of the own log out, to be put back.
-    pub fn take_reader(&mut self) -> Option<LogReader>
+    pub fn take_reader(&mut self) -> Option<CheckpointReader>
         ensures told { result ≡ self.old.own.reader }
         ensures after { self.new ≡ with_own self.old (own_with self.old.own None) }
     {
         self.own.take_reader()
     }
 
-    pub fn put_reader(&mut self, reader: LogReader)
+    pub fn put_reader(&mut self, reader: CheckpointReader)
         ensures { self.new ≡ with_own self.old (own_with self.old.own (Some reader)) }
     {
         self.own.put_reader(reader);

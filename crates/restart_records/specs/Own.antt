@@ -4,7 +4,7 @@ use Rattle.ds_base.specs.declared.names.PageId.{PageId}
 use Rattle.ds_model.specs.declared.log.LogRecord.{LogRecord}
 use Rattle.log_record.specs.declared.log.Log.{Log}
 use Rattle.log_reader.specs.declared.calls.LogCall.{LogCall}
-use Rattle.log_reader.specs.Readers.{ReaderState, IsNew, next_call}
+use Rattle.checkpoint_reader.specs.Readers.{ReaderState, IsNew, next_call}
 use Rattle.page_records.specs.declared.places.PageRecords.{PageRecords}
 use Rattle.restart_records.specs.Maps.{PagePlaces, with_places}
 use Rattle.page_records.specs.Places.{by_page}

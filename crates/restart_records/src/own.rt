@@ -3,9 +3,9 @@ ghost use Rattle.restart_records.specs.Maps.{places_at};
 ghost use Rattle.restart_records.specs.Own.{IsNewLog, next_in, own_with, own_read, all_put, places_by_page};
 
 use crate::map::PlaceMap;
+use checkpoint_reader::{CheckpointReader, LogCall};
 use ds_base::{MemberId, NoMemory, PageId, Sequence};
 use ds_model::{LogRecord, RecordList};
-use log_reader::{LogCall, LogReader};
 use log_record::Log;
 use page_records::{PageRecords, by_page};
 use std::alloc::Global;
@@ -14,7 +14,7 @@ use std::marker::Model;
 /// The log of the member itself: a reader until it is read, and then its records.
 #[derive(Drop)]
 pub struct OwnLog {
-    reader: Option<LogReader>,
+    reader: Option<CheckpointReader>,
     is_read: bool,
     records: RecordList,
     places: PlaceMap,
@@ -52,11 +52,12 @@ pub fn places_of(alloc: Global, records: &[LogRecord]) -> Result<PlaceMap, NoMem
 }
 
 impl OwnLog {
-    pub fn new(alloc: Global, member: MemberId) -> Result<OwnLog, NoMemory>
+    /// Nothing of it is read yet, and up to this byte it is known to be whole records.
+    pub fn new(alloc: Global, member: MemberId, known: u64) -> Result<OwnLog, NoMemory>
         ensures { IfOk result (IsNewLog member) }
     {
         Ok(OwnLog {
-            reader: Some(LogReader::new(alloc, member)?),
+            reader: Some(CheckpointReader::new(alloc, member, known)?),
             is_read: false,
             records: RecordList::new(alloc),
             places: PlaceMap::new(alloc),
@@ -110,14 +111,14 @@ impl OwnLog {
     }
 
     /// Takes the reader out, to be put back.
-    pub fn take_reader(&mut self) -> Option<LogReader>
+    pub fn take_reader(&mut self) -> Option<CheckpointReader>
         ensures told { result ≡ self.old.reader }
         ensures after { self.new ≡ own_with self.old None }
     {
         self.reader.take()
     }
 
-    pub fn put_reader(&mut self, reader: LogReader)
+    pub fn put_reader(&mut self, reader: CheckpointReader)
         ensures { self.new ≡ own_with self.old (Some reader) }
     {
         self.reader = Some(reader);

@@ -6,14 +6,14 @@ ghost use Rattle.ds_disk.specs.Answers.{HasCause};
 ghost use Rattle.ds_disk.specs.declared.disk.DiskError.TheVariants.{Failed};
 ghost use Rattle.member_intents.specs.declared.outcome.Answered.TheVariants as answered;
 ghost use Rattle.restart_marks.specs.declared.intent.RestartFault.TheVariants as faults;
-ghost use Rattle.log_reader.specs.Lending.{with_block};
+ghost use Rattle.checkpoint_reader.specs.Lending.{with_block};
 ghost use Rattle.log_reader.specs.Readers.{block_size};
 ghost use Rattle.restart_resources.specs.Calls.{ReadsFront, CountsFront, ReadsBlock, ReadsInto, TellsLength, Cuts, Appends, Calls, done_told, done_after, got_told, got_after, Stores, RunsCall};
 
 use crate::RestartResources;
+use checkpoint_reader::{BLOCK, CheckpointReader, LogReply};
 use ds_base::{MemberId, NoMemory, PageId};
 use ds_disk::{Disk, DiskError};
-use log_reader::{BLOCK, LogReader, LogReply};
 use member_intents::Answered;
 use restart_marks::{RestartFault, RestartSent, RestartTold};
 use std::alloc::Global;
@@ -67,7 +67,7 @@ fn read_to<D: Disk>(
     disk: &mut D,
     member: MemberId,
     at: u64,
-    reader: &mut LogReader,
+    reader: &mut CheckpointReader,
     count: u32,
 ) -> Result<Got, DiskError>
     ensures answers { CountsFront (record { alive = D.alive disk.old; contents = D.contents disk.old }) member at (min count block_size) result (record { alive = D.alive disk.new; contents = D.contents disk.new }) reader.new.block }

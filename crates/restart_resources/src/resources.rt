@@ -26,12 +26,12 @@ impl Model for RestartResources {
 }
 
 impl RestartResources {
-    /// Nothing is read, known or held yet.
-    pub fn new(alloc: Global, member: MemberId) -> Result<RestartResources, NoMemory>
+    /// Nothing is read, known or held yet, but that the member's log is whole records up to this byte.
+    pub fn new(alloc: Global, member: MemberId, known: u64) -> Result<RestartResources, NoMemory>
         ensures { IfOk result (IsNew member) }
     {
         Ok(RestartResources {
-            marks: RestartMarks::new(alloc, member)?,
+            marks: RestartMarks::new(alloc, member, known)?,
             page: Page::zero(alloc)?,
             spare: Page::zero(alloc)?,
         })

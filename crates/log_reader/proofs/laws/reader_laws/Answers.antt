@@ -1,8 +1,11 @@
-use Rattle.log_reader.proofs.Keeping.{nothing_is, keeping_is, grown_is, read_last}
+use Rattle.log_reader.proofs.Keeping.{nothing_is, beginning_is, keeping_is, grown_is, read_last}
 use Rattle.log_reader.proofs.laws.reader_laws.Goals as goal
 
 pub returns-clause-nothing : goal.returns-clause-nothing
 returns-clause-nothing c = λ log keeps_all. nothing_is c.reading_laws.ensures.found c.whole_laws.ensures.first c.whole_laws.ensures.none log keeps_all
+
+pub returns-clause-beginning : goal.returns-clause-beginning
+returns-clause-beginning c = λ log place within whole. beginning_is c.reading_laws.ensures.found c.whole_laws.ensures.first c.whole_laws.ensures.none log place within whole
 
 pub returns-clause-grown : goal.returns-clause-grown
 returns-clause-grown c = λ log h block n is are within next. grown_is c.reading_laws.ensures.found c.whole_laws.ensures.first c.whole_laws.ensures.none log h block n is are within next

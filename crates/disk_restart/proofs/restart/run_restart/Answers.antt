@@ -3,10 +3,10 @@ use Rattle.std.proofs.lemmas.Grind.{common_steps}
 use Rattle.group_restart.specs.declared.calls.State.TheVariants as state
 use Rattle.group_restart.specs.Disk.{Drive}
 use Rattle.disk_restart.proofs.Steps.{begun, step_goes, step_keeps, alive_keeps}
-use Rattle.disk_restart.proofs.restart.restart_disk.Goals as goal
+use Rattle.disk_restart.proofs.restart.run_restart.Goals as goal
 
 pub loop-init : goal.loop-init
-loop-init g c = (omega arith, begun (record { nothing = c.reader_laws.ensures.nothing; keeping = c.reader_laws.ensures.keeping; grown = c.reader_laws.ensures.grown; last = c.reader_laws.ensures.last }) (g.D.Disk.contents c.args.disk.now) c.in_ok-restart.restart (g.D.Disk.has_logs c.args.disk.now) c.in_ok-restart.ensures)
+loop-init g c = (omega arith, begun (record { nothing = c.reader_laws.ensures.nothing; keeping = c.reader_laws.ensures.keeping; grown = c.reader_laws.ensures.grown; last = c.reader_laws.ensures.last }) (g.D.Disk.contents c.args.disk.now) c.args.restart.now (g.D.Disk.has_logs c.args.disk.now) c.requires)
 
 pub returns-in_err-state-clause-keeps : goal.returns-in_err-state-clause-keeps
 returns-in_err-state-clause-keeps g c =

@@ -1,0 +1,4 @@
+pub mod Ends
+pub mod Keeping
+pub mod Lending
+pub mod Readers
