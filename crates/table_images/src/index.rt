@@ -53,5 +53,9 @@ pub fn index_end(table: TableId, records: &[LogRecord], next: u32) -> u64
 {
     chain_laws();
     header_laws();
-    end_of(last_node(next), last_in_records(table.index_page(0).set, records), 0)
+    end_of(
+        last_node(next),
+        last_in_records(table.index_page(0).set, records),
+        0,
+    )
 }
