@@ -67,9 +67,9 @@ fn passes(
 /// entries or place in the row of leaves, or as a leaf that doesn't have exactly the places of its keys. Of an index that isn't
 /// formatted though slots were given page 1 isn't right. `changed` are the pages that the records change.
 ///
-/// It goes over all records twice, and over the pages up to the last one that they change. Each takes time in the logarithm of
-/// the number of these pages, and in the number of its own records; a leaf takes time in the logarithm of the number of the slots
-/// too, and in the number of those that were given to its keys.
+/// It goes over all records once, twice where the index has pages, and over the pages up to the last one that they change. Each
+/// takes time in the logarithm of the number of these pages, and in the number of its own records; a leaf takes time in the
+/// logarithm of the number of the slots too, and in the number of those that were given to its keys.
 pub fn find_wrong_index_page(
     alloc: Global,
     table: TableId,

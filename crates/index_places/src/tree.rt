@@ -1,8 +1,10 @@
 ghost use Rattle.std.specs.Prelude.{◌≡◌, ◌-◌, ◌<◌, ◌^◌, min, IfOk};
 ghost use Rattle.std.specs.List.{AllByRecursion};
+ghost use Rattle.ds_base.specs.Pages.{index_set};
 ghost use Rattle.ds_model.specs.RecordBytes.{IsAllowed};
 ghost use Rattle.page_chain.specs.Chains.{images_of};
 ghost use Rattle.page_records.specs.Places.{by_page};
+ghost use Rattle.disk_versions.specs.Ends.{last_in_records};
 ghost use Rattle.index_places.specs.Trees.{IsTreeOf};
 
 use crate::slots::{Given, places_of};
@@ -34,12 +36,16 @@ pub struct IndexTree {
     pub places: SpotMap<Place>,
 }
 
-// How many pages before the next free one the records change at most, where this is the greatest number of a page of theirs.
-fn node_count(next: u32, greatest: u32) -> u32
-    ensures exact { result ≡ min (next - 1) greatest }
+// How many of the pages before this next free one the records may change. Where there is none the records aren't looked at.
+fn node_count(table: TableId, records: &[LogRecord], next: u32) -> u32
+    ensures exact { result ≡ min (next - 1) (last_in_records (index_set table) 0 records.now) }
     ensures below { result < 2 ^ 32 - 1 }
 {
     let last = next.saturating_sub(1);
+    if last == 0 {
+        return 0;
+    }
+    let greatest = last_in_records(table.index_page(0).set, records);
     if greatest < last { greatest } else { last }
 }
 
@@ -56,10 +62,9 @@ pub fn read_tree(
     requires changed_pages { changed.now ≡ by_page records.now }
     ensures { IfOk result (λ tree. IsTreeOf (images_of records.now) records.now table given.items tree) }
 {
-    let id = table.index_page(0);
-    let header = image_of(alloc, id, records, changed)?;
+    let header = image_of(alloc, table.index_page(0), records, changed)?;
     let next = next_page(&header);
-    let count = node_count(next, last_in_records(id.set, records));
+    let count = node_count(table, records, next);
     let nodes = read_nodes(alloc, table, records, changed, count + 1)?;
     let rights = rights_of(alloc, table, &nodes)?;
     let places = places_of(alloc, table, &given)?;
