@@ -14,13 +14,12 @@ use Rattle.checked_run.specs.declared.ended.Ended.TheVariants as ending
 use Rattle.checked_run.specs.declared.ended.Outcome.{Outcome}
 use Rattle.checked_run.specs.declared.ended.Outcome.TheVariants as outcome
 use Rattle.checked_run.specs.Accounts.{no_account}
-use Rattle.checked_run.specs.Leading.{Came, Kind}
+use Rattle.checked_run.specs.Leading.{Kind}
 use Rattle.checked_run.specs.declared.account.Account.{Account}
-use Rattle.checked_run.specs.Outcomes.{IsOpening, HasCause, Comes, Plays, RunFault, Shows}
+use Rattle.checked_run.specs.Outcomes.{IsOpening, HasCause, Comes, RunFault, Shows}
 use Rattle.disk_orders.specs.Checks.{Holds, IsChecked}
 use Rattle.disk_orders.specs.declared.checks.Checked.{Checked}
 use Rattle.disk_orders.specs.declared.checks.Checked.TheVariants as checked
-use Rattle.group_words.specs.Orders.{AreSizes}
 use Rattle.group_words.specs.declared.order.Order.{Order}
 use Rattle.group_words.specs.declared.order.Order.TheVariants as order
 use Rattle.group_run.specs.declared.status.Status.{Status}

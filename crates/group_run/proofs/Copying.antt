@@ -1,11 +1,11 @@
 -- How a call ends by the order of its words, where that may be a copy of a table or its recovery.
-use Rattle.std.proofs.Common.{◌≡◌, ◌≢◌, ◌⊎◌, inl, inr, ℕ, ◌≤◌, arith, Bool, true, false, List, [], Option, Some, None, Err, refl, sym, ap, subst, ◌∙◌}
+use Rattle.std.proofs.Common.{◌≡◌, ◌≢◌, inl, ℕ, arith, Bool, false, List, [], Option, Some, None, Err, refl, sym, ap, subst, ◌∙◌}
 use Rattle.std.proofs.lemmas.List.{append-nil}
 use Rattle.std.specs.Io.KnownBytes.{Appends}
 use Rattle.ds_base.specs.declared.row.Row.{Row}
 use Rattle.ds_model.specs.declared.report.Report.{Report}
 use Rattle.ds_model.specs.declared.script.Script.{Script}
-use Rattle.ds_disk.specs.Contents.{Contents, Becomes, Same}
+use Rattle.ds_disk.specs.Contents.{Contents, Becomes}
 use Rattle.disk_restart.specs.Keeping.{KeepsRecords}
 use Rattle.checked_run.specs.Accounts.{no_account}
 use Rattle.checked_run.specs.Leading.{Kind}

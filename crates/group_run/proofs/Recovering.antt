@@ -1,5 +1,5 @@
 -- What the recovery of a table meets, and where it was not begun.
-use Rattle.std.proofs.Common.{◌≡◌, ◌⊎◌, inl, inr, ℕ, ◌≤◌, arith, List, [], Option, Some, None, Result, Ok, Err, refl, sym, ap, subst, ◌∙◌}
+use Rattle.std.proofs.Common.{◌≡◌, inl, ℕ, arith, List, [], Option, Some, None, Result, Ok, Err, refl, sym, ap, subst, ◌∙◌}
 use Rattle.ds_base.specs.declared.names.PageId.{PageId}
 use Rattle.ds_disk.specs.Contents.{Contents, Becomes}
 use Rattle.disk_restart.specs.Keeping.{KeepsRecords}

@@ -1,7 +1,6 @@
-use Rattle.std.proofs.Common.{◌≡◌, false, Some, refl, sym, ap, subst, ◌∙◌}
+use Rattle.std.proofs.Common.{Some, refl, sym, ap, subst}
 use Rattle.group_words.specs.Orders.{HasSizes, AreSizes}
-use Rattle.group_words.specs.declared.order.Order.TheVariants as order
-use Rattle.group_run.specs.Prepares.{setting_of, IsPrepared, IsAllowed}
+use Rattle.group_run.specs.Prepares.{IsPrepared, IsAllowed}
 use Rattle.group_run.specs.declared.prepare.Setting.{Setting}
 use Rattle.group_run.specs.declared.prepare.Prepared.TheVariants as prepared
 use Rattle.group_run.proofs.prepare.prepare_order.Goals as goal

@@ -7,7 +7,6 @@ use Rattle.checked_run.specs.Outcomes.{Comes, Shows}
 use Rattle.group_run.specs.Outside.{outside}
 use Rattle.group_run.specs.Prepares.{IsAllowed}
 use Rattle.group_run.specs.Tellings.{short_telling, script_telling}
-use Rattle.group_run.specs.declared.status.Status.TheVariants as status
 use Rattle.group_run.specs.Ends.{Meets}
 use Rattle.group_run.proofs.Called.{CameOf, ended, is_made, shows, plays, works, checks}
 use Rattle.ds_disk.specs.Contents.{Becomes}

@@ -4,7 +4,6 @@ use Rattle.ds_model.specs.declared.script.Script.{Script}
 use Rattle.checked_run.specs.Outcomes.fault as fault
 use Rattle.checked_run.specs.declared.account.Account.{Account}
 use Rattle.checked_run.specs.declared.ended.Outcome.TheVariants as outcome
-use Rattle.checked_run.specs.Accounts.{no_account}
 use Rattle.checked_run.specs.Leading.{kind_of}
 use Rattle.checked_run.specs.Outcomes.{Comes, HasCause, Plays}
 use Rattle.group_run.specs.Tellings.{short_telling}
