@@ -16,7 +16,7 @@ use Rattle.log_record.specs.Logs.{Parts, parts_in, parts_of, behind}
 use Rattle.log_head.specs.Laws.{FirstIsWhole, NoneIsWhole, PartsGoOn}
 use Rattle.log_head.specs.Whole.{whole_records}
 use Rattle.log_reader.specs.declared.held.Mark.{Mark}
-use Rattle.log_reader.specs.Held.{HeldState, nothing_held, held_from, begins_at, names_other, marked_one, marked_all, first_mark, with_mark, settled, grown}
+use Rattle.log_reader.specs.Held.{HeldState, nothing_held, held_from, begins_at, begun_at, gone_on, marked_one, marked_all, first_mark, with_mark, settled, grown}
 use Rattle.log_reader.specs.Readers.{ReaderState, IsLogRead, parts_behind}
 use Rattle.log_reader.proofs.Marks.{one_behind}
 use Rattle.log_reader.specs.Keeping.{AreBytes, AreWhole, IsOf, HasLastOf}
@@ -89,15 +89,13 @@ module _ (found : FoundInBytes) (first : FirstIsWhole) (none : NoneIsWhole) wher
       let left = length-drop m.to bytes in
       let long : length (record_bytes r) ≤ length bytes - m.to = omega (arith, f.within, left, size) in
       let new : AreWhole (take (length (record_bytes r)) (drop m.to bytes)) = subst (λ (k : ℕ). AreWhole (take k (drop m.to bytes))) size (one_whole (drop m.to bytes) r n f) in
-      let begun : Mark = record { from = m.to; to = m.to + length (record_bytes r); has_other = m.has_other } in
-      let gone : Mark = record { from = m.from; to = m.to + length (record_bytes r); has_other = m.has_other || names_other (start + m.to) r.body } in
       let all : m.to + length (record_bytes r) - m.to ≡ length (record_bytes r) = omega arith in
       let behind : m.from + (m.to - m.from) ≡ m.to = omega (arith, is.order) in
       let more : m.to + length (record_bytes r) - m.from ≡ (m.to - m.from) + length (record_bytes r) = omega (arith, is.order) in
       let joined : take (m.to + length (record_bytes r) - m.from) (drop m.from bytes) ≡ take (m.to - m.from) (drop m.from bytes) ++ take (length (record_bytes r)) (drop m.to bytes) =
       ap (λ (k : ℕ). take k (drop m.from bytes)) more ∙ take-add (m.to - m.from) (length (record_bytes r)) (drop m.from bytes)
       ∙ ap (λ (t : List ℕ). take (m.to - m.from) (drop m.from bytes) ++ take (length (record_bytes r)) t) (drop-drop (m.to - m.from) m.from bytes ∙ ap (λ (k : ℕ). drop k bytes) behind) in
-      cond_both (begins_at (start + m.to) r) begun gone (IsMark bytes)
+      cond_both (begins_at (start + m.to) r) (begun_at m r) (gone_on (start + m.to) m r) (IsMark bytes)
       (λ _. record { order = omega arith; within = omega (arith, long, is.within); front = up_to bytes m is; looked = subst (λ (k : ℕ). AreWhole (take k (drop m.to bytes))) (sym all) new })
       (λ _. record {
         order = omega (arith, is.order);
@@ -144,7 +142,7 @@ module _ (found : FoundInBytes) (first : FirstIsWhole) (none : NoneIsWhole) wher
       record { within = within; ends = omega arith; told = refl; bytes = λ i. subst (λ (x : ℕ). x < 256) (sym (get_or_past [] i 0 (omega arith))) (lit< tt); passed = omega arith; before = whole; looked = none_whole }
 
   -- from the mark on
-  from_mark : (log : List ℕ) (h : HeldState) (m : Mark) → IsOf log h → IsMark h.bytes m → IsOf log (record { start = h.start + m.from; end = h.end; bytes = drop m.from h.bytes; passed = m.to - m.from; keeps_all = h.keeps_all })
+  from_mark : (log : List ℕ) (h : HeldState) (m : Mark) → IsOf log h → IsMark h.bytes m → IsOf log (record { start = h.start + m.from; end = h.end; bytes = drop m.from h.bytes; passed = m.to - m.from; low = m.low; keeps_all = h.keeps_all })
   from_mark log h m is mark =
       let left = length-drop m.from h.bytes in
       let split : length h.bytes ≡ m.from + length (drop m.from h.bytes) = omega (arith, left, mark.order, mark.within) in
@@ -161,20 +159,20 @@ module _ (found : FoundInBytes) (first : FirstIsWhole) (none : NoneIsWhole) wher
       }
 
   with_mark_is : (log : List ℕ) (h : HeldState) (m : Mark) → IsOf log h → IsMark h.bytes m → IsOf log (with_mark h m)
-  with_mark_is log h m is mark = cond_both m.has_other (nothing_held true) (record { start = h.start + m.from; end = h.end; bytes = drop m.from h.bytes; passed = m.to - m.from; keeps_all = h.keeps_all }) (IsOf log) (λ _. nothing_is log true) (λ _. from_mark log h m is mark)
+  with_mark_is log h m is mark = cond_both m.wants_all (nothing_held true) (record { start = h.start + m.from; end = h.end; bytes = drop m.from h.bytes; passed = m.to - m.from; low = m.low; keeps_all = h.keeps_all }) (IsOf log) (λ _. nothing_is log true) (λ _. from_mark log h m is mark)
 
-  first_is : (h : HeldState) (log : List ℕ) → IsOf log h → IsMark h.bytes (first_mark h.passed)
+  first_is : (h : HeldState) (log : List ℕ) → IsOf log h → IsMark h.bytes (first_mark h.passed h.low)
   first_is h log is =
       let all : h.passed - 0 ≡ h.passed = omega arith in
       record { order = omega arith; within = is.passed; front = none_whole; looked = subst (λ (k : ℕ). AreWhole (take k h.bytes)) (sym all) is.looked }
 
   settled_is : (log : List ℕ) (h : HeldState) → IsOf log h → IsOf log (settled h)
   unfolding settled
-  settled_is log h is = cond_both (h.keeps_all || nat_lt (length h.bytes) h.passed) h (with_mark h (marked_all h.start (first_mark h.passed) (whole_records (drop h.passed h.bytes)))) (IsOf log)
+  settled_is log h is = cond_both (h.keeps_all || nat_lt (length h.bytes) h.passed) h (with_mark h (marked_all h.start (first_mark h.passed h.low) (whole_records (drop h.passed h.bytes)))) (IsOf log)
       (λ _. is)
-      (λ _. with_mark_is log h (marked_all h.start (first_mark h.passed) (whole_records (drop h.passed h.bytes))) is (all_marked h.start h.bytes (whole_records (drop h.passed h.bytes)) is.bytes (first_mark h.passed) (first_is h log is) refl))
+      (λ _. with_mark_is log h (marked_all h.start (first_mark h.passed h.low) (whole_records (drop h.passed h.bytes))) is (all_marked h.start h.bytes (whole_records (drop h.passed h.bytes)) is.bytes (first_mark h.passed h.low) (first_is h log is) refl))
 
-  more_is : (log : List ℕ) (h : HeldState) (more : List ℕ) → IsOf log h → AreBytes more → h.end + length more ≤ length log → more ≡ take (length more) (drop h.end log) → IsOf log (record { start = h.start; end = h.end + length more; bytes = h.bytes ++ more; passed = h.passed; keeps_all = h.keeps_all })
+  more_is : (log : List ℕ) (h : HeldState) (more : List ℕ) → IsOf log h → AreBytes more → h.end + length more ≤ length log → more ≡ take (length more) (drop h.end log) → IsOf log (record { start = h.start; end = h.end + length more; bytes = h.bytes ++ more; passed = h.passed; low = h.low; keeps_all = h.keeps_all })
   more_is log h more is are within next =
       let long = length-append h.bytes more in
       record {
@@ -196,7 +194,7 @@ module _ (found : FoundInBytes) (first : FirstIsWhole) (none : NoneIsWhole) wher
       let more : List ℕ = take n block in
       let left = length-drop h.end log in
       let long : length more ≡ n = ap (λ (t : List ℕ). length t) next ∙ length-take-le n (drop h.end log) (omega (arith, left, within)) in
-      settled_is log (record { start = h.start; end = h.end + length more; bytes = h.bytes ++ more; passed = h.passed; keeps_all = h.keeps_all })
+      settled_is log (record { start = h.start; end = h.end + length more; bytes = h.bytes ++ more; passed = h.passed; low = h.low; keeps_all = h.keeps_all })
       (more_is log h more is (take_bytes n block are) (omega (arith, within, long)) (next ∙ ap (λ (k : ℕ). take k (drop h.end log)) (sym long)))
 
 -- ---- what is read

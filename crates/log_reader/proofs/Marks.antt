@@ -1,6 +1,5 @@
 -- The mark behind one record more.
 use Rattle.std.proofs.Common.{◌≡◌, ℕ, ◌+◌, ◌≤◌, List, length, drop, Ok, refl, sym, ap, ◌∙◌, arith}
-use Rattle.std.specs.Prelude.{◌||◌}
 use Rattle.std.proofs.lemmas.Bool.{cond_both}
 use Rattle.std.proofs.lemmas.List.{drop-drop}
 use Rattle.ds_model.specs.declared.log.LogRecord.{LogRecord}
@@ -9,7 +8,7 @@ use Rattle.log_record.specs.Reading.{record_in}
 use Rattle.log_head.specs.Laws.{FirstIsWhole}
 use Rattle.log_head.specs.Whole.{whole_records}
 use Rattle.log_reader.specs.declared.held.Mark.{Mark}
-use Rattle.log_reader.specs.Held.{begins_at, names_other, marked_one, marked_all}
+use Rattle.log_reader.specs.Held.{begins_at, begun_at, gone_on, marked_one, marked_all}
 
 -- whatever the record is, the mark is behind it, and its bytes begin where they did or there
 pub record IsBehind (m next : Mark) (size : ℕ) : Type 0 where
@@ -18,9 +17,7 @@ pub record IsBehind (m next : Mark) (size : ℕ) : Type 0 where
 
 pub one_behind : (start : ℕ) (m : Mark) (r : LogRecord) → IsBehind m (marked_one start m r) (length (record_bytes r))
 one_behind start m r =
-    let begun : Mark = record { from = m.to; to = m.to + length (record_bytes r); has_other = m.has_other } in
-    let gone : Mark = record { from = m.from; to = m.to + length (record_bytes r); has_other = m.has_other || names_other (start + m.to) r.body } in
-    cond_both (begins_at (start + m.to) r) begun gone (λ (z : Mark). IsBehind m z (length (record_bytes r)))
+    cond_both (begins_at (start + m.to) r) (begun_at m r) (gone_on (start + m.to) m r) (λ (z : Mark). IsBehind m z (length (record_bytes r)))
     (λ _. record { to = refl; from = λ _. omega arith })
     (λ _. record { to = refl; from = λ le. le })
 

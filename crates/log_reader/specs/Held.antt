@@ -1,5 +1,5 @@
 -- What is kept of a log while it is read: its bytes from the last Checkpoint on.
-use Rattle.std.specs.Prelude.{ℕ, ◌+◌, ◌-◌, ◌==◌, nat_lt, Bool, true, false, not, ◌&&◌, ◌||◌, if◌then◌else◌, List, [], ◌∷◌, ◌++◌, length, drop}
+use Rattle.std.specs.Prelude.{ℕ, ◌+◌, ◌-◌, ◌==◌, nat_lt, nat_le, Bool, true, false, not, ◌&&◌, ◌||◌, if◌then◌else◌, List, [], ◌∷◌, ◌++◌, length, drop}
 use Rattle.ds_model.specs.declared.log.LogRecord.{LogRecord}
 use Rattle.ds_model.specs.declared.log.Body.{Body}
 use Rattle.ds_model.specs.declared.log.Body.TheVariants as body
@@ -7,20 +7,22 @@ use Rattle.ds_model.specs.RecordBytes.{is_written, record_bytes}
 use Rattle.log_head.specs.Whole.{whole_records}
 use Rattle.log_reader.specs.declared.held.Mark.{Mark}
 
--- where the bytes begin in the log, and where they end; they; how many of them are whole records that were looked at; and whether nothing is left out
+-- where the bytes begin in the log, and where they end; they; how many of them are whole records that were looked at; the number of the Checkpoint with which
+-- they begin, 0 where they begin the log; and whether nothing is left out
 pub record HeldState : Type 0 where
   pub start : ℕ
   pub end : ℕ
   pub bytes : List ℕ
   pub passed : ℕ
+  pub low : ℕ
   pub keeps_all : Bool
 
 abbrev pub nothing_held : Bool → HeldState
-nothing_held keeps_all = record { start = 0; end = 0; bytes = []; passed = 0; keeps_all = keeps_all }
+nothing_held keeps_all = record { start = 0; end = 0; bytes = []; passed = 0; low = 0; keeps_all = keeps_all }
 
 -- nothing is kept yet of a log that is read from this byte on
 abbrev pub held_from : ℕ → HeldState
-held_from place = record { start = place; end = place; bytes = []; passed = 0; keeps_all = false }
+held_from place = record { start = place; end = place; bytes = []; passed = 0; low = 0; keeps_all = false }
 
 -- ---- one record
 
@@ -48,17 +50,27 @@ names_other place body.RestartEnd = false
 abbrev pub begins_at : ℕ → LogRecord → Bool
 begins_at place r = is_written r.version && names place r.body
 
+-- the record belongs to a transaction whose number isn't above this one: behind a Checkpoint of this number, to one that began before it
+abbrev pub is_earlier : ℕ → LogRecord → Bool
+is_earlier low r = nat_lt 0 r.tran && nat_le r.tran low
+
 -- ---- the records of bytes that begin at this byte of a log
 
--- so many of the bytes were looked at before
-abbrev pub first_mark : ℕ → Mark
-first_mark passed = record { from = 0; to = passed; has_other = false }
+-- so many of the bytes were looked at before, and they begin with a Checkpoint of this number
+abbrev pub first_mark : ℕ → ℕ → Mark
+first_mark passed low = record { from = 0; to = passed; low = low; wants_all = false }
+
+-- behind a Checkpoint at which reading begins
+abbrev pub begun_at : Mark → LogRecord → Mark
+begun_at m r = record { from = m.to; to = m.to + length (record_bytes r); low = r.lrsn; wants_all = m.wants_all }
+
+-- behind any other record, which begins at this byte
+abbrev pub gone_on : ℕ → Mark → LogRecord → Mark
+gone_on place m r = record { from = m.from; to = m.to + length (record_bytes r); low = m.low; wants_all = m.wants_all || (names_other place r.body || is_earlier m.low r) }
 
 -- behind one record more
 abbrev pub marked_one : ℕ → Mark → LogRecord → Mark
-marked_one start m r =
-    if begins_at (start + m.to) r then record { from = m.to; to = m.to + length (record_bytes r); has_other = m.has_other }
-    else record { from = m.from; to = m.to + length (record_bytes r); has_other = m.has_other || names_other (start + m.to) r.body }
+marked_one start m r = if begins_at (start + m.to) r then begun_at m r else gone_on (start + m.to) m r
 
 abbrev pub marked_all : ℕ → Mark → List LogRecord → Mark
 marked_all start m [] = m
@@ -66,13 +78,13 @@ marked_all start m (r ∷ rs) = marked_all start (marked_one start m r) rs
 
 -- ---- what is kept
 
--- where a Checkpoint names another byte than its own, all of the log is read anew
+-- where a Checkpoint names another byte than its own, or a transaction that began before it has a record behind it, all of the log is read anew
 abbrev pub with_mark : HeldState → Mark → HeldState
-with_mark h m = if m.has_other then nothing_held true else record { start = h.start + m.from; end = h.end; bytes = drop m.from h.bytes; passed = m.to - m.from; keeps_all = h.keeps_all }
+with_mark h m = if m.wants_all then nothing_held true else record { start = h.start + m.from; end = h.end; bytes = drop m.from h.bytes; passed = m.to - m.from; low = m.low; keeps_all = h.keeps_all }
 
 -- from the last Checkpoint on
 unfoldable pub settled : HeldState → HeldState
-settled h = if h.keeps_all || nat_lt (length h.bytes) h.passed then h else with_mark h (marked_all h.start (first_mark h.passed) (whole_records (drop h.passed h.bytes)))
+settled h = if h.keeps_all || nat_lt (length h.bytes) h.passed then h else with_mark h (marked_all h.start (first_mark h.passed h.low) (whole_records (drop h.passed h.bytes)))
 
 abbrev pub grown : HeldState → List ℕ → HeldState
-grown h more = settled (record { start = h.start; end = h.end + length more; bytes = h.bytes ++ more; passed = h.passed; keeps_all = h.keeps_all })
+grown h more = settled (record { start = h.start; end = h.end + length more; bytes = h.bytes ++ more; passed = h.passed; low = h.low; keeps_all = h.keeps_all })

@@ -4,7 +4,7 @@ ghost use Rattle.std.specs.Prelude.{◌≡◌, ℕ, ◌+◌, ◌-◌, ◌<◌, �
 ghost use Rattle.ds_model.specs.RecordBytes.{record_bytes};
 ghost use Rattle.log_record.specs.Reading.{record_in};
 ghost use Rattle.log_head.specs.Whole.{whole_records};
-ghost use Rattle.log_reader.specs.Held.{names, names_other, begins_at, marked_one, marked_all, first_mark};
+ghost use Rattle.log_reader.specs.Held.{names, names_other, begins_at, is_earlier, begun_at, gone_on, marked_one, marked_all, first_mark};
 
 use ds_base::NoMemory;
 use ds_model::{Body, LogRecord, Version};
@@ -20,8 +20,11 @@ pub struct Mark {
     pub from: usize,
     /// Up to here all are whole records that were looked at.
     pub to: usize,
-    /// Whether a checkpoint of them names another byte than its own.
-    pub has_other: bool,
+    /// The number of the checkpoint with which they begin, 0 where they begin the log.
+    pub low: u128,
+    /// Whether all of the log is to be read anew: a checkpoint names another byte than its own, or a record belongs to a
+    /// transaction that began before the checkpoint.
+    pub wants_all: bool,
 }
 
 /// What is kept of a log.
@@ -33,6 +36,8 @@ pub struct Held {
     bytes: Vec<u8>,
     // How many of them are whole records that were looked at.
     passed: usize,
+    // The number of the checkpoint with which they begin, 0 where they begin the log.
+    low: u128,
     keeps_all: bool,
 }
 
@@ -41,7 +46,7 @@ impl Model for Held {
 
     ghost Value = { HeldState };
 
-    ghost view = { λ h. record { start = h.start; end = h.end; bytes = h.bytes.items; passed = h.passed; keeps_all = h.keeps_all } };
+    ghost view = { λ h. record { start = h.start; end = h.end; bytes = h.bytes.items; passed = h.passed; low = h.low; keeps_all = h.keeps_all } };
 }
 
 // Whether it is a checkpoint that names this byte.
@@ -120,39 +125,74 @@ fn record_at(
     }
 }
 
+// Whether the record belongs to a transaction whose number isn't above this one, as those are that began before.
+fn is_earlier(low: u128, it: &LogRecord) -> bool
+    ensures { result ≡ is_earlier low it.now }
+{
+    let tran = it.tran.number();
+    0 < tran && tran <= low
+}
+
+// The mark behind a checkpoint at which reading begins.
+fn begun_at(mark: Mark, it: &LogRecord, to: usize) -> Mark
+    requires { to ≡ mark.to + length (record_bytes it.now) }
+    ensures { result ≡ begun_at mark it.now }
+{
+    Mark {
+        from: mark.to,
+        to,
+        low: it.lrsn.number(),
+        wants_all: mark.wants_all,
+    }
+}
+
+// The mark behind any other record, which begins at this byte of the log.
+fn gone_on(place: u64, mark: Mark, it: &LogRecord, to: usize) -> Mark
+    requires { to ≡ mark.to + length (record_bytes it.now) }
+    ensures { result ≡ gone_on place mark it.now }
+{
+    let wants_all = names_other(place, &it.body) || is_earlier(mark.low, it);
+    Mark {
+        from: mark.from,
+        to,
+        low: mark.low,
+        wants_all: mark.wants_all || wants_all,
+    }
+}
+
 // The mark behind one record more, of bytes that begin there in the log.
 fn marked_one(start: u64, mark: Mark, it: &LogRecord, size: usize) -> Result<Mark, NoMemory>
     requires fits { mark.to + size < 2 ^ 64 }
     requires size { size ≡ length (record_bytes it.now) }
     ensures { IfOk result (λ m. m ≡ marked_one start mark it.now) }
 {
+    let place = behind(start, mark.to)?;
     let to = mark.to + size;
-    if begins_at(behind(start, mark.to)?, it) {
-        return Ok(Mark {
-            from: mark.to,
-            to,
-            has_other: mark.has_other,
-        });
+    if begins_at(place, it) {
+        Ok(begun_at(mark, it, to))
+    } else {
+        Ok(gone_on(place, mark, it, to))
     }
-    let has_other = names_other(behind(start, mark.to)?, &it.body);
-    Ok(Mark {
-        from: mark.from,
-        to,
-        has_other: mark.has_other || has_other,
-    })
 }
 
-// The mark behind all whole records of bytes that begin there in the log.
-fn mark_records(alloc: Global, start: u64, bytes: &[u8], passed: usize) -> Result<Mark, NoMemory>
+// The mark behind all whole records of bytes that begin there in the log, with a checkpoint of this number.
+fn mark_records(
+    alloc: Global,
+    start: u64,
+    bytes: &[u8],
+    passed: usize,
+    low: u128,
+) -> Result<Mark, NoMemory>
     requires { passed ≤ length bytes.now }
-    ensures exact { IfOk result (λ m. m ≡ marked_all start (first_mark passed) (whole_records (drop passed bytes.now))) }
+    ensures exact { IfOk result (λ m. m ≡ marked_all start (first_mark passed low) (whole_records (drop passed bytes.now))) }
     ensures within { IfOk result (λ m. (m.from ≤ m.to) × (m.to ≤ length bytes.now)) }
 {
     whole_laws();
     let mut mark = Mark {
         from: 0,
         to: passed,
-        has_other: false,
+        low,
+        wants_all: false,
     };
     while let Some((it, size)) = record_at(alloc, bytes, mark.to)? {
         mark = marked_one(start, mark, &it, size)?;
@@ -173,6 +213,7 @@ impl Held {
             end: 0,
             bytes: Vec::new(alloc),
             passed: 0,
+            low: 0,
             keeps_all: false,
         }
     }
@@ -185,6 +226,7 @@ impl Held {
         self.end = place;
         self.bytes.clear();
         self.passed = 0;
+        self.low = 0;
         self.keeps_all = false;
     }
 
@@ -223,6 +265,7 @@ impl Held {
         self.end = 0;
         self.bytes.clear();
         self.passed = 0;
+        self.low = 0;
         self.keeps_all = true;
     }
 
@@ -232,13 +275,14 @@ impl Held {
         ensures ok { OnOk result (self.new ≡ with_mark self.old mark) }
         ensures err { OnErr result (self.new ≡ self.old) }
     {
-        if mark.has_other {
+        if mark.wants_all {
             self.begin_again();
             return Ok(());
         }
         self.start = behind(self.start, mark.from)?;
         drop_front(&mut self.bytes, mark.from);
         self.passed = mark.to - mark.from;
+        self.low = mark.low;
         Ok(())
     }
 
@@ -251,7 +295,7 @@ impl Held {
         if self.keeps_all || self.bytes.len() < self.passed {
             return Ok(());
         }
-        let mark = mark_records(alloc, self.start, &self.bytes, self.passed)?;
+        let mark = mark_records(alloc, self.start, &self.bytes, self.passed, self.low)?;
         self.keep(mark)
     }
 

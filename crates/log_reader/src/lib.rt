@@ -5,7 +5,8 @@
 //! where its bytes end.
 //!
 //! Of a log that is longer than a block, what stands before its last checkpoint isn't kept, if that is of version 2 and
-//! names its own place. All records are looked at, so a field that isn't allowed is told wherever it stands.
+//! names its own place, and no transaction that began before it has a record behind it; else all of the log is kept. All
+//! records are looked at, so a field that isn't allowed is told wherever it stands.
 #![tactic(auto)]
 
 mod begin;

@@ -13,7 +13,7 @@ use Rattle.log_record.specs.Reading.{Found, record_in}
 use Rattle.log_head.specs.Laws.{FirstIsWhole, FrontDecides, NoneIsWhole}
 use Rattle.log_head.specs.Whole.{whole_records}
 use Rattle.log_reader.specs.declared.held.Mark.{Mark}
-use Rattle.log_reader.specs.Held.{HeldState, begins_at, first_mark, grown, marked_all, marked_one, names, names_other, nothing_held, settled, with_mark}
+use Rattle.log_reader.specs.Held.{HeldState, begins_at, begun_at, first_mark, gone_on, grown, marked_all, marked_one, names, nothing_held, settled, with_mark}
 use Rattle.log_reader.specs.Keeping.{AreBytes}
 use Rattle.log_starts.specs.Starts.{BeginsAt, GrownBegins, MayBegin, NamesOwn, NothingBegins}
 
@@ -48,11 +48,11 @@ abbrev Named : ℕ → List ℕ → Mark → Type 0
 Named start bytes m = (m.from ≡ 0) ⊎ NamesOwn (start + m.from) (drop m.from bytes)
 
 one_behind : (start : ℕ) (m : Mark) (r : LogRecord) → (marked_one start m r).to ≡ m.to + length (record_bytes r)
-one_behind start m r = cond_both (begins_at (start + m.to) r) (record { from = m.to; to = m.to + length (record_bytes r); has_other = m.has_other }) (record { from = m.from; to = m.to + length (record_bytes r); has_other = m.has_other || names_other (start + m.to) r.body })
+one_behind start m r = cond_both (begins_at (start + m.to) r) (begun_at m r) (gone_on (start + m.to) m r)
     (λ (z : Mark). z.to ≡ m.to + length (record_bytes r)) (λ e. refl) (λ e. refl)
 
 one_named : (start : ℕ) (bytes : List ℕ) (m : Mark) (r : LogRecord) (n : ℕ) → record_in (drop m.to bytes) ≡ Ok (r, n) → Named start bytes m → Named start bytes (marked_one start m r)
-one_named start bytes m r n read named = cond_both (begins_at (start + m.to) r) (record { from = m.to; to = m.to + length (record_bytes r); has_other = m.has_other }) (record { from = m.from; to = m.to + length (record_bytes r); has_other = m.has_other || names_other (start + m.to) r.body })
+one_named start bytes m r n read named = cond_both (begins_at (start + m.to) r) (begun_at m r) (gone_on (start + m.to) m r)
     (λ (z : Mark). Named start bytes z) (λ e. inr (record { made = r; size = n; read = read; own = (and_parts (is_written r.version) (names (start + m.to) r.body) e).1 })) (λ e. named)
 
 no_more : (x : LogRecord) (xs : List LogRecord) → x ∷ xs ≡ [] → ⊥
@@ -92,12 +92,12 @@ module _ (found : FoundInBytes) (first : FirstIsWhole) (none : NoneIsWhole) wher
       at = omega (arith, zero)
 
   marked : (h : HeldState) (m : Mark) → Named h.start h.bytes m → BeginsAt h → BeginsAt (with_mark h m)
-  marked h m named begins = cond_both m.has_other (nothing_held true) (record { start = h.start + m.from; end = h.end; bytes = drop m.from h.bytes; passed = m.to - m.from; keeps_all = h.keeps_all }) BeginsAt (λ _. inl refl) (λ _. from_mark h m named begins)
+  marked h m named begins = cond_both m.wants_all (nothing_held true) (record { start = h.start + m.from; end = h.end; bytes = drop m.from h.bytes; passed = m.to - m.from; low = m.low; keeps_all = h.keeps_all }) BeginsAt (λ _. inl refl) (λ _. from_mark h m named begins)
 
   settled_begins : (h : HeldState) → AreBytes h.bytes → BeginsAt h → BeginsAt (settled h)
   unfolding settled
-  settled_begins h are begins = cond_both (h.keeps_all || nat_lt (length h.bytes) h.passed) h (with_mark h (marked_all h.start (first_mark h.passed) (whole_records (drop h.passed h.bytes)))) BeginsAt
-      (λ _. begins) (λ _. marked h (marked_all h.start (first_mark h.passed) (whole_records (drop h.passed h.bytes))) (all_named h.start h.bytes (whole_records (drop h.passed h.bytes)) are (first_mark h.passed) (inl refl) refl) begins)
+  settled_begins h are begins = cond_both (h.keeps_all || nat_lt (length h.bytes) h.passed) h (with_mark h (marked_all h.start (first_mark h.passed h.low) (whole_records (drop h.passed h.bytes)))) BeginsAt
+      (λ _. begins) (λ _. marked h (marked_all h.start (first_mark h.passed h.low) (whole_records (drop h.passed h.bytes))) (all_named h.start h.bytes (whole_records (drop h.passed h.bytes)) are (first_mark h.passed h.low) (inl refl) refl) begins)
 
   more_begins : FrontDecides → (h : HeldState) (more : List ℕ) → MayBegin h.start h.bytes → MayBegin h.start (h.bytes ++ more)
   more_begins law h more (inl start) = inl start
@@ -105,7 +105,7 @@ module _ (found : FoundInBytes) (first : FirstIsWhole) (none : NoneIsWhole) wher
 
   pub grown_begins : FrontDecides → GrownBegins
   grown_begins law h more are new begins =
-      settled_begins (record { start = h.start; end = h.end + length more; bytes = h.bytes ++ more; passed = h.passed; keeps_all = h.keeps_all }) (both_bytes h.bytes more are new) (more_begins law h more begins)
+      settled_begins (record { start = h.start; end = h.end + length more; bytes = h.bytes ++ more; passed = h.passed; low = h.low; keeps_all = h.keeps_all }) (both_bytes h.bytes more are new) (more_begins law h more begins)
 
 pub nothing_begins : NothingBegins
 nothing_begins keeps_all = inl refl
