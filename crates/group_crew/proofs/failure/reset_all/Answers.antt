@@ -17,5 +17,5 @@ loop-part-preserved g c =
       AllWithin-more_set c.loop-part.part-items c.loop-part.part-index _ within (λ (part : MemberPart g.row.P.Denot). IsDown c.args.sizes.now.sizes (member_of part)) c.loop-part.invariant.0 c.in_ok-reset.ensures.down,
       map_set (λ (part : MemberPart g.row.P.Denot). part.id) c.loop-part.part-items c.loop-part.part-index c.part-item.result _ within (ap (λ (part : MemberPart g.row.P.Denot). part.id) c.reset.ensures.rest)
           ∙ c.loop-part.invariant.1,
-      AllWithin-more_set c.loop-part.part-items c.loop-part.part-index _ within (λ (part : MemberPart g.row.P.Denot). part.known ≡ c.args.known.now) c.loop-part.invariant.2 c.copied.ensures,
+      AllWithin-more_set c.loop-part.part-items c.loop-part.part-index _ within (λ (part : MemberPart g.row.P.Denot). part.known ≡ c.args.known.now) c.loop-part.invariant.2 c.copied-part.ensures,
     )
