@@ -1,4 +1,4 @@
--- What a restart makes of an answer, from the last stage to the first: where it goes on, the logs stand for the stage that it goes to.
+-- What a restart makes of an answer, from the last stage to the first: where it goes on, the logs stand for the stage that it goes to, and where it is done, they end where it says.
 use Rattle.std.proofs.Common.{◌≡◌, ℕ, ◌+◌, ◌-◌, ◌^◌, Bool, true, false, List, [], ◌∷◌, ◌++◌, length, drop, Option, Some, None, Result, Ok, Err, refl, sym, ap, subst, ◌∙◌}
 use Rattle.std.specs.Prelude.{nat_lt, slice_get, not, ◌&&◌, ◌==◌}
 use Rattle.std.proofs.lemmas.Bool.{cond_both, eq-eqb}
@@ -35,8 +35,8 @@ ending_adds : (o d : Logs) (ends : List ℕ) (lrsn member : ℕ) → Stands o d 
 ending_adds o d ends lrsn member s = record { stands = s; added = (same_number (end_of ends member) (length (log_of d member)) (s.whole (member - 1)).size_is, (refl, tt)) }
 
 ending_good : (o d : Logs) (h : Restart) (next : Option ℕ) → Stands o d h.plan.ends → Good o d (ending_or h next)
-ending_good o d h None s = λ e. absurd cc
-ending_good o d h (Some member) s = λ e. ending_adds o d h.plan.ends h.counter member s
+ending_good o d h None s = s
+ending_good o d h (Some member) s = ending_adds o d h.plan.ends h.counter member s
 
 next_ending_good : (o d : Logs) (h : Restart) → Stands o d h.plan.ends → Good o d (next_ending h)
 unfolding next_ending
@@ -46,7 +46,7 @@ next_ending_good o d h s = ending_good o d (with_plan h (rest_endings h.plan)) (
 
 renewal_good : (o d : Logs) (h : Restart) (next : Option PageId) → Stands o d h.plan.ends → Good o d (renewal_or h next)
 renewal_good o d h None s = next_ending_good o d h s
-renewal_good o d h (Some page) s = λ e. s
+renewal_good o d h (Some page) s = s
 
 next_renewal_good : (o d : Logs) (h : Restart) → Stands o d h.plan.ends → Good o d (next_renewal h)
 unfolding next_renewal
@@ -54,13 +54,13 @@ next_renewal_good o d h s = renewal_good o d (rest_old h) (slice_get h.old_pages
 
 take_old_good : (o d : Logs) (h : Restart) (id : PageId) → Stands o d h.plan.ends → Good o d (take_old h id)
 unfolding take_old
-take_old_good o d h id s = cond_both (is_old h.page) (go (record h { page = renewed h.page }) (stage.RenewWrite id)) (next_renewal h) (Good o d) (λ _. λ e. s) (λ _. next_renewal_good o d h s)
+take_old_good o d h id s = cond_both (is_old h.page) (go (record h { page = renewed h.page }) (stage.RenewWrite id)) (next_renewal h) (Good o d) (λ _. s) (λ _. next_renewal_good o d h s)
 
 -- ---- undo
 
 undo_good : (o d : Logs) (h : Restart) (next : Option Undo) → Stands o d h.plan.ends → Good o d (undo_or h next)
 undo_good o d h None s = next_renewal_good o d h s
-undo_good o d h (Some u) s = λ e. s
+undo_good o d h (Some u) s = s
 
 next_undo_good : (o d : Logs) (h : Restart) → Stands o d h.plan.ends → Good o d (next_undo h)
 unfolding next_undo
@@ -75,13 +75,13 @@ undoing_adds o d ends u lrsn s = record {
 
 undone_good : (o d : Logs) (h : Restart) (u : Undo) (lrsn : ℕ) → Stands o d h.plan.ends → Good o d (undone h u lrsn)
 unfolding undone
-undone_good o d h u lrsn s = λ e. undoing_adds o d h.plan.ends u lrsn s
+undone_good o d h u lrsn s = undoing_adds o d h.plan.ends u lrsn s
 
 undo_at_good : (o d : Logs) (h : Restart) (u : Undo) (lrsn : ℕ) → Stands o d h.plan.ends → Good o d (undo_at h u lrsn)
-undo_at_good o d h u lrsn s = cond_both (nat_lt lrsn (2 ^ 80)) (undone h u lrsn) (too_few_numbers h) (Good o d) (λ _. undone_good o d h u lrsn s) (λ _. λ e. absurd cc)
+undo_at_good o d h u lrsn s = cond_both (nat_lt lrsn (2 ^ 80)) (undone h u lrsn) (too_few_numbers h) (Good o d) (λ _. undone_good o d h u lrsn s) (λ _. tt)
 
 undo_unless_good : (o d : Logs) (h : Restart) (u : Undo) (fault : Option ℕ) → Stands o d h.plan.ends → Good o d (undo_unless h u fault)
-undo_unless_good o d h u (Some at) s = λ e. absurd cc
+undo_unless_good o d h u (Some at) s = tt
 undo_unless_good o d h u None s = undo_at_good o d h u (h.counter + 1) s
 
 undo_one_good : (o d : Logs) (h : Restart) (u : Undo) → Stands o d h.plan.ends → Good o d (undo_one h u)
@@ -100,14 +100,14 @@ take_undone_good o d h s = undo_first_good o d (with_plan h (rest_undo h.plan)) 
 
 closing_good : (o d : Logs) (h : Restart) (next : Option Closing) → Stands o d h.plan.ends → Good o d (closing_or h next)
 closing_good o d h None s = next_undo_good o d h s
-closing_good o d h (Some c) s = λ e. record { stands = s; added = (refl, tt) }
+closing_good o d h (Some c) s = record { stands = s; added = (refl, tt) }
 
 next_closing_good : (o d : Logs) (h : Restart) → Stands o d h.plan.ends → Good o d (next_closing h)
 unfolding next_closing
 next_closing_good o d h s = closing_good o d (with_plan h (rest_closings h.plan)) (slice_get h.plan.closings 0) s
 
 numbered_good : (o d : Logs) (h : Restart) → Stands o d h.plan.ends → Good o d (numbered h)
-numbered_good o d h s = cond_both (has_numbers h) (next_closing h) (too_few_numbers h) (Good o d) (λ _. next_closing_good o d h s) (λ _. λ e. absurd cc)
+numbered_good o d h s = cond_both (has_numbers h) (next_closing h) (too_few_numbers h) (Good o d) (λ _. next_closing_good o d h s) (λ _. tt)
 
 begin_undo_good : (o d : Logs) (h : Restart) → Stands o d h.plan.ends → Good o d (begin_undo h)
 unfolding begin_undo
@@ -117,14 +117,14 @@ begin_undo_good o d h s = numbered_good o d (counted h) s
 
 page_good : (o d : Logs) (h : Restart) (next : Option PageRecords) → Stands o d h.plan.ends → Good o d (page_or h next)
 page_good o d h None s = begin_undo_good o d h s
-page_good o d h (Some p) s = λ e. s
+page_good o d h (Some p) s = s
 
 next_redo_good : (o d : Logs) (h : Restart) → Stands o d h.plan.ends → Good o d (next_redo h)
 unfolding next_redo
 next_redo_good o d h s = page_good o d (with_plan h (rest_pages h.plan)) (slice_get h.plan.pages 0) s
 
 raised_good : (o d : Logs) (h : Restart) (id : PageId) (is_raised : Bool) → Stands o d h.plan.ends → Good o d (raised h id is_raised)
-raised_good o d h id true s = λ e. s
+raised_good o d h id true s = s
 raised_good o d h id false s = next_redo_good o d h s
 
 noted_stands : (o d : Logs) (h : Restart) (id : PageId) → Stands o d h.plan.ends → Stands o d (noted h id).plan.ends
@@ -135,7 +135,7 @@ unfolding take_raised
 take_raised_good o d h id is_raised s = raised_good o d (noted (numbered_by h id) id) id is_raised (noted_stands o d (numbered_by h id) id s)
 
 forwarded_good : (o d : Logs) (h : Restart) (id : PageId) (outcome : Result Bool FieldFault) → Stands o d h.plan.ends → Good o d (forwarded h id outcome)
-forwarded_good o d h id (Err fault) s = λ e. absurd cc
+forwarded_good o d h id (Err fault) s = tt
 forwarded_good o d h id (Ok is_raised) s = take_raised_good o d h id is_raised s
 
 take_page_good : (o d : Logs) (h : Restart) (id : PageId) → Stands o d h.plan.ends → Good o d (take_page h id)
@@ -154,7 +154,7 @@ none_cut o d ends (x ∷ ts) c e = absurd cc
 
 tail_good : (o d : Logs) (h : Restart) (next : Option Tail) → ((t : Tail) → next ≡ Some t → Cuts o d h.plan.ends (t ∷ h.plan.tails)) → (next ≡ None → Stands o d h.plan.ends) → Good o d (tail_or h next)
 tail_good o d h None cuts stands = next_redo_good o d h (stands refl)
-tail_good o d h (Some tail) cuts stands = λ e. cuts tail refl
+tail_good o d h (Some tail) cuts stands = cuts tail refl
 
 next_tail_good : (o d : Logs) (h : Restart) → Cuts o d h.plan.ends h.plan.tails → Good o d (next_tail h)
 unfolding next_tail
@@ -167,7 +167,7 @@ unfolding plan_of
 plan_cuts sound logs o are long = record { keeps = λ i. refl; count = count_all logs ∙ sym long; due = due_all sound logs o are long }
 
 planned_good : ReadsSound → (o : Logs) (h : Restart) (damage : Option Damaged) → AreFrom 0 h.logs o → length o ≡ length h.logs → Good o o (planned h damage)
-planned_good sound o h (Some d) are long = λ e. absurd cc
+planned_good sound o h (Some d) are long = tt
 planned_good sound o h None are long = next_tail_good o o (record h { plan = plan_read h.logs; logs = [] }) (plan_cuts sound h.logs o are long)
 
 pub take_logs_good : ReadsSound → (o : Logs) (h : Restart) → AreFrom 0 h.logs o → length o ≡ length h.logs → Good o o (take_logs h)
@@ -183,9 +183,9 @@ done_good (stage.RedoRead page) o d h after = take_page_good o d h page after
 done_good (stage.RedoWrite page) o d h after = next_redo_good o d h after
 done_good (stage.CloseAppend member) o d h after = next_closing_good o d (appended h member) after
 done_good (stage.UndoRead page) o d h after = take_undone_good o d h after
-done_good (stage.UndoAppend member page) o d h after = λ e. after
+done_good (stage.UndoAppend member page) o d h after = after
 done_good (stage.UndoWrite page) o d h after = next_undo_good o d h after
 done_good (stage.RenewRead page) o d h after = take_old_good o d h page after
 done_good (stage.RenewWrite page) o d h after = next_renewal_good o d h after
 done_good (stage.EndAppend member) o d h after = next_ending_good o d (appended h member) after
-done_good stage.End o d h after = λ e. absurd cc
+done_good stage.End o d h after = after

@@ -5,6 +5,7 @@ use Rattle.ds_disk.specs.Contents.{log_of}
 use Rattle.log_record.specs.declared.log.Log.{Log}
 use Rattle.log_reader.specs.Readers.{ReaderState}
 use Rattle.restart_plan.specs.declared.tails.Tail.{Tail}
+use Rattle.group_restart.specs.declared.calls.State.{State}
 use Rattle.group_restart.specs.declared.calls.State.TheVariants as state
 use Rattle.group_restart.specs.declared.stage.Stage.{Stage}
 use Rattle.group_restart.specs.declared.stage.Stage.TheVariants as stage
@@ -70,6 +71,12 @@ AfterCall (stage.RenewWrite page) o h d = Stands o d h.plan.ends
 AfterCall (stage.EndAppend member) o h d = Stands o d (appended h member).plan.ends
 AfterCall stage.End o h d = Stands o d h.plan.ends
 
--- where it goes on, the logs stand for the stage that it goes to
+-- where it goes on, the logs stand for the stage that it goes to; where it is done, they end where it says
+abbrev pub IsGood : State → Logs → Restart → Logs → Type 0
+IsGood state.Going o h d = Runs o h d
+IsGood (state.Done counter) o h d = Stands o d h.plan.ends
+IsGood (state.Damaged volume at) o h d = Unit {0}
+IsGood state.Failed o h d = Unit {0}
+
 abbrev pub Good : Logs → Logs → Next → Type 0
-Good o d n = n.1 ≡ state.Going → Runs o n.0 d
+Good o d n = IsGood n.1 o n.0 d

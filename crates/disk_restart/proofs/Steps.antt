@@ -1,5 +1,5 @@
 -- A step of a restart.
-use Rattle.std.proofs.Common.{◌≡◌, ℕ, ◌+◌, ◌-◌, List, ◌∷◌, ◌++◌, length, Option, Some, None, Result, Ok, Err, refl, sym, ap, subst, ◌∙◌}
+use Rattle.std.proofs.Common.{◌≡◌, ◌≢◌, ℕ, ◌+◌, ◌-◌, List, ◌∷◌, ◌++◌, length, Option, Some, None, Result, Ok, Err, refl, sym, ap, subst, ◌∙◌}
 use Rattle.std.specs.Prelude.{IfOk, take, slice_set}
 use Rattle.std.specs.List.{AllByRecursion}
 use Rattle.std.proofs.lemmas.List.{length-set}
@@ -23,63 +23,65 @@ use Rattle.group_restart.specs.Disk.{Drive, Calls, TellsLength, Cuts as CutsLog,
 use Rattle.group_restart.specs.Machine.{Restart}
 use Rattle.group_restart.specs.Course.{Next, IsBegun, TakesTold, TakesReply, appended, take_done, done}
 use Rattle.group_restart.specs.Steps.{WantsMemory, Takes, Steps}
+use Rattle.disk_restart.specs.Ends.{EndsBehind}
 use Rattle.disk_restart.specs.Keeping.{KeepsRecords}
 use Rattle.disk_restart.proofs.Told.{told_on, told_as, answered}
 use Rattle.disk_restart.proofs.Whole.{ReadsSound, IsWhole, append_kept, append_whole}
 use Rattle.disk_restart.proofs.Cutting.{Logs, Keeps, set_kept, set_whole, cut}
 use Rattle.disk_restart.proofs.Reading.{ReaderLaws, Reads, first_reads}
-use Rattle.disk_restart.proofs.Stages.{Cuts, Stands, Adds, InStage, AfterCall, Runs, Good}
+use Rattle.disk_restart.proofs.Stages.{Cuts, Stands, Adds, InStage, AfterCall, IsGood, Runs, Good}
 use Rattle.disk_restart.proofs.Going.{done_good}
 use Rattle.disk_restart.proofs.Calls.{Made, itself, kept}
 use Rattle.disk_restart.proofs.Logs.{reading_goes}
 
 -- ---- what was done is taken
 
-taken : (st : Stage) (o d : Logs) (h k : Restart) (r : Reply) (s : State) → h.stage ≡ st → AfterCall st o h d → TakesReply h r s k → r ≡ reply.Done → s ≡ state.Going → Runs o k d
+taken : (st : Stage) (o d : Logs) (h k : Restart) (r : Reply) (s : State) → h.stage ≡ st → AfterCall st o h d → TakesReply h r s k → r ≡ reply.Done → IsGood s o k d
 unfolding TakesReply
-taken st o d h k r s is after takes done going =
+taken st o d h k r s is after takes done =
     let t : TakesReply h reply.Done s k = subst (λ (q : Reply). TakesReply h q s k) done takes in
     let u : take_done h st ≡ (k, s) = subst (λ (z : Stage). take_done h z ≡ (k, s)) is t in
-    (subst (Good o d) u (done_good st o d h after)) going
+    subst (Good o d) u (done_good st o d h after)
 
--- behind the end nothing goes on
-never_on : (h k : Restart) (r : Reply) (n : ℕ) (s : State) → h.stage ≡ stage.End → TakesReply h r s k → r ≡ reply.Log (told.Length n) → s ≡ state.Going → ⊥
+-- behind the end the logs stay as they are
+stays_done : (o d : Logs) (h k : Restart) (r : Reply) (n : ℕ) (s : State) → h.stage ≡ stage.End → TakesReply h r s k → r ≡ reply.Log (told.Length n) → Stands o d h.plan.ends → IsGood s o k d
 unfolding TakesReply TakesTold
-never_on h k r n s is takes long going =
+stays_done o d h k r n s is takes long stands =
     let t : TakesReply h (reply.Log (told.Length n)) s k = subst (λ (q : Reply). TakesReply h q s k) long takes in
     let u : done h ≡ (k, s) = subst (λ (z : Stage). TakesTold z h (told.Length n) s k) is t in
-    let ends : state.Done h.counter ≡ s = ap (λ (q : Next). q.1) u in
-    cc
+    subst (Good o d) u stands
 
-module _ (sound : ReadsSound) (laws : ReaderLaws) (o : Logs) (h k x : Restart) (w v : Drive) (r : Reply) (s : State) (c : Contents) (is : w.contents ≡ Some c) (takes : TakesReply x r s k) (going : s ≡ state.Going) where
+module _ (sound : ReadsSound) (laws : ReaderLaws) (o : Logs) (h k x : Restart) (w v : Drive) (r : Reply) (s : State) (c : Contents) (is : w.contents ≡ Some c) (takes : TakesReply x r s k) where
   abbrev Goes : Type 0
-  Goes = Becomes (Some c) v.contents (λ _ d. Runs o k d.logs)
+  Goes = Becomes (Some c) v.contents (λ _ d. IsGood s o k d.logs)
 
   takes_as : (y : Restart) → x ≡ y → TakesReply y r s k
   takes_as y e = subst (λ (z : Restart). TakesReply z r s k) e takes
 
   page_goes : (st : Stage) (id : PageId) → h.stage ≡ st → AfterCall st o (with_page h x.page) c.logs → ReadsPage id x.page w (Ok r) v → x ≡ with_page h x.page → Goes
-  page_goes st id at after a same = answered c r (λ d. Runs o k d.logs) is a (λ d e.
+  page_goes st id at after a same = answered c r (λ d. IsGood s o k d.logs) is a (λ d e.
       let logs = sym (ap (λ (z : Contents). z.logs) e.1) in
-      taken st o d.logs (with_page h x.page) k r s at (subst (AfterCall st o (with_page h x.page)) logs after) (takes_as (with_page h x.page) same) e.0 going)
+      taken st o d.logs (with_page h x.page) k r s at (subst (AfterCall st o (with_page h x.page)) logs after) (takes_as (with_page h x.page) same) e.0)
 
   written_goes : (st : Stage) (id : PageId) → h.stage ≡ st → AfterCall st o h c.logs → WritesPage id h.page w (Ok r) v → x ≡ h → Goes
-  written_goes st id at after a same = answered c r (λ d. Runs o k d.logs) is a (λ d e.
+  written_goes st id at after a same = answered c r (λ d. IsGood s o k d.logs) is a (λ d e.
       let logs = sym (ap (λ (z : Contents). z.logs) e.1) in
-      taken st o d.logs h k r s at (subst (AfterCall st o h) logs after) (takes_as h same) e.0 going)
+      taken st o d.logs h k r s at (subst (AfterCall st o h) logs after) (takes_as h same) e.0)
 
   cut_goes : (st : Stage) (member n : ℕ) → h.stage ≡ st → AfterCall st o h (slice_set c.logs (member - 1) (take n (log_of c.logs member))) → CutsLog member n w (Ok r) v → x ≡ h → Goes
-  cut_goes st member n at after a same = answered c r (λ d. Runs o k d.logs) is a (λ d e.
+  cut_goes st member n at after a same = answered c r (λ d. IsGood s o k d.logs) is a (λ d e.
       let logs = sym (ap (λ (z : Contents). z.logs) e.1) in
-      taken st o d.logs h k r s at (subst (AfterCall st o h) logs after) (takes_as h same) e.0 going)
+      taken st o d.logs h k r s at (subst (AfterCall st o h) logs after) (takes_as h same) e.0)
 
   append_goes : (st : Stage) (member : ℕ) → h.stage ≡ st → AfterCall st o h (slice_set c.logs (member - 1) (log_of c.logs member ++ log_bytes h.added)) → Appends member (log_bytes h.added) w (Ok r) v → x ≡ h → Goes
-  append_goes st member at after a same = answered c r (λ d. Runs o k d.logs) is a (λ d e.
+  append_goes st member at after a same = answered c r (λ d. IsGood s o k d.logs) is a (λ d e.
       let logs = sym (ap (λ (z : Contents). z.logs) e.1) in
-      taken st o d.logs h k r s at (subst (AfterCall st o h) logs after) (takes_as h same) e.0 going)
+      taken st o d.logs h k r s at (subst (AfterCall st o h) logs after) (takes_as h same) e.0)
 
-  end_goes : h.stage ≡ stage.End → TellsLength h.reader.member w (Ok r) v → x ≡ h → Goes
-  end_goes at a same = answered c r (λ d. Runs o k d.logs) is a (λ d e. absurd (never_on h k r (length (log_of c.logs h.reader.member)) s at (takes_as h same) e.1 going))
+  end_goes : h.stage ≡ stage.End → Stands o c.logs h.plan.ends → TellsLength h.reader.member w (Ok r) v → x ≡ h → Goes
+  end_goes at stands a same = answered c r (λ d. IsGood s o k d.logs) is a (λ d e.
+      let logs = sym (ap (λ (z : Contents). z.logs) e.0) in
+      stays_done o d.logs h k r (length (log_of c.logs h.reader.member)) s at (takes_as h same) e.1 (subst (λ (ls : Logs). Stands o ls h.plan.ends) logs stands))
 
   after_append : (member : ℕ) → Adds o c.logs h.plan.ends member h.added → AllByRecursion IsAllowed h.added → Stands o (slice_set c.logs (member - 1) (log_of c.logs member ++ log_bytes h.added)) (appended h member).plan.ends
   after_append member i allowed =
@@ -101,7 +103,7 @@ module _ (sound : ReadsSound) (laws : ReaderLaws) (o : Logs) (h k x : Restart) (
       record { keeps = set_kept o c.logs (tail.member - 1) front i.keeps i.due.0; count = i.count ∙ sym (length-set c.logs (tail.member - 1) front); due = i.due.1 }
 
   pub goes : (st : Stage) → h.stage ≡ st → InStage st o h c.logs → Calls h (call_in st h) w (Ok r) v x → Goes
-  goes stage.ReadLog at i calls = reading_goes sound laws o h k x w v r s c is at i going calls takes
+  goes stage.ReadLog at i calls = reading_goes sound laws o h k x w v r s c is at i calls takes
   goes (stage.CutTail tail) at i calls = cut_goes (stage.CutTail tail) tail.member tail.length at (after_cut tail i) calls.0 calls.1
   goes (stage.RedoRead page) at i calls = page_goes (stage.RedoRead page) page at i calls.0 calls.1
   goes (stage.RedoWrite page) at i calls = written_goes (stage.RedoWrite page) page at i calls.0 calls.1
@@ -112,20 +114,20 @@ module _ (sound : ReadsSound) (laws : ReaderLaws) (o : Logs) (h k x : Restart) (
   goes (stage.RenewRead page) at i calls = page_goes (stage.RenewRead page) page at i calls.0 calls.1
   goes (stage.RenewWrite page) at i calls = written_goes (stage.RenewWrite page) page at i calls.0 calls.1
   goes (stage.EndAppend member) at i calls = append_goes (stage.EndAppend member) member at (after_append member i calls.2) calls.0 calls.3
-  goes stage.End at i calls = end_goes at calls.0 calls.1
+  goes stage.End at i calls = end_goes at i calls.0 calls.1
 
 -- ---- a step
 
-made_goes : ReadsSound → ReaderLaws → (o : Logs) (h k x : Restart) (w v : Drive) (made : Made) (result : Result State NoMemory) (c : Contents) → w.contents ≡ Some c → Runs o h c.logs → Calls h (call_of h) w made v x → Takes x made result k → result ≡ Ok state.Going
-    → Becomes (Some c) v.contents (λ _ d. Runs o k d.logs)
-made_goes sound laws o h k x w v (Ok r) result c is runs calls takes going =
-    let t : TakesReply x r state.Going k = subst (λ (z : Result State NoMemory). IfOk z (λ s. TakesReply x r s k)) going takes in
-    goes sound laws o h k x w v r state.Going c is t refl h.stage refl runs calls
-made_goes sound laws o h k x w v (Err failures.Failed) result c is runs calls takes going =
-    let failed : Ok state.Failed ≡ Ok state.Going = sym takes.0 ∙ going in
-    absurd cc
-made_goes sound laws o h k x w v (Err failures.NoMemory) result c is runs calls takes going =
-    absurd (subst WantsMemory going takes.0)
+made_goes : ReadsSound → ReaderLaws → (o : Logs) (h k x : Restart) (w v : Drive) (made : Made) (result : Result State NoMemory) (c : Contents) → w.contents ≡ Some c → Runs o h c.logs → Calls h (call_of h) w made v x → Takes x made result k
+    → (s : State) → result ≡ Ok s → s ≢ state.Failed → Becomes (Some c) v.contents (λ _ d. IsGood s o k d.logs)
+made_goes sound laws o h k x w v (Ok r) result c is runs calls takes s told unfailed =
+    let t : TakesReply x r s k = subst (λ (z : Result State NoMemory). IfOk z (λ (q : State). TakesReply x r q k)) told takes in
+    goes sound laws o h k x w v r s c is t h.stage refl runs calls
+made_goes sound laws o h k x w v (Err failures.Failed) result c is runs calls takes s told unfailed =
+    let same : Ok s ≡ Ok state.Failed = sym told ∙ takes.0 in
+    absurd (unfailed cc)
+made_goes sound laws o h k x w v (Err failures.NoMemory) result c is runs calls takes s told unfailed =
+    absurd (subst WantsMemory told takes.0)
 
 abbrev pub RunsOn : Contents → Restart → Contents → Type 0
 RunsOn o h c = Runs o.logs h c.logs
@@ -141,7 +143,19 @@ begun laws (Some c) h law is =
 
 pub step_goes : ReadsSound → ReaderLaws → (before : Option Contents) (w v : Drive) (h k : Restart) (result : Result State NoMemory) → Alive before h w.contents → Steps w h result v k → result ≡ Ok state.Going → Alive before k v.contents
 step_goes sound laws before w v h k result runs step going =
-    told_on (λ o c. RunsOn o h c) (λ o c. RunsOn o k c) before w.contents v.contents runs (λ o c is now. made_goes sound laws o.logs h k step.after w v step.made result c is now step.calls step.takes going)
+    told_on (λ o c. RunsOn o h c) (λ o c. RunsOn o k c) before w.contents v.contents runs (λ o c is now. made_goes sound laws o.logs h k step.after w v step.made result c is now step.calls step.takes state.Going going (λ e. cc))
+
+-- where it is done, each log ends where it says
+ends_there : (o : Logs) (k : Restart) (d : Contents) → Stands o d.logs k.plan.ends → EndsBehind k d
+ends_there o k d stands = λ member. let whole = stands.whole (member - 1) in
+    record { long = sym whole.size_is; whole = record { records = whole.records; spelled = whole.spelled; allowed = whole.allowed } }
+
+pub step_ends : ReadsSound → ReaderLaws → (before : Option Contents) (w v : Drive) (h k : Restart) (result : Result State NoMemory) (counter : ℕ) → Alive before h w.contents → Steps w h result v k → result ≡ Ok (state.Done counter)
+    → Becomes before v.contents (λ _ d. EndsBehind k d)
+step_ends sound laws before w v h k result counter runs step done =
+    told_on (λ o c. RunsOn o h c) (λ _ d. EndsBehind k d) before w.contents v.contents runs
+    (λ o c is now. told_as c v.contents (λ d. Stands o.logs d.logs k.plan.ends) (EndsBehind k) (ends_there o.logs k)
+    (made_goes sound laws o.logs h k step.after w v step.made result c is now step.calls step.takes (state.Done counter) done (λ e. cc)))
 
 keeps_of : (o : Contents) (d : Contents) → Keeps o.logs d.logs → KeepsRecords o d
 keeps_of o d keeps = λ member. keeps (member - 1)

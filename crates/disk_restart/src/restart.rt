@@ -1,8 +1,9 @@
-ghost use Rattle.std.specs.Prelude.{◌≡◌, ◌≢◌, ◌≤◌, Ok, IfOk};
+ghost use Rattle.std.specs.Prelude.{◌≡◌, ◌≢◌, ◌≤◌, ℕ, Ok, IfOk};
 ghost use Rattle.ds_base.specs.Causes.{Rose};
 ghost use Rattle.ds_disk.specs.Contents.{Becomes};
 ghost use Rattle.group_restart.specs.Course.{IsBegun};
 ghost use Rattle.group_restart.specs.declared.calls.State.TheVariants as state;
+ghost use Rattle.disk_restart.specs.Ends.{EndsBehind};
 ghost use Rattle.disk_restart.specs.Keeping.{KeepsRecords};
 
 use crate::laws::keeping_laws;
@@ -16,7 +17,7 @@ use std::alloc::Global;
 /// Runs a group restart that has only begun to its end.
 ///
 /// Whatever its end, also where a call of the disk fails or memory is wanting, each log has the row changes, the page changes
-/// for no transaction and the commits that it had.
+/// for no transaction and the commits that it had. Where it is done, each log is whole records, and ends where it says.
 pub fn run_restart<D: Disk>(
     alloc: Global,
     disk: &mut D,
@@ -27,6 +28,7 @@ pub fn run_restart<D: Disk>(
     ensures failed { result ≡ Ok state.Failed → Rose (D.faults disk.old) (D.faults disk.new) }
     ensures ends { IfOk result (λ s. s ≢ state.Going) }
     ensures keeps { Becomes (D.contents disk.old) (D.contents disk.new) KeepsRecords }
+    ensures there { (counter : ℕ) → result ≡ Ok (state.Done counter) → Becomes (D.contents disk.old) (D.contents disk.new) (λ _ c. EndsBehind restart.new c) }
 {
     log_laws();
     reader_laws();

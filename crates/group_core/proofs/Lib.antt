@@ -5,3 +5,4 @@ pub mod Taking
 mod Owning
 mod Taken
 pub mod Crossing
+mod Known

@@ -1,16 +1,17 @@
 -- What an event of the group itself comes to.
-use Rattle.std.proofs.Common.{◌≡◌, ◌≢◌, ℕ, Bool, false, length, Option, Some, None, IfSome, slice_get, refl, sym, subst}
+use Rattle.std.proofs.Common.{◌≡◌, ◌≢◌, ℕ, Bool, false, List, length, Option, Some, None, IfSome, slice_get, refl, sym, subst}
 use Rattle.ds_disk.specs.Contents.{Contents}
 use Rattle.cache_structure.specs.Directory.{Directory}
 use Rattle.group_restart.specs.Machine.{Restart}
 use Rattle.group_crew.specs.declared.crew.Crew.{Crew}
 use Rattle.group_crew.specs.Beginning.{BeginsNext, CannotBegin}
 use Rattle.group_crew.specs.Failing.{GroupFails, fail_counted}
+use Rattle.group_crew.specs.Happening.{MemberPart}
 use Rattle.group_crew.specs.States.{CrewState, crew_state}
 use Rattle.group_core.specs.declared.fault.RunFault.{RunFault}
 use Rattle.group_core.specs.declared.fault.RunFault.TheVariants as fault
 use Rattle.group_core.specs.Goes.{ends_failed}
-use Rattle.group_core.specs.Restarts.{RestartSteps}
+use Rattle.group_core.specs.Restarts.{RestartSteps, StepIsKnown}
 use Rattle.group_core.specs.Takes.{BeginsOrNot, TakesOwn}
 
 pub own_begun : {C D P : Type 0} (directory : C → Directory) (alive : D → Bool) (contents : D → Option Contents) (old new : Crew C P) (disk : D) (place : ℕ)
@@ -65,6 +66,11 @@ own_stepped directory alive contents why old new disk left place failed failure 
 pub steps_in_hand : {D : Type 0} (alive : D → Bool) (contents : D → Option Contents) (why : Option RunFault) (old : CrewState) (o : Option Restart) (restart : Restart) (disk : D) (new : CrewState) (left : D)
     → o ≡ Some restart → RestartSteps alive contents why old restart disk new left → IfSome o (λ r. RestartSteps alive contents why old r disk new left)
 steps_in_hand alive contents why old o restart disk new left is it = subst (λ (p : Option Restart). IfSome p (λ r. RestartSteps alive contents why old r disk new left)) (sym is) it
+
+-- what is known behind the restart in hand
+pub known_in_hand : {D P : Type 0} (alive : D → Bool) (contents : D → Option Contents) (o : Option Restart) (restart : Restart) (disk left : D) (old new : List (MemberPart P))
+    → o ≡ Some restart → StepIsKnown alive contents restart disk left old new → IfSome o (λ r. StepIsKnown alive contents r disk left old new)
+known_in_hand alive contents o restart disk left old new is it = subst (λ (p : Option Restart). IfSome p (λ r. StepIsKnown alive contents r disk left old new)) (sym is) it
 
 -- ---- what is ready was found again
 

@@ -1,11 +1,11 @@
 //! The events of the group itself.
 
-ghost use Rattle.std.specs.Prelude.{◌≡◌, ◌≢◌, ◌≤◌, ℕ, true, false, None, Some, OnOk, IfOk};
+ghost use Rattle.std.specs.Prelude.{◌≡◌, ◌≢◌, ◌≤◌, ℕ, true, false, None, Some, OnOk, IfOk, IfSome};
 ghost use Rattle.ds_base.specs.Causes.{Rose};
 ghost use Rattle.group_core.specs.declared.fault.RunFault.TheVariants as fault;
 ghost use Rattle.group_core.specs.Goes.{ends_failed};
 ghost use Rattle.group_core.specs.Moves.{Moves};
-ghost use Rattle.group_core.specs.Restarts.{EntersRestart, is_stopped};
+ghost use Rattle.group_core.specs.Restarts.{EntersRestart, KnowBehind, StepIsKnown, is_stopped};
 ghost use Rattle.group_core.specs.Takes.{TakesOwn};
 ghost use Rattle.group_crew.specs.States.{crew_state};
 
@@ -60,6 +60,7 @@ impl<D: Disk, C: CacheFace, P: Policy> Group<D, C, P> {
         requires { self.old.fault ≡ None }
         ensures moves { OnOk result (Moves C.directory 128 self.old.crew self.new.crew self.new.fault) }
         ensures enters { OnOk result (EntersRestart reached.now self.new.fault (crew_state C.directory self.old.crew) (crew_state C.directory self.new.crew)) }
+        ensures known { OnOk result (KnowBehind reached.now self.old.crew.restart self.old.crew.parts.items self.new.crew.parts.items) }
         ensures failed { OnOk result (is_stopped reached.now ≡ ends_failed self.new.fault) }
         ensures lawful { (at : ℕ) → self.new.fault ≢ Some (fault.Unlawful at) }
         ensures rest { self.new ≡ record self.old { crew = self.new.crew; fault = self.new.fault } }
@@ -81,6 +82,7 @@ impl<D: Disk, C: CacheFace, P: Policy> Group<D, C, P> {
         requires { self.old.fault ≡ None }
         ensures moves { OnOk result (Moves C.directory 128 self.old.crew self.new.crew self.new.fault) }
         ensures leads { IfOk result (λ failed. TakesOwn C.directory D.alive D.contents self.new.fault self.old.crew self.old.disk 128 place failed self.new.crew self.new.disk) }
+        ensures known { OnOk result (IfSome self.old.crew.restart (λ restart. StepIsKnown D.alive D.contents restart self.old.disk self.new.disk self.old.crew.parts.items self.new.crew.parts.items)) }
         ensures later { D.faults self.old.disk ≤ D.faults self.new.disk }
         ensures rose { IfOk result (λ failed. failed ≡ true → Rose (D.faults self.old.disk) (D.faults self.new.disk)) }
         ensures rest { self.new ≡ record self.old { disk = self.new.disk; crew = self.new.crew; lines = self.new.lines; fault = self.new.fault } }

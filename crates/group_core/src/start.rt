@@ -4,7 +4,7 @@ ghost use Rattle.cache_structure.specs.Directory.{empty_directory};
 ghost use Rattle.ds_disk.specs.Contents.{Becomes};
 ghost use Rattle.disk_restart.specs.Keeping.{KeepsRecords};
 ghost use Rattle.group_core.specs.declared.fault.RunFault.TheVariants as fault;
-ghost use Rattle.group_core.specs.Starts.{IsFresh};
+ghost use Rattle.group_core.specs.Starts.{AllKnowDisk, EndsKnown, IsFresh};
 ghost use Rattle.group_restart.specs.declared.calls.State.TheVariants as state;
 
 use crate::fault::{RunFault, StartFault};
@@ -21,6 +21,7 @@ use std::alloc::Global;
 
 // The greatest number that was drawn for a log record, where a group restart has ended well.
 fn counter_of(ended: &State) -> Result<Lrsn, RunFault>
+    ensures done { IfOk result (λ counter. ended.now ≡ state.Done counter) }
     ensures failed { IfErr result (λ why. why ≡ fault.Failed → ended.now ≡ state.Failed) }
     ensures lawful { IfErr result (λ why. (at : ℕ) → why ≢ fault.Unlawful at) }
 {
@@ -32,9 +33,18 @@ fn counter_of(ended: &State) -> Result<Lrsn, RunFault>
     }
 }
 
-// Runs the group restart that opens the disk. Answers the greatest number, and where the logs end.
-fn open_disk<D: Disk>(alloc: Global, disk: &mut D) -> Result<(Lrsn, KnownEnds), RunFault>
+// What the group restart leaves that opens a disk.
+#[derive(Drop)]
+struct Opened {
+    counter: Lrsn,
+    /// Where the logs end.
+    known: KnownEnds,
+}
+
+// Runs the group restart that opens the disk.
+fn open_disk<D: Disk>(alloc: Global, disk: &mut D) -> Result<Opened, RunFault>
     ensures keeps { Becomes (D.contents disk.old) (D.contents disk.new) KeepsRecords }
+    ensures ends { IfOk result (λ opened. Becomes (D.contents disk.old) (D.contents disk.new) (λ _ c. EndsKnown opened.known c)) }
     ensures later { D.faults disk.old ≤ D.faults disk.new }
     ensures failed { IfErr result (λ why. why ≡ fault.Failed → Rose (D.faults disk.old) (D.faults disk.new)) }
     ensures lawful { IfErr result (λ why. (at : ℕ) → why ≢ fault.Unlawful at) }
@@ -45,7 +55,10 @@ fn open_disk<D: Disk>(alloc: Global, disk: &mut D) -> Result<(Lrsn, KnownEnds), 
     };
     match run_restart(alloc, disk, &mut restart) {
         Ok(ended) => match counter_of(&ended) {
-            Ok(counter) => Ok((counter, ends_behind(&restart))),
+            Ok(counter) => Ok(Opened {
+                counter,
+                known: ends_behind(&restart),
+            }),
             Err(why) => Err(why),
         },
         Err(_) => Err(RunFault::NoMemory),
@@ -53,7 +66,8 @@ fn open_disk<D: Disk>(alloc: Global, disk: &mut D) -> Result<(Lrsn, KnownEnds), 
 }
 
 impl<D: Disk, C: CacheFace + Drop, P: Policy + Drop> Group<D, C, P> {
-    /// A group whose members have these policies, over an empty cache, and a disk that a group restart has opened.
+    /// A group whose members have these policies, over an empty cache, and a disk that a group restart has opened. They know where
+    /// its logs end.
     pub fn start(
         alloc: Global,
         disk: D,
@@ -66,6 +80,7 @@ impl<D: Disk, C: CacheFace + Drop, P: Policy + Drop> Group<D, C, P> {
         requires cache { C.directory cache ≡ empty_directory sizes.now.cache sizes.now.pool }
         ensures disk { IfOk result (λ group. D.faults disk ≤ D.faults group.disk) }
         ensures keeps { IfOk result (λ group. Becomes (D.contents disk) (D.contents group.disk) KeepsRecords) }
+        ensures known { IfOk result (λ group. AllKnowDisk (D.contents disk) (D.contents group.disk) group.crew.parts.items) }
         ensures fault { IfOk result (λ group. group.fault ≡ None) }
         ensures faults { IfOk result (λ group. group.faults.items ≡ []) }
         ensures journal { IfOk result (λ group. group.journal.items ≡ []) }
@@ -77,23 +92,30 @@ impl<D: Disk, C: CacheFace + Drop, P: Policy + Drop> Group<D, C, P> {
         ensures lawful { IfErr result (λ why. (at : ℕ) → why.why ≢ fault.Unlawful at) }
     {
         let mut disk = disk;
-        let (counter, known) = match open_disk(alloc, &mut disk) {
-            Ok(opened) => opened,
-            Err(why) => return Err(StartFault { disk, why }),
-        };
-        match Crew::new(alloc, cache, sizes, counter, &known, script, policies) {
-            Ok(crew) => Ok(Group {
-                disk,
-                crew,
-                journal: Vec::new(alloc),
-                lines: None,
-                faults: Vec::new(alloc),
-                fault: None,
-            }),
-            Err(_) => Err(StartFault {
-                disk,
-                why: RunFault::NoMemory,
-            }),
+        match open_disk(alloc, &mut disk) {
+            Err(why) => Err(StartFault { disk, why }),
+            Ok(opened) => match Crew::new(
+                alloc,
+                cache,
+                sizes,
+                opened.counter,
+                &opened.known,
+                script,
+                policies,
+            ) {
+                Ok(crew) => Ok(Group {
+                    disk,
+                    crew,
+                    journal: Vec::new(alloc),
+                    lines: None,
+                    faults: Vec::new(alloc),
+                    fault: None,
+                }),
+                Err(_) => Err(StartFault {
+                    disk,
+                    why: RunFault::NoMemory,
+                }),
+            },
         }
     }
 }

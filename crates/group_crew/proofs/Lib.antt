@@ -5,3 +5,4 @@ pub mod Begun
 pub mod Anew
 pub mod Made
 pub mod Crossing
+pub mod Known

@@ -4,6 +4,7 @@ use Rattle.std.specs.List.{list_any}
 use Rattle.ds_base.specs.declared.names.TranId.{TranId}
 use Rattle.ds_model.specs.declared.script.Part.{Part}
 use Rattle.ds_model.specs.declared.script.Phase.{Phase}
+use Rattle.checkpoint_reader.specs.Ends.{end_of}
 use Rattle.list_structure.specs.declared.standing.MemberStatus.{MemberStatus}
 use Rattle.list_structure.specs.declared.standing.MemberStatus.TheVariants as statuses
 use Rattle.list_structure.specs.Standings.{status_of}
@@ -14,7 +15,7 @@ use Rattle.script_fates.specs.Fated.{StopsOnly, has_tran}
 use Rattle.group_member.specs.declared.part.MemberPart.{MemberPart}
 use Rattle.group_member.specs.Happening.{Held}
 use Rattle.group_member.specs.Members.{Member}
-use Rattle.group_member.specs.Restarting.{IsNew}
+use Rattle.group_member.specs.Restarting.{IsNew, KnowsTo}
 use Rattle.script_phases.specs.Phases.{is_failed, is_left_out, last_raiser, raises_in, restarts_in}
 use Rattle.group_crew.specs.States.{CrewState}
 
@@ -30,9 +31,10 @@ pub record Kept : Type 0 where
 abbrev pub kept_by : {P : Type 0} → MemberPart P → Kept
 kept_by {P} part = record { id = part.id; holds = part.resources }
 
--- The member is restarting, and nothing of its restart is done. The bells ring.
+-- The member is restarting, and nothing of its restart is done, but that it knows where the member's log ends. The bells ring.
 pub record RestartBegins {P : Type 0} (old : MemberPart P) (lists : ListsState) (new : MemberPart P) (now : ListsState) : Type 0 where
   pub fresh : IsSomeAnd new.restart (λ r. IsNew old.id r.resources)
+  pub known : IsSomeAnd new.restart (λ r. KnowsTo (end_of old.known old.id) r.resources)
   pub lists_are : now ≡ record lists { statuses = slice_set lists.statuses (old.id - 1) statuses.Restarting; bells = rung lists.bells }
 
 -- ---- the bells

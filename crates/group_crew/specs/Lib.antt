@@ -6,3 +6,4 @@ pub mod Failing
 pub mod Happening
 pub mod Sendings
 pub mod Making
+pub mod Ends

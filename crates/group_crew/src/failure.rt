@@ -6,6 +6,7 @@ ghost use Rattle.facility.specs.States.{held, IsReset};
 ghost use Rattle.group_restart.specs.Steps.{Steps};
 ghost use Rattle.group_restart.specs.declared.calls.State.TheVariants as state;
 ghost use Rattle.group_member.specs.Members.{IsDown, member_of};
+ghost use Rattle.group_crew.specs.Ends.{AllKnow, AllKnowEnds, AreEndsIn};
 ghost use Rattle.group_crew.specs.Failing.{BeginsAnew, GroupFails, StopsLast, drive_of, last_begun};
 ghost use Rattle.group_crew.specs.States.{crew_state};
 
@@ -36,6 +37,7 @@ fn reset_all<P: Policy>(
 ) -> Result<(), NoMemory>
     ensures down { OnOk result (All (λ part. IsDown sizes.now.sizes (member_of part)) parts.new) }
     ensures same { map (λ part. part.id) parts.new ≡ map (λ part. part.id) parts.old }
+    ensures known { OnOk result (AllKnow known.now parts.new) }
 {
     for part in parts {
         part.reset(alloc, sizes)?;
@@ -88,18 +90,21 @@ impl<C: CacheFace, P: Policy> Crew<C, P> {
     }
 
     // Where the logs end behind the group restart in hand.
-    fn ends(&self) -> KnownEnds {
+    fn ends(&self) -> KnownEnds
+        ensures { AreEndsIn self.now.restart result }
+    {
         match &self.restart {
             Some(restart) => ends_behind(restart),
             None => KnownEnds::nothing(),
         }
     }
 
-    /// The group restart is done, with this counter. All begin anew.
+    /// The group restart is done, with this counter. All begin anew, and know where the logs end behind it.
     pub fn reset(&mut self, alloc: Global, counter: Lrsn) -> Result<(), NoMemory>
         ensures anew { OnOk result (BeginsAnew counter (crew_state C.directory self.old) (crew_state C.directory self.new)) }
         ensures facility { IsReset (held C.directory self.old.facility) counter (held C.directory self.new.facility) }
         ensures members { OnOk result (All (λ part. IsDown self.old.sizes.sizes (member_of part)) self.new.parts.items) }
+        ensures known { OnOk result (AllKnowEnds self.old.restart self.new.parts.items) }
         ensures restart { self.new.restart ≡ None }
         ensures others { self.new ≡ record self.old { facility = self.new.facility; parts = self.new.parts; restart = self.new.restart; is_own_stale = true; was_half = self.new.was_half } }
     {

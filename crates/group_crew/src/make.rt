@@ -1,6 +1,7 @@
 ghost use Rattle.std.specs.Prelude.{◌≡◌, ◌≤◌, ◌+◌, ℕ, All, None, IfOk, IfSome};
 ghost use Rattle.cache_structure.specs.Directory.{empty_directory};
 ghost use Rattle.group_member.specs.Members.{IsDown, member_of};
+ghost use Rattle.group_crew.specs.Ends.{AllKnow};
 ghost use Rattle.group_crew.specs.Happening.{member_at};
 ghost use Rattle.group_crew.specs.Making.{IsNewCrew};
 
@@ -24,6 +25,7 @@ fn make_parts<P: Policy + Drop>(
     requires { (1 ≤ sizes.now.locks) × (1 ≤ sizes.now.pool) }
     ensures down { IfOk result (λ parts. All (λ part. IsDown sizes.now (member_of part)) parts.items) }
     ensures numbered { IfOk result (λ parts. (k : ℕ) → IfSome (member_at parts.items k) (λ m. m.id ≡ k + 1)) }
+    ensures known { IfOk result (λ parts. AllKnow known.now parts.items) }
 {
     let mut parts = Vec::new(alloc);
     let mut number = 0u64;
@@ -62,6 +64,7 @@ fn make_crew<C: CacheFace + Drop, P: Policy + Drop>(
     ensures counter { IfOk result (λ crew. crew.facility.counter ≡ counter) }
     ensures script { IfOk result (λ crew. crew.script ≡ script) }
     ensures sized { IfOk result (λ crew. crew.sizes.sizes ≡ sizes.now) }
+    ensures known { IfOk result (λ crew. AllKnow known.now crew.parts.items) }
 {
     let facility = Facility::new(alloc, sizes, cache, counter)?;
     let parts = make_parts(alloc, sizes, known, policies)?;
@@ -97,6 +100,7 @@ impl<C: CacheFace + Drop, P: Policy + Drop> Crew<C, P> {
         ensures counter { IfOk result (λ crew. crew.facility.counter ≡ counter) }
         ensures script { IfOk result (λ crew. crew.script ≡ script) }
         ensures sized { IfOk result (λ crew. crew.sizes.sizes ≡ sizes.now) }
+        ensures known { IfOk result (λ crew. AllKnow known.now crew.parts.items) }
     {
         let mut crew = make_crew(alloc, cache, sizes, counter, known, script, policies)?;
         crew.find_ready();

@@ -10,7 +10,7 @@ use Rattle.ds_model.proofs.script.Script.TheSendSync.{the_field_send as script_f
 use Rattle.group_restart.proofs.machine.GroupRestart.TheSendSync.{the_send as group_restart}
 use Rattle.script_phases.proofs.progress.Progress.TheSendSync.{the_field_send as progress_field}
 use Rattle.facility.specs.contracts.facility.Facility as Facility
-use Rattle.group_core.proofs.Crossing.{line, rebuilding, restarting, sizes_field}
+use Rattle.group_core.proofs.Crossing.{known_ends, line, rebuilding, restarting, sizes_field}
 use Rattle.group_core.proofs.Crossing.Resources as Resources
 use Rattle.group_core.proofs.Crossing.MemberPart as MemberPart
 use Rattle.group_core.proofs.Crossing.Crew as Crew
@@ -25,7 +25,7 @@ abbrev pub IsSendField : denote.Struct.Field.Field → Type 0
 IsSendField f = IsSend f.row
 
 pub part_field : (P : RattleType) → IsSend P → IsSendField (MemberPart.the_field P)
-part_field P p = search (resources, restarting, rebuilding, sendable, crosses) depth 400 fits 200000
+part_field P p = search (resources, restarting, rebuilding, known_ends, sendable, crosses) depth 400 fits 200000
 
 pub facility_field : (C : RattleType) → IsSend C → IsSendField (Facility.the_field C)
 facility_field C c = search (lock_structure, lists, sendable, crosses) depth 400 fits 200000

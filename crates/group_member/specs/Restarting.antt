@@ -3,8 +3,8 @@ use Rattle.std.specs.Prelude.{◌≡◌, Bool, false, Option, Some, None, IsSome
 use Rattle.member_resources.specs.Held.{Held}
 use Rattle.restart_marks.specs.Adopt.{adopted_told}
 use Rattle.restart_marks.specs.declared.adopt.Adopted.{Adopted}
--- given out again: nothing of a restart is done
-pub use Rattle.member_restart.specs.Held.{IsNew}
+-- given out again: nothing of a restart is done, and up to where the member's log is known to be whole records
+pub use Rattle.member_restart.specs.Held.{IsNew, KnowsTo}
 use Rattle.group_member.specs.declared.restarting.Restarting.{Restarting}
 use Rattle.group_member.specs.Adopting.{MayNotAdopt}
 use Rattle.group_member.specs.Happening.{GoesOn, HandsOver, Takes}

@@ -27,6 +27,7 @@ use std::alloc::Global;
 // A rebuild is in hand.
 fn begin<P>(alloc: Global, part: &mut MemberPart<P>) -> Result<(), NoMemory>
     ensures begun { OnOk result (IsSomeAnd part.new.rebuild (IsInHand part.old.id part.old.rebuild)) }
+    ensures known { part.old.rebuild ≡ None → OnOk result (IsSomeAnd part.new.rebuild (λ r. r.resources.known ≡ part.old.known)) }
     ensures rest { part.new ≡ record part.old { rebuild = part.new.rebuild } }
 {
     if part.rebuild.is_none() {

@@ -1,4 +1,4 @@
-ghost use Rattle.std.specs.Prelude.{IfOk};
+ghost use Rattle.std.specs.Prelude.{◌≡◌, IfOk};
 ghost use Rattle.rebuild_resources.specs.State.{IsNewRebuild};
 
 use cache_rebuild::{CacheRebuild, Ended};
@@ -17,7 +17,8 @@ pub struct Rebuilding {
 impl Rebuilding {
     /// Nothing is claimed yet. Up to these ends the logs are known to be whole records.
     pub fn new(alloc: Global, member: MemberId, known: &KnownEnds) -> Result<Rebuilding, NoMemory>
-        ensures { IfOk result (λ rebuilding. IsNewRebuild member rebuilding.resources) }
+        ensures fresh { IfOk result (λ rebuilding. IsNewRebuild member rebuilding.resources) }
+        ensures known { IfOk result (λ rebuilding. rebuilding.resources.known ≡ known.now) }
     {
         Ok(Rebuilding {
             resources: Rebuild::new(alloc, member, known)?,

@@ -1,5 +1,5 @@
 ghost use Rattle.std.specs.Prelude.{◌≡◌, IfOk};
-ghost use Rattle.member_restart.specs.Held.{IsNew};
+ghost use Rattle.member_restart.specs.Held.{IsNew, KnowsTo};
 ghost use Rattle.group_member.specs.Happening.{Takes};
 ghost use Rattle.group_member.specs.Queries.{is_claimed_in};
 
@@ -19,7 +19,8 @@ pub struct Restarting {
 impl Restarting {
     /// Nothing is done yet, and the member's log is known to be whole records up to this byte.
     pub fn new(alloc: Global, member: MemberId, known: u64) -> Result<Restarting, NoMemory>
-        ensures { IfOk result (λ restarting. IsNew member restarting.resources) }
+        ensures fresh { IfOk result (λ restarting. IsNew member restarting.resources) }
+        ensures known { IfOk result (λ restarting. KnowsTo known restarting.resources) }
     {
         Ok(Restarting {
             resources: RestartResources::new(alloc, member, known)?,

@@ -7,3 +7,4 @@ pub mod Disk
 pub mod Going
 pub mod Course
 pub mod Steps
+pub mod Ends

@@ -1,10 +1,10 @@
 ghost use Rattle.std.specs.Prelude.{◌≡◌, ◌≤◌, [], Ok, IfOk, IsErrOf};
 ghost use Rattle.ds_base.specs.Causes.{Rose};
 ghost use Rattle.ds_disk.specs.declared.disk.DiskError.TheVariants.{Failed};
-ghost use Rattle.restart_plan.specs.Ends.{end_of};
 ghost use Rattle.restart_plan.specs.Plans as model;
 ghost use Rattle.group_restart.specs.Calls.{log_call, call_of};
 ghost use Rattle.group_restart.specs.Course.{IsBegun};
+ghost use Rattle.group_restart.specs.Ends.{log_end};
 ghost use Rattle.group_restart.specs.Steps.{Takes, Steps};
 ghost use Rattle.group_restart.specs.declared.calls.State.TheVariants as state;
 
@@ -97,7 +97,7 @@ impl GroupRestart {
 
     /// Where the member's log ends, whose whole records are all before it, once all is done.
     pub fn end_of(&self, member: MemberId) -> u64
-        ensures { result ≡ end_of self.now.plan.ends member }
+        ensures { result ≡ log_end self.now member }
     {
         self.plan.ends.end_of(member)
     }

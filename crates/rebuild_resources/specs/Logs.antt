@@ -5,12 +5,12 @@ use Rattle.log_merge.specs.Merging.{all_records, in_order}
 use Rattle.log_reader.specs.declared.calls.LogRead.{LogRead}
 use Rattle.log_reader.specs.declared.calls.LogRead.TheVariants as read
 use Rattle.log_reader.specs.declared.calls.LogReply.{LogReply}
-use Rattle.checkpoint_reader.specs.Readers.{IsNew, IsRead, after_reply}
+use Rattle.checkpoint_reader.specs.Readers.{IsRead, after_reply}
 use Rattle.log_record.specs.declared.log.Log.{Log}
 use Rattle.page_records.specs.Places.{by_page}
 use Rattle.rebuild_resources.specs.declared.told.RebuildTold.{RebuildTold}
 use Rattle.rebuild_resources.specs.declared.told.RebuildTold.TheVariants as told
-use Rattle.rebuild_resources.specs.State.{RebuildState, with_reader}
+use Rattle.rebuild_resources.specs.State.{RebuildState, IsReaderOf, with_reader}
 
 -- all logs are read: their records in the order of the numbers, and each page that these change
 unfoldable pub logs_read : RebuildState → RebuildState
@@ -18,7 +18,7 @@ logs_read h = record h { logs = []; merged = Some (in_order (all_records h.logs)
 
 -- the log of the next member is read, if there is one
 abbrev pub GoesToNext : Bool → RebuildState → RebuildTold → RebuildState → Type 0
-GoesToNext true h said k = (said ≡ told.LogBlock) × IsNew (h.reader.member + 1) k.reader × (k ≡ with_reader h k.reader)
+GoesToNext true h said k = (said ≡ told.LogBlock) × IsReaderOf h.known (h.reader.member + 1) k.reader × (k ≡ with_reader h k.reader)
 GoesToNext false h said k = (said ≡ told.LogsWhole) × (k ≡ logs_read h)
 
 unfoldable pub TakesWhole : RebuildState → Log → RebuildTold → RebuildState → Type 0

@@ -1,6 +1,5 @@
 ghost use Rattle.std.specs.Prelude.{◌≡◌, length, IfOk, OnOk};
-ghost use Rattle.checkpoint_reader.specs.Readers.{IsNew};
-ghost use Rattle.rebuild_resources.specs.State.{IsNewRebuild, Begins, given_up};
+ghost use Rattle.rebuild_resources.specs.State.{IsNewRebuild, IsReaderOf, Begins, given_up};
 
 use checkpoint_reader::{CheckpointReader, KnownEnds};
 use ds_base::{MemberId, NoMemory, PageId};
@@ -37,12 +36,12 @@ impl Model for Rebuild {
 
     ghost Value = { RebuildState };
 
-    ghost view = { λ r. record { member = r.member; claimed = r.claimed; reader = r.reader; logs = r.logs; merged = r.merged; pages = r.pages; hand = r.hand; page = r.page } };
+    ghost view = { λ r. record { member = r.member; claimed = r.claimed; reader = r.reader; known = r.known; logs = r.logs; merged = r.merged; pages = r.pages; hand = r.hand; page = r.page } };
 }
 
 // A reader of the first log.
 fn first_reader(alloc: Global, known: &KnownEnds) -> Result<CheckpointReader, NoMemory>
-    ensures { IfOk result (IsNew 1) }
+    ensures { IfOk result (IsReaderOf known.now 1) }
 {
     let Some(member) = MemberId::new(1) else {
         unreachable!()
@@ -53,7 +52,8 @@ fn first_reader(alloc: Global, known: &KnownEnds) -> Result<CheckpointReader, No
 impl Rebuild {
     /// Nothing is claimed or read yet. Up to these ends the logs are known to be whole records.
     pub fn new(alloc: Global, member: MemberId, known: &KnownEnds) -> Result<Rebuild, NoMemory>
-        ensures { IfOk result (IsNewRebuild member) }
+        ensures fresh { IfOk result (IsNewRebuild member) }
+        ensures known { IfOk result (λ rebuild. rebuild.known ≡ known.now) }
     {
         Ok(Rebuild {
             member,

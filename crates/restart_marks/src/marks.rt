@@ -2,7 +2,7 @@ ghost use Rattle.std.specs.Prelude.{◌≡◌, slice_get, None, Some, IfOk, opti
 ghost use Rattle.restart_marks.specs.State.{IsFresh, with_own};
 ghost use Rattle.restart_records.specs.Trans.{tran_in, page_undone, newest};
 ghost use Rattle.restart_records.specs.Names.{mark_of};
-ghost use Rattle.restart_records.specs.Own.{own_with};
+ghost use Rattle.restart_records.specs.Own.{KnowsTo, own_with};
 ghost use Rattle.restart_records.specs.Maps.{places_at};
 
 use crate::hand::Hand;
@@ -56,7 +56,8 @@ impl Model for RestartMarks {
 impl RestartMarks {
     /// Nothing is read, known or held yet, but that the member's log is whole records up to this byte.
     pub fn new(alloc: Global, member: MemberId, known: u64) -> Result<RestartMarks, NoMemory>
-        ensures { IfOk result (IsFresh member) }
+        ensures fresh { IfOk result (IsFresh member) }
+        ensures known { IfOk result (λ marks. KnowsTo known marks.own.reader) }
     {
         Ok(RestartMarks {
             member,

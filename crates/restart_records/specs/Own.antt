@@ -23,6 +23,11 @@ abbrev pub HasNewReader : ℕ → Option ReaderState → Type 0
 HasNewReader member None = ⊥
 HasNewReader member (Some r) = IsNew member r
 
+-- up to this byte it is known to be whole records
+abbrev pub KnowsTo : ℕ → Option ReaderState → Type 0
+KnowsTo known None = ⊥
+KnowsTo known (Some r) = r.known ≡ known
+
 -- nothing is read yet
 pub record IsNewLog (member : ℕ) (o : OwnState) : Type 0 where
   pub reader : HasNewReader member o.reader

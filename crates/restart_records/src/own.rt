@@ -1,6 +1,6 @@
 ghost use Rattle.std.specs.Prelude.{◌≡◌, IfOk, OnOk, option_copied, None, Some};
 ghost use Rattle.restart_records.specs.Maps.{places_at};
-ghost use Rattle.restart_records.specs.Own.{IsNewLog, next_in, own_with, own_read, all_put, places_by_page};
+ghost use Rattle.restart_records.specs.Own.{IsNewLog, KnowsTo, next_in, own_with, own_read, all_put, places_by_page};
 
 use crate::map::PlaceMap;
 use checkpoint_reader::{CheckpointReader, LogCall};
@@ -54,7 +54,8 @@ pub fn places_of(alloc: Global, records: &[LogRecord]) -> Result<PlaceMap, NoMem
 impl OwnLog {
     /// Nothing of it is read yet, and up to this byte it is known to be whole records.
     pub fn new(alloc: Global, member: MemberId, known: u64) -> Result<OwnLog, NoMemory>
-        ensures { IfOk result (IsNewLog member) }
+        ensures fresh { IfOk result (IsNewLog member) }
+        ensures known { IfOk result (λ own. KnowsTo known own.reader) }
     {
         Ok(OwnLog {
             reader: Some(CheckpointReader::new(alloc, member, known)?),

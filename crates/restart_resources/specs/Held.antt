@@ -2,6 +2,7 @@
 use Rattle.std.specs.Prelude.{◌≡◌, ℕ, List, replicate}
 use Rattle.page_format.specs.Fields.{page_size}
 use Rattle.restart_marks.specs.State.{RestartState, IsFresh}
+use Rattle.restart_records.specs.Own as own
 
 pub record Held : Type 0 where
   pub marks : RestartState
@@ -16,6 +17,10 @@ with_page h page = record h { page = page }
 
 abbrev pub zeros : List ℕ
 zeros = replicate page_size 0
+
+-- up to this byte the member's log is known to be whole records, and it isn't read yet
+abbrev pub KnowsTo : ℕ → Held → Type 0
+KnowsTo known h = own.KnowsTo known h.marks.own.reader
 
 -- nothing is read, known or held yet
 pub record IsNew (member : ℕ) (h : Held) : Type 0 where

@@ -1,6 +1,6 @@
 ghost use Rattle.std.specs.Prelude.{◌≡◌, IfOk, OnOk};
 ghost use Rattle.restart_marks.specs.Adopt.{adopted_told, adopted_after};
-ghost use Rattle.restart_resources.specs.Held.{IsNew, with_marks};
+ghost use Rattle.restart_resources.specs.Held.{IsNew, KnowsTo, with_marks};
 
 use ds_base::{MemberId, NoMemory};
 use page_format::Page;
@@ -28,7 +28,8 @@ impl Model for RestartResources {
 impl RestartResources {
     /// Nothing is read, known or held yet, but that the member's log is whole records up to this byte.
     pub fn new(alloc: Global, member: MemberId, known: u64) -> Result<RestartResources, NoMemory>
-        ensures { IfOk result (IsNew member) }
+        ensures fresh { IfOk result (IsNew member) }
+        ensures known { IfOk result (KnowsTo known) }
     {
         Ok(RestartResources {
             marks: RestartMarks::new(alloc, member, known)?,

@@ -2,7 +2,7 @@ use Rattle.std.proofs.Common.{rules, ◌≡◌, Ok, arith}
 use Rattle.std.proofs.lemmas.Grind.{common_steps}
 use Rattle.group_restart.specs.declared.calls.State.TheVariants as state
 use Rattle.group_restart.specs.Disk.{Drive}
-use Rattle.disk_restart.proofs.Steps.{begun, step_goes, step_keeps, alive_keeps}
+use Rattle.disk_restart.proofs.Steps.{begun, step_goes, step_ends, step_keeps, alive_keeps}
 use Rattle.disk_restart.proofs.restart.run_restart.Goals as goal
 
 pub loop-init : goal.loop-init
@@ -19,6 +19,13 @@ returns-then-ne-clause-keeps g c =
     let w : Drive = record { alive = g.D.Disk.alive c.loop.disk; contents = g.D.Disk.contents c.loop.disk } in
     let v : Drive = record { alive = g.D.Disk.alive c.step.new.disk; contents = g.D.Disk.contents c.step.new.disk } in
     step_keeps c.log_laws.ensures.sound (g.D.Disk.contents c.args.disk.now) w v c.loop.restart c.step.new.self c.step.result c.loop.invariant.1 c.step.ensures.goes
+
+pub returns-then-ne-clause-there : goal.returns-then-ne-clause-there
+returns-then-ne-clause-there g c = λ counter is.
+    let w : Drive = record { alive = g.D.Disk.alive c.loop.disk; contents = g.D.Disk.contents c.loop.disk } in
+    let v : Drive = record { alive = g.D.Disk.alive c.step.new.disk; contents = g.D.Disk.contents c.step.new.disk } in
+    let ended : c.step.result ≡ Ok (state.Done counter) = cc in
+    step_ends c.log_laws.ensures.sound (record { nothing = c.reader_laws.ensures.nothing; keeping = c.reader_laws.ensures.keeping; grown = c.reader_laws.ensures.grown; last = c.reader_laws.ensures.last }) (g.D.Disk.contents c.args.disk.now) w v c.loop.restart c.step.new.self c.step.result counter c.loop.invariant.1 c.step.ensures.goes ended
 
 pub loop-preserved : goal.loop-preserved
 loop-preserved g c =

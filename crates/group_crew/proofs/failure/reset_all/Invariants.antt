@@ -8,3 +8,4 @@ abbrev pub invariant-loop-part : goal.invariant-loop-part
 invariant-loop-part g l =
     AllWithin (λ (part : MemberPart g.row.P.Denot). IsDown l.sizes.sizes (member_of part)) l.part-items 0 l.part-index
     × (map (λ (part : MemberPart g.row.P.Denot). part.id) l.part-items ≡ map (λ (part : MemberPart g.row.P.Denot). part.id) l.fn.parts)
+    × AllWithin (λ (part : MemberPart g.row.P.Denot). part.known ≡ l.known) l.part-items 0 l.part-index

@@ -4,7 +4,9 @@ use Rattle.std.proofs.lemmas.Result.{on_ok_weaker}
 use Rattle.group_member.specs.declared.part.MemberPart.{MemberPart}
 use Rattle.group_member.specs.Members.{IsDown, member_of}
 use Rattle.group_crew.specs.declared.crew.Crew.{Crew}
+use Rattle.group_crew.specs.Ends.{AllKnowEnds}
 use Rattle.group_crew.proofs.Anew.{begins_anew}
+use Rattle.group_crew.proofs.Known.{all_ends}
 use Rattle.group_crew.proofs.Parts.{same_length, whole}
 use Rattle.group_crew.proofs.crew.Crew.reset.Goals as goal
 
@@ -32,3 +34,15 @@ returns-clause-members g c =
     let are : take n (news ++ drop (length news) items) ≡ news = whole n items news long (same_length (λ (part : MemberPart g.row.P.Denot). part.id) news items same ∙ long) in
     on_ok_weaker c.reset_all.result
     (λ down. subst (λ (its : List (MemberPart g.row.P.Denot)). All (λ (part : MemberPart g.row.P.Denot). IsDown c.args.self.now.sizes.sizes (member_of part)) its) (sym are) down) c.reset_all.ensures.down
+
+pub returns-clause-known : goal.returns-clause-known
+returns-clause-known g c =
+    let items : List (MemberPart g.row.P.Denot) = c.args.self.now.parts.items in
+    let news : List (MemberPart g.row.P.Denot) = c.reset_all.new.parts in
+    let n : ℕ = c.args.self.now.parts.len in
+    let long : length items ≡ n = sym c.args.self.now.parts.ok.0 in
+    let same : map (λ (part : MemberPart g.row.P.Denot). part.id) news ≡ map (λ (part : MemberPart g.row.P.Denot). part.id) items =
+    c.reset_all.ensures.same ∙ ap (map (λ (part : MemberPart g.row.P.Denot). part.id)) c.deref_mut.ensures.value in
+    let are : take n (news ++ drop (length news) items) ≡ news = whole n items news long (same_length (λ (part : MemberPart g.row.P.Denot). part.id) news items same ∙ long) in
+    on_ok_weaker c.reset_all.result
+    (λ known. subst (AllKnowEnds c.args.self.now.restart) (sym are) (all_ends c.args.self.now.restart c.ends-known.result news c.ends-known.ensures known)) c.reset_all.ensures.known
