@@ -4,6 +4,7 @@ ghost use Rattle.cache_structure.specs.Directory.{empty_directory};
 ghost use Rattle.ds_disk.specs.Contents.{Becomes};
 ghost use Rattle.disk_restart.specs.Keeping.{KeepsRecords};
 ghost use Rattle.group_core.specs.declared.fault.RunFault.TheVariants as fault;
+ghost use Rattle.group_crew.specs.Ends.{AreEndsOf};
 ghost use Rattle.group_core.specs.Starts.{AllKnowDisk, EndsKnown, IsFresh};
 ghost use Rattle.group_restart.specs.declared.calls.State.TheVariants as state;
 
@@ -19,26 +20,29 @@ use group_crew::{Crew, Policy, ends_behind};
 use group_restart::GroupRestart;
 use std::alloc::Global;
 
-// The greatest number that was drawn for a log record, where a group restart has ended well.
-fn counter_of(ended: &State) -> Result<Lrsn, RunFault>
-    ensures done { IfOk result (λ counter. ended.now ≡ state.Done counter) }
+/// What the group restart leaves that opens a disk: the greatest number that was drawn for a log record, and where the logs end.
+#[derive(Drop)]
+pub struct Opened {
+    counter: Lrsn,
+    known: KnownEnds,
+}
+
+// The same of a group restart that has ended well.
+fn opened_by(restart: &GroupRestart, ended: &State) -> Result<Opened, RunFault>
+    ensures done { IfOk result (λ opened. ended.now ≡ state.Done opened.counter) }
+    ensures ends { IfOk result (λ opened. AreEndsOf restart.now opened.known) }
     ensures failed { IfErr result (λ why. why ≡ fault.Failed → ended.now ≡ state.Failed) }
     ensures lawful { IfErr result (λ why. (at : ℕ) → why ≢ fault.Unlawful at) }
 {
     match *ended {
-        State::Done { counter } => Ok(counter),
+        State::Done { counter } => Ok(Opened {
+            counter,
+            known: ends_behind(restart),
+        }),
         State::Failed => Err(RunFault::Failed),
         State::Damaged { volume, at } => Err(RunFault::Damaged { volume, at }),
         State::Going => Err(RunFault::NoMemory),
     }
-}
-
-// What the group restart leaves that opens a disk.
-#[derive(Drop)]
-struct Opened {
-    counter: Lrsn,
-    /// Where the logs end.
-    known: KnownEnds,
 }
 
 // Runs the group restart that opens the disk.
@@ -54,13 +58,7 @@ fn open_disk<D: Disk>(alloc: Global, disk: &mut D) -> Result<Opened, RunFault>
         return Err(RunFault::NoMemory);
     };
     match run_restart(alloc, disk, &mut restart) {
-        Ok(ended) => match counter_of(&ended) {
-            Ok(counter) => Ok(Opened {
-                counter,
-                known: ends_behind(&restart),
-            }),
-            Err(why) => Err(why),
-        },
+        Ok(ended) => opened_by(&restart, &ended),
         Err(_) => Err(RunFault::NoMemory),
     }
 }

@@ -31,11 +31,14 @@ pub record Kept : Type 0 where
 abbrev pub kept_by : {P : Type 0} → MemberPart P → Kept
 kept_by {P} part = record { id = part.id; holds = part.resources }
 
--- The member is restarting, and nothing of its restart is done, but that it knows where the member's log ends. The bells ring.
+-- The member is restarting, and nothing of its restart is done. The bells ring.
 pub record RestartBegins {P : Type 0} (old : MemberPart P) (lists : ListsState) (new : MemberPart P) (now : ListsState) : Type 0 where
   pub fresh : IsSomeAnd new.restart (λ r. IsNew old.id r.resources)
-  pub known : IsSomeAnd new.restart (λ r. KnowsTo (end_of old.known old.id) r.resources)
   pub lists_are : now ≡ record lists { statuses = slice_set lists.statuses (old.id - 1) statuses.Restarting; bells = rung lists.bells }
+
+-- its restart knows up to where the member's log is whole records, as the member does
+abbrev pub RestartKnows : {P : Type 0} → MemberPart P → MemberPart P → Type 0
+RestartKnows {P} old new = IsSomeAnd new.restart (λ r. KnowsTo (end_of old.known old.id) r.resources)
 
 -- ---- the bells
 

@@ -4,7 +4,7 @@ ghost use Rattle.std.specs.Prelude.{◌≡◌, ◌+◌, true, false, length, map
 ghost use Rattle.list_structure.specs.Bells.{CanRing};
 ghost use Rattle.script_fates.specs.Fated.{StopsOnly};
 ghost use Rattle.group_member.specs.Members.{member_of};
-ghost use Rattle.group_crew.specs.Beginning.{AllRestart, BeginsNext, CannotBegin, CannotRing, Rang, RestartBegins, begins_restart, is_left_out_in, kept_by};
+ghost use Rattle.group_crew.specs.Beginning.{AllRestart, BeginsNext, CannotBegin, CannotRing, Rang, RestartBegins, RestartKnows, begins_restart, is_left_out_in, kept_by};
 ghost use Rattle.group_crew.specs.States.{crew_state};
 
 use crate::crew::Crew;
@@ -37,6 +37,7 @@ fn begin_restart<P>(
 ) -> Result<bool, NoMemory>
     ensures same { begins_restart phase.now lists.old.statuses part.old.id ≡ false → (part.new ≡ part.old) × (lists.new ≡ lists.old) × (result ≡ Ok true) }
     ensures begun { begins_restart phase.now lists.old.statuses part.old.id ≡ true → IfOk result (λ begun. begun ≡ true → RestartBegins part.old lists.old part.new lists.new) }
+    ensures known { begins_restart phase.now lists.old.statuses part.old.id ≡ true → IfOk result (λ begun. begun ≡ true → RestartKnows part.old part.new) }
     ensures refused { result ≡ Ok false → ¬ CanRing lists.old.bells }
     ensures rest { part.new ≡ record part.old { restart = part.new.restart } }
 {
