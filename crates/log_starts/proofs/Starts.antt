@@ -1,21 +1,21 @@
 -- Where a reader's records begin, as it reads on.
-use Rattle.std.proofs.Common.{◌≡◌, ℕ, get_or, ◌+◌, ◌-◌, ◌<◌, ◌≤◌, refl, sym, ◌∙◌, ap, subst, arith, Bool, true, false, inl, inr, List, [], ◌∷◌, ◌++◌, length, take, drop, Result, Ok, Err}
-use Rattle.std.specs.Prelude.{◌⊎◌, ◌≢◌, ◌&&◌, ◌||◌, nat_lt}
+use Rattle.std.proofs.Common.{◌≡◌, ℕ, get_or, lit<, ◌+◌, ◌-◌, ◌<◌, refl, sym, ◌∙◌, ap, subst, arith, true, inl, inr, List, [], ◌∷◌, ◌++◌, length, take, drop, Result, Ok, Err}
+use Rattle.std.specs.Prelude.{◌⊎◌, ◌||◌, nat_lt}
 use Rattle.std.proofs.lemmas.Bool.{and_parts, cases_lt, cond_both}
-use Rattle.std.proofs.lemmas.List.{drop-drop, get_or-drop, length-take-le, take-append-le, take_all}
+use Rattle.std.proofs.lemmas.List.{drop-drop, drop-take, get_or-drop, get_or_past, length-append, length-drop, length-take-le, take-append-drop, take-append-le, take_all}
 use Rattle.std.proofs.Math.ListN.{get_or-append}
-use Rattle.std.proofs.Math.Seq.{get_or-append_right}
+use Rattle.std.proofs.Math.Seq.{get_or-append_right, take-add}
 use Rattle.ds_model.specs.RecordBytes.{is_written, record_bytes}
 use Rattle.ds_model.specs.declared.log.LogRecord.{LogRecord}
 use Rattle.log_record.specs.declared.fault.RecordFault.{RecordFault}
 use Rattle.log_record.specs.declared.fault.RecordFault.TheVariants.{NotWhole}
 use Rattle.log_record.specs.Reading.{Found, record_in}
-use Rattle.log_head.specs.Laws.{FirstIsWhole, FrontDecides, NoneIsWhole}
+use Rattle.log_head.specs.Laws.{FirstIsWhole, FrontDecides, NoneIsWhole, RecordHasSize}
 use Rattle.log_head.specs.Whole.{whole_records}
 use Rattle.log_reader.specs.declared.held.Mark.{Mark}
-use Rattle.log_reader.specs.Held.{HeldState, begins_at, begun_at, first_mark, gone_on, grown, marked_all, marked_one, names, nothing_held, settled, with_mark}
+use Rattle.log_reader.specs.Held.{HeldState, begins_at, begun_at, first_mark, gone_on, marked_all, marked_one, names, nothing_held, settled, with_mark}
 use Rattle.log_reader.specs.Keeping.{AreBytes}
-use Rattle.log_starts.specs.Starts.{BeginsAt, GrownBegins, MayBegin, NamesOwn, NothingBegins}
+use Rattle.log_starts.specs.Starts.{BeginsAt, BeginsIn, GrownBegins, GrownBeginsIn, MayBegin, NamesOwn, NothingBegins}
 
 -- a record that is read in bytes stands there
 abbrev pub FoundInBytes : Type 0
@@ -31,6 +31,12 @@ both_bytes a b h k i = elim (cases_lt i (length a)) [
   | inr more ↦ subst (λ (x : ℕ). x < 256) (sym (get_or-append_right a b i 0 more)) (k (i - length a))
 ]
 
+take_bytes : (n : ℕ) (bytes : List ℕ) → AreBytes bytes → AreBytes (take n bytes)
+take_bytes n bytes h i = elim (cases_lt i (length (take n bytes))) [
+  | inl less ↦ subst (λ (x : ℕ). x < 256) (get_or-append (take n bytes) (drop n bytes) 0 i less) (subst (λ (t : List ℕ). get_or t i 0 < 256) (sym (take-append-drop n bytes)) (h i))
+  | inr more ↦ subst (λ (x : ℕ). x < 256) (sym (get_or_past (take n bytes) i 0 more)) (lit< tt)
+]
+
 -- ---- one that stands at the front is read, whatever follows
 some_record : (x : LogRecord × ℕ) → Ok x ≡ Err NotWhole → ⊥
 some_record x e = cc
@@ -42,6 +48,20 @@ read_on : FrontDecides → (a b : List ℕ) (r : LogRecord) (n : ℕ) → record
 read_on law a b r n e =
     let front : record_in (take (length a) (a ++ b)) ≡ Ok (r, n) = ap record_in (front_whole a b) ∙ e in
     law (a ++ b) (length a) (λ q. some_record (r, n) (sym front ∙ q)) ∙ front
+
+pub read_front : FrontDecides → (bytes : List ℕ) (k : ℕ) (r : LogRecord) (n : ℕ) → record_in (take k bytes) ≡ Ok (r, n) → record_in bytes ≡ Ok (r, n)
+read_front law bytes k r n e = law bytes k (λ q. some_record (r, n) (sym e ∙ q)) ∙ e
+
+-- one that bytes of a log begin with, too
+module _ (size : RecordHasSize) (front : FrontDecides) (log : List ℕ) (start from : ℕ) (bytes : List ℕ) where
+  own_in_log : bytes ≡ take (length bytes) (drop start log) → NamesOwn (start + from) (drop from bytes) → NamesOwn (start + from) (drop (start + from) log)
+  own_in_log told own =
+      let has = size (drop from bytes) own.made own.size own.read in
+      let k : ℕ = length bytes - from in
+      let split : length bytes ≡ from + k = omega (arith, has.0, has.1, length-drop from bytes) in
+      let same : take k (drop (start + from) log) ≡ drop from bytes =
+      sym (ap (drop from) (told ∙ ap (λ (m : ℕ). take m (drop start log)) split) ∙ drop-take from k (drop start log) ∙ ap (take k) (drop-drop from start log)) in
+      record { made = own.made; size = own.size; read = read_front front (drop (start + from) log) k own.made own.size (ap record_in same ∙ own.read); own = own.own }
 
 -- ---- the mark from which bytes are kept
 abbrev Named : ℕ → List ℕ → Mark → Type 0
@@ -106,6 +126,36 @@ module _ (found : FoundInBytes) (first : FirstIsWhole) (none : NoneIsWhole) wher
   pub grown_begins : FrontDecides → GrownBegins
   grown_begins law h more are new begins =
       settled_begins (record { start = h.start; end = h.end + length more; bytes = h.bytes ++ more; passed = h.passed; low = h.low; keeps_all = h.keeps_all }) (both_bytes h.bytes more are new) (more_begins law h more begins)
+
+  -- ---- and of the log itself
+  from_mark_in : RecordHasSize → FrontDecides → (log : List ℕ) (h : HeldState) (m : Mark) → h.bytes ≡ take (length h.bytes) (drop h.start log) → Named h.start h.bytes m → BeginsIn log h → MayBegin (h.start + m.from) (drop (h.start + m.from) log)
+  from_mark_in size law log h m told (inr own) begins = inr (own_in_log size law log h.start m.from h.bytes told own)
+  from_mark_in size law log h m told (inl zero) begins = subst (λ (k : ℕ). MayBegin k (drop k log)) (sym at) begins
+    where
+      at : h.start + m.from ≡ h.start
+      at = omega (arith, zero)
+
+  marked_in : RecordHasSize → FrontDecides → (log : List ℕ) (h : HeldState) (m : Mark) → h.bytes ≡ take (length h.bytes) (drop h.start log) → Named h.start h.bytes m → BeginsIn log h → BeginsIn log (with_mark h m)
+  marked_in size law log h m told named begins = cond_both m.wants_all (nothing_held true) (record { start = h.start + m.from; end = h.end; bytes = drop m.from h.bytes; passed = m.to - m.from; low = m.low; keeps_all = h.keeps_all }) (BeginsIn log)
+      (λ _. inl refl) (λ _. from_mark_in size law log h m told named begins)
+
+  settled_in : RecordHasSize → FrontDecides → (log : List ℕ) (h : HeldState) → AreBytes h.bytes → h.bytes ≡ take (length h.bytes) (drop h.start log) → BeginsIn log h → BeginsIn log (settled h)
+  unfolding settled
+  settled_in size law log h are told begins = cond_both (h.keeps_all || nat_lt (length h.bytes) h.passed) h (with_mark h (marked_all h.start (first_mark h.passed h.low) (whole_records (drop h.passed h.bytes)))) (BeginsIn log)
+      (λ _. begins) (λ _. marked_in size law log h (marked_all h.start (first_mark h.passed h.low) (whole_records (drop h.passed h.bytes))) told (all_named h.start h.bytes (whole_records (drop h.passed h.bytes)) are (first_mark h.passed h.low) (inl refl) refl) begins)
+
+  pub grown_in : RecordHasSize → FrontDecides → GrownBeginsIn
+  grown_in size law log h block n is are within next begins =
+      let more : List ℕ = take n block in
+      let left = length-drop h.end log in
+      let count : length more ≡ n = ap (λ (t : List ℕ). length t) next ∙ length-take-le n (drop h.end log) (omega (arith, left, within)) in
+      let long = length-append h.bytes more in
+      let next_more : more ≡ take (length more) (drop h.end log) = next ∙ ap (λ (k : ℕ). take k (drop h.end log)) (sym count) in
+      let told : h.bytes ++ more ≡ take (length (h.bytes ++ more)) (drop h.start log) =
+      ap (λ (t : List ℕ). t ++ more) is.told ∙ ap (λ (t : List ℕ). take (length h.bytes) (drop h.start log) ++ t) (next_more ∙ ap (λ (k : ℕ). take (length more) (drop k log)) (sym is.ends) ∙ ap (take (length more)) (sym (drop-drop (length h.bytes) h.start log)))
+      ∙ sym (take-add (length h.bytes) (length more) (drop h.start log)) ∙ ap (λ (k : ℕ). take k (drop h.start log)) (sym long) in
+      settled_in size law log (record { start = h.start; end = h.end + length more; bytes = h.bytes ++ more; passed = h.passed; low = h.low; keeps_all = h.keeps_all })
+      (both_bytes h.bytes more is.bytes (take_bytes n block are)) told begins
 
 pub nothing_begins : NothingBegins
 nothing_begins keeps_all = inl refl

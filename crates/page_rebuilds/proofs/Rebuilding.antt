@@ -19,7 +19,8 @@ use Rattle.facility.specs.Commands.{Executes}
 use Rattle.facility.specs.States.{Held as Facility}
 use Rattle.log_reader.specs.declared.calls.LogCall.{LogCall}
 use Rattle.log_reader.specs.declared.calls.LogCall.TheVariants as call
-use Rattle.log_reader.specs.Readers.{block_size, next_call}
+use Rattle.log_reader.specs.Readers.{block_size}
+use Rattle.checkpoint_reader.specs.Readers.{next_call}
 use Rattle.page_records.specs.declared.places.PageRecords.{PageRecords}
 use Rattle.member_intents.specs.declared.outcome.Answered.{Answered}
 use Rattle.member_intents.specs.declared.outcome.Answered.TheVariants as answered

@@ -1,13 +1,12 @@
 -- How the list of transactions goes on.
-use Rattle.std.proofs.Common.{◌≡◌, ℕ, refl, sym, ◌∙◌, ap, subst, Bool, true, false, List, [], ◌∷◌, ◌++◌, Option, Some, None, Result, Ok, Err}
+use Rattle.std.proofs.Common.{◌≡◌, ℕ, refl, sym, ◌∙◌, ap, subst, Bool, true, false, List, [], ◌∷◌, Option, Some, None, Result, Ok, Err}
 use Rattle.std.specs.Prelude.{if◌then◌else◌, map}
 use Rattle.std.proofs.lemmas.Bool.{both_ways}
 use Rattle.ds_disk.specs.declared.disk.DiskError.{DiskError}
 use Rattle.ds_disk.specs.declared.disk.DiskError.TheVariants as error
 use Rattle.log_reader.specs.declared.calls.LogReply.{LogReply}
 use Rattle.log_reader.specs.declared.calls.LogReply.TheVariants as logged
-use Rattle.log_reader.specs.Lending.{with_block}
-use Rattle.log_reader.specs.Readers.{ReaderState, after_reply, is_whole, parts_read}
+use Rattle.checkpoint_reader.specs.Readers.{ReaderState, after_reply, is_whole, parts_read}
 use Rattle.log_record.specs.declared.log.Log.{Log}
 use Rattle.log_record.specs.Logs.{Parts}
 use Rattle.log_rows.specs.Rows.{OpenTell}
@@ -20,16 +19,15 @@ use Rattle.restart_marks.specs.declared.intent.RestartIntent.{RestartIntent}
 use Rattle.restart_marks.specs.declared.intent.RestartSent.{RestartSent}
 use Rattle.restart_marks.specs.declared.intent.RestartSent.TheVariants as sent
 use Rattle.restart_marks.specs.declared.told.RestartTold.{RestartTold}
-use Rattle.restart_marks.specs.Hands.{filled_after}
 use Rattle.restart_marks.specs.Needs.{need_of}
-use Rattle.restart_marks.specs.Reading.{entered, judged_after, log_from, read_after, read_on_after, reader_after, whole_after}
-use Rattle.restart_marks.specs.State.{RestartState, with_hand, with_own}
+use Rattle.restart_marks.specs.Reading.{judged_after, log_from, read_after, read_on_after, reader_after, whole_after}
+use Rattle.restart_marks.specs.State.{RestartState, with_own}
 use Rattle.restart_records.specs.Own.{own_with}
 use Rattle.restart_records.specs.Trans.{TransState, all_added, no_trans}
 use Rattle.restart_records.specs.declared.trans.RestartTran.{RestartTran}
 use Rattle.restart_resources.specs.declared.calls.Got.{Got}
 use Rattle.restart_resources.specs.declared.calls.Got.TheVariants as got
-use Rattle.restart_resources.specs.Calls.{Calls, Drive, ReadsBy, RunsCall, Stores, done_after, got_after, with_reader}
+use Rattle.restart_resources.specs.Calls.{Drive, ReadsBy, Stores, done_after, got_after}
 use Rattle.restart_resources.specs.Events.{Runs, World}
 use Rattle.restart_resources.specs.Held.{Held}
 use Rattle.restart_resources.specs.Lending.{is_hand, lent_bytes}
@@ -37,7 +35,7 @@ use Rattle.restart_resources.specs.Settled.{settled}
 use Rattle.restart_law.specs.Opens.{GoOn, ListGoes, ListsGo, OpensStand}
 use Rattle.restart_law.proofs.Events.{from_marks, runs_keep, same_marks}
 use Rattle.restart_law.proofs.Near.{locals}
-use Rattle.restart_law.proofs.Opens.{Near, near, unread}
+use Rattle.restart_law.proofs.Opens.{Near, unread}
 use Rattle.restart_law.proofs.Reading.{called}
 use Rattle.restart_law.proofs.Trans.{added_are, finish, go_on, go_on_on}
 

@@ -5,5 +5,6 @@ pub mod Near
 pub mod Reading
 pub mod Events
 pub mod Telling
+pub mod Readers
 pub mod Truth
 pub mod Going

@@ -1,9 +1,8 @@
 -- What is read of the own log is what the disk tells of it.
-use Rattle.std.proofs.Common.{◌≡◌, ℕ, get_or, lit<, zero, suc, ◌+◌, ◌-◌, ◌≤◌, ◌<◌, refl, sym, ◌∙◌, ap, subst, arith, Bool, true, false, inl, inr, List, [], ◌∷◌, ◌++◌, length, take, drop, Option, Some, None, Result, Ok, Err}
-use Rattle.std.specs.Prelude.{◌≢◌, ◌⊎◌, ◌==◌, is_none, is_some, min, nat_le, not, if◌then◌else◌, IfOk, IfSome}
-use Rattle.std.proofs.lemmas.Bool.{both_ways, cases_Bool, cases_lt, eqb-true, eqb-false, leb-true, leb-false}
-use Rattle.std.proofs.lemmas.List.{get_or-drop, get_or_past, length-drop, take-append-drop, take_all}
-use Rattle.std.proofs.Math.ListN.{get_or-append}
+use Rattle.std.proofs.Common.{◌≡◌, ℕ, ◌+◌, ◌-◌, ◌≤◌, refl, sym, ◌∙◌, ap, subst, arith, Bool, true, false, inl, List, [], ◌∷◌, length, take, drop, Option, Some, None, Result, Ok, Err}
+use Rattle.std.specs.Prelude.{◌≢◌, ◌==◌, is_none, is_some, min, nat_le, not, if◌then◌else◌, IfOk, IfSome}
+use Rattle.std.proofs.lemmas.Bool.{both_ways, leb-true}
+use Rattle.std.proofs.lemmas.List.{length-drop, take_all}
 use Rattle.ds_disk.specs.Answers.{Answers}
 use Rattle.ds_disk.specs.Contents.{Becomes, Contents, log_of}
 use Rattle.ds_disk.specs.declared.disk.DiskError.{DiskError}
@@ -11,11 +10,14 @@ use Rattle.ds_disk.specs.declared.disk.DiskError.TheVariants as error
 use Rattle.facility.specs.declared.command.Command.TheVariants as command
 use Rattle.log_reader.specs.declared.calls.LogReply.{LogReply}
 use Rattle.log_reader.specs.declared.calls.LogReply.TheVariants as logged
-use Rattle.log_reader.specs.Lending.{with_block}
-use Rattle.log_reader.specs.Held.{HeldState, grown, nothing_held}
-use Rattle.log_reader.specs.Keeping.{AreBytes, AreWhole, GrownIsOf, IsOf, KeepingIsOf, NothingIsOf}
-use Rattle.log_reader.specs.Readers.{ReaderState, after_count, after_reply, block_size, call_by, is_long, is_whole, parts_behind, parts_read}
-use Rattle.log_starts.specs.Starts.{BeginsAt, GrownBegins, MayBegin, NothingBegins}
+use Rattle.log_reader.specs.Held.{HeldState}
+use Rattle.log_reader.specs.Keeping.{AreBytes, AreWhole, IsOf}
+use Rattle.log_reader.specs.Readers.{block_size, is_long, parts_behind}
+use Rattle.checkpoint_reader.specs.declared.reader.Looking.{Looking}
+use Rattle.checkpoint_reader.specs.Keeping.{NothingStands}
+use Rattle.checkpoint_reader.specs.Lending.{with_block}
+use Rattle.checkpoint_reader.specs.Readers.{ReaderState, after_reply, is_whole, is_whole_by, next_call, parts_read}
+use Rattle.log_starts.specs.Starts.{BeginsIn, MayBegin}
 use Rattle.log_record.specs.declared.log.Log.{Log}
 use Rattle.log_record.specs.Logs.{Parts, parts_in}
 use Rattle.log_trans.specs.declared.damage.Damaged.{Damaged}
@@ -26,12 +28,11 @@ use Rattle.restart_marks.specs.declared.intent.RestartSent.{RestartSent}
 use Rattle.restart_marks.specs.declared.intent.RestartSent.TheVariants as sent
 use Rattle.restart_marks.specs.declared.told.RestartTold.{RestartTold}
 use Rattle.restart_marks.specs.Needs.{need_of}
-use Rattle.restart_marks.specs.Reading.{entered, judged_after, log_from, read_after, read_on_after, reader_after, whole_after}
-use Rattle.restart_marks.specs.State.{IsFresh, RestartState, with_hand, with_own}
+use Rattle.restart_marks.specs.Reading.{judged_after, log_from, read_after, read_on_after, reader_after, whole_after}
+use Rattle.restart_marks.specs.State.{RestartState, with_hand, with_own}
 use Rattle.restart_records.specs.Own.{HasNewReader, OwnState, own_with}
-use Rattle.restart_records.specs.Trans.{no_trans}
 use Rattle.restart_law.specs.Opens.{OpensStand}
-use Rattle.restart_law.specs.Reads.{AreLast, ReadsBegin, ReadsFront, ReadsStay, ReadsTrue, StillReads, TellsLog}
+use Rattle.restart_law.specs.Reads.{AreLast, IsKnown, ReadsBegin, ReadsFront, ReadsStay, ReadsTrue, StillReads, TellsLog}
 use Rattle.ds_base.specs.declared.names.PageId.{PageId}
 use Rattle.ds_model.specs.declared.lock.Name.TheVariants as name
 use Rattle.facility.specs.declared.command.Command.{Command}
@@ -54,7 +55,7 @@ use Rattle.restart_marks.specs.OwnNeeds.{call_sent, is_end_listed, listed_test, 
 use Rattle.restart_marks.specs.Tested.{Tested, after, passed, sends, when}
 use Rattle.restart_resources.specs.declared.calls.Got.{Got}
 use Rattle.restart_resources.specs.declared.calls.Got.TheVariants as got
-use Rattle.restart_resources.specs.Calls.{Calls, Drive, IsCount, ReadsBy, RunsCall, Stores, done_after, got_after, tail_cut, with_reader}
+use Rattle.restart_resources.specs.Calls.{Drive, IsCount, ReadsBy, RunsCall, Stores, done_after, got_after, tail_cut, with_reader}
 use Rattle.restart_resources.specs.Events.{Runs, World}
 use Rattle.restart_resources.specs.Held.{Held}
 use Rattle.ds_model.specs.declared.log.LogRecord.{LogRecord}
@@ -63,60 +64,20 @@ use Rattle.restart_marks.specs.Hands.{filled_after}
 use Rattle.restart_marks.specs.Undoing.{forced_after}
 use Rattle.restart_resources.specs.Lending.{is_hand, lent_bytes}
 use Rattle.restart_resources.specs.Settled.{settled}
-use Rattle.restart_law.proofs.Events.{after_first, err_ok, from_marks, holds, runs_keep, same_marks, when_first}
+use Rattle.restart_law.proofs.Events.{after_first, err_ok, from_marks, runs_keep, same_marks, when_first}
 use Rattle.restart_law.proofs.Near.{locals, still}
 use Rattle.restart_law.proofs.Opens.{Near}
+use Rattle.restart_law.proofs.Readers.{Laws, front_count, front_length, lent_stands}
 
 -- ---- a reader
-pub record Laws : Type 0 where
-  pub nothing : NothingIsOf
-  pub keeping : KeepingIsOf
-  pub grown : GrownIsOf
-  pub nowhere : NothingBegins
-  pub starts : GrownBegins
-
--- what is told of the length
-told_length : KeepingIsOf → (member : ℕ) (bytes : List ℕ) (r : ReaderState) → ReadsFront member bytes r → ReadsFront member bytes (after_reply r (logged.Length (length bytes)))
-told_length law member bytes r f = record { own = f.own; held = law bytes r.held (nat_le (length bytes) block_size) f.held; begins = f.begins; told = refl }
-
--- a block of it, behind what was read
-drop_bytes : (k : ℕ) (bytes : List ℕ) → AreBytes bytes → AreBytes (drop k bytes)
-drop_bytes k bytes h i = subst (λ (b : ℕ). b < 256) (sym (get_or-drop k bytes i 0)) (h (k + i))
-
-take_bytes : (n : ℕ) (bytes : List ℕ) → AreBytes bytes → AreBytes (take n bytes)
-take_bytes n bytes h i = elim (cases_lt i (length (take n bytes))) [
-  | inl less ↦ subst (λ (x : ℕ). x < 256) (get_or-append (take n bytes) (drop n bytes) 0 i less) (subst (λ (t : List ℕ). get_or t i 0 < 256) (sym (take-append-drop n bytes)) (h i))
-  | inr more ↦ subst (λ (x : ℕ). x < 256) (sym (get_or_past (take n bytes) i 0 more)) (lit< tt)
-]
-
-few_of : (n most : ℕ) → n ≤ most → min n most ≡ n
-few_of n most le = omega arith
-
-told_block : GrownIsOf → GrownBegins → (member : ℕ) (bytes : List ℕ) (r : ReaderState) (block : List ℕ) (n : ℕ) → AreBytes bytes → ReadsFront member bytes r → n ≡ min (min (min (length bytes - r.held.end) block_size) block_size) (length bytes - r.held.end)
-    → take n block ≡ take n (drop r.held.end bytes) → ReadsFront member bytes (after_count (with_block r block) n)
-told_block law starts member bytes r block n are f few same = by (n == 0) refl
-  where
-    short : r.held.end ≤ length bytes
-    short = f.held.within
-
-    by : (b : Bool) → (n == 0) ≡ b
-        → ReadsFront member bytes (if b then record { member = r.member; length_told = Some r.held.end; held = r.held; block = block } else record { member = r.member; length_told = r.length_told; held = grown r.held (take (min n block_size) block); block = block })
-    by true none = let z = eqb-true n 0 none in record { own = f.own; held = f.held; begins = f.begins; told = omega arith }
-    by false some =
-        let le : r.held.end + n ≤ length bytes = omega arith in
-        let most : n ≤ block_size = omega arith in
-        let put : take (min n block_size) block ≡ take n (drop r.held.end bytes) = ap (λ (z : ℕ). take z block) (few_of n block_size most) ∙ same in
-        record {
-          own = f.own;
-          held = subst (λ (z : List ℕ). IsOf bytes (grown r.held z)) (sym put) (law bytes r.held (drop r.held.end bytes) n f.held (drop_bytes r.held.end bytes are) le refl);
-          begins = subst (λ (z : List ℕ). BeginsAt (grown r.held z)) (sym put) (starts r.held (take n (drop r.held.end bytes)) f.held.bytes (take_bytes n (drop r.held.end bytes) (drop_bytes r.held.end bytes are)) f.begins);
-          told = f.told;
-        }
-
 -- all of it is read
 read_to_end : (member : ℕ) (bytes : List ℕ) (r : ReaderState) → ReadsFront member bytes r → is_whole r ≡ true → length bytes ≤ r.held.end
-read_to_end member bytes r f whole = by r.length_told f.told whole
+read_to_end member bytes r f whole = by r.length_told f.told (none_looked r.looking (is_long r.held.end r.length_told) whole)
   where
+    none_looked : (o : Option Looking) (b : Bool) → is_whole_by o b ≡ true → b ≡ true
+    none_looked None b e = e
+    none_looked (Some l) b e = absurd cc
+
     by : (o : Option ℕ) → IfSome o (λ long. long ≡ length bytes) → is_long r.held.end o ≡ true → length bytes ≤ r.held.end
     by None told long = absurd cc
     by (Some long) told is = subst (λ (z : ℕ). z ≤ r.held.end) told (leb-true long r.held.end is)
@@ -144,20 +105,20 @@ read_true bytes s q unread t f = by (is_whole q) refl
   where
     by : (b : Bool) → is_whole q ≡ b → ReadsTrue bytes (if b then whole_after (with_own s (own_with s.own None)) q.member (parts_read q) else with_own (with_own s (own_with s.own None)) (own_with (with_own s (own_with s.own None)).own (Some q)))
     by true whole =
-        let all : q.held.bytes ≡ drop q.held.start bytes = all_held bytes q.held f.held (read_to_end s.member bytes q f whole) in
-        whole_true bytes s q.member q.held.start (parts_in q.held.bytes) unread t f.held.before (subst (λ (z : List ℕ). MayBegin q.held.start z) all f.begins) (ap (λ (z : List ℕ). parts_in z) (sym all))
+        let all : q.held.bytes ≡ drop q.held.start bytes = all_held bytes q.held f.stands.kept (read_to_end s.member bytes q f whole) in
+        whole_true bytes s q.member q.held.start (parts_in q.held.bytes) unread t f.stands.kept.before f.begins (ap (λ (z : List ℕ). parts_in z) (sym all))
     by false more = rest_true bytes s (Some q) unread t f
 
 replied : (bytes : List ℕ) (s : RestartState) (o : Option ReaderState) (answer : LogReply) → s.own.is_read ≡ false → ReadsTrue bytes s → IfSome o (λ r. ReadsFront s.member bytes (after_reply r answer)) → ReadsTrue bytes (reader_after s o answer)
 replied bytes s None answer unread t f = t
 replied bytes s (Some r) answer unread t f = read_true bytes s (after_reply r answer) unread t f
 
-length_true : KeepingIsOf → (bytes : List ℕ) (s : RestartState) → s.own.is_read ≡ false → ReadsTrue bytes s → ReadsTrue bytes (read_on_after s (logged.Length (length bytes)))
-length_true law bytes s unread t = replied bytes s s.own.reader (logged.Length (length bytes)) unread t (by s.own.reader (t.reading unread))
+length_true : Laws → (bytes : List ℕ) (s : RestartState) → s.own.is_read ≡ false → ReadsTrue bytes s → ReadsTrue bytes (read_on_after s (logged.Length (length bytes)))
+length_true laws bytes s unread t = replied bytes s s.own.reader (logged.Length (length bytes)) unread t (by s.own.reader (t.reading unread))
   where
     by : (o : Option ReaderState) → IfSome o (ReadsFront s.member bytes) → IfSome o (λ r. ReadsFront s.member bytes (after_reply r (logged.Length (length bytes))))
     by None f = f
-    by (Some r) f = told_length law s.member bytes r f
+    by (Some r) f = front_length laws s.member bytes r f
 
 -- ---- what is sent
 abbrev pub FitsRead : RestartState → RestartSent → Type 0
@@ -335,8 +296,8 @@ done_reading bytes are v s t read same records r = record {
 ok_at : (P : Got → Type 0) (done : Result Got DiskError) (g : Got) → done ≡ Ok g → IfOk done P → P g
 ok_at P done g is h = subst (λ (z : Result Got DiskError). IfOk z P) is h
 
-length_goes : KeepingIsOf → (bytes : List ℕ) (w v : Drive) (h k : Held) (a : Answered) (said : RestartTold) → a ≢ answered.Failed → h.marks.own.is_read ≡ false → StillReads bytes w h.marks → RunsCall w h sent.LogLength a said v k → StillReads bytes v k.marks
-length_goes law bytes w v h k a said well unread st r =
+length_goes : Laws → (bytes : List ℕ) (w v : Drive) (h k : Held) (a : Answered) (said : RestartTold) → a ≢ answered.Failed → h.marks.own.is_read ≡ false → StillReads bytes w h.marks → RunsCall w h sent.LogLength a said v k → StillReads bytes v k.marks
+length_goes laws bytes w v h k a said well unread st r =
     let g = was_got r.after k sent.LogLength r.done a said well r.stores in
     let l = st.tells unread in
     let ok = ok_at _ r.done g.got g.ok r.calls.0.ok in
@@ -344,32 +305,19 @@ length_goes law bytes w v h k a said well unread st r =
     let told : g.got ≡ got.Length (length bytes) = t.2.1 ∙ ap (λ (z : List ℕ). got.Length (length z)) l.log in
     let marks : k.marks ≡ read_on_after h.marks (logged.Length (length bytes)) =
     ap (λ (z : Held). z.marks) g.is ∙ (ap (λ (z : Got). (got_after r.after sent.LogLength z).marks) told ∙ ap (λ (z : Held). read_on_after z.marks (logged.Length (length bytes))) r.calls.1) in
-    left_as bytes st.are w v h.marks k.marks (read_on_after h.marks (logged.Length (length bytes))) l (t.0, t.1, t.2.0) marks (replied_member h.marks h.marks.own.reader (logged.Length (length bytes))) (length_true law bytes h.marks unread st.reads)
+    left_as bytes st.are w v h.marks k.marks (read_on_after h.marks (logged.Length (length bytes))) l (t.0, t.1, t.2.0) marks (replied_member h.marks h.marks.own.reader (logged.Length (length bytes))) (length_true laws bytes h.marks unread st.reads)
 
 -- the block that was asked for
-same_call : (at count from long : ℕ) → Some (call.Read from (min (long - from) block_size)) ≡ Some (call.Read at count) → (at ≡ from) × (count ≡ min (long - from) block_size)
-same_call at count from long e = (cc, cc)
+same_call : (a b : LogCall) → Some a ≡ Some b → a ≡ b
+same_call a b e = cc
 
-length_call : (at count : ℕ) → Some call.Length ≡ Some (call.Read at count) → ⊥
-length_call at count e = cc
-
-asked : (bytes : List ℕ) (member at count : ℕ) (r : ReaderState) → ReadsFront member bytes r → Some (call_by r.held.end r.length_told) ≡ Some (call.Read at count) → (at ≡ r.held.end) × (count ≡ min (length bytes - r.held.end) block_size)
-asked bytes member at count r f e = by r.length_told f.told e
-  where
-    by : (o : Option ℕ) → IfSome o (λ long. long ≡ length bytes) → Some (call_by r.held.end o) ≡ Some (call.Read at count) → (at ≡ r.held.end) × (count ≡ min (length bytes - r.held.end) block_size)
-    by None told is = absurd (length_call at count is)
-    by (Some long) told is = let c = same_call at count r.held.end long is in (c.0, c.1 ∙ ap (λ (z : ℕ). min (z - r.held.end) block_size) told)
-
-read_goes : GrownIsOf → GrownBegins → (bytes : List ℕ) (w v : Drive) (h after k : Held) (at count : ℕ) (done : Result Got DiskError) (o : Option ReaderState) → h.marks.own.reader ≡ o → h.marks.own.is_read ≡ false → next_in o ≡ Some (call.Read at count) → StillReads bytes w h.marks
+read_goes : Laws → (bytes : List ℕ) (w v : Drive) (h after k : Held) (at count : ℕ) (done : Result Got DiskError) (o : Option ReaderState) → h.marks.own.reader ≡ o → h.marks.own.is_read ≡ false → next_in o ≡ Some (call.Read at count) → StillReads bytes w h.marks
     → ReadsBy o w h at count done v after → WasGot after k (sent.ReadLog at count) done → StillReads bytes v k.marks
-read_goes law starts bytes w v h after k at count done None there unread next st r g = absurd cc
-read_goes law starts bytes w v h after k at count done (Some reader) there unread next st r g = by g.got g.ok g.is
+read_goes laws bytes w v h after k at count done None there unread next st r g = absurd cc
+read_goes laws bytes w v h after k at count done (Some reader) there unread next st r g = by g.got g.ok g.is
   where
     front : ReadsFront h.marks.member bytes reader
     front = subst (λ (z : Option ReaderState). IfSome z (ReadsFront h.marks.member bytes)) there (st.reads.reading unread)
-
-    call_is : (at ≡ reader.held.end) × (count ≡ min (length bytes - reader.held.end) block_size)
-    call_is = asked bytes h.marks.member at count reader front next
 
     l : TellsLog w h.marks.member bytes
     l = st.tells unread
@@ -378,18 +326,17 @@ read_goes law starts bytes w v h after k at count done (Some reader) there unrea
     mid = (with_reader h (with_block reader r.block)).marks
 
     lent : ReadsTrue bytes mid
-    lent = rest_true bytes h.marks (Some (with_block reader r.block)) unread st.reads (record { own = front.own; held = front.held; begins = front.begins; told = front.told })
+    lent = rest_true bytes h.marks (Some (with_block reader r.block)) unread st.reads (record { own = front.own; whole = front.whole; stands = lent_stands bytes reader r.block front.stands; begins = front.begins; told = front.told })
 
     counted : (n : ℕ) → done ≡ Ok (got.Count n) → k ≡ got_after after (sent.ReadLog at count) (got.Count n) → StillReads bytes v k.marks
     counted n ok is =
         let good = ok_at _ done (got.Count n) ok r.reads.ok in
         let t = told_after w.contents v.contents l.contents _ l.told good.2 in
-        let few : n ≡ min (min (min (length bytes - reader.held.end) block_size) block_size) (length bytes - reader.held.end) =
-        t.2.1.0 ∙ (ap (λ (z : List ℕ). min (min count block_size) (length z - at)) l.log ∙ (ap (λ (z : ℕ). min (min z block_size) (length bytes - at)) call_is.1 ∙ ap (λ (z : ℕ). min (min (min (length bytes - reader.held.end) block_size) block_size) (length bytes - z)) call_is.0)) in
-        let same : take n r.block ≡ take n (drop reader.held.end bytes) = t.2.1.1 ∙ (ap (λ (z : List ℕ). take n (drop at z)) l.log ∙ ap (λ (z : ℕ). take n (drop z bytes)) call_is.0) in
+        let few : n ≡ min (min count block_size) (length bytes - at) = t.2.1.0 ∙ ap (λ (z : List ℕ). min (min count block_size) (length z - at)) l.log in
+        let same : take n r.block ≡ take n (drop at bytes) = t.2.1.1 ∙ ap (λ (z : List ℕ). take n (drop at z)) l.log in
         let marks : k.marks ≡ read_on_after mid (logged.Count n) = ap (λ (z : Held). z.marks) is ∙ ap (λ (z : Held). read_on_after z.marks (logged.Count n)) r.held in
         left_as bytes st.are w v h.marks k.marks (read_on_after mid (logged.Count n)) l (t.0, t.1, t.2.0) marks (replied_member mid (Some (with_block reader r.block)) (logged.Count n))
-        (replied bytes mid (Some (with_block reader r.block)) (logged.Count n) unread lent (told_block law starts h.marks.member bytes reader r.block n st.are front few same))
+        (replied bytes mid (Some (with_block reader r.block)) (logged.Count n) unread lent (front_count laws h.marks.member bytes reader r.block n at count st.are front (same_call (next_call reader) (call.Read at count) next) few same))
 
     other : (x : Got) → done ≡ Ok x → (IsCount x (λ n. (n ≡ min (min count block_size) (length (log_of l.contents.logs h.marks.member) - at)) × (take n r.block ≡ take n (drop at (log_of l.contents.logs h.marks.member)))) → ⊥) → StillReads bytes v k.marks
     other x ok never =
@@ -460,9 +407,9 @@ runs_true laws bytes u v h k i (sent.Command c) a said lawful well fits o st r =
     subst (λ (z : Held). StillReads bytes v.drive z.marks) (sym r.0.settles)
     (still_as bytes u.drive v.drive h.marks (settled r.0.after i r.0.answer).marks r.1
     (from_marks h r.0.after i (sent.Command c) r.0.answer (same_marks h r.0.after (is_hand h c) (lent_bytes r.0.after (is_hand h c)) r.0.gives.executed.back) lawful) o st)
-runs_true laws bytes u v h k i sent.LogLength a said lawful well fits o st r = length_goes laws.keeping bytes u.drive v.drive h k a said well fits st r.0
+runs_true laws bytes u v h k i sent.LogLength a said lawful well fits o st r = length_goes laws bytes u.drive v.drive h k a said well fits st r.0
 runs_true laws bytes u v h k i (sent.ReadLog at count) a said lawful well fits o st r =
-    read_goes laws.grown laws.starts bytes u.drive v.drive h r.0.after k at count r.0.done h.marks.own.reader refl fits.0 fits.1 st r.0.calls (was_got r.0.after k (sent.ReadLog at count) r.0.done a said well r.0.stores)
+    read_goes laws bytes u.drive v.drive h r.0.after k at count r.0.done h.marks.own.reader refl fits.0 fits.1 st r.0.calls (was_got r.0.after k (sent.ReadLog at count) r.0.done a said well r.0.stores)
 runs_true laws bytes u v h k i (sent.CutLog long) a said lawful well fits o st r =
     after_read bytes st.are v.drive h.marks r.0.after k (sent.CutLog long) r.0.done (λ (z : RestartState). tail_cut z) fits o (ap (λ (z : Held). z.marks) r.0.calls.1) st.reads (was_got r.0.after k (sent.CutLog long) r.0.done a said well r.0.stores) refl refl refl
 runs_true laws bytes u v h k i sent.AppendLog a said lawful well fits o st r =
@@ -475,18 +422,19 @@ reads_stay law laws bytes u v h k x a e well o st =
     still_as bytes v.drive v.drive e.after.marks k.marks refl (locals e.after.marks k.marks e.ends.0) (runs_keep law u v h e.after e.intent x a e.said e.lawful e.runs o) mid
 
 -- ---- the begin
-pub reads_begin : NothingIsOf → NothingBegins → ReadsBegin
-reads_begin law starts member bytes s f = record {
-  reading = λ _. subst (λ (z : ℕ). IfSome s.own.reader (ReadsFront z bytes)) (sym (ap (λ (z : RestartState). z.member) f.rest)) (by s.own.reader f.own.reader);
+pub reads_begin : NothingStands → ReadsBegin
+reads_begin law member bytes s f knows = record {
+  reading = λ _. subst (λ (z : ℕ). IfSome s.own.reader (ReadsFront z bytes)) (sym (ap (λ (z : RestartState). z.member) f.rest)) (by s.own.reader f.own.reader knows);
   idle = λ _. ap (λ (z : RestartState). z.log.pending) f.rest;
   records = λ r. absurd (both_ways s.own.is_read (ap (λ (z : OwnState). z.is_read) f.own.rest) r);
 }
   where
-    by : (o : Option ReaderState) → HasNewReader member o → IfSome o (ReadsFront member bytes)
-    by None new = absurd new
-    by (Some r) new = record {
+    by : (o : Option ReaderState) → HasNewReader member o → IfSome o (IsKnown bytes) → IfSome o (ReadsFront member bytes)
+    by None new knows = absurd new
+    by (Some r) new knows = record {
       own = new.member_is;
-      held = subst (λ (z : HeldState). IsOf bytes z) (sym new.nothing) (law bytes false);
-      begins = subst (λ (z : HeldState). BeginsAt z) (sym new.nothing) (starts false);
+      whole = knows;
+      stands = law bytes member r new;
+      begins = subst (λ (z : HeldState). BeginsIn bytes z) (sym new.nothing) (inl refl);
       told = subst (λ (z : Option ℕ). IfSome z (λ long. long ≡ length bytes)) (sym new.length_unknown) tt;
     }

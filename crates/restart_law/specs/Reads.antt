@@ -1,10 +1,11 @@
 -- The log that a restart reads, beside the one that the disk tells.
-use Rattle.std.specs.Prelude.{◌≡◌, ◌≢◌, ℕ, true, false, List, [], length, take, drop, Some, Ok, IfSome}
+use Rattle.std.specs.Prelude.{◌≡◌, ◌≢◌, ℕ, true, false, List, [], ◌++◌, length, take, drop, Some, Ok, IfSome}
 use Rattle.ds_disk.specs.Contents.{Contents, log_of}
 use Rattle.ds_model.specs.declared.log.LogRecord.{LogRecord}
-use Rattle.log_reader.specs.Keeping.{AreBytes, AreWhole, IsOf}
-use Rattle.log_reader.specs.Readers.{ReaderState}
-use Rattle.log_starts.specs.Starts.{BeginsAt, MayBegin}
+use Rattle.log_reader.specs.Keeping.{AreBytes, AreWhole}
+use Rattle.checkpoint_reader.specs.Keeping.{Stands}
+use Rattle.checkpoint_reader.specs.Readers.{ReaderState}
+use Rattle.log_starts.specs.Starts.{BeginsIn, MayBegin}
 use Rattle.log_record.specs.Logs.{Parts, parts_in}
 use Rattle.member_intents.specs.declared.outcome.Answered.{Answered}
 use Rattle.member_intents.specs.declared.outcome.Answered.TheVariants as answered
@@ -15,12 +16,17 @@ use Rattle.restart_resources.specs.Events.{Happens, World}
 use Rattle.restart_resources.specs.Held.{Held}
 use Rattle.restart_law.specs.Opens.{OpensStand}
 
--- what is kept are bytes of these, behind whole records of them, from the first on or from a Checkpoint that names its place; and their number
--- is the one that was told, if one was
+-- up to where the bytes are known to be whole records they are
+abbrev pub IsKnown : List ℕ → ReaderState → Type 0
+IsKnown bytes r = AreWhole (take r.known bytes)
+
+-- what is kept, and what is looked at, are bytes of these; those that are kept stand behind whole records of them, from the first on or from a
+-- Checkpoint that names its place; and their number is the one that was told, if one was
 pub record ReadsFront (member : ℕ) (bytes : List ℕ) (r : ReaderState) : Type 0 where
   pub own : r.member ≡ member
-  pub held : IsOf bytes r.held
-  pub begins : BeginsAt r.held
+  pub whole : IsKnown bytes r
+  pub stands : Stands bytes r
+  pub begins : BeginsIn bytes r.held
   pub told : IfSome r.length_told (λ long. long ≡ length bytes)
 
 -- The records are those of the bytes from this one on, before which whole records stand: it is the first, or a Checkpoint begins there that names
@@ -45,8 +51,22 @@ pub record TellsLog (drive : Drive) (member : ℕ) (bytes : List ℕ) : Type 0 w
   pub told : drive.contents ≡ Some contents
   pub log : log_of contents.logs member ≡ bytes
 
+-- up to the end that the restart was given, the bytes are whole records
+abbrev pub KnowsWhole : List ℕ → RestartState → Type 0
+KnowsWhole bytes s = IfSome s.own.reader (IsKnown bytes)
+
+-- ---- the laws
+
+-- so they are where nothing is known
+abbrev pub NothingKnown : Type 0
+NothingKnown = (bytes : List ℕ) (s : RestartState) → IfSome s.own.reader (λ (r : ReaderState). r.known ≡ 0) → KnowsWhole bytes s
+
+-- where all of them were whole records, whatever was appended since
+abbrev pub WholeKnown : Type 0
+WholeKnown = (bytes more : List ℕ) (s : RestartState) → AreWhole bytes → IfSome s.own.reader (λ (r : ReaderState). r.known ≡ length bytes) → KnowsWhole (bytes ++ more) s
+
 abbrev pub ReadsBegin : Type 0
-ReadsBegin = (member : ℕ) (bytes : List ℕ) (s : RestartState) → IsFresh member s → ReadsTrue bytes s
+ReadsBegin = (member : ℕ) (bytes : List ℕ) (s : RestartState) → IsFresh member s → KnowsWhole bytes s → ReadsTrue bytes s
 
 -- they are bytes, and the disk tells them as long as the log isn't read whole; and what is read is true
 pub record StillReads (bytes : List ℕ) (drive : Drive) (s : RestartState) : Type 0 where

@@ -15,11 +15,11 @@ ghost use Rattle.restart_law.specs.Opens.{
   PurgesSpare,
   PurgesSpareLeft,
 };
-ghost use Rattle.restart_law.specs.Reads.{ReadsBegin, ReadsStay};
+ghost use Rattle.restart_law.specs.Reads.{NothingKnown, ReadsBegin, ReadsStay, WholeKnown};
 
-use log_reader::reader_laws;
+use checkpoint_reader::reader_laws;
 use log_rows::{both_tell, open_trans_tell};
-use log_starts::starts_stay;
+use log_starts::replies_begin;
 
 /// So it is of a restart that begins, and no event of it changes that, nor does what its member takes over from it.
 pub fn opens_stay()
@@ -42,13 +42,16 @@ pub fn opens_tell()
 }
 
 /// Over a disk that tells what it holds, what a restart has read are the last records of its member's log on disk as it was before the
-/// restart changed it, behind whole records: all of it, or what follows a Checkpoint that names its own place.
+/// restart changed it, behind whole records: all of it, or what follows a Checkpoint that names its own place. Up to the end that the
+/// restart was given, the log is to be whole records: nothing is, and so is a log that was whole records, whatever was appended to it since.
 pub fn reads_true()
+    ensures nothing { NothingKnown }
+    ensures whole { WholeKnown }
     ensures begin { ReadsBegin }
     ensures event { ReadsStay }
 {
     reader_laws();
-    starts_stay();
+    replies_begin();
     open_trans_tell();
 }
 
