@@ -10,4 +10,4 @@ returns-then-not-can_ring-clause-refused g c = λ is.
     iff_false {b = c.can_ring.result} {P = CanRing c.args.lists.now.bells} c.can_ring.ensures off
 
 pub returns-clause-known : goal.returns-clause-known
-returns-clause-known g c = λ begins yes. subst (λ (known : ℕ). KnowsTo known c.in_ok-new.new.resources) c.of.ensures c.in_ok-new.ensures.known
+returns-clause-known g c = λ begins yes. subst (λ (known : ℕ). KnowsTo known c.in_ok-new.field-0.resources) c.of.ensures c.in_ok-new.ensures.known
