@@ -9,3 +9,4 @@ pub mod Kept_tables
 pub mod Tables
 pub mod Stops
 pub mod Kept_logs
+pub mod Places

@@ -91,9 +91,9 @@ number_in version.Two n h = h
 
 -- ---- the pages behind a compensation
 
-image_is : Known → (rs : List LogRecord) (r : LogRecord) (c : RowChange) (n : ℕ) (id : PageId) → r.body ≡ body.Compensation c n
+image_is : Known → (rs : List LogRecord) (r : LogRecord) (c : RowChange) (id : PageId) → changes_of r.body ≡ row_patch c ∷ []
     → images_of (rs ++ r ∷ []) id ≡ cond (same_page (heap_page c.table c.place.page) id) (behind (images_of rs id) c r.lrsn) (images_of rs id)
-image_is k rs r c n id is = k.grows rs r id ∙ ap (λ (b : Body). after_change r.lrsn (changes_of b) (images_of rs) id) is
+image_is k rs r c id is = k.grows rs r id ∙ ap (λ (ps : List Patch). after_change r.lrsn ps (images_of rs) id) is
 
 stays_if : (b : Bool) (x y : List ℕ) → b ≡ false → cond b x y ≡ y
 stays_if true x y h = absurd cc
@@ -108,11 +108,11 @@ patched_is k rs r c id all allowed change low = record {
   high = number_in r.version r.lrsn allowed.lrsn_in;
 }
 
-is_behind : Known → (rs : List LogRecord) (r : LogRecord) (c : RowChange) (n : ℕ) → r.body ≡ body.Compensation c n → AllByRecursion IsAllowed rs → IsAllowed r → ChangeIsAllowed c → 1 ≤ r.lrsn
+pub is_behind : Known → (rs : List LogRecord) (r : LogRecord) (c : RowChange) → changes_of r.body ≡ row_patch c ∷ [] → AllByRecursion IsAllowed rs → IsAllowed r → ChangeIsAllowed c → 1 ≤ r.lrsn
     → IsBehind (images_of rs) (images_of (rs ++ r ∷ [])) c r.lrsn
-is_behind k rs r c n is all allowed change low =
+is_behind k rs r c is all allowed change low =
     let own = heap_page c.table c.place.page in
-    let image = λ (id : PageId). image_is k rs r c n id is in
+    let image = λ (id : PageId). image_is k rs r c id is in
     record {
       here = image own ∙ ap (λ (b : Bool). cond b (behind (images_of rs own) c r.lrsn) (images_of rs own)) (k.numbers c.table c.place.page c.place.page ∙ eq-eqb c.place.page c.place.page refl);
       patched = patched_is k rs r c own all allowed change low;
@@ -178,7 +178,7 @@ undone_stands logs r c t u = change_stands (merged logs) c u.change u.slot (t.ta
 undone_tables : Known → (logs : List Log) (r : LogRecord) (c : RowChange) (n : ℕ) → r.body ≡ body.Compensation c n → IsAllowed r → AreTables logs → Undoes logs r c → AreWholeTables (merged logs ++ r ∷ [])
 undone_tables k logs r c n is allowed t u =
     let rs = merged logs in
-    let pages = is_behind k rs r c n is u.all allowed u.change u.low in
+    let pages = is_behind k rs r c (ap changes_of is) u.all allowed u.change u.low in
     record {
       tables = λ table in_range. table_stays k.page (images_of rs) (images_of (rs ++ r ∷ [])) c r.lrsn pages u.slot table in_range.0 rs (rs ++ r ∷ [])
           (λ m. count_stays table m rs r (no_index k r c n table m is u.change))
@@ -189,7 +189,7 @@ undone_tables k logs r c n is allowed t u =
 
 -- ---- places
 
-slot_stays : Known → (rs : List LogRecord) (r : LogRecord) (c : RowChange) → IsBehind (images_of rs) (images_of (rs ++ r ∷ [])) c r.lrsn → IsPlaceOf (images_of rs) c.table c.key c.place → (v : Version) (b : Body) → BodyIsAllowed v b
+pub slot_stays : Known → (rs : List LogRecord) (r : LogRecord) (c : RowChange) → IsBehind (images_of rs) (images_of (rs ++ r ∷ [])) c r.lrsn → IsPlaceOf (images_of rs) c.table c.key c.place → (v : Version) (b : Body) → BodyIsAllowed v b
     → HasItsSlot (images_of rs) b → HasItsSlot (images_of (rs ++ r ∷ [])) b
 slot_stays k rs r c pages slot v (body.RowChange d) allowed h = place_behind k.page (images_of rs) (images_of (rs ++ r ∷ [])) c r.lrsn pages slot d.table allowed.table_in.0 d.key d.place h
 slot_stays k rs r c pages slot v (body.Compensation d n) allowed h = place_behind k.page (images_of rs) (images_of (rs ++ r ∷ [])) c r.lrsn pages slot d.table allowed.0.table_in.0 d.key d.place h
@@ -199,7 +199,7 @@ slot_stays k rs r c pages slot v body.Ended allowed h = tt
 slot_stays k rs r c pages slot v (body.Checkpoint offset) allowed h = tt
 slot_stays k rs r c pages slot v body.RestartEnd allowed h = tt
 
-each_with : (P Q R : LogRecord → Type 0) (rs : List LogRecord) (r : LogRecord) → ((s : LogRecord) → P s → Q s → R s) → AllByRecursion P rs → AllByRecursion Q rs → R r → AllByRecursion R (rs ++ r ∷ [])
+pub each_with : (P Q R : LogRecord → Type 0) (rs : List LogRecord) (r : LogRecord) → ((s : LogRecord) → P s → Q s → R s) → AllByRecursion P rs → AllByRecursion Q rs → R r → AllByRecursion R (rs ++ r ∷ [])
 each_with P Q R [] r f p q h = (h, tt)
 each_with P Q R (s ∷ rs) r f p q h = (f s p.0 q.0, each_with P Q R rs r f p.1 q.1 h)
 
@@ -207,7 +207,7 @@ undone_places : Known → (logs : List Log) (r : LogRecord) (c : RowChange) (n :
     → AllByRecursion (λ (s : LogRecord). HasItsSlot (images_of (merged logs ++ r ∷ [])) s.body) (merged logs ++ r ∷ [])
 undone_places k logs r c n is allowed h u =
     let rs = merged logs in
-    let pages = is_behind k rs r c n is u.all allowed u.change u.low in
+    let pages = is_behind k rs r c (ap changes_of is) u.all allowed u.change u.low in
     each_with (λ (s : LogRecord). IsAllowed s) (λ (s : LogRecord). HasItsSlot (images_of rs) s.body) (λ (s : LogRecord). HasItsSlot (images_of (rs ++ r ∷ [])) s.body) rs r
     (λ s a b. slot_stays k rs r c pages u.slot s.version s.body a.body_is b) u.all h
     (slot_stays k rs r c pages u.slot r.version r.body allowed.body_is (subst (HasItsSlot (images_of rs)) (sym is) u.slot))

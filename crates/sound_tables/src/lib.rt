@@ -5,6 +5,7 @@
 #![tactic(auto)]
 
 ghost use Rattle.sound_tables.specs.Keeping.{AllKeepSound, KeepsPlaces, KeepsTables, LastOpenStands, MeetsItsRow, MergedFollow, StopKeepsSound};
+ghost use Rattle.sound_tables.specs.Places.{KeptSlotsStay};
 
 /// The merged records of sound logs fit each other, and an open row change that is the last of its transaction has left its row
 /// as it is.
@@ -21,6 +22,19 @@ pub fn table_laws()
     ensures meets { MeetsItsRow }
     ensures tables { KeepsTables }
     ensures places { KeepsPlaces }
+{
+    heap_space::image_laws();
+    page_images::name_laws();
+    page_images::part_laws();
+    page_images::header_laws();
+    page_chain::chain_laws();
+    sound_disk::page_laws();
+    sound_appends::turn_laws();
+}
+
+/// Rows stay in their places where no record of patches that are no row's takes a slot from its key.
+pub fn place_laws()
+    ensures { KeptSlotsStay }
 {
     heap_space::image_laws();
     page_images::name_laws();
