@@ -1,0 +1,12 @@
+pub mod Sorted
+pub mod Drawn
+pub mod Following
+pub mod Row_chains
+pub mod Open_rows
+pub mod Last_rows
+pub mod Patched
+pub mod Kept_tables
+pub mod Tables
+pub mod Stops
+pub mod Kept_logs
+pub mod Places

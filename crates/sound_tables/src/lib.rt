@@ -1,0 +1,60 @@
+//! What the records that a group restart appends make of the tables: the pages after all records are tables still, and each row
+//! record tells the row before it.
+//!
+//! The crate has definitions and proofs alone. Its functions do nothing: their contracts are the laws.
+#![tactic(auto)]
+
+ghost use Rattle.sound_tables.specs.Keeping.{AllKeepSound, KeepsPlaces, KeepsTables, LastOpenStands, MeetsItsRow, MergedFollow, StopKeepsSound};
+ghost use Rattle.sound_tables.specs.Places.{KeptSlotsStay};
+
+/// The merged records of sound logs fit each other, and an open row change that is the last of its transaction has left its row
+/// as it is.
+pub fn row_laws()
+    ensures follow { MergedFollow }
+    ensures stands { LastOpenStands }
+{
+    sound_disk::page_laws();
+}
+
+/// A compensation meets the row that it tells. The pages after all records are tables with what is appended as they were, and
+/// no row leaves its place.
+pub fn table_laws()
+    ensures meets { MeetsItsRow }
+    ensures tables { KeepsTables }
+    ensures places { KeepsPlaces }
+{
+    heap_space::image_laws();
+    page_images::name_laws();
+    page_images::part_laws();
+    page_images::header_laws();
+    page_chain::chain_laws();
+    sound_disk::page_laws();
+    sound_appends::turn_laws();
+}
+
+/// Rows stay in their places where no record of patches that are no row's takes a slot from its key.
+pub fn place_laws()
+    ensures { KeptSlotsStay }
+{
+    heap_space::image_laws();
+    page_images::name_laws();
+    page_images::part_laws();
+    page_images::header_laws();
+    page_chain::chain_laws();
+    sound_disk::page_laws();
+    sound_appends::turn_laws();
+}
+
+/// Several records that are appended to one log keep all clauses of a sound disk, and so does what a stop in between left of
+/// them.
+pub fn stop_laws()
+    ensures all { AllKeepSound }
+    ensures stop { StopKeepsSound }
+{
+    sound_appends::whole_laws();
+    sound_appends::turn_laws();
+    sound_appends::transaction_laws();
+    sound_appends::append_laws();
+    sound_appends::page_laws();
+    table_laws();
+}
