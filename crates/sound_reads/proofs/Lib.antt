@@ -1,0 +1,6 @@
+pub mod Apart
+pub mod Fewer
+pub mod Undamaged
+pub mod Kept
+pub mod Orders
+pub mod Suiting

@@ -1,0 +1,13 @@
+pub mod Stamped
+pub mod Versions
+pub mod Renewed
+pub mod Brought
+pub mod Page_writes
+pub mod Headers
+pub mod Numbers
+pub mod Listed_pages
+pub mod Bringing
+pub mod Redoing
+pub mod Undamaged
+pub mod Undone
+pub mod Cutting

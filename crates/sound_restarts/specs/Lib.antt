@@ -1,0 +1,4 @@
+pub mod Damage
+pub mod Redo
+pub mod Undo
+pub mod Cuts
