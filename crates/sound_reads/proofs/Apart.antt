@@ -1,8 +1,8 @@
 -- A transaction that has a record behind a Checkpoint from which a log is kept has none before it.
-use Rattle.std.proofs.Common.{◌≡◌, ℕ, ◌+◌, ◌≤◌, ◌<◌, Bool, true, false, cond, List, [], ◌∷◌, ◌++◌, length, Option, Some, None, inl, inr, refl, sym, ap, subst, ◌∙◌, append_assoc, arith}
-use Rattle.std.specs.Prelude.{◌⊎◌, ◌≢◌, ◌==◌, nat_lt, nat_le, not, ◌||◌, ◌&&◌}
-use Rattle.std.specs.List.{AllByRecursion, list_any, list_all}
-use Rattle.std.proofs.lemmas.Bool.{cases_Bool, both_ways, and_parts, or_cases, or_parts, not-true, eqb-true, eqb-false, leb-false, ltb-false, and_cases}
+use Rattle.std.proofs.Common.{◌≡◌, ℕ, ◌≤◌, ◌<◌, Bool, true, false, cond, List, [], ◌∷◌, ◌++◌, None, inl, inr, refl, sym, ap, subst, ◌∙◌, append_assoc, arith}
+use Rattle.std.specs.Prelude.{◌⊎◌, ◌==◌, nat_lt, nat_le, not, ◌||◌, ◌&&◌}
+use Rattle.std.specs.List.{AllByRecursion, list_all}
+use Rattle.std.proofs.lemmas.Bool.{cases_Bool, both_ways, and_parts, or_parts}
 use Rattle.std.proofs.lemmas.Bool.Decides.{nat_tests}
 use Rattle.std.proofs.lemmas.List.{append-nil}
 use Rattle.std.proofs.lemmas.List.Folds.{list_any-append}
@@ -12,11 +12,11 @@ use Rattle.ds_model.specs.declared.log.Body.TheVariants as body
 use Rattle.ds_model.specs.declared.log.Version.{Version}
 use Rattle.ds_model.specs.RecordBytes.{IsAllowed, is_of_tran, TranFits, is_written}
 use Rattle.log_merge.specs.Merging.{RisesFrom}
-use Rattle.log_reader.specs.Held.{names, begins_at, is_earlier}
+use Rattle.log_reader.specs.Held.{names, is_earlier}
 use Rattle.log_trans.specs.declared.course.Course.{Course}
 use Rattle.log_trans.specs.Courses.{new_course, after_body}
 use Rattle.log_trans.specs.Damage.{body_fault}
-use Rattle.sound_disk.specs.Transactions.{speak_of, is_named, course_in, TakesBack, MayFollow, EachFollows}
+use Rattle.sound_disk.specs.Transactions.{speak_of, course_in, TakesBack, MayFollow, EachFollows}
 use Rattle.sound_reads.specs.Reads.{BeginThere, MayBeginAt}
 
 -- no record of the front is of this transaction

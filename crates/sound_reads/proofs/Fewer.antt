@@ -1,7 +1,7 @@
 -- Logs of which the first records are left out are those of transactions still.
-use Rattle.std.proofs.Common.{◌≡◌, ℕ, ◌+◌, ◌≤◌, Bool, true, false, cond, List, [], ◌∷◌, ◌++◌, length, inl, inr, refl, sym, ap, subst, ◌∙◌, append_assoc, arith}
-use Rattle.std.specs.Prelude.{◌⊎◌, ◌==◌, not, ◌||◌, ◌&&◌, max}
-use Rattle.std.specs.List.{AllByRecursion, list_any, list_all}
+use Rattle.std.proofs.Common.{◌≡◌, ℕ, ◌+◌, ◌≤◌, Bool, true, false, cond, List, [], ◌∷◌, ◌++◌, length, refl, sym, ap, subst, ◌∙◌, append_assoc, arith}
+use Rattle.std.specs.Prelude.{◌==◌, not, ◌||◌, ◌&&◌}
+use Rattle.std.specs.List.{AllByRecursion}
 use Rattle.std.proofs.lemmas.Bool.{and_parts, and_from, or_parts, not-true}
 use Rattle.std.proofs.lemmas.List.Folds.{list_any-append, list_all-append}
 use Rattle.ds_model.specs.declared.log.LogRecord.{LogRecord}
@@ -9,10 +9,9 @@ use Rattle.ds_model.specs.RecordBytes.{IsAllowed, log_bytes}
 use Rattle.log_record.specs.declared.log.Log.{Log}
 use Rattle.log_record.specs.Changes.{is_drawn}
 use Rattle.log_merge.specs.Merging.{all_records, RisesFrom}
-use Rattle.log_trans.specs.Numbers.{greatest}
 use Rattle.sound_disk.specs.Transactions.{drawn_numbers, is_among, all_differ, speak_of, stands_apart, stand_apart, EachFollows, AreTransactions}
 use Rattle.sound_disk.specs.Whole_logs.{AreWholeLogs}
-use Rattle.sound_reads.specs.Reads.{MayBeginAt, IsReadOf, AreReadOf}
+use Rattle.sound_reads.specs.Reads.{IsReadOf, AreReadOf}
 use Rattle.sound_reads.proofs.Apart.{rest_away, rest_follows, IsAway}
 
 -- ---- parts of records

@@ -1,9 +1,8 @@
 -- What is kept of a log while it is read, and what was read of it in the end.
 use Rattle.std.proofs.Common.{◌≡◌, ℕ, ◌+◌, ◌-◌, ◌<◌, ◌≤◌, Bool, true, false, cond, List, [], ◌∷◌, ◌++◌, length, take, drop, Result, Ok, Err, inl, inr, refl, sym, ap, subst, ◌∙◌, append_assoc, arith, lit<, get_or}
-use Rattle.std.specs.Prelude.{◌⊎◌, ◌==◌, nat_lt, nat_le, not, ◌||◌, ◌&&◌}
+use Rattle.std.specs.Prelude.{◌⊎◌, ◌==◌, nat_lt, not, ◌||◌, ◌&&◌}
 use Rattle.std.specs.List.{AllByRecursion, list_all}
 use Rattle.std.proofs.lemmas.Bool.{cond_both, both_ways, and_parts, and_from, or_parts, ltb-true, not-false, cases_lt}
-use Rattle.std.proofs.lemmas.Bool.Decides.{nat_tests}
 use Rattle.std.proofs.lemmas.Grind.{flat_map-append}
 use Rattle.std.proofs.lemmas.List.{append-nil, length-append, length-drop, length-take-le, take-append-le, take-append-drop, drop-drop, get_or-drop, get_or_past}
 use Rattle.std.proofs.lemmas.List.Folds.{list_all-append}
@@ -22,14 +21,13 @@ use Rattle.log_head.specs.Laws.{FirstIsWhole, NoneIsWhole, PartsGoOn, PartsEnd, 
 use Rattle.log_head.specs.Heads.{IsShort}
 use Rattle.log_head.specs.Whole.{whole_records}
 use Rattle.log_reader.specs.declared.held.Mark.{Mark}
-use Rattle.log_reader.specs.Held.{HeldState, nothing_held, names, names_other, begins_at, is_earlier, begun_at, gone_on, marked_one, marked_all, first_mark, with_mark, settled, grown}
+use Rattle.log_reader.specs.Held.{HeldState, nothing_held, names, names_other, begins_at, is_earlier, begun_at, gone_on, marked_one, marked_all, first_mark, with_mark, settled}
 use Rattle.log_reader.specs.Keeping.{AreBytes, IsOf, HasLastOf, ReadIsLast}
 use Rattle.log_reader.specs.Readers.{ReaderState, IsLogRead, parts_behind}
 use Rattle.log_reader.proofs.Marks.{one_behind}
 use Rattle.checkpoint_offsets.specs.Offsets.{names_own, all_own}
 use Rattle.sound_disk.specs.Laws.{AreRead}
-use Rattle.sound_disk.specs.Whole_logs.{IsWholeLog}
-use Rattle.sound_reads.specs.Reads.{BeginThere, MayBeginAt, HasNumber, BeginAt, IsReadOf, IsKept}
+use Rattle.sound_reads.specs.Reads.{MayBeginAt, BeginAt, IsKept}
 use Rattle.sound_reads.specs.Laws.{NothingIsKept, LengthIsKept, GrownIsKept, LastIsRead}
 
 abbrev FoundInBytes : Type 0

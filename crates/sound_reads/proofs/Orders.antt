@@ -1,8 +1,8 @@
 -- A page is brought forward by those records alone that change it and are above its number; and these are among the merged records in the order of all.
-use Rattle.std.proofs.Common.{◌≡◌, ℕ, ◌+◌, ◌≤◌, ◌<◌, Bool, true, false, cond, List, [], ◌∷◌, ◌++◌, Result, Ok, Err, inl, inr, refl, sym, ap, subst, ◌∙◌, arith}
-use Rattle.std.specs.Prelude.{◌⊎◌, ◌||◌, ◌&&◌, nat_lt, nat_le, filter}
+use Rattle.std.proofs.Common.{◌≡◌, ℕ, ◌≤◌, ◌<◌, Bool, true, false, cond, List, [], ◌∷◌, ◌++◌, Result, Ok, Err, inl, inr, refl, sym, ap, ◌∙◌, arith}
+use Rattle.std.specs.Prelude.{◌||◌, ◌&&◌, nat_lt, nat_le, filter}
 use Rattle.std.specs.List.{AllByRecursion}
-use Rattle.std.proofs.lemmas.Bool.{ltb-true, ltb-false, lt-ltb, leb-true, leb-false, le-leb, cases_Bool, both_ways}
+use Rattle.std.proofs.lemmas.Bool.{ltb-true, lt-ltb, leb-true, le-leb, cases_Bool}
 use Rattle.ds_base.specs.declared.names.PageId.{PageId}
 use Rattle.ds_model.specs.declared.log.LogRecord.{LogRecord}
 use Rattle.ds_model.specs.Logs.{put_by_lrsn, by_lrsn}
@@ -12,7 +12,7 @@ use Rattle.page_format.specs.Fields.{lrsn_of}
 use Rattle.page_format.specs.Header.{header_of}
 use Rattle.page_format.specs.declared.header.Header.{Header}
 use Rattle.page_format.specs.declared.header.NotAPage.{NotAPage}
-use Rattle.page_redo.specs.Forward.{patches_of, has_patch, body_fault, Forward, unless, after_one, go_on, forward_from, headed, brought_forward, NeedsItsOwn}
+use Rattle.page_redo.specs.Forward.{patches_of, has_patch, body_fault, Forward, unless, go_on, forward_from, headed, brought_forward, NeedsItsOwn}
 
 abbrev pub above : ℕ → LogRecord → Bool
 above n r = nat_lt n r.lrsn

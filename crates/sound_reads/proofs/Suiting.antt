@@ -1,6 +1,6 @@
 -- The plan of what was read of the logs of a sound disk brings each of its pages forward.
-use Rattle.std.proofs.Common.{◌≡◌, ℕ, ◌+◌, ◌≤◌, ◌<◌, Bool, true, false, cond, List, [], ◌∷◌, ◌++◌, length, inl, inr, refl, sym, ap, subst, ◌∙◌, append_assoc, arith}
-use Rattle.std.specs.Prelude.{◌⊎◌, ◌==◌, nat_lt, nat_le, not, ◌||◌, ◌&&◌, filter}
+use Rattle.std.proofs.Common.{◌≡◌, ℕ, ◌+◌, ◌≤◌, Bool, true, false, cond, List, [], ◌∷◌, ◌++◌, length, inl, inr, refl, sym, ap, subst, ◌∙◌, arith}
+use Rattle.std.specs.Prelude.{◌==◌, nat_lt, nat_le, not, ◌||◌, ◌&&◌, filter}
 use Rattle.std.specs.List.{AllByRecursion, list_any, list_all}
 use Rattle.std.proofs.lemmas.Bool.{and_parts, cases_Bool, eqb-true, leb-true, lt-ltb, le-ltb, and_left, and_right, ne_eqb, not_from_false}
 use Rattle.std.proofs.lemmas.List.{length-append}
@@ -14,26 +14,24 @@ use Rattle.ds_model.specs.declared.log.Body.TheVariants as body
 use Rattle.ds_model.specs.RecordBytes.{IsAllowed, is_written, record_bytes, log_bytes}
 use Rattle.log_record.specs.declared.log.Log.{Log}
 use Rattle.log_merge.specs.Merging.{all_records, in_order}
-use Rattle.log_reader.specs.Held.{names, begins_at}
+use Rattle.log_reader.specs.Held.{names}
 use Rattle.log_trans.specs.Numbers.{greatest}
 use Rattle.page_chain.specs.Chains.{changes_of, touches}
 use Rattle.page_format.specs.Fields.{lrsn_of}
 use Rattle.page_format.specs.declared.patch.Patch.{Patch}
 use Rattle.page_images.specs.Images.{Images}
-use Rattle.page_redo.specs.Forward.{Forward, brought_forward, NeedsItsOwn}
+use Rattle.page_redo.specs.Forward.{brought_forward, NeedsItsOwn}
 use Rattle.checkpoint_offsets.specs.Offsets.{names_own, all_own}
-use Rattle.restart_plan.specs.Greatest.{greatest_among, no_number}
 use Rattle.restart_plan.specs.Plans.{plan_of}
-use Rattle.restart_plan.specs.Renewal.{must_renew}
 use Rattle.group_restart.specs.Course.{plan_read}
 use Rattle.sound_disk.specs.Checkpoints.{next_place, offset_or, start_from, start_of, records_before, is_in_pages, changes_pages, is_done, AreCheckpointed}
 use Rattle.sound_disk.specs.Settled.{has_ended}
 use Rattle.sound_disk.specs.Versions.{merged, last_images}
 use Rattle.sound_disk.specs.Whole_logs.{AreWholeLogs}
-use Rattle.sound_restarts.specs.Redo.{IsSoundNow, IsBrought, BringsForward, PlanSuits}
+use Rattle.sound_restarts.specs.Redo.{IsSoundNow, IsBrought, BringsForward}
 use Rattle.sound_restarts.proofs.Numbers.{greatest_is}
 use Rattle.sound_restarts.proofs.Page_writes.{same_name}
-use Rattle.sound_reads.specs.Reads.{BeginThere, MayBeginAt, IsReadOf, AreReadOf}
+use Rattle.sound_reads.specs.Reads.{MayBeginAt, IsReadOf, AreReadOf}
 use Rattle.sound_reads.specs.Laws.{HaveGreatest, ReadsBring, PlanReadSuits}
 use Rattle.sound_reads.proofs.Orders.{Rises, needed, needs_above, filter_order, filter_append, filter_nothing}
 

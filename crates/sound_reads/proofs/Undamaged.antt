@@ -1,17 +1,16 @@
 -- No damage is found in what was read of the logs of a sound disk.
-use Rattle.std.proofs.Common.{◌≡◌, ℕ, ◌+◌, ◌-◌, ◌≤◌, Bool, true, false, cond, List, [], ◌∷◌, ◌++◌, length, map, Option, Some, None, Result, Ok, Err, inl, inr, refl, sym, ap, subst, ◌∙◌, arith}
-use Rattle.std.specs.Prelude.{◌⊎◌, ◌&&◌, max}
+use Rattle.std.proofs.Common.{◌≡◌, ℕ, ◌+◌, ◌≤◌, Bool, true, List, [], ◌∷◌, ◌++◌, length, map, Option, None, inl, inr, refl, sym, ap, subst, ◌∙◌, arith}
+use Rattle.std.specs.Prelude.{◌&&◌, max}
 use Rattle.std.specs.List.{AllByRecursion}
 use Rattle.std.specs.FinMap.{empty}
 use Rattle.std.proofs.lemmas.List.{length-append, append-nil}
 use Rattle.std.proofs.lemmas.Grind.{flat_map-append}
 use Rattle.ds_disk.specs.Pages.{page_at}
 use Rattle.ds_model.specs.declared.log.LogRecord.{LogRecord}
-use Rattle.ds_model.specs.Logs.{IsLog}
-use Rattle.ds_model.specs.RecordBytes.{IsAllowed, record_bytes, log_bytes}
+use Rattle.ds_model.specs.RecordBytes.{record_bytes, log_bytes}
 use Rattle.log_record.specs.declared.log.Log.{Log}
 use Rattle.log_merge.specs.Merging.{all_records, RisesFrom}
-use Rattle.log_reader.specs.Begin.{begin_of, behind_all}
+use Rattle.log_reader.specs.Begin.{begin_of}
 use Rattle.log_trans.specs.declared.known.Known.{Known}
 use Rattle.log_trans.specs.declared.damage.Damaged.{Damaged}
 use Rattle.log_trans.specs.Damage.{damage_in, damage_among, goes_on, nothing_known, log_damage}
@@ -22,14 +21,13 @@ use Rattle.group_restart.specs.Course.{placed, found_damage}
 use Rattle.page_images.specs.Images.{Images}
 use Rattle.sound_disk.specs.Checkpoints.{AreCheckpointed}
 use Rattle.sound_disk.specs.Laws.{HaveNoDamage}
-use Rattle.sound_disk.specs.Sound.{IsSoundWith}
 use Rattle.sound_disk.specs.Transactions.{drawn_numbers, all_differ, stands_apart, stand_apart, EachFollows, AreTransactions}
 use Rattle.sound_disk.specs.Whole_logs.{AreWholeLogs}
 use Rattle.sound_restarts.proofs.Undamaged.{behind_is, no_fault, no_places}
 use Rattle.sound_reads.specs.Reads.{MayBeginAt, IsReadOf, AreReadOf}
 use Rattle.sound_reads.specs.Laws.{ReadsStandApart, FindsNoDamage, HaveGreatest}
 use Rattle.sound_reads.proofs.Apart.{all_low}
-use Rattle.sound_reads.proofs.Fewer.{AreSoundReads, all_sound, reads_rise, are_transactions}
+use Rattle.sound_reads.proofs.Fewer.{AreSoundReads, all_sound, are_transactions}
 
 -- ---- numbers
 
