@@ -13,3 +13,5 @@ mod ReadOn
 mod KeptMore
 mod Judged
 mod WholeLogs
+mod FreshMore
+mod FreshTells
