@@ -147,7 +147,7 @@ commits_have : (rs : List LogRecord) → AllAllowed rs → AllKept Is rs
 commits_have [] h = tt
 commits_have (r ∷ rs) h = (commit_is r.body r.tran h.0.tran_fits, commits_have rs h.1)
 
-abbrev HadNone : List ℕ → Type 0
+abbrev pub HadNone : List ℕ → Type 0
 HadNone had = AllByRecursion (λ (n : ℕ). n ≡ 0) had
 
 commits_new : (had : List ℕ) (lists : List (List LogRecord)) → HadNone had → EachAllowed lists → new_commits had (map of_trans lists) ≡ new_commits had lists
@@ -190,11 +190,11 @@ module _ (had : List ℕ) (lists : List (List LogRecord)) (rows : Rows) (es : Li
 
 -- ---- the judgement
 
-first_tail : (a b : ℕ) (as bs : List ℕ) → a ∷ as ≡ b ∷ bs → a ≡ b
-first_tail a b as bs e = cc
+first_tail : (a b : ℕ) (ms ns : List ℕ) → a ∷ ms ≡ b ∷ ns → a ≡ b
+first_tail a b ms ns e = cc
 
-other_tails : (a b : ℕ) (as bs : List ℕ) → a ∷ as ≡ b ∷ bs → as ≡ bs
-other_tails a b as bs e = cc
+other_tails : (a b : ℕ) (ms ns : List ℕ) → a ∷ ms ≡ b ∷ ns → ms ≡ ns
+other_tails a b ms ns e = cc
 
 whole_alike : (ls ks : List Log) → tails_of ls ≡ tails_of ks → AreWhole ls → AreWhole ks
 whole_alike ls [] e h = tt
