@@ -11,7 +11,7 @@ mod Enough
 mod LogTaken
 mod ReadOn
 mod KeptMore
-mod Judged
-mod WholeLogs
 mod FreshMore
 mod FreshTells
+mod Judged
+mod WholeLogs

@@ -98,6 +98,9 @@ fn check_by_blocks<D: Disk>(
 /// transactions that have committed since the opening. Beside them are the rows, and the number of each transaction that has
 /// changed one and hasn't committed, whether it was open or rolled back. Only logs that can't be read so, for damage or for a
 /// number that is lower than the one before it in its log, are read whole.
+///
+/// Where no log had a record at the opening, each is read once: then the records of all its transactions are in memory, and no
+/// others, and the rows are made of these.
 pub fn check_report<D: Disk>(
     alloc: Global,
     disk: &mut D,

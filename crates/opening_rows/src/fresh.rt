@@ -15,6 +15,9 @@ use ds_disk::Disk;
 use log_record::Log;
 use std::alloc::Global;
 
+// More records than any log has: no commit counts as new then, and none is noted.
+const NONE_NEW: usize = usize::MAX;
+
 /// Whether no log had a record at the opening.
 pub fn had_none(had: &[usize]) -> bool
     ensures { Decides result (AllByRecursion (λ n. n ≡ 0) had.now) }
@@ -53,7 +56,7 @@ fn read_next<D: Disk>(
 {
     let member = member_behind(n);
     let each = Keeps::Each;
-    let read = read_log(alloc, disk, member, &each, 0, block)?;
+    let read = read_log(alloc, disk, member, &each, NONE_NEW, block)?;
     put(logs, member, read)?;
     Ok(())
 }
