@@ -11,8 +11,7 @@ use Rattle.report_check.specs.Records.{records_of}
 use Rattle.opening_rows.specs.declared.fault.LogsFault.{LogsFault}
 use Rattle.opening_rows.specs.declared.fault.LogsFault.TheVariants.{Failed, Damaged}
 use Rattle.opening_rows.specs.declared.reading.LogRead.{LogRead}
-use Rattle.opening_rows.specs.declared.keeps.Keeps.{Keeps}
-use Rattle.opening_rows.specs.declared.keeps.Keeps.TheVariants as keeps
+use Rattle.opening_rows.specs.declared.keeps.Keeps.TheVariants as which
 use Rattle.opening_rows.specs.Reading.{AreLogsOf, HasDamage, ReadsBy}
 use Rattle.opening_rows.specs.Kept.{keeps_of}
 use Rattle.opening_rows.specs.LogReads.{IsRead, IsReadOf}
@@ -22,7 +21,7 @@ use Rattle.opening_rows.proofs.KeptMore.{ReadAs}
 
 -- ---- one log more
 
-trans_more : (had : ℕ) (whole logs new : List Log) (log : Log) (read : LogRead) → AreOfTrans whole logs → IsRead (keeps_of keeps.Each) had log read → records_of new ≡ records_of logs ++ read.taken.records.items ∷ [] → tails_of new ≡ tails_of logs ++ read.tail ∷ []
+trans_more : (had : ℕ) (whole logs new : List Log) (log : Log) (read : LogRead) → AreOfTrans whole logs → IsRead (keeps_of which.Each) had log read → records_of new ≡ records_of logs ++ read.taken.records.items ∷ [] → tails_of new ≡ tails_of logs ++ read.tail ∷ []
     → AreOfTrans (whole ++ log ∷ []) new
 trans_more had whole logs new log read h k records tails = record {
   records_are = records ∙ ap (λ (x : List (List LogRecord)). x ++ read.taken.records.items ∷ []) h.records_are ∙ ap (λ (x : List LogRecord). map of_trans (records_of whole) ++ x ∷ []) k.taken.records_are
@@ -30,14 +29,14 @@ trans_more had whole logs new log read h k records tails = record {
   tails_are = tails ∙ ap (λ (x : List ℕ). x ++ read.tail ∷ []) h.tails_are ∙ ap (λ (x : ℕ). tails_of whole ++ x ∷ []) k.tail_is ∙ sym (map-append (λ (l : Log). l.tail) whole (log ∷ []));
 }
 
-pub adds_log : {Y : Type 0} (a b : Option Contents) (m k n member had : ℕ) (each : Keeps) (old new : List Log) (read : LogRead) (y : Y) → ReadsBy a b m k (ReadAs member (keeps_of each) had) HasDamage (Ok read) → each ≡ keeps.Each → member ≡ n + 1
+pub adds_log : {Y : Type 0} (a b : Option Contents) (m k n member had : ℕ) (old new : List Log) (read : LogRead) (y : Y) → ReadsBy a b m k (ReadAs member (keeps_of which.Each) had) HasDamage (Ok read) → member ≡ n + 1
     → records_of new ≡ records_of old ++ read.taken.records.items ∷ [] → tails_of new ≡ tails_of old ++ read.tail ∷ [] → ReadsBy a b m k (λ (x : Y) c. AddsLog n old new c) HasDamage (Ok y)
-adds_log {Y} a b m k n member had each old new read y p is its records tails =
-    reads_to a b m k (ReadAs member (keeps_of each) had) HasDamage read (λ (x : Y) c. AddsLog n old new c) HasDamage (Ok y) p
+adds_log {Y} a b m k n member had old new read y p its records tails =
+    reads_to a b m k (ReadAs member (keeps_of which.Each) had) HasDamage read (λ (x : Y) c. AddsLog n old new c) HasDamage (Ok y) p
     (λ c of. record {
       log = of.log;
       is_log = subst (λ (i : ℕ). IsLogOf (log_of c.logs i) of.log) its of.is_log;
-      so = λ whole h. trans_more had whole old new of.log read h (subst (λ (x : Keeps). IsRead (keeps_of x) had of.log read) is of.read) records tails;
+      so = λ whole h. trans_more had whole old new of.log read h of.read records tails;
     })
     (λ i l h. absurd (no_error i l h)) (λ h. no_failure h)
   where

@@ -1,6 +1,6 @@
 -- The records of transactions tell all that logs tell, where none had a record at the opening.
-use Rattle.std.proofs.Common.{◌≡◌, ◌≢◌, ℕ, eqb, Bool, true, false, true≢false, cond, ◌||◌, List, [], ◌∷◌, ◌++◌, map, get_or, zero, suc, Option, Some, None, refl, sym, ap, subst, ◌∙◌, arith}
-use Rattle.std.specs.Prelude.{◌&&◌, ◌==◌, not}
+use Rattle.std.proofs.Common.{◌≡◌, ℕ, eqb, Bool, true, false, true≢false, cond, ◌||◌, List, [], ◌∷◌, ◌++◌, map, drop, get_or, zero, suc, Option, Some, None, refl, sym, ap, subst, ◌∙◌, arith}
+use Rattle.std.specs.Prelude.{◌≢◌, ◌&&◌, ◌==◌, not}
 use Rattle.std.specs.List.{filter, AllByRecursion}
 use Rattle.std.specs.FinMap as finite
 use Rattle.std.proofs.lemmas.List.Elements.{filter-append}
@@ -18,24 +18,30 @@ use Rattle.log_heads.specs.Logs.{together}
 use Rattle.report_check.specs.Records.{records_of}
 use Rattle.report_check.specs.Commits.{commits_of, new_commits, AreLogged}
 use Rattle.opening_rows.specs.declared.opening.Opening.{Opening}
-use Rattle.opening_rows.specs.declared.keeps.Keeps.TheVariants as keeps
+use Rattle.opening_rows.specs.declared.keeps.Keeps.TheVariants as which
 use Rattle.opening_rows.specs.Reading.{AreLogsOf}
 use Rattle.opening_rows.specs.Opening.{stood_for}
 use Rattle.opening_rows.specs.Kept.{keeps_of, kept_by, AreWhole}
 use Rattle.opening_rows.specs.Fresh.{of_trans, tails_of, AreOfTrans}
 use Rattle.opening_rows.specs.Judging.{BearOut, Judges}
 use Rattle.opening_rows.proofs.Committing.{is_change}
-use Rattle.opening_rows.proofs.Order as order
+use Rattle.opening_rows.proofs.Order as sorted
 use Rattle.opening_rows.proofs.Order.{changes_of, changes_only}
 use Rattle.opening_rows.proofs.Enough.{AllKept, commits_kept, all_weaker, Same, of_kept, Covers, logged_from, turned}
 
 -- whether a transaction has this number
 abbrev Is : ℕ → Bool
-Is tran = keeps_of keeps.Each tran
+Is tran = keeps_of which.Each tran
+
+same_number : (a b : ℕ) → eqb a b ≡ true → a ≡ b
+same_number a b e = grind arith
+
+is_when : (b : Bool) (n : ℕ) → eqb n 0 ≡ b → n ≢ 0 → not b ≡ true
+is_when true n e h = absurd (h (same_number n 0 e))
+is_when false n e h = refl
 
 is_some : (n : ℕ) → n ≢ 0 → Is n ≡ true
-is_some zero h = absurd (h refl)
-is_some (suc n) h = refl
+is_some n h = is_when (eqb n 0) n refl h
 
 abbrev AllAllowed : List LogRecord → Type 0
 AllAllowed rs = AllByRecursion IsAllowed rs
@@ -63,9 +69,6 @@ commit_is body.RestartEnd tran fits e = absurd (true≢false (sym e))
 -- ---- rows
 
 -- a transaction has the same commits
-same_number : (a b : ℕ) → eqb a b ≡ true → a ≡ b
-same_number a b e = grind arith
-
 commit_when : (b e c m : Bool) → (e ≡ true → b ≡ true) → cond b ((c && e) || m) m ≡ ((c && e) || m)
 commit_when true e c m h = refl
 commit_when false true c m h = absurd (true≢false (sym (h refl)))
@@ -115,11 +118,11 @@ rows_same rs allowed =
     let f : LogRecord → Bool = λ r. Is r.tran && has_commit (of_trans rs) r.tran in
     let g : LogRecord → Bool = λ r. has_commit rs r.tran in
     ap (λ (l : List LogRecord). after_records finite.empty (by_lrsn l)) (both (λ (r : LogRecord). Is r.tran) (λ (r : LogRecord). has_commit (of_trans rs) r.tran) rs)
-    ∙ ap (after_records finite.empty) (sym (order.kept_by f rs))
+    ∙ ap (after_records finite.empty) (sym (sorted.kept_by f rs))
     ∙ changes_only f (by_lrsn rs) finite.empty
-    ∙ ap (after_records finite.empty) (order.kept_by (changes_of f) rs ∙ ap by_lrsn (agree (changes_of f) (changes_of g) rs (changes_agree (has_commit (of_trans rs)) (has_commit rs) (λ tran is. commits_same tran is rs) rs allowed)) ∙ sym (order.kept_by (changes_of g) rs))
+    ∙ ap (after_records finite.empty) (sorted.kept_by (changes_of f) rs ∙ ap by_lrsn (agree (changes_of f) (changes_of g) rs (changes_agree (has_commit (of_trans rs)) (has_commit rs) (λ tran is. commits_same tran is rs) rs allowed)) ∙ sym (sorted.kept_by (changes_of g) rs))
     ∙ sym (changes_only g (by_lrsn rs) finite.empty)
-    ∙ ap (after_records finite.empty) (order.kept_by g rs)
+    ∙ ap (after_records finite.empty) (sorted.kept_by g rs)
 
 -- of several logs
 abbrev EachAllowed : List (List LogRecord) → Type 0
@@ -154,8 +157,9 @@ commits_new : (had : List ℕ) (lists : List (List LogRecord)) → HadNone had �
 commits_new [] [] none h = refl
 commits_new (n ∷ had) [] none h = refl
 commits_new [] (l ∷ ls) none h = ap (λ (cs : List ℕ). cs ∷ new_commits [] (map of_trans ls)) (commits_kept Is l (commits_have l h.0)) ∙ ap (λ (css : List (List ℕ)). commits_of l ∷ css) (commits_new [] ls tt h.1)
-commits_new (suc n ∷ had) (l ∷ ls) none h = cc
-commits_new (zero ∷ had) (l ∷ ls) none h = ap (λ (cs : List ℕ). cs ∷ new_commits had (map of_trans ls)) (commits_kept Is l (commits_have l h.0)) ∙ ap (λ (css : List (List ℕ)). commits_of l ∷ css) (commits_new had ls none.1 h.1)
+commits_new (n ∷ had) (l ∷ ls) none h =
+    subst (λ (k : ℕ). new_commits (k ∷ had) (map of_trans (l ∷ ls)) ≡ new_commits (k ∷ had) (l ∷ ls)) (sym none.0)
+    (ap (λ (cs : List ℕ). cs ∷ new_commits had (map of_trans ls)) (commits_kept Is l (commits_have l h.0)) ∙ ap (λ (css : List (List ℕ)). commits_of l ∷ css) (commits_new had ls none.1 h.1))
 
 has_when : (b : Bool) (t : ℕ) (ts : List ℕ) → (b ≡ true → Is t ≡ true) → AllByRecursion (λ (x : ℕ). Is x ≡ true) ts → AllByRecursion (λ (x : ℕ). Is x ≡ true) (cond b (t ∷ ts) ts)
 has_when true t ts h all = (h refl, all)
@@ -168,14 +172,16 @@ all_have (r ∷ rs) h = has_when (is_commit r.body) r.tran (commits_of rs) h.0 (
 one_covered : (rs : List LogRecord) → AllAllowed rs → AllByRecursion (Same (of_trans rs) rs) (commits_of rs)
 one_covered rs h = all_weaker (λ (tran : ℕ). Is tran ≡ true) (Same (of_trans rs) rs) (commits_of rs) (λ t is. of_kept Is t rs is) (all_have rs (commits_have rs h))
 
+covered_at : (had : List ℕ) (lists : List (List LogRecord)) → HadNone had → EachAllowed lists → (i : ℕ) → AllByRecursion (Same (get_or (map of_trans lists) i []) (get_or lists i [])) (get_or (new_commits had lists) i [])
+covered_at [] [] none h i = tt
+covered_at (n ∷ had) [] none h i = tt
+covered_at [] (l ∷ ls) none h zero = one_covered l h.0
+covered_at [] (l ∷ ls) none h (suc i) = covered_at [] ls tt h.1 i
+covered_at (n ∷ had) (l ∷ ls) none h zero = subst (λ (k : ℕ). AllByRecursion (Same (of_trans l) l) (commits_of (drop k l))) (sym none.0) (one_covered l h.0)
+covered_at (n ∷ had) (l ∷ ls) none h (suc i) = covered_at had ls none.1 h.1 i
+
 covered : (had : List ℕ) (lists : List (List LogRecord)) → HadNone had → EachAllowed lists → Covers (map of_trans lists) lists (new_commits had lists)
-covered [] [] none h i = tt
-covered (n ∷ had) [] none h i = tt
-covered [] (l ∷ ls) none h zero = one_covered l h.0
-covered [] (l ∷ ls) none h (suc i) = covered [] ls tt h.1 i
-covered (suc n ∷ had) (l ∷ ls) none h i = cc
-covered (zero ∷ had) (l ∷ ls) none h zero = one_covered l h.0
-covered (zero ∷ had) (l ∷ ls) none h (suc i) = covered had ls none.1 h.1 i
+covered had lists none h = covered_at had lists none h
 
 module _ (had : List ℕ) (lists : List (List LogRecord)) (rows : Rows) (es : List Entry) (none : HadNone had) (h : EachAllowed lists) where
   logged_out : AreLogged (map of_trans lists) (new_commits had (map of_trans lists)) rows es → AreLogged lists (new_commits had lists) rows es
@@ -198,7 +204,7 @@ other_tails a b ms ns e = cc
 
 whole_alike : (ls ks : List Log) → tails_of ls ≡ tails_of ks → AreWhole ls → AreWhole ks
 whole_alike ls [] e h = tt
-whole_alike [] (k ∷ ks) e h = cc
+whole_alike [] (k ∷ ks) e h = absurd cc
 whole_alike (l ∷ ls) (k ∷ ks) e h = (sym (first_tail l.tail k.tail (tails_of ls) (tails_of ks) e) ∙ h.0, whole_alike ls ks (other_tails l.tail k.tail (tails_of ls) (tails_of ks) e) h.1)
 
 each_allowed : (bytes : List (List ℕ)) (logs : List Log) → AreLogsOf bytes logs → EachAllowed (records_of logs)

@@ -16,7 +16,7 @@ use Rattle.opening_rows.specs.declared.reading.LogRead.{LogRead}
 use Rattle.opening_rows.specs.declared.kept.Kept.{Kept}
 use Rattle.opening_rows.specs.declared.kept.KeptLogs.{KeptLogs}
 use Rattle.opening_rows.specs.declared.keeps.Keeps.{Keeps}
-use Rattle.opening_rows.specs.declared.keeps.Keeps.TheVariants as keeps
+use Rattle.opening_rows.specs.declared.keeps.Keeps.TheVariants as which
 use Rattle.opening_rows.specs.Kept.{keeps_of, kept_by, is_new, told_of, told_before, all_told, all_before, AreWhole, IsKept, AreKept}
 use Rattle.opening_rows.specs.LogReads.{IsRead, IsReadOf}
 use Rattle.opening_rows.proofs.Told.{reads_on, reads_to, told_all, same_at}
@@ -62,7 +62,7 @@ told_twice a b e n k m member had keeps first second kept p q records before tai
     no_failure : IsErrOf {T = Kept} {E = LogsFault} (Ok kept) Failed → ⊥
     no_failure h = cc
 
-pub kept_told : (a b e : Option Contents) (n k m member had : ℕ) (keeps : ℕ → Bool) (first second : LogRead) (these : Keeps) (kept : Kept) → ReadsBy a b n k (ReadAs member keeps had) HasDamage (Ok first) → these ≡ keeps.These first.taken.commits
+pub kept_told : (a b e : Option Contents) (n k m member had : ℕ) (keeps : ℕ → Bool) (first second : LogRead) (these : Keeps) (kept : Kept) → ReadsBy a b n k (ReadAs member keeps had) HasDamage (Ok first) → these ≡ which.These first.taken.commits
     → ReadsBy b e k m (ReadAs member (keeps_of these) had) HasDamage (Ok second)
     → kept.records.items ≡ second.taken.records.items → kept.before ≡ second.taken.before → kept.tail ≡ second.tail → ReadsBy a e n m (KeptAs member had) HasDamage (Ok kept)
 kept_told a b e n k m member had keeps first second these kept p is q records before tail =

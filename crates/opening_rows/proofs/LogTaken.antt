@@ -180,7 +180,7 @@ all_read ends log keeps had h n read l p short long tail is =
     }
 
 -- the log of these bytes
-log_read : PartsEnd → (log : List ℕ) (keeps : ℕ → Bool) (had : ℕ) (h : HeadState) (t : Taken) → IsReadTo log keeps had h t → IsShort (record_in (left_bytes log h)) → (l : Log) × IsLogOf log l
+log_read : PartsEnd → (log : List ℕ) (keeps : ℕ → Bool) (had : ℕ) (h : HeadState) (t : Taken) → IsReadTo log keeps had h t → IsShort (record_in (left_bytes log h)) → ((l : Log) × IsLogOf log l)
 log_read ends log keeps had h t p short =
     let rs : List LogRecord = p.records in
     let tail : ℕ = length (left_bytes log h) in

@@ -29,24 +29,27 @@ use Rattle.opening_rows.proofs.FreshTells.{HadNone, judges_alike}
 
 -- ---- the judgement
 
+-- whole logs tell of the commits of entries, where they had so many records
+abbrev LoggedIn : Opening → List Entry → List Log → List ℕ → Type 0
+LoggedIn opening entries logs had = AreLogged (records_of logs) (new_commits had (records_of logs)) (map_of opening.rows) entries
+
+pub borne_by : (opening : Opening) (entries : List Entry) (logs : List Log) (same : Bool) (left : List Row) (had : List ℕ) → had ≡ opening.had.items → left ≡ stood_for logs → Decides same (LoggedIn opening entries logs had)
+    → Decides same ((left ≡ stood_for logs) × LoggedIn opening entries logs opening.had.items)
+borne_by opening entries logs same left had had_is is d =
+    (λ y. (is, subst (λ (ns : List ℕ). LoggedIn opening entries logs ns) had_is (d.0 y)), λ h. d.1 (subst (λ (ns : List ℕ). LoggedIn opening entries logs ns) (sym had_is) h.1))
+
 module _ (script : Script) (opening : Opening) (entries : List Entry) (logs : List Log) where
   pub not_whole : (whole : Bool) → Decides whole (AreWhole logs) → whole ≡ false → BearOut script opening entries logs → ⊥
   not_whole whole d none b = true≢false (sym (d.1 b.whole) ∙ none)
 
-  abbrev LoggedIn : List ℕ → Type 0
-  LoggedIn had = AreLogged (records_of logs) (new_commits had (records_of logs)) (map_of opening.rows) entries
-
-  pub borne_by : (same : Bool) (left : List Row) (had : List ℕ) → had ≡ opening.had.items → left ≡ stood_for logs → Decides same (LoggedIn had) → Decides same ((left ≡ stood_for logs) × LoggedIn opening.had.items)
-  borne_by same left had had_is is d = (λ y. (is, subst LoggedIn had_is (d.0 y)), λ h. d.1 (subst LoggedIn (sym had_is) h.1))
-
-  pub whole_bears : (left : List Row) → left ≡ listed (replay (map_of opening.rows) entries) → AreWhole logs → IsSoundAlone script (map_of opening.rows) entries → (left ≡ stood_for logs) × LoggedIn opening.had.items → BearOut script opening entries logs × (left ≡ stood_for logs)
+  pub whole_bears : (left : List Row) → left ≡ listed (replay (map_of opening.rows) entries) → AreWhole logs → IsSoundAlone script (map_of opening.rows) entries → (left ≡ stood_for logs) × LoggedIn opening entries logs opening.had.items → BearOut script opening entries logs × (left ≡ stood_for logs)
   whole_bears left left_is whole alone h =
       let same : replay (map_of opening.rows) entries ≡ rows_of_logs (records_of logs) = same_listed (replay (map_of opening.rows) entries) (rows_of_logs (records_of logs)) (sym left_is ∙ h.0) in (
         record { whole = whole; sound = record { each_once = alone.each_once; order = alone.order; logged = h.1; aborts_fit = alone.aborts_fit; ends = record { legal = alone.legal; rows = same } } },
         h.0,
       )
 
-  pub whole_lacks : (left : List Row) → left ≡ listed (replay (map_of opening.rows) entries) → ((left ≡ stood_for logs) × LoggedIn opening.had.items → ⊥) → BearOut script opening entries logs → ⊥
+  pub whole_lacks : (left : List Row) → left ≡ listed (replay (map_of opening.rows) entries) → ((left ≡ stood_for logs) × LoggedIn opening entries logs opening.had.items → ⊥) → BearOut script opening entries logs → ⊥
   whole_lacks left left_is wrong b = wrong (left_is ∙ ap listed b.sound.ends.rows, b.sound.logged)
 
 -- ---- of a disk

@@ -6,12 +6,12 @@ use Rattle.log_record.specs.declared.log.Log.{Log}
 use Rattle.log_record.specs.Logs.{IsLogOf}
 use Rattle.report_check.specs.Records.{records_of}
 use Rattle.opening_rows.specs.Reading.{AreLogsOf}
-use Rattle.opening_rows.specs.declared.keeps.Keeps.TheVariants as keeps
+use Rattle.opening_rows.specs.declared.keeps.Keeps.TheVariants as which
 use Rattle.opening_rows.specs.Kept.{keeps_of, kept_by}
 
 -- the records that belong to a transaction
 abbrev pub of_trans : List LogRecord → List LogRecord
-of_trans records = kept_by (keeps_of keeps.Each) records
+of_trans records = kept_by (keeps_of which.Each) records
 
 abbrev pub tails_of : List Log → List ℕ
 tails_of logs = map (λ (l : Log). l.tail) logs

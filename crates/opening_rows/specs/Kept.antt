@@ -8,15 +8,15 @@ use Rattle.ds_model.specs.Logs.{has_commit}
 use Rattle.log_record.specs.declared.log.Log.{Log}
 use Rattle.report_check.specs.Records.{records_of}
 use Rattle.opening_rows.specs.declared.keeps.Keeps.{Keeps}
-use Rattle.opening_rows.specs.declared.keeps.Keeps.TheVariants as keeps
+use Rattle.opening_rows.specs.declared.keeps.Keeps.TheVariants as which
 use Rattle.opening_rows.specs.declared.taken.Taken.{Taken}
 use Rattle.opening_rows.specs.declared.kept.Kept.{Kept}
 use Rattle.opening_rows.specs.declared.kept.KeptLogs.{KeptLogs}
 
 -- of which transactions records are kept; 0 is the number of none
 abbrev pub keeps_of : Keeps → ℕ → Bool
-keeps_of keeps.Each tran = not (tran == 0)
-keeps_of (keeps.These trans) tran = set.contains nat_cmp trans tran
+keeps_of which.Each tran = not (tran == 0)
+keeps_of (which.These trans) tran = set.contains nat_cmp trans tran
 
 -- the records of these transactions
 abbrev pub kept_by : (ℕ → Bool) → List LogRecord → List LogRecord

@@ -7,7 +7,7 @@ ghost use Rattle.log_record.specs.Logs.{IsLogOf};
 ghost use Rattle.report_check.specs.Records.{records_of};
 ghost use Rattle.opening_rows.specs.Reading.{AreLogsOf, HasDamage, ReadsBy};
 ghost use Rattle.opening_rows.specs.Kept.{IsKept, AreKept};
-ghost use Rattle.opening_rows.specs.declared.keeps.Keeps.TheVariants as keeps;
+ghost use Rattle.opening_rows.specs.declared.keeps.Keeps.TheVariants as which;
 
 use crate::fault::LogsFault;
 use crate::keeps::Keeps;
@@ -50,7 +50,7 @@ fn count_at(had: &[usize], i: usize) -> usize
 
 // The transactions whose Commit records were met.
 fn committed(read: LogRead) -> Keeps
-    ensures { result ≡ keeps.These read.taken.commits }
+    ensures { result ≡ which.These read.taken.commits }
 {
     let LogRead { taken, .. } = read;
     Keeps::These {

@@ -17,4 +17,4 @@ pub returns-in-Err-NoMemory-clause-judged : goal.returns-in-Err-NoMemory-clause-
 returns-in-Err-NoMemory-clause-judged g c = blocks_unread _ _ _ _ _ c.check_by_blocks.result c.in-Err-NoMemory.field-0 NoMemory c.in-Err-NoMemory.is c.in-Err-NoMemory.field-0-is wanting_is c.check_by_blocks.ensures.judged
 
 pub check_fresh-requires-clause-none : goal.check_fresh-requires-clause-none
-check_fresh-requires-clause-none g c = subst (λ (ns : List ℕ). HadNone ns) c.deref.ensures.value (c.had_none.ensures.0 (cc))
+check_fresh-requires-clause-none g c = subst (λ (ns : List ℕ). HadNone ns) c.deref.ensures.value (c.had_none.ensures.0 c.if-had_none.true)
