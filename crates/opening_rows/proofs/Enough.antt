@@ -44,7 +44,7 @@ behind pre rs r = append_assoc pre (r ∷ []) rs
 
 -- ---- the commits of records that are kept
 
-abbrev AllKept : (ℕ → Bool) → List LogRecord → Type 0
+abbrev pub AllKept : (ℕ → Bool) → List LogRecord → Type 0
 AllKept keeps rs = AllByRecursion (λ (r : LogRecord). is_commit r.body ≡ true → keeps r.tran ≡ true) rs
 
 all_commits : (pre rs : List LogRecord) → AllKept (has_commit (pre ++ rs)) rs
@@ -61,7 +61,7 @@ commits_when true false tran xs ys h e = e
 commits_when false true tran xs ys h e = absurd (true≢false (sym (h refl)))
 commits_when false false tran xs ys h e = e
 
-commits_kept : (keeps : ℕ → Bool) (rs : List LogRecord) → AllKept keeps rs → commits_of (kept_by keeps rs) ≡ commits_of rs
+pub commits_kept : (keeps : ℕ → Bool) (rs : List LogRecord) → AllKept keeps rs → commits_of (kept_by keeps rs) ≡ commits_of rs
 commits_kept keeps [] h = refl
 commits_kept keeps (r ∷ rs) h =
     commits_pushed (keeps r.tran) r (kept_by keeps rs) ∙ commits_when (keeps r.tran) (is_commit r.body) r.tran (commits_of (kept_by keeps rs)) (commits_of rs) h.0 (commits_kept keeps rs h.1)
@@ -94,12 +94,12 @@ of_when true c tran r xs rs h e same = ap (λ (l : List LogRecord). cond (eqb r.
 of_when false true tran r xs rs h e same = absurd (true≢false (sym (h refl)))
 of_when false false tran r xs rs h e same = same ∙ ap (λ (b : Bool). cond b (r ∷ of_tran tran rs) (of_tran tran rs)) (sym e)
 
-of_kept : (keeps : ℕ → Bool) (tran : ℕ) (rs : List LogRecord) → keeps tran ≡ true → of_tran tran (kept_by keeps rs) ≡ of_tran tran rs
+pub of_kept : (keeps : ℕ → Bool) (tran : ℕ) (rs : List LogRecord) → keeps tran ≡ true → of_tran tran (kept_by keeps rs) ≡ of_tran tran rs
 of_kept keeps tran [] e = refl
 of_kept keeps tran (r ∷ rs) e =
     of_when (keeps r.tran) (eqb r.tran tran) tran r (kept_by keeps rs) rs (λ is. ap keeps (eqb_same r.tran tran is) ∙ e) refl (of_kept keeps tran rs e)
 
-all_weaker : (P Q : ℕ → Type 0) (ts : List ℕ) → ((t : ℕ) → P t → Q t) → AllByRecursion P ts → AllByRecursion Q ts
+pub all_weaker : (P Q : ℕ → Type 0) (ts : List ℕ) → ((t : ℕ) → P t → Q t) → AllByRecursion P ts → AllByRecursion Q ts
 all_weaker P Q [] f all = tt
 all_weaker P Q (t ∷ ts) f all = (f t all.0, all_weaker P Q ts f all.1)
 
@@ -113,7 +113,7 @@ new_are pre (r ∷ rs) =
     new_when (is_commit r.body) (λ (tran : ℕ). has_commit (pre ++ r ∷ rs) tran ≡ true) r.tran (commits_of rs) (commit_at pre rs r)
     (subst (λ (l : List LogRecord). AllByRecursion (λ (tran : ℕ). has_commit l tran ≡ true) (commits_of rs)) (behind pre rs r) (new_are (pre ++ r ∷ []) rs))
 
-abbrev Same : List LogRecord → List LogRecord → ℕ → Type 0
+abbrev pub Same : List LogRecord → List LogRecord → ℕ → Type 0
 Same kept log tran = of_tran tran kept ≡ of_tran tran log
 
 one_covered : (had : ℕ) (log : List LogRecord) → AllByRecursion (Same (told_of had log) log) (commits_of (drop had log))
@@ -131,7 +131,7 @@ covered_at (n ∷ had) (log ∷ logs) (suc i) = covered_at had logs i
 -- ---- entry by entry
 
 -- the transactions of the commits that are left have the same records in both
-abbrev Covers : List (List LogRecord) → List (List LogRecord) → List (List ℕ) → Type 0
+abbrev pub Covers : List (List LogRecord) → List (List LogRecord) → List (List ℕ) → Type 0
 Covers kept logs commits = (i : ℕ) → AllByRecursion (Same (get_or kept i []) (get_or logs i [])) (get_or commits i [])
 
 rest_of : (P : ℕ → Type 0) (ts : List ℕ) → AllByRecursion P ts → AllByRecursion P (drop 1 ts)
@@ -159,14 +159,14 @@ fate_from kept log commits rows ops (fate.Committed answered reads) all h = firs
 fate_from kept log commits rows ops (fate.Refused refusal) all h = h
 fate_from kept log commits rows ops fate.Stopped all h = h
 
-logged_from : (kept logs : List (List LogRecord)) (commits : List (List ℕ)) (rows : Rows) (es : List Entry) → Covers kept logs commits → AreLogged kept commits rows es → AreLogged logs commits rows es
+pub logged_from : (kept logs : List (List LogRecord)) (commits : List (List ℕ)) (rows : Rows) (es : List Entry) → Covers kept logs commits → AreLogged kept commits rows es → AreLogged logs commits rows es
 logged_from kept logs commits rows [] covers h = h
 logged_from kept logs commits rows (e ∷ es) covers h = (
   fate_from (at_member kept e.member) (at_member logs e.member) (at_member commits e.member) rows e.tran.ops e.fate (covers (e.member - 1)) h.0,
   logged_from kept logs (left_behind commits e.member e.fate) (after_fate rows e.tran.ops e.fate) es (covers_on kept logs commits e.member e.fate covers) h.1,
 )
 
-turned : (kept logs : List (List LogRecord)) (commits : List (List ℕ)) → Covers kept logs commits → Covers logs kept commits
+pub turned : (kept logs : List (List LogRecord)) (commits : List (List ℕ)) → Covers kept logs commits → Covers logs kept commits
 turned kept logs commits h = λ i. all_weaker (Same (get_or kept i []) (get_or logs i [])) (Same (get_or logs i []) (get_or kept i [])) (get_or commits i []) (λ t e. sym e) (h i)
 
 pub enough : KeptIsEnough

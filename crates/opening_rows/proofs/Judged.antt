@@ -33,7 +33,7 @@ back : (es : List (Spot × List ℕ)) → map entry_of (map row_of es) ≡ es
 back [] = refl
 back (e ∷ es) = ap (λ (l : List (Spot × List ℕ)). e ∷ l) (back es)
 
-same_listed : (m n : Rows) → listed m ≡ listed n → m ≡ n
+pub same_listed : (m n : Rows) → listed m ≡ listed n → m ≡ n
 same_listed m n h = finite.same_entries_map m n (sym (back (finite.entries m)) ∙ ap (map entry_of) h ∙ back (finite.entries n))
 
 -- ---- what is kept tells of the commits

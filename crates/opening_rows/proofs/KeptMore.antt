@@ -15,9 +15,12 @@ use Rattle.opening_rows.specs.Reading.{AreLogsOf, HasDamage, ReadsBy}
 use Rattle.opening_rows.specs.declared.reading.LogRead.{LogRead}
 use Rattle.opening_rows.specs.declared.kept.Kept.{Kept}
 use Rattle.opening_rows.specs.declared.kept.KeptLogs.{KeptLogs}
-use Rattle.opening_rows.specs.Kept.{kept_by, is_new, told_of, told_before, all_told, all_before, AreWhole, IsKept, AreKept}
-use Rattle.opening_rows.specs.LogReads.{IsRead}
+use Rattle.opening_rows.specs.declared.keeps.Keeps.{Keeps}
+use Rattle.opening_rows.specs.declared.keeps.Keeps.TheVariants as which
+use Rattle.opening_rows.specs.Kept.{keeps_of, kept_by, is_new, told_of, told_before, all_told, all_before, AreWhole, IsKept, AreKept}
+use Rattle.opening_rows.specs.LogReads.{IsRead, IsReadOf}
 use Rattle.opening_rows.proofs.Told.{reads_on, reads_to, told_all, same_at}
+use Rattle.opening_rows.proofs.LogTaken.{read_as}
 
 -- ---- a log that was read twice
 
@@ -37,20 +40,20 @@ kept_one keeps had log first second kept one two records before tail =
       tail_is = tail ∙ two.tail_is;
     }
 
-abbrev ReadAs : ℕ → (ℕ → Bool) → ℕ → LogRead → Contents → Type 0
-ReadAs member keeps had read c = (log : Log) → IsLogOf (log_of c.logs member) log → IsRead keeps had log read
+abbrev pub ReadAs : ℕ → (ℕ → Bool) → ℕ → LogRead → Contents → Type 0
+ReadAs member keeps had read c = IsReadOf keeps had (log_of c.logs member) read
 
 abbrev KeptAs : ℕ → ℕ → Kept → Contents → Type 0
 KeptAs member had kept c = (log : Log) → IsLogOf (log_of c.logs member) log → IsKept had log kept
 
-pub kept_told : (a b e : Option Contents) (n k m member had : ℕ) (keeps : ℕ → Bool) (first second : LogRead) (kept : Kept) → ReadsBy a b n k (ReadAs member keeps had) HasDamage (Ok first)
+told_twice : (a b e : Option Contents) (n k m member had : ℕ) (keeps : ℕ → Bool) (first second : LogRead) (kept : Kept) → ReadsBy a b n k (ReadAs member keeps had) HasDamage (Ok first)
     → ReadsBy b e k m (ReadAs member (set.contains nat_cmp first.taken.commits) had) HasDamage (Ok second)
     → kept.records.items ≡ second.taken.records.items → kept.before ≡ second.taken.before → kept.tail ≡ second.tail → ReadsBy a e n m (KeptAs member had) HasDamage (Ok kept)
-kept_told a b e n k m member had keeps first second kept p q records before tail =
+told_twice a b e n k m member had keeps first second kept p q records before tail =
     let now : ℕ → Bool = set.contains nat_cmp first.taken.commits in
     let on : ReadsBy a e n m (λ (r : LogRead) c. r ≡ second → KeptAs member had kept c) HasDamage (Ok second) =
     reads_on a b e n k m (ReadAs member keeps had) HasDamage first (ReadAs member now had) (λ (r : LogRead) c. r ≡ second → KeptAs member had kept c) HasDamage HasDamage (Ok second) p q
-    (λ r c one two is log of. kept_one keeps had log first second kept (one log of) (subst (λ (x : LogRead). IsRead now had log x) is (two log of)) records before tail) (λ i l c one bad. bad) in
+    (λ r c one two is log of. kept_one keeps had log first second kept (read_as keeps had (log_of c.logs member) first log one of) (subst (λ (x : LogRead). IsRead now had log x) is (read_as now had (log_of c.logs member) r log two of)) records before tail) (λ i l c one bad. bad) in
     reads_to a e n m (λ (r : LogRead) c. r ≡ second → KeptAs member had kept c) HasDamage second (KeptAs member had) HasDamage (Ok kept) on (λ c is. is refl) (λ i l h. absurd (no_error i l h)) (λ h. no_failure h)
   where
     no_error : (i l : ℕ) → IsErrOf {T = Kept} {E = LogsFault} (Ok kept) (Damaged i l) → ⊥
@@ -58,6 +61,12 @@ kept_told a b e n k m member had keeps first second kept p q records before tail
 
     no_failure : IsErrOf {T = Kept} {E = LogsFault} (Ok kept) Failed → ⊥
     no_failure h = cc
+
+pub kept_told : (a b e : Option Contents) (n k m member had : ℕ) (keeps : ℕ → Bool) (first second : LogRead) (these : Keeps) (kept : Kept) → ReadsBy a b n k (ReadAs member keeps had) HasDamage (Ok first) → these ≡ which.These first.taken.commits
+    → ReadsBy b e k m (ReadAs member (keeps_of these) had) HasDamage (Ok second)
+    → kept.records.items ≡ second.taken.records.items → kept.before ≡ second.taken.before → kept.tail ≡ second.tail → ReadsBy a e n m (KeptAs member had) HasDamage (Ok kept)
+kept_told a b e n k m member had keeps first second these kept p is q records before tail =
+    told_twice a b e n k m member had keeps first second kept p (subst (λ (it : Keeps). ReadsBy b e k m (ReadAs member (keeps_of it) had) HasDamage (Ok second)) is q) records before tail
 
 -- ---- one log more
 

@@ -11,5 +11,7 @@ mod Enough
 mod LogTaken
 mod ReadOn
 mod KeptMore
+mod FreshMore
+mod FreshTells
 mod Judged
 mod WholeLogs

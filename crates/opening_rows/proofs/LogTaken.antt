@@ -1,11 +1,11 @@
 -- Records of a log that are taken one after the other.
-use Rattle.std.proofs.Common.{◌≡◌, ℕ, zero, suc, ◌+◌, ◌-◌, Bool, true, false, cond, ◌||◌, ◌&&◌, List, [], ◌∷◌, ◌++◌, length, take, drop, Some, None, Result, Ok, Err, refl, sym, ap, subst, ◌∙◌, arith}
+use Rattle.std.proofs.Common.{◌≡◌, ℕ, zero, suc, ◌+◌, ◌-◌, Bool, true, false, cond, ◌||◌, ◌&&◌, List, [], ◌∷◌, ◌++◌, length, take, drop, Some, None, Result, Ok, Err, refl, sym, ap, subst, ◌∙◌, append_assoc, arith}
 use Rattle.std.specs.Prelude.{◌==◌, nat_lt, nat_le}
-use Rattle.std.proofs.lemmas.List.{append-nil, length-append, take_all, drop_at}
+use Rattle.std.proofs.lemmas.List.{append-nil, length-append, take_all, take_at, drop_at}
 use Rattle.std.proofs.lemmas.List.Elements.{filter-append}
 use Rattle.std.proofs.lemmas.List.Folds.{list_any-append}
 use Rattle.ds_model.specs.declared.log.LogRecord.{LogRecord}
-use Rattle.ds_model.specs.RecordBytes.{record_bytes}
+use Rattle.ds_model.specs.RecordBytes.{record_bytes, log_bytes}
 use Rattle.ds_model.specs.Logs.{has_commit, is_commit}
 use Rattle.log_record.specs.declared.log.Log.{Log}
 use Rattle.log_record.specs.Reading.{record_in}
@@ -17,8 +17,8 @@ use Rattle.opening_rows.specs.Survey.{put_before}
 use Rattle.opening_rows.specs.declared.taken.Taken.{Taken}
 use Rattle.opening_rows.specs.declared.reading.LogRead.{LogRead}
 use Rattle.opening_rows.specs.Kept.{kept_by, HasTaken, Adds}
-use Rattle.opening_rows.specs.LogReads.{IsReadTo, GoesTo, IsRead}
-use Rattle.opening_rows.proofs.Surveys.{ok_parts, err_at, parts_more, none_before, none_over}
+use Rattle.opening_rows.specs.LogReads.{IsReadTo, GoesTo, IsRead, IsReadOf}
+use Rattle.opening_rows.proofs.Surveys.{allowed_more, bytes_more, ok_parts, err_at, parts_more, none_before, none_over}
 
 -- ---- the first records, and those behind them
 
@@ -101,9 +101,14 @@ one_more goes log keeps had h g r old new p n adds =
     let f = n.next_of in
     let rs : List LogRecord = p.records in
     let size : ℕ = length (record_bytes r) in
+    let long = length-append (log_bytes rs) (record_bytes r) in
+    let whole : length (log_bytes (rs ++ r ∷ [])) ≡ length (log_bytes rs ++ record_bytes r) = ap length (bytes_more rs r) in
     record {
       records = rs ++ r ∷ [];
       of = n.of;
+      spelled = p.spelled ∙ ap (λ (t : List ℕ). log_bytes rs ++ t) f.spelled ∙ sym (append_assoc (log_bytes rs) (record_bytes r) (left_bytes log g)) ∙ ap (λ (t : List ℕ). t ++ left_bytes log g) (sym (bytes_more rs r));
+      allowed = allowed_more rs r p.allowed f.allowed;
+      at_is = omega (arith, f.at_is, p.at_is, long, whole);
       parts = p.parts ∙ ap (put_before rs h.at) (goes (left_bytes log h) r size f.is_read) ∙ parts_more rs h.at r size (parts_in (drop size (left_bytes log h)))
           ∙ ap (λ (t : List ℕ). put_before (rs ++ r ∷ []) (h.at + size) (parts_in t)) (rest_behind log h g r f.spelled)
           ∙ ap (λ (k : ℕ). put_before (rs ++ r ∷ []) k (parts_in (left_bytes log g))) (sym f.at_is);
@@ -121,6 +126,9 @@ none_more log keeps had h g t p n at =
     record {
       records = p.records;
       of = n.of;
+      spelled = p.spelled ∙ ap (λ (t : List ℕ). log_bytes p.records ++ t) (sym same);
+      allowed = p.allowed;
+      at_is = at ∙ p.at_is;
       parts = p.parts ∙ ap (λ (l : List ℕ). put_before p.records h.at (parts_in l)) (sym same) ∙ ap (λ (k : ℕ). put_before p.records k (parts_in (left_bytes log g))) (sym at);
       taken = p.taken;
     }
@@ -141,6 +149,9 @@ nothing_read log n keeps had t is taken =
     record {
       records = [];
       of = record { within = omega (arith, is); fits = omega arith; told = refl };
+      spelled = sym all;
+      allowed = tt;
+      at_is = refl;
       parts = none_before (parts_in log) ∙ ap (λ (l : List ℕ). put_before [] 0 (parts_in l)) (sym all);
       taken = taken;
     }
@@ -153,7 +164,7 @@ size_in : Result Parts ℕ → ℕ
 size_in (Ok p) = p.size
 size_in (Err k) = 0
 
-pub all_read : PartsEnd → (log : List ℕ) (keeps : ℕ → Bool) (had : ℕ) (h : HeadState) (n : ℕ) (read : LogRead) (l : Log) → IsReadTo log keeps had h read.taken → IsShort (record_in (left_bytes log h)) → n ≡ length log → read.tail ≡ n - h.at
+all_read : PartsEnd → (log : List ℕ) (keeps : ℕ → Bool) (had : ℕ) (h : HeadState) (n : ℕ) (read : LogRead) (l : Log) → IsReadTo log keeps had h read.taken → IsShort (record_in (left_bytes log h)) → n ≡ length log → read.tail ≡ n - h.at
     → IsLogOf log l → IsRead keeps had l read
 unfolding records_in size_in
 all_read ends log keeps had h n read l p short long tail is =
@@ -166,4 +177,42 @@ all_read ends log keeps had h n read l p short long tail is =
     record {
       taken = subst (λ (xs : List LogRecord). HasTaken keeps had xs read.taken) (sym records) p.taken;
       tail_is = omega (arith, tail, long, size, is.whole);
+    }
+
+-- the log of these bytes
+log_read : PartsEnd → (log : List ℕ) (keeps : ℕ → Bool) (had : ℕ) (h : HeadState) (t : Taken) → IsReadTo log keeps had h t → IsShort (record_in (left_bytes log h)) → ((l : Log) × IsLogOf log l)
+log_read ends log keeps had h t p short =
+    let rs : List LogRecord = p.records in
+    let tail : ℕ = length (left_bytes log h) in
+    let it : Log = record { member = 0; records = rs; length = h.at; tail = tail } in
+    let none : h.at + 0 ≡ h.at = omega arith in (
+      it,
+      record {
+        is_read = p.parts ∙ ap (put_before rs h.at) (ends (left_bytes log h) short)
+            ∙ ap (λ (l : List LogRecord). ok_parts (record { records = l; size = h.at + 0; tail = tail })) (append-nil rs)
+            ∙ ap (λ (k : ℕ). ok_parts (record { records = rs; size = k; tail = tail })) none;
+        spelled = ap (take h.at) p.spelled ∙ take_at (log_bytes rs) (left_bytes log h) h.at (sym p.at_is);
+        allowed = p.allowed;
+        whole = ap length p.spelled ∙ length-append (log_bytes rs) (left_bytes log h) ∙ ap (λ (k : ℕ). k + tail) (sym p.at_is);
+      },
+    )
+
+pub log_found : PartsEnd → (log : List ℕ) (keeps : ℕ → Bool) (had : ℕ) (h : HeadState) (n : ℕ) (read : LogRead) → IsReadTo log keeps had h read.taken → IsShort (record_in (left_bytes log h)) → n ≡ length log → read.tail ≡ n - h.at
+    → IsReadOf keeps had log read
+log_found ends log keeps had h n read p short long tail =
+    let found = log_read ends log keeps had h read.taken p short in
+    record { log = found.0; is_log = found.1; read = all_read ends log keeps had h n read found.0 p short long tail found.1 }
+
+-- a log has the same records and the same tail, however it is found
+tail_in : Result Parts ℕ → ℕ
+tail_in (Ok p) = p.tail
+tail_in (Err k) = 0
+
+pub read_as : (keeps : ℕ → Bool) (had : ℕ) (log : List ℕ) (read : LogRead) (l : Log) → IsReadOf keeps had log read → IsLogOf log l → IsRead keeps had l read
+unfolding records_in tail_in
+read_as keeps had log read l of is =
+    let same : ok_parts (record { records = of.log.records; size = of.log.length; tail = of.log.tail }) ≡ ok_parts (record { records = l.records; size = l.length; tail = l.tail }) = sym of.is_log.is_read ∙ is.is_read in
+    record {
+      taken = subst (λ (xs : List LogRecord). HasTaken keeps had xs read.taken) (ap records_in same) of.read.taken;
+      tail_is = of.read.tail_is ∙ ap tail_in same;
     }

@@ -93,7 +93,7 @@ by_if true r l = refl
 by_if false r l = refl
 
 -- those that are kept of records in order are in order
-kept_by : (p : LogRecord → Bool) (l : List LogRecord) → filter p (by_lrsn l) ≡ by_lrsn (filter p l)
+pub kept_by : (p : LogRecord → Bool) (l : List LogRecord) → filter p (by_lrsn l) ≡ by_lrsn (filter p l)
 kept_by p [] = refl
 kept_by p (r ∷ rs) = kept_put p 0 r (by_lrsn rs) (rises_by rs) ∙ ap (λ (l : List LogRecord). cond (p r) (put_by_lrsn r l) l) (kept_by p rs) ∙ by_if (p r) r (filter p rs)
 
@@ -156,11 +156,11 @@ changes_when true false rows r xs ys e same = same rows
 changes_when false true rows r xs ys e same = ap (λ (m : Rows). after_records m xs) (unchanged r.body rows e) ∙ same rows
 changes_when false false rows r xs ys e same = same rows
 
-abbrev changes_of : (LogRecord → Bool) → LogRecord → Bool
+abbrev pub changes_of : (LogRecord → Bool) → LogRecord → Bool
 changes_of p r = is_change r.body && p r
 
 -- only row changes count
-changes_only : (p : LogRecord → Bool) (l : List LogRecord) (rows : Rows) → after_records rows (filter p l) ≡ after_records rows (filter (changes_of p) l)
+pub changes_only : (p : LogRecord → Bool) (l : List LogRecord) (rows : Rows) → after_records rows (filter p l) ≡ after_records rows (filter (changes_of p) l)
 changes_only p [] rows = refl
 changes_only p (r ∷ rs) rows = changes_when (is_change r.body) (p r) rows r (filter p rs) (filter (changes_of p) rs) refl (λ m. changes_only p rs m)
 

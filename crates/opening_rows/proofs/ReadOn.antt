@@ -3,8 +3,6 @@ use Rattle.std.proofs.Common.{◌≡◌, ℕ, ◌-◌, Bool, true, false, [], le
 use Rattle.std.specs.Prelude.{IsErrAnd, IsErrOf}
 use Rattle.ds_disk.specs.Contents.{Contents, log_of}
 use Rattle.ds_model.specs.declared.log.LogRecord.{LogRecord}
-use Rattle.log_record.specs.declared.log.Log.{Log}
-use Rattle.log_record.specs.Logs.{IsLogOf}
 use Rattle.log_head.specs.Heads.{HeadState}
 use Rattle.log_head.specs.Laws.{PartsGoOn, PartsEnd, PartsAreBad}
 use Rattle.disk_heads.specs.Records.{IsSound, IsPast, IsNext}
@@ -14,9 +12,9 @@ use Rattle.opening_rows.specs.Reading.{HasDamage, ReadsBy}
 use Rattle.opening_rows.specs.declared.taken.Taken.{Taken}
 use Rattle.opening_rows.specs.declared.reading.LogRead.{LogRead}
 use Rattle.opening_rows.specs.Kept.{HasTaken, Adds}
-use Rattle.opening_rows.specs.LogReads.{IsReadTo, GoesTo, IsRead}
+use Rattle.opening_rows.specs.LogReads.{IsReadTo, GoesTo, IsReadOf}
 use Rattle.opening_rows.proofs.Told.{reads_on, reads_to, reads_err}
-use Rattle.opening_rows.proofs.LogTaken.{goes_on, goes_none, damaged, nothing_read, all_read}
+use Rattle.opening_rows.proofs.LogTaken.{goes_on, goes_none, damaged, nothing_read, log_found}
 use Rattle.opening_rows.proofs.Steps.{NextIn, BadIn, stays, is_over}
 
 abbrev ReadIn : ℕ → (ℕ → Bool) → ℕ → HeadState → Taken → HeadState → Taken → Bool → Contents → Type 0
@@ -83,10 +81,10 @@ read_goes a b e n k m member len h g keeps had old new more later p q =
 -- none is left
 pub read_ends : PartsEnd → (a b : Option Contents) (n k member len : ℕ) (h : HeadState) (keeps : ℕ → Bool) (had : ℕ) (t : Taken) (more : Bool) (read : LogRead)
     → ReadsBy a b n k (λ (x : Bool) (c : Contents). (len ≡ length (log_of c.logs member)) × GoesTo (log_of c.logs member) keeps had h t x) (λ m at c. ⊥) (Ok more) → more ≡ false → read.taken ≡ t → read.tail ≡ len - h.at
-    → ReadsBy a b n k (λ (x : LogRead) c. (log : Log) → IsLogOf (log_of c.logs member) log → IsRead keeps had log x) HasDamage (Ok read)
+    → ReadsBy a b n k (λ (x : LogRead) c. IsReadOf keeps had (log_of c.logs member) x) HasDamage (Ok read)
 read_ends law a b n k member len h keeps had t more read p none taken tail =
-    reads_to a b n k (λ (x : Bool) c. (len ≡ length (log_of c.logs member)) × GoesTo (log_of c.logs member) keeps had h t x) (λ m at c. ⊥) more (λ (x : LogRead) c. (log : Log) → IsLogOf (log_of c.logs member) log → IsRead keeps had log x) HasDamage (Ok read) p
-    (λ c goes log is. all_read law (log_of c.logs member) keeps had h len read log (subst (λ (s : Taken). IsReadTo (log_of c.logs member) keeps had h s) (sym taken) goes.1.read) (is_over (log_of c.logs member) h more none goes.1.over) goes.0 tail is)
+    reads_to a b n k (λ (x : Bool) c. (len ≡ length (log_of c.logs member)) × GoesTo (log_of c.logs member) keeps had h t x) (λ m at c. ⊥) more (λ (x : LogRead) c. IsReadOf keeps had (log_of c.logs member) x) HasDamage (Ok read) p
+    (λ c goes. log_found law (log_of c.logs member) keeps had h len read (subst (λ (s : Taken). IsReadTo (log_of c.logs member) keeps had h s) (sym taken) goes.1.read) (is_over (log_of c.logs member) h more none goes.1.over) goes.0 tail)
     (λ m at e. absurd (no_log_error m at e)) (λ e. no_log_failure e)
   where
     no_log_error : (m at : ℕ) → IsErrOf {T = LogRead} {E = LogsFault} (Ok read) (Damaged m at) → ⊥

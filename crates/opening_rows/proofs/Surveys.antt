@@ -28,11 +28,11 @@ rises_more : (low : ℕ) (rs : List LogRecord) (r : LogRecord) → RisesFrom low
 rises_more low [] r h le = (le, tt)
 rises_more low (s ∷ ss) r h le = (h.0, rises_more s.lrsn ss r h.1 le)
 
-allowed_more : (rs : List LogRecord) (r : LogRecord) → AllByRecursion IsAllowed rs → IsAllowed r → AllByRecursion IsAllowed (rs ++ r ∷ [])
+pub allowed_more : (rs : List LogRecord) (r : LogRecord) → AllByRecursion IsAllowed rs → IsAllowed r → AllByRecursion IsAllowed (rs ++ r ∷ [])
 allowed_more [] r h is = (is, tt)
 allowed_more (s ∷ ss) r h is = (h.0, allowed_more ss r h.1 is)
 
-bytes_more : (rs : List LogRecord) (r : LogRecord) → log_bytes (rs ++ r ∷ []) ≡ log_bytes rs ++ record_bytes r
+pub bytes_more : (rs : List LogRecord) (r : LogRecord) → log_bytes (rs ++ r ∷ []) ≡ log_bytes rs ++ record_bytes r
 bytes_more rs r = flat_map-append record_bytes rs (r ∷ []) ∙ ap (λ (t : List ℕ). log_bytes rs ++ t) (append-nil (record_bytes r))
 
 abbrev pub ok_parts : Parts → Result Parts ℕ

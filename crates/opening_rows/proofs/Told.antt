@@ -68,7 +68,7 @@ pushed (b ∷ bss) (l ∷ logs) bs log are is = (are.0, pushed bss logs bs log a
 at_place : (n : ℕ) → n + 1 - 1 ≡ n
 at_place n = omega arith
 
-one_more : (n : ℕ) (logs : List Log) (log : Log) (c : Contents) → n < length c.logs → AreFirst n logs c → IsLogOf (log_of c.logs (n + 1)) log → AreFirst (n + 1) (logs ++ log ∷ []) c
+pub one_more : (n : ℕ) (logs : List Log) (log : Log) (c : Contents) → n < length c.logs → AreFirst n logs c → IsLogOf (log_of c.logs (n + 1)) log → AreFirst (n + 1) (logs ++ log ∷ []) c
 one_more n logs log c lt are is =
     let its : IsLogOf (get_or c.logs n []) log = subst (λ i. IsLogOf (get_or c.logs i []) log) (at_place n) is in
     subst (λ (bss : List (List ℕ)). AreLogsOf bss (logs ++ log ∷ [])) (sym (take_more c.logs n [] lt)) (pushed (take n c.logs) logs (get_or c.logs n []) log are its)

@@ -9,36 +9,48 @@ use Rattle.ds_disk.specs.Contents.{Contents, WhenTold}
 use Rattle.ds_model.specs.declared.script.Script.{Script}
 use Rattle.ds_model.specs.declared.history.Entry.{Entry}
 use Rattle.ds_model.specs.Rows.{map_of, listed}
+use Rattle.ds_model.specs.History.{replay}
+use Rattle.ds_model.specs.Logs.{rows_of_logs}
 use Rattle.log_record.specs.declared.log.Log.{Log}
 use Rattle.report_check.specs.Records.{records_of}
-use Rattle.report_check.specs.Reports.{IsSoundReport}
+use Rattle.report_check.specs.Commits.{new_commits, AreLogged}
+use Rattle.report_check.specs.Reports.{IsSoundAlone}
 use Rattle.opening_rows.specs.declared.fault.LogsFault.{LogsFault}
 use Rattle.opening_rows.specs.declared.fault.LogsFault.TheVariants.{Failed, Damaged, NoMemory}
 use Rattle.opening_rows.specs.declared.opening.Opening.{Opening}
 use Rattle.opening_rows.specs.Reading.{AreLogsOf, HasDamage, BreaksAt, Reads, ReadsBy}
 use Rattle.opening_rows.specs.Opening.{stood_for}
 use Rattle.opening_rows.specs.Kept.{AreWhole}
-use Rattle.opening_rows.specs.Judging.{IsTold, BearOut, Judges, IsJudged}
+use Rattle.opening_rows.specs.Fresh.{AreReadSo}
+use Rattle.opening_rows.specs.Judging.{BearOut, Judges, IsJudged}
 use Rattle.opening_rows.proofs.Told.{held_before, same_on, same_fault, reads_to, err_to}
-use Rattle.opening_rows.proofs.Judged.{alone_of}
+use Rattle.opening_rows.proofs.Judged.{same_listed}
+use Rattle.opening_rows.proofs.FreshTells.{HadNone, judges_alike}
 
 -- ---- the judgement
+
+-- whole logs tell of the commits of entries, where they had so many records
+abbrev LoggedIn : Opening → List Entry → List Log → List ℕ → Type 0
+LoggedIn opening entries logs had = AreLogged (records_of logs) (new_commits had (records_of logs)) (map_of opening.rows) entries
+
+pub borne_by : (opening : Opening) (entries : List Entry) (logs : List Log) (same : Bool) (left : List Row) (had : List ℕ) → had ≡ opening.had.items → left ≡ stood_for logs → Decides same (LoggedIn opening entries logs had)
+    → Decides same ((left ≡ stood_for logs) × LoggedIn opening entries logs opening.had.items)
+borne_by opening entries logs same left had had_is is d =
+    (λ y. (is, subst (λ (ns : List ℕ). LoggedIn opening entries logs ns) had_is (d.0 y)), λ h. d.1 (subst (λ (ns : List ℕ). LoggedIn opening entries logs ns) (sym had_is) h.1))
 
 module _ (script : Script) (opening : Opening) (entries : List Entry) (logs : List Log) where
   pub not_whole : (whole : Bool) → Decides whole (AreWhole logs) → whole ≡ false → BearOut script opening entries logs → ⊥
   not_whole whole d none b = true≢false (sym (d.1 b.whole) ∙ none)
 
-  abbrev Sound : List ℕ → Type 0
-  Sound had = IsSoundReport script (map_of opening.rows) entries (records_of logs) had
+  pub whole_bears : (left : List Row) → left ≡ listed (replay (map_of opening.rows) entries) → AreWhole logs → IsSoundAlone script (map_of opening.rows) entries → (left ≡ stood_for logs) × LoggedIn opening entries logs opening.had.items → BearOut script opening entries logs × (left ≡ stood_for logs)
+  whole_bears left left_is whole alone h =
+      let same : replay (map_of opening.rows) entries ≡ rows_of_logs (records_of logs) = same_listed (replay (map_of opening.rows) entries) (rows_of_logs (records_of logs)) (sym left_is ∙ h.0) in (
+        record { whole = whole; sound = record { each_once = alone.each_once; order = alone.order; logged = h.1; aborts_fit = alone.aborts_fit; ends = record { legal = alone.legal; rows = same } } },
+        h.0,
+      )
 
-  pub not_sound : (sound : Bool) (had : List ℕ) → had ≡ opening.had.items → Decides sound (Sound had) → sound ≡ false → BearOut script opening entries logs → ⊥
-  not_sound sound had same d none b = true≢false (sym (d.1 (subst Sound (sym same) b.sound)) ∙ none)
-
-  pub whole_bears : (whole sound : Bool) (had : List ℕ) → had ≡ opening.had.items → Decides whole (AreWhole logs) → whole ≡ true → Decides sound (Sound had) → sound ≡ true → BearOut script opening entries logs
-  whole_bears whole sound had same w all d found = record { whole = w.0 all; sound = subst Sound same (d.0 found) }
-
-  pub told_by : (rows : List Row) → BearOut script opening entries logs → rows ≡ stood_for logs → IsTold script opening entries rows
-  told_by rows b is = record { sound = alone_of script opening entries logs b; rows_are = is ∙ ap listed (sym b.sound.ends.rows) }
+  pub whole_lacks : (left : List Row) → left ≡ listed (replay (map_of opening.rows) entries) → ((left ≡ stood_for logs) × LoggedIn opening entries logs opening.had.items → ⊥) → BearOut script opening entries logs → ⊥
+  whole_lacks left left_is wrong b = wrong (left_is ∙ ap listed b.sound.ends.rows, b.sound.logged)
 
 -- ---- of a disk
 
@@ -67,6 +79,34 @@ judged_whole a b n k script opening entries logs given rows p same judges =
 pub whole_wanting : {Y : Type 0} (a b : Option Contents) (n k : ℕ) (logs : Vec Log Global) (IsR : Y → Contents → Type 0) (r : Result Y LogsFault) → Reads a b n k LogsOf (Ok logs) → IsErrAnd r (λ (z : LogsFault). z ≡ NoMemory) → ReadsBy a b n k IsR HasDamage r
 whole_wanting a b n k logs IsR r p is =
     err_to a b n k LogsOf HasDamage logs IsR HasDamage NoMemory r is (by_reads a b n k LogsOf (Ok logs) p) (λ i l h. absurd (no_damage i l h)) (λ h. no_failure h)
+  where
+    no_damage : (i l : ℕ) → NoMemory ≡ Damaged i l → ⊥
+    no_damage i l h = cc
+
+    no_failure : NoMemory ≡ Failed → ⊥
+    no_failure h = cc
+
+-- ---- of a disk whose logs had no record
+
+abbrev FreshOf : Vec Log Global → Contents → Type 0
+FreshOf logs c = AreReadSo c.logs logs.items
+
+pub judged_fresh : (a b : Option Contents) (n k : ℕ) (script : Script) (opening : Opening) (entries : List Entry) (logs : Vec Log Global) (given : List Log) (rows : Option (List Row)) → HadNone opening.had.items → ReadsBy a b n k FreshOf HasDamage (Ok logs) → given ≡ logs.items
+    → Judges script opening entries given rows → ReadsBy a b n k (JudgedBy script opening entries) HasDamage (Ok rows)
+judged_fresh a b n k script opening entries logs given rows none p same judges =
+    reads_to a b n k FreshOf HasDamage logs (JudgedBy script opening entries) HasDamage (Ok rows) p
+    (λ c read. record { logs = read.whole; are = read.are; judges = judges_alike script opening entries c.logs read.whole logs.items none read.are read.so rows (subst (λ (ls : List Log). Judges script opening entries ls rows) same judges) })
+    (λ i l h. absurd (no_error i l h)) (λ h. no_failure h)
+  where
+    no_error : (i l : ℕ) → IsErrOf {T = Option (List Row)} {E = LogsFault} (Ok rows) (Damaged i l) → ⊥
+    no_error i l h = cc
+
+    no_failure : IsErrOf {T = Option (List Row)} {E = LogsFault} (Ok rows) Failed → ⊥
+    no_failure h = cc
+
+-- memory was wanting
+pub fresh_wanting : {Y : Type 0} (a b : Option Contents) (n k : ℕ) (logs : Vec Log Global) (IsR : Y → Contents → Type 0) (r : Result Y LogsFault) → ReadsBy a b n k FreshOf HasDamage (Ok logs) → IsErrAnd r (λ (z : LogsFault). z ≡ NoMemory) → ReadsBy a b n k IsR HasDamage r
+fresh_wanting a b n k logs IsR r p is = err_to a b n k FreshOf HasDamage logs IsR HasDamage NoMemory r is p (λ i l h. absurd (no_damage i l h)) (λ h. no_failure h)
   where
     no_damage : (i l : ℕ) → NoMemory ≡ Damaged i l → ⊥
     no_damage i l h = cc

@@ -1,5 +1,5 @@
 -- What is kept of logs to tell of the transactions that have committed since the opening.
-use Rattle.std.specs.Prelude.{◌≡◌, ℕ, ◌+◌, Bool, ◌||◌, ◌&&◌, nat_lt, nat_le, cond, List, [], ◌∷◌, ◌++◌, length, take, drop, filter, Decides}
+use Rattle.std.specs.Prelude.{◌≡◌, ℕ, ◌+◌, Bool, ◌||◌, ◌&&◌, not, ◌==◌, nat_lt, nat_le, cond, List, [], ◌∷◌, ◌++◌, length, take, drop, filter, Decides}
 use Rattle.std.specs.List.{AllByRecursion}
 use Rattle.std.specs.BTreeSet as set
 use Rattle.std.specs.Ordering.{nat_cmp}
@@ -7,9 +7,16 @@ use Rattle.ds_model.specs.declared.log.LogRecord.{LogRecord}
 use Rattle.ds_model.specs.Logs.{has_commit}
 use Rattle.log_record.specs.declared.log.Log.{Log}
 use Rattle.report_check.specs.Records.{records_of}
+use Rattle.opening_rows.specs.declared.keeps.Keeps.{Keeps}
+use Rattle.opening_rows.specs.declared.keeps.Keeps.TheVariants as which
 use Rattle.opening_rows.specs.declared.taken.Taken.{Taken}
 use Rattle.opening_rows.specs.declared.kept.Kept.{Kept}
 use Rattle.opening_rows.specs.declared.kept.KeptLogs.{KeptLogs}
+
+-- of which transactions records are kept; 0 is the number of none
+abbrev pub keeps_of : Keeps → ℕ → Bool
+keeps_of which.Each tran = not (tran == 0)
+keeps_of (which.These trans) tran = set.contains nat_cmp trans tran
 
 -- the records of these transactions
 abbrev pub kept_by : (ℕ → Bool) → List LogRecord → List LogRecord

@@ -5,5 +5,6 @@ pub mod Survey
 pub mod Surveyed
 pub mod Rows
 pub mod Kept
+pub mod Fresh
 pub mod LogReads
 pub mod Judging

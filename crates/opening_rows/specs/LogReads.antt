@@ -1,8 +1,10 @@
 -- How a log is read to its end, and of what was read its records are taken.
-use Rattle.std.specs.Prelude.{◌≡◌, ℕ, Bool, List}
+use Rattle.std.specs.Prelude.{◌≡◌, ℕ, Bool, List, ◌++◌, length}
+use Rattle.std.specs.List.{AllByRecursion}
 use Rattle.ds_model.specs.declared.log.LogRecord.{LogRecord}
+use Rattle.ds_model.specs.RecordBytes.{log_bytes, IsAllowed}
 use Rattle.log_record.specs.declared.log.Log.{Log}
-use Rattle.log_record.specs.Logs.{parts_in}
+use Rattle.log_record.specs.Logs.{parts_in, IsLogOf}
 use Rattle.log_head.specs.Heads.{HeadState, IsOf, left_bytes}
 use Rattle.opening_rows.specs.Survey.{put_before, IsOver}
 use Rattle.opening_rows.specs.declared.taken.Taken.{Taken}
@@ -13,6 +15,9 @@ use Rattle.opening_rows.specs.Kept.{HasTaken}
 pub record IsReadTo (log : List ℕ) (keeps : ℕ → Bool) (had : ℕ) (head : HeadState) (t : Taken) : Type 0 where
   pub records : List LogRecord
   pub of : IsOf log head
+  pub spelled : log ≡ log_bytes records ++ left_bytes log head
+  pub allowed : AllByRecursion IsAllowed records
+  pub at_is : head.at ≡ length (log_bytes records)
   pub parts : parts_in log ≡ put_before records head.at (parts_in (left_bytes log head))
   pub taken : HasTaken keeps had records t
 
@@ -25,3 +30,9 @@ pub record GoesTo (log : List ℕ) (keeps : ℕ → Bool) (had : ℕ) (head : He
 pub record IsRead (keeps : ℕ → Bool) (had : ℕ) (log : Log) (r : LogRead) : Type 0 where
   pub taken : HasTaken keeps had log.records r.taken
   pub tail_is : r.tail ≡ log.tail
+
+-- the same of the log of these bytes
+pub record IsReadOf (keeps : ℕ → Bool) (had : ℕ) (bytes : List ℕ) (r : LogRead) : Type 0 where
+  pub log : Log
+  pub is_log : IsLogOf bytes log
+  pub read : IsRead keeps had log r

@@ -11,10 +11,11 @@ ghost use Rattle.opening_rows.specs.Kept.{AreKept};
 ghost use Rattle.opening_rows.specs.Judging.{IsTold, Judges, IsJudged};
 
 use crate::fault::LogsFault;
+use crate::fresh::had_none;
 use crate::kept::{KeptLogs, keep_logs};
 use crate::laws::kept_laws;
 use crate::opening::{Opening, read_opening};
-use crate::whole::check_whole;
+use crate::whole::{check_fresh, check_whole};
 use disk_heads::BLOCK;
 use ds_base::{NoMemory, RowList};
 use ds_disk::Disk;
@@ -97,6 +98,9 @@ fn check_by_blocks<D: Disk>(
 /// transactions that have committed since the opening. Beside them are the rows, and the number of each transaction that has
 /// changed one and hasn't committed, whether it was open or rolled back. Only logs that can't be read so, for damage or for a
 /// number that is lower than the one before it in its log, are read whole.
+///
+/// Where no log had a record at the opening, each is read once: then the records of all its transactions are in memory, and no
+/// others, and the rows are made of these.
 pub fn check_report<D: Disk>(
     alloc: Global,
     disk: &mut D,
@@ -108,6 +112,9 @@ pub fn check_report<D: Disk>(
     ensures alone { IfOk result (λ rows. IfSome rows (IsTold script.now opening.now entries.now)) }
     ensures judged { ReadsBy (D.contents disk.old) (D.contents disk.new) (D.faults disk.old) (D.faults disk.new) (λ rows c. IsJudged script.now opening.now entries.now c rows) HasDamage result }
 {
+    if had_none(&opening.had) {
+        return check_fresh(alloc, disk, script, opening, entries);
+    }
     match check_by_blocks(alloc, disk, script, opening, entries) {
         Ok(rows) => Ok(rows),
         Err(LogsFault::Damaged { .. }) => check_whole(alloc, disk, script, opening, entries),

@@ -7,8 +7,10 @@ ghost use Rattle.log_record.specs.Logs.{IsLogOf};
 ghost use Rattle.report_check.specs.Records.{records_of};
 ghost use Rattle.opening_rows.specs.Reading.{AreLogsOf, HasDamage, ReadsBy};
 ghost use Rattle.opening_rows.specs.Kept.{IsKept, AreKept};
+ghost use Rattle.opening_rows.specs.declared.keeps.Keeps.TheVariants as which;
 
 use crate::fault::LogsFault;
+use crate::keeps::Keeps;
 use crate::logs::{MEMBERS, member_behind};
 use crate::reading::{LogRead, read_log};
 use ds_base::{MemberId, NoMemory, Sequence};
@@ -46,6 +48,16 @@ fn count_at(had: &[usize], i: usize) -> usize
     had.get(i).copied().unwrap_or(0)
 }
 
+// The transactions whose Commit records were met.
+fn committed(read: LogRead) -> Keeps
+    ensures { result ≡ which.These read.taken.commits }
+{
+    let LogRead { taken, .. } = read;
+    Keeps::These {
+        trans: taken.commits,
+    }
+}
+
 fn kept_of(read: LogRead) -> Kept
     ensures records { result.records.items ≡ read.taken.records.items }
     ensures before { result.before ≡ read.taken.before }
@@ -73,9 +85,12 @@ fn keep_log<D: Disk>(
     ensures { ReadsBy (D.contents disk.old) (D.contents disk.new) (D.faults disk.old) (D.faults disk.new)
         (λ kept c. (log : AnyLog) → IsLogOf (log_of c.logs member) log → IsKept had log kept) HasDamage result }
 {
-    let none = BTreeSet::new(alloc);
+    let none = Keeps::These {
+        trans: BTreeSet::new(alloc),
+    };
     let first = read_log(alloc, disk, member, &none, had, block)?;
-    let second = read_log(alloc, disk, member, &first.taken.commits, had, block)?;
+    let commits = committed(first);
+    let second = read_log(alloc, disk, member, &commits, had, block)?;
     Ok(kept_of(second))
 }
 

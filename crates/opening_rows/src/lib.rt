@@ -4,6 +4,8 @@
 
 mod check;
 mod fault;
+mod fresh;
+mod keeps;
 mod kept;
 mod laws;
 mod logs;

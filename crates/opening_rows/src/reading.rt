@@ -1,24 +1,21 @@
 //! A log of a disk that is read to its end.
 
 ghost use Rattle.std.specs.Prelude.{◌≡◌, ◌<◌, ◌≤◌, ◌^◌, length, IfOk};
-ghost use Rattle.std.specs.BTreeSet as set;
-ghost use Rattle.std.specs.Ordering.{nat_cmp};
 ghost use Rattle.ds_disk.specs.Contents.{log_of};
-ghost use Rattle.log_record.specs.declared.log.Log.{Log};
-ghost use Rattle.log_record.specs.Logs.{IsLogOf};
 ghost use Rattle.disk_heads.specs.Records.{IsSound};
 ghost use Rattle.opening_rows.specs.Reading.{HasDamage, ReadsBy};
 ghost use Rattle.opening_rows.specs.Survey.{GoesOn};
-ghost use Rattle.opening_rows.specs.LogReads.{IsReadTo, GoesTo, IsRead};
+ghost use Rattle.opening_rows.specs.Kept.{keeps_of};
+ghost use Rattle.opening_rows.specs.LogReads.{IsReadTo, GoesTo, IsReadOf};
 
 use crate::fault::LogsFault;
+use crate::keeps::Keeps;
 use crate::survey::{length_of, next_in};
 use crate::taken::{Taken, nothing, take};
 use ds_base::MemberId;
 use ds_disk::Disk;
 use log_head::{Head, whole_laws};
 use std::alloc::Global;
-use std::collections::BTreeSet;
 
 /// What was taken of a log that was read to its end.
 #[derive(Drop)]
@@ -35,7 +32,7 @@ fn take_next<D: Disk>(
     member: MemberId,
     head: &mut Head,
     taken: &mut Taken,
-    keeps: &BTreeSet<u128>,
+    keeps: &Keeps,
     had: usize,
     block: &mut [u8],
 ) -> Result<bool, LogsFault>
@@ -44,8 +41,8 @@ fn take_next<D: Disk>(
     requires sound { IsSound head.old }
     ensures past { IfOk result (λ more. GoesOn head.old head.new more) }
     ensures taken { ReadsBy (D.contents disk.old) (D.contents disk.new) (D.faults disk.old) (D.faults disk.new)
-        (λ more c. IsReadTo (log_of c.logs member) (set.contains nat_cmp keeps.now) had head.old taken.old → GoesTo (log_of c.logs member) (set.contains nat_cmp keeps.now) had head.new taken.new more)
-        (λ m at c. IsReadTo (log_of c.logs member) (set.contains nat_cmp keeps.now) had head.old taken.old → HasDamage m at c) result }
+        (λ more c. IsReadTo (log_of c.logs member) (keeps_of keeps.now) had head.old taken.old → GoesTo (log_of c.logs member) (keeps_of keeps.now) had head.new taken.new more)
+        (λ m at c. IsReadTo (log_of c.logs member) (keeps_of keeps.now) had head.old taken.old → HasDamage m at c) result }
 {
     whole_laws();
     let next = next_in(alloc, disk, member, head, block)?;
@@ -58,20 +55,20 @@ fn take_next<D: Disk>(
     }
 }
 
-/// Reads the log of a member, which had so many records at the opening, up to its tail, and keeps the records of these
-/// transactions.
+/// Reads the log of a member, which had so many records at the opening, up to its tail, and keeps what is to be kept of its
+/// records.
 pub fn read_log<D: Disk>(
     alloc: Global,
     disk: &mut D,
     member: MemberId,
-    keeps: &BTreeSet<u128>,
+    keeps: &Keeps,
     had: usize,
     block: &mut [u8],
 ) -> Result<LogRead, LogsFault>
     requires some { 1 ≤ length block.old }
     requires fits { length block.old < 2 ^ 32 }
     ensures { ReadsBy (D.contents disk.old) (D.contents disk.new) (D.faults disk.old) (D.faults disk.new)
-        (λ read c. (log : Log) → IsLogOf (log_of c.logs member) log → IsRead (set.contains nat_cmp keeps.now) had log read)
+        (λ read c. IsReadOf (keeps_of keeps.now) had (log_of c.logs member) read)
         HasDamage result }
 {
     whole_laws();

@@ -4,8 +4,9 @@ ghost use Rattle.std.specs.Prelude.{◌≡◌, ◌+◌, ◌||◌, ◌&&◌, ◌�
 ghost use Rattle.std.specs.BTreeSet as set;
 ghost use Rattle.std.specs.Ordering.{nat_cmp};
 ghost use Rattle.ds_model.specs.Logs.{has_commit};
-ghost use Rattle.opening_rows.specs.Kept.{HasTaken, Adds};
+ghost use Rattle.opening_rows.specs.Kept.{keeps_of, HasTaken, Adds};
 
+use crate::keeps::Keeps;
 use ds_base::NoMemory;
 use ds_model::{Body, LogRecord};
 use std::alloc::Global;
@@ -67,18 +68,13 @@ fn keep(
 }
 
 /// Takes the next record of a log that had so many records at the opening. It is kept if its transaction is one of these.
-pub fn take(
-    taken: &mut Taken,
-    keeps: &BTreeSet<u128>,
-    had: usize,
-    it: LogRecord,
-) -> Result<(), NoMemory>
-    ensures { OnOk result (Adds (set.contains nat_cmp keeps.now) had taken.old taken.new it) }
+pub fn take(taken: &mut Taken, keeps: &Keeps, had: usize, it: LogRecord) -> Result<(), NoMemory>
+    ensures { OnOk result (Adds (keeps_of keeps.now) had taken.old taken.new it) }
 {
     let is_new = had <= taken.count;
     note_commit(&mut taken.commits, &it, is_new)?;
     taken.count = taken.count.checked_add(1).ok_or(NoMemory)?;
-    if keeps.contains(&it.tran.number()) {
+    if keeps.has(it.tran.number()) {
         keep(&mut taken.records, &mut taken.before, it, is_new)?;
     }
     Ok(())
