@@ -142,7 +142,7 @@ module _ (found : FoundInBytes) (first : FirstIsWhole) (none : NoneIsWhole) wher
       record { within = within; ends = omega arith; told = refl; bytes = λ i. subst (λ (x : ℕ). x < 256) (sym (get_or_past [] i 0 (omega arith))) (lit< tt); passed = omega arith; before = whole; looked = none_whole }
 
   -- from the mark on
-  from_mark : (log : List ℕ) (h : HeldState) (m : Mark) → IsOf log h → IsMark h.bytes m → IsOf log (record { start = h.start + m.from; end = h.end; bytes = drop m.from h.bytes; passed = m.to - m.from; low = m.low; keeps_all = h.keeps_all })
+  from_mark : (log : List ℕ) (h : HeldState) (m : Mark) → IsOf log h → IsMark h.bytes m → IsOf log (record { start = h.start + m.from; end = h.end; bytes = drop m.from h.bytes; passed = m.to - m.from; low = m.low; keeps_all = h.keeps_all; has_old = m.has_old })
   from_mark log h m is mark =
       let left = length-drop m.from h.bytes in
       let split : length h.bytes ≡ m.from + length (drop m.from h.bytes) = omega (arith, left, mark.order, mark.within) in
@@ -159,20 +159,20 @@ module _ (found : FoundInBytes) (first : FirstIsWhole) (none : NoneIsWhole) wher
       }
 
   with_mark_is : (log : List ℕ) (h : HeldState) (m : Mark) → IsOf log h → IsMark h.bytes m → IsOf log (with_mark h m)
-  with_mark_is log h m is mark = cond_both m.wants_all (nothing_held true) (record { start = h.start + m.from; end = h.end; bytes = drop m.from h.bytes; passed = m.to - m.from; low = m.low; keeps_all = h.keeps_all }) (IsOf log) (λ _. nothing_is log true) (λ _. from_mark log h m is mark)
+  with_mark_is log h m is mark = cond_both m.wants_all (nothing_held true) (record { start = h.start + m.from; end = h.end; bytes = drop m.from h.bytes; passed = m.to - m.from; low = m.low; keeps_all = h.keeps_all; has_old = m.has_old }) (IsOf log) (λ _. nothing_is log true) (λ _. from_mark log h m is mark)
 
-  first_is : (h : HeldState) (log : List ℕ) → IsOf log h → IsMark h.bytes (first_mark h.passed h.low)
+  first_is : (h : HeldState) (log : List ℕ) → IsOf log h → IsMark h.bytes (first_mark h.passed h.low h.has_old)
   first_is h log is =
       let all : h.passed - 0 ≡ h.passed = omega arith in
       record { order = omega arith; within = is.passed; front = none_whole; looked = subst (λ (k : ℕ). AreWhole (take k h.bytes)) (sym all) is.looked }
 
   settled_is : (log : List ℕ) (h : HeldState) → IsOf log h → IsOf log (settled h)
   unfolding settled
-  settled_is log h is = cond_both (h.keeps_all || nat_lt (length h.bytes) h.passed) h (with_mark h (marked_all h.start (first_mark h.passed h.low) (whole_records (drop h.passed h.bytes)))) (IsOf log)
+  settled_is log h is = cond_both (h.keeps_all || nat_lt (length h.bytes) h.passed) h (with_mark h (marked_all h.start (first_mark h.passed h.low h.has_old) (whole_records (drop h.passed h.bytes)))) (IsOf log)
       (λ _. is)
-      (λ _. with_mark_is log h (marked_all h.start (first_mark h.passed h.low) (whole_records (drop h.passed h.bytes))) is (all_marked h.start h.bytes (whole_records (drop h.passed h.bytes)) is.bytes (first_mark h.passed h.low) (first_is h log is) refl))
+      (λ _. with_mark_is log h (marked_all h.start (first_mark h.passed h.low h.has_old) (whole_records (drop h.passed h.bytes))) is (all_marked h.start h.bytes (whole_records (drop h.passed h.bytes)) is.bytes (first_mark h.passed h.low h.has_old) (first_is h log is) refl))
 
-  more_is : (log : List ℕ) (h : HeldState) (more : List ℕ) → IsOf log h → AreBytes more → h.end + length more ≤ length log → more ≡ take (length more) (drop h.end log) → IsOf log (record { start = h.start; end = h.end + length more; bytes = h.bytes ++ more; passed = h.passed; low = h.low; keeps_all = h.keeps_all })
+  more_is : (log : List ℕ) (h : HeldState) (more : List ℕ) → IsOf log h → AreBytes more → h.end + length more ≤ length log → more ≡ take (length more) (drop h.end log) → IsOf log (record { start = h.start; end = h.end + length more; bytes = h.bytes ++ more; passed = h.passed; low = h.low; keeps_all = h.keeps_all; has_old = h.has_old })
   more_is log h more is are within next =
       let long = length-append h.bytes more in
       record {
@@ -194,7 +194,7 @@ module _ (found : FoundInBytes) (first : FirstIsWhole) (none : NoneIsWhole) wher
       let more : List ℕ = take n block in
       let left = length-drop h.end log in
       let long : length more ≡ n = ap (λ (t : List ℕ). length t) next ∙ length-take-le n (drop h.end log) (omega (arith, left, within)) in
-      settled_is log (record { start = h.start; end = h.end + length more; bytes = h.bytes ++ more; passed = h.passed; low = h.low; keeps_all = h.keeps_all })
+      settled_is log (record { start = h.start; end = h.end + length more; bytes = h.bytes ++ more; passed = h.passed; low = h.low; keeps_all = h.keeps_all; has_old = h.has_old })
       (more_is log h more is (take_bytes n block are) (omega (arith, within, long)) (next ∙ ap (λ (k : ℕ). take k (drop h.end log)) (sym long)))
 
 -- ---- what is read
