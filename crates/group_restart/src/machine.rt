@@ -33,7 +33,7 @@ pub struct GroupRestart {
     pub(crate) plan: Plan,
     /// Where in the merged records those of the page stand that is brought forward.
     pub(crate) places: Sequence<usize>,
-    /// Whether pages of version 1 are written in version 2, as one of the logs asks that are read.
+    /// Whether pages of version 1 are written in version 2, as one of the logs that are read asks.
     pub(crate) renews: bool,
     /// The last page of the page set that is looked through for them.
     pub(crate) last: u32,
