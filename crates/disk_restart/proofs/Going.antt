@@ -7,6 +7,7 @@ use Rattle.ds_model.specs.RecordBytes.{record_bytes}
 use Rattle.ds_disk.specs.Contents.{log_of}
 use Rattle.log_record.specs.declared.log.Log.{Log}
 use Rattle.log_trans.specs.declared.damage.Damaged.{Damaged}
+use Rattle.page_format.specs.declared.header.NotAPage.{NotAPage}
 use Rattle.page_redo.specs.declared.fault.FieldFault.{FieldFault}
 use Rattle.page_records.specs.declared.places.PageRecords.{PageRecords}
 use Rattle.restart_plan.specs.declared.opened.Closing.{Closing}
@@ -19,8 +20,9 @@ use Rattle.group_restart.specs.declared.stage.Stage.TheVariants as stage
 use Rattle.group_restart.specs.Machine.{Restart}
 use Rattle.group_restart.specs.Records.{ended, ending, compensation}
 use Rattle.group_restart.specs.Undo.{undo_fault, undoing}
+use Rattle.group_restart.specs.Renewal.{first_page, last_behind, page_behind}
 use Rattle.page_format.specs.Fields.{is_old, renewed}
-use Rattle.group_restart.specs.Course.{go, with_plan, rest_tails, rest_pages, rest_closings, rest_undo, rest_endings, ending_or, next_ending, rest_old, renewal_or, next_renewal, undo_or, next_undo, closing_or, next_closing, too_few_numbers, has_numbers, numbered, counted, begin_undo, page_or, next_redo, tail_or, next_tail, raised, numbered_by, noted, take_raised, forwarded, page_brought, take_page, undone, undo_at, undo_unless, undo_one, undo_first, take_undone, take_old, appended, take_done, found_damage, plan_read, planned, take_logs}
+use Rattle.group_restart.specs.Course.{go, with_plan, rest_tails, rest_pages, rest_closings, rest_undo, rest_endings, ending_or, next_ending, renewal_or, next_renewal, begin_renewal, undo_or, next_undo, closing_or, next_closing, too_few_numbers, has_numbers, numbered, counted, begin_undo, page_or, next_redo, tail_or, next_tail, raised, numbered_by, take_raised, forwarded, page_brought, take_page, undone, undo_at, undo_unless, undo_one, undo_first, take_undone, renew_page, looked_at, take_old, appended, take_done, found_damage, plan_read, planned, take_logs}
 use Rattle.disk_restart.proofs.Whole.{ReadsSound, AreAdded}
 use Rattle.disk_restart.proofs.Cutting.{Logs, AreFrom, count_all, due_all}
 use Rattle.disk_restart.proofs.Stages.{Cuts, Stands, Adds, AfterCall, Good}
@@ -48,18 +50,30 @@ renewal_good : (o d : Logs) (h : Restart) (next : Option PageId) → Stands o d 
 renewal_good o d h None s = next_ending_good o d h s
 renewal_good o d h (Some page) s = s
 
-next_renewal_good : (o d : Logs) (h : Restart) → Stands o d h.plan.ends → Good o d (next_renewal h)
+next_renewal_good : (o d : Logs) (h : Restart) (id : PageId) → Stands o d h.plan.ends → Good o d (next_renewal h id)
 unfolding next_renewal
-next_renewal_good o d h s = renewal_good o d (rest_old h) (slice_get h.old_pages 0) s
+next_renewal_good o d h id s = renewal_good o d h (page_behind h.last id) s
+
+begin_renewal_good : (o d : Logs) (h : Restart) → Stands o d h.plan.ends → Good o d (begin_renewal h)
+unfolding begin_renewal
+begin_renewal_good o d h s = cond_both h.renews (go h (stage.RenewRead first_page)) (next_ending h) (Good o d) (λ _. s) (λ _. next_ending_good o d h s)
+
+renew_page_good : (o d : Logs) (h : Restart) (id : PageId) → Stands o d h.plan.ends → Good o d (renew_page h id)
+unfolding renew_page
+renew_page_good o d h id s = cond_both (is_old h.page) (go (record h { page = renewed h.page }) (stage.RenewWrite id)) (next_renewal h id) (Good o d) (λ _. s) (λ _. next_renewal_good o d h id s)
+
+looked_at_good : (o d : Logs) (h : Restart) (id : PageId) (last : Result ℕ NotAPage) → Stands o d h.plan.ends → Good o d (looked_at h id last)
+looked_at_good o d h id (Err fault) s = tt
+looked_at_good o d h id (Ok last) s = renew_page_good o d (record h { last = last }) id s
 
 take_old_good : (o d : Logs) (h : Restart) (id : PageId) → Stands o d h.plan.ends → Good o d (take_old h id)
 unfolding take_old
-take_old_good o d h id s = cond_both (is_old h.page) (go (record h { page = renewed h.page }) (stage.RenewWrite id)) (next_renewal h) (Good o d) (λ _. s) (λ _. next_renewal_good o d h s)
+take_old_good o d h id s = looked_at_good o d h id (last_behind h.last id h.page) s
 
 -- ---- undo
 
 undo_good : (o d : Logs) (h : Restart) (next : Option Undo) → Stands o d h.plan.ends → Good o d (undo_or h next)
-undo_good o d h None s = next_renewal_good o d h s
+undo_good o d h None s = begin_renewal_good o d h s
 undo_good o d h (Some u) s = s
 
 next_undo_good : (o d : Logs) (h : Restart) → Stands o d h.plan.ends → Good o d (next_undo h)
@@ -89,7 +103,7 @@ unfolding undo_one
 undo_one_good o d h u s = undo_unless_good o d h u (undo_fault u.change h.page) s
 
 undo_first_good : (o d : Logs) (h : Restart) (next : Option Undo) → Stands o d h.plan.ends → Good o d (undo_first h next)
-undo_first_good o d h None s = next_renewal_good o d h s
+undo_first_good o d h None s = begin_renewal_good o d h s
 undo_first_good o d h (Some u) s = undo_one_good o d h u s
 
 take_undone_good : (o d : Logs) (h : Restart) → Stands o d h.plan.ends → Good o d (take_undone h)
@@ -127,12 +141,9 @@ raised_good : (o d : Logs) (h : Restart) (id : PageId) (is_raised : Bool) → St
 raised_good o d h id true s = s
 raised_good o d h id false s = next_redo_good o d h s
 
-noted_stands : (o d : Logs) (h : Restart) (id : PageId) → Stands o d h.plan.ends → Stands o d (noted h id).plan.ends
-noted_stands o d h id s = cond_both (h.plan.renews && is_old h.page) (record h { old_pages = h.old_pages ++ id ∷ [] }) h (λ (z : Restart). Stands o d z.plan.ends) (λ _. s) (λ _. s)
-
 take_raised_good : (o d : Logs) (h : Restart) (id : PageId) (is_raised : Bool) → Stands o d h.plan.ends → Good o d (take_raised h id is_raised)
 unfolding take_raised
-take_raised_good o d h id is_raised s = raised_good o d (noted (numbered_by h id) id) id is_raised (noted_stands o d (numbered_by h id) id s)
+take_raised_good o d h id is_raised s = raised_good o d (numbered_by h id) id is_raised s
 
 forwarded_good : (o d : Logs) (h : Restart) (id : PageId) (outcome : Result Bool FieldFault) → Stands o d h.plan.ends → Good o d (forwarded h id outcome)
 forwarded_good o d h id (Err fault) s = tt
@@ -186,6 +197,6 @@ done_good (stage.UndoRead page) o d h after = take_undone_good o d h after
 done_good (stage.UndoAppend member page) o d h after = after
 done_good (stage.UndoWrite page) o d h after = next_undo_good o d h after
 done_good (stage.RenewRead page) o d h after = take_old_good o d h page after
-done_good (stage.RenewWrite page) o d h after = next_renewal_good o d h after
+done_good (stage.RenewWrite page) o d h after = next_renewal_good o d h page after
 done_good (stage.EndAppend member) o d h after = next_ending_good o d (appended h member) after
 done_good stage.End o d h after = after

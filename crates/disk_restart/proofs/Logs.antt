@@ -1,6 +1,6 @@
 -- The answers while logs are read.
 use Rattle.std.proofs.Common.{◌≡◌, ℕ, ◌-◌, Bool, true, false, List, [], ◌∷◌, ◌++◌, length, take, drop, Option, Some, None, Ok, refl, sym, ap, subst, ◌∙◌, arith}
-use Rattle.std.specs.Prelude.{min, nat_lt, ◌==◌}
+use Rattle.std.specs.Prelude.{min, nat_lt, ◌==◌, ◌||◌}
 use Rattle.std.proofs.lemmas.Bool.{cond_both, ltb-true, ltb-false}
 use Rattle.std.proofs.lemmas.List.{length_push}
 use Rattle.ds_disk.specs.Contents.{Contents, Becomes, log_of}
@@ -12,6 +12,7 @@ use Rattle.log_reader.specs.declared.calls.LogRead.TheVariants as read
 use Rattle.log_reader.specs.Held.{grown}
 use Rattle.log_reader.specs.Keeping.{AreBytes}
 use Rattle.log_reader.specs.Readers.{ReaderState, IsRead, block_size, call_by, after_count, after_reply}
+use Rattle.restart_plan.specs.Renewal.{asks_behind}
 use Rattle.group_restart.specs.declared.calls.State.{State}
 use Rattle.group_restart.specs.declared.reply.Reply.{Reply}
 use Rattle.group_restart.specs.declared.reply.Reply.TheVariants as reply
@@ -33,24 +34,24 @@ reads_on o k is reads = subst (λ (st : Stage). InStage st o k o) (sym is) reads
 
 -- ---- the log of a member is read whole
 
-abbrev with_log : Restart → List Log → Restart
-with_log h logs = record h { logs = logs }
+abbrev with_logs : Restart → List Log → Bool → Restart
+with_logs h logs renews = record h { logs = logs; renews = renews }
 
-whole_goes : ReadsSound → ReaderLaws → (o : Logs) (h k : Restart) (logs : List Log) (log : Log) (s : State) → length o ≡ 32 → h.stage ≡ stage.ReadLog → Reads o h.reader logs → AreFrom 0 (logs ++ log ∷ []) o
-    → (is_before : Bool) → nat_lt h.reader.member 32 ≡ is_before → GoesToNext is_before (with_log h (logs ++ log ∷ [])) s k → IsGood s o k o
-whole_goes sound laws o h k logs log s all is reads are true before goes =
+whole_goes : ReadsSound → ReaderLaws → (o : Logs) (h k : Restart) (logs : List Log) (log : Log) (renews : Bool) (s : State) → length o ≡ 32 → h.stage ≡ stage.ReadLog → Reads o h.reader logs → AreFrom 0 (logs ++ log ∷ []) o
+    → (is_before : Bool) → nat_lt h.reader.member 32 ≡ is_before → GoesToNext is_before (with_logs h (logs ++ log ∷ []) renews) s k → IsGood s o k o
+whole_goes sound laws o h k logs log renews s all is reads are true before goes =
     let next : IsReadingLogs o o k.reader (logs ++ log ∷ []) = record { same = refl; all = all; reads = next_reads laws o h.reader k.reader logs log reads are (ltb-true h.reader.member 32 before) goes.1 } in
-    subst (λ (z : State). IsGood z o k o) (sym goes.0) (subst (λ (z : Restart). Runs o z o) (sym goes.2) (reads_on o (with_reader (with_log h (logs ++ log ∷ [])) k.reader) is next))
-whole_goes sound laws o h k logs log s all is reads are false last goes =
+    subst (λ (z : State). IsGood z o k o) (sym goes.0) (subst (λ (z : Restart). Runs o z o) (sym goes.2) (reads_on o (with_reader (with_logs h (logs ++ log ∷ []) renews) k.reader) is next))
+whole_goes sound laws o h k logs log renews s all is reads are false last goes =
     let each : length o ≡ length (logs ++ log ∷ []) = omega (arith, all, reads.member_is, reads.few, ltb-false h.reader.member 32 last, length_push logs log) in
-    subst (Good o o) goes (take_logs_good sound o (with_log h (logs ++ log ∷ [])) are each)
+    subst (Good o o) goes (take_logs_good sound o (with_logs h (logs ++ log ∷ []) renews) are each)
 
 found_goes : ReadsSound → ReaderLaws → (o : Logs) (h k : Restart) (s : State) (found : LogRead) → length o ≡ 32 → h.stage ≡ stage.ReadLog → Reads o h.reader h.logs → IsRead h.reader found → TakesRead h found s k → IsGood s o k o
 unfolding TakesWhole
 found_goes sound laws o h k s read.More all is reads its takes = subst (Good o o) takes (reads_on o h is (record { same = refl; all = all; reads = reads }))
 found_goes sound laws o h k s (read.Bad at) all is reads its takes = subst (Good o o) takes tt
 found_goes sound laws o h k s (read.Whole log) all is reads its takes =
-    whole_goes sound laws o h k h.logs log s all is reads (more_read laws o h.reader h.logs log reads its.0 its.1 its.2) (nat_lt h.reader.member 32) refl takes
+    whole_goes sound laws o h k h.logs log (h.renews || asks_behind h.reader.held.has_old log) s all is reads (more_read laws o h.reader h.logs log reads its.0 its.1 its.2) (nat_lt h.reader.member 32) refl takes
 
 -- ---- an answer
 

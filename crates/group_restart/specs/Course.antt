@@ -1,11 +1,12 @@
 -- What a group restart makes of an answer.
-use Rattle.std.specs.Prelude.{◌≡◌, ℕ, ◌+◌, ◌^◌, ◌==◌, nat_lt, Bool, true, false, ◌&&◌, if◌then◌else◌, List, [], ◌∷◌, ◌++◌, length, drop, slice_get, Option, Some, None, Result, Ok, Err}
+use Rattle.std.specs.Prelude.{◌≡◌, ℕ, ◌+◌, ◌^◌, ◌==◌, nat_lt, Bool, true, false, ◌||◌, if◌then◌else◌, List, [], ◌∷◌, ◌++◌, length, drop, slice_get, Option, Some, None, Result, Ok, Err}
 use Rattle.ds_base.specs.declared.names.PageId.{PageId}
 use Rattle.ds_base.specs.declared.names.Volume.{Volume}
 use Rattle.ds_base.specs.declared.names.Volume.TheVariants as volume
 use Rattle.ds_model.specs.declared.log.LogRecord.{LogRecord}
 use Rattle.ds_model.specs.RecordBytes.{log_bytes}
 use Rattle.page_format.specs.Fields.{is_old, renewed}
+use Rattle.page_format.specs.declared.header.NotAPage.{NotAPage}
 use Rattle.page_chain.specs.Chains.{row_patch}
 use Rattle.log_record.specs.declared.log.Log.{Log}
 use Rattle.log_reader.specs.declared.calls.LogReply.{LogReply}
@@ -27,6 +28,7 @@ use Rattle.restart_plan.specs.declared.tails.Tail.{Tail}
 use Rattle.restart_plan.specs.declared.plan.Plan.{Plan}
 use Rattle.restart_plan.specs.Ends.{end_of, raised as longer}
 use Rattle.restart_plan.specs.Plans.{plan_of}
+use Rattle.restart_plan.specs.Renewal.{asks_behind}
 use Rattle.group_restart.specs.declared.calls.State.{State}
 use Rattle.group_restart.specs.declared.calls.State.TheVariants as state
 use Rattle.group_restart.specs.declared.reply.Reply.{Reply}
@@ -38,6 +40,7 @@ use Rattle.group_restart.specs.Records.{ended, ending}
 use Rattle.places_redo.specs.Picked.{brought_at}
 use Rattle.group_restart.specs.PageNumbers.{with_page_number}
 use Rattle.group_restart.specs.Undo.{undo_fault, undone_page, undoing}
+use Rattle.group_restart.specs.Renewal.{first_page, last_behind, page_behind}
 
 -- where the restart stands afterwards, and what it tells
 abbrev pub Next : Type 0
@@ -97,19 +100,20 @@ ending_or h (Some member) = go (with_added h (ending h.counter (end_of h.plan.en
 unfoldable pub next_ending : Restart → Next
 next_ending h = ending_or (with_plan h (rest_endings h.plan)) (slice_get h.plan.endings 0)
 
--- pages that are still of version 1 are written in version 2
-abbrev pub rest_old : Restart → Restart
-rest_old h = record h { old_pages = drop 1 h.old_pages }
-
+-- the pages of all page sets are read, as far as their header pages count
 abbrev pub renewal_or : Restart → Option PageId → Next
 renewal_or h None = next_ending h
 renewal_or h (Some page) = go h (stage.RenewRead page)
 
-unfoldable pub next_renewal : Restart → Next
-next_renewal h = renewal_or (rest_old h) (slice_get h.old_pages 0)
+unfoldable pub next_renewal : Restart → PageId → Next
+next_renewal h id = renewal_or h (page_behind h.last id)
+
+-- pages that are still of version 1 are looked for where a log asks for it
+unfoldable pub begin_renewal : Restart → Next
+begin_renewal h = if h.renews then go h (stage.RenewRead first_page) else next_ending h
 
 abbrev pub undo_or : Restart → Option Undo → Next
-undo_or h None = next_renewal h
+undo_or h None = begin_renewal h
 undo_or h (Some u) = go h (stage.UndoRead (row_patch u.change).page)
 
 unfoldable pub next_undo : Restart → Next
@@ -166,12 +170,8 @@ raised h id false = next_redo h
 abbrev pub numbered_by : Restart → PageId → Restart
 numbered_by h id = with_plan h (with_greatest h.plan (with_page_number h.plan.greatest id h.page))
 
--- no record was applied to a page that is of version 1 still; it is written anew behind all undo
-abbrev pub noted : Restart → PageId → Restart
-noted h id = if h.plan.renews && is_old h.page then record h { old_pages = h.old_pages ++ id ∷ [] } else h
-
 unfoldable pub take_raised : Restart → PageId → Bool → Next
-take_raised h id is_raised = raised (noted (numbered_by h id) id) id is_raised
+take_raised h id is_raised = raised (numbered_by h id) id is_raised
 
 abbrev pub forwarded : Restart → PageId → Result Bool FieldFault → Next
 forwarded h id (Err fault) = damaged_page h id fault.at
@@ -203,7 +203,7 @@ unfoldable pub undo_one : Restart → Undo → Next
 undo_one h u = undo_unless h u (undo_fault u.change h.page)
 
 abbrev pub undo_first : Restart → Option Undo → Next
-undo_first h None = next_renewal h
+undo_first h None = begin_renewal h
 undo_first h (Some u) = undo_one h u
 
 unfoldable pub take_undone : Restart → Next
@@ -211,9 +211,17 @@ take_undone h = undo_first (with_plan h (rest_undo h.plan)) (slice_get h.plan.un
 
 -- ---- renewal
 
--- the undo of a change may have made it a page of version 2
+-- a page of version 1 is written in version 2
+unfoldable pub renew_page : Restart → PageId → Next
+renew_page h id = if is_old h.page then go (record h { page = renewed h.page }) (stage.RenewWrite id) else next_renewal h id
+
+-- the page at hand may be one that says how far its page set goes
+abbrev pub looked_at : Restart → PageId → Result ℕ NotAPage → Next
+looked_at h id (Err fault) = damaged_page h id fault.at
+looked_at h id (Ok last) = renew_page (record h { last = last }) id
+
 unfoldable pub take_old : Restart → PageId → Next
-take_old h id = if is_old h.page then go (record h { page = renewed h.page }) (stage.RenewWrite id) else next_renewal h
+take_old h id = looked_at h id (last_behind h.last id h.page)
 
 -- ---- what was done
 
@@ -231,7 +239,7 @@ take_done h (stage.UndoRead page) = take_undone h
 take_done h (stage.UndoAppend member page) = go (appended h member) (stage.UndoWrite page)
 take_done h (stage.UndoWrite page) = next_undo h
 take_done h (stage.RenewRead page) = take_old h page
-take_done h (stage.RenewWrite page) = next_renewal h
+take_done h (stage.RenewWrite page) = next_renewal h page
 take_done h (stage.EndAppend member) = next_ending (appended h member)
 take_done h stage.End = done h
 
@@ -280,8 +288,12 @@ abbrev pub GoesToNext : Bool → Restart → State → Restart → Type 0
 GoesToNext true h s k = (s ≡ state.Going) × IsNew (h.reader.member + 1) k.reader × (k ≡ with_reader h k.reader)
 GoesToNext false h s k = take_logs h ≡ (k, s)
 
+-- the log was read, which may ask for pages of version 1 to be written in version 2
+abbrev pub with_log : Restart → Log → Restart
+with_log h log = record h { logs = h.logs ++ log ∷ []; renews = h.renews || asks_behind h.reader.held.has_old log }
+
 unfoldable pub TakesWhole : Restart → Log → State → Restart → Type 0
-TakesWhole h log s k = GoesToNext (nat_lt h.reader.member 32) (record h { logs = h.logs ++ log ∷ [] }) s k
+TakesWhole h log s k = GoesToNext (nat_lt h.reader.member 32) (with_log h log) s k
 
 abbrev pub TakesRead : Restart → LogRead → State → Restart → Type 0
 TakesRead h read.More s k = stays h ≡ (k, s)
@@ -320,4 +332,4 @@ pub record IsBegun (h : Restart) : Type 0 where
   pub stage_is : h.stage ≡ stage.ReadLog
   pub reader_is : IsNew 1 h.reader
   pub no_logs : h.logs ≡ []
-  pub no_old_pages : h.old_pages ≡ []
+  pub nothing_asked : h.renews ≡ false

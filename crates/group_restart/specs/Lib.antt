@@ -3,6 +3,7 @@ pub mod Machine
 pub mod Calls
 pub mod PageNumbers
 pub mod Undo
+pub mod Renewal
 pub mod Disk
 pub mod Going
 pub mod Course

@@ -9,13 +9,14 @@ ghost use Rattle.group_restart.specs.declared.stage.Stage.TheVariants as stage;
 ghost use Rattle.log_trans.specs.Damage.{AreAllowed, log_damage};
 ghost use Rattle.group_restart.specs.Going.{GoesOn, IsGoingOn};
 ghost use Rattle.group_restart.specs.Undo.{undo_fault};
-ghost use Rattle.group_restart.specs.Course.{place_among, placed, place_on, plan_read, found_damage, counted, has_numbers, next_tail, next_redo, begin_undo, next_closing, undo_or, next_undo, next_renewal, next_ending, done, too_few_numbers, go, TakesLog, TakesWhole, take_logs, take_page, noted, take_raised, take_undone, take_old, undo_one, undone, appended, take_done, TakesTold, TakesReply};
+ghost use Rattle.group_restart.specs.Course.{place_among, placed, place_on, plan_read, found_damage, counted, has_numbers, next_tail, next_redo, begin_undo, next_closing, undo_or, next_undo, begin_renewal, next_renewal, next_ending, done, too_few_numbers, go, TakesLog, TakesWhole, take_logs, take_page, take_raised, take_undone, renew_page, take_old, undo_one, undone, appended, take_done, with_log, TakesTold, TakesReply};
 
 use crate::append::Append;
 use crate::calls::State;
 use crate::machine::{GroupRestart, no_records};
 use crate::page_number::with_page_number;
 use crate::records::{ended, ending};
+use crate::renewal::{first_page, last_behind, page_behind};
 use crate::reply::Reply;
 use crate::stage::Stage;
 use crate::undo::{undo_fault, undo_page, undoing};
@@ -27,7 +28,7 @@ use log_trans::{Damaged, find_log_damage, has_numbers};
 use page_records::PageRecords;
 use page_redo::page_changed;
 use places_redo::bring_places;
-use restart_plan::{Logs, Plan, Undo, plan_of};
+use restart_plan::{Logs, Plan, Undo, asks_behind, plan_of};
 use std::alloc::Global;
 
 fn damaged_log(damaged: Damaged) -> State
@@ -211,16 +212,29 @@ impl GroupRestart {
     {
         match self.next_page_undone() {
             Some(page) => Ok(self.go(Stage::UndoRead(page))),
-            None => self.next_renewal(alloc),
+            None => self.begin_renewal(alloc),
+        }
+    }
+
+    // Nothing is read where no log asks for it.
+    #[tactic(auto, unfolding(crate::specs::Course::begin_renewal))]
+    fn begin_renewal(&mut self, alloc: Global) -> Result<State, NoMemory>
+        ensures exact { IfOk result (λ s. begin_renewal self.old ≡ (self.new, s)) }
+        ensures goes_on { IsGoingOn result }
+    {
+        if self.renews {
+            Ok(self.go(Stage::RenewRead(first_page())))
+        } else {
+            self.next_ending(alloc)
         }
     }
 
     #[tactic(auto, unfolding(crate::specs::Course::next_renewal))]
-    fn next_renewal(&mut self, alloc: Global) -> Result<State, NoMemory>
-        ensures exact { IfOk result (λ s. next_renewal self.old ≡ (self.new, s)) }
+    fn next_renewal(&mut self, alloc: Global, id: PageId) -> Result<State, NoMemory>
+        ensures exact { IfOk result (λ s. next_renewal self.old id ≡ (self.new, s)) }
         ensures goes_on { IsGoingOn result }
     {
-        match self.old_pages.next() {
+        match page_behind(self.last, id) {
             Some(page) => Ok(self.go(Stage::RenewRead(page))),
             None => self.next_ending(alloc),
         }
@@ -269,13 +283,22 @@ impl GroupRestart {
         }
     }
 
+    // The reader has looked at all of the log's records.
+    fn add_log(&mut self, log: Log) -> Result<(), NoMemory>
+        requires { AllByRecursion IsAllowed log.records }
+        ensures { OnOk result (self.new ≡ with_log self.old log) }
+    {
+        self.renews = self.renews || asks_behind(self.reader.has_old(), &log);
+        self.logs.add(log)
+    }
+
     #[tactic(auto, unfolding(crate::specs::Course::TakesWhole))]
     fn take_whole(&mut self, alloc: Global, log: Log) -> Result<State, NoMemory>
         requires { AllByRecursion IsAllowed log.records }
         ensures exact { IfOk result (λ s. TakesWhole self.old log s self.new) }
         ensures goes_on { IsGoingOn result }
     {
-        self.logs.add(log)?;
+        self.add_log(log)?;
         match MemberId::new(self.reader.member().number() + 1) {
             Some(member) => {
                 self.reader = LogReader::new(alloc, member)?;
@@ -314,23 +337,12 @@ impl GroupRestart {
         }
     }
 
-    // The page is of version 1, and is to be written anew.
-    fn note(&mut self, id: PageId) -> Result<(), NoMemory>
-        ensures { OnOk result (self.new ≡ noted self.old id) }
-    {
-        if self.plan.renews && self.page.is_old() {
-            self.old_pages.push(id)?;
-        }
-        Ok(())
-    }
-
     #[tactic(auto, unfolding(crate::specs::Course::take_raised))]
     fn take_raised(&mut self, alloc: Global, id: PageId, is_raised: bool) -> Result<State, NoMemory>
         ensures exact { IfOk result (λ s. take_raised self.old id is_raised ≡ (self.new, s)) }
         ensures goes_on { IsGoingOn result }
     {
         self.plan.greatest = with_page_number(self.plan.greatest, id, &self.page);
-        self.note(id)?;
         if is_raised {
             Ok(self.go(Stage::RedoWrite(id)))
         } else {
@@ -346,7 +358,7 @@ impl GroupRestart {
     {
         match self.plan.undo.next() {
             Some(undo) => self.undo_one(alloc, &undo),
-            None => self.next_renewal(alloc),
+            None => self.begin_renewal(alloc),
         }
     }
 
@@ -380,17 +392,31 @@ impl GroupRestart {
         Ok(self.go(Stage::UndoAppend { member, page: id }))
     }
 
-    // A page that was of version 1 is written in version 2, unless an undo has changed it since.
+    #[tactic(auto, unfolding(crate::specs::Course::renew_page))]
+    fn renew_page(&mut self, alloc: Global, id: PageId) -> Result<State, NoMemory>
+        ensures exact { IfOk result (λ s. renew_page self.old id ≡ (self.new, s)) }
+        ensures goes_on { IsGoingOn result }
+    {
+        if !self.page.is_old() {
+            return self.next_renewal(alloc, id);
+        }
+        self.page.renew();
+        Ok(self.go(Stage::RenewWrite(id)))
+    }
+
+    // A page of version 1 is written in version 2; one that can't stand there is damage.
     #[tactic(auto, unfolding(crate::specs::Course::take_old))]
     fn take_old(&mut self, alloc: Global, id: PageId) -> Result<State, NoMemory>
         ensures exact { IfOk result (λ s. take_old self.old id ≡ (self.new, s)) }
         ensures goes_on { IsGoingOn result }
     {
-        if !self.page.is_old() {
-            return self.next_renewal(alloc);
+        match last_behind(self.last, id, &self.page) {
+            Err(fault) => Ok(damaged_page(id, fault.at)),
+            Ok(last) => {
+                self.last = last;
+                self.renew_page(alloc, id)
+            }
         }
-        self.page.renew();
-        Ok(self.go(Stage::RenewWrite(id)))
     }
 
     // ---- replies
@@ -442,7 +468,7 @@ impl GroupRestart {
             Stage::UndoAppend { member, page } => self.take_compensated(*member, *page),
             Stage::UndoWrite(_) => self.next_undo(alloc),
             Stage::RenewRead(page) => self.take_old(alloc, *page),
-            Stage::RenewWrite(_) => self.next_renewal(alloc),
+            Stage::RenewWrite(page) => self.next_renewal(alloc, *page),
             Stage::EndAppend(member) => self.take_ended(alloc, *member),
             Stage::End => Ok(self.done()),
         }

@@ -12,12 +12,12 @@ use crate::append::Append;
 use crate::calls::{Call, State};
 use crate::reply::Reply;
 use crate::stage::Stage;
-use ds_base::{Lrsn, MemberId, NoMemory, PageId, Sequence};
+use ds_base::{Lrsn, MemberId, NoMemory, Sequence};
 use ds_disk::{Disk, DiskError};
 use log_merge::Merged;
 use log_reader::{LogCall, LogReader};
 use page_format::Page;
-use restart_plan::{Logs, Plan, Queue, plan_of};
+use restart_plan::{Logs, Plan, plan_of};
 use std::alloc::Global;
 use std::marker::Model;
 
@@ -33,8 +33,10 @@ pub struct GroupRestart {
     pub(crate) plan: Plan,
     /// Where in the merged records those of the page stand that is brought forward.
     pub(crate) places: Sequence<usize>,
-    /// Pages of version 1, which are to be written in version 2.
-    pub(crate) old_pages: Queue<PageId>,
+    /// Whether pages of version 1 are written in version 2, as one of the logs that are read asks.
+    pub(crate) renews: bool,
+    /// The last page of the page set that is looked through for them.
+    pub(crate) last: u32,
     /// The greatest number so far, once all pages are brought forward.
     pub(crate) counter: Lrsn,
     pub(crate) page: Page,
@@ -47,7 +49,7 @@ impl Model for GroupRestart {
 
     ghost Value = { Restart };
 
-    ghost view = { λ g. record { stage = g.stage; reader = g.reader; logs = g.logs; plan = g.plan; places = g.places; old_pages = g.old_pages; counter = g.counter; page = g.page; added = g.added } };
+    ghost view = { λ g. record { stage = g.stage; reader = g.reader; logs = g.logs; plan = g.plan; places = g.places; renews = g.renews; last = g.last; counter = g.counter; page = g.page; added = g.added } };
 }
 
 fn no_plan(alloc: Global) -> Result<Plan, NoMemory>
@@ -88,7 +90,8 @@ impl GroupRestart {
             logs: Logs::new(alloc),
             plan: no_plan(alloc)?,
             places: Sequence::new(alloc),
-            old_pages: Queue::new(alloc),
+            renews: false,
+            last: 0,
             counter,
             page: Page::zero(alloc)?,
             added: Append::new(alloc),

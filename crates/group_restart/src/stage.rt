@@ -18,7 +18,7 @@ pub enum Stage {
     /// The compensation, and the Ended record where it was the transaction's last one.
     UndoAppend { member: MemberId, page: PageId },
     UndoWrite(PageId),
-    /// A page that was of version 1 when it had been brought forward.
+    /// A page of a page set that is looked through for pages of version 1.
     RenewRead(PageId),
     RenewWrite(PageId),
     /// The Checkpoint and the RestartEnd of a log.

@@ -22,11 +22,11 @@ use Rattle.log_reader.proofs.Marks.{one_behind}
 use Rattle.log_reader.specs.Keeping.{AreBytes, AreWhole, IsOf, HasLastOf}
 
 -- a record that is read in bytes stands there
-abbrev FoundInBytes : Type 0
+abbrev pub FoundInBytes : Type 0
 FoundInBytes = (bytes : List ℕ) (r : LogRecord) (n : ℕ) → AreBytes bytes → record_in bytes ≡ Ok (r, n) → Found bytes r n
 
 -- and one that stands at the front is read, whatever follows it
-abbrev ReadAgain : Type 0
+abbrev pub ReadAgain : Type 0
 ReadAgain = (r : LogRecord) (rest : List ℕ) → IsAllowed r → record_in (record_bytes r ++ rest) ≡ Ok (r, length (record_bytes r))
 
 -- ---- whole records
@@ -45,7 +45,7 @@ both_whole a b x y = record {
   allowed = each_append IsAllowed x.records y.records x.allowed y.allowed;
 }
 
-as_whole : (a b : List ℕ) → a ≡ b → AreWhole b → AreWhole a
+pub as_whole : (a b : List ℕ) → a ≡ b → AreWhole b → AreWhole a
 as_whole a b e is = subst AreWhole (sym e) is
 
 one_whole : (bytes : List ℕ) (r : LogRecord) (n : ℕ) → Found bytes r n → AreWhole (take n bytes)
@@ -53,7 +53,7 @@ one_whole bytes r n f = record { records = r ∷ []; spelled = f.spelled ∙ sym
 
 -- ---- bytes
 
-drop_bytes : (k : ℕ) (bytes : List ℕ) → AreBytes bytes → AreBytes (drop k bytes)
+pub drop_bytes : (k : ℕ) (bytes : List ℕ) → AreBytes bytes → AreBytes (drop k bytes)
 drop_bytes k bytes h i = subst (λ (b : ℕ). b < 256) (sym (get_or-drop k bytes i 0)) (h (k + i))
 
 both_bytes : (a b : List ℕ) → AreBytes a → AreBytes b → AreBytes (a ++ b)
@@ -62,7 +62,7 @@ both_bytes a b h k i = elim (cases_lt i (length a)) [
   | inr more ↦ subst (λ (x : ℕ). x < 256) (sym (get_or-append_right a b i 0 more)) (k (i - length a))
 ]
 
-take_bytes : (n : ℕ) (bytes : List ℕ) → AreBytes bytes → AreBytes (take n bytes)
+pub take_bytes : (n : ℕ) (bytes : List ℕ) → AreBytes bytes → AreBytes (take n bytes)
 take_bytes n bytes h i = elim (cases_lt i (length (take n bytes))) [
   | inl less ↦ subst (λ (x : ℕ). x < 256) (get_or-append (take n bytes) (drop n bytes) 0 i less) (subst (λ (t : List ℕ). get_or t i 0 < 256) (sym (take-append-drop n bytes)) (h i))
   | inr more ↦ subst (λ (x : ℕ). x < 256) (sym (get_or_past (take n bytes) i 0 more)) (lit< tt)
@@ -71,11 +71,11 @@ take_bytes n bytes h i = elim (cases_lt i (length (take n bytes))) [
 -- ---- marks
 
 -- the bytes before the mark are whole records, and so are those from it on up to where they were looked at
-record IsMark (bytes : List ℕ) (m : Mark) : Type 0 where
-  order : m.from ≤ m.to
-  within : m.to ≤ length bytes
-  front : AreWhole (take m.from bytes)
-  looked : AreWhole (take (m.to - m.from) (drop m.from bytes))
+pub record IsMark (bytes : List ℕ) (m : Mark) : Type 0 where
+  pub order : m.from ≤ m.to
+  pub within : m.to ≤ length bytes
+  pub front : AreWhole (take m.from bytes)
+  pub looked : AreWhole (take (m.to - m.from) (drop m.from bytes))
 
 up_to : (bytes : List ℕ) (m : Mark) → IsMark bytes m → AreWhole (take m.to bytes)
 up_to bytes m is =
@@ -105,14 +105,14 @@ module _ (found : FoundInBytes) (first : FirstIsWhole) (none : NoneIsWhole) wher
             (both_whole (take (m.to - m.from) (drop m.from bytes)) (take (length (record_bytes r)) (drop m.to bytes)) is.looked new);
       })
 
-  size_is : (bytes : List ℕ) (r : LogRecord) (n : ℕ) → Found bytes r n → n ≡ length (record_bytes r)
+  pub size_is : (bytes : List ℕ) (r : LogRecord) (n : ℕ) → Found bytes r n → n ≡ length (record_bytes r)
   size_is bytes r n f = sym (length-take-le n bytes f.within) ∙ ap (λ (t : List ℕ). length t) f.spelled
 
   -- what is known of the records behind this one
   abbrev MarksRest : ℕ → List ℕ → List LogRecord → Type 0
   MarksRest start bytes rs = (m : Mark) → IsMark bytes m → whole_records (drop m.to bytes) ≡ rs → IsMark bytes (marked_all start m rs)
 
-  no_more : (x : LogRecord) (xs : List LogRecord) → x ∷ xs ≡ [] → ⊥
+  pub no_more : (x : LogRecord) (xs : List LogRecord) → x ∷ xs ≡ [] → ⊥
   no_more x xs e = cc
 
   read_marked : (start : ℕ) (bytes : List ℕ) (m : Mark) (r : LogRecord) (rs : List LogRecord) (f : Result (LogRecord × ℕ) RecordFault) → AreBytes bytes → IsMark bytes m → whole_records (drop m.to bytes) ≡ r ∷ rs → record_in (drop m.to bytes) ≡ f → MarksRest start bytes rs
@@ -128,7 +128,7 @@ module _ (found : FoundInBytes) (first : FirstIsWhole) (none : NoneIsWhole) wher
       let left : whole_records (drop (marked_one start m r).to bytes) ≡ rs = ap (λ (k : ℕ). whole_records (drop k bytes)) at ∙ ap whole_records (sym (drop-drop n m.to bytes)) ∙ behind in
       rest (marked_one start m r) (one_more start bytes m r n is f size) left
 
-  all_marked : (start : ℕ) (bytes : List ℕ) (rs : List LogRecord) → AreBytes bytes → MarksRest start bytes rs
+  pub all_marked : (start : ℕ) (bytes : List ℕ) (rs : List LogRecord) → AreBytes bytes → MarksRest start bytes rs
   all_marked start bytes [] h = λ m is e. is
   all_marked start bytes (r ∷ rs) h = λ m is e. read_marked start bytes m r rs (record_in (drop m.to bytes)) h is e refl (all_marked start bytes rs h)
 
@@ -142,7 +142,7 @@ module _ (found : FoundInBytes) (first : FirstIsWhole) (none : NoneIsWhole) wher
       record { within = within; ends = omega arith; told = refl; bytes = λ i. subst (λ (x : ℕ). x < 256) (sym (get_or_past [] i 0 (omega arith))) (lit< tt); passed = omega arith; before = whole; looked = none_whole }
 
   -- from the mark on
-  from_mark : (log : List ℕ) (h : HeldState) (m : Mark) → IsOf log h → IsMark h.bytes m → IsOf log (record { start = h.start + m.from; end = h.end; bytes = drop m.from h.bytes; passed = m.to - m.from; low = m.low; keeps_all = h.keeps_all })
+  from_mark : (log : List ℕ) (h : HeldState) (m : Mark) → IsOf log h → IsMark h.bytes m → IsOf log (record { start = h.start + m.from; end = h.end; bytes = drop m.from h.bytes; passed = m.to - m.from; low = m.low; keeps_all = h.keeps_all; has_old = m.has_old })
   from_mark log h m is mark =
       let left = length-drop m.from h.bytes in
       let split : length h.bytes ≡ m.from + length (drop m.from h.bytes) = omega (arith, left, mark.order, mark.within) in
@@ -159,20 +159,20 @@ module _ (found : FoundInBytes) (first : FirstIsWhole) (none : NoneIsWhole) wher
       }
 
   with_mark_is : (log : List ℕ) (h : HeldState) (m : Mark) → IsOf log h → IsMark h.bytes m → IsOf log (with_mark h m)
-  with_mark_is log h m is mark = cond_both m.wants_all (nothing_held true) (record { start = h.start + m.from; end = h.end; bytes = drop m.from h.bytes; passed = m.to - m.from; low = m.low; keeps_all = h.keeps_all }) (IsOf log) (λ _. nothing_is log true) (λ _. from_mark log h m is mark)
+  with_mark_is log h m is mark = cond_both m.wants_all (nothing_held true) (record { start = h.start + m.from; end = h.end; bytes = drop m.from h.bytes; passed = m.to - m.from; low = m.low; keeps_all = h.keeps_all; has_old = m.has_old }) (IsOf log) (λ _. nothing_is log true) (λ _. from_mark log h m is mark)
 
-  first_is : (h : HeldState) (log : List ℕ) → IsOf log h → IsMark h.bytes (first_mark h.passed h.low)
+  pub first_is : (h : HeldState) (log : List ℕ) → IsOf log h → IsMark h.bytes (first_mark h.passed h.low h.has_old)
   first_is h log is =
       let all : h.passed - 0 ≡ h.passed = omega arith in
       record { order = omega arith; within = is.passed; front = none_whole; looked = subst (λ (k : ℕ). AreWhole (take k h.bytes)) (sym all) is.looked }
 
   settled_is : (log : List ℕ) (h : HeldState) → IsOf log h → IsOf log (settled h)
   unfolding settled
-  settled_is log h is = cond_both (h.keeps_all || nat_lt (length h.bytes) h.passed) h (with_mark h (marked_all h.start (first_mark h.passed h.low) (whole_records (drop h.passed h.bytes)))) (IsOf log)
+  settled_is log h is = cond_both (h.keeps_all || nat_lt (length h.bytes) h.passed) h (with_mark h (marked_all h.start (first_mark h.passed h.low h.has_old) (whole_records (drop h.passed h.bytes)))) (IsOf log)
       (λ _. is)
-      (λ _. with_mark_is log h (marked_all h.start (first_mark h.passed h.low) (whole_records (drop h.passed h.bytes))) is (all_marked h.start h.bytes (whole_records (drop h.passed h.bytes)) is.bytes (first_mark h.passed h.low) (first_is h log is) refl))
+      (λ _. with_mark_is log h (marked_all h.start (first_mark h.passed h.low h.has_old) (whole_records (drop h.passed h.bytes))) is (all_marked h.start h.bytes (whole_records (drop h.passed h.bytes)) is.bytes (first_mark h.passed h.low h.has_old) (first_is h log is) refl))
 
-  more_is : (log : List ℕ) (h : HeldState) (more : List ℕ) → IsOf log h → AreBytes more → h.end + length more ≤ length log → more ≡ take (length more) (drop h.end log) → IsOf log (record { start = h.start; end = h.end + length more; bytes = h.bytes ++ more; passed = h.passed; low = h.low; keeps_all = h.keeps_all })
+  pub more_is : (log : List ℕ) (h : HeldState) (more : List ℕ) → IsOf log h → AreBytes more → h.end + length more ≤ length log → more ≡ take (length more) (drop h.end log) → IsOf log (record { start = h.start; end = h.end + length more; bytes = h.bytes ++ more; passed = h.passed; low = h.low; keeps_all = h.keeps_all; has_old = h.has_old })
   more_is log h more is are within next =
       let long = length-append h.bytes more in
       record {
@@ -194,21 +194,21 @@ module _ (found : FoundInBytes) (first : FirstIsWhole) (none : NoneIsWhole) wher
       let more : List ℕ = take n block in
       let left = length-drop h.end log in
       let long : length more ≡ n = ap (λ (t : List ℕ). length t) next ∙ length-take-le n (drop h.end log) (omega (arith, left, within)) in
-      settled_is log (record { start = h.start; end = h.end + length more; bytes = h.bytes ++ more; passed = h.passed; low = h.low; keeps_all = h.keeps_all })
+      settled_is log (record { start = h.start; end = h.end + length more; bytes = h.bytes ++ more; passed = h.passed; low = h.low; keeps_all = h.keeps_all; has_old = h.has_old })
       (more_is log h more is (take_bytes n block are) (omega (arith, within, long)) (next ∙ ap (λ (k : ℕ). take k (drop h.end log)) (sym long)))
 
 -- ---- what is read
 
 -- the parts of whole records, and then those of what follows them
-abbrev prefixed : List LogRecord → Result Parts ℕ → Result Parts ℕ
+abbrev pub prefixed : List LogRecord → Result Parts ℕ → Result Parts ℕ
 prefixed [] q = q
 prefixed (r ∷ rs) q = behind r (length (record_bytes r)) (prefixed rs q)
 
-drop_first : (xs ys : List ℕ) → drop (length xs) (xs ++ ys) ≡ ys
+pub drop_first : (xs ys : List ℕ) → drop (length xs) (xs ++ ys) ≡ ys
 drop_first [] ys = refl
 drop_first (x ∷ xs) ys = drop_first xs ys
 
-front_parts : ReadAgain → PartsGoOn → (front : List LogRecord) (rest : List ℕ) → AllByRecursion IsAllowed front → parts_in (log_bytes front ++ rest) ≡ prefixed front (parts_in rest)
+pub front_parts : ReadAgain → PartsGoOn → (front : List LogRecord) (rest : List ℕ) → AllByRecursion IsAllowed front → parts_in (log_bytes front ++ rest) ≡ prefixed front (parts_in rest)
 front_parts again goes [] rest h = refl
 front_parts again goes (r ∷ rs) rest h =
     let b = record_bytes r in
@@ -218,7 +218,7 @@ front_parts again goes (r ∷ rs) rest h =
     ∙ ap (λ (t : List ℕ). behind r (length b) (parts_in t)) (drop_first b (log_bytes rs ++ rest))
     ∙ ap (behind r (length b)) (front_parts again goes rs rest h.1)
 
-front_ok : (front : List LogRecord) (p : Parts) → prefixed front (Ok p) ≡ Ok (record { records = front ++ p.records; size = length (log_bytes front) + p.size; tail = p.tail })
+pub front_ok : (front : List LogRecord) (p : Parts) → prefixed front (Ok p) ≡ Ok (record { records = front ++ p.records; size = length (log_bytes front) + p.size; tail = p.tail })
 front_ok [] p =
     let none : p.size ≡ 0 + p.size = omega arith in
     ap (λ (n : ℕ). Ok (record { records = p.records; size = n; tail = p.tail })) none
@@ -228,12 +228,12 @@ front_ok (r ∷ rs) p =
     ap (behind r (length b)) (front_ok rs p) ∙ ap (λ (n : ℕ). Ok (record { records = r ∷ (rs ++ p.records); size = n; tail = p.tail })) long
 
 -- the parts that were read are those of the bytes
-record AreParts (start : ℕ) (q : Result Parts ℕ) (log : Log) : Type 0 where
-  size : ℕ
-  is : q ≡ Ok (record { records = log.records; size = size; tail = log.tail })
-  length_is : log.length ≡ start + size
+pub record AreParts (start : ℕ) (q : Result Parts ℕ) (log : Log) : Type 0 where
+  pub size : ℕ
+  pub is : q ≡ Ok (record { records = log.records; size = size; tail = log.tail })
+  pub length_is : log.length ≡ start + size
 
-parts_are : (start : ℕ) (q : Result Parts ℕ) (log : Log) → parts_behind start q ≡ Ok (parts_of log) → AreParts start q log
+pub parts_are : (start : ℕ) (q : Result Parts ℕ) (log : Log) → parts_behind start q ≡ Ok (parts_of log) → AreParts start q log
 parts_are start (Err at) log e = absurd cc
 parts_are start (Ok p) log e =
     let moved : Parts = record { records = p.records; size = start + p.size; tail = p.tail } in

@@ -1,11 +1,12 @@
 -- What is kept of a log that is read on, and what is read of it in the end.
-use Rattle.std.specs.Prelude.{◌≡◌, ℕ, ◌+◌, ◌<◌, ◌≤◌, Bool, List, ◌++◌, length, take, drop, slice_index}
-use Rattle.std.specs.List.{AllByRecursion}
+use Rattle.std.specs.Prelude.{◌≡◌, ℕ, ◌+◌, ◌<◌, ◌≤◌, Bool, ◌||◌, List, ◌++◌, length, take, drop, slice_index}
+use Rattle.std.specs.List.{AllByRecursion, list_any}
 use Rattle.ds_model.specs.declared.log.LogRecord.{LogRecord}
 use Rattle.ds_model.specs.RecordBytes.{IsAllowed, log_bytes}
 use Rattle.log_record.specs.declared.log.Log.{Log}
 use Rattle.log_record.specs.Logs.{IsLogOf}
-use Rattle.log_reader.specs.Held.{HeldState, nothing_held, held_from, grown}
+use Rattle.log_head.specs.Whole.{whole_records}
+use Rattle.log_reader.specs.Held.{HeldState, is_old, nothing_held, held_from, grown}
 use Rattle.log_reader.specs.Readers.{ReaderState, IsLogRead}
 
 abbrev pub AreBytes : List ℕ → Type 0
@@ -32,6 +33,14 @@ pub record HasLastOf (bytes : List ℕ) (log : Log) : Type 0 where
   pub front : List LogRecord
   pub is : IsLogOf bytes (record { member = log.member; records = front ++ log.records; length = log.length; tail = log.tail })
 
+-- one of the records is of version 1
+abbrev pub any_old : List LogRecord → Bool
+any_old records = list_any (λ (r : LogRecord). is_old r) records
+
+-- a record of version 1 is noted exactly where one is among those of the log that were looked at, from its first byte on
+abbrev pub IsNoted : List ℕ → HeldState → Type 0
+IsNoted log h = h.has_old ≡ any_old (whole_records (take (h.start + h.passed) log))
+
 -- ---- laws
 
 abbrev pub NothingIsOf : Type 0
@@ -52,3 +61,18 @@ KeepingIsOf = (log : List ℕ) (h : HeldState) (keeps_all : Bool) → IsOf log h
 -- all of the log is read
 abbrev pub ReadIsLast : Type 0
 ReadIsLast = (bytes : List ℕ) (r : ReaderState) (log : Log) → IsOf bytes r.held → length bytes ≤ r.held.end → IsLogRead r log → HasLastOf bytes log
+
+-- ---- and of what is noted
+
+abbrev pub NothingIsNoted : Type 0
+NothingIsNoted = (log : List ℕ) (keeps_all : Bool) → IsNoted log (nothing_held keeps_all)
+
+abbrev pub GrownIsNoted : Type 0
+GrownIsNoted = (log : List ℕ) (h : HeldState) (block : List ℕ) (n : ℕ) → IsOf log h → IsNoted log h → AreBytes block → h.end + n ≤ length log → take n block ≡ take n (drop h.end log) → IsNoted log (grown h (take n block))
+
+abbrev pub KeepingIsNoted : Type 0
+KeepingIsNoted = (log : List ℕ) (h : HeldState) (keeps_all : Bool) → IsNoted log h → IsNoted log (record h { keeps_all = keeps_all })
+
+-- the log has a record of version 1, before the last ones or among them, exactly where one was noted or is among the last ones
+abbrev pub OldIsNoted : Type 0
+OldIsNoted = (bytes : List ℕ) (r : ReaderState) (log : Log) → IsOf bytes r.held → IsNoted bytes r.held → length bytes ≤ r.held.end → IsLogRead r log → (last : HasLastOf bytes log) → any_old (last.front ++ log.records) ≡ (r.held.has_old || any_old log.records)

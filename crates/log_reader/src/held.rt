@@ -4,7 +4,7 @@ ghost use Rattle.std.specs.Prelude.{◌≡◌, ℕ, ◌+◌, ◌-◌, ◌<◌, �
 ghost use Rattle.ds_model.specs.RecordBytes.{record_bytes};
 ghost use Rattle.log_record.specs.Reading.{record_in};
 ghost use Rattle.log_head.specs.Whole.{whole_records};
-ghost use Rattle.log_reader.specs.Held.{names, names_other, begins_at, is_earlier, begun_at, gone_on, marked_one, marked_all, first_mark};
+ghost use Rattle.log_reader.specs.Held.{names, names_other, begins_at, is_earlier, is_old, begun_at, gone_on, marked_one, marked_all, first_mark};
 
 use ds_base::NoMemory;
 use ds_model::{Body, LogRecord, Version};
@@ -25,6 +25,8 @@ pub struct Mark {
     /// Whether all of the log is to be read anew: a checkpoint names another byte than its own, or a record belongs to a
     /// transaction that began before the checkpoint.
     pub wants_all: bool,
+    /// Whether one of the records that were looked at is of version 1.
+    pub has_old: bool,
 }
 
 /// What is kept of a log.
@@ -39,6 +41,8 @@ pub struct Held {
     // The number of the checkpoint with which they begin, 0 where they begin the log.
     low: u128,
     keeps_all: bool,
+    // Whether one of the records that were looked at is of version 1, kept or not.
+    has_old: bool,
 }
 
 impl Model for Held {
@@ -46,7 +50,7 @@ impl Model for Held {
 
     ghost Value = { HeldState };
 
-    ghost view = { λ h. record { start = h.start; end = h.end; bytes = h.bytes.items; passed = h.passed; low = h.low; keeps_all = h.keeps_all } };
+    ghost view = { λ h. record { start = h.start; end = h.end; bytes = h.bytes.items; passed = h.passed; low = h.low; keeps_all = h.keeps_all; has_old = h.has_old } };
 }
 
 // Whether it is a checkpoint that names this byte.
@@ -133,6 +137,12 @@ fn is_earlier(low: u128, it: &LogRecord) -> bool
     0 < tran && tran <= low
 }
 
+fn is_old(it: &LogRecord) -> bool
+    ensures { result ≡ is_old it.now }
+{
+    matches!(it.version, Version::One)
+}
+
 // The mark behind a checkpoint at which reading begins.
 fn begun_at(mark: Mark, it: &LogRecord, to: usize) -> Mark
     requires { to ≡ mark.to + length (record_bytes it.now) }
@@ -143,6 +153,7 @@ fn begun_at(mark: Mark, it: &LogRecord, to: usize) -> Mark
         to,
         low: it.lrsn.number(),
         wants_all: mark.wants_all,
+        has_old: mark.has_old,
     }
 }
 
@@ -157,6 +168,7 @@ fn gone_on(place: u64, mark: Mark, it: &LogRecord, to: usize) -> Mark
         to,
         low: mark.low,
         wants_all: mark.wants_all || wants_all,
+        has_old: mark.has_old || is_old(it),
     }
 }
 
@@ -176,24 +188,14 @@ fn marked_one(start: u64, mark: Mark, it: &LogRecord, size: usize) -> Result<Mar
 }
 
 // The mark behind all whole records of bytes that begin there in the log, with a checkpoint of this number.
-fn mark_records(
-    alloc: Global,
-    start: u64,
-    bytes: &[u8],
-    passed: usize,
-    low: u128,
-) -> Result<Mark, NoMemory>
-    requires { passed ≤ length bytes.now }
-    ensures exact { IfOk result (λ m. m ≡ marked_all start (first_mark passed low) (whole_records (drop passed bytes.now))) }
+fn mark_records(alloc: Global, start: u64, bytes: &[u8], first: Mark) -> Result<Mark, NoMemory>
+    requires order { first.from ≤ first.to }
+    requires inside { first.to ≤ length bytes.now }
+    ensures exact { IfOk result (λ m. m ≡ marked_all start first (whole_records (drop first.to bytes.now))) }
     ensures within { IfOk result (λ m. (m.from ≤ m.to) × (m.to ≤ length bytes.now)) }
 {
     whole_laws();
-    let mut mark = Mark {
-        from: 0,
-        to: passed,
-        low,
-        wants_all: false,
-    };
+    let mut mark = first;
     while let Some((it, size)) = record_at(alloc, bytes, mark.to)? {
         mark = marked_one(start, mark, &it, size)?;
     }
@@ -215,6 +217,7 @@ impl Held {
             passed: 0,
             low: 0,
             keeps_all: false,
+            has_old: false,
         }
     }
 
@@ -228,6 +231,7 @@ impl Held {
         self.passed = 0;
         self.low = 0;
         self.keeps_all = false;
+        self.has_old = false;
     }
 
     /// Where the bytes begin in the log.
@@ -250,6 +254,13 @@ impl Held {
         &self.bytes
     }
 
+    /// Whether one of the records that were looked at is of version 1, kept or not. While nothing is left out, none is looked at.
+    pub fn has_old(&self) -> bool
+        ensures { result ≡ self.now.has_old }
+    {
+        self.has_old
+    }
+
     /// Whether nothing is left out, wherever a checkpoint stands.
     pub fn keep_all(&mut self, keeps_all: bool)
         ensures { self.new ≡ record self.old { keeps_all = keeps_all } }
@@ -267,6 +278,20 @@ impl Held {
         self.passed = 0;
         self.low = 0;
         self.keeps_all = true;
+        self.has_old = false;
+    }
+
+    // How far the bytes were looked at before.
+    fn first_mark(&self) -> Mark
+        ensures { result ≡ first_mark self.now.passed self.now.low self.now.has_old }
+    {
+        Mark {
+            from: 0,
+            to: self.passed,
+            low: self.low,
+            wants_all: false,
+            has_old: self.has_old,
+        }
     }
 
     fn keep(&mut self, mark: Mark) -> Result<(), NoMemory>
@@ -283,6 +308,7 @@ impl Held {
         drop_front(&mut self.bytes, mark.from);
         self.passed = mark.to - mark.from;
         self.low = mark.low;
+        self.has_old = mark.has_old;
         Ok(())
     }
 
@@ -295,7 +321,8 @@ impl Held {
         if self.keeps_all || self.bytes.len() < self.passed {
             return Ok(());
         }
-        let mark = mark_records(alloc, self.start, &self.bytes, self.passed, self.low)?;
+        let first = self.first_mark();
+        let mark = mark_records(alloc, self.start, &self.bytes, first)?;
         self.keep(mark)
     }
 

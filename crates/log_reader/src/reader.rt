@@ -94,6 +94,14 @@ impl LogReader {
         self.held.begin_at(place);
     }
 
+    /// Whether one of the records that were looked at is of version 1: of a log that is kept from a checkpoint on, one of those
+    /// that aren't kept, or that are.
+    pub fn has_old(&self) -> bool
+        ensures { result ≡ self.now.held.has_old }
+    {
+        self.held.has_old()
+    }
+
     fn is_whole(&self) -> bool
         ensures { result ≡ is_whole self.now }
     {

@@ -112,12 +112,12 @@ module _ (found : FoundInBytes) (first : FirstIsWhole) (none : NoneIsWhole) wher
       at = omega (arith, zero)
 
   marked : (h : HeldState) (m : Mark) → Named h.start h.bytes m → BeginsAt h → BeginsAt (with_mark h m)
-  marked h m named begins = cond_both m.wants_all (nothing_held true) (record { start = h.start + m.from; end = h.end; bytes = drop m.from h.bytes; passed = m.to - m.from; low = m.low; keeps_all = h.keeps_all }) BeginsAt (λ _. inl refl) (λ _. from_mark h m named begins)
+  marked h m named begins = cond_both m.wants_all (nothing_held true) (record { start = h.start + m.from; end = h.end; bytes = drop m.from h.bytes; passed = m.to - m.from; low = m.low; keeps_all = h.keeps_all; has_old = m.has_old }) BeginsAt (λ _. inl refl) (λ _. from_mark h m named begins)
 
   settled_begins : (h : HeldState) → AreBytes h.bytes → BeginsAt h → BeginsAt (settled h)
   unfolding settled
-  settled_begins h are begins = cond_both (h.keeps_all || nat_lt (length h.bytes) h.passed) h (with_mark h (marked_all h.start (first_mark h.passed h.low) (whole_records (drop h.passed h.bytes)))) BeginsAt
-      (λ _. begins) (λ _. marked h (marked_all h.start (first_mark h.passed h.low) (whole_records (drop h.passed h.bytes))) (all_named h.start h.bytes (whole_records (drop h.passed h.bytes)) are (first_mark h.passed h.low) (inl refl) refl) begins)
+  settled_begins h are begins = cond_both (h.keeps_all || nat_lt (length h.bytes) h.passed) h (with_mark h (marked_all h.start (first_mark h.passed h.low h.has_old) (whole_records (drop h.passed h.bytes)))) BeginsAt
+      (λ _. begins) (λ _. marked h (marked_all h.start (first_mark h.passed h.low h.has_old) (whole_records (drop h.passed h.bytes))) (all_named h.start h.bytes (whole_records (drop h.passed h.bytes)) are (first_mark h.passed h.low h.has_old) (inl refl) refl) begins)
 
   more_begins : FrontDecides → (h : HeldState) (more : List ℕ) → MayBegin h.start h.bytes → MayBegin h.start (h.bytes ++ more)
   more_begins law h more (inl start) = inl start
@@ -125,7 +125,7 @@ module _ (found : FoundInBytes) (first : FirstIsWhole) (none : NoneIsWhole) wher
 
   pub grown_begins : FrontDecides → GrownBegins
   grown_begins law h more are new begins =
-      settled_begins (record { start = h.start; end = h.end + length more; bytes = h.bytes ++ more; passed = h.passed; low = h.low; keeps_all = h.keeps_all }) (both_bytes h.bytes more are new) (more_begins law h more begins)
+      settled_begins (record { start = h.start; end = h.end + length more; bytes = h.bytes ++ more; passed = h.passed; low = h.low; keeps_all = h.keeps_all; has_old = h.has_old }) (both_bytes h.bytes more are new) (more_begins law h more begins)
 
   -- ---- and of the log itself
   from_mark_in : RecordHasSize → FrontDecides → (log : List ℕ) (h : HeldState) (m : Mark) → h.bytes ≡ take (length h.bytes) (drop h.start log) → Named h.start h.bytes m → BeginsIn log h → MayBegin (h.start + m.from) (drop (h.start + m.from) log)

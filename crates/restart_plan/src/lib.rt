@@ -22,5 +22,6 @@ pub use logs::Logs;
 pub use opened::{Closing, Undo};
 pub use plan::{Plan, plan_of};
 pub use queue::Queue;
+pub use renewal::asks_behind;
 pub use tails::Tail;
 pub use tran::TranNumber;

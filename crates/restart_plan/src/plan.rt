@@ -30,7 +30,7 @@ pub struct Plan {
     pub undo: Queue<Undo>,
     /// The members whose log is to end with a Checkpoint and a RestartEnd.
     pub endings: Queue<MemberId>,
-    /// Whether pages of version 1 are written in version 2.
+    /// Whether pages of version 1 are written in version 2, where the logs have no other records than these.
     pub renews: bool,
     pub greatest: Greatest,
 }

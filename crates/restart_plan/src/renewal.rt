@@ -1,7 +1,7 @@
 ghost use Rattle.std.specs.Prelude.{◌≡◌, ◌-◌, length, slice_get};
 ghost use Rattle.std.specs.List.{list_any};
 ghost use Rattle.ds_model.specs.declared.log.LogRecord.{LogRecord};
-ghost use Rattle.restart_plan.specs.Renewal.{is_old, is_ended, asks_renewal, must_renew};
+ghost use Rattle.restart_plan.specs.Renewal.{is_old, is_ended, asks_behind, asks_renewal, must_renew};
 
 use crate::opened::is_end;
 use ds_model::{LogRecord, Version};
@@ -28,10 +28,18 @@ fn is_ended(records: &[LogRecord]) -> bool
     }
 }
 
+/// Whether a log of which the last records were read, and which may have one of version 1 before them, has a record of version 1
+/// and doesn't end with a RestartEnd of version 2.
+pub fn asks_behind(is_old_before: bool, log: &Log) -> bool
+    ensures { result ≡ asks_behind is_old_before log.now }
+{
+    (is_old_before || has_old(log.records())) && !is_ended(log.records())
+}
+
 fn asks_renewal(log: &Log) -> bool
     ensures { result ≡ asks_renewal log.now }
 {
-    has_old(log.records()) && !is_ended(log.records())
+    asks_behind(false, log)
 }
 
 /// Whether one of the logs has a record of version 1 and doesn't end with a RestartEnd of version 2: pages of version 1 may

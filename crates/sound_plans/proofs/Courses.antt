@@ -1,12 +1,13 @@
 -- Call by call the course appends what fits the logs.
 use Rattle.std.specs.List.{AllByRecursion}
-use Rattle.std.proofs.Common.{◌≡◌, ℕ, ◌+◌, ◌<◌, ◌^◌, true, List, [], ◌∷◌, drop, Option, Some, None, refl, sym, ap, subst, ◌∙◌, arith}
+use Rattle.std.proofs.Common.{◌≡◌, ℕ, ◌+◌, ◌<◌, ◌^◌, true, List, [], ◌∷◌, drop, Option, Some, None, Result, Ok, Err, refl, sym, ap, subst, ◌∙◌, arith}
 use Rattle.std.specs.Prelude.{nat_lt, slice_get, filter}
 use Rattle.std.proofs.lemmas.Bool.{cond_both, ltb-true}
 use Rattle.ds_base.specs.declared.names.PageId.{PageId}
 use Rattle.ds_model.specs.declared.log.LogRecord.{LogRecord}
 use Rattle.ds_model.specs.RecordBytes.{IsAllowed}
 use Rattle.page_format.specs.Fields.{is_old, renewed}
+use Rattle.page_format.specs.declared.header.NotAPage.{NotAPage}
 use Rattle.log_record.specs.declared.log.Log.{Log}
 use Rattle.log_trans.specs.Numbers.{greatest}
 use Rattle.log_merge.specs.Merging.{all_records}
@@ -17,7 +18,8 @@ use Rattle.group_restart.specs.declared.stage.Stage.TheVariants as stage
 use Rattle.group_restart.specs.Machine.{Restart}
 use Rattle.group_restart.specs.Records.{ended, checkpoint, restart_end, compensation, ending}
 use Rattle.group_restart.specs.Undo.{undo_fault, undoing}
-use Rattle.group_restart.specs.Course.{Next, go, with_plan, rest_closings, rest_undo, rest_endings, ending_or, next_ending, rest_old, renewal_or, next_renewal, undo_or, next_undo, closing_or, next_closing, too_few_numbers, has_numbers, numbered, counted, begin_undo, undone, undo_at, undo_unless, undo_one, undo_first, take_undone, take_old, appended}
+use Rattle.group_restart.specs.Renewal.{first_page, last_behind, page_behind}
+use Rattle.group_restart.specs.Course.{Next, go, with_plan, rest_closings, rest_undo, rest_endings, ending_or, next_ending, renewal_or, next_renewal, begin_renewal, undo_or, next_undo, closing_or, next_closing, too_few_numbers, has_numbers, numbered, counted, begin_undo, undone, undo_at, undo_unless, undo_one, undo_first, take_undone, renew_page, looked_at, take_old, appended}
 use Rattle.sound_disk.specs.Laws.{last_number}
 use Rattle.sound_appends.specs.Appends.{AppendsAll}
 use Rattle.sound_plans.specs.Queues.{has_log, records_for, CanClose, ClosingsFit, is_of, QueueFits}
@@ -41,16 +43,20 @@ renewal_due : (logs : List Log) (h : Restart) (next : Option PageId) → OwesNot
 renewal_due logs h None o = next_ending_due logs h o
 renewal_due logs h (Some page) o = λ e. o
 
-next_renewal_due : (logs : List Log) (h : Restart) → OwesNothing h.plan.undo h.counter logs → IsDue (next_renewal h) logs
+next_renewal_due : (logs : List Log) (h : Restart) (page : PageId) → OwesNothing h.plan.undo h.counter logs → IsDue (next_renewal h page) logs
 unfolding next_renewal
-next_renewal_due logs h o = renewal_due logs (rest_old h) (slice_get h.old_pages 0) o
+next_renewal_due logs h page o = renewal_due logs h (page_behind h.last page) o
+
+begin_renewal_due : (logs : List Log) (h : Restart) → OwesNothing h.plan.undo h.counter logs → IsDue (begin_renewal h) logs
+unfolding begin_renewal
+begin_renewal_due logs h o = cond_both h.renews (go h (stage.RenewRead first_page)) (next_ending h) (λ (n : Next). IsDue n logs) (λ e. λ is. o) (λ e. next_ending_due logs h o)
 
 none_first : (us : List Undo) → slice_get us 0 ≡ None → us ≡ []
 none_first [] e = refl
 none_first (x ∷ us) e = absurd cc
 
 undo_due : (logs : List Log) (h : Restart) (next : Option Undo) → slice_get h.plan.undo 0 ≡ next → Owes h.plan.undo h.counter logs → IsDue (undo_or h next) logs
-undo_due logs h None is o = next_renewal_due logs h (record { owes = o; none = none_first h.plan.undo is })
+undo_due logs h None is o = begin_renewal_due logs h (record { owes = o; none = none_first h.plan.undo is })
 undo_due logs h (Some u) is o = λ e. o
 
 next_undo_due : (logs : List Log) (h : Restart) → Owes h.plan.undo h.counter logs → IsDue (next_undo h) logs
@@ -114,23 +120,31 @@ undo_first_due : (logs : List Log) (h : Restart) (all : List Undo) (next : Optio
 undo_first_due logs h all None e rest o =
     let empty : all ≡ [] = none_first all e in
     let left : h.plan.undo ≡ [] = rest ∙ none_rest all e in
-    next_renewal_due logs h (record { owes = record { queue = subst (QueueFits logs) (empty ∙ sym left) o.queue; number = o.number }; none = left })
+    begin_renewal_due logs h (record { owes = record { queue = subst (QueueFits logs) (empty ∙ sym left) o.queue; number = o.number }; none = left })
 undo_first_due logs h all (Some u) e rest o = undo_one_due logs h u (subst (QueueFits logs) (some_undos all u e ∙ ap (λ (us : List Undo). u ∷ us) (sym rest)) o.queue) o.number
 
 take_undone_due : (logs : List Log) (h : Restart) → Owes h.plan.undo h.counter logs → IsDue (take_undone h) logs
 unfolding take_undone
 take_undone_due logs h o = undo_first_due logs (with_plan h (rest_undo h.plan)) h.plan.undo (slice_get h.plan.undo 0) refl refl o
 
+renew_page_due : (logs : List Log) (h : Restart) (page : PageId) → OwesNothing h.plan.undo h.counter logs → IsDue (renew_page h page) logs
+unfolding renew_page
+renew_page_due logs h page o = cond_both (is_old h.page) (go (record h { page = renewed h.page }) (stage.RenewWrite page)) (next_renewal h page) (λ (n : Next). IsDue n logs) (λ e. λ is. o) (λ e. next_renewal_due logs h page o)
+
+looked_at_due : (logs : List Log) (h : Restart) (page : PageId) (last : Result ℕ NotAPage) → OwesNothing h.plan.undo h.counter logs → IsDue (looked_at h page last) logs
+looked_at_due logs h page (Err fault) o = λ e. absurd cc
+looked_at_due logs h page (Ok last) o = renew_page_due logs (record h { last = last }) page o
+
 take_old_due : (logs : List Log) (h : Restart) (page : PageId) → OwesNothing h.plan.undo h.counter logs → IsDue (take_old h page) logs
 unfolding take_old
-take_old_due logs h page o = cond_both (is_old h.page) (go (record h { page = renewed h.page }) (stage.RenewWrite page)) (next_renewal h) (λ (n : Next). IsDue n logs) (λ e. λ is. o) (λ e. next_renewal_due logs h o)
+take_old_due logs h page o = looked_at_due logs h page (last_behind h.last page h.page) o
 
 pub pages_go : PagesGo
 pages_go = record {
   undo_read = λ h page logs o. take_undone_due logs h o;
   undo_write = λ h page logs o. next_undo_due logs h o;
   renew_read = λ h page logs o. take_old_due logs h page o;
-  renew_write = λ h page logs o. next_renewal_due logs h o;
+  renew_write = λ h page logs o. next_renewal_due logs h page o;
 }
 
 -- ---- appends
