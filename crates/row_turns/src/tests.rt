@@ -62,9 +62,6 @@ fn a_row_waits_for_the_commit(rt: HostRuntime) -> Result<(), Fail> {
     let merged = merge(alloc, &out)?;
     let number = find_out_of_turn(alloc, merged.records())?.ok_or("a record")?;
     let member = MemberId::new(2).ok_or("a member")?;
-    assert_eq!(rt;
-        turn_spot(&out, number)?,
-        Spot::Log { member, at: 49 }
-    );
+    assert_eq!(rt; turn_spot(&out, number)?, Spot::Log { member, at: 49 });
     Ok(())
 }

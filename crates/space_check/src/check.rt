@@ -5,7 +5,7 @@ ghost use Rattle.sound_disk.specs.Transactions.{AreTransactions};
 ghost use Rattle.sound_disk.specs.Whole_logs.{AreWholeLogs};
 ghost use Rattle.space_check.specs.Verdicts.{IsTold};
 
-use crate::logs::{find_last, count_rows};
+use crate::logs::{count_rows, find_last};
 use crate::pages::check_pages;
 use crate::said::Said;
 use crate::verdict::{Breach, Clause, Verdict};
