@@ -126,7 +126,7 @@ ends_alike false f undo = refl
 -- of a transaction that a compensation may follow all that isn't undone is left
 is_open : (c : Course) (change : RowChange) (undone : ℕ) → may_take (standing c) (body.Compensation change undone) ≡ true → c.is_committed ≡ false
 is_open c change undone h =
-    let u = undo_left c.is_committed c.undo in
+    let u : List LogRecord = undo_left c.is_committed c.undo in
     not_true c.is_committed (and_left (not c.is_committed) (is_next undone u) (and_left (not c.is_committed && is_next undone u) (takes_last change u) h))
 
 unless_none : (b : Bool) (at : ℕ) → unless b at ≡ None → b ≡ true
@@ -205,12 +205,14 @@ change_if : (b : Bool) (undo : List LogRecord) (r : LogRecord) → cond b (undo_
 change_if true undo r = refl
 change_if false undo r = refl
 
-same_standing : (us vs : List LogRecord) (f g : Bool) (b : Bool) → us ≡ vs → f ≡ g
-    → record { undo = us; is_forward = f; is_committed = b } ≡ (let s : Standing = record { undo = vs; is_forward = g; is_committed = b } in s)
-same_standing us vs f g b e k = cc
+abbrev standing_with : List LogRecord → Bool → Bool → Standing
+standing_with undo forward committed = record { undo = undo; is_forward = forward; is_committed = committed }
+
+same_standing : (us vs : List LogRecord) (f g : Bool) (b : Bool) → us ≡ vs → f ≡ g → standing_with us f b ≡ standing_with vs g b
+same_standing us vs f g b e k = ap (λ (l : List LogRecord). standing_with l f b) e ∙ ap (λ (h : Bool). standing_with vs h b) k
 
 abbrev one_less : List LogRecord → Bool → Standing
-one_less undo committed = record { undo = take (length undo - 1) undo; is_forward = false; is_committed = committed }
+one_less undo committed = standing_with (take (length undo - 1) undo) false committed
 
 back_if : (b : Bool) (c : Course) (undone : ℕ) → c.is_committed ≡ false → is_next undone c.undo ≡ b → cond b (one_less c.undo c.is_committed) (standing c) ≡ standing (cond b (undone_one c) c)
 back_if true c undone open_is h =
