@@ -26,7 +26,7 @@ check_pages-requires g c =
 pub returns : goal.returns
 returns g c =
     let read = c.in_ok-last.ensures in
-    then_read _ _ _ _ _ _ (λ (d : Contents). AreLastJudged (page_at d.pages) c.as_slice.result.now c.in_ok-last.last) (λ (v : Verdict) (d : Contents). ArePagesTold d c.deref.result.now _ c.args.behind v)
+    then_read _ _ _ _ _ _ (λ (d : Contents). AreLastJudged (page_at d.pages) c.as_slice.result.now c.in_ok-last.last) (λ (v : Verdict) (d : Contents). ArePagesTold d c.deref.result.now (record { renews = c.must_renew-renews.result; last = c.in_ok-last.last; rows = c.in_ok-rows.rows }) c.args.behind v)
     (λ (v : Verdict) (d : Contents). AreWholeLogs 1 d.logs c.args.logs → IsTold d c.args.behind v) c.check_pages.result read.ok read.same read.later c.check_pages.ensures
     (λ (d : Contents) (v : Verdict) last told.
     fit_told d c.args.logs c.as_slice.result.now c.as_slice-2.result.now c.as_slice-3.result.now c.deref.result.now c.must_renew-renews.result c.in_ok-last.last c.in_ok-rows.rows c.args.behind v c.requires.transactions
