@@ -1,4 +1,3 @@
-ghost use Rattle.ds_disk.specs.Pages.{page_at};
 ghost use Rattle.disk_logs.specs.Looking.{AreOfSome};
 ghost use Rattle.disk_versions.specs.Reading.{Reads};
 ghost use Rattle.sound_disk.specs.Transactions.{AreTransactions};
