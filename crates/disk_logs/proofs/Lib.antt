@@ -1,2 +1,4 @@
 pub mod Members
 pub mod Breaking
+pub mod Sorting
+pub mod Moving

@@ -1,11 +1,13 @@
 //! Reading the logs of a disk, each of which is to be whole records whose numbers never fall, and then nothing or the front of
-//! one.
+//! one; and their records as one list.
 #![tactic(auto)]
 
 mod laws;
 mod log;
 mod logs;
+mod merged;
 
 pub use laws::broken_laws;
 pub use log::{Looked, whole_log};
-pub use logs::{Found, read_logs};
+pub use logs::{Found, LogList, read_logs};
+pub use merged::into_merged;

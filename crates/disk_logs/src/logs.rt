@@ -3,16 +3,19 @@ ghost use Rattle.ds_disk.specs.Contents.{log_of};
 ghost use Rattle.disk_logs.specs.Looking.{Reads, IsLooked, IsLookedAllowed, IsLookedOfSome, AreFound, AreFoundOfSome};
 
 use crate::log::{Looked, whole_log};
-use ds_base::{MemberId, NoMemory};
+use ds_base::{MemberId, NoMemory, Sequence};
 use ds_disk::{Disk, DiskError};
-use restart_plan::Logs;
+use log_record::Log;
 use std::alloc::Global;
+
+/// Logs that were read.
+pub type LogList = Sequence<Log>;
 
 /// What the logs of a disk are.
 #[derive(Drop)]
 pub enum Found {
     /// All of them, in the order of the members.
-    Whole(Logs),
+    Whole(LogList),
     /// The first that breaks off, and the byte at which it does.
     Broken { member: MemberId, at: u64 },
 }
@@ -49,13 +52,13 @@ pub fn read_logs<D: Disk>(alloc: Global, disk: &mut D) -> Result<Found, DiskErro
     ensures reads { Reads (D.contents disk.old) (D.contents disk.new) (D.faults disk.old) (D.faults disk.new) (λ found c. AreFound c.logs found) result }
     ensures some { IfOk result AreFoundOfSome }
 {
-    let mut logs = Logs::new(alloc);
+    let mut logs = Sequence::new(alloc);
     for index in 0..32u64 {
         let Some(member) = MemberId::new(index + 1) else {
             unreachable!()
         };
         match look(alloc, disk, member)? {
-            Looked::Whole(log) => logs.add(log)?,
+            Looked::Whole(log) => logs.push(log)?,
             Looked::Broken { at } => return Ok(Found::Broken { member, at }),
         }
     }

@@ -3,3 +3,4 @@ pub mod Opening
 pub mod Written
 pub mod Pieces
 pub mod Recovered
+pub mod Greatest

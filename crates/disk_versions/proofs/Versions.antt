@@ -10,14 +10,12 @@ use Rattle.page_format.specs.Fields.{version_at, is_old, renewed}
 use Rattle.page_format.specs.Header.{header_of, empty_header}
 use Rattle.log_record.specs.declared.log.Log.{Log}
 use Rattle.page_images.specs.Images.{Images, zeros}
-use Rattle.restart_plan.specs.Plans.{plan_of}
 use Rattle.restart_plan.specs.Renewal.{must_renew}
-use Rattle.restart_plan.specs.declared.plan.Plan.{Plan}
 use Rattle.sound_disk.specs.Versions.{merged, is_page, current, MayStand}
 use Rattle.page_versions.specs.Fronts.{IsPlaced, PlacedMayStand}
 use Rattle.disk_versions.specs.Ends.{page_of, pages_read, IsRead}
 use Rattle.disk_versions.specs.Placing.{AreInSets, IsFirstInSets, AreSetsTold}
-use Rattle.disk_versions.specs.Told.{page_sets, IsReadOf, IsBefore, AreAllPlaced, IsFirstUnplaced, IsTold}
+use Rattle.disk_versions.specs.Told.{page_sets, IsReadOf, IsBefore, AreAllPlaced, IsFirstUnplaced, IsTold, AreToldBy}
 use Rattle.disk_versions.specs.declared.set.Placing.{Placing}
 use Rattle.disk_versions.specs.declared.set.Placing.TheVariants as placing
 use Rattle.disk_versions.proofs.Reading.{told_by}
@@ -101,23 +99,16 @@ is_told k at logs behind (placing.Unplaced id) h = first_told k at logs behind i
 abbrev SetsAt : List LogRecord → Bool → ℕ → Placing → Contents → Type 0
 SetsAt records renews behind found c = AreSetsTold (page_at c.pages) records renews behind 128 found
 
-abbrev TellsOf : List Log → ℕ → Placing → Contents → Type 0
-TellsOf logs behind found c = IsTold (page_at c.pages) logs behind found
+by_records : IsKnown → (at : Images) (records : List LogRecord) (renews : Bool) (behind : ℕ) (found : Placing) → AreSetsTold at records renews behind page_sets found → AreToldBy at records renews behind found
+by_records k at records renews behind found h = λ logs r n.
+    is_told k at logs behind found
+    (subst (λ (b : Bool). AreSetsTold at (merged logs) b behind page_sets found) n (subst (λ (rs : List LogRecord). AreSetsTold at rs renews behind page_sets found) r h))
 
-pub told : IsKnown → {E : Type 0} (start : Option Contents) (logs : List Log) (records : List LogRecord) (renews : Bool) (behind : ℕ) (result : Result Placing E) → records ≡ merged logs → renews ≡ must_renew logs
-    → IfOk result (λ found. WhenTold start (SetsAt records renews behind found)) → IfOk result (λ found. WhenTold start (TellsOf logs behind found))
-told k start logs records renews behind (Err e) r n h = tt
-told k start logs records renews behind (Ok found) r n h =
-    told_by start (SetsAt (merged logs) (must_renew logs) behind found) (TellsOf logs behind found)
-    (λ c s. is_told k (page_at c.pages) logs behind found s)
-    (subst (λ (b : Bool). WhenTold start (SetsAt (merged logs) b behind found)) n (subst (λ (rs : List LogRecord). WhenTold start (SetsAt rs renews behind found)) r h))
+abbrev TellsBy : List LogRecord → Bool → ℕ → Placing → Contents → Type 0
+TellsBy records renews behind found c = AreToldBy (page_at c.pages) records renews behind found
 
--- ---- the plan of a restart
-
-pub merged_in : (logs : List Log) (plan : Plan) → plan ≡ plan_of logs → plan.merged ≡ merged logs
-unfolding plan_of
-merged_in logs plan e = ap (λ (p : Plan). p.merged) e
-
-pub renews_in : (logs : List Log) (plan : Plan) → plan ≡ plan_of logs → plan.renews ≡ must_renew logs
-unfolding plan_of
-renews_in logs plan e = ap (λ (p : Plan). p.renews) e
+pub told : IsKnown → {E : Type 0} (start : Option Contents) (records : List LogRecord) (renews : Bool) (behind : ℕ) (result : Result Placing E)
+    → IfOk result (λ found. WhenTold start (SetsAt records renews behind found)) → IfOk result (λ found. WhenTold start (TellsBy records renews behind found))
+told k start records renews behind (Err e) h = tt
+told k start records renews behind (Ok found) h =
+    told_by start (SetsAt records renews behind found) (TellsBy records renews behind found) (λ c s. by_records k (page_at c.pages) records renews behind found s) h

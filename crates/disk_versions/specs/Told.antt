@@ -1,8 +1,10 @@
 -- What is told of the third clause of a sound disk.
-use Rattle.std.specs.Prelude.{◌≡◌, ◌⊎◌, ℕ, ◌<◌, List}
+use Rattle.std.specs.Prelude.{◌≡◌, ◌⊎◌, ℕ, ◌<◌, Bool, List}
 use Rattle.ds_base.specs.declared.names.PageId.{PageId}
+use Rattle.ds_model.specs.declared.log.LogRecord.{LogRecord}
 use Rattle.log_record.specs.declared.log.Log.{Log}
 use Rattle.page_images.specs.Images.{Images, zeros}
+use Rattle.restart_plan.specs.Renewal.{must_renew}
 use Rattle.sound_disk.specs.Versions.{merged, MayStand, AreVersions}
 use Rattle.disk_versions.specs.Ends.{IsRead}
 use Rattle.disk_versions.specs.Placing.{written_through}
@@ -39,3 +41,7 @@ pub record IsFirstUnplaced (at : Images) (logs : List Log) (behind : ℕ) (id : 
 abbrev pub IsTold : Images → List Log → ℕ → Placing → Type 0
 IsTold at logs behind (placing.All pages) = AreAllPlaced at logs behind pages
 IsTold at logs behind (placing.Unplaced id) = IsFirstUnplaced at logs behind id
+
+-- the same of the logs of which these are the merged records, and whose pages are still to be renewed, or not
+abbrev pub AreToldBy : Images → List LogRecord → Bool → ℕ → Placing → Type 0
+AreToldBy at records renews behind found = (logs : List Log) → records ≡ merged logs → renews ≡ must_renew logs → IsTold at logs behind found

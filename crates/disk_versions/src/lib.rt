@@ -3,10 +3,12 @@
 
 mod ends;
 mod page;
+mod renewal;
 mod set;
 mod sets;
 
 pub use ends::{BEHIND, end_of, last_in_records};
+pub use renewal::must_renew;
 pub use set::Placing;
 pub use sets::find_unplaced;
 

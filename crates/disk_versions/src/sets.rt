@@ -2,12 +2,10 @@ ghost use Rattle.std.specs.Prelude.{◌≡◌};
 ghost use Rattle.std.specs.List.{AllByRecursion};
 ghost use Rattle.ds_disk.specs.Pages.{page_at};
 ghost use Rattle.ds_model.specs.RecordBytes.{IsAllowed};
-ghost use Rattle.page_chain.specs.Chains.{AreRecords};
-ghost use Rattle.sound_disk.specs.Versions.{merged};
 ghost use Rattle.page_records.specs.Places.{by_page};
 ghost use Rattle.disk_versions.specs.Reading.{Reads};
 ghost use Rattle.disk_versions.specs.Placing.{AreSetsTold};
-ghost use Rattle.disk_versions.specs.Told.{IsTold};
+ghost use Rattle.disk_versions.specs.Told.{AreToldBy};
 
 use crate::set::{Placing, check_set};
 use ds_disk::{Disk, DiskError};
@@ -15,7 +13,6 @@ use log_record::LogRecord;
 use page_images::header_laws;
 use page_records::{PageRecords, by_page};
 use page_versions::version_laws;
-use restart_plan::{Logs, plan_of};
 use std::alloc::Global;
 
 /// The page sets of a group are numbered from 1 to this.
@@ -44,32 +41,24 @@ fn check_sets<D: Disk>(
     Ok(Placing::All { pages })
 }
 
-/// The first page of the disk, by page set and then by number, that may not stand there by these logs; or that each may, and
-/// how many aren't all zeros. Of each page set so many pages are read behind the last one that its header page or a record
-/// names.
+/// The first page of the disk, by page set and then by number, that may not stand there by the merged records of logs; or that
+/// each may, and how many aren't all zeros. `renews` says whether a group restart of these logs still renews pages. Of each page
+/// set so many pages are read behind the last one that its header page or a record names.
 ///
 /// The pages are read one at a time. A page that isn't all zeros takes time in the number of the records that change it, and
 /// in the logarithm of that of all changed pages.
 pub fn find_unplaced<D: Disk>(
     alloc: Global,
     disk: &mut D,
-    logs: &Logs,
+    records: &[LogRecord],
+    renews: bool,
     behind: u32,
 ) -> Result<Placing, DiskError>
-    requires { AreRecords (merged logs.now) }
-    ensures { Reads (D.contents disk.old) (D.contents disk.new) (D.faults disk.old) (D.faults disk.new) (λ found c. IsTold (page_at c.pages) logs.now behind found) result }
+    requires { AllByRecursion IsAllowed records.now }
+    ensures { Reads (D.contents disk.old) (D.contents disk.new) (D.faults disk.old) (D.faults disk.new) (λ found c. AreToldBy (page_at c.pages) records.now renews behind found) result }
 {
     header_laws();
     version_laws();
-    let plan = plan_of(alloc, logs)?;
-    let records = plan.merged.records();
     let changed = by_page(alloc, records)?;
-    check_sets(
-        alloc,
-        disk,
-        records,
-        changed.as_slice(),
-        plan.renews,
-        behind,
-    )
+    check_sets(alloc, disk, records, changed.as_slice(), renews, behind)
 }

@@ -77,7 +77,7 @@ passes front before [] seen at k f p =
     subst (λ (l : List LogRecord). Knows (all_records front) l seen × Fits front l) (sym (append-nil before)) (k, f)
 passes front before (r ∷ rs) seen at k f p =
     one_more front before r rs seen at (fits seen r) (fitted_from (seen_with seen r) (at + length (record_bytes r)) rs) refl k f p
-    (λ e. passes front (before ++ r ∷ []) rs (seen_with seen r) (at + length (record_bytes r)) (knows_more (all_records front) before seen r k)
+    (λ e. passes front (before ++ r ∷ []) rs (seen_with seen r) (at + length (record_bytes r)) (knows_more (all_records front) before seen r e k)
     (fits_more front before r f (stands_where_it_fits (all_records front) before seen r k e)) (place_behind before r at p))
 
 -- ---- all logs

@@ -101,13 +101,17 @@ drawn_step false m k n ns h = h ∙ ap (λ (l : List ℕ). is_among n l) (sym (a
 drawn_last : (others before : List LogRecord) (r : LogRecord) → drawn_numbers (others ++ before) ++ drawn_numbers (r ∷ []) ≡ drawn_numbers (others ++ (before ++ r ∷ []))
 drawn_last others before r = sym (drawn_more (others ++ before) (r ∷ [])) ∙ ap (λ (l : List LogRecord). drawn_numbers l) (append_assoc others before (r ∷ []))
 
-stands_if : (b : Bool) (o p : Option Standing) (c d : Course) (r : LogRecord) → (b ≡ true → standing_of o ≡ standing c) → standing_of p ≡ standing c
-    → standing_of (cond b (Some (after_body (standing_of o) r r.body)) p) ≡ standing (cond b (courses.after_body c r r.body) c)
-stands_if true o p c d r h k = ap (λ (s : Standing). after_body s r r.body) (h refl) ∙ stands_after c r r.body
-stands_if false o p c d r h k = k
+may_follow : (o : Option Standing) (r : LogRecord) → follows_on o r ≡ true → may_take (standing_of o) r.body ≡ true
+may_follow None r h = and_right (is_first r) (may_take new_standing r.body) h
+may_follow (Some s) r h = h
 
-pub knows_more : (others before : List LogRecord) (seen : Seen) (r : LogRecord) → Knows others before seen → Knows others (before ++ r ∷ []) (seen_with seen r)
-knows_more others before seen r h = record {
+stands_if : (b : Bool) (o p : Option Standing) (c d : Course) (r : LogRecord) → may_take (standing_of o) r.body ≡ true → (b ≡ true → standing_of o ≡ standing c) → standing_of p ≡ standing c
+    → standing_of (cond b (Some (after_body (standing_of o) r r.body)) p) ≡ standing (cond b (courses.after_body c r r.body) c)
+stands_if true o p c d r may h k = ap (λ (s : Standing). after_body s r r.body) (h refl) ∙ stands_after c r r.body (ap (λ (s : Standing). may_take s r.body) (sym (h refl)) ∙ may)
+stands_if false o p c d r may h k = k
+
+pub knows_more : (others before : List LogRecord) (seen : Seen) (r : LogRecord) → fits seen r ≡ true → Knows others before seen → Knows others (before ++ r ∷ []) (seen_with seen r)
+knows_more others before seen r fit h = record {
   drawn = λ n. drawn_step (is_drawn r.body) seen.drawn r.lrsn n (drawn_numbers (others ++ before)) (h.drawn n) ∙ ap (λ (l : List ℕ). is_among n l) (drawn_last others before r);
   elsewhere = h.elsewhere;
   spoken = λ t.
@@ -116,6 +120,7 @@ knows_more others before seen r h = record {
   stands = λ t.
       ap (λ (o : Option Standing). standing_of o) (put_at seen.trans r.tran (after_body (standing_of (get seen.trans r.tran)) r r.body) t)
       ∙ stands_if (r.tran == t) (get seen.trans r.tran) (get seen.trans t) (course_in new_course t before) new_course r
+      (may_follow (get seen.trans r.tran) r (and_right (is_new seen r && is_home seen r) (follows seen r) fit))
       (λ e. ap (λ (k : ℕ). standing_of (get seen.trans k)) (equal r.tran t e) ∙ h.stands t) (h.stands t)
       ∙ ap (λ (c : Course). standing c) (sym (course_last new_course t before r));
 }

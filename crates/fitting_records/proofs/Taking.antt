@@ -1,5 +1,5 @@
 -- What the records of a transaction come to, as far as the next one must fit it.
-use Rattle.std.proofs.Common.{◌≡◌, ℕ, ◌-◌, ◌<◌, Bool, true, false, cond, List, [], ◌∷◌, ◌++◌, length, drop, Option, Some, None, refl, sym, ap, ◌∙◌, arith, length-append, length-drop}
+use Rattle.std.proofs.Common.{◌≡◌, ℕ, ◌-◌, ◌<◌, Bool, true, false, cond, List, [], ◌∷◌, ◌++◌, length, take, drop, Option, Some, None, refl, sym, ap, subst, ◌∙◌, arith, length-append, length-drop}
 use Rattle.std.specs.Prelude.{◌==◌, not, ◌||◌, ◌&&◌, slice_get}
 use Rattle.std.proofs.lemmas.Bool.Decides.{nat_tests}
 use Rattle.std.proofs.lemmas.Slice.Eq.{bytes_eq-Decides}
@@ -10,7 +10,7 @@ use Rattle.ds_model.specs.declared.log.Body.TheVariants as body
 use Rattle.log_record.specs.Changes.{inverse}
 use Rattle.log_trans.specs.declared.course.Course.{Course}
 use Rattle.log_trans.specs.Courses as courses
-use Rattle.log_trans.specs.Courses.{is_next, undone_one}
+use Rattle.log_trans.specs.Courses.{is_next, undone_one, row_record}
 use Rattle.log_trans.specs.Damage.{tran_at, undone_at, unless, nothing_undone, body_fault}
 use Rattle.sound_disk.specs.Transactions.{InvertsBody, Inverts, TakesBack}
 use Rattle.fitting_records.specs.declared.standing.Standing.{Standing}
@@ -107,8 +107,27 @@ inverted_back change (Some r) h = inverted_body change r.body h
 
 -- ---- the next record
 
+-- what may still be undone
+abbrev pub undo_left : Bool → List LogRecord → List LogRecord
+undo_left true undo = []
+undo_left false undo = undo
+
 abbrev pub standing : Course → Standing
-standing c = record { undo = c.undo; is_forward = nothing_undone c; is_committed = c.is_committed }
+standing c = record { undo = undo_left c.is_committed c.undo; is_forward = nothing_undone c; is_committed = c.is_committed }
+
+all_left : (b : Bool) (undo : List LogRecord) → b ≡ false → undo_left b undo ≡ undo
+all_left true undo h = absurd cc
+all_left false undo h = refl
+
+ends_alike : (b f : Bool) (undo : List LogRecord) → (b || ((length (undo_left b undo) == 0) && f)) ≡ (b || ((length undo == 0) && f))
+ends_alike true f undo = refl
+ends_alike false f undo = refl
+
+-- of a transaction that a compensation may follow all that isn't undone is left
+is_open : (c : Course) (change : RowChange) (undone : ℕ) → may_take (standing c) (body.Compensation change undone) ≡ true → c.is_committed ≡ false
+is_open c change undone h =
+    let u : List LogRecord = undo_left c.is_committed c.undo in
+    not_true c.is_committed (and_left (not c.is_committed) (is_next undone u) (and_left (not c.is_committed && is_next undone u) (takes_last change u) h))
 
 unless_none : (b : Bool) (at : ℕ) → unless b at ≡ None → b ≡ true
 unless_none true at h = refl
@@ -134,27 +153,37 @@ pub record MayTake (c : Course) (r : LogRecord) (b : Body) : Type 0 where
 pub may_take_is : (c : Course) (r : LogRecord) (b : Body) → may_take (standing c) b ≡ true → MayTake c r b
 may_take_is c r (body.RowChange change) h = record { fits = unless_true (nothing_undone c) (tran_at r) h; takes_back = tt }
 may_take_is c r (body.Compensation change undone) h =
-    let both = and_left (not c.is_committed && is_next undone c.undo) (takes_last change c.undo) h in
+    let u : List LogRecord = undo_left c.is_committed c.undo in
+    let open_is : c.is_committed ≡ false = is_open c change undone h in
+    let same : u ≡ c.undo = all_left c.is_committed c.undo open_is in
+    let both = and_left (not c.is_committed && is_next undone u) (takes_last change u) h in
     record {
-      fits = free c.is_committed (is_next undone c.undo) (tran_at r) (undone_at r) (not_true c.is_committed (and_left (not c.is_committed) (is_next undone c.undo) both))
-          (and_right (not c.is_committed) (is_next undone c.undo) both);
-      takes_back = back_inverts change (slice_get c.undo (length c.undo - 1)) (and_right (not c.is_committed && is_next undone c.undo) (takes_last change c.undo) h);
+      fits = free c.is_committed (is_next undone c.undo) (tran_at r) (undone_at r) open_is
+          (subst (λ (l : List LogRecord). is_next undone l ≡ true) same (and_right (not c.is_committed) (is_next undone u) both));
+      takes_back = back_inverts change (slice_get c.undo (length c.undo - 1))
+          (subst (λ (l : List LogRecord). takes_last change l ≡ true) same (and_right (not c.is_committed && is_next undone u) (takes_last change u) h));
     }
 may_take_is c r (body.System patches) h = record { fits = refl; takes_back = tt }
 may_take_is c r body.Commit h = record { fits = unless_true (not c.is_committed && nothing_undone c) (tran_at r) h; takes_back = tt }
-may_take_is c r body.Ended h = record { fits = unless_true (c.is_committed || ((length c.undo == 0) && not (nothing_undone c))) (tran_at r) h; takes_back = tt }
+may_take_is c r body.Ended h = record {
+  fits = unless_true (c.is_committed || ((length c.undo == 0) && not (nothing_undone c))) (tran_at r) (sym (ends_alike c.is_committed (not (nothing_undone c)) c.undo) ∙ h);
+  takes_back = tt;
+}
 may_take_is c r (body.Checkpoint offset) h = record { fits = refl; takes_back = tt }
 may_take_is c r body.RestartEnd h = record { fits = refl; takes_back = tt }
 
 pub is_taken : (c : Course) (r : LogRecord) (b : Body) → MayTake c r b → may_take (standing c) b ≡ true
 is_taken c r (body.RowChange change) h = unless_none (nothing_undone c) (tran_at r) h.fits
 is_taken c r (body.Compensation change undone) h =
+    let u : List LogRecord = undo_left c.is_committed c.undo in
     let both = freed c.is_committed (is_next undone c.undo) (tran_at r) (undone_at r) h.fits in
-    and_both (not c.is_committed && is_next undone c.undo) (takes_last change c.undo)
-    (and_both (not c.is_committed) (is_next undone c.undo) (not_false c.is_committed both.0) both.1) (inverted_back change (slice_get c.undo (length c.undo - 1)) h.takes_back)
+    let same : c.undo ≡ u = sym (all_left c.is_committed c.undo both.0) in
+    and_both (not c.is_committed && is_next undone u) (takes_last change u)
+    (and_both (not c.is_committed) (is_next undone u) (not_false c.is_committed both.0) (subst (λ (l : List LogRecord). is_next undone l ≡ true) same both.1))
+    (subst (λ (l : List LogRecord). takes_last change l ≡ true) same (inverted_back change (slice_get c.undo (length c.undo - 1)) h.takes_back))
 is_taken c r (body.System patches) h = refl
 is_taken c r body.Commit h = unless_none (not c.is_committed && nothing_undone c) (tran_at r) h.fits
-is_taken c r body.Ended h = unless_none (c.is_committed || ((length c.undo == 0) && not (nothing_undone c))) (tran_at r) h.fits
+is_taken c r body.Ended h = ends_alike c.is_committed (not (nothing_undone c)) c.undo ∙ unless_none (c.is_committed || ((length c.undo == 0) && not (nothing_undone c))) (tran_at r) h.fits
 is_taken c r (body.Checkpoint offset) h = refl
 is_taken c r body.RestartEnd h = refl
 
@@ -172,17 +201,38 @@ some_undone undo undone h =
     not_zero (length (undone ++ drop (length undo - 1) undo))
     (omega (arith, length-append undone (drop (length undo - 1) undo), length-drop (length undo - 1) undo))
 
-back_if : (b : Bool) (c : Course) (undone : ℕ) → is_next undone c.undo ≡ b
-    → cond b (record { undo = (undone_one c).undo; is_forward = false; is_committed = c.is_committed }) (standing c) ≡ standing (cond b (undone_one c) c)
-back_if true c undone h =
-    ap (λ (f : Bool). record { undo = (undone_one c).undo; is_forward = f; is_committed = c.is_committed }) (sym (some_undone c.undo c.undone (some_next undone c.undo h)))
-back_if false c undone h = refl
+change_if : (b : Bool) (undo : List LogRecord) (r : LogRecord) → cond b (undo_left b undo) (undo_left b undo ++ r ∷ []) ≡ undo_left b (undo ++ r ∷ [])
+change_if true undo r = refl
+change_if false undo r = refl
 
-pub stands_after : (c : Course) (r : LogRecord) (b : Body) → after_body (standing c) r b ≡ standing (courses.after_body c r b)
-stands_after c r (body.RowChange change) = refl
-stands_after c r (body.Compensation change undone) = back_if (is_next undone c.undo) c undone refl
-stands_after c r (body.System patches) = refl
-stands_after c r body.Commit = refl
-stands_after c r body.Ended = refl
-stands_after c r (body.Checkpoint offset) = refl
-stands_after c r body.RestartEnd = refl
+abbrev standing_with : List LogRecord → Bool → Bool → Standing
+standing_with undo forward committed = record { undo = undo; is_forward = forward; is_committed = committed }
+
+same_standing : (us vs : List LogRecord) (f g : Bool) (b : Bool) → us ≡ vs → f ≡ g → standing_with us f b ≡ standing_with vs g b
+same_standing us vs f g b e k = ap (λ (l : List LogRecord). standing_with l f b) e ∙ ap (λ (h : Bool). standing_with vs h b) k
+
+abbrev one_less : List LogRecord → Bool → Standing
+one_less undo committed = standing_with (take (length undo - 1) undo) false committed
+
+back_if : (b : Bool) (c : Course) (undone : ℕ) → c.is_committed ≡ false → is_next undone c.undo ≡ b → cond b (one_less c.undo c.is_committed) (standing c) ≡ standing (cond b (undone_one c) c)
+back_if true c undone open_is h =
+    same_standing (undone_one c).undo (undo_left c.is_committed (undone_one c).undo) false (nothing_undone (undone_one c)) c.is_committed (sym (all_left c.is_committed (undone_one c).undo open_is))
+    (sym (some_undone c.undo c.undone (some_next undone c.undo h)))
+back_if false c undone open_is h = refl
+
+abbrev back : List LogRecord → Course → ℕ → Standing
+back undo c undone = cond (is_next undone undo) (one_less undo c.is_committed) (standing c)
+
+-- a record that may follow leaves what the course leaves
+pub stands_after : (c : Course) (r : LogRecord) (b : Body) → may_take (standing c) b ≡ true → after_body (standing c) r b ≡ standing (courses.after_body c r b)
+stands_after c r (body.RowChange change) h =
+    same_standing (cond c.is_committed (undo_left c.is_committed c.undo) (undo_left c.is_committed c.undo ++ row_record r change ∷ [])) (undo_left c.is_committed (c.undo ++ row_record r change ∷ [])) (nothing_undone c) (nothing_undone c)
+    c.is_committed (change_if c.is_committed c.undo (row_record r change)) refl
+stands_after c r (body.Compensation change undone) h =
+    let open_is : c.is_committed ≡ false = is_open c change undone h in
+    ap (λ (l : List LogRecord). back l c undone) (all_left c.is_committed c.undo open_is) ∙ back_if (is_next undone c.undo) c undone open_is refl
+stands_after c r (body.System patches) h = refl
+stands_after c r body.Commit h = refl
+stands_after c r body.Ended h = refl
+stands_after c r (body.Checkpoint offset) h = refl
+stands_after c r body.RestartEnd h = refl

@@ -54,11 +54,18 @@ abbrev pub taken_back : Standing → ℕ → Standing
 taken_back s undone =
     if is_next undone s.undo then record { undo = take (length s.undo - 1) s.undo; is_forward = false; is_committed = s.is_committed } else s
 
+-- what a committed transaction has changed is never undone
+abbrev pub undo_with : Standing → LogRecord → List LogRecord
+undo_with s r = if s.is_committed then s.undo else s.undo ++ r ∷ []
+
+abbrev pub changed : Standing → LogRecord → Standing
+changed s r = record { undo = undo_with s r; is_forward = s.is_forward; is_committed = s.is_committed }
+
 abbrev pub after_body : Standing → LogRecord → Body → Standing
-after_body s r (body.RowChange change) = record { undo = s.undo ++ row_record r change ∷ []; is_forward = s.is_forward; is_committed = s.is_committed }
+after_body s r (body.RowChange change) = changed s (row_record r change)
 after_body s r (body.Compensation change undone) = taken_back s undone
 after_body s r (body.System patches) = s
-after_body s r body.Commit = record { undo = s.undo; is_forward = s.is_forward; is_committed = true }
+after_body s r body.Commit = record { undo = []; is_forward = s.is_forward; is_committed = true }
 after_body s r body.Ended = s
 after_body s r (body.Checkpoint offset) = s
 after_body s r body.RestartEnd = s

@@ -1,6 +1,6 @@
 ghost use Rattle.std.specs.Prelude.{◌≡◌, ◌-◌, length, take, OnOk};
 ghost use Rattle.log_trans.specs.Courses.{row_record, is_next};
-ghost use Rattle.fitting_records.specs.Standings.{new_standing, takes_last, may_take, taken_back, after_body};
+ghost use Rattle.fitting_records.specs.Standings.{new_standing, takes_last, may_take, taken_back, after_body, changed};
 
 use crate::inverses::inverts_body;
 use ds_base::{Lrsn, NoMemory, Sequence};
@@ -11,7 +11,7 @@ use std::mem;
 /// What the records of a transaction come to, as far as the next one must fit it.
 #[derive(Drop)]
 pub struct Standing {
-    /// Its row changes that aren't undone, in the order of the log.
+    /// Its row changes that aren't undone, in the order of the log, until it is committed.
     pub undo: RecordList,
     /// None of its row changes is undone.
     pub is_forward: bool,
@@ -92,14 +92,26 @@ impl Standing {
         }
     }
 
+    fn add_change(&mut self, it: LogRecord) -> Result<(), NoMemory>
+        ensures { OnOk result (self.new ≡ changed self.old it) }
+    {
+        if self.is_committed {
+            return Ok(());
+        }
+        self.undo.push(it)
+    }
+
     /// Takes a record of the transaction into account.
     pub fn enter(&mut self, alloc: Global, it: &LogRecord) -> Result<(), NoMemory>
         ensures { OnOk result (self.new ≡ after_body self.old it.now it.now.body) }
     {
         match &it.body {
-            Body::RowChange { change } => self.undo.push(row_record(it, change))?,
+            Body::RowChange { change } => self.add_change(row_record(it, change))?,
             Body::Compensation { undone, .. } => self.take_back(alloc, *undone),
-            Body::Commit => self.is_committed = true,
+            Body::Commit => {
+                self.undo = Sequence::new(alloc);
+                self.is_committed = true;
+            }
             Body::Ended | Body::System { .. } | Body::Checkpoint { .. } | Body::RestartEnd => {}
         }
         Ok(())

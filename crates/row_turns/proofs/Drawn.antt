@@ -1,5 +1,5 @@
 -- A record that is out of turn stands in one of the logs.
-use Rattle.std.proofs.Common.{◌≡◌, ℕ, ◌+◌, Bool, true, false, cond, List, [], ◌∷◌, ◌++◌, length, Option, Some, None, Result, Ok, Err, IfOk, IfSome, IfNone, refl, sym, ◌∙◌, arith}
+use Rattle.std.proofs.Common.{◌≡◌, ℕ, ◌+◌, Bool, true, false, cond, List, [], ◌∷◌, ◌++◌, length, Option, Some, None, refl, sym, ap, ◌∙◌, arith}
 use Rattle.std.specs.Prelude.{◌==◌, ◌||◌, ◌&&◌}
 use Rattle.std.specs.List.{list_any}
 use Rattle.std.specs.List.Sorted.{IsPermutation}
@@ -15,11 +15,11 @@ use Rattle.log_record.specs.declared.log.Log.{Log}
 use Rattle.log_merge.specs.Merging.{is_merged, kept, all_records, in_order}
 use Rattle.disk_spots.specs.declared.spot.Spot.{Spot}
 use Rattle.disk_spots.specs.Spots.{or_behind, has_drawn, drawn_place_from, drawn_spot_of}
-use Rattle.sound_disk.specs.Turns.{is_in_turn, are_in_turn, ChangeInTurn}
+use Rattle.sound_disk.specs.Turns.{is_in_turn, are_in_turn}
 use Rattle.sound_disk.specs.Versions.{merged}
 use Rattle.row_turns.specs.Turns.{out_of_turn}
-use Rattle.row_turns.specs.Out.{located, out_spot, IsOutOfTurn}
-use Rattle.row_turns.proofs.Firsts.{all_in_turn, one_out, not_both}
+use Rattle.row_turns.specs.Out.{located, IsOutOfTurn}
+use Rattle.row_turns.proofs.Firsts.{one_out, not_both}
 
 -- what the merged logs keep
 abbrev pub KeepsAll : Type 0
@@ -107,22 +107,12 @@ is_found keeps logs n h none =
 
 -- ---- what is told
 
-none_out : KeepsAll → (logs : List Log) (out : Option ℕ) → out_of_turn [] (merged logs) ≡ out → located logs out ≡ None → ChangeInTurn logs
-none_out keeps logs None e h = all_in_turn [] (merged logs) e
-none_out keeps logs (Some n) e h = absurd (is_found keeps logs n e h)
+pub spot_told : (logs : List Log) (n : ℕ) (found : Option Spot) (spot : Spot) → found ≡ drawn_spot_of n logs → found ≡ Some spot → out_of_turn [] (merged logs) ≡ Some n → IsOutOfTurn logs spot
+spot_told logs n found spot is some out = record {
+  lacking = not_both (are_in_turn [] (merged logs)) (one_out [] (merged logs) n out);
+  spot_is = ap (λ (o : Option ℕ). located logs o) out ∙ sym is ∙ some;
+}
 
-some_out : (logs : List Log) (spot : Spot) (out : Option ℕ) → out_of_turn [] (merged logs) ≡ out → located logs out ≡ Some spot → ChangeInTurn logs → ⊥
-some_out logs spot None e h = absurd cc
-some_out logs spot (Some n) e h = not_both (are_in_turn [] (merged logs)) (one_out [] (merged logs) n e)
-
-pub told_in_turn : {E : Type 0} (logs : List Log) (result : Result (Option Spot) E) → KeepsAll → IfOk result (λ found. found ≡ out_spot logs)
-    → IfOk result (λ found. IfNone found (ChangeInTurn logs))
-told_in_turn logs (Ok None) keeps h = none_out keeps logs (out_of_turn [] (merged logs)) refl (sym h)
-told_in_turn logs (Ok (Some s)) keeps h = tt
-told_in_turn logs (Err e) keeps h = tt
-
-pub told_out : {E : Type 0} (logs : List Log) (result : Result (Option Spot) E) → IfOk result (λ found. found ≡ out_spot logs)
-    → IfOk result (λ found. IfSome found (λ spot. IsOutOfTurn logs spot))
-told_out logs (Ok None) h = tt
-told_out logs (Ok (Some s)) h = record { lacking = some_out logs s (out_of_turn [] (merged logs)) refl (sym h); spot_is = sym h }
-told_out logs (Err e) h = tt
+-- the number of a record that is out of turn was drawn
+pub spot_found : {P : Type 0} → KeepsAll → (logs : List Log) (n : ℕ) (found : Option Spot) → found ≡ drawn_spot_of n logs → found ≡ None → out_of_turn [] (merged logs) ≡ Some n → P
+spot_found keeps logs n found is none out = absurd (is_found keeps logs n out (sym is ∙ none))

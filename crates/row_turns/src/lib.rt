@@ -6,7 +6,7 @@ mod logs;
 mod settling;
 mod turns;
 
-pub use logs::find_turn_spot;
+pub use logs::turn_spot;
 pub use turns::find_out_of_turn;
 
 #[cfg(test)]

@@ -5,6 +5,7 @@ use super::*;
 use disk_spots::Spot;
 use ds_base::{Lrsn, MemberId, Place, Sequence, TableId};
 use ds_model::{Body, LogRecord, RowChange, Version};
+use log_merge::merge;
 use log_record::{Log, is_allowed};
 use std::test::Fail;
 
@@ -53,15 +54,14 @@ fn a_row_waits_for_the_commit(rt: HostRuntime) -> Result<(), Fail> {
     let first = vec![in alloc; change(1, 1, 10)?, record(3, 1, Body::Commit)?]?;
     let second = vec![in alloc; change(2, 2, 11)?, change(4, 2, 10)?]?;
     let in_turn = [log(1, first)?, log(2, second)?];
-    assert_eq!(rt; find_turn_spot(alloc, &in_turn)?, None);
+    let merged = merge(alloc, &in_turn)?;
+    assert_eq!(rt; find_out_of_turn(alloc, merged.records())?, None);
     let first = vec![in alloc; change(1, 1, 10)?, change(3, 1, 11)?]?;
     let second = vec![in alloc; change(2, 2, 12)?, change(4, 2, 10)?, change(5, 2, 11)?]?;
     let out = [log(1, first)?, log(2, second)?];
+    let merged = merge(alloc, &out)?;
+    let number = find_out_of_turn(alloc, merged.records())?.ok_or("a record")?;
     let member = MemberId::new(2).ok_or("a member")?;
-    assert_eq!(rt;
-        find_turn_spot(alloc, &out)?,
-        Some(Spot::Log { member, at: 49 })
-    );
-    assert_eq!(rt; find_out_of_turn(alloc, out[1].records())?, None);
+    assert_eq!(rt; turn_spot(&out, number)?, Spot::Log { member, at: 49 });
     Ok(())
 }

@@ -63,3 +63,8 @@ then_read start now end f0 f1 f2 P Q R (Err e) told same le k f = record {
   same = same_on start now end same k.same;
   later = (let later = k.later in omega (arith, le, later));
 }
+
+-- what follows from a reading
+pub reads_as : {U : Type 0} (start end : Option Contents) (f0 f1 : ℕ) (P Q : U → Contents → Type 0) (result : Result U DiskError) → Reads start end f0 f1 P result → ((c : Contents) (u : U) → P u c → Q u c) → Reads start end f0 f1 Q result
+reads_as start end f0 f1 P Q (Ok u) k f = record { ok = told_by start (P u) (Q u) (λ c. f c u) k.ok; failed = k.failed; same = k.same; later = k.later }
+reads_as start end f0 f1 P Q (Err e) k f = record { ok = tt; failed = k.failed; same = k.same; later = k.later }

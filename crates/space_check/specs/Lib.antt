@@ -1,4 +1,5 @@
 pub mod Clauses
 pub mod Judging
 pub mod Verdicts
+pub mod Telling
 pub mod Laws

@@ -3,8 +3,9 @@
 
 mod check;
 mod laws;
+mod logs;
 mod pages;
-mod records;
+mod said;
 #[cfg(test)]
 mod tests;
 mod verdict;

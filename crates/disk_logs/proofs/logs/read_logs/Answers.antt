@@ -20,12 +20,12 @@ loop-index-preserved g c =
     let member = member_is c.new.result (c.loop-index.index + 1) c.in-Some.member c.new.ensures (cc) in
     let more =
     found_more (g.D.Disk.contents start) (g.D.Disk.contents c.loop-index.disk) _ _ _ _ c.loop-index.index c.in-Some.member c.loop-index.logs _ c.in-Whole.log c.look.result
-    (g.D.Disk.has_logs start) (omega arith) member held.told held.same held.later c.look.ensures.reads (cc) c.in_ok-add-in-Whole.ensures.ok
+    (g.D.Disk.has_logs start) (omega arith) member held.told held.same held.later c.look.ensures.reads (cc) c.in_ok-push-in-Whole.ensures.ok
     in
     record {
       told = more.0;
-      some = more_some c.loop-index.index c.in-Some.member c.loop-index.logs _ c.in-Whole.log c.look.result held.some held.count member c.look.ensures.some (cc) c.in_ok-add-in-Whole.ensures.ok;
-      count = count_more c.loop-index.index c.loop-index.logs _ c.in-Whole.log held.count c.in_ok-add-in-Whole.ensures.ok;
+      some = more_some c.loop-index.index c.in-Some.member c.loop-index.logs _ c.in-Whole.log c.look.result held.some held.count member c.look.ensures.some (cc) c.in_ok-push-in-Whole.ensures.ok;
+      count = count_more c.loop-index.index c.loop-index.logs _ c.in-Whole.log held.count c.in_ok-push-in-Whole.ensures.ok;
       same = more.1;
       later = more.2;
     }

@@ -1,12 +1,11 @@
 use Rattle.ds_disk.specs.Contents.{Contents}
-use Rattle.ds_disk.specs.Pages.{page_at}
 use Rattle.disk_logs.specs.declared.logs.Found.TheVariants as found
 use Rattle.disk_logs.specs.Looking.{AreFound}
+use Rattle.sound_disk.specs.Whole_logs.{AreWholeLogs}
 use Rattle.space_check.specs.declared.verdict.Verdict.{Verdict}
-use Rattle.space_check.specs.Judging.{IsJudged}
 use Rattle.space_check.specs.Verdicts.{IsTold}
 use Rattle.space_check.proofs.Reading.{one_read, then_read}
-use Rattle.space_check.proofs.Steps.{logs_at, some_at, told_of, broken_of}
+use Rattle.space_check.proofs.Steps.{logs_at, some_at, broken_of}
 use Rattle.space_check.proofs.check.check_behind.Goals as goal
 
 pub check_logs-requires : goal.check_logs-requires
@@ -15,9 +14,9 @@ check_logs-requires g c = some_at c.in_ok-found.found (found.Whole c.in-Whole.lo
 pub returns-in-Whole : goal.returns-in-Whole
 returns-in-Whole g c =
     let read = c.in_ok-found.ensures.reads in
-    then_read _ _ _ _ _ _ (λ (d : Contents). AreFound d.logs c.in_ok-found.found) (λ (v : Verdict) (d : Contents). IsJudged (page_at d.pages) c.in-Whole.logs c.args.behind v) (λ (v : Verdict) (d : Contents). IsTold d c.args.behind v)
+    then_read _ _ _ _ _ _ (λ (d : Contents). AreFound d.logs c.in_ok-found.found) (λ (v : Verdict) (d : Contents). AreWholeLogs 1 d.logs c.in-Whole.logs → IsTold d c.args.behind v) (λ (v : Verdict) (d : Contents). IsTold d c.args.behind v)
     c.check_logs.result read.ok read.same read.later c.check_logs.ensures
-    (λ (d : Contents) (v : Verdict) are judged. told_of d c.in-Whole.logs c.args.behind v (logs_at d.logs c.in_ok-found.found (found.Whole c.in-Whole.logs) c.in-Whole.is are) judged)
+    (λ (d : Contents) (v : Verdict) are told. told (logs_at d.logs c.in_ok-found.found (found.Whole c.in-Whole.logs) c.in-Whole.is are))
 
 pub returns-in-Broken : goal.returns-in-Broken
 returns-in-Broken g c =
