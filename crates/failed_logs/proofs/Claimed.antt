@@ -32,8 +32,8 @@ fails_claimed hands locked old new at counter m n w log pend t f is_up counted l
     over : RowsClaimed old new w m
     over = hands old new at counter m n w t f is_up counted
 
-    has : (t : OpenTran) → HasAllLocked m.holds.marks t → HasRows over.moves.world m.id t
-    has t h spot touched = over.rows t.id spot h.named (h.rows spot touched)
+    has : (x : OpenTran) → HasAllLocked m.holds.marks x → HasRows over.moves.world m.id x
+    has x h spot touched = over.rows x.id spot h.named (h.rows spot touched)
 
     claimed : (k : ℕ) → LogClaimed (log ++ take k m.holds.marks.log.pending) over.moves.world m.id
     claimed k records last = each (HasAllLocked m.holds.marks) (HasRows over.moves.world m.id) has (open_trans records)
@@ -46,7 +46,7 @@ fails_unread keeps old new at m n w bytes t f not_up claimed = record { moves = 
     kept = keeps old new at m n w t f not_up
 
     still : LogClaimed bytes kept.claimed.moves.world m.id
-    still records last = each (HasRows w m.id) (HasRows kept.claimed.moves.world m.id) (λ t h spot touched. kept.kept (rollback_owner t.id) spot (h spot touched)) (open_trans records) (claimed records last)
+    still records last = each (HasRows w m.id) (HasRows kept.claimed.moves.world m.id) (λ x h spot touched. kept.kept (rollback_owner x.id) spot (h spot touched)) (open_trans records) (claimed records last)
 
 -- ---- other moves
 same_row : (w v : World) (m owner : ℕ) (spot : Spot) → ((o c : ℕ) → v.claims m o c ≡ w.claims m o c) → HasRow w m owner spot → HasRow v m owner spot
@@ -57,4 +57,4 @@ same_row w v m owner spot same h = (
 
 pub moves_leave : MovesSpare → MovesLeaveClaimed
 moves_leave law by old new w m bytes moves spares claimed records last =
-    each (HasRows w m) (HasRows moves.world m) (λ t h spot touched. same_row w moves.world m (rollback_owner t.id) spot (λ o c. law by old new w moves m o c spares) (h spot touched)) (open_trans records) (claimed records last)
+    each (HasRows w m) (HasRows moves.world m) (λ x h spot touched. same_row w moves.world m (rollback_owner x.id) spot (λ o c. law by old new w moves m o c spares) (h spot touched)) (open_trans records) (claimed records last)

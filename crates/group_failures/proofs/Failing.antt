@@ -37,6 +37,11 @@ pub record FailFacts : Type 0 where
   pub fails : FailuresGo
   pub go : MemberFailsMoves
 
+-- moves lead to this world
+pub record GoesTo (old new : CrewState) (w : World) (m : Member) (v : World) : Type 0 where
+  pub moves : Moves (OfMember m.id) old new w
+  pub there : moves.world ≡ v
+
 module _ (facts : FailFacts) (old new : CrewState) (at : ℕ) (m n : Member) (w : World) (t : LocksTied old w) (f : FailsAt old new at m n) where
   pub stood : MemberStands old.facility (at + 1) m
   stood = subst (λ (z : Option Member). IfSome z (MemberStands old.facility (at + 1))) f.had (t.stands at)
@@ -98,26 +103,29 @@ module _ (facts : FailFacts) (old new : CrewState) (at : ℕ) (m n : Member) (w 
       sym (tied.live m.id from_one (omega (arith, few, before, count, after))) ∙ dead
 
   -- ---- further moves of it, which change its claims alone
-  pub go_on : (v : World) (moves : List Move) → AreOf m.id moves → Run (entry_in old.facility.locks) (failed w m.id) moves v → OnlyClaims (failed w m.id) v m.id → Moves (OfMember m.id) old new w
+  pub go_on : (v : World) (moves : List Move) → AreOf m.id moves → Run (entry_in old.facility.locks) (failed w m.id) moves v → OnlyClaims (failed w m.id) v m.id → GoesTo old new w m v
   go_on v moves own_moves run only = record {
-    entries = moved.same;
-    moves = Fail m.id ∷ moves;
-    are = (refl, own_moves);
-    world = v;
-    run = whole;
-    tied = record {
-      sound = subst (λ (z : ℕ). Sound (λ c. entry_number (name_at c) z) v) (sym moved.same) (facts.run (entry_in old.facility.locks) (Fail m.id ∷ moves) w v t.sound whole);
-      tied = still_tied (failed w m.id) v new.facility.locks new.facility.lists (known new.members) m.id tied only dead down;
-      count = stands.tied.count;
-      few = stands.tied.few;
-      agents = stands.tied.agents;
-      entries = stands.tied.entries;
-      stands = stands.tied.stands;
+    moves = record {
+      entries = moved.same;
+      moves = Fail m.id ∷ moves;
+      are = (refl, own_moves);
+      world = v;
+      run = whole;
+      tied = record {
+        sound = subst (λ (z : ℕ). Sound (λ c. entry_number (name_at c) z) v) (sym moved.same) (facts.run (entry_in old.facility.locks) (Fail m.id ∷ moves) w v t.sound whole);
+        tied = still_tied (failed w m.id) v new.facility.locks new.facility.lists (known new.members) m.id tied only dead down;
+        count = stands.tied.count;
+        few = stands.tied.few;
+        agents = stands.tied.agents;
+        entries = stands.tied.entries;
+        stands = stands.tied.stands;
+      };
     };
+    there = refl;
   }
     where
       whole : Run (entry_in old.facility.locks) w (Fail m.id ∷ moves) v
-      whole = (failed w m.id, (refl, run))
+      whole = (failed w m.id, refl, run)
 
 -- ---- a member that was up
 pub record Facts : Type 0 where
@@ -129,8 +137,8 @@ pub record Facts : Type 0 where
 
 pub up_hands_over : Facts → UpHandsOver
 up_hands_over facts old new at counter m n w t f is_up counted = record {
-  moves = go_on base old new at m n w t f handed.world handed.moves by_it handed.run only;
-  rows = λ id spot some l. subst (λ (k : ℕ). HoldsRow handed.world k (rollback_owner id) spot) same (handed.rows id spot some l);
+  moves = goes.moves;
+  rows = λ id spot some l. subst (λ (z : World). HoldsRow z m.id (rollback_owner id) spot) (sym goes.there) (subst (λ (k : ℕ). HoldsRow handed.world k (rollback_owner id) spot) same (handed.rows id spot some l));
 }
   where
     base : FailFacts
@@ -170,3 +178,6 @@ up_hands_over facts old new at counter m n w t f is_up counted = record {
 
     only : OnlyClaims (failed w m.id) handed.world m.id
     only = subst (λ (k : ℕ). OnlyClaims (failed w m.id) handed.world k) same (record { same = handed.same; others = handed.others; free = handed.free })
+
+    goes : GoesTo old new w m handed.world
+    goes = go_on base old new at m n w t f handed.world handed.moves by_it handed.run only

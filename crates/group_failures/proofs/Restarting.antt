@@ -28,7 +28,8 @@ use Rattle.failed_claims.specs.Failing.{HoldsRow, RowsOutlive}
 use Rattle.group_locks.specs.Stands.{LocksTied, MemberStands, known}
 use Rattle.group_locks.specs.Whole.{FailsAt, MemberFailsMoves}
 use Rattle.group_failures.specs.Failures.{ClaimsKept, DownHandsOver}
-use Rattle.group_failures.proofs.Failing.{FailFacts, go_on, is_member, knew, most, stood}
+use Rattle.group_failures.proofs.Tied.{OnlyClaims}
+use Rattle.group_failures.proofs.Failing.{FailFacts, GoesTo, go_on, is_member, knew, most, stood}
 
 free_slot : (x : Stage) → is_free x ≡ true → has_tran x ≡ true → ⊥
 free_slot stage.Free e h = cc
@@ -49,14 +50,23 @@ nothing x mode e c = subst (λ (z : Option Mode). Covers z mode) e c
 pub down_hands_over : RunKeepsSound → FailuresGo → MemberFailsMoves → RowsOutlive → DownHandsOver
 down_hands_over run fails go outlive old new at m n w t f not_up = record {
   claimed = record {
-    moves = go_on base old new at m n w t f (failed w m.id) [] tt refl (record { same = refl; others = λ k o c ne. refl; free = λ o c some none. none o some });
-    rows = λ id spot some l. outlive w m.id (rollback_owner id) spot (by_status (status_of old.facility.lists.statuses m.id) refl not_up id spot l);
+    moves = goes.moves;
+    rows = λ id spot some l. there_too (rollback_owner id) spot (by_status (status_of old.facility.lists.statuses m.id) refl not_up id spot l);
   };
-  kept = λ owner spot h. outlive w m.id owner spot h;
+  kept = λ owner spot h. there_too owner spot h;
 }
   where
     base : FailFacts
     base = record { run = run; fails = fails; go = go }
+
+    only : OnlyClaims (failed w m.id) (failed w m.id) m.id
+    only = record { same = refl; others = λ k o c ne. refl; free = λ o c some none. none o some }
+
+    goes : GoesTo old new w m (failed w m.id)
+    goes = go_on base old new at m n w t f (failed w m.id) [] tt refl only
+
+    there_too : (owner : ℕ) (spot : Spot) → HoldsRow w m.id owner spot → HoldsRow goes.moves.world m.id owner spot
+    there_too owner spot h = subst (λ (z : World). HoldsRow z m.id owner spot) (sym goes.there) (outlive w m.id owner spot h)
 
     stood_so : MemberStands old.facility (at + 1) m
     stood_so = stood base old new at m n w t f
@@ -67,7 +77,7 @@ down_hands_over run fails go outlive old new at m n w t f not_up = record {
     -- one that is down knows of no claims
     of_none : (x : MemberStatus) → status_of old.facility.lists.statuses m.id ≡ x → is_live x ≡ false → (id : ℕ) (spot : Spot) → HasLocked m.holds.marks id spot → HoldsRow w m.id (rollback_owner id) spot
     of_none x e dead id spot l = absurd (nothing (claim_in m.holds.marks.locks (number_of l.by) (row_of spot)) X
-        ((stood_so.down (ap is_live (there x e) ∙ dead)).1.0 (number_of l.by) (row_of spot)) l.row)
+        ((stood_so.down (ap is_live (there x e) ∙ dead)).1 (number_of l.by) (row_of spot)) l.row)
 
     -- of one that restarts no slot has a transaction
     of_rollbacks : status_of old.facility.lists.statuses m.id ≡ Restarting → (id : ℕ) (spot : Spot) (o : Owner) → IsTaken m.holds.marks o → name_of m.holds.marks o ≡ id

@@ -37,7 +37,7 @@ each P Q go [] h = tt
 each P Q go (x ∷ xs) h = (go x h.0, each P Q go xs h.1)
 
 pub left_is_locked : LastAreBehind → OpenTell → RowsOpen → LeftIsLocked
-left_is_locked behind opens open log pend s n start records l last = each (IsOpenIn records) (HasAllLocked s) locked (open_trans records) (opens records)
+left_is_locked behind opens tell log pend s n start records l last = each (IsOpenIn records) (HasAllLocked s) locked (open_trans records) (opens records)
   where
     are : AreBehind log pend n start records
     are = behind log pend n start records l.whole l.allowed (none_names pend l.plain) (subst (λ (z : List ℕ). AreLastFrom (log ++ take n z) start records) l.spelled last)
@@ -48,26 +48,26 @@ left_is_locked behind opens open log pend s n start records l last = each (IsOpe
     locked : (t : OpenTran) → IsOpenIn records t → HasAllLocked s t
     locked t is = record {
       named = is.numbered;
-      rows = λ spot touched. open are.back are.front are.rest s t rows (subst (λ (z : List LogRecord). IsOpenIn z t) are.are is) spot touched;
+      rows = λ spot touched. tell are.back are.front are.rest s t rows (subst (λ (z : List LogRecord). IsOpenIn z t) are.are is) spot touched;
     }
 
 -- ---- where it begins, and local moves
 pub locked_begins : RowsBegin → AllAreLast → LockedBegins
-locked_begins begin all log member sizes h whole book fresh closed = record {
+locked_begins starts last_all log member sizes h whole book fresh closed = record {
   whole = whole;
-  spelled = (at 0 whole.records (all log whole)).closes.spelled;
+  spelled = (at 0 whole.records (last_all log whole)).closes.spelled;
   allowed = tt;
   plain = tt;
   locked = at;
 }
   where
     at : (start : ℕ) (back : List LogRecord) → AreLastFrom log start back → RowsLocked back [] h.marks
-    at start back last = begin back member sizes h (closed start back last) book fresh
+    at start back last = starts back member sizes h (closed start back last) book fresh
 
 pub locked_reaches : RowsReach → AllAreLast → LockedReaches
-locked_reaches reach all log pend s t moves l = record {
+locked_reaches reach last_all log pend s t moves l = record {
   whole = l.whole;
-  spelled = (at 0 l.whole.records (all log l.whole)).closes.spelled;
+  spelled = (at 0 l.whole.records (last_all log l.whole)).closes.spelled;
   allowed = l.allowed;
   plain = l.plain;
   locked = at;

@@ -3,8 +3,9 @@ use Rattle.std.proofs.Common.{◌≡◌, ℕ, zero, suc, ◌+◌, ◌-◌, ◌<�
 use Rattle.std.specs.Prelude.{◌⊎◌}
 use Rattle.std.specs.List.{AllByRecursion, flat_map}
 use Rattle.std.proofs.lemmas.Bool.{cases_lt}
-use Rattle.std.proofs.lemmas.List.{append-nil, append_cancel_left, take-append-le, take_all, take_at}
+use Rattle.std.proofs.lemmas.List.{append_cancel_left, drop_at, take-append-le, take_all, take_at}
 use Rattle.std.proofs.lemmas.List.Concat.{flat_map-append}
+use Rattle.std.proofs.Math.Seq.{take-add}
 use Rattle.ds_model.specs.Logs.{IsTorn}
 use Rattle.ds_model.specs.RecordBytes.{IsAllowed, log_bytes, record_bytes}
 use Rattle.ds_model.specs.declared.log.LogRecord.{LogRecord}
@@ -48,7 +49,7 @@ whole_again log new whole allowed = record {
 -- ---- what stops inside
 torn_short : FrontIsCut → NothingIsShort → (t : List ℕ) → IsTorn t → record_in t ≡ Err NotWhole
 torn_short cut none t (inl e) = ap record_in e ∙ none
-torn_short cut none t (inr (r, (allowed, (n, (less, e))))) = ap record_in e ∙ cut r n allowed less
+torn_short cut none t (inr (r, allowed, n, less, e)) = ap record_in e ∙ cut r n allowed less
 
 -- the first records of a front of spelled records, and what is left of one more
 pub record Front (new : List LogRecord) (n : ℕ) : Type 0 where
@@ -75,8 +76,7 @@ more_front r new n k at f = record {
 }
   where
     take_past : (a b : List ℕ) (k : ℕ) → take (length a + k) (a ++ b) ≡ a ++ take k b
-    take_past [] b k = refl
-    take_past (x ∷ a) b k = ap (λ (z : List ℕ). x ∷ z) (take_past a b k)
+    take_past a b k = take-add (length a) k (a ++ b) ∙ ap (λ (z : List ℕ). z ++ take k (drop (length a) (a ++ b))) (take_at a b (length a) refl) ∙ ap (λ (z : List ℕ). a ++ take k z) (drop_at a b (length a) refl)
 
 pub front_of : (new : List LogRecord) (n : ℕ) → AllByRecursion IsAllowed new → Front new n
 front_of [] n allowed = record { front = []; rest = []; tail = []; split = refl; bytes = take_all n [] (omega arith); torn = inl refl; all = λ _. refl }
@@ -87,15 +87,15 @@ front_of (r ∷ new) n allowed = elim (cases_lt n (length (record_bytes r))) [
     tail = take n (record_bytes r);
     split = refl;
     bytes = take-append-le n (record_bytes r) (log_bytes new) (omega (arith, less));
-    torn = inr (r, (allowed.0, (n, (less, refl))));
+    torn = inr (r, allowed.0, n, less, refl);
     all = λ le. absurd (let long = length-append (record_bytes r) (log_bytes new) in omega (arith, le, long, less));
   }
   | inr more ↦ more_front r new n (n - length (record_bytes r)) (omega (arith, more)) (front_of new (n - length (record_bytes r)) allowed.1)
 ]
 
 -- ---- one spelling behind another
-same_first : (r q : LogRecord) (n m : ℕ) → Ok (r, n) ≡ Ok (q, m) → r ≡ q
-same_first r q n m e = cc
+same_first : (x : Result (LogRecord × ℕ) RecordFault) (r q : LogRecord) (n m : ℕ) → x ≡ Ok (r, n) → x ≡ Ok (q, m) → r ≡ q
+same_first x r q n m e f = cc
 
 never_both : (x : LogRecord × ℕ) → Ok x ≡ Err NotWhole → ⊥
 never_both x e = cc
@@ -117,8 +117,8 @@ module _ (again : ReadAgain) (cut : FrontIsCut) (none : NothingIsShort) where
   split_off (r ∷ first) (q ∷ records) tail left a b torn e =
       let e2 : record_bytes q ++ (log_bytes records ++ tail) ≡ record_bytes r ++ (log_bytes first ++ left) =
       sym (append_assoc (record_bytes q) (log_bytes records) tail) ∙ e ∙ append_assoc (record_bytes r) (log_bytes first) left in
-      let same : q ≡ r = same_first q r (length (record_bytes q)) (length (record_bytes r))
-      (sym (again q (log_bytes records ++ tail) b.0) ∙ ap record_in e2 ∙ again r (log_bytes first ++ left) a.0) in
+      let same : q ≡ r = same_first (record_in (record_bytes q ++ (log_bytes records ++ tail))) q r (length (record_bytes q)) (length (record_bytes r))
+      (again q (log_bytes records ++ tail) b.0) (ap record_in e2 ∙ again r (log_bytes first ++ left) a.0) in
       let e3 : record_bytes r ++ (log_bytes records ++ tail) ≡ record_bytes r ++ (log_bytes first ++ left) =
       ap (λ (z : LogRecord). record_bytes z ++ (log_bytes records ++ tail)) (sym same) ∙ e2 in
       next same (split_off first records tail left a.1 b.1 torn (append_cancel_left (record_bytes r) (log_bytes records ++ tail) (log_bytes first ++ left) e3))
@@ -133,18 +133,12 @@ module _ (again : ReadAgain) (cut : FrontIsCut) (none : NothingIsShort) where
   -- spelled records, and a torn one, begin with a record only if there is one, and then with that
   pub begins_with : (records : List LogRecord) (tail : List ℕ) (made : LogRecord) (size : ℕ)
       → AllByRecursion IsAllowed records → IsTorn tail → record_in (log_bytes records ++ tail) ≡ Ok (made, size)
-      → (more : List LogRecord) × (records ≡ made ∷ more) × (size ≡ length (record_bytes made))
+      → (more : List LogRecord) × (records ≡ made ∷ more)
   begins_with [] tail made size a torn e = absurd (never_both (made, size) (sym e ∙ torn_short cut none tail torn))
   begins_with (r ∷ records) tail made size a torn e =
       let here : record_in (record_bytes r ++ log_bytes records ++ tail) ≡ Ok (r, length (record_bytes r)) =
       ap record_in (append_assoc (record_bytes r) (log_bytes records) tail) ∙ again r (log_bytes records ++ tail) a.0 in
-      both (sym here ∙ e)
-    where
-      both : Ok (r, length (record_bytes r)) ≡ Ok (made, size) → (more : List LogRecord) × (r ∷ records ≡ made ∷ more) × (size ≡ length (record_bytes made))
-      both q =
-          let same : r ≡ made = cc in
-          let long : length (record_bytes r) ≡ size = cc in
-          (records, (ap (λ (z : LogRecord). z ∷ records) same, sym long ∙ ap (λ (z : LogRecord). length (record_bytes z)) same))
+      (records, ap (λ (z : LogRecord). z ∷ records) (same_first (record_in (record_bytes r ++ log_bytes records ++ tail)) r made (length (record_bytes r)) size here e))
 
   -- no record is without bytes
   pub some_bytes : (r : LogRecord) (records : List LogRecord) → IsAllowed r → log_bytes (r ∷ records) ≡ [] → ⊥
