@@ -16,7 +16,7 @@ use Rattle.lock_world.specs.Views.{rollback_owner}
 use Rattle.log_appends.specs.Appends.{AreLastFrom}
 use Rattle.left_open.specs.Logs.{HasAllLocked, LeftIsLocked, LogLocked}
 use Rattle.group_locks.specs.Events.{MovesSpare}
-use Rattle.group_failures.specs.Failures.{ClaimsKept, DownHandsOver, RowsClaimed, UpHandsOver}
+use Rattle.failed_logs.specs.Failures.{ClaimsKept, DownHandsOver, RowsClaimed, UpHandsOver}
 use Rattle.failed_logs.specs.Logs.{FailsClaimed, FailsUnread, LogClaimed, MovesLeaveClaimed}
 
 each : {A : Type 0} → (P Q : A → Type 0) → ((x : A) → P x → Q x) → (xs : List A) → AllByRecursion P xs → AllByRecursion Q xs

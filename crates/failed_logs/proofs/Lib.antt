@@ -1,1 +1,4 @@
+pub mod Tied
+pub mod Failing
+pub mod Restarting
 pub mod Claimed

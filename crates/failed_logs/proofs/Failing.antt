@@ -28,8 +28,8 @@ use Rattle.failed_claims.specs.Failing.{FailureLeaves, HandedOver, HandsOver, Ho
 use Rattle.group_locks.specs.Events.{Moves, OfMember}
 use Rattle.group_locks.specs.Stands.{LocksTied, MemberStands, known, known_by}
 use Rattle.group_locks.specs.Whole.{FailsAt, MemberFailsMoves}
-use Rattle.group_failures.specs.Failures.{RowsClaimed, UpHandsOver}
-use Rattle.group_failures.proofs.Tied.{OnlyClaims, still_tied}
+use Rattle.failed_logs.specs.Failures.{RowsClaimed, UpHandsOver}
+use Rattle.failed_logs.proofs.Tied.{OnlyClaims, still_tied}
 
 -- ---- the failure as a move
 pub record FailFacts : Type 0 where

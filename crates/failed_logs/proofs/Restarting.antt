@@ -27,9 +27,9 @@ use Rattle.strict_locking.specs.Rows.{HasLocked, IsTaken, name_of, number_of}
 use Rattle.failed_claims.specs.Failing.{HoldsRow, RowsOutlive}
 use Rattle.group_locks.specs.Stands.{LocksTied, MemberStands, known}
 use Rattle.group_locks.specs.Whole.{FailsAt, MemberFailsMoves}
-use Rattle.group_failures.specs.Failures.{ClaimsKept, DownHandsOver}
-use Rattle.group_failures.proofs.Tied.{OnlyClaims}
-use Rattle.group_failures.proofs.Failing.{FailFacts, GoesTo, go_on, is_member, knew, most, stood}
+use Rattle.failed_logs.specs.Failures.{ClaimsKept, DownHandsOver}
+use Rattle.failed_logs.proofs.Tied.{OnlyClaims}
+use Rattle.failed_logs.proofs.Failing.{FailFacts, GoesTo, go_on, is_member, knew, most, stood}
 
 free_slot : (x : Stage) → is_free x ≡ true → has_tran x ≡ true → ⊥
 free_slot stage.Free e h = cc

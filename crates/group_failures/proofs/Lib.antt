@@ -1,3 +1,0 @@
-pub mod Tied
-pub mod Failing
-pub mod Restarting
