@@ -1,11 +1,10 @@
 -- The claims of what a log leaves open, behind a failure.
-use Rattle.std.proofs.Common.{◌≡◌, ℕ, refl, sym, ◌∙◌, ap, subst, Bool, true, List, [], ◌∷◌, ◌++◌, take, Option}
+use Rattle.std.proofs.Common.{◌≡◌, ℕ, sym, subst, List, [], ◌∷◌, ◌++◌, take, Option}
 use Rattle.std.specs.List.{AllByRecursion}
 use Rattle.ds_model.specs.Rows.{Spot}
 use Rattle.ds_model.specs.declared.log.LogRecord.{LogRecord}
 use Rattle.lock_names.specs.declared.mode.Mode.{Mode}
 use Rattle.lock_names.specs.declared.mode.Mode.TheVariants.{IX, X}
-use Rattle.log_rows.specs.Rows.{touches}
 use Rattle.log_trans.specs.Courses.{open_trans}
 use Rattle.log_trans.specs.declared.opened.OpenTran.{OpenTran}
 use Rattle.restart_law.specs.Reads.{AreLast}
@@ -14,7 +13,7 @@ use Rattle.lock_protocol.specs.Machine.{Covers, World}
 use Rattle.lock_world.specs.Rollbacks.{row_of, space_of}
 use Rattle.lock_world.specs.Views.{rollback_owner}
 use Rattle.log_appends.specs.Appends.{AreLastFrom}
-use Rattle.left_open.specs.Logs.{HasAllLocked, LeftIsLocked, LogLocked}
+use Rattle.left_open.specs.Logs.{HasAllLocked, LeftIsLocked}
 use Rattle.group_locks.specs.Events.{MovesSpare}
 use Rattle.failed_logs.specs.Failures.{ClaimsKept, DownHandsOver, RowsClaimed, UpHandsOver}
 use Rattle.failed_logs.specs.Logs.{FailsClaimed, FailsUnread, LogClaimed, MovesLeaveClaimed}

@@ -1,14 +1,11 @@
 -- A member of a group fails, and what it had locked is handed over.
 use Rattle.std.proofs.Common.{◌≡◌, ℕ, zero, suc, ◌+◌, ◌≤◌, ◌<◌, refl, sym, ◌∙◌, ap, subst, arith, Bool, true, false, List, [], ◌∷◌, length, Option, Some, None}
-use Rattle.std.specs.Prelude.{◌≢◌, ◌==◌, if◌then◌else◌, IfSome, slice_get}
+use Rattle.std.specs.Prelude.{◌≢◌, if◌then◌else◌, IfSome}
 use Rattle.std.proofs.lemmas.Bool.{eq-eqb}
 use Rattle.std.proofs.lemmas.Option.{slice_get_within}
 use Rattle.ds_base.specs.Ids.{IsMember}
-use Rattle.ds_model.specs.Rows.{Spot}
 use Rattle.lock_names.specs.Entries.{entry_number}
 use Rattle.lock_names.specs.declared.mode.Mode.{Mode}
-use Rattle.lock_structure.specs.Locks.{Locks}
-use Rattle.list_structure.specs.declared.standing.MemberStatus.TheVariants.{Up}
 use Rattle.list_structure.specs.Standings.{is_live, status_of}
 use Rattle.group_member.specs.declared.restarting.Restarting.{Restarting as RestartHeld}
 use Rattle.group_member.specs.Members.{Member}
@@ -19,16 +16,14 @@ use Rattle.lock_protocol.specs.Own.{AreOf}
 use Rattle.lock_protocol.specs.Sound.{RunKeepsSound, Sound}
 use Rattle.lock_world.specs.Numbers.{name_at}
 use Rattle.lock_world.specs.Tied.{Moved, Tied}
-use Rattle.lock_world.specs.Views.{claim_in, entry_in, is_live_in, rollback_owner}
+use Rattle.lock_world.specs.Views.{claim_in, entry_in, rollback_owner}
 use Rattle.lock_members.specs.Known.{LeadsTo, known_of, or_else, restart_claim}
 use Rattle.lock_members.specs.Members.{FailuresGo}
-use Rattle.log_numbers.specs.Numbers.{AreCounted}
-use Rattle.strict_locking.specs.Rows.{HasLocked}
 use Rattle.failed_claims.specs.Failing.{FailureLeaves, HandedOver, HandsOver, HoldsRow, IsLeft}
 use Rattle.group_locks.specs.Events.{Moves, OfMember}
 use Rattle.group_locks.specs.Stands.{LocksTied, MemberStands, known, known_by}
 use Rattle.group_locks.specs.Whole.{FailsAt, MemberFailsMoves}
-use Rattle.failed_logs.specs.Failures.{RowsClaimed, UpHandsOver}
+use Rattle.failed_logs.specs.Failures.{UpHandsOver}
 use Rattle.failed_logs.proofs.Tied.{OnlyClaims, still_tied}
 
 -- ---- the failure as a move

@@ -1,14 +1,12 @@
 -- A member of a group fails that wasn't up.
-use Rattle.std.proofs.Common.{◌≡◌, ℕ, ◌+◌, ◌≤◌, refl, sym, ◌∙◌, ap, subst, Bool, true, false, List, [], Option, Some, None}
-use Rattle.std.specs.Prelude.{◌≢◌, is_some}
+use Rattle.std.proofs.Common.{◌≡◌, ℕ, ◌+◌, refl, sym, ◌∙◌, ap, subst, true, false, [], Option, Some, None}
+use Rattle.std.specs.Prelude.{◌≢◌}
 use Rattle.ds_model.specs.Rows.{Spot}
 use Rattle.lock_names.specs.declared.mode.Mode.{Mode}
 use Rattle.lock_names.specs.declared.mode.Mode.TheVariants.{IX, X}
 use Rattle.list_structure.specs.declared.standing.MemberStatus.{MemberStatus}
 use Rattle.list_structure.specs.declared.standing.MemberStatus.TheVariants.{Down, Failed, Restarting, Up}
 use Rattle.list_structure.specs.Standings.{is_live, status_of}
-use Rattle.group_member.specs.Members.{Member}
-use Rattle.group_crew.specs.States.{CrewState}
 use Rattle.lock_protocol.specs.Machine.{Covers, Record, World, failed}
 use Rattle.lock_protocol.specs.Sound.{RunKeepsSound}
 use Rattle.lock_world.specs.Rollbacks.{row_of, space_of}
@@ -25,9 +23,9 @@ use Rattle.member_trans.specs.Trans.{is_free}
 use Rattle.member_marks.specs.State.{slot_tran}
 use Rattle.strict_locking.specs.Rows.{HasLocked, IsTaken, name_of, number_of}
 use Rattle.failed_claims.specs.Failing.{HoldsRow, RowsOutlive}
-use Rattle.group_locks.specs.Stands.{LocksTied, MemberStands, known}
-use Rattle.group_locks.specs.Whole.{FailsAt, MemberFailsMoves}
-use Rattle.failed_logs.specs.Failures.{ClaimsKept, DownHandsOver}
+use Rattle.group_locks.specs.Stands.{MemberStands}
+use Rattle.group_locks.specs.Whole.{MemberFailsMoves}
+use Rattle.failed_logs.specs.Failures.{DownHandsOver}
 use Rattle.failed_logs.proofs.Tied.{OnlyClaims}
 use Rattle.failed_logs.proofs.Failing.{FailFacts, GoesTo, go_on, is_member, knew, most, stood}
 

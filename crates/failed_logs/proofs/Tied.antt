@@ -1,9 +1,8 @@
 -- A world in which only claims of a member have changed that isn't live.
-use Rattle.std.proofs.Common.{◌≡◌, ℕ, ◌≤◌, refl, sym, ◌∙◌, ap, subst, Bool, true, false, inl, inr, List, length, Option, Some, None}
-use Rattle.std.specs.Prelude.{◌≢◌, ◌==◌}
+use Rattle.std.proofs.Common.{◌≡◌, ℕ, sym, ◌∙◌, ap, subst, true, false, inl, inr, Option, None}
+use Rattle.std.specs.Prelude.{◌≢◌}
 use Rattle.std.proofs.lemmas.Bool.{cases_eq}
 use Rattle.ds_base.specs.Ids.{IsMember}
-use Rattle.ds_model.specs.declared.lock.Name.{Name}
 use Rattle.lock_names.specs.declared.mode.Mode.{Mode}
 use Rattle.lock_structure.specs.Locks.{Locks}
 use Rattle.list_structure.specs.declared.standing.MemberStatus.{MemberStatus}

@@ -1,21 +1,17 @@
 -- What the last records of a log leave open, behind a failure.
-use Rattle.std.proofs.Common.{◌≡◌, ℕ, refl, sym, ◌∙◌, ap, subst, Bool, true, false, List, [], ◌∷◌, ◌++◌, take}
+use Rattle.std.proofs.Common.{◌≡◌, ℕ, refl, subst, false, List, [], ◌∷◌, ◌++◌, take}
 use Rattle.std.specs.List.{AllByRecursion}
-use Rattle.ds_model.specs.Rows.{Spot}
-use Rattle.ds_model.specs.RecordBytes.{IsAllowed, log_bytes}
 use Rattle.ds_model.specs.declared.log.Body.{Body}
 use Rattle.ds_model.specs.declared.log.Body.TheVariants as body
 use Rattle.ds_model.specs.declared.log.LogRecord.{LogRecord}
 use Rattle.log_reader.specs.Held.{names}
-use Rattle.log_reader.specs.Keeping.{AreWhole}
-use Rattle.log_rows.specs.Rows.{IsOpenIn, OpenTell, touches}
+use Rattle.log_rows.specs.Rows.{IsOpenIn, OpenTell}
 use Rattle.log_trans.specs.Courses.{open_trans}
 use Rattle.log_trans.specs.declared.opened.OpenTran.{OpenTran}
 use Rattle.log_appends.specs.Appends.{AllAreLast, AreBehind, AreLastFrom, LastAreBehind, NoneNames}
-use Rattle.member_marks.specs.State.{MarksState}
 use Rattle.closing_law.specs.Closing.{ArePlain, is_checkpoint}
 use Rattle.row_claims.specs.Rows.{RowsBegin, RowsLocked, RowsOpen, RowsReach}
-use Rattle.left_open.specs.Logs.{HasAllLocked, LeftIsLocked, LockedBegins, LockedReaches, LogLocked}
+use Rattle.left_open.specs.Logs.{HasAllLocked, LeftIsLocked, LockedBegins, LockedReaches}
 
 -- ---- records that are no Checkpoint name no place
 plain_body : (place : ℕ) (b : Body) → is_checkpoint b ≡ false → names place b ≡ false

@@ -1,10 +1,10 @@
 -- The last records of what an append has left.
-use Rattle.std.proofs.Common.{◌≡◌, ℕ, zero, suc, ◌+◌, ◌-◌, ◌<◌, ◌≤◌, refl, sym, ◌∙◌, ap, subst, arith, Bool, true, false, inl, inr, List, [], ◌∷◌, ◌++◌, append_assoc, length, take, drop, Result, Ok, Err, length-append}
-use Rattle.std.specs.Prelude.{◌≢◌, ◌⊎◌}
+use Rattle.std.proofs.Common.{◌≡◌, ℕ, ◌+◌, ◌-◌, ◌<◌, ◌≤◌, refl, sym, ◌∙◌, ap, subst, arith, Bool, true, false, inl, inr, List, [], ◌∷◌, ◌++◌, append_assoc, length, take, drop, Result, Ok, Err}
+use Rattle.std.specs.Prelude.{◌⊎◌}
 use Rattle.std.specs.List.{AllByRecursion}
 use Rattle.std.proofs.lemmas.Bool.{cases_lt}
-use Rattle.std.proofs.lemmas.List.{append-nil, append_cancel_right, drop_all, drop_at, length-take-le, take-append-drop, take_all, take_at}
-use Rattle.ds_model.specs.Logs.{IsLog, IsTorn}
+use Rattle.std.proofs.lemmas.List.{append-nil, drop_all, drop_at, length-take-le, take-append-drop, take_at}
+use Rattle.ds_model.specs.Logs.{IsLog}
 use Rattle.ds_model.specs.RecordBytes.{IsAllowed, log_bytes, record_bytes}
 use Rattle.ds_model.specs.declared.log.LogRecord.{LogRecord}
 use Rattle.log_record.specs.Logs.{Parts, parts_in}
