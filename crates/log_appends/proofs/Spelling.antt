@@ -1,5 +1,6 @@
 -- The spelling of records, one list behind the other.
 use Rattle.std.proofs.Common.{◌≡◌, ℕ, ◌+◌, ◌-◌, ◌<◌, ◌≤◌, refl, sym, ◌∙◌, ap, arith, inl, inr, List, [], ◌∷◌, ◌++◌, append_assoc, length, take, drop, Result, Ok, Err, length-append}
+use Rattle.std.specs.Prelude.{◌⊎◌}
 use Rattle.std.specs.List.{AllByRecursion}
 use Rattle.std.proofs.lemmas.Bool.{cases_lt}
 use Rattle.std.proofs.lemmas.List.{append_cancel_left, drop_at, take-append-le, take_all, take_at}
@@ -76,20 +77,22 @@ more_front r new n k at f = record {
     take_past : (a b : List ℕ) (k : ℕ) → take (length a + k) (a ++ b) ≡ a ++ take k b
     take_past a b k = take-add (length a) k (a ++ b) ∙ ap (λ (z : List ℕ). z ++ take k (drop (length a) (a ++ b))) (take_at a b (length a) refl) ∙ ap (λ (z : List ℕ). a ++ take k z) (drop_at a b (length a) refl)
 
+-- the first record isn't whole, or it is
+one_front : (r : LogRecord) (new : List LogRecord) (n : ℕ) → IsAllowed r → Front new (n - length (record_bytes r)) → (n < length (record_bytes r)) ⊎ (length (record_bytes r) ≤ n) → Front (r ∷ new) n
+one_front r new n allowed f (inl less) = record {
+  front = [];
+  rest = r ∷ new;
+  tail = take n (record_bytes r);
+  split = refl;
+  bytes = take-append-le n (record_bytes r) (log_bytes new) (omega (arith, less));
+  torn = inr (r, allowed, n, less, refl);
+  all = λ le. absurd (let long = length-append (record_bytes r) (log_bytes new) in omega (arith, le, long, less));
+}
+one_front r new n allowed f (inr more) = more_front r new n (n - length (record_bytes r)) (omega (arith, more)) f
+
 pub front_of : (new : List LogRecord) (n : ℕ) → AllByRecursion IsAllowed new → Front new n
 front_of [] n allowed = record { front = []; rest = []; tail = []; split = refl; bytes = take_all n [] (omega arith); torn = inl refl; all = λ _. refl }
-front_of (r ∷ new) n allowed = elim (cases_lt n (length (record_bytes r))) [
-  | inl less ↦ record {
-    front = [];
-    rest = r ∷ new;
-    tail = take n (record_bytes r);
-    split = refl;
-    bytes = take-append-le n (record_bytes r) (log_bytes new) (omega (arith, less));
-    torn = inr (r, allowed.0, n, less, refl);
-    all = λ le. absurd (let long = length-append (record_bytes r) (log_bytes new) in omega (arith, le, long, less));
-  }
-  | inr more ↦ more_front r new n (n - length (record_bytes r)) (omega (arith, more)) (front_of new (n - length (record_bytes r)) allowed.1)
-]
+front_of (r ∷ new) n allowed = one_front r new n allowed.0 (front_of new (n - length (record_bytes r)) allowed.1) (cases_lt n (length (record_bytes r)))
 
 -- ---- one spelling behind another
 same_first : (x : Result (LogRecord × ℕ) RecordFault) (r q : LogRecord) (n m : ℕ) → x ≡ Ok (r, n) → x ≡ Ok (q, m) → r ≡ q
