@@ -77,9 +77,6 @@ stays_registered s at b = stays_if s _ _ (is_placed s.heads at) (stays_heads s (
 pub stays_filled : (s : MarksState) (at : ℕ) (b : Bool) → Stays s (after_filled s at b)
 stays_filled s at b = stays_if s _ _ (is_placed s.heads at) (stays_heads s (with_filled s.heads at b)) (stays_itself s)
 
-stays_marked : (s : MarksState) (at : ℕ) (rank : Rank) → Stays s (after_marked s at rank)
-stays_marked s at rank = stays_if s _ _ (is_placed s.heads at) (stays_same s _ refl refl) (stays_itself s)
-
 stays_valid : (s : MarksState) (slot place : ℕ) (full : Option (ℕ × ℕ)) → Stays s (valid_after s slot place full)
 stays_valid s slot place None = stays_itself s
 stays_valid s slot place (Some full) = stays_offered s (owner.Slot slot) (refusal.SpaceFull full.0 full.1) place
