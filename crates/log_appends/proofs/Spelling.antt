@@ -95,8 +95,12 @@ front_of [] n allowed = record { front = []; rest = []; tail = []; split = refl;
 front_of (r ∷ new) n allowed = one_front r new n allowed.0 (front_of new (n - length (record_bytes r)) allowed.1) (cases_lt n (length (record_bytes r)))
 
 -- ---- one spelling behind another
+abbrev first_in : LogRecord → Result (LogRecord × ℕ) RecordFault → LogRecord
+first_in other (Ok x) = x.0
+first_in other (Err fault) = other
+
 same_first : (x : Result (LogRecord × ℕ) RecordFault) (r q : LogRecord) (n m : ℕ) → x ≡ Ok (r, n) → x ≡ Ok (q, m) → r ≡ q
-same_first x r q n m e f = cc
+same_first x r q n m e f = ap (λ (z : Result (LogRecord × ℕ) RecordFault). first_in r z) (sym e ∙ f)
 
 never_both : (x : LogRecord × ℕ) → Ok x ≡ Err NotWhole → ⊥
 never_both x e = cc
