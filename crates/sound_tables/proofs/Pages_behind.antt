@@ -130,4 +130,3 @@ pub no_index : Known → (r : LogRecord) (c : RowChange) (n t m : ℕ) → r.bod
 no_index k r c n t m is change =
     ap (λ (b : Body). list_any (λ (p : Patch). same_page p.page (index_page t m)) (changes_of b)) is
     ∙ or_from (same_page (heap_page c.table c.place.page) (index_page t m)) false (k.indexes c.table t c.place.page m change.table_in.0) refl
-
