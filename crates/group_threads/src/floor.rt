@@ -310,13 +310,20 @@ impl Floor {
         }
     }
 
-    /// The member's thread leaves the round, where it has nothing to do and others haven't begun. Answers whether it does.
+    /// The member's thread leaves the round.
+    pub fn depart(&self, number: u64) {
+        if let Some(word) = self.word_of(number) {
+            word.store(LEFT, Ordering::SeqCst);
+        }
+    }
+
+    /// Whether the member's thread has left the round. It does where it has nothing to do and others haven't begun.
     pub fn leaves(&self, number: u64) -> bool {
         match self.word_of(number) {
             Some(word) => {
-                word.load(Ordering::SeqCst) == LISTENS
-                    && self.has_absent()
-                    && change(word, LISTENS, LEFT)
+                let state = word.load(Ordering::SeqCst);
+                state == LEFT
+                    || (state == LISTENS && self.has_absent() && change(word, LISTENS, LEFT))
             }
             None => false,
         }
@@ -361,17 +368,12 @@ impl Floor {
         }
     }
 
-    /// Passes it on to the next one behind this member that wants it. Answers whether the member has it no more.
-    pub fn offer(&self, number: u64) -> bool {
-        if !self.is_had_by(number) {
-            return true;
-        }
-        match self.next_behind(number, number, FRESH) {
-            Some(next) => {
+    /// Passes it on to the next one behind this member that wants it, if the member has it.
+    pub fn offer(&self, number: u64) {
+        if self.is_had_by(number) {
+            if let Some(next) = self.next_behind(number, number, FRESH) {
                 self.pass_to(next);
-                true
             }
-            None => false,
         }
     }
 }

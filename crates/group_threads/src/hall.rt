@@ -1,4 +1,9 @@
 //! Where the threads of a phase wait for each other's events.
+//!
+//! Each round ends. A thread that wants the floor has it in time, since none keeps it for long, and where one does it is taken. Whoever is
+//! the last to have nothing to do makes all look once more, or ends the round. As long as some haven't begun, or have left, nobody waits
+//! without wanting the floor but for one who was in when all had begun, and each leaves behind so many events: so the calling thread comes
+//! to those that haven't, and the round doesn't wait for those that have left.
 
 use crate::floor::{Floor, asleep, change, go, is_wish, stand_up};
 use crate::members::Members;
@@ -100,16 +105,21 @@ impl Hall {
         !self.is_over() && !self.floor.leaves(number)
     }
 
-    /// The member's thread has had events for a while: another one that wants the floor has it next. Where none does, and others haven't
-    /// begun, the thread is to leave the round.
+    /// The member's thread has had events for a while: another one that wants the floor has it next. Where others haven't begun, or can't
+    /// look any more, it leaves the round: members that ask each other may have events for ever until those come.
     pub fn offer(&self, number: u64) {
-        if !self.floor.offer(number) && self.floor.has_absent() {
-            self.floor.lay_down(number);
+        self.floor.offer(number);
+        if self.floor.has_absent() || self.floor.has_left() {
+            self.floor.depart(number);
         }
     }
 
-    /// Passes the floor on, if the member has it.
-    pub fn pass(&self, number: u64) {
+    /// The member's thread returns: the floor is passed on, if the member has it. Where no thread that is left has anything to do, the
+    /// round ends.
+    pub fn go_out(&self, number: u64) {
+        if self.floor.is_quiet() {
+            self.end_round();
+        }
         self.floor.pass(number);
     }
 

@@ -292,7 +292,7 @@ impl<D: Disk, C: CacheFace, P: Policy> Worker<Shared<D, C, P>> {
                 return;
             }
             if !hall.goes_on(number) {
-                hall.pass(number);
+                hall.go_out(number);
                 return;
             }
         }

@@ -1,4 +1,7 @@
 //! What the two threads of a lane tell each other, so that neither looks in vain for long. Nothing rests on it but when they go on.
+//!
+//! Neither waits for ever. A standing thread sleeps for a while at most and looks again, and nothing is told behind `OVER`. The leading one
+//! waits only while the standing one is at work, and sleeps only where that one wakes it when it has finished.
 
 use crossbeam_utils::CachePadded;
 use std::hint;
@@ -57,6 +60,12 @@ impl Signal {
         self.word.load(Ordering::SeqCst)
     }
 
+    fn change(&self, from: u64, to: u64) -> bool {
+        self.word
+            .compare_exchange(from, to, Ordering::SeqCst, Ordering::SeqCst)
+            .is_ok()
+    }
+
     // Looks for a while whether one of two states has come.
     fn look(&self, looks: u32, one: u64, other: u64) -> bool {
         for _ in 0..looks {
@@ -84,12 +93,7 @@ impl Signal {
 
     // The leading thread sleeps in this state until it is woken. It may wake for no reason.
     fn sleep<R: Wait>(&self, rt: &R, state: u64) {
-        let is_awaited = state == AWAITED
-            || self
-                .word
-                .compare_exchange(state, AWAITED, Ordering::SeqCst, Ordering::SeqCst)
-                .is_ok();
-        if is_awaited {
+        if state == AWAITED || self.change(state, AWAITED) {
             self.word.park(rt, (AWAITED % 4294967296) as u32);
         }
     }
@@ -117,9 +121,10 @@ impl Signal {
         self.word.store(WORKS, Ordering::SeqCst);
     }
 
-    /// The standing thread has sent what was left of the value.
+    /// The standing thread has sent what was left of the value. Where the leading one has found that already, and sent another or ended,
+    /// what it has told since stays.
     pub fn finish(&self) {
-        if self.word.swap(DONE, Ordering::SeqCst) == AWAITED {
+        if !self.change(WORKS, DONE) && self.change(AWAITED, DONE) {
             self.word.wake_all();
         }
     }
