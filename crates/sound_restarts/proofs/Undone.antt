@@ -25,8 +25,6 @@ use Rattle.group_restart.specs.Course.{with_plan, rest_undo, undo_unless, undo_o
 use Rattle.sound_disk.specs.Versions.{merged, current, last_images}
 use Rattle.sound_appends.specs.Appends.{Appends}
 use Rattle.sound_appends.specs.Laws.{StandsBehind}
-use Rattle.sound_tables.specs.Keeping.{FindsItsSlot}
-use Rattle.sound_tables.proofs.Places.{of_made, change_allowed}
 use Rattle.sound_restarts.specs.Undo.{page_of, page_for, CanUndo, UndoFindsItsRow, UndoMakesLast, UndoLeavesOthers, OthersLeavePages, UndoLeavesLast, UndoReads}
 use Rattle.sound_restarts.proofs.Stamped.{same_patched, renewed_agrees}
 use Rattle.sound_restarts.proofs.Versions.{row_within, version_new}
@@ -37,16 +35,13 @@ use Rattle.sound_restarts.proofs.Page_writes.{put_has, same_self}
 
 -- ---- the page of either version
 
-slot_last : FindsItsSlot → (c : Contents) (logs : List Log) (u : Undo) → CanUndo c logs u → change_fault (page_of u) u.change (last_images logs (page_of u)) ≡ None
-slot_last found c logs u h = found c.logs logs u.change h.now.sound.whole_logs h.now.sound.transactions h.now.sound.tables h.made
-
-slot_there : DiskLaws → FindsItsSlot → (c : Contents) (logs : List Log) (u : Undo) → CanUndo c logs u → change_fault (page_of u) u.change (page_for c u) ≡ None
-slot_there k found c logs u h =
+slot_there : DiskLaws → (c : Contents) (logs : List Log) (u : Undo) → CanUndo c logs u → change_fault (page_of u) u.change (page_for c u) ≡ None
+slot_there k c logs u h =
     elim (cases_Bool (is_old (page_for c u))) as (λ _. change_fault (page_of u) u.change (page_for c u) ≡ None) [
       | inl e ↦
           sym (change_same k.bringing.renewal (page_of u) (page_for c u) u.change (old_page k c logs (page_of u) h.now e))
-          ∙ ap (change_fault (page_of u) u.change) (sym (current_old (page_for c u) e) ∙ h.last) ∙ slot_last found c logs u h
-      | inr e ↦ ap (change_fault (page_of u) u.change) (sym (current_new (page_for c u) e) ∙ h.last) ∙ slot_last found c logs u h
+          ∙ ap (change_fault (page_of u) u.change) (sym (current_old (page_for c u) e) ∙ h.last) ∙ h.slot
+      | inr e ↦ ap (change_fault (page_of u) u.change) (sym (current_new (page_for c u) e) ∙ h.last) ∙ h.slot
     ]
 
 -- what the patch makes of it, it makes of the page in the version that is written
@@ -61,18 +56,13 @@ patched_last k c logs u lrsn p h lies =
 
 -- ---- no field is in the way
 
-made_allowed : DiskLaws → (c : Contents) (logs : List Log) (u : Undo) → CanUndo c logs u → ChangeIsAllowed u.change
-made_allowed k c logs u h =
-    let it : IsAllowed h.made.it = of_made IsAllowed (merged logs) u.change (records_are k c logs h.now.sound).0 h.made in
-    change_allowed h.made.it.version h.made.it.body u.change h.made.changes it.body_is
-
 no_header : (c : RowChange) → ChangeIsAllowed c → header_fault c ≡ None
 no_header c h = cond-false (c.place.page == 0) (Some kind_at) None (ne_eqb c.place.page 0 h.page_some)
 
-pub undo_finds : DiskLaws → FindsItsSlot → UndoFindsItsRow
+pub undo_finds : DiskLaws → UndoFindsItsRow
 unfolding undo_fault
-undo_finds k found c logs u h =
-    ap (λ (o : Option ℕ). or_fault o (header_fault u.change)) (slot_there k found c logs u h) ∙ no_header u.change (made_allowed k c logs u h)
+undo_finds k c logs u h =
+    ap (λ (o : Option ℕ). or_fault o (header_fault u.change)) (slot_there k c logs u h) ∙ no_header u.change h.allowed
 
 -- ---- the page behind it
 
@@ -93,7 +83,7 @@ behind_here k behind logs after u lrsn a =
 pub undo_makes : DiskLaws → StandsBehind → UndoMakesLast
 unfolding undone_page
 undo_makes k behind c logs after u lrsn h a =
-    patched_last k c logs u lrsn (row_patch (inverse u.change)) h (row_within (inverse u.change) (turned u.change (made_allowed k c logs u h))).0 ∙ sym (behind_here k behind logs after u lrsn a)
+    patched_last k c logs u lrsn (row_patch (inverse u.change)) h (row_within (inverse u.change) (turned u.change h.allowed)).0 ∙ sym (behind_here k behind logs after u lrsn a)
 
 pub undo_leaves_others : DiskLaws → StandsBehind → UndoLeavesOthers
 undo_leaves_others k behind logs after u lrsn id a e =

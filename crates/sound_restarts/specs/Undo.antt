@@ -5,9 +5,12 @@ use Rattle.ds_base.specs.declared.names.PageId.{PageId}
 use Rattle.ds_disk.specs.Contents.{Contents}
 use Rattle.ds_disk.specs.Pages.{page_at}
 use Rattle.ds_model.specs.declared.log.LogRecord.{LogRecord}
+use Rattle.ds_model.specs.declared.log.RowChange.{RowChange}
+use Rattle.ds_model.specs.RecordBytes.{ChangeIsAllowed}
 use Rattle.log_record.specs.declared.log.Log.{Log}
 use Rattle.log_merge.specs.Merging.{is_merged}
 use Rattle.page_chain.specs.Chains.{row_patch}
+use Rattle.page_redo.specs.Rows.{change_fault}
 use Rattle.restart_plan.specs.declared.opened.Undo.{Undo}
 use Rattle.group_restart.specs.declared.stage.Stage.TheVariants as stage
 use Rattle.group_restart.specs.Machine.{Restart}
@@ -15,9 +18,8 @@ use Rattle.group_restart.specs.Disk.{with_page as with_hand}
 use Rattle.group_restart.specs.Records.{compensation}
 use Rattle.group_restart.specs.Undo.{undo_fault, undone_page}
 use Rattle.group_restart.specs.Course.{with_plan, rest_undo, undo_at, take_done}
-use Rattle.sound_disk.specs.Versions.{merged, last_images}
+use Rattle.sound_disk.specs.Versions.{last_images}
 use Rattle.sound_appends.specs.Appends.{Appends}
-use Rattle.sound_tables.specs.Keeping.{IsMadeBy}
 use Rattle.sound_restarts.specs.Redo.{IsSoundNow, with_page, IsLast}
 
 abbrev pub page_of : Undo → PageId
@@ -30,11 +32,16 @@ page_for c u = page_at c.pages (page_of u)
 abbrev pub AreLast : Contents → List Log → Type 0
 AreLast c logs = (id : PageId) → IsLast c logs id
 
--- a change that one of the records has made is undone, and its page is on the disk as all records leave it
+-- the slot of the change is there, and is its key's, as all records leave the page
+abbrev pub HasSlot : List Log → RowChange → Type 0
+HasSlot logs c = change_fault (row_patch c).page c (last_images logs (row_patch c).page) ≡ None
+
+-- a change that is undone, whose page is on the disk as all records leave it
 pub record CanUndo (c : Contents) (logs : List Log) (u : Undo) : Type 0 where
   pub now : IsSoundNow c logs
   pub last : IsLast c logs (page_of u)
-  pub made : IsMadeBy (merged logs) u.change
+  pub slot : HasSlot logs u.change
+  pub allowed : ChangeIsAllowed u.change
 
 -- ---- laws
 

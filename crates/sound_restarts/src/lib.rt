@@ -71,7 +71,7 @@ pub fn renewal_laws()
     page_images::renewal_laws();
 }
 
-/// The undo of a record's change meets no field in its way. It makes of the page what all records and the compensation make of
+/// A change that can be undone meets no field in its way. Its undo makes of the page what all records and the compensation make of
 /// it, which leave all other pages; so behind the write all pages are as all records leave them. Records that aren't merged leave
 /// all of them.
 pub fn undo_laws()
@@ -83,7 +83,6 @@ pub fn undo_laws()
     ensures reads { UndoReads }
 {
     sound_appends::turn_laws();
-    sound_tables::place_laws();
     sound_disk::page_laws();
     page_redo::forward_laws();
     page_chain::chain_laws();

@@ -28,10 +28,10 @@ returns c =
       zero_bytes = c.header_laws.ensures.zeros.2;
     } in
     record {
-      finds = undo_finds k c.place_laws.ensures.found;
+      finds = undo_finds k;
       makes = undo_makes k c.turn_laws.ensures.behind;
       others = undo_leaves_others k c.turn_laws.ensures.behind;
       unmerged = others_leave c.turn_laws.ensures.behind;
       last = undo_leaves_last k c.turn_laws.ensures.behind;
-      reads = undo_reads (undo_finds k c.place_laws.ensures.found);
+      reads = undo_reads (undo_finds k);
     }
