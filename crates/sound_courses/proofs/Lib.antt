@@ -4,3 +4,5 @@ pub mod Written
 pub mod Undoing
 pub mod Had
 pub mod Ending
+pub mod Cut_logs
+pub mod Bringing

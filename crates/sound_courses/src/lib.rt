@@ -3,6 +3,7 @@
 //! The crate has definitions and proofs alone. Its functions do nothing: their contracts are the laws.
 #![tactic(auto)]
 
+ghost use Rattle.sound_courses.specs.Bringing.{CutGoes, CutsBegin, RedoReadsOn, RedoWritesOn};
 ghost use Rattle.sound_courses.specs.Ending.{EndingBegins, EndingGoes};
 ghost use Rattle.sound_courses.specs.Undoing.{ClosingGoes, UndoAppends, UndoBegins, UndoReads, UndoWrites};
 
@@ -43,4 +44,16 @@ pub fn ending_laws()
     sound_plans::course_laws();
     sound_restarts::undo_laws();
     sound_tables::stop_laws();
+}
+
+/// Over a sound disk a group restart cuts the tails of logs, and brings its pages forward, by a plan that suits the disk and fits
+/// its logs: each call leads to the next one, and in the end to the undo. Behind each call the disk is sound.
+pub fn bring_laws()
+    ensures begins { CutsBegin }
+    ensures cut { CutGoes }
+    ensures reads { RedoReadsOn }
+    ensures writes { RedoWritesOn }
+{
+    sound_restarts::cut_laws();
+    sound_restarts::redo_laws();
 }
