@@ -36,7 +36,8 @@ first_tail tail rest [] e = absurd cc
 first_tail tail rest (l ∷ ls) e = elim (cases_Bool (nat_lt 0 l.tail)) [
   | inl some ↦ (
       let is : tail ∷ rest ≡ tail_of l ∷ tails_of ls = e ∙ ap (λ (b : Bool). left_of b l ls) some in
-      record { front = []; log = l; back = ls; logs_are = refl; tail_is = cc; rest_is = cc })
+      let left : rest ≡ tails_of ls = cc in
+      record { front = []; log = l; back = ls; logs_are = refl; tail_is = cc; rest_is = left })
   | inr none ↦ (
       let f = first_tail tail rest ls (e ∙ ap (λ (b : Bool). left_of b l ls) none) in
       record {

@@ -3,9 +3,9 @@ use Rattle.std.proofs.Common.{◌≡◌, ℕ, ◌≤◌, true, false, List, [], 
 use Rattle.std.specs.Prelude.{slice_get}
 use Rattle.std.specs.List.{list_all, AllByRecursion}
 use Rattle.ds_base.specs.declared.names.PageId.{PageId}
-use Rattle.ds_disk.specs.Contents.{Contents}
+use Rattle.ds_disk.specs.Contents.{Contents, log_of}
 use Rattle.ds_disk.specs.Pages.{page_at}
-use Rattle.ds_model.specs.RecordBytes.{IsAllowed}
+use Rattle.ds_model.specs.RecordBytes.{IsAllowed, log_bytes}
 use Rattle.ds_model.specs.declared.log.LogRecord.{LogRecord}
 use Rattle.log_record.specs.declared.log.Log.{Log}
 use Rattle.page_chain.specs.Chains.{AreRecords}
@@ -145,7 +145,7 @@ ending_goes l h member c logs d allowed =
       (record {
         rests = record {
           stands = stands_behind h member c logs after d.rests.stands a;
-          last = last_still c member _ logs after (λ id. all_leave l.unmerged h.added logs after member id all leave) d.rests.last;
+          last = last_still c member (log_of c.logs member ++ log_bytes h.added) logs after (λ id. all_leave l.unmerged h.added logs after member id all leave) d.rests.last;
         };
         nothing = nothing;
         new = d.new;

@@ -5,11 +5,11 @@ use Rattle.std.specs.List.{AllByRecursion}
 use Rattle.std.proofs.lemmas.Bool.{cond_both, lt-ltb}
 use Rattle.ds_base.specs.Pages.{same_page}
 use Rattle.ds_base.specs.declared.names.PageId.{PageId}
-use Rattle.ds_disk.specs.Contents.{Contents}
+use Rattle.ds_disk.specs.Contents.{Contents, log_of}
 use Rattle.ds_disk.specs.Pages.{page_at}
 use Rattle.ds_model.specs.declared.log.LogRecord.{LogRecord}
 use Rattle.ds_model.specs.declared.log.RowChange.{RowChange}
-use Rattle.ds_model.specs.RecordBytes.{ChangeIsAllowed}
+use Rattle.ds_model.specs.RecordBytes.{ChangeIsAllowed, log_bytes}
 use Rattle.log_record.specs.declared.log.Log.{Log}
 use Rattle.log_record.specs.Changes.{inverse}
 use Rattle.log_trans.specs.Numbers.{greatest}
@@ -23,7 +23,8 @@ use Rattle.group_restart.specs.Records.{ended, compensation}
 use Rattle.group_restart.specs.Undo.{undone_page, undoing}
 use Rattle.group_restart.specs.Course.{Next, go, with_plan, with_added, rest_closings, rest_undo, begin_renewal, undo_or, next_undo, closing_or, next_closing, too_few_numbers, has_numbers, numbered, counted, begin_undo, undone, undo_at, appended, take_done}
 use Rattle.sound_appends.specs.Appends.{Appends, AppendsAll}
-use Rattle.sound_disk.specs.Versions.{last_images}
+use Rattle.sound_disk.specs.Rows_there.{Stood}
+use Rattle.sound_disk.specs.Versions.{merged, last_images}
 use Rattle.sound_plans.specs.Courses.{Owes, writes_of, UndoGoes as UndoFits}
 use Rattle.sound_plans.specs.Opens.{course_of}
 use Rattle.sound_plans.specs.Queues.{records_for, CanClose, ClosingsFit, is_of, QueueFits}
@@ -141,7 +142,7 @@ closing_goes l h member c logs d =
       next_closing_leads (with_appended h member c) after (appended h member) (all_close_still logs cl h.plan.closings can d.due.rest)
       (record {
         stands = stands_behind h member c logs after d.rests.stands a;
-        last = last_still c member _ logs after (λ id. all_leave l.unmerged h.added logs after member id all leave) d.rests.last;
+        last = last_still c member (log_of c.logs member ++ log_bytes h.added) logs after (λ id. all_leave l.unmerged h.added logs after member id all leave) d.rests.last;
       })
       (owes_behind logs cl h.plan.undo h.counter can d.due.owes) d.numbers,
     )
@@ -167,7 +168,8 @@ turned_back c h = record { table_in = h.table_in; key_in = h.key_in; page_some =
 can_undo : MeetsItsRow → (c : Contents) (logs mid : List Log) (u : Undo) (n : ℕ) → IsSoundBehind c logs → AreLast c logs → Appends logs (compensation u n) mid → CanUndo c logs u
 can_undo meets c logs mid u n s last a =
     let all : AreTableLogs c.logs logs = record { whole = s.now.sound.whole_logs; transactions = s.now.sound.transactions; turns = s.now.sound.turns; tables = s.now.sound.tables; places = s.places } in
-    record { now = s.now; last = last (page_of u); slot = (meets c.logs logs mid (compensation u n) a all).slot; allowed = turned_back u.change a.allowed.body_is.0 }
+    let stood : Stood (merged logs) (inverse u.change) = meets c.logs logs mid (compensation u n) a all in
+    record { now = s.now; last = last (page_of u); slot = stood.slot; allowed = turned_back u.change a.allowed.body_is.0 }
 
 -- the restart that has read the page
 abbrev hand_of : Restart → Contents → Undo → Restart

@@ -26,7 +26,7 @@ old_length (a ∷ b ∷ c ∷ d ∷ []) e = absurd cc
 old_length (a ∷ b ∷ c ∷ d ∷ e' ∷ []) e = absurd cc
 old_length (a ∷ b ∷ c ∷ d ∷ e' ∷ f ∷ page) e = omega arith
 
-renewed_new : (page : List ℕ) → is_old page ≡ true → is_old (renewed page) ≡ false
+pub renewed_new : (page : List ℕ) → is_old page ≡ true → is_old (renewed page) ≡ false
 unfolding renewed
 renewed_new page e = stamp_new page (lrsn_of page) (old_length page e)
 
