@@ -1,5 +1,5 @@
 -- The logs of a disk behind several records that are appended to one member's log.
-use Rattle.std.proofs.Common.{◌≡◌, ℕ, suc, ◌+◌, ◌-◌, ◌<◌, true, List, [], ◌∷◌, ◌++◌, length, get_or, set, refl, sym, ap, subst, ◌∙◌, arith, append_assoc}
+use Rattle.std.proofs.Common.{◌≡◌, ℕ, suc, ◌+◌, ◌-◌, ◌<◌, Bool, true, List, [], ◌∷◌, ◌++◌, length, get_or, set, refl, sym, ap, subst, ◌∙◌, arith, append_assoc}
 use Rattle.std.specs.Prelude.{◌==◌, ◌||◌}
 use Rattle.std.specs.List.{AllByRecursion}
 use Rattle.std.proofs.lemmas.List.{append-nil, set-set, set-get_or, get_or-set_same, length-append, length-map}
@@ -80,7 +80,7 @@ raised_twice ends member a b within =
 
 member_still : (front : List Log) (log : Log) (back : List Log) (r : LogRecord) (m : ℕ) → has_log (front ++ with_record log r ∷ back) m ≡ has_log (front ++ log ∷ back) m
 member_still [] log back r m = refl
-member_still (x ∷ xs) log back r m = ap (λ b. (x.member == m) || b) (member_still xs log back r m)
+member_still (x ∷ xs) log back r m = ap (λ (b : Bool). (x.member == m) || b) (member_still xs log back r m)
 
 -- ---- several records
 
@@ -111,7 +111,7 @@ record One (c : Contents) (member : ℕ) (r : LogRecord) (logs after : List Log)
   in_ends : member - 1 < length (ends_of logs)
 
 many_logs : (front : List Log) (log : Log) (back : List Log) → length front < length (front ++ log ∷ back)
-many_logs front log back = let all = length-append front (log ∷ back) in omega (arith, all)
+many_logs front log back = let all : length (front ++ log ∷ back) ≡ length front + suc (length back) = length-append front (log ∷ back) in omega (arith, all)
 
 one_behind : KeepsWhole → (c : Contents) (logs after : List Log) (r : LogRecord) (member : ℕ) (h : Appends logs r after) → h.log.member ≡ member → AreWholeLogs 1 c.logs logs → HaveNoTails logs → One c member r logs after
 one_behind law c logs after r member h own w t =

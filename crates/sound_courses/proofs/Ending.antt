@@ -1,21 +1,20 @@
 -- How a group restart ends the logs of a sound disk leads, call by call, to a sound disk.
-use Rattle.std.proofs.Common.{◌≡◌, ℕ, ◌≤◌, true, false, List, [], ◌∷◌, ◌++◌, drop, Option, Some, None, inl, inr, refl, sym, ap, subst, ◌∙◌, arith}
+use Rattle.std.proofs.Common.{◌≡◌, ℕ, ◌≤◌, true, List, [], ◌∷◌, ◌++◌, drop, Option, Some, None, inl, inr, refl, sym, ap, subst, ◌∙◌, arith}
 use Rattle.std.specs.Prelude.{slice_get}
 use Rattle.std.specs.List.{list_all, AllByRecursion}
 use Rattle.ds_base.specs.declared.names.PageId.{PageId}
 use Rattle.ds_disk.specs.Contents.{Contents, log_of}
 use Rattle.ds_disk.specs.Pages.{page_at}
-use Rattle.ds_model.specs.RecordBytes.{IsAllowed, log_bytes}
+use Rattle.ds_model.specs.RecordBytes.{log_bytes}
 use Rattle.ds_model.specs.declared.log.LogRecord.{LogRecord}
 use Rattle.log_record.specs.declared.log.Log.{Log}
 use Rattle.page_chain.specs.Chains.{AreRecords}
 use Rattle.page_format.specs.Fields.{lrsn_of}
-use Rattle.page_images.specs.Images.{Images}
-use Rattle.restart_plan.specs.Ends.{end_of, ends_of}
+use Rattle.restart_plan.specs.Ends.{end_of}
 use Rattle.group_restart.specs.declared.stage.Stage.TheVariants as stage
 use Rattle.group_restart.specs.Machine.{Restart}
 use Rattle.group_restart.specs.Records.{checkpoint, ending}
-use Rattle.group_restart.specs.Course.{Next, go, with_plan, with_added, rest_endings, ending_or, next_ending, appended, take_done}
+use Rattle.group_restart.specs.Course.{go, with_plan, with_added, rest_endings, ending_or, next_ending, appended}
 use Rattle.sound_appends.specs.Appends.{Appends, AppendsAll}
 use Rattle.sound_disk.specs.Checkpoints.{is_done}
 use Rattle.sound_disk.specs.Laws.{AreMerged}
@@ -28,8 +27,8 @@ use Rattle.sound_restarts.specs.Undo.{OthersLeavePages}
 use Rattle.sound_restarts.proofs.Brought.{current_new}
 use Rattle.sound_restarts.proofs.Versions.{VersionLaws}
 use Rattle.sound_tables.specs.Keeping.{AreSettledBefore}
-use Rattle.sound_courses.specs.Standing.{NoneIsOld, Stands, Rests, with_appended}
-use Rattle.sound_courses.specs.Ending.{Ends, EndLeads, BeginsEnding, EndingBegins, EndingGoes}
+use Rattle.sound_courses.specs.Standing.{NoneIsOld, Rests, with_appended}
+use Rattle.sound_courses.specs.Ending.{EndLeads, BeginsEnding, EndingBegins, EndingGoes}
 use Rattle.sound_courses.proofs.Appending.{end_is}
 use Rattle.sound_courses.proofs.Had.{OrdersKept, all_in_pages}
 use Rattle.sound_courses.proofs.Standing.{AppendLaws, all_appended, rests_as, stands_behind, LeavePages, all_leave, last_still}

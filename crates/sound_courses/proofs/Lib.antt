@@ -6,3 +6,4 @@ pub mod Had
 pub mod Ending
 pub mod Cut_logs
 pub mod Bringing
+pub mod Planned

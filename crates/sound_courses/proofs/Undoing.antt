@@ -1,7 +1,6 @@
 -- The undo of a group restart over a sound disk leads, call by call, to a sound disk.
-use Rattle.std.proofs.Common.{◌≡◌, ℕ, suc, ◌+◌, ◌<◌, ◌^◌, Bool, true, false, cond, List, [], ◌∷◌, ◌++◌, length, drop, Option, Some, None, inl, inr, refl, sym, ap, subst, ◌∙◌, arith}
-use Rattle.std.specs.Prelude.{nat_lt, slice_get, filter}
-use Rattle.std.specs.List.{AllByRecursion}
+use Rattle.std.proofs.Common.{◌≡◌, ℕ, suc, ◌+◌, ◌<◌, ◌^◌, Bool, false, cond, List, [], ◌∷◌, ◌++◌, length, drop, Option, Some, None, inl, inr, refl, sym, ap, subst, ◌∙◌, arith}
+use Rattle.std.specs.Prelude.{slice_get, filter}
 use Rattle.std.proofs.lemmas.Bool.{cond_both, lt-ltb}
 use Rattle.ds_base.specs.Pages.{same_page}
 use Rattle.ds_base.specs.declared.names.PageId.{PageId}
@@ -21,7 +20,7 @@ use Rattle.group_restart.specs.Machine.{Restart}
 use Rattle.group_restart.specs.Disk.{with_page as with_hand}
 use Rattle.group_restart.specs.Records.{ended, compensation}
 use Rattle.group_restart.specs.Undo.{undone_page, undoing}
-use Rattle.group_restart.specs.Course.{Next, go, with_plan, with_added, rest_closings, rest_undo, begin_renewal, undo_or, next_undo, closing_or, next_closing, too_few_numbers, has_numbers, numbered, counted, begin_undo, undone, undo_at, appended, take_done}
+use Rattle.group_restart.specs.Course.{Next, go, with_plan, with_added, rest_closings, rest_undo, undo_or, next_undo, closing_or, next_closing, too_few_numbers, numbered, counted, begin_undo, undone, undo_at, appended, take_done}
 use Rattle.sound_appends.specs.Appends.{Appends, AppendsAll}
 use Rattle.sound_disk.specs.Rows_there.{Stood}
 use Rattle.sound_disk.specs.Versions.{merged, last_images}
@@ -35,7 +34,7 @@ use Rattle.sound_restarts.specs.Redo.{IsSoundNow, with_page, IsLast, LastKeeps}
 use Rattle.sound_restarts.specs.Undo.{page_of, page_for, AreLast, CanUndo, UndoMakesLast, UndoLeavesOthers, OthersLeavePages, UndoReads as UndoMeetsNothing}
 use Rattle.sound_tables.specs.Keeping.{AreTableLogs, MeetsItsRow}
 use Rattle.sound_courses.specs.Standing.{IsSoundBehind, Rests, HasNumbers, with_appended}
-use Rattle.sound_courses.specs.Undoing.{ReadsNext, Compensates, UndoLeads, UndoBegins, ClosingGoes, UndoReads, UndoAppends, UndoWrites}
+use Rattle.sound_courses.specs.Undoing.{UndoLeads, UndoBegins, ClosingGoes, UndoReads, UndoAppends, UndoWrites}
 use Rattle.sound_courses.proofs.Standing.{AppendLaws, all_appended, rests_as, stands_behind, AskNothing, all_settled, LeavePages, all_leave, last_still}
 use Rattle.sound_courses.proofs.Written.{written_rests}
 

@@ -10,6 +10,7 @@ use Rattle.log_merge.specs.Merging.{all_records}
 use Rattle.restart_plan.specs.declared.plan.Plan.{Plan}
 use Rattle.restart_plan.specs.declared.tails.Tail.{Tail}
 use Rattle.restart_plan.specs.Ends.{ends_of}
+use Rattle.restart_plan.specs.Plans.{plan_of}
 use Rattle.restart_plan.specs.Renewal.{must_renew}
 use Rattle.restart_plan.specs.Tails.{tails_of}
 use Rattle.group_restart.specs.declared.calls.State.TheVariants as state
@@ -17,8 +18,9 @@ use Rattle.group_restart.specs.declared.stage.Stage.{Stage}
 use Rattle.group_restart.specs.declared.stage.Stage.TheVariants as stage
 use Rattle.group_restart.specs.Machine.{Restart}
 use Rattle.group_restart.specs.Disk.{with_page as with_hand}
-use Rattle.group_restart.specs.Course.{Next, begin_undo, next_tail, take_done}
+use Rattle.group_restart.specs.Course.{Next, begin_undo, next_tail, take_done, take_logs}
 use Rattle.sound_appends.specs.Laws.{HaveNoTails}
+use Rattle.sound_disk.specs.Sound.{IsSoundWith}
 use Rattle.sound_plans.specs.Queues.{has_log, ClosingsFit, QueueFits}
 use Rattle.sound_restarts.specs.Redo.{IsSoundNow, with_page, PlanSuits, HasRestOf, RedoIn}
 use Rattle.sound_tables.specs.Keeping.{RowsStayInPlace}
@@ -100,3 +102,13 @@ RedoReadsOn = (p : Plan) (h : Restart) (page : PageId) (c : Contents) (logs : Li
 abbrev pub RedoWritesOn : Type 0
 RedoWritesOn = (p : Plan) (h : Restart) (page : PageId) (c : Contents) (logs : List Log) → BringIn (stage.RedoWrite page) p h c logs
     → IsSoundNow (with_page c page h.page) logs × BringLeads (take_done h (stage.RedoWrite page)) p (with_page c page h.page) logs
+
+-- ---- the begin
+
+-- the plan of all records of the logs fits them
+abbrev pub PlanOfAllFits : Type 0
+PlanOfAllFits = (c : Contents) (logs : List Log) → IsSoundWith c logs → PlanFits (plan_of logs) logs
+
+-- so the restart begins where all logs were read whole, and a record of version 1 was noted
+abbrev pub ReadsBegin : Type 0
+ReadsBegin = (c : Contents) (h : Restart) → IsSoundNow c h.logs → RowsStayInPlace h.logs → h.renews ≡ must_renew h.logs → BringLeads (take_logs h) (plan_of h.logs) c h.logs

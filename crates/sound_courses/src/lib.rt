@@ -3,7 +3,7 @@
 //! The crate has definitions and proofs alone. Its functions do nothing: their contracts are the laws.
 #![tactic(auto)]
 
-ghost use Rattle.sound_courses.specs.Bringing.{CutGoes, CutsBegin, RedoReadsOn, RedoWritesOn};
+ghost use Rattle.sound_courses.specs.Bringing.{CutGoes, CutsBegin, PlanOfAllFits, ReadsBegin, RedoReadsOn, RedoWritesOn};
 ghost use Rattle.sound_courses.specs.Ending.{EndingBegins, EndingGoes};
 ghost use Rattle.sound_courses.specs.Undoing.{ClosingGoes, UndoAppends, UndoBegins, UndoReads, UndoWrites};
 
@@ -56,4 +56,15 @@ pub fn bring_laws()
 {
     sound_restarts::cut_laws();
     sound_restarts::redo_laws();
+}
+
+/// The plan of all records fits the logs of a sound disk. So a group restart that has read all logs whole begins with it.
+pub fn begin_laws()
+    ensures fits { PlanOfAllFits }
+    ensures begins { ReadsBegin }
+{
+    sound_plans::plan_laws();
+    sound_restarts::damage_laws();
+    sound_restarts::redo_laws();
+    bring_laws();
 }

@@ -1,4 +1,3 @@
-use Rattle.sound_courses.proofs.Standing.{AppendLaws}
 use Rattle.sound_courses.proofs.Undoing.{UndoLaws, undo_begins, closing_goes, undo_reads, undo_appends, undo_writes}
 use Rattle.sound_courses.proofs.undo_laws.Goals as goal
 
