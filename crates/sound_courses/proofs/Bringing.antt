@@ -26,7 +26,6 @@ use Rattle.sound_disk.specs.Laws.{with_tail}
 use Rattle.sound_plans.specs.Queues.{has_log, ClosingsFit, QueueFits}
 use Rattle.sound_restarts.specs.Cuts.{CutKeepsSound}
 use Rattle.sound_restarts.specs.Redo.{IsSoundNow, with_page, IsBrought, PlanSuits, HasRestOf, RedoIn, RedoLeads, HasRedone, RedoBegins, RedoReads, RedoWrites}
-use Rattle.sound_tables.specs.Keeping.{HasItsSlot, RowsStayInPlace}
 use Rattle.sound_courses.specs.Standing.{NoneIsOld}
 use Rattle.sound_courses.specs.Undoing.{BeginsUndo}
 use Rattle.sound_courses.specs.Bringing.{PlanFits, Cuts, Cut, BringIn, BringLeads, CutsBegin, with_cut, CutGoes, RedoReadsOn, RedoWritesOn}
@@ -55,7 +54,7 @@ begins_undo n p c logs r cut number =
     record {
       rests = record {
         stands = record {
-          sound = record { now = r.brought.now; tails = cut.tails; places = cut.places };
+          sound = record { now = r.brought.now; tails = cut.tails };
           ends = rest.ends ∙ cut.fits.ends;
           endings = subst (AllByRecursion (λ (m : ℕ). has_log logs m ≡ true)) (sym rest.endings) cut.fits.endings;
           renews = none_old r.behind c logs r.brought.now r.brought.asks;
@@ -114,12 +113,11 @@ leads_of : BringLaws → (tails : List Tail) (p : Plan) (h : Restart) (c : Conte
 leads_of l [] p h c logs d =
     redo_leads (next_redo (with_tails h [])) p c logs
     (l.begins p (with_tails h []) c logs (record { now = d.now; suits = d.suits; rest = rest_of p h.plan [] d.rest; merged_is = d.merged_is; pages_are = d.pages_are; asks = d.asks }))
-    (record { tails = none_left logs (sym d.tails_are); places = d.places; fits = d.fits }) d.suits.number
+    (record { tails = none_left logs (sym d.tails_are); fits = d.fits }) d.suits.number
 leads_of l (t ∷ ts) p h c logs d = inl (
   refl,
   record {
     now = d.now;
-    places = d.places;
     tails_are = d.tails_are;
     suits = d.suits;
     fits = d.fits;
@@ -135,9 +133,6 @@ leads l tails p h c logs e d = subst (λ (n : Next). BringLeads n p c logs) (sym
 
 pub cuts_begin : BringLaws → CutsBegin
 cuts_begin l p h c logs d = leads l h.plan.tails p h c logs refl d
-
-abbrev InPlace : List LogRecord → Type 0
-InPlace rs = AllByRecursion (λ (r : LogRecord). HasItsSlot (images_of rs) r.body) rs
 
 suits_still : (p : Plan) (c : Contents) (tail : Tail) (logs others : List Log) → AreAlike logs others → PlanSuits p c logs → PlanSuits p (with_cut tail c) others
 suits_still p c tail logs others a s = record {
@@ -160,13 +155,11 @@ cut_goes l p h tail c logs d =
     let f = first_tail tail h.plan.tails logs d.tails_are in
     let others = f.front ++ with_tail f.log 0 ∷ f.back in
     let a : AreAlike logs others = subst (λ (ls : List Log). AreAlike ls others) (sym f.logs_are) (cut_alike f.front f.log f.back) in
-    let now : IsSoundNow (with_cut tail c) others = subst (λ (t : Tail). IsSoundNow (with_cut t c) others) (sym f.tail_is) (l.cuts c f.front f.log f.back (subst (IsSoundNow c) f.logs_are d.now)) in
-    let places : RowsStayInPlace others = subst InPlace (ap in_order a.records) d.places in (
-      record { logs = others; now = now; places = places },
+    let now : IsSoundNow (with_cut tail c) others = subst (λ (t : Tail). IsSoundNow (with_cut t c) others) (sym f.tail_is) (l.cuts c f.front f.log f.back (subst (IsSoundNow c) f.logs_are d.now)) in (
+      record { logs = others; now = now },
       others,
       cuts_begin l p h (with_cut tail c) others (record {
         now = now;
-        places = places;
         tails_are = f.rest_is;
         suits = suits_still p c tail logs others a d.suits;
         fits = fits_still p logs others a d.fits;

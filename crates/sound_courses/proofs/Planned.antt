@@ -85,13 +85,12 @@ plan_fits l c logs s = record {
 -- ---- the begin
 
 pub reads_begin : PlanLaws → GoesToTails → PlanOfAllSuits → CutsBegin → ReadsBegin
-reads_begin l tails suits begins c h now places asks =
+reads_begin l tails suits begins c h now asks =
     let p = plan_of h.logs in
     let k : Restart = record h { plan = plan_of h.logs; logs = [] } in
     subst (λ (n : Next). BringLeads n p c h.logs) (sym (tails c h now.sound))
     (begins p k c h.logs (record {
       now = now;
-      places = places;
       tails_are = plan_tails h.logs;
       suits = suits c h.logs now;
       fits = plan_fits l c h.logs now.sound;

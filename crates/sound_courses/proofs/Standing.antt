@@ -40,7 +40,6 @@ sound_on c logs h = record {
   versions = h.now.sound.versions;
   tables = h.now.sound.tables;
   checkpoints = h.now.sound.checkpoints;
-  places = h.places;
 }
 
 -- with its pages, and other logs
@@ -71,11 +70,11 @@ all_appended l c logs after member records h settled s =
     let b = all_behind l.whole records c logs after member h whole s.tails in
     let kept : AreSoundOn (page_at c.pages) after = l.all (page_at c.pages) c logs after member records h settled whole s.tails on in
     record {
-      sound = record { now = now_on c member (log_of c.logs member ++ log_bytes records) logs after s.now b.whole kept; tails = b.tails; places = kept.places };
+      sound = record { now = now_on c member (log_of c.logs member ++ log_bytes records) logs after s.now b.whole kept; tails = b.tails };
       behind = b;
       stops = λ n.
           let left = l.stop (page_at c.pages) c logs after member records n h settled whole s.tails on in
-          record { logs = left.0; now = now_on c member (log_of c.logs member ++ take n (log_bytes records)) logs left.0 s.now left.1 left.2; places = left.2.places };
+          record { logs = left.0; now = now_on c member (log_of c.logs member ++ take n (log_bytes records)) logs left.0 s.now left.1 left.2 };
     }
 
 -- ---- the restart

@@ -166,7 +166,7 @@ turned_back c h = record { table_in = h.table_in; key_in = h.key_in; page_some =
 
 can_undo : MeetsItsRow → (c : Contents) (logs mid : List Log) (u : Undo) (n : ℕ) → IsSoundBehind c logs → AreLast c logs → Appends logs (compensation u n) mid → CanUndo c logs u
 can_undo meets c logs mid u n s last a =
-    let all : AreTableLogs c.logs logs = record { whole = s.now.sound.whole_logs; transactions = s.now.sound.transactions; turns = s.now.sound.turns; tables = s.now.sound.tables; places = s.places } in
+    let all : AreTableLogs c.logs logs = record { whole = s.now.sound.whole_logs; transactions = s.now.sound.transactions; turns = s.now.sound.turns; tables = s.now.sound.tables } in
     let stood : Stood (merged logs) (inverse u.change) = meets c.logs logs mid (compensation u n) a all in
     record { now = s.now; last = last (page_of u); slot = stood.slot; allowed = turned_back u.change a.allowed.body_is.0 }
 

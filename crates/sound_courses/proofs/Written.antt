@@ -54,7 +54,7 @@ last_with law c logs page now others id = put_has (λ (n : PageId) (p : List ℕ
 pub written_rests : LastKeeps → (h : Restart) (c : Contents) (logs : List Log) (page : PageId) → Stands h c logs → ((id : PageId) → same_page page id ≡ false → IsLast c logs id) → Rests h (with_page c page (last_images logs page)) logs
 written_rests law h c logs page s others = record {
   stands = record {
-    sound = record { now = (law c logs page s.sound.now).0; tails = s.sound.tails; places = s.sound.places };
+    sound = record { now = (law c logs page s.sound.now).0; tails = s.sound.tails };
     ends = s.ends;
     endings = s.endings;
     renews = λ none. none_old_with law c logs page s.sound.now (s.renews none);

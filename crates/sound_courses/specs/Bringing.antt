@@ -23,7 +23,6 @@ use Rattle.sound_appends.specs.Laws.{HaveNoTails}
 use Rattle.sound_disk.specs.Sound.{IsSoundWith}
 use Rattle.sound_plans.specs.Queues.{has_log, ClosingsFit, QueueFits}
 use Rattle.sound_restarts.specs.Redo.{IsSoundNow, with_page, PlanSuits, HasRestOf, RedoIn}
-use Rattle.sound_tables.specs.Keeping.{RowsStayInPlace}
 use Rattle.sound_courses.specs.Standing.{IsLeftSound}
 use Rattle.sound_courses.specs.Undoing.{BeginsUndo}
 
@@ -40,7 +39,6 @@ pub record PlanFits (p : Plan) (logs : List Log) : Type 0 where
 -- a sound disk whose logs have these tails still, with a plan that suits it and fits its logs
 pub record Cuts (tails : List Tail) (p : Plan) (h : Restart) (c : Contents) (logs : List Log) : Type 0 where
   pub now : IsSoundNow c logs
-  pub places : RowsStayInPlace logs
   pub tails_are : tails ≡ tails_of logs
   pub suits : PlanSuits p c logs
   pub fits : PlanFits p logs
@@ -52,7 +50,6 @@ pub record Cuts (tails : List Tail) (p : Plan) (h : Restart) (c : Contents) (log
 -- no log has a tail, and the plan fits them
 pub record Cut (p : Plan) (logs : List Log) : Type 0 where
   pub tails : HaveNoTails logs
-  pub places : RowsStayInPlace logs
   pub fits : PlanFits p logs
 
 -- before the call of this stage
@@ -111,4 +108,4 @@ PlanOfAllFits = (c : Contents) (logs : List Log) → IsSoundWith c logs → Plan
 
 -- so the restart begins where all logs were read whole, and a record of version 1 was noted
 abbrev pub ReadsBegin : Type 0
-ReadsBegin = (c : Contents) (h : Restart) → IsSoundNow c h.logs → RowsStayInPlace h.logs → h.renews ≡ must_renew h.logs → BringLeads (take_logs h) (plan_of h.logs) c h.logs
+ReadsBegin = (c : Contents) (h : Restart) → IsSoundNow c h.logs → h.renews ≡ must_renew h.logs → BringLeads (take_logs h) (plan_of h.logs) c h.logs

@@ -13,17 +13,15 @@ use Rattle.sound_appends.specs.Laws.{HaveNoTails}
 use Rattle.sound_plans.specs.Queues.{has_log}
 use Rattle.sound_restarts.specs.Redo.{IsSoundNow}
 use Rattle.sound_restarts.specs.Undo.{AreLast}
-use Rattle.sound_tables.specs.Keeping.{RowsStayInPlace}
 
 -- no page of the disk is of version 1
 abbrev pub NoneIsOld : Contents → Type 0
 NoneIsOld c = (id : PageId) → is_old (page_at c.pages id) ≡ false
 
--- the disk is sound with these logs, none of which has a tail, and no row has left its place
+-- the disk is sound with these logs, none of which has a tail
 pub record IsSoundBehind (c : Contents) (logs : List Log) : Type 0 where
   pub now : IsSoundNow c logs
   pub tails : HaveNoTails logs
-  pub places : RowsStayInPlace logs
 
 -- so it is; the restart knows where the logs end, those that it ends at last are there, and where it looks for no pages of version 1, there are none
 pub record Stands (h : Restart) (c : Contents) (logs : List Log) : Type 0 where
@@ -47,11 +45,10 @@ HasNumbers h = h.counter + length h.plan.undo < 2 ^ 80
 abbrev pub with_appended : Restart → ℕ → Contents → Contents
 with_appended h member c = with_log c member (log_of c.logs member ++ log_bytes h.added)
 
--- a disk that is sound with some logs, in which no row has left its place
+-- a disk that is sound with some logs
 pub record IsLeftSound (c : Contents) : Type 0 where
   pub logs : List Log
   pub now : IsSoundNow c logs
-  pub places : RowsStayInPlace logs
 
 -- such a disk is left where the first bytes of them alone were appended, whatever their number
 abbrev pub StopsSound : Restart → ℕ → Contents → Type 0
