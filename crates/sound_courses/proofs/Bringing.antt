@@ -157,15 +157,17 @@ cut_goes l p h tail c logs d =
     let a : AreAlike logs others = subst (λ (ls : List Log). AreAlike ls others) (sym f.logs_are) (cut_alike f.front f.log f.back) in
     let now : IsSoundNow (with_cut tail c) others = subst (λ (t : Tail). IsSoundNow (with_cut t c) others) (sym f.tail_is) (l.cuts c f.front f.log f.back (subst (IsSoundNow c) f.logs_are d.now)) in (
       record { logs = others; now = now },
-      others,
-      cuts_begin l p h (with_cut tail c) others (record {
-        now = now;
-        tails_are = f.rest_is;
-        suits = suits_still p c tail logs others a d.suits;
-        fits = fits_still p logs others a d.fits;
-        rest = d.rest;
-        merged_is = d.merged_is;
-        pages_are = d.pages_are;
-        asks = d.asks ∙ a.renewal;
-      }),
+      (
+        others,
+        cuts_begin l p h (with_cut tail c) others (record {
+          now = now;
+          tails_are = f.rest_is;
+          suits = suits_still p c tail logs others a d.suits;
+          fits = fits_still p logs others a d.fits;
+          rest = d.rest;
+          merged_is = d.merged_is;
+          pages_are = d.pages_are;
+          asks = d.asks ∙ a.renewal;
+        }),
+      ),
     )

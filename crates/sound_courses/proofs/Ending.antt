@@ -136,17 +136,19 @@ ending_goes l h member c logs d allowed =
     let added : ending h.counter (end_of h.plan.ends member) ≡ h.added = sym d.due.added_is in
     let settled = subst (λ (rs : List LogRecord). (every : AppendsAll logs (writes_of member rs) after) → AreSettledBefore (page_at c.pages) logs (writes_of member rs) after every) added
     (both_settled l h c logs after member h.counter (end_of h.plan.ends member) d.rests d.due.rest d.new) in
-    let leave : LeavePages h.added = subst LeavePages added (refl, refl, tt) in
+    let leave : LeavePages h.added = subst LeavePages added (refl, (refl, tt)) in
     let a = all_appended l.appends c logs after member h.added all (settled all) d.rests.stands.sound in (
       a.stops,
-      after,
-      ending_begins (appended h member) (with_appended h member c) after
-      (record {
-        rests = record {
-          stands = stands_behind h member c logs after d.rests.stands a;
-          last = last_still c member (log_of c.logs member ++ log_bytes h.added) logs after (λ id. all_leave l.unmerged h.added logs after member id all leave) d.rests.last;
-        };
-        nothing = nothing;
-        new = d.new;
-      }),
+      (
+        after,
+        ending_begins (appended h member) (with_appended h member c) after
+            (record {
+              rests = record {
+                stands = stands_behind h member c logs after d.rests.stands a;
+                last = last_still c member (log_of c.logs member ++ log_bytes h.added) logs after (λ id. all_leave l.unmerged h.added logs after member id all leave) d.rests.last;
+              };
+              nothing = nothing;
+              new = d.new;
+            }),
+      ),
     )

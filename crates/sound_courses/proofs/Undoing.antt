@@ -34,7 +34,7 @@ use Rattle.sound_restarts.specs.Redo.{IsSoundNow, with_page, IsLast, LastKeeps}
 use Rattle.sound_restarts.specs.Undo.{page_of, page_for, AreLast, CanUndo, UndoMakesLast, UndoLeavesOthers, OthersLeavePages, UndoReads as UndoMeetsNothing}
 use Rattle.sound_tables.specs.Keeping.{AreTableLogs, MeetsItsRow}
 use Rattle.sound_courses.specs.Standing.{IsSoundBehind, Rests, HasNumbers, with_appended}
-use Rattle.sound_courses.specs.Undoing.{UndoLeads, UndoBegins, ClosingGoes, UndoReads, UndoAppends, UndoWrites}
+use Rattle.sound_courses.specs.Undoing.{ReadsNext, UndoLeads, UndoBegins, ClosingGoes, UndoReads, UndoAppends, UndoWrites}
 use Rattle.sound_courses.proofs.Standing.{AppendLaws, all_appended, rests_as, stands_behind, AskNothing, all_settled, LeavePages, all_leave, last_still}
 use Rattle.sound_courses.proofs.Written.{written_rests}
 
@@ -137,13 +137,15 @@ closing_goes l h member c logs d =
     let leave : LeavePages h.added = subst LeavePages (sym d.due.added_is) (refl, tt) in
     let a = all_appended l.appends c logs after member h.added all (all_settled (page_at c.pages) h.added logs after member all asks) d.rests.stands.sound in (
       a.stops,
-      after,
-      next_closing_leads (with_appended h member c) after (appended h member) (all_close_still logs cl h.plan.closings can d.due.rest)
-      (record {
-        stands = stands_behind h member c logs after d.rests.stands a;
-        last = last_still c member (log_of c.logs member ++ log_bytes h.added) logs after (λ id. all_leave l.unmerged h.added logs after member id all leave) d.rests.last;
-      })
-      (owes_behind logs cl h.plan.undo h.counter can d.due.owes) d.numbers,
+      (
+        after,
+        next_closing_leads (with_appended h member c) after (appended h member) (all_close_still logs cl h.plan.closings can d.due.rest)
+            (record {
+              stands = stands_behind h member c logs after d.rests.stands a;
+              last = last_still c member (log_of c.logs member ++ log_bytes h.added) logs after (λ id. all_leave l.unmerged h.added logs after member id all leave) d.rests.last;
+            })
+            (owes_behind logs cl h.plan.undo h.counter can d.due.owes) d.numbers,
+      ),
     )
 
 -- ---- the page of the change is read
@@ -194,23 +196,28 @@ done_leads h c logs u us n next is r fits number few can =
       },
     )
 
+reads_at : UndoLaws → (h : Restart) (page : PageId) (c : Contents) (logs : List Log) (n : ℕ) → n ≡ h.counter + 1 → (d : ReadsNext page h c logs) → UndoLeads (undo_at (hand_of h c d.first) d.first n) c logs × CanUndo c logs d.first
+reads_at l h page c logs n next d =
+    let u = d.first in
+    let us = d.rest in
+    let fits : QueueFits logs (u ∷ us) = subst (QueueFits logs) d.undo_is d.owes.queue in
+    let number : n ≡ greatest (all_records logs) + 1 = next ∙ ap (λ (k : ℕ). k + 1) d.owes.number in
+    let count : length h.plan.undo ≡ suc (length us) = ap (λ (l : List Undo). length l) d.undo_is in
+    let few : h.counter + length h.plan.undo < 2 ^ 80 = d.numbers in
+    let small : n < 2 ^ 80 = omega (arith, next, count, few) in
+    let f = first_appends logs u us n fits number small in
+    let can = can_undo l.meets c logs f.mid u n d.rests.stands.sound d.rests.last f.appends in (
+      subst (λ (b : Bool). UndoLeads (cond b (undone (hand_of h c u) u n) (too_few_numbers (hand_of h c u))) c logs) (sym (lt-ltb n (2 ^ 80) small))
+          (done_leads h c logs u us n next d.undo_is d.rests fits number d.numbers can),
+      can,
+    )
+
 pub undo_reads : UndoLaws → UndoReads
 undo_reads l h page c logs d =
     let u = d.first in
-    let us = d.rest in
-    let n = h.counter + 1 in
-    let fits : QueueFits logs (u ∷ us) = subst (QueueFits logs) d.undo_is d.owes.queue in
-    let number : n ≡ greatest (all_records logs) + 1 = ap (λ (k : ℕ). k + 1) d.owes.number in
-    let count : length h.plan.undo ≡ suc (length us) = ap (λ (l : List Undo). length l) d.undo_is in
-    let few = d.numbers in
-    let small : n < 2 ^ 80 = omega (arith, count, few) in
-    let f = first_appends logs u us n fits number small in
-    let can = can_undo l.meets c logs f.mid u n d.rests.stands.sound d.rests.last f.appends in
-    let leads : UndoLeads (undo_at (hand_of h c u) u n) c logs =
-    subst (λ (b : Bool). UndoLeads (cond b (undone (hand_of h c u) u n) (too_few_numbers (hand_of h c u))) c logs) (sym (lt-ltb n (2 ^ 80) small))
-    (done_leads h c logs u us n refl d.undo_is d.rests fits number d.numbers can) in
+    let r = reads_at l h page c logs (h.counter + 1) refl d in
     subst (λ (id : PageId). UndoLeads (take_done (with_hand h (page_at c.pages id)) (stage.UndoRead id)) c logs) (sym d.page_is)
-    (subst (λ (x : Next). UndoLeads x c logs) (sym (l.reads h c logs u us can d.undo_is)) leads)
+    (subst (λ (x : Next). UndoLeads x c logs) (sym (l.reads h c logs u d.rest r.1 d.undo_is)) r.0)
 
 -- ---- the compensation is appended
 
@@ -247,16 +254,18 @@ undo_appends l h member page c logs d =
     let others : (id : PageId) → same_page page id ≡ false → IsLast (with_appended h member c) after id =
     λ id other. d.rests.last id ∙ sym (k.others id (subst (λ (p : PageId). same_page p id ≡ false) d.page_is other)) in (
       a.stops,
-      after,
-      inl (
-        refl,
-        record {
-          stands = record { sound = a.sound; ends = (stands_behind h member c logs after d.rests.stands a).ends; endings = (stands_behind h member c logs after d.rests.stands a).endings; renews = d.rests.stands.renews };
-          others = others;
-          hand_is = d.hand_is ∙ k.own ∙ ap (last_images after) (sym d.page_is);
-          owes = goes.2 refl;
-          numbers = d.numbers;
-        },
+      (
+        after,
+        inl (
+          refl,
+          record {
+            stands = record { sound = a.sound; ends = (stands_behind h member c logs after d.rests.stands a).ends; endings = (stands_behind h member c logs after d.rests.stands a).endings; renews = d.rests.stands.renews };
+            others = others;
+            hand_is = d.hand_is ∙ k.own ∙ ap (last_images after) (sym d.page_is);
+            owes = goes.2 refl;
+            numbers = d.numbers;
+          },
+        ),
       ),
     )
 
