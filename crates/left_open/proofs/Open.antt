@@ -23,7 +23,7 @@ plain_body place body.Ended e = refl
 plain_body place (body.Checkpoint offset) e = absurd cc
 plain_body place body.RestartEnd e = refl
 
-none_names : (records : List LogRecord) → ArePlain records → NoneNames records
+pub none_names : (records : List LogRecord) → ArePlain records → NoneNames records
 none_names [] plain place = tt
 none_names (r ∷ rs) plain place = (plain_body place r.body plain.0, none_names rs plain.1 place)
 

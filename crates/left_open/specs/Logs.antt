@@ -1,7 +1,8 @@
 -- The log of a member and its log buffer, beside the locks of its transactions.
-use Rattle.std.specs.Prelude.{◌≡◌, ◌≢◌, ℕ, ◌++◌, true, List, [], take}
+use Rattle.std.specs.Prelude.{◌≡◌, ◌≢◌, ℕ, ◌-◌, ◌≤◌, ◌++◌, ◌&&◌, nat_lt, Bool, true, false, List, [], length, take, Some}
 use Rattle.std.specs.List.{AllByRecursion}
 use Rattle.ds_base.specs.declared.names.Sizes.{Sizes}
+use Rattle.ds_disk.specs.Contents.{Contents, log_of}
 use Rattle.ds_model.specs.Rows.{Spot}
 use Rattle.ds_model.specs.RecordBytes.{IsAllowed, log_bytes}
 use Rattle.ds_model.specs.declared.log.LogRecord.{LogRecord}
@@ -13,9 +14,14 @@ use Rattle.log_appends.specs.Appends.{AreLastFrom}
 use Rattle.lock_world.specs.Books.{IsBook}
 use Rattle.member_marks.specs.Local.{Reaches}
 use Rattle.member_marks.specs.State.{MarksState}
-use Rattle.member_resources.specs.Held.{Held, IsNew}
+use Rattle.member_intents.specs.declared.intent.Intent.{Intent}
+use Rattle.member_intents.specs.declared.outcome.Answered.{Answered}
+use Rattle.member_intents.specs.declared.outcome.Sent.{Sent}
+use Rattle.member_resources.specs.Events.{Drive, Happens, World}
+use Rattle.member_resources.specs.Held.{Held, IsNew, begun}
+use Rattle.put_records.specs.Puts.{event_records, is_append, is_done}
 use Rattle.strict_locking.specs.Rows.{HasLocked}
-use Rattle.closing_law.specs.Closing.{ArePlain}
+use Rattle.closing_law.specs.Closing.{ArePlain, IsUnfailed}
 use Rattle.row_claims.specs.Rows.{AllClosed, RowsLocked}
 
 -- The log has these bytes, which are whole records, and these records wait in the buffer, which are allowed, and none of them a Checkpoint. Wherever
@@ -47,3 +53,30 @@ LockedBegins = (log : List ℕ) (member : ℕ) (sizes : Sizes) (h : Held)
 
 abbrev pub LockedReaches : Type 0
 LockedReaches = (log : List ℕ) (pend : List LogRecord) (s t : MarksState) → Reaches s t → LogLocked log pend s → LogLocked log pend t
+
+-- ---- and behind events that put no record, or append those that wait
+
+-- the disk tells these bytes as the log of the member
+pub record TellsLog (log : List ℕ) (drive : Drive) (member : ℕ) : Type 0 where
+  pub contents : Contents
+  pub told : drive.contents ≡ Some contents
+  pub there : nat_lt (member - 1) (length contents.logs) ≡ true
+  pub bytes : log_of contents.logs member ≡ log
+
+-- where those that wait are appended
+abbrev pub log_after : Bool → List ℕ → List LogRecord → List ℕ
+log_after true log pend = log ++ log_bytes pend
+log_after false log pend = log
+
+abbrev pub pend_after : Bool → List LogRecord → List LogRecord
+pend_after true pend = []
+pend_after false pend = pend
+
+pub record LogStays (appends : Bool) (log : List ℕ) (pend : List LogRecord) (drive : Drive) (s : MarksState) : Type 0 where
+  pub tells : TellsLog (log_after appends log pend) drive s.member
+  pub locked : LogLocked (log_after appends log pend) (pend_after appends pend) s
+
+abbrev pub LockedStay : Type 0
+LockedStay = (log : List ℕ) (pend : List LogRecord) (w v : World) (h k : Held) (i : Intent) (place : ℕ) (sent : Sent) (a : Answered)
+    → (happens : Happens w h i place sent a v k) → IsUnfailed a → h.marks.log.stable ≤ w.facility.counter → TellsLog log w.drive h.marks.member
+    → event_records (begun happens.ready place).marks i happens.plan a ≡ [] → LogLocked log pend h.marks → LogStays (is_done a && is_append i) log pend v.drive k.marks

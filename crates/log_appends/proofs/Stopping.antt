@@ -14,7 +14,7 @@ use Rattle.log_head.specs.Laws.{NothingIsShort}
 use Rattle.log_reader.specs.Held.{names}
 use Rattle.log_reader.specs.Keeping.{AreWhole}
 use Rattle.log_starts.specs.Starts.{MayBegin, NamesOwn}
-use Rattle.log_appends.specs.Appends.{AllAreLast, AreBehind, AreLastFrom, LastAreBehind, NoneNames}
+use Rattle.log_appends.specs.Appends.{AllAreLast, AreBehind, AreLastFrom, LastAreBehind, LastSpell, NoneNames}
 use Rattle.log_appends.proofs.Spelling.{Behind, Front, FrontIsCut, ReadAgain, back_all, begins_with, both_all, both_bytes, front_all, front_of, some_bytes, split_off}
 
 -- a log's whole records are read, with what is left behind them
@@ -51,6 +51,18 @@ never_named a p q = cc
 
 same_parts : (x : Result Parts ℕ) (a b : Parts) → x ≡ Ok a → x ≡ Ok b → a ≡ b
 same_parts x a b e f = cc
+
+pub last_spell : ReadAgain → FrontIsCut → NothingIsShort → LogIsRead → LastSpell
+last_spell again cut none sound log start back whole last =
+    let split : Behind whole.records last.whole.records [] (drop start log) =
+    split_off again cut none last.whole.records whole.records [] (drop start log) last.whole.allowed whole.allowed (inl refl)
+    (append-nil (log_bytes whole.records) ∙ sym whole.spelled ∙ sym (take-append-drop start log) ∙ ap (λ (z : List ℕ). z ++ drop start log) last.whole.spelled) in
+    let allowed : AllByRecursion IsAllowed split.behind = back_all IsAllowed last.whole.records split.behind (subst (AllByRecursion IsAllowed) split.split whole.allowed) in
+    let read = sound (drop start log) split.behind (record { tail = []; whole = split.bytes; allowed = allowed; torn = inl refl }) in
+    let same : back ≡ split.behind =
+    last.are ∙ ap (λ (p : Parts). p.records)
+    (same_parts (parts_in (drop start log)) last.parts (record { records = split.behind; size = length (log_bytes split.behind); tail = length (drop start log) - length (log_bytes split.behind) }) last.told read) in
+    sym (take-append-drop start log) ∙ ap (λ (z : List ℕ). take start log ++ z) (split.bytes ∙ append-nil (log_bytes split.behind) ∙ ap log_bytes (sym same))
 
 module _ (again : ReadAgain) (cut : FrontIsCut) (none : NothingIsShort) (sound : LogIsRead) (log : List ℕ) (new : List LogRecord) (n start : ℕ) (records : List LogRecord)
     (whole : AreWhole log) (allowed : AllByRecursion IsAllowed new) (plain : NoneNames new) (last : AreLastFrom (log ++ take n (log_bytes new)) start records) (f : Front new n) where

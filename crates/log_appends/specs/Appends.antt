@@ -29,6 +29,10 @@ AppendsAreWhole = (log : List ℕ) (new : List LogRecord) → AreWhole log → A
 abbrev pub AllAreLast : Type 0
 AllAreLast = (log : List ℕ) → (whole : AreWhole log) → AreLastFrom log 0 whole.records
 
+-- and the log ends with the spelling of its last records
+abbrev pub LastSpell : Type 0
+LastSpell = (log : List ℕ) (start : ℕ) (back : List LogRecord) → AreWhole log → AreLastFrom log start back → log ≡ take start log ++ log_bytes back
+
 -- Last records of what an append has left, of which so many bytes are on disk: those that the log had from the same byte on, and behind them a
 -- front of the records that were appended, or all of them, if all bytes are there.
 pub record AreBehind (log : List ℕ) (new : List LogRecord) (n start : ℕ) (records : List LogRecord) : Type 0 where

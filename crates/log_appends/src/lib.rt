@@ -4,17 +4,18 @@
 //! The crate has definitions and proofs alone. Its functions do nothing: their contracts are the theorems.
 #![tactic(auto)]
 
-ghost use Rattle.log_appends.specs.Appends.{AllAreLast, AppendsAreWhole, LastAreBehind};
+ghost use Rattle.log_appends.specs.Appends.{AllAreLast, AppendsAreWhole, LastAreBehind, LastSpell};
 
 use log_head::whole_laws;
 use log_record::{log_laws, reading_laws};
 
-/// A log of whole records that are allowed is one again behind such records that are appended, and all of them are last ones; and where no Checkpoint is among these, its
-/// last records, behind an append of which any front is on disk, are last ones that it had before, and then a front of those that were
-/// appended: all of them where all of their bytes are.
+/// A log of whole records that are allowed is one again behind such records that are appended. All its records are last ones; and with the
+/// spelling of last ones it ends. Where no Checkpoint is among those that are appended, its last records, behind an append of which any front is
+/// on disk, are last ones that it had before, and then a front of those that were appended: all of them where all of their bytes are.
 pub fn appends_tell()
     ensures whole { AppendsAreWhole }
     ensures all { AllAreLast }
+    ensures spell { LastSpell }
     ensures last { LastAreBehind }
 {
     reading_laws();
