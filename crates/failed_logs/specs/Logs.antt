@@ -1,14 +1,21 @@
 -- The claims of what a member's log leaves open, from its failure to its restart.
-use Rattle.std.specs.Prelude.{◌≡◌, ◌≢◌, ℕ, ◌++◌, true, List, take}
+use Rattle.std.specs.Prelude.{◌≡◌, ◌≢◌, ℕ, ◌++◌, true, List, [], take}
 use Rattle.std.specs.List.{AllByRecursion}
 use Rattle.ds_model.specs.declared.log.LogRecord.{LogRecord}
 use Rattle.list_structure.specs.declared.standing.MemberStatus.TheVariants.{Up}
 use Rattle.list_structure.specs.Standings.{status_of}
+use Rattle.log_opens.specs.Opens.{has_opened}
+use Rattle.log_reader.specs.Keeping.{AreWhole}
 use Rattle.log_trans.specs.Courses.{open_trans}
+use Rattle.log_trans.specs.declared.opened.OpenTran.{OpenTran}
+use Rattle.log_appends.specs.Appends.{AreLastFrom}
 use Rattle.log_numbers.specs.Numbers.{AreCounted}
 use Rattle.restart_marks.specs.State.{IsFresh, RestartState}
 use Rattle.restart_law.specs.Reads.{AreLast}
 use Rattle.restart_claims.specs.Claims.{HasRows, OpensClaimed}
+use Rattle.adopted_rows.specs.Rows.{RowsBut}
+use Rattle.member_resources.specs.Held.{Held}
+use Rattle.group_member.specs.Adopting.{AdoptsAll}
 use Rattle.group_member.specs.Members.{Member}
 use Rattle.group_crew.specs.States.{CrewState}
 use Rattle.lock_protocol.specs.Machine.{World}
@@ -53,3 +60,11 @@ MovesLeaveClaimed = (by : Whose) (old new : CrewState) (w : World) (m : ℕ) (by
 
 abbrev pub BeginsClaimed : Type 0
 BeginsClaimed = (bytes : List ℕ) (w : World) (member : ℕ) (s : RestartState) → IsFresh member s → LogClaimed bytes w member → OpensClaimed bytes w s
+
+-- ---- behind its restart
+
+-- Where the member takes over from its restart what this has left open, over a log of which each row that its last records have changed is
+-- locked, or closed, or changed by one of these, wherever reading may begin: then the rows of the log are locked.
+abbrev pub TakenOverLocked : Type 0
+TakenOverLocked = (log : List ℕ) (h k : Held) (by : ℕ) (ts : List OpenTran) → AreWhole log → AdoptsAll h by ts k
+    → ((start : ℕ) (back : List LogRecord) → AreLastFrom log start back → RowsBut back h.marks (λ id spot. has_opened ts id spot ≡ true)) → LogLocked log [] k.marks

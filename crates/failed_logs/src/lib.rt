@@ -11,13 +11,16 @@ ghost use Rattle.failed_logs.specs.Logs.{
   FailsClaimed,
   FailsUnread,
   MovesLeaveClaimed,
+  TakenOverLocked,
 };
 
+use adopted_rows::rows_taken_over;
 use failed_claims::{claims_handed_over, failures_leave};
 use group_locks::{member_failures_go, moves_spare};
 use left_open::left_is_locked;
 use lock_members::members_fail;
 use lock_protocol::keeps_sound;
+use log_appends::appends_tell;
 use restart_claims::claims_tell;
 
 /// So it is where a member fails that was up: each row that a slot's transaction, or a rollback, had locked is claimed by the rollback which has
@@ -61,4 +64,12 @@ pub fn claims_stay()
 {
     moves_spare();
     claims_tell();
+}
+
+/// Once the member has taken over what its restart has left open, the rows of its log are locked again, wherever reading may begin.
+pub fn logs_taken_over()
+    ensures { TakenOverLocked }
+{
+    appends_tell();
+    rows_taken_over();
 }
