@@ -8,7 +8,7 @@ ghost use Rattle.restart_reads.specs.Reading.{ReadingBegins, ReadingGoes};
 /// A group restart that has only begun is about to read the first log of a sound disk. Each of its calls leads to the next one, of that log or
 /// of the one behind it, and leaves the disk; or it has read all logs, each whole or from a Checkpoint on as the laws of reads say, finds
 /// no damage in them, and goes on by the plan of what it read.
-pub fn reading_laws()
+pub fn restart_laws()
     ensures begins { ReadingBegins }
     ensures goes { ReadingGoes }
 {

@@ -1,5 +1,5 @@
 use Rattle.restart_reads.proofs.Going.{ReadingLaws, reading_begins, reading_goes}
-use Rattle.restart_reads.proofs.reading_laws.Goals as goal
+use Rattle.restart_reads.proofs.restart_laws.Goals as goal
 
 pub returns : goal.returns
 returns c =
