@@ -20,7 +20,7 @@ use Rattle.log_reader.specs.Held.{HeldState, names, is_old, begins_at, begun_at,
 use Rattle.log_reader.specs.Readers.{ReaderState, IsLogRead}
 use Rattle.log_reader.specs.Keeping.{AreBytes, AreWhole, IsOf, HasLastOf, any_old, IsNoted}
 use Rattle.log_reader.proofs.Marks.{one_behind}
-use Rattle.log_reader.proofs.Keeping.{FoundInBytes, ReadAgain, both_whole, as_whole, drop_bytes, take_bytes, no_more, size_is, IsMark, all_marked, first_is, more_is, prefixed, drop_first, front_parts, AreParts, parts_are}
+use Rattle.log_reader.proofs.Keeping.{FoundInBytes, ReadAgain, both_whole, as_whole, drop_bytes, take_bytes, no_more, size_is, IsMark, all_marked, first_is, more_is, prefixed, drop_first, front_parts, parts_are}
 
 -- ---- tests
 

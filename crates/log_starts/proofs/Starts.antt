@@ -136,13 +136,13 @@ module _ (found : FoundInBytes) (first : FirstIsWhole) (none : NoneIsWhole) wher
       at = omega (arith, zero)
 
   marked_in : RecordHasSize → FrontDecides → (log : List ℕ) (h : HeldState) (m : Mark) → h.bytes ≡ take (length h.bytes) (drop h.start log) → Named h.start h.bytes m → BeginsIn log h → BeginsIn log (with_mark h m)
-  marked_in size law log h m told named begins = cond_both m.wants_all (nothing_held true) (record { start = h.start + m.from; end = h.end; bytes = drop m.from h.bytes; passed = m.to - m.from; low = m.low; keeps_all = h.keeps_all }) (BeginsIn log)
+  marked_in size law log h m told named begins = cond_both m.wants_all (nothing_held true) (record { start = h.start + m.from; end = h.end; bytes = drop m.from h.bytes; passed = m.to - m.from; low = m.low; keeps_all = h.keeps_all; has_old = m.has_old }) (BeginsIn log)
       (λ _. inl refl) (λ _. from_mark_in size law log h m told named begins)
 
   settled_in : RecordHasSize → FrontDecides → (log : List ℕ) (h : HeldState) → AreBytes h.bytes → h.bytes ≡ take (length h.bytes) (drop h.start log) → BeginsIn log h → BeginsIn log (settled h)
   unfolding settled
-  settled_in size law log h are told begins = cond_both (h.keeps_all || nat_lt (length h.bytes) h.passed) h (with_mark h (marked_all h.start (first_mark h.passed h.low) (whole_records (drop h.passed h.bytes)))) (BeginsIn log)
-      (λ _. begins) (λ _. marked_in size law log h (marked_all h.start (first_mark h.passed h.low) (whole_records (drop h.passed h.bytes))) told (all_named h.start h.bytes (whole_records (drop h.passed h.bytes)) are (first_mark h.passed h.low) (inl refl) refl) begins)
+  settled_in size law log h are told begins = cond_both (h.keeps_all || nat_lt (length h.bytes) h.passed) h (with_mark h (marked_all h.start (first_mark h.passed h.low h.has_old) (whole_records (drop h.passed h.bytes)))) (BeginsIn log)
+      (λ _. begins) (λ _. marked_in size law log h (marked_all h.start (first_mark h.passed h.low h.has_old) (whole_records (drop h.passed h.bytes))) told (all_named h.start h.bytes (whole_records (drop h.passed h.bytes)) are (first_mark h.passed h.low h.has_old) (inl refl) refl) begins)
 
   pub grown_in : RecordHasSize → FrontDecides → GrownBeginsIn
   grown_in size law log h block n is are within next begins =
@@ -154,7 +154,7 @@ module _ (found : FoundInBytes) (first : FirstIsWhole) (none : NoneIsWhole) wher
       let told : h.bytes ++ more ≡ take (length (h.bytes ++ more)) (drop h.start log) =
       ap (λ (t : List ℕ). t ++ more) is.told ∙ ap (λ (t : List ℕ). take (length h.bytes) (drop h.start log) ++ t) (next_more ∙ ap (λ (k : ℕ). take (length more) (drop k log)) (sym is.ends) ∙ ap (take (length more)) (sym (drop-drop (length h.bytes) h.start log)))
       ∙ sym (take-add (length h.bytes) (length more) (drop h.start log)) ∙ ap (λ (k : ℕ). take k (drop h.start log)) (sym long) in
-      settled_in size law log (record { start = h.start; end = h.end + length more; bytes = h.bytes ++ more; passed = h.passed; low = h.low; keeps_all = h.keeps_all })
+      settled_in size law log (record { start = h.start; end = h.end + length more; bytes = h.bytes ++ more; passed = h.passed; low = h.low; keeps_all = h.keeps_all; has_old = h.has_old })
       (both_bytes h.bytes more is.bytes (take_bytes n block are)) told begins
 
 pub nothing_begins : NothingBegins

@@ -1,4 +1,4 @@
--- The fourth clause of a sound disk, the index is whole and the rows before agree: of the pages after all records.
+-- The fourth clause of a sound disk, the index is whole, the rows before agree and slots keep their keys: of the pages after all records.
 use Rattle.std.specs.Prelude.{◌≡◌, ◌⊎◌, ℕ, true, List, [], Option, Some}
 use Rattle.ds_base.specs.Ids.{IsTable}
 use Rattle.ds_base.specs.Pages.{index_page}
@@ -42,7 +42,7 @@ pub record IsWholeTable (at : Images) (records : List LogRecord) (table : ℕ) :
   pub index : HasNoIndex at table ⊎ IsWholeIndex at records table
   pub rows : (key : ℕ) (place : Place) → IsPlaceOf at table key place → said_at at table place ≡ Some (key, row_after records table key)
 
--- each table after all records, and the row before each of them
+-- each table after all records; and each of them met its row, or left each slot to its key
 pub record AreWholeTables (records : List LogRecord) : Type 0 where
   pub tables : (table : ℕ) → IsTable table → IsWholeTable (images_of records) records table
   pub befores : BeforesAgree [] records

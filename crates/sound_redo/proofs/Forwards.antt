@@ -196,14 +196,14 @@ same_id a b h =
 change_stood : (earlier : List LogRecord) (c : RowChange) (id : PageId) → Stood earlier c → same_page (heap_page c.table c.place.page) id ≡ true → change_fault id c (version_of id earlier) ≡ None
 change_stood earlier c id s e = subst (λ (q : PageId). change_fault q c (version_of q earlier) ≡ None) (same_id (heap_page c.table c.place.page) id e) s.slot
 
-body_stood : (earlier : List LogRecord) (b : Body) (id : PageId) → BodyStood earlier b → list_any (λ (p : Patch). same_page p.page id) (changes_of b) ≡ true → body_fault id (version_of id earlier) b ≡ None
-body_stood earlier (body.RowChange c) id s e = change_stood earlier c id s (or_one (same_page (heap_page c.table c.place.page) id) e)
-body_stood earlier (body.Compensation c undone) id s e = change_stood earlier c id s (or_one (same_page (heap_page c.table c.place.page) id) e)
-body_stood earlier (body.System ps) id s e = refl
-body_stood earlier body.Commit id s e = refl
-body_stood earlier body.Ended id s e = refl
-body_stood earlier (body.Checkpoint offset) id s e = refl
-body_stood earlier body.RestartEnd id s e = refl
+body_stood : (earlier : List LogRecord) (lrsn : ℕ) (b : Body) (id : PageId) → BodyStood earlier lrsn b → list_any (λ (p : Patch). same_page p.page id) (changes_of b) ≡ true → body_fault id (version_of id earlier) b ≡ None
+body_stood earlier lrsn (body.RowChange c) id s e = change_stood earlier c id s (or_one (same_page (heap_page c.table c.place.page) id) e)
+body_stood earlier lrsn (body.Compensation c undone) id s e = change_stood earlier c id s (or_one (same_page (heap_page c.table c.place.page) id) e)
+body_stood earlier lrsn (body.System ps) id s e = refl
+body_stood earlier lrsn body.Commit id s e = refl
+body_stood earlier lrsn body.Ended id s e = refl
+body_stood earlier lrsn (body.Checkpoint offset) id s e = refl
+body_stood earlier lrsn body.RestartEnd id s e = refl
 
 applied_if : (a h : Bool) (o : Option ℕ) (id : PageId) (page : List ℕ) (r : LogRecord) (f : Forward) → a ≡ true → h ≡ true → o ≡ None → cond (a && h) (unless o id page r) f ≡ record { page = written id r.lrsn (patches_of r.body) page; outcome = Ok true }
 applied_if true true o id page r f x y e = ap (λ (q : Option ℕ). unless q id page r) e
@@ -214,13 +214,13 @@ abbrev done : List ℕ → Forward
 done page = record { page = page; outcome = Ok true }
 
 -- a record that changes the page and is above its number makes the next version of it
-applied : IsKnown → (id : PageId) (earlier : List LogRecord) (r : LogRecord) → IsAllowed r → touches id r ≡ true → lrsn_of (version_of id earlier) < r.lrsn → BodyStood earlier r.body
+applied : IsKnown → (id : PageId) (earlier : List LogRecord) (r : LogRecord) → IsAllowed r → touches id r ≡ true → lrsn_of (version_of id earlier) < r.lrsn → BodyStood earlier r.lrsn r.body
     → after_one id (version_of id earlier) r ≡ done (version_of id (earlier ++ r ∷ []))
 applied k id earlier r allowed t lt stood =
     let page : List ℕ = version_of id earlier in
     let b : (patches_of r.body) ≡ changes_of r.body = body_patches r.version r.body allowed.body_is in
     applied_if (nat_lt (lrsn_of page) r.lrsn) (has_patch id (patches_of r.body)) (body_fault id page r.body) id page r (record { page = page; outcome = Ok false })
-    (below (lrsn_of page) r.lrsn lt) (has_same id r allowed ∙ t) (body_stood earlier r.body id stood t)
+    (below (lrsn_of page) r.lrsn lt) (has_same id r allowed ∙ t) (body_stood earlier r.lrsn r.body id stood t)
     ∙ ap (λ (ps : List Patch). done (written id r.lrsn ps page)) b
     ∙ ap done (sym (k.grows earlier r id))
   where
@@ -230,7 +230,7 @@ applied k id earlier r allowed t lt stood =
 go_done : (id : PageId) (page next : List ℕ) (b : Bool) (r : LogRecord) (rs : List LogRecord) → after_one id page r ≡ done next → forward_from id page b (r ∷ rs) ≡ forward_from id next (b || true) rs
 go_done id page next b r rs e = ap (λ (f : Forward). go_on (λ p a. forward_from id p a rs) b f.page f.outcome) e
 
-finds_when : IsKnown → (t : Bool) (id : PageId) (low : ℕ) (b : Bool) (earlier : List LogRecord) (r : LogRecord) (rs : List LogRecord) → touches id r ≡ t → IsAllowed r → lrsn_of (version_of id earlier) ≤ low → Follows low r (changes_of r.body) → BodyStood earlier r.body
+finds_when : IsKnown → (t : Bool) (id : PageId) (low : ℕ) (b : Bool) (earlier : List LogRecord) (r : LogRecord) (rs : List LogRecord) → touches id r ≡ t → IsAllowed r → lrsn_of (version_of id earlier) ≤ low → Follows low r (changes_of r.body) → BodyStood earlier r.lrsn r.body
     → ((a : Bool) → FindsNothing (forward_from id (version_of id (earlier ++ r ∷ [])) a rs).outcome)
     → FindsNothing (forward_from id (version_of id earlier) b (r ∷ rs)).outcome
 finds_when k true id low b earlier r rs t allowed le follows stood more =

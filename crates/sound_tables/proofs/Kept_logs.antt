@@ -1,12 +1,11 @@
 -- What holds of the logs of a sound disk is kept by each record that is appended.
 use Rattle.std.proofs.Common.{◌≡◌, ℕ, ◌+◌, Bool, List, [], ◌∷◌, ◌++◌, length, refl, ap, sym, subst, ◌∙◌}
 use Rattle.std.specs.Prelude.{◌||◌}
-use Rattle.std.specs.List.{AllByRecursion}
 use Rattle.ds_model.specs.declared.log.LogRecord.{LogRecord}
 use Rattle.ds_model.specs.RecordBytes.{log_bytes}
 use Rattle.log_record.specs.declared.log.Log.{Log}
 use Rattle.page_images.specs.Images.{Images}
-use Rattle.page_chain.specs.Chains.{IsVersion, images_of}
+use Rattle.page_chain.specs.Chains.{IsVersion}
 use Rattle.restart_plan.specs.Renewal.{asks_renewal, must_renew}
 use Rattle.sound_disk.specs.Whole_logs.{AreWholeLogs}
 use Rattle.sound_disk.specs.Versions.{current, AreVersions}
@@ -15,7 +14,7 @@ use Rattle.sound_disk.specs.Checkpoints.{IsCheckpointed, AreCheckpointed}
 use Rattle.sound_disk.specs.Laws.{records_of}
 use Rattle.sound_appends.specs.Appends.{Appends}
 use Rattle.sound_appends.specs.Laws.{KeepsWhole, TornKeepsWhole, KeepsTransactions, KeepsTurns, KeepsNumbers, SameRecordsKeep, KeepsVersions, KeepsCheckpoints}
-use Rattle.sound_tables.specs.Keeping.{HasItsSlot, AreTableLogs, KeepsTables, KeepsPlaces, AreSoundOn, IsSettledBefore}
+use Rattle.sound_tables.specs.Keeping.{AreTableLogs, KeepsTables, AreSoundOn, IsSettledBefore}
 use Rattle.sound_tables.proofs.Stops.{IsKept, first_of_lists, rest_of_lists, same_merged}
 
 pub record Laws : Type 0 where
@@ -28,7 +27,6 @@ pub record Laws : Type 0 where
   pub versions : KeepsVersions
   pub checkpoints : KeepsCheckpoints
   pub tables : KeepsTables
-  pub places : KeepsPlaces
 
 -- ---- one record
 
@@ -40,7 +38,7 @@ size_at member (b ∷ bs) (x ∷ xs) log back h = size_at (member + 1) bs xs log
 
 appended : Laws → (at : Images) (bytes : List (List ℕ)) (logs after : List Log) (r : LogRecord) (h : Appends logs r after) → IsSettledBefore at h.log r.body → AreWholeLogs 1 bytes logs → AreSoundOn at logs → AreSoundOn at after
 appended l at bytes logs after r h d w s =
-    let all : AreTableLogs bytes logs = record { whole = w; transactions = s.records.transactions; turns = s.records.turns; tables = s.tables; places = s.places } in
+    let all : AreTableLogs bytes logs = record { whole = w; transactions = s.records.transactions; turns = s.records.turns; tables = s.tables } in
     record {
       records = record {
         transactions = l.transactions logs after r h s.records.transactions;
@@ -50,7 +48,6 @@ appended l at bytes logs after r h d w s =
       versions = l.versions at logs after r h d.1 s.versions;
       tables = l.tables bytes logs after r h all;
       checkpoints = l.checkpoints at logs after r h (size_at 1 bytes h.front h.log h.back (subst (AreWholeLogs 1 bytes) h.logs_are w)) d.0 s.checkpoints;
-      places = l.places bytes logs after r h all;
     }
 
 -- ---- logs with the same records
@@ -76,16 +73,12 @@ same_checkpoints at [] (y ∷ ys) e h = absurd cc
 same_checkpoints at (x ∷ xs) [] e h = absurd cc
 same_checkpoints at (x ∷ xs) (y ∷ ys) e h = (subst (IsCheckpointed at) (ap first_of_lists e) h.0, same_checkpoints at xs ys (ap rest_of_lists e) h.1)
 
-abbrev InPlace : List LogRecord → Type 0
-InPlace rs = AllByRecursion (λ (r : LogRecord). HasItsSlot (images_of rs) r.body) rs
-
 tailed : Laws → (at : Images) (logs others : List Log) → records_of logs ≡ records_of others → AreSoundOn at logs → AreSoundOn at others
 tailed l at logs others e s = record {
   records = l.same logs others e s.records;
   versions = same_versions at logs others e s.versions;
   tables = subst AreWholeTables (same_merged logs others e) s.tables;
   checkpoints = same_checkpoints at logs others e s.checkpoints;
-  places = subst InPlace (same_merged logs others e) s.places;
 }
 
 pub kept : Laws → (at : Images) → IsKept at (AreSoundOn at)

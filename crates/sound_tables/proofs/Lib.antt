@@ -6,7 +6,8 @@ pub mod Open_rows
 pub mod Last_rows
 pub mod Patched
 pub mod Kept_tables
+pub mod Pages_behind
+pub mod Places
 pub mod Tables
 pub mod Stops
 pub mod Kept_logs
-pub mod Places

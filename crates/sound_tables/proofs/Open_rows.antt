@@ -334,7 +334,7 @@ no_commit : (c : Course) → true ≡ false → c.is_committed ≡ false
 no_commit c h = absurd cc
 
 rows_with : (table key : ℕ) (rs : List LogRecord) (r : LogRecord) (b : Body) → r.body ≡ b → AreLeft rs → body_fault (course_in new_course r.tran rs) r b ≡ None
-    → TakesBack (course_in new_course r.tran rs) b → BodyStood rs b → is_in_turn rs r.tran b ≡ true → RowsOf table key rs → RowsOf table key (rs ++ r ∷ [])
+    → TakesBack (course_in new_course r.tran rs) b → BodyStood rs r.lrsn b → is_in_turn rs r.tran b ≡ true → RowsOf table key rs → RowsOf table key (rs ++ r ∷ [])
 rows_with table key rs r (body.RowChange c) is left fits back stood turn h = changed_row table key rs r c is left stood turn h
 rows_with table key rs r (body.Compensation d n) is left fits back stood turn h =
     let c = course_in new_course r.tran rs in

@@ -21,10 +21,15 @@ use Rattle.page_images.specs.Images.{Images, after_change}
 use Rattle.page_chain.specs.Chains.{row_patch, changes_of, images_of, Follows, AreInOrder}
 use Rattle.page_redo.specs.Rows.{or_fault, kind_fault, key_fault, slot_fault, headed_fault, change_fault}
 use Rattle.sound_disk.specs.Layouts.{count_in}
-use Rattle.sound_disk.specs.Rows_there.{key_in, IsPlaceOf, Stood, BodyStood, BeforesAgree}
-use Rattle.sound_tables.specs.Keeping.{HasItsSlot}
-use Rattle.sound_tables.specs.Places.{PatchesKeepSlots, SlotsAreKept}
-use Rattle.sound_tables.proofs.Tables.{Known, is_behind, slot_stays, each_with}
+use Rattle.log_record.specs.declared.log.Log.{Log}
+use Rattle.sound_disk.specs.Whole_logs.{AreWholeLogs}
+use Rattle.sound_disk.specs.Transactions.{AreTransactions}
+use Rattle.sound_disk.specs.Rows_there.{key_in, IsPlaceOf, Stood, SlotsStay, BodyStood, BeforesAgree}
+use Rattle.sound_disk.specs.Tables.{AreTables}
+use Rattle.sound_disk.specs.Versions.{merged}
+use Rattle.sound_tables.specs.Keeping.{HasItsSlot, RowsStayInPlace}
+use Rattle.sound_tables.proofs.Kept_tables.{IsBehind, place_behind}
+use Rattle.sound_tables.proofs.Pages_behind.{Known, is_behind}
 
 -- ---- a change that met its row has its slot
 
@@ -56,6 +61,22 @@ slot_of rs c h =
     let page = images_of rs (heap_page c.table c.place.page) in
     record { given = ltb-true c.place.slot (count_in page) (given_by (heap_page c.table c.place.page) page c h.slot); key_is = ap key_in h.there }
 
+-- ---- behind a row's change
+
+slot_stays : Known → (rs : List LogRecord) (r : LogRecord) (c : RowChange) → IsBehind (images_of rs) (images_of (rs ++ r ∷ [])) c r.lrsn → IsPlaceOf (images_of rs) c.table c.key c.place → (v : Version) (b : Body) → BodyIsAllowed v b
+    → HasItsSlot (images_of rs) b → HasItsSlot (images_of (rs ++ r ∷ [])) b
+slot_stays k rs r c pages slot v (body.RowChange d) allowed h = place_behind k.page (images_of rs) (images_of (rs ++ r ∷ [])) c r.lrsn pages slot d.table allowed.table_in.0 d.key d.place h
+slot_stays k rs r c pages slot v (body.Compensation d n) allowed h = place_behind k.page (images_of rs) (images_of (rs ++ r ∷ [])) c r.lrsn pages slot d.table allowed.0.table_in.0 d.key d.place h
+slot_stays k rs r c pages slot v (body.System patches) allowed h = tt
+slot_stays k rs r c pages slot v body.Commit allowed h = tt
+slot_stays k rs r c pages slot v body.Ended allowed h = tt
+slot_stays k rs r c pages slot v (body.Checkpoint offset) allowed h = tt
+slot_stays k rs r c pages slot v body.RestartEnd allowed h = tt
+
+each_with : (P Q R : LogRecord → Type 0) (rs : List LogRecord) (r : LogRecord) → ((s : LogRecord) → P s → Q s → R s) → AllByRecursion P rs → AllByRecursion Q rs → R r → AllByRecursion R (rs ++ r ∷ [])
+each_with P Q R [] r f p q h = (h, tt)
+each_with P Q R (s ∷ rs) r f p q h = (f s p.0 q.0, each_with P Q R rs r f p.1 q.1 h)
+
 -- ---- with one record more
 
 abbrev pub InPlace : List LogRecord → Type 0
@@ -83,37 +104,42 @@ none_with k rs r none own h =
     (subst (λ (at : Images). AllByRecursion (λ (s : LogRecord). HasItsSlot at s.body) rs) same h) own
 
 -- other patches
-patch_keeps : (rs : List LogRecord) (r : LogRecord) (v : Version) (b : Body) (patches : List Patch) → PatchesKeepSlots rs r (body.System patches) → BodyIsAllowed v b → HasItsSlot (images_of rs) b → HasItsSlot (images_of (rs ++ r ∷ [])) b
-patch_keeps rs r v (body.RowChange d) patches keeps allowed h = keeps d.table d.key d.place allowed.table_in h
-patch_keeps rs r v (body.Compensation d n) patches keeps allowed h = keeps d.table d.key d.place allowed.0.table_in h
-patch_keeps rs r v (body.System ps) patches keeps allowed h = tt
-patch_keeps rs r v body.Commit patches keeps allowed h = tt
-patch_keeps rs r v body.Ended patches keeps allowed h = tt
-patch_keeps rs r v (body.Checkpoint offset) patches keeps allowed h = tt
-patch_keeps rs r v body.RestartEnd patches keeps allowed h = tt
+slot_kept : (before after : Images) (v : Version) (b : Body) → SlotsStay before after → BodyIsAllowed v b → HasItsSlot before b → HasItsSlot after b
+slot_kept before after v (body.RowChange d) stay allowed h = stay d.table d.key d.place allowed.table_in allowed.slot_in h
+slot_kept before after v (body.Compensation d n) stay allowed h = stay d.table d.key d.place allowed.0.table_in allowed.0.slot_in h
+slot_kept before after v (body.System ps) stay allowed h = tt
+slot_kept before after v body.Commit stay allowed h = tt
+slot_kept before after v body.Ended stay allowed h = tt
+slot_kept before after v (body.Checkpoint offset) stay allowed h = tt
+slot_kept before after v body.RestartEnd stay allowed h = tt
 
-places_with : Known → (rs : List LogRecord) (r : LogRecord) (low : ℕ) (b : Body) → r.body ≡ b → AllByRecursion IsAllowed rs → IsAllowed r → BodyIsAllowed r.version b → Follows low r (changes_of b) → BodyStood rs b → PatchesKeepSlots rs r b
+patches_with : Known → (rs : List LogRecord) (r : LogRecord) (patches : List Patch) → changes_of r.body ≡ patches → AllByRecursion IsAllowed rs → SlotsStay (images_of rs) (after_change r.lrsn patches (images_of rs)) → HasItsSlot (images_of (rs ++ r ∷ [])) r.body
     → InPlace rs → InPlace (rs ++ r ∷ [])
-places_with k rs r low (body.RowChange c) is all allowed fits order stood keeps h =
-    row_with k rs r c (ap changes_of is) all allowed fits (omega (arith, order)) stood (subst (HasItsSlot (images_of rs)) (sym is) (slot_of rs c stood)) h
-places_with k rs r low (body.Compensation c n) is all allowed fits order stood keeps h =
-    row_with k rs r c (ap changes_of is) all allowed fits.0 (omega (arith, order)) stood (subst (HasItsSlot (images_of rs)) (sym is) (slot_of rs c stood)) h
-places_with k rs r low (body.System patches) is all allowed fits order stood keeps h =
+patches_with k rs r patches is all stay own h =
+    let grown : after_change r.lrsn patches (images_of rs) ≡ images_of (rs ++ r ∷ []) = fun_ext (λ id. ap (λ (ps : List Patch). after_change r.lrsn ps (images_of rs) id) (sym is) ∙ sym (k.grows rs r id)) in
+    let next : SlotsStay (images_of rs) (images_of (rs ++ r ∷ [])) = subst (SlotsStay (images_of rs)) grown stay in
     each_with (λ (s : LogRecord). IsAllowed s) (λ (s : LogRecord). HasItsSlot (images_of rs) s.body) (λ (s : LogRecord). HasItsSlot (images_of (rs ++ r ∷ [])) s.body) rs r
-    (λ s a b. patch_keeps rs r s.version s.body patches keeps a.body_is b) all h (subst (HasItsSlot (images_of (rs ++ r ∷ []))) (sym is) tt)
-places_with k rs r low body.Commit is all allowed fits order stood keeps h = none_with k rs r (ap changes_of is) (subst (HasItsSlot (images_of (rs ++ r ∷ []))) (sym is) tt) h
-places_with k rs r low body.Ended is all allowed fits order stood keeps h = none_with k rs r (ap changes_of is) (subst (HasItsSlot (images_of (rs ++ r ∷ []))) (sym is) tt) h
-places_with k rs r low (body.Checkpoint offset) is all allowed fits order stood keeps h = none_with k rs r (ap changes_of is) (subst (HasItsSlot (images_of (rs ++ r ∷ []))) (sym is) tt) h
-places_with k rs r low body.RestartEnd is all allowed fits order stood keeps h = none_with k rs r (ap changes_of is) (subst (HasItsSlot (images_of (rs ++ r ∷ []))) (sym is) tt) h
+    (λ s a b. slot_kept (images_of rs) (images_of (rs ++ r ∷ [])) s.version s.body next a.body_is b) all h own
+
+places_with : Known → (rs : List LogRecord) (r : LogRecord) (low : ℕ) (b : Body) → r.body ≡ b → AllByRecursion IsAllowed rs → IsAllowed r → BodyIsAllowed r.version b → Follows low r (changes_of b) → BodyStood rs r.lrsn b → InPlace rs → InPlace (rs ++ r ∷ [])
+places_with k rs r low (body.RowChange c) is all allowed fits order stood h =
+    row_with k rs r c (ap changes_of is) all allowed fits (omega (arith, order)) stood (subst (HasItsSlot (images_of rs)) (sym is) (slot_of rs c stood)) h
+places_with k rs r low (body.Compensation c n) is all allowed fits order stood h =
+    row_with k rs r c (ap changes_of is) all allowed fits.0 (omega (arith, order)) stood (subst (HasItsSlot (images_of rs)) (sym is) (slot_of rs c stood)) h
+places_with k rs r low (body.System patches) is all allowed fits order stood h = patches_with k rs r patches (ap changes_of is) all stood (subst (HasItsSlot (images_of (rs ++ r ∷ []))) (sym is) tt) h
+places_with k rs r low body.Commit is all allowed fits order stood h = none_with k rs r (ap changes_of is) (subst (HasItsSlot (images_of (rs ++ r ∷ []))) (sym is) tt) h
+places_with k rs r low body.Ended is all allowed fits order stood h = none_with k rs r (ap changes_of is) (subst (HasItsSlot (images_of (rs ++ r ∷ []))) (sym is) tt) h
+places_with k rs r low (body.Checkpoint offset) is all allowed fits order stood h = none_with k rs r (ap changes_of is) (subst (HasItsSlot (images_of (rs ++ r ∷ []))) (sym is) tt) h
+places_with k rs r low body.RestartEnd is all allowed fits order stood h = none_with k rs r (ap changes_of is) (subst (HasItsSlot (images_of (rs ++ r ∷ []))) (sym is) tt) h
 
 -- ---- all records
 
-places_from : Known → (earlier rs : List LogRecord) (low : ℕ) → AllByRecursion IsAllowed earlier → AllByRecursion IsAllowed rs → AreInOrder low rs → BeforesAgree earlier rs → SlotsAreKept earlier rs → InPlace earlier → InPlace (earlier ++ rs)
-places_from k earlier [] low all more order stood keeps h = subst InPlace (sym (append-nil earlier)) h
-places_from k earlier (r ∷ rs) low all more order stood keeps h =
+places_from : Known → (earlier rs : List LogRecord) (low : ℕ) → AllByRecursion IsAllowed earlier → AllByRecursion IsAllowed rs → AreInOrder low rs → BeforesAgree earlier rs → InPlace earlier → InPlace (earlier ++ rs)
+places_from k earlier [] low all more order stood h = subst InPlace (sym (append-nil earlier)) h
+places_from k earlier (r ∷ rs) low all more order stood h =
     subst InPlace (append_assoc earlier (r ∷ []) rs)
-    (places_from k (earlier ++ r ∷ []) rs r.lrsn (each_more IsAllowed earlier r all more.0) more.1 order.1 stood.1 keeps.1
-    (places_with k earlier r low r.body refl all more.0 more.0.body_is order.0 stood.0 keeps.0 h))
+    (places_from k (earlier ++ r ∷ []) rs r.lrsn (each_more IsAllowed earlier r all more.0) more.1 order.1 stood.1
+    (places_with k earlier r low r.body refl all more.0 more.0.body_is order.0 stood.0 h))
 
-pub rows_in_place : Known → (rs : List LogRecord) → AllByRecursion IsAllowed rs → AreInOrder 0 rs → BeforesAgree [] rs → SlotsAreKept [] rs → InPlace rs
-rows_in_place k rs all order stood keeps = places_from k [] rs 0 tt all order stood keeps tt
+pub in_place : Known → (bytes : List (List ℕ)) (logs : List Log) → AreWholeLogs 1 bytes logs → AreTransactions logs → AreTables logs → RowsStayInPlace logs
+in_place k bytes logs w h t = let rs = k.merged bytes logs w h in places_from k [] (merged logs) 0 tt rs.0 rs.1 t.befores tt

@@ -58,38 +58,37 @@ HasItsSlot at body.Ended = Unit {0}
 HasItsSlot at (body.Checkpoint offset) = Unit {0}
 HasItsSlot at body.RestartEnd = Unit {0}
 
--- no row has left the slot in which a record changed it, as a record of other patches could make it do
+-- no row has left the slot in which a record changed it
 abbrev pub RowsStayInPlace : List Log → Type 0
 RowsStayInPlace logs = AllByRecursion (λ (r : LogRecord). HasItsSlot (last_images logs) r.body) (merged logs)
 
--- the logs of a disk that is sound, and whose rows stay in their places
+-- so it is after all records of a sound disk: neither a row record nor one of other patches takes a slot from its key
+abbrev pub StayInPlace : Type 0
+StayInPlace = (bytes : List (List ℕ)) (logs : List Log) → AreWholeLogs 1 bytes logs → AreTransactions logs → AreTables logs → RowsStayInPlace logs
+
+-- the logs of a sound disk, of which each row record tells the row before it
 pub record AreTableLogs (bytes : List (List ℕ)) (logs : List Log) : Type 0 where
   pub whole : AreWholeLogs 1 bytes logs
   pub transactions : AreTransactions logs
   pub turns : ChangeInTurn logs
   pub tables : AreTables logs
-  pub places : RowsStayInPlace logs
 
 -- a compensation meets the row that it tells, and which the records before it left
 abbrev pub MeetsItsRow : Type 0
-MeetsItsRow = (bytes : List (List ℕ)) (logs after : List Log) (r : LogRecord) → Appends logs r after → AreTableLogs bytes logs → BodyStood (merged logs) r.body
+MeetsItsRow = (bytes : List (List ℕ)) (logs after : List Log) (r : LogRecord) → Appends logs r after → AreTableLogs bytes logs → BodyStood (merged logs) r.lrsn r.body
 
 -- the pages after all records, and this one, are tables still
 abbrev pub KeepsTables : Type 0
 KeepsTables = (bytes : List (List ℕ)) (logs after : List Log) (r : LogRecord) → Appends logs r after → AreTableLogs bytes logs → AreTables after
 
-abbrev pub KeepsPlaces : Type 0
-KeepsPlaces = (bytes : List (List ℕ)) (logs after : List Log) (r : LogRecord) → Appends logs r after → AreTableLogs bytes logs → RowsStayInPlace after
-
 -- ---- several records
 
--- the clauses of a sound disk but the first, with these pages, and rows that stay in their places
+-- the clauses of a sound disk but the first, with these pages
 pub record AreSoundOn (at : Images) (logs : List Log) : Type 0 where
   pub records : AreSoundLogs logs
   pub versions : AreVersions at logs
   pub tables : AreTables logs
   pub checkpoints : AreCheckpointed at logs
-  pub places : RowsStayInPlace logs
 
 -- what stands in the log before a Checkpoint needn't be read again, and no page of version 1 is left before a RestartEnd
 abbrev pub IsSettledBefore : Images → Log → Body → Type 0

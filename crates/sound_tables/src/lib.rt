@@ -4,8 +4,7 @@
 //! The crate has definitions and proofs alone. Its functions do nothing: their contracts are the laws.
 #![tactic(auto)]
 
-ghost use Rattle.sound_tables.specs.Keeping.{AllKeepSound, KeepsPlaces, KeepsTables, LastOpenStands, MeetsItsRow, MergedFollow, StopKeepsSound};
-ghost use Rattle.sound_tables.specs.Places.{KeptSlotsStay};
+ghost use Rattle.sound_tables.specs.Keeping.{AllKeepSound, KeepsTables, LastOpenStands, MeetsItsRow, MergedFollow, StayInPlace, StopKeepsSound};
 
 /// The merged records of sound logs fit each other, and an open row change that is the last of its transaction has left its row
 /// as it is.
@@ -16,12 +15,10 @@ pub fn row_laws()
     sound_disk::page_laws();
 }
 
-/// A compensation meets the row that it tells. The pages after all records are tables with what is appended as they were, and
-/// no row leaves its place.
+/// A compensation meets the row that it tells. The pages after all records are tables with what is appended as they were.
 pub fn table_laws()
     ensures meets { MeetsItsRow }
     ensures tables { KeepsTables }
-    ensures places { KeepsPlaces }
 {
     heap_space::image_laws();
     page_images::name_laws();
@@ -32,9 +29,9 @@ pub fn table_laws()
     sound_appends::turn_laws();
 }
 
-/// Rows stay in their places where no record of patches that are no row's takes a slot from its key.
+/// Rows stay in their places: after all records the slot of each row record is its key's.
 pub fn place_laws()
-    ensures { KeptSlotsStay }
+    ensures { StayInPlace }
 {
     heap_space::image_laws();
     page_images::name_laws();

@@ -1,6 +1,5 @@
-use Rattle.sound_disk.specs.Versions.{merged}
-use Rattle.sound_tables.proofs.Tables.{Known}
-use Rattle.sound_tables.proofs.Places.{rows_in_place}
+use Rattle.sound_tables.proofs.Pages_behind.{Known}
+use Rattle.sound_tables.proofs.Places.{in_place}
 use Rattle.sound_tables.proofs.place_laws.Goals as goal
 
 pub returns : goal.returns
@@ -23,4 +22,4 @@ returns c =
       numbers = c.name_laws.ensures.heap_numbers;
       indexes = c.name_laws.ensures.heap_or_index;
     } in
-    λ bytes logs w h t s. let rs = c.page_laws.ensures.merged bytes logs w h in rows_in_place k (merged logs) rs.0 rs.1 t.befores s
+    λ bytes logs w h t. in_place k bytes logs w h t

@@ -15,7 +15,6 @@ returns-clause-all c =
       versions = c.page_laws.ensures.versions;
       checkpoints = c.page_laws.ensures.checkpoints;
       tables = c.table_laws.ensures.tables;
-      places = c.table_laws.ensures.places;
     } in
     λ at d logs after member records h e w t s. all_keep at (AreSoundOn at) (kept l at) records d logs after member h e w t s
 
@@ -31,6 +30,5 @@ returns-clause-stop c =
       versions = c.page_laws.ensures.versions;
       checkpoints = c.page_laws.ensures.checkpoints;
       tables = c.table_laws.ensures.tables;
-      places = c.table_laws.ensures.places;
     } in
     λ at d logs after member records n h e w t s. stop_keeps at (AreSoundOn at) (kept l at) d logs after member records n h e w t s

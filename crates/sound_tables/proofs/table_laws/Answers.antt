@@ -1,4 +1,5 @@
-use Rattle.sound_tables.proofs.Tables.{Known, keeps_tables, keeps_places, meets_its_row}
+use Rattle.sound_tables.proofs.Pages_behind.{Known}
+use Rattle.sound_tables.proofs.Tables.{keeps_tables, meets_its_row}
 use Rattle.sound_tables.proofs.table_laws.Goals as goal
 
 pub returns-clause-meets : goal.returns-clause-meets
@@ -44,25 +45,3 @@ returns-clause-tables c =
       indexes = c.name_laws.ensures.heap_or_index;
     } in
     λ bytes logs after r h s. keeps_tables k bytes logs after r h s
-
-pub returns-clause-places : goal.returns-clause-places
-returns-clause-places c =
-    let k : Known = record {
-      merged = c.page_laws.ensures.merged;
-      behind = c.turn_laws.ensures.behind;
-      grows = c.chain_laws.ensures.grows;
-      page = record {
-        whole = c.part_laws.ensures.whole;
-        put = c.part_laws.ensures.put;
-        kept = c.part_laws.ensures.kept;
-        number = c.part_laws.ensures.number;
-        stamp = c.part_laws.ensures.stamp;
-        reads = c.image_laws.ensures.read;
-        allows = c.image_laws.ensures.allowed;
-      };
-      blank = c.header_laws.ensures.zeros.1;
-      heaps = c.name_laws.ensures.heaps;
-      numbers = c.name_laws.ensures.heap_numbers;
-      indexes = c.name_laws.ensures.heap_or_index;
-    } in
-    λ bytes logs after r h s. keeps_places k bytes logs after r h s
