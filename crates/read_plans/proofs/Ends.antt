@@ -190,5 +190,5 @@ endings_read_fit c logs reads h are =
     let all : (with_logs nothing_open reads).endings ≡ all_wanted reads = logs_ending nothing_open reads in
     record {
       has = subst (AllByRecursion (λ (m : ℕ). has_log logs m ≡ true)) (sym all) (wanted_have logs logs reads (each_home c.logs logs h.whole_logs) are);
-      others = λ m none. subst EndsAt (same_last {X = Option LogRecord} last_of tells_itself logs reads m are) (others_end reads m (ap (λ (ms : List ℕ). list_any (λ (k : ℕ). k == m) ms) (sym all) ∙ none));
+      others = λ m none. subst EndsAt (same_last {X = Option LogRecord} (λ (rs : List LogRecord). slice_get rs (length rs - 1)) tells_itself logs reads m are) (others_end reads m (ap (λ (ms : List ℕ). list_any (λ (k : ℕ). k == m) ms) (sym all) ∙ none));
     }

@@ -38,7 +38,7 @@ record IsTurned (logs others : List Log) (member tran : ℕ) : Type 0 where
   tells : Tells (records_for others member) (records_for logs member) tran
 
 none_undone : (c : Course) → c.undone ≡ [] → (length c.undone == 0) ≡ false → ⊥
-none_undone c e h = let k : (length [] == 0) ≡ false = ap (λ (us : List LogRecord). length us == 0) (sym e) ∙ h in cc
+none_undone c e h = let k : true ≡ false = ap (λ (us : List LogRecord). length us == 0) (sym e) ∙ h in cc
 
 turn_closing : (logs others : List Log) (c : Closing) → IsTurned logs others c.member c.tran → last_number 0 (records_for logs c.member) ≡ last_number 0 (records_for others c.member) → CanClose logs c → CanClose others c
 turn_closing logs others c t last h = elim t.tells as (λ _. CanClose others c) [
