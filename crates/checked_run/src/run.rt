@@ -70,7 +70,12 @@ fn begin<D: Disk, P: Policy + Drop>(
 }
 
 // Plays to the end: by the schedule of a seed, or with a thread for each member of a phase.
-fn play_to_end<R: Threads + Wait + Sync, D: Disk + Send, P: Policy + Drop + Send, G: Gate + Sync>(
+fn play_to_end<
+    R: Threads + Wait + Sync,
+    D: Disk + Drop + Send,
+    P: Policy + Drop + Send,
+    G: Gate + Sync,
+>(
     rt: &R,
     alloc: Global,
     mut group: Group<D, Cache, P>,
@@ -93,7 +98,7 @@ fn play_to_end<R: Threads + Wait + Sync, D: Disk + Send, P: Policy + Drop + Send
 }
 
 // Plays to the end, closes the disk, and settles what the run came to.
-fn finish<R: Threads + Wait + Sync, D: Disk + Send, P: Policy + Drop + Send, G: Gate + Sync>(
+fn finish<R: Threads + Wait + Sync, D: Disk + Drop + Send, P: Policy + Drop + Send, G: Gate + Sync>(
     rt: &R,
     alloc: Global,
     group: Group<D, Cache, P>,
@@ -122,7 +127,12 @@ fn finish<R: Threads + Wait + Sync, D: Disk + Send, P: Policy + Drop + Send, G: 
 }
 
 // Plays a script on a disk whose logs were read.
-fn play_from<R: Threads + Wait + Sync, D: Disk + Send, P: Policy + Drop + Send, G: Gate + Sync>(
+fn play_from<
+    R: Threads + Wait + Sync,
+    D: Disk + Drop + Send,
+    P: Policy + Drop + Send,
+    G: Gate + Sync,
+>(
     rt: &R,
     alloc: Global,
     disk: D,
@@ -176,7 +186,7 @@ fn play_from<R: Threads + Wait + Sync, D: Disk + Send, P: Policy + Drop + Send, 
 /// The account is that of the group to which its journal leads, and the report tells the fates of that group's transactions.
 pub fn run_script<
     R: Threads + Wait + Sync,
-    D: Disk + Send,
+    D: Disk + Drop + Send,
     P: Policy + Drop + Send,
     G: Gate + Sync,
 >(

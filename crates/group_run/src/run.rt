@@ -27,7 +27,7 @@ fn make_members(alloc: Global, sizes: &Sizes) -> Result<Vec<Member>, NoMemory> {
 }
 
 /// Plays a script in a group of its own.
-pub fn run<R: Threads + Wait + Sync, D: Disk + Send, G: Gate + Sync>(
+pub fn run<R: Threads + Wait + Sync, D: Disk + Drop + Send, G: Gate + Sync>(
     rt: &R,
     alloc: Global,
     disk: D,

@@ -91,7 +91,7 @@ fn came_of<D>(alloc: Global, work: Option<u64>, ran: Ran<D>) -> Came<D>
 }
 
 // Plays the script of a number.
-fn perform_work<R: Threads + Wait + Sync, D: Disk + Send, G: Gate + Sync>(
+fn perform_work<R: Threads + Wait + Sync, D: Disk + Drop + Send, G: Gate + Sync>(
     rt: &R,
     alloc: Global,
     disk: D,
@@ -127,7 +127,7 @@ fn perform_check<D: Disk>(alloc: Global, mut disk: D) -> Came<D>
 }
 
 // All that a call does behind the words and the script, but tell it, for an order that is neither a copy of a table nor its recovery.
-fn perform<R: Threads + Wait + Sync, D: Disk + Send, G: Gate + Sync>(
+fn perform<R: Threads + Wait + Sync, D: Disk + Drop + Send, G: Gate + Sync>(
     rt: &R,
     alloc: Global,
     prepared: Prepared,
@@ -211,7 +211,7 @@ fn finish<D, K: Sink>(sink: &mut K, came: Came<D>) -> Finished<D>
 ///
 /// With a seed this thread plays all, and no gate is passed. Without one each member of a phase has a thread, which passes the gate
 /// before each of its events.
-pub fn play<R: Threads + Wait + Sync, S: Source, K: Sink, D: Disk + Send, G: Gate + Sync>(
+pub fn play<R: Threads + Wait + Sync, S: Source, K: Sink, D: Disk + Drop + Send, G: Gate + Sync>(
     rt: &R,
     alloc: Global,
     words: &[String],

@@ -5,3 +5,5 @@ pub mod Entered
 pub mod Staffed
 pub mod Choosing
 pub mod Crossing
+pub mod Handed
+pub mod Staged

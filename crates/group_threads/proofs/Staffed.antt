@@ -27,3 +27,9 @@ written n new old same all =
 pub put_back : {W D : Type 0} (desk : W → D) (all ws rest : List W) (ds : List D) (w : W) → map desk all ≡ ds ++ map desk (reverse ws) → ws ≡ rest ++ w ∷ [] → map desk all ≡ (ds ++ desk w ∷ []) ++ map desk (reverse rest)
 put_back desk all ws rest ds w before is =
     before ∙ (ap (λ l. ds ++ map desk (reverse l)) is ∙ (ap (λ l. ds ++ map desk l) (reverse-append rest (w ∷ [])) ∙ sym (append_assoc ds (desk w ∷ []) (map desk (reverse rest)))))
+
+-- the last of the desks gets a worker, which is put before the others
+pub put_first : {W D : Type 0} (desk : W → D) (all ds rest : List D) (ws : List W) (w : W) (d : D) → all ≡ ds ++ map desk (reverse ws) → ds ≡ rest ++ d ∷ [] → desk w ≡ d → all ≡ rest ++ map desk (reverse (ws ++ w ∷ []))
+put_first desk all ds rest ws w d before is same =
+    before ∙ (ap (λ l. l ++ map desk (reverse ws)) is ∙ (append_assoc rest (d ∷ []) (map desk (reverse ws))
+    ∙ (ap (λ x. rest ++ (x ∷ map desk (reverse ws))) (sym same) ∙ ap (λ l. rest ++ map desk l) (sym (reverse-append ws (w ∷ []))))))

@@ -11,29 +11,32 @@ const FREE: u64 = 0;
 /// A thread hasn't begun.
 const ABSENT: u64 = 0;
 
+/// A thread has left the round.
+const LEFT: u64 = 1;
+
 /// A thread is at work.
-const WORKS: u64 = 1;
+const WORKS: u64 = 2;
 
 /// A thread sleeps, and has nothing to do.
-const IDLE: u64 = 2;
+const IDLE: u64 = 3;
 
 /// A thread is awake, and has nothing to do.
-const LISTENS: u64 = 3;
+const LISTENS: u64 = 4;
 
 /// A thread sleeps, and wants the floor, which it hasn't had in this round. From here on a thread wants it.
-const FRESH: u64 = 4;
+const FRESH: u64 = 5;
 
 /// A thread is awake, and wants the floor, which it hasn't had in this round.
-const EAGER: u64 = 5;
+const EAGER: u64 = 6;
 
 /// A thread wants the floor, and is woken.
-const CALLED: u64 = 6;
+const CALLED: u64 = 7;
 
 /// A thread sleeps, and wants the floor again. From here on a thread wants what it has had.
-const WANTS: u64 = 7;
+const WANTS: u64 = 8;
 
 /// A thread is awake, and wants the floor again.
-const LOOKS: u64 = 8;
+const LOOKS: u64 = 9;
 
 /// How many threads at most are kept awake beside the one that has the floor.
 const AHEAD: u64 = 2;
@@ -59,7 +62,7 @@ fn is_asleep(state: u64) -> bool {
 }
 
 fn is_at_rest(state: u64) -> bool {
-    state == IDLE || state == LISTENS
+    state == IDLE || state == LISTENS || state == LEFT
 }
 
 fn is_ahead(state: u64) -> bool {
@@ -293,10 +296,36 @@ impl Floor {
             .any(|word| word.load(Ordering::SeqCst) == ABSENT)
     }
 
+    /// Whether some thread has left the round.
+    pub fn has_left(&self) -> bool {
+        self.threads
+            .iter()
+            .any(|word| word.load(Ordering::SeqCst) == LEFT)
+    }
+
     /// The member's thread has nothing to do.
     pub fn lay_down(&self, number: u64) {
         if let Some(word) = self.word_of(number) {
             word.store(LISTENS, Ordering::SeqCst);
+        }
+    }
+
+    /// The member's thread leaves the round.
+    pub fn depart(&self, number: u64) {
+        if let Some(word) = self.word_of(number) {
+            word.store(LEFT, Ordering::SeqCst);
+        }
+    }
+
+    /// Whether the member's thread has left the round. It does where it has nothing to do and others haven't begun.
+    pub fn leaves(&self, number: u64) -> bool {
+        match self.word_of(number) {
+            Some(word) => {
+                let state = word.load(Ordering::SeqCst);
+                state == LEFT
+                    || (state == LISTENS && self.has_absent() && change(word, LISTENS, LEFT))
+            }
+            None => false,
         }
     }
 
@@ -339,17 +368,12 @@ impl Floor {
         }
     }
 
-    /// Passes it on to the next one behind this member that wants it. Answers whether the member has it no more.
-    pub fn offer(&self, number: u64) -> bool {
-        if !self.is_had_by(number) {
-            return true;
-        }
-        match self.next_behind(number, number, FRESH) {
-            Some(next) => {
+    /// Passes it on to the next one behind this member that wants it, if the member has it.
+    pub fn offer(&self, number: u64) {
+        if self.is_had_by(number) {
+            if let Some(next) = self.next_behind(number, number, FRESH) {
                 self.pass_to(next);
-                true
             }
-            None => false,
         }
     }
 }

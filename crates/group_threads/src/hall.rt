@@ -1,4 +1,9 @@
 //! Where the threads of a phase wait for each other's events.
+//!
+//! Each round ends. A thread that wants the floor has it in time, since none keeps it for long, and where one does it is taken. Whoever is
+//! the last to have nothing to do makes all look once more, or ends the round. As long as some haven't begun, or have left, nobody waits
+//! without wanting the floor but for one who was in when all had begun, and each leaves behind so many events: so the calling thread comes
+//! to those that haven't, and the round doesn't wait for those that have left.
 
 use crate::floor::{Floor, asleep, change, go, is_wish, stand_up};
 use crate::members::Members;
@@ -12,7 +17,7 @@ use std::time::Duration;
 /// The round goes on.
 const OPEN: u64 = 0;
 
-/// Each thread returns: none has anything to do, or not all have begun.
+/// Each thread returns: none has anything to do.
 const QUIET: u64 = 1;
 
 /// Nothing is taken any more in this phase.
@@ -27,15 +32,10 @@ const SLEEP_MILLIS: u64 = 20;
 /// How often it sleeps so long before it takes the floor from one that doesn't go on.
 const SLEEPS: u64 = 2;
 
-/// How often a thread sleeps so long, or has a burst of events, before none waits any more for others to begin.
-const PATIENCE: u64 = 25;
-
 /// Where the threads of a phase wait. Nothing that it says is relied on but for when a round ends.
 #[derive(Drop)]
 pub struct Hall {
     state: AtomicU64,
-    /// How often a thread waits yet for others to begin.
-    patience: AtomicU64,
     /// 1 where there was an event since all threads were told to look last.
     has_run: AtomicU64,
     /// Whose thread takes events.
@@ -46,7 +46,6 @@ impl Hall {
     pub fn new(alloc: Global, count: usize) -> Result<Hall, NoMemory> {
         Ok(Hall {
             state: AtomicU64::new(OPEN),
-            patience: AtomicU64::new(PATIENCE),
             has_run: AtomicU64::new(0),
             floor: Floor::new(alloc, count)?,
         })
@@ -100,48 +99,36 @@ impl Hall {
         self.floor.wake_all();
     }
 
-    // Whether no thread waits any more for others to begin, and not all have.
-    fn is_impatient(&self) -> bool {
-        self.patience.load(Ordering::SeqCst) == 0 && self.floor.has_absent()
+    /// Whether the member's thread goes on in this round. One that has nothing to do leaves it where others haven't begun: they may have to
+    /// wait until it returns.
+    pub fn goes_on(&self, number: u64) -> bool {
+        !self.is_over() && !self.floor.leaves(number)
     }
 
-    // A thread has waited a while for others to begin.
-    fn lose_patience(&self) {
-        let patience = self.patience.load(Ordering::SeqCst);
-        self.patience
-            .store(patience.saturating_sub(1), Ordering::SeqCst);
-        if patience <= 1 {
-            self.end_round();
-        }
-    }
-
-    /// Whether a thread goes on in this round. Where none waits any more for others to begin it doesn't: they may have to wait until it
-    /// returns.
-    pub fn goes_on(&self) -> bool {
-        if self.is_impatient() {
-            self.end_round();
-        }
-        !self.is_over()
-    }
-
-    /// The member's thread has had events for a while: another one that wants the floor has it next.
+    /// The member's thread has had events for a while: another one that wants the floor has it next. Where others haven't begun, or can't
+    /// look any more, it leaves the round: members that ask each other may have events for ever until those come.
     pub fn offer(&self, number: u64) {
-        if !self.floor.offer(number) && self.floor.has_absent() {
-            self.lose_patience();
+        self.floor.offer(number);
+        if self.floor.has_absent() || self.floor.has_left() {
+            self.floor.depart(number);
         }
     }
 
-    /// Passes the floor on, if the member has it.
-    pub fn pass(&self, number: u64) {
+    /// The member's thread returns: the floor is passed on, if the member has it. Where no thread that is left has anything to do, the
+    /// round ends.
+    pub fn go_out(&self, number: u64) {
+        if self.floor.is_quiet() {
+            self.end_round();
+        }
         self.floor.pass(number);
     }
 
     /// The member's thread has nothing to do, and the member may be done with the phase. Where no thread has anything to do, all look
-    /// once more; where there was no event since they did, the round ends.
+    /// once more; where there was no event since they did, or some have left the round and can't look, the round ends.
     pub fn rest(&self, number: u64, is_done: bool) {
         self.floor.lay_down(number);
         if self.floor.is_quiet() {
-            if self.has_run.swap(0, Ordering::SeqCst) == 0 {
+            if self.has_run.swap(0, Ordering::SeqCst) == 0 || self.floor.has_left() {
                 self.end_round();
             }
             self.floor.want_all();
@@ -189,12 +176,8 @@ impl Hall {
 
     // Waits no longer for one that doesn't go on: the member takes the floor, where it wants it.
     fn tire(&self, number: u64, word: &AtomicU64, slept: u64) {
-        if is_wish(word) {
-            if slept >= SLEEPS {
-                self.floor.seize(number);
-            }
-        } else if self.floor.is_free() && self.floor.has_absent() {
-            self.lose_patience();
+        if is_wish(word) && slept >= SLEEPS {
+            self.floor.seize(number);
         }
     }
 

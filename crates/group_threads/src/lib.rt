@@ -4,6 +4,7 @@
 //! each in turn, and each thread has its own member. The events of the group itself are taken between the phases.
 #![tactic(auto)]
 
+mod errand;
 mod event;
 mod floor;
 mod gate;

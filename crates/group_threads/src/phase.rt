@@ -3,11 +3,14 @@
 ghost use Rattle.std.specs.Prelude.{◌≡◌, ◌⊎◌, ◌+◌, ◌^◌, ◌<◌, ◌≤◌, ℕ, List, [], ◌++◌, length, map, vec_capacity, true, false, Some, IfOk};
 ghost use Rattle.turn_story.specs.Chains.{Leads};
 ghost use Rattle.group_core.specs.declared.fault.RunFault.TheVariants as fault;
-ghost use Rattle.group_threads.specs.Desks.{AreMembersAt, IsMemberAt, member_in};
+ghost use Rattle.std.specs.Arc.{arc_value};
+ghost use Rattle.group_threads.specs.Desks.{AreMembersAt, member_in};
+ghost use Rattle.group_threads.specs.Errands.{StandAt, ErrandsAt};
 ghost use Rattle.group_core.specs.Fresh.{IsLooked, RunsFrom};
 ghost use Rattle.group_threads.specs.Wholes.{StepsHand, parts_in};
 ghost use Rattle.group_core.specs.declared.group.Group.{Group as AnyGroup};
 
+use crate::errand::{Errand, Stage};
 use crate::gate::Gate;
 use crate::hall::Hall;
 use crate::hand::Hand;
@@ -17,113 +20,128 @@ use cache_structure::CacheFace;
 use ds_base::NoMemory;
 use ds_disk::Disk;
 use group_core::{Group, Policy, RunFault};
+use standing_threads::Pool;
 use std::alloc::Global;
-use std::sync::Wait;
-use std::thread::Threads;
-use thread_row::for_each_in_thread;
-use turn_gate::{Journal, Turn};
-use turn_story::{Closed, Desk, Phase, Told};
+use std::sync::{Arc, Wait};
+use std::thread;
+use turn_gate::Journal;
+use turn_story::{Closed, Desk, Phase, Room};
 
 /// The most members that the number of an event can name.
-const NAMED: usize = 63;
+pub const NAMED: usize = 63;
+
+/// What the members' threads share, in as many hands.
+type Shelf<D, C, P> = Arc<Stage<Shared<D, C, P>>, Global>;
+
+/// The members' work.
+type Errands<'g, D, C, P, G> = Vec<Errand<'g, Shared<D, C, P>, G>>;
+
+// One more owner. It waits while there are too many.
+fn share<R: Wait, D: Disk, C: CacheFace, P: Policy>(
+    rt: &R,
+    stage: &Shelf<D, C, P>,
+) -> Shelf<D, C, P>
+    ensures { arc_value result ≡ arc_value stage.now }
+{
+    for _ in rt.forever() {
+        if let Ok(one) = Arc::try_clone(stage) {
+            return one;
+        }
+        thread::yield_now();
+    }
+    unreachable!()
+}
+
+// What was shared. It waits until all others have let go of it.
+fn take_whole<R: Wait, D: Disk, C: CacheFace, P: Policy>(
+    rt: &R,
+    stage: Shelf<D, C, P>,
+) -> Stage<Shared<D, C, P>>
+    ensures { result ≡ arc_value stage }
+{
+    let mut stage = stage;
+    for _ in rt.forever() {
+        match Arc::try_unwrap(stage) {
+            Ok(whole) => return whole,
+            Err(shared) => stage = shared,
+        }
+        thread::yield_now();
+    }
+    unreachable!()
+}
 
 // Gives each desk a worker. The list is left empty, with its room.
-fn staff<D: Disk, C: CacheFace, P: Policy>(
+fn staff<'g, R: Wait, D: Disk, C: CacheFace, P: Policy, G>(
+    rt: &R,
+    alloc: Global,
     desks: &mut Vec<Desk<Shared<D, C, P>>>,
-    mut workers: Vec<Worker<Shared<D, C, P>>>,
-) -> Vec<Worker<Shared<D, C, P>>>
-    requires room { (workers.items ≡ []) × (length desks.old.items ≤ vec_capacity workers) }
-    ensures desks { map (λ w. w.desk) result.items ≡ desks.old.items }
+    mut errands: Errands<'g, D, C, P, G>,
+    stage: &Shelf<D, C, P>,
+    gate: &'g G,
+) -> Errands<'g, D, C, P, G>
+    requires room { (errands.items ≡ []) × (length desks.old.items ≤ vec_capacity errands) }
+    requires few { length desks.old.items ≤ 63 }
+    ensures desks { map (λ e. e.worker.desk) result.items ≡ desks.old.items }
+    ensures stage { StandAt (arc_value stage.now) 1 result.items }
     ensures empty { (desks.new.items ≡ []) × (vec_capacity desks.new ≡ vec_capacity desks.old) }
 {
     while let Some(desk) = desks.pop() {
-        workers.push_reserved(Worker::new(desk));
+        errands.push_reserved(Errand {
+            worker: Worker::new(desk),
+            stage: share(rt, stage),
+            gate,
+            alloc,
+            number: desks.len() as u64 + 1,
+        });
     }
-    workers.reverse();
-    workers
+    errands.reverse();
+    errands
 }
 
 // Takes the desks back.
-fn dismiss<D: Disk, C: CacheFace, P: Policy>(
-    mut workers: Vec<Worker<Shared<D, C, P>>>,
+fn dismiss<'g, D: Disk + Drop, C: CacheFace + Drop, P: Policy + Drop, G>(
+    mut errands: Errands<'g, D, C, P, G>,
     desks: &mut Vec<Desk<Shared<D, C, P>>>,
 )
-    requires room { (desks.old.items ≡ []) × (length workers.items ≤ vec_capacity desks.old) }
-    ensures { desks.new.items ≡ map (λ w. w.desk) workers.items }
+    requires room { (desks.old.items ≡ []) × (length errands.items ≤ vec_capacity desks.old) }
+    ensures { desks.new.items ≡ map (λ e. e.worker.desk) errands.entry.items }
 {
-    workers.reverse();
-    while let Some(worker) = workers.pop() {
-        let Worker {
-            desk,
-            command_number: _,
-            from: _,
-            has_run: _,
-            burst: _,
-            generator: _,
-            asking: _,
-            takes: _,
-            is_done: _,
-        } = worker;
-        desks.push_reserved(desk);
+    errands.reverse();
+    while let Some(errand) = errands.pop() {
+        let Errand {
+            worker,
+            stage: _,
+            gate: _,
+            alloc: _,
+            number: _,
+        } = errand;
+        desks.push_reserved(worker.into_desk());
     }
-    workers.destroy_empty();
 }
 
-// A round: each member takes its events in a thread of its own, where one can be started.
-fn work_round<
-    R: Threads + Wait + Sync,
-    D: Disk + Send,
-    C: CacheFace + Send,
-    P: Policy + Send,
-    G: Gate + Sync,
->(
+// Whether any member has had an event in this round.
+fn has_any_run<'g, D: Disk, C: CacheFace, P: Policy, G>(
+    errands: &[Errand<'g, Shared<D, C, P>, G>],
+) -> bool {
+    errands.iter().any(|errand| errand.worker.has_run())
+}
+
+// Rounds, in which each member takes its events in a thread of its own or in this one, until nothing is taken any more.
+fn work_all<'g, R: Wait, D: Disk + Drop, C: CacheFace + Drop, P: Policy + Drop, G: Gate>(
     rt: &R,
-    alloc: Global,
-    turn: &Turn<Told<Shared<D, C, P>>>,
-    workers: &mut [Worker<Shared<D, C, P>>],
-    hall: &Hall,
-    gate: &G,
+    pool: &mut Pool<Errand<'g, Shared<D, C, P>, G>>,
+    errands: &mut Errands<'g, D, C, P, G>,
+    stage: &Shelf<D, C, P>,
 )
-    requires few { (1 ≤ length workers.old) × (length workers.old ≤ 63) }
-    requires at { AreMembersAt turn.now workers.old (λ w. w.desk.seat) (λ w. w.desk.part) }
-    ensures count { length workers.new ≡ length workers.old }
-    ensures at { AreMembersAt turn.now workers.new (λ w. w.desk.seat) (λ w. w.desk.part) }
-{
-    hall.begin();
-    let each = |at: usize, worker: &mut Worker<Shared<D, C, P>>|
-        requires { (at < 63) × IsMemberAt turn.now (at + 1) worker.now.desk.seat worker.now.desk.part }
-        ensures { IsMemberAt turn.entry.now (at + 1) worker.exit.now.desk.seat worker.exit.now.desk.part }
-    { worker.work(rt, alloc, turn, hall, gate, at as u64 + 1) };
-    for_each_in_thread(rt, workers, &each);
-}
-
-fn has_any_run<D: Disk, C: CacheFace, P: Policy>(workers: &[Worker<Shared<D, C, P>>]) -> bool {
-    workers.iter().any(|worker| worker.has_run())
-}
-
-// Rounds, until nothing is taken any more.
-fn work_all<
-    R: Threads + Wait + Sync,
-    D: Disk + Send,
-    C: CacheFace + Send,
-    P: Policy + Send,
-    G: Gate + Sync,
->(
-    rt: &R,
-    alloc: Global,
-    turn: &Turn<Told<Shared<D, C, P>>>,
-    workers: &mut [Worker<Shared<D, C, P>>],
-    hall: &Hall,
-    gate: &G,
-)
-    requires few { (1 ≤ length workers.old) × (length workers.old ≤ 63) }
-    requires at { AreMembersAt turn.now workers.old (λ w. w.desk.seat) (λ w. w.desk.part) }
-    ensures count { length workers.new ≡ length workers.old }
-    ensures at { AreMembersAt turn.now workers.new (λ w. w.desk.seat) (λ w. w.desk.part) }
+    requires few { length errands.old.items ≤ 63 }
+    requires at { ErrandsAt (arc_value stage.now) 1 errands.old.items }
+    ensures count { length errands.new.items ≡ length errands.old.items }
+    ensures at { ErrandsAt (arc_value stage.now) 1 errands.new.items }
 {
     for _ in rt.forever() {
-        work_round(rt, alloc, turn, workers, hall, gate);
-        if hall.is_closed() || !has_any_run(workers) {
+        stage.hall.begin();
+        pool.work_each(rt, errands);
+        if stage.hall.is_closed() || !has_any_run(errands.as_slice()) {
             return;
         }
     }
@@ -146,76 +164,110 @@ fn unplayed<D: Disk, C: CacheFace, P: Policy>(
     }
 }
 
-// Plays the phase in hand at these desks.
-fn play_at<
-    R: Threads + Wait + Sync,
-    D: Disk + Send,
-    C: CacheFace + Send,
-    P: Policy + Send,
-    G: Gate + Sync,
->(
+// Plays the phase in hand at these desks, with what its threads share.
+fn play_staged<'g, R: Wait, D: Disk + Drop, C: CacheFace + Drop, P: Policy + Drop, G: Gate>(
     rt: &R,
     alloc: Global,
+    pool: &mut Pool<Errand<'g, Shared<D, C, P>, G>>,
+    stage: Shelf<D, C, P>,
+    desks: &mut Vec<Desk<Shared<D, C, P>>>,
+    errands: Errands<'g, D, C, P, G>,
+    gate: &'g G,
+) -> Stage<Shared<D, C, P>>
+    requires few { length desks.old.items ≤ 63 }
+    requires at { AreMembersAt (arc_value stage).turn desks.old.items (λ d. d.seat) (λ d. d.part) }
+    requires room { (errands.items ≡ []) × (length desks.old.items ≤ vec_capacity errands) }
+    ensures stage { result ≡ arc_value stage }
+    ensures count { length desks.new.items ≡ length desks.old.items }
+    ensures at { AreMembersAt (arc_value stage).turn desks.new.items (λ d. d.seat) (λ d. d.part) }
+{
+    let mut errands = staff(rt, alloc, desks, errands, &stage, gate);
+    work_all(rt, pool, &mut errands, &stage);
+    dismiss(errands, desks);
+    take_whole(rt, stage)
+}
+
+// Closes a phase that is not played for want of memory.
+fn close_unplayed<D: Disk, C: CacheFace, P: Policy>(
+    phase: Phase<Shared<D, C, P>>,
+    desks: Vec<Desk<Shared<D, C, P>>>,
+) -> Closed<Shared<D, C, P>>
+    requires count { length desks.items ≡ phase.seats }
+    requires at { AreMembersAt phase desks.items (λ d. d.seat) (λ d. d.part) }
+    ensures ended { result.ended ≡ true }
+    ensures count { length result.parts.items ≡ phase.seats }
+    ensures later { D.faults phase.start.value.value.group.disk ≤ D.faults result.value.group.disk }
+{
+    let mut closed = phase.close(desks);
+    closed.ended = true;
+    closed
+}
+
+// Plays the phase in hand at these desks.
+fn play_at<'g, R: Wait, D: Disk + Drop, C: CacheFace + Drop, P: Policy + Drop, G: Gate>(
+    rt: &R,
+    alloc: Global,
+    pool: &mut Pool<Errand<'g, Shared<D, C, P>, G>>,
     phase: Phase<Shared<D, C, P>>,
     mut desks: Vec<Desk<Shared<D, C, P>>>,
-    workers: Vec<Worker<Shared<D, C, P>>>,
-    hall: &Hall,
-    gate: &G,
+    errands: Errands<'g, D, C, P, G>,
+    hall: Hall,
+    gate: &'g G,
 ) -> Closed<Shared<D, C, P>>
     requires few { (1 ≤ phase.seats) × (phase.seats ≤ 63) }
     requires count { length desks.items ≡ phase.seats }
     requires at { AreMembersAt phase desks.items (λ d. d.seat) (λ d. d.part) }
-    requires room { (workers.items ≡ []) × (length desks.items ≤ vec_capacity workers) }
+    requires room { (errands.items ≡ []) × (length desks.items ≤ vec_capacity errands) }
     ensures leads { result.ended ≡ false → Leads member_in (StepsHand C.directory D.alive D.contents D.faults) phase.start.value.value phase.start.parts.value.items result.journal result.value result.parts.items }
     ensures count { length result.parts.items ≡ phase.seats }
     ensures later { D.faults phase.start.value.value.group.disk ≤ D.faults result.value.group.disk }
 {
-    let mut workers = staff(&mut desks, workers);
-    work_all(rt, alloc, phase.turn(), workers.as_mut_slice(), hall, gate);
-    dismiss(workers, &mut desks);
-    phase.close(desks)
+    let (turn, room) = phase.lend();
+    match Arc::new(alloc, Stage { turn, hall }) {
+        Ok(stage) => {
+            let stage = play_staged(rt, alloc, pool, stage, &mut desks, errands, gate);
+            let Stage { turn, hall: _ } = stage;
+            Phase::back(turn, room).close(desks)
+        }
+        Err(refused) => {
+            let Stage { turn, hall: _ } = refused.value;
+            close_unplayed(Phase::back(turn, room), desks)
+        }
+    }
 }
 
-// The room for so many workers, and the hall.
-fn room_for<D: Disk, C: CacheFace, P: Policy>(
+// The room for so many members' work, and the hall.
+fn room_for<'g, D: Disk, C: CacheFace, P: Policy, G>(
     alloc: Global,
     count: usize,
-) -> Result<(Vec<Worker<Shared<D, C, P>>>, Hall), NoMemory>
+) -> Result<(Errands<'g, D, C, P, G>, Hall), NoMemory>
     ensures { IfOk result (λ r. (r.0.items ≡ []) × (count ≤ vec_capacity r.0)) }
 {
     let hall = Hall::new(alloc, count)?;
-    let workers = Vec::with_capacity(alloc, count)?;
-    Ok((workers, hall))
+    let errands = Vec::with_capacity(alloc, count)?;
+    Ok((errands, hall))
 }
 
 // Plays the phase in hand with these members.
-fn play_with<
-    R: Threads + Wait + Sync,
-    D: Disk + Send,
-    C: CacheFace + Send,
-    P: Policy + Send,
-    G: Gate + Sync,
->(
+fn play_with<'g, R: Wait, D: Disk + Drop, C: CacheFace + Drop, P: Policy + Drop, G: Gate>(
     rt: &R,
     alloc: Global,
+    pool: &mut Pool<Errand<'g, Shared<D, C, P>, G>>,
     shared: Shared<D, C, P>,
     hands: Vec<Hand<P>>,
-    gate: &G,
+    gate: &'g G,
 ) -> Closed<Shared<D, C, P>>
     requires few { (1 ≤ length hands.items) × (length hands.items ≤ 63) }
     ensures leads { result.ended ≡ false → Leads member_in (StepsHand C.directory D.alive D.contents D.faults) shared hands.items result.journal result.value result.parts.items }
     ensures count { length result.parts.items ≡ length hands.items }
     ensures later { D.faults shared.group.disk ≤ D.faults result.value.group.disk }
 {
-    let Ok((workers, hall)) = room_for(alloc, hands.len()) else {
+    let Ok((errands, hall)) = room_for(alloc, hands.len()) else {
         return unplayed(alloc, shared, hands);
     };
     match Phase::open(alloc, shared, hands) {
-        Ok((phase, desks)) => play_at(rt, alloc, phase, desks, workers, &hall, gate),
-        Err((NoMemory, shared, hands)) => {
-            workers.destroy_empty();
-            unplayed(alloc, shared, hands)
-        }
+        Ok((phase, desks)) => play_at(rt, alloc, pool, phase, desks, errands, hall, gate),
+        Err((NoMemory, shared, hands)) => unplayed(alloc, shared, hands),
     }
 }
 
@@ -237,13 +289,13 @@ fn settled<D: Disk, C: CacheFace, P: Policy>(
 }
 
 // Plays the phase in hand by a group that is taken apart, and puts the group together again.
-fn play_apart<
-    R: Threads + Wait + Sync,
-    D: Disk + Send,
-    C: CacheFace + Send,
-    P: Policy + Drop + Send,
-    G: Gate + Sync,
->(rt: &R, alloc: Global, apart: Apart<D, C, P>, gate: &G) -> Group<D, C, P>
+fn play_apart<'g, R: Wait, D: Disk + Drop, C: CacheFace + Drop, P: Policy + Drop, G: Gate>(
+    rt: &R,
+    alloc: Global,
+    pool: &mut Pool<Errand<'g, Shared<D, C, P>, G>>,
+    apart: Apart<D, C, P>,
+    gate: &'g G,
+) -> Group<D, C, P>
     requires few { (1 ≤ length apart.hands.items) × (length apart.hands.items ≤ 63) }
     requires room { (apart.room.items ≡ []) × (length apart.hands.items ≤ vec_capacity apart.room) }
     ensures runs { (old : AnyGroup D C P) → apart.shared.group ≡ record old { crew = record old.crew { parts = apart.shared.group.crew.parts } } → parts_in apart.hands.items ≡ old.crew.parts.items → (result.fault ≡ Some fault.NoMemory) ⊎ RunsFrom C.directory D.alive D.contents D.faults old result }
@@ -260,19 +312,20 @@ fn play_apart<
         parts,
         journal: _,
         ended,
-    } = play_with(rt, alloc, shared, hands, gate);
+    } = play_with(rt, alloc, pool, shared, hands, gate);
     settled(put_together(value, parts, room), ended)
 }
 
-/// Plays the phase in hand to its end, each member in a thread of its own. Where memory was wanting, that is the group's fault.
+/// Plays the phase in hand to its end, each member in a thread of its own, or in this one where that hasn't come to it. Where memory was
+/// wanting, that is the group's fault.
 /// A group whose members the numbers of events can't all name is left as it is.
-pub fn play_phase<
-    R: Threads + Wait + Sync,
-    D: Disk + Send,
-    C: CacheFace + Send,
-    P: Policy + Drop + Send,
-    G: Gate + Sync,
->(rt: &R, alloc: Global, group: Group<D, C, P>, gate: &G) -> Group<D, C, P>
+pub fn play_phase<'g, R: Wait, D: Disk + Drop, C: CacheFace + Drop, P: Policy + Drop, G: Gate>(
+    rt: &R,
+    alloc: Global,
+    pool: &mut Pool<Errand<'g, Shared<D, C, P>, G>>,
+    group: Group<D, C, P>,
+    gate: &'g G,
+) -> Group<D, C, P>
     ensures runs { (result.fault ≡ Some fault.NoMemory) ⊎ RunsFrom C.directory D.alive D.contents D.faults group result }
     ensures later { D.faults group.disk ≤ D.faults result.disk }
 {
@@ -281,7 +334,7 @@ pub fn play_phase<
         return group;
     }
     match take_apart(alloc, group) {
-        Ok(apart) => play_apart(rt, alloc, apart, gate),
+        Ok(apart) => play_apart(rt, alloc, pool, apart, gate),
         Err((NoMemory, mut group)) => {
             group.fault = Some(RunFault::NoMemory);
             group

@@ -6,12 +6,15 @@ ghost use Rattle.group_core.specs.declared.schedule.RunEnd.TheVariants as ends;
 ghost use Rattle.group_core.specs.Ends.{Ends};
 ghost use Rattle.group_core.specs.Fresh.{RunsFrom};
 
+use crate::errand::Errand;
 use crate::gate::Gate;
-use crate::phase::play_phase;
+use crate::phase::{NAMED, play_phase};
+use crate::shared::Shared;
 use cache_structure::CacheFace;
 use ds_base::NoMemory;
 use ds_disk::Disk;
 use group_core::{Group, Policy, RunEnd, RunFault};
+use standing_threads::{Leader, Pool, with_threads};
 use std::alloc::Global;
 use std::sync::Wait;
 use std::thread::Threads;
@@ -58,17 +61,12 @@ fn take_one<D: Disk, C: CacheFace, P: Policy>(
 }
 
 // The group's own event that is ready, or else a phase.
-fn go_on<
-    R: Threads + Wait + Sync,
-    D: Disk + Send,
-    C: CacheFace + Send,
-    P: Policy + Drop + Send,
-    G: Gate + Sync,
->(
+fn go_on<'g, R: Wait, D: Disk + Drop, C: CacheFace + Drop, P: Policy + Drop, G: Gate>(
     rt: &R,
     alloc: Global,
+    pool: &mut Pool<Errand<'g, Shared<D, C, P>, G>>,
     mut group: Group<D, C, P>,
-    gate: &G,
+    gate: &'g G,
 ) -> (Group<D, C, P>, Result<(), NoMemory>)
     ensures runs { OnOk result.1 (RunsFrom C.directory D.alive D.contents D.faults group result.0) }
     ensures later { D.faults group.disk ≤ D.faults result.0.disk }
@@ -79,7 +77,7 @@ fn go_on<
         return (group, taken);
     }
     let before = group.journal().len();
-    let mut group = play_phase(rt, alloc, group, gate);
+    let mut group = play_phase(rt, alloc, pool, group, gate);
     if is_wanting(&group) {
         return (group, Err(NoMemory));
     }
@@ -90,12 +88,76 @@ fn go_on<
     (group, taken)
 }
 
-/// Plays the script of a group to its end: each member of a phase in a thread of its own, and between the phases the events of the
-/// group itself.
+// Plays the script of a group to its end, with these threads.
+fn play_all<'g, R: Wait, D: Disk + Drop, C: CacheFace + Drop, P: Policy + Drop, G: Gate>(
+    rt: &R,
+    alloc: Global,
+    pool: &mut Pool<Errand<'g, Shared<D, C, P>, G>>,
+    group: Group<D, C, P>,
+    gate: &'g G,
+) -> (Group<D, C, P>, Result<RunEnd, NoMemory>)
+    ensures ends { IfOk result.1 (λ end. Ends end result.0) }
+    ensures unspent { result.1 ≢ Ok ends.Spent }
+    ensures runs { OnOk result.1 (RunsFrom C.directory D.alive D.contents D.faults group result.0) }
+    ensures later { D.faults group.disk ≤ D.faults result.0.disk }
+    ensures wanting { OnErr result.1 (result.0.fault ≡ Some fault.NoMemory) }
+{
+    let mut group = group;
+    for _ in rt.forever() {
+        if let Some(end) = end_of(&group) {
+            return (group, end);
+        }
+        let (next, taken) = go_on(rt, alloc, pool, group, gate);
+        group = next;
+        if let Err(NoMemory) = taken {
+            return (group, Err(NoMemory));
+        }
+    }
+    unreachable!()
+}
+
+/// A group whose script is to be played.
+#[derive(Drop)]
+struct Play<'g, D, C, P, G> {
+    alloc: Global,
+    group: Group<D, C, P>,
+    gate: &'g G,
+}
+
+impl<'g, D: Disk + Drop, C: CacheFace + Drop, P: Policy + Drop, G: Gate> Leader<
+    Errand<'g, Shared<D, C, P>, G>,
+> for Play<'g, D, C, P, G> {
+    ghost use Rattle.group_threads.specs.Played.{IsPlayed};
+
+    type Answer = (Group<D, C, P>, Result<RunEnd, NoMemory>);
+
+    ghost leads = { λ play answer. IsPlayed C.directory D.alive D.contents D.faults play.group answer.0 answer.1 };
+
+    fn lead<R: Wait>(
+        self,
+        rt: &R,
+        pool: &mut Pool<Errand<'g, Shared<D, C, P>, G>>,
+    ) -> (Group<D, C, P>, Result<RunEnd, NoMemory>) {
+        let Play { alloc, group, gate } = self;
+        play_all(rt, alloc, pool, group, gate)
+    }
+}
+
+// A group whose run memory was wanting for.
+fn unled<D, C, P>(group: Group<D, C, P>) -> Group<D, C, P>
+    ensures { (result.fault ≡ Some fault.NoMemory) × (result.disk ≡ group.disk) }
+{
+    let mut left = group;
+    left.fault = Some(RunFault::NoMemory);
+    left
+}
+
+/// Plays the script of a group to its end: each member of a phase in a thread of its own, which stands through the run, or in this one
+/// where that hasn't come to it, and between the phases the events of the group itself.
 pub fn run_threads<
     R: Threads + Wait + Sync,
-    D: Disk + Send,
-    C: CacheFace + Send,
+    D: Disk + Drop + Send,
+    C: CacheFace + Drop + Send,
     P: Policy + Drop + Send,
     G: Gate + Sync,
 >(
@@ -110,16 +172,9 @@ pub fn run_threads<
     ensures later { D.faults group.disk ≤ D.faults result.0.disk }
     ensures wanting { OnErr result.1 (result.0.fault ≡ Some fault.NoMemory) }
 {
-    let mut group = group;
-    for _ in rt.forever() {
-        if let Some(end) = end_of(&group) {
-            return (group, end);
-        }
-        let (next, taken) = go_on(rt, alloc, group, gate);
-        group = next;
-        if let Err(NoMemory) = taken {
-            return (group, Err(NoMemory));
-        }
+    let threads = group.crew.parts.len().min(NAMED).saturating_sub(1);
+    match with_threads(rt, alloc, threads, Play { alloc, group, gate }) {
+        Ok(played) => played,
+        Err((_, play)) => (unled(play.group), Err(NoMemory)),
     }
-    unreachable!()
 }

@@ -74,6 +74,24 @@ impl<M: Stepping> Worker<M> {
         }
     }
 
+    /// The desk alone.
+    pub fn into_desk(self) -> Desk<M>
+        ensures { result ≡ self.desk }
+    {
+        let Worker {
+            desk,
+            command_number: _,
+            from: _,
+            has_run: _,
+            burst: _,
+            generator: _,
+            asking: _,
+            takes: _,
+            is_done: _,
+        } = self;
+        desk
+    }
+
     /// Whether it has had an event in this round.
     pub fn has_run(&self) -> bool {
         self.has_run
@@ -273,8 +291,8 @@ impl<D: Disk, C: CacheFace, P: Policy> Worker<Shared<D, C, P>> {
             if hall.is_closed() || !self.work_once(rt, alloc, turn, hall, gate, number) {
                 return;
             }
-            if !hall.goes_on() {
-                hall.pass(number);
+            if !hall.goes_on(number) {
+                hall.go_out(number);
                 return;
             }
         }

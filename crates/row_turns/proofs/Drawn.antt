@@ -107,12 +107,18 @@ is_found keeps logs n h none =
 
 -- ---- what is told
 
-pub spot_told : (logs : List Log) (n : ℕ) (found : Option Spot) (spot : Spot) → found ≡ drawn_spot_of n logs → found ≡ Some spot → out_of_turn [] (merged logs) ≡ Some n → IsOutOfTurn logs spot
+abbrev Located : List Log → ℕ → Option Spot → Type 0
+Located logs n found = found ≡ drawn_spot_of n logs
+
+pub located_by : (logs : List Log) (m n : ℕ) (found : Option Spot) → m ≡ n → Located logs m found → Located logs n found
+located_by logs m n found e is = is ∙ ap (λ (k : ℕ). drawn_spot_of k logs) e
+
+pub spot_told : (logs : List Log) (n : ℕ) (found : Option Spot) (spot : Spot) → Located logs n found → found ≡ Some spot → out_of_turn [] (merged logs) ≡ Some n → IsOutOfTurn logs spot
 spot_told logs n found spot is some out = record {
   lacking = not_both (are_in_turn [] (merged logs)) (one_out [] (merged logs) n out);
   spot_is = ap (λ (o : Option ℕ). located logs o) out ∙ sym is ∙ some;
 }
 
 -- the number of a record that is out of turn was drawn
-pub spot_found : {P : Type 0} → KeepsAll → (logs : List Log) (n : ℕ) (found : Option Spot) → found ≡ drawn_spot_of n logs → found ≡ None → out_of_turn [] (merged logs) ≡ Some n → P
+pub spot_found : {P : Type 0} → KeepsAll → (logs : List Log) (n : ℕ) (found : Option Spot) → Located logs n found → found ≡ None → out_of_turn [] (merged logs) ≡ Some n → P
 spot_found keeps logs n found is none out = absurd (is_found keeps logs n out (sym is ∙ none))

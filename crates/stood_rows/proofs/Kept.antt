@@ -51,7 +51,7 @@ none_yet es none id = ap (λ (l : Entries). images_in l id) none
 
 -- ---- the names of pages
 
-decide : (b : Bool) (P : Type 0) → (b ≡ true → P) → (b ≡ false → P) → P
+pub decide : (b : Bool) (P : Type 0) → (b ≡ true → P) → (b ≡ false → P) → P
 decide true P f g = f refl
 decide false P f g = g refl
 
@@ -69,7 +69,7 @@ named a b =
     ∙ ap (λ (x : Bool). x && is_eq (nat_cmp a.number b.number)) (tie a.set b.set)
     ∙ ap (λ (x : Bool). (a.set == b.set) && x) (tie a.number b.number)
 
-same_name : (a b : PageId) → same_page a b ≡ true → a ≡ b
+pub same_name : (a b : PageId) → same_page a b ≡ true → a ≡ b
 same_name a b h =
     let p : a.set ≡ b.set = grind arith in
     let q : a.number ≡ b.number = grind arith in

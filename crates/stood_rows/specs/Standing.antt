@@ -1,4 +1,4 @@
--- Whether a change met its row.
+-- Whether a record met its row, or left each slot to its key.
 use Rattle.std.specs.Prelude.{◌≡◌, ℕ, ◌==◌, Bool, false, ◌&&◌, List, [], ◌∷◌, ◌++◌, Option, None, Some, is_none}
 use Rattle.std.specs.Str.{bytes_eq}
 use Rattle.ds_base.specs.Pages.{heap_page}
@@ -9,7 +9,9 @@ use Rattle.ds_model.specs.declared.log.Body.{Body}
 use Rattle.ds_model.specs.declared.log.Body.TheVariants as body
 use Rattle.heap_space.specs.Slots.{Content, content, slot_in}
 use Rattle.page_redo.specs.Rows.{change_fault}
+use Rattle.page_chain.specs.Chains.{images_of}
 use Rattle.sound_disk.specs.Rows_there.{Stood, BodyStood, BeforesAgree}
+use Rattle.stood_rows.specs.Owners.{TakesSlots}
 
 abbrev pub same_value : Option (List ℕ) → List ℕ → Bool
 same_value None value = false
@@ -30,34 +32,35 @@ pub record StandsIn (page : List ℕ) (c : RowChange) : Type 0 where
 abbrev pub IsUnstoodChange : List LogRecord → RowChange → PageId → Type 0
 IsUnstoodChange earlier c id = (Stood earlier c → ⊥) × (id ≡ heap_page c.table c.place.page)
 
-abbrev pub IsUnstood : List LogRecord → Body → PageId → Type 0
-IsUnstood earlier (body.RowChange c) id = IsUnstoodChange earlier c id
-IsUnstood earlier (body.Compensation c undone) id = IsUnstoodChange earlier c id
-IsUnstood earlier (body.System patches) id = ⊥
-IsUnstood earlier body.Commit id = ⊥
-IsUnstood earlier body.Ended id = ⊥
-IsUnstood earlier (body.Checkpoint offset) id = ⊥
-IsUnstood earlier body.RestartEnd id = ⊥
+-- the same of any record, under this number; of other patches it is the page on which they take a slot from its key
+abbrev pub IsUnstood : List LogRecord → ℕ → Body → PageId → Type 0
+IsUnstood earlier lrsn (body.RowChange c) id = IsUnstoodChange earlier c id
+IsUnstood earlier lrsn (body.Compensation c undone) id = IsUnstoodChange earlier c id
+IsUnstood earlier lrsn (body.System patches) id = TakesSlots (images_of earlier) lrsn patches id
+IsUnstood earlier lrsn body.Commit id = ⊥
+IsUnstood earlier lrsn body.Ended id = ⊥
+IsUnstood earlier lrsn (body.Checkpoint offset) id = ⊥
+IsUnstood earlier lrsn body.RestartEnd id = ⊥
 
 abbrev pub IsChangeTold : List LogRecord → RowChange → Option PageId → Type 0
 IsChangeTold earlier c None = Stood earlier c
 IsChangeTold earlier c (Some id) = IsUnstoodChange earlier c id
 
-abbrev pub IsBodyTold : List LogRecord → Body → Option PageId → Type 0
-IsBodyTold earlier b None = BodyStood earlier b
-IsBodyTold earlier b (Some id) = IsUnstood earlier b id
+abbrev pub IsBodyTold : List LogRecord → ℕ → Body → Option PageId → Type 0
+IsBodyTold earlier lrsn b None = BodyStood earlier lrsn b
+IsBodyTold earlier lrsn b (Some id) = IsUnstood earlier lrsn b id
 
--- the page of the first record whose change didn't meet its row, or tells another than was left
+-- the page of the first record whose change didn't meet its row, or tells another than was left, or whose patches take a slot from its key
 pub record IsFirstUnstood (records : List LogRecord) (id : PageId) : Type 0 where
   pub first : List LogRecord
   pub it : LogRecord
   pub rest : List LogRecord
   pub split : records ≡ first ++ it ∷ rest
   pub before : BeforesAgree [] first
-  pub wrong : IsUnstood first it.body id
+  pub wrong : IsUnstood first it.lrsn it.body id
   pub lacking : BeforesAgree [] records → ⊥
 
--- each record tells the row that it met, and that those before it left; or this is the page of the first that doesn't
+-- each record tells the row that it met, and that those before it left, or leaves each slot to its key; or this is the page of the first that doesn't
 abbrev pub AreTold : List LogRecord → Option PageId → Type 0
 AreTold records None = BeforesAgree [] records
 AreTold records (Some id) = IsFirstUnstood records id

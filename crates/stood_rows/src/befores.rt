@@ -1,13 +1,14 @@
 ghost use Rattle.std.specs.Prelude.{◌≡◌, ◌↔◌, List, [], IfOk, IsTrue};
 ghost use Rattle.std.specs.List.{AllByRecursion};
 ghost use Rattle.ds_model.specs.declared.log.LogRecord.{LogRecord};
-ghost use Rattle.ds_model.specs.RecordBytes.{IsAllowed};
+ghost use Rattle.ds_model.specs.RecordBytes.{IsAllowed, BodyFits};
 ghost use Rattle.row_befores.specs.Befores.{RowBefore};
 ghost use Rattle.sound_disk.specs.Rows_there.{row_after};
 ghost use Rattle.stood_rows.specs.Held.{AreImages};
 ghost use Rattle.stood_rows.specs.Standing.{IsChangeTold, IsBodyTold, AreTold};
 
 use crate::pages::{apply_record, meets};
+use crate::patches::find_taken;
 use ds_base::{NoMemory, PageId};
 use log_record::{Body, LogRecord, RowChange};
 use page_format::Page;
@@ -48,29 +49,29 @@ fn unstood_change(
     }
 }
 
-// The same of any record. The pages are as the records before it left them.
+// The same of any record, and of patches the page on which they take a slot from its key. The pages are as the records before it
+// left them.
 fn unstood(
     alloc: Global,
     pages: &BTreeMap<PageId, Page>,
     it: &LogRecord,
     tells: bool,
 ) -> Result<Option<PageId>, NoMemory>
-    ensures { IfOk result (λ found. (earlier : List LogRecord) → AreImages pages.now.entries earlier → (IsTrue tells ↔ RowBefore earlier it.now.body) → IsBodyTold earlier it.now.body found) }
+    requires { BodyFits it.now.version it.now.body }
+    ensures { IfOk result (λ found. (earlier : List LogRecord) → AreImages pages.now.entries earlier → (IsTrue tells ↔ RowBefore earlier it.now.body) → IsBodyTold earlier it.now.lrsn it.now.body found) }
 {
     match &it.body {
         Body::RowChange { change } | Body::Compensation { change, .. } => {
             unstood_change(alloc, pages, change, tells)
         }
-        Body::System { .. }
-        | Body::Commit
-        | Body::Ended
-        | Body::Checkpoint { .. }
-        | Body::RestartEnd => Ok(None),
+        Body::System { patches } => find_taken(alloc, pages, patches.as_slice(), it.lrsn),
+        Body::Commit | Body::Ended | Body::Checkpoint { .. } | Body::RestartEnd => Ok(None),
     }
 }
 
 /// The page of the first record that changes a row and didn't meet the row that it tells, in its slot as the records before it
-/// left the page, or tells another row than they left.
+/// left the page, or tells another row than they left; or that changes pages for no row, and takes a slot from the key to which it
+/// was given.
 ///
 /// It takes time in the number of changes of all records times the logarithm of the number of pages, and keeps the pages that
 /// they change in memory.

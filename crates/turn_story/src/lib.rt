@@ -13,7 +13,7 @@ mod told;
 
 pub use desk::Desk;
 pub use history::History;
-pub use phase::{Closed, Phase};
+pub use phase::{Closed, Phase, Room};
 pub use step::{Start, Step};
 pub use stepping::Stepping;
 pub use told::Told;

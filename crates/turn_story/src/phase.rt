@@ -21,6 +21,13 @@ pub struct Phase<M: Stepping> {
     parts: Vec<M::Part>,
 }
 
+/// What is left of a phase whose turn is out: the room that its desks came from. Contracts see for how many desks it is.
+#[derive(Drop)]
+pub struct Room<M: Stepping> {
+    seats: Vec<Seat<Told<M>>>,
+    parts: Vec<M::Part>,
+}
+
 /// What a phase leaves. `ended` says that a turn was refused for want of memory.
 #[derive(Drop)]
 pub struct Closed<M: Stepping> {
@@ -40,6 +47,16 @@ impl<M: Stepping> Model for Phase<M> {
     ghost view = { λ p. p.turn };
 
     ghost invariant = { λ p. (p.seats.items ≡ []) × (p.parts.items ≡ []) × (p.turn.seats ≤ vec_capacity p.seats) × (p.turn.seats ≤ vec_capacity p.parts) × (length p.turn.start.parts.value.items ≡ p.turn.seats) };
+}
+
+impl<M: Stepping> Model for Room<M> {
+    ghost use Rattle.std.specs.Prelude.{ℕ, ◌≡◌, [], min, vec_capacity};
+
+    ghost Value = { ℕ };
+
+    ghost view = { λ r. min (vec_capacity r.seats) (vec_capacity r.parts) };
+
+    ghost invariant = { λ r. (r.seats.items ≡ []) × (r.parts.items ≡ []) };
 }
 
 impl<M: Stepping> Phase<M> {
@@ -78,6 +95,26 @@ impl<M: Stepping> Phase<M> {
         ensures { result.now ≡ self.now }
     {
         &self.turn
+    }
+
+    /// The turn by itself, for threads that share it.
+    pub fn lend(self) -> (Turn<Told<M>>, Room<M>)
+        ensures turn { result.0 ≡ self }
+        ensures room { self.seats ≤ result.1 }
+        ensures parts { length self.start.parts.value.items ≡ self.seats }
+    {
+        let Phase { turn, seats, parts } = self;
+        (turn, Room { seats, parts })
+    }
+
+    /// The phase whose turn is back.
+    pub fn back(turn: Turn<Told<M>>, room: Room<M>) -> Phase<M>
+        requires room { turn.seats ≤ room }
+        requires parts { length turn.start.parts.value.items ≡ turn.seats }
+        ensures { result ≡ turn }
+    {
+        let Room { seats, parts } = room;
+        Phase { turn, seats, parts }
     }
 
     /// Gives back the value, the parts and the journal that leads to them. It takes all the phase's desks.

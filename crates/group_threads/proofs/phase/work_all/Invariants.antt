@@ -1,7 +1,7 @@
 use Rattle.std.proofs.Common.{◌≡◌, length}
-use Rattle.group_threads.specs.Desks.{AreMembersAt}
+use Rattle.std.specs.Arc.{arc_value}
+use Rattle.group_threads.specs.Errands.{ErrandsAt}
 use Rattle.group_threads.proofs.phase.work_all.Given as goal
 
 abbrev pub invariant-loop : goal.invariant-loop
-invariant-loop g l =
-    (length l.workers ≡ length l.fn.workers) × AreMembersAt l.fn.turn l.workers (λ w. w.desk.seat) (λ w. w.desk.part)
+invariant-loop g l = (length l.errands.items ≡ length l.fn.errands.items) × ErrandsAt (arc_value l.fn.stage) 1 l.errands.items

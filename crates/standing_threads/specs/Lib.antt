@@ -1,0 +1,3 @@
+pub mod Lanes
+pub mod Ends
+pub mod Rows
