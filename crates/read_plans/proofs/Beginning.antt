@@ -1,6 +1,5 @@
 -- A restart that goes by the plan of what was read appends what fits the logs whole.
-use Rattle.std.proofs.Common.{◌≡◌, List, sym, subst, ◌∙◌}
-use Rattle.log_record.specs.declared.log.Log.{Log}
+use Rattle.std.proofs.Common.{sym, subst, ◌∙◌}
 use Rattle.restart_plan.specs.Plans.{plan_of}
 use Rattle.sound_plans.specs.Courses.{UndoBegins}
 use Rattle.sound_plans.specs.Queues.{ClosingsFit, QueueFits}

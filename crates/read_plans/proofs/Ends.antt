@@ -2,7 +2,7 @@
 use Rattle.std.proofs.Common.{◌≡◌, ℕ, suc, ◌+◌, ◌-◌, ◌≤◌, Bool, true, false, cond, List, [], ◌∷◌, ◌++◌, length, map, get_or, Option, Some, None, inl, inr, refl, sym, ap, subst, ◌∙◌, append_assoc, arith}
 use Rattle.std.specs.Prelude.{◌==◌, nat_lt, not, ◌||◌, filter, slice_get}
 use Rattle.std.specs.List.{list_any, AllByRecursion}
-use Rattle.std.proofs.lemmas.Bool.{cases_Bool, cond_both, or_cases, or_left, or_parts, both_ways, eqb-true, eq-eqb}
+use Rattle.std.proofs.lemmas.Bool.{cases_Bool, cond_both, or_cases, or_left, or_parts, both_ways, eqb-true}
 use Rattle.std.proofs.lemmas.List.{append-nil}
 use Rattle.std.proofs.lemmas.List.Folds.{list_any-append}
 use Rattle.ds_model.specs.declared.log.LogRecord.{LogRecord}
@@ -19,8 +19,8 @@ use Rattle.sound_disk.specs.Whole_logs.{AreWholeLogs}
 use Rattle.sound_plans.specs.Queues.{has_log, records_for, length_for}
 use Rattle.sound_plans.proofs.Members.{IsHome, each_home}
 use Rattle.sound_reads.specs.Reads.{IsReadOf, AreReadOf}
-use Rattle.read_plans.specs.Fits.{TailsAreRead, EndsAreRead, EndsAreKnown, EndsAt, EndingsFit, EndingsReadFit}
-use Rattle.read_plans.proofs.Members.{reads_have, same_last, tells_itself}
+use Rattle.read_plans.specs.Fits.{TailsAreRead, EndsAreRead, EndsAreKnown, EndsAt, EndingsReadFit}
+use Rattle.read_plans.proofs.Members.{same_last, tells_itself}
 
 -- ---- tails
 

@@ -1,6 +1,6 @@
 -- What was read of a log tells the same of a transaction as all of it, or nothing of one that is settled.
-use Rattle.std.proofs.Common.{◌≡◌, ℕ, ◌+◌, Bool, true, false, cond, List, [], ◌∷◌, ◌++◌, inl, inr, refl, sym, ap, subst, ◌∙◌}
-use Rattle.std.specs.Prelude.{◌⊎◌, ◌==◌}
+use Rattle.std.proofs.Common.{◌≡◌, ℕ, Bool, true, false, cond, List, [], ◌∷◌, inl, inr, refl, sym, ap, subst, ◌∙◌}
+use Rattle.std.specs.Prelude.{◌==◌}
 use Rattle.std.specs.List.{AllByRecursion}
 use Rattle.std.proofs.lemmas.Bool.{cases_Bool, or_cases, cond_both, eqb-true}
 use Rattle.ds_disk.specs.Pages.{page_at}
@@ -14,10 +14,8 @@ use Rattle.log_trans.specs.Courses.{new_course, after_body}
 use Rattle.page_images.specs.Images.{Images}
 use Rattle.sound_disk.specs.Checkpoints.{IsCheckpointed, AreCheckpointed}
 use Rattle.sound_disk.specs.Transactions.{speak_of, course_in}
-use Rattle.sound_plans.specs.Opens.{course_of}
 use Rattle.sound_plans.specs.Queues.{records_for}
 use Rattle.sound_plans.proofs.Members.{IsSoundLog, each_sound}
-use Rattle.sound_reads.specs.Reads.{IsReadOf, AreReadOf}
 use Rattle.sound_reads.proofs.Apart.{IsAway, course_stays, same_course}
 use Rattle.sound_reads.proofs.Fewer.{IsSoundRead, AreSoundReads, all_sound}
 use Rattle.read_plans.specs.Courses.{EndedIsSettled, Tells, CoursesAreRead}

@@ -1,11 +1,11 @@
 -- Where a field isn't allowed in the bytes that are kept, it isn't in the log.
-use Rattle.std.proofs.Common.{◌≡◌, ℕ, ◌+◌, ◌≤◌, List, [], ◌∷◌, ◌++◌, length, take, drop, Result, Ok, Err, refl, sym, ap, subst, ◌∙◌, append_assoc, arith}
+use Rattle.std.proofs.Common.{◌≡◌, ℕ, ◌≤◌, List, [], ◌∷◌, ◌++◌, length, take, drop, Result, Ok, Err, refl, sym, ap, subst, ◌∙◌, append_assoc, arith}
 use Rattle.std.specs.List.{AllByRecursion}
 use Rattle.std.proofs.lemmas.List.{length-drop, take-append-drop, take_all}
 use Rattle.ds_model.specs.declared.log.LogRecord.{LogRecord}
 use Rattle.ds_model.specs.RecordBytes.{IsAllowed, record_bytes, log_bytes}
 use Rattle.log_record.specs.Reading.{record_in}
-use Rattle.log_record.specs.Logs.{Parts, parts_in, parts_of, behind}
+use Rattle.log_record.specs.Logs.{Parts, parts_in, behind}
 use Rattle.log_record.specs.declared.log.Log.{Log}
 use Rattle.log_head.specs.Laws.{PartsGoOn}
 use Rattle.log_reader.specs.Keeping.{IsOf}

@@ -1,8 +1,8 @@
 -- The calls by which the logs of a sound disk are read, one after the other.
 use Rattle.std.proofs.Common.{◌≡◌, ◌≢◌, ℕ, ◌+◌, ◌-◌, ◌<◌, ◌≤◌, Bool, true, false, List, [], ◌∷◌, ◌++◌, length, take, drop, Option, Some, None, Result, Ok, Err, inl, inr, refl, sym, ap, subst, ◌∙◌, append_assoc, arith, lit<}
-use Rattle.std.specs.Prelude.{◌⊎◌, IfOk, min, nat_lt, nat_le, ◌==◌}
+use Rattle.std.specs.Prelude.{IfOk, min, nat_lt, nat_le, ◌==◌}
 use Rattle.std.proofs.lemmas.Bool.{cond_both, ltb-true, ltb-false, leb-true, eqb-true}
-use Rattle.std.proofs.lemmas.List.{append-nil, length-append, length-drop}
+use Rattle.std.proofs.lemmas.List.{length-append, length-drop}
 use Rattle.ds_base.specs.declared.fault.NoMemory.{NoMemory}
 use Rattle.ds_disk.specs.Contents.{Contents, Becomes, log_of}
 use Rattle.ds_disk.specs.declared.disk.DiskError.{DiskError}
@@ -13,7 +13,7 @@ use Rattle.log_reader.specs.declared.calls.LogReply.{LogReply}
 use Rattle.log_reader.specs.declared.calls.LogReply.TheVariants as told
 use Rattle.log_reader.specs.declared.calls.LogRead.{LogRead}
 use Rattle.log_reader.specs.declared.calls.LogRead.TheVariants as read
-use Rattle.log_reader.specs.Held.{HeldState, nothing_held, grown}
+use Rattle.log_reader.specs.Held.{HeldState, grown}
 use Rattle.log_reader.specs.Keeping.{AreBytes, IsOf, IsNoted, NothingIsOf, KeepingIsOf, GrownIsOf, NothingIsNoted, KeepingIsNoted, GrownIsNoted}
 use Rattle.log_reader.specs.Readers.{ReaderState, IsNew, IsRead, block_size, call_by, after_length, after_count, after_reply, is_long, is_whole}
 use Rattle.log_trans.specs.declared.damage.Damaged.{Damaged}
@@ -27,15 +27,15 @@ use Rattle.group_restart.specs.declared.stage.Stage.TheVariants as stage
 use Rattle.group_restart.specs.Calls.{log_call, call_in, call_of}
 use Rattle.group_restart.specs.Disk.{Drive, Calls, HasBytes, TellsLength, TellsBlock, with_reader_block}
 use Rattle.group_restart.specs.Machine.{Restart}
-use Rattle.group_restart.specs.Course.{Next, IsBegun, stays, with_reader, with_log, planned, take_logs, found_damage, GoesToNext, TakesWhole, TakesRead, TakesLog, TakesTold, TakesReply}
-use Rattle.group_restart.specs.Steps.{WantsMemory, Takes, Steps}
+use Rattle.group_restart.specs.Course.{Next, IsBegun, stays, with_reader, with_log, planned, take_logs, GoesToNext, TakesWhole, TakesRead, TakesLog, TakesTold, TakesReply}
+use Rattle.group_restart.specs.Steps.{WantsMemory, Takes}
 use Rattle.disk_restart.proofs.Told.{answered}
 use Rattle.sound_disk.specs.Laws.{AreRead}
 use Rattle.sound_disk.specs.Sound.{IsSoundWith}
 use Rattle.sound_disk.specs.Whole_logs.{AreWholeLogs}
 use Rattle.sound_reads.specs.Reads.{IsReadOf, AreReadOf, IsKept}
 use Rattle.sound_reads.specs.Laws.{FindsNoDamage, NothingIsKept, LengthIsKept, GrownIsKept, LastIsRead, ReadAsks, AddedAsks}
-use Rattle.restart_reads.specs.Reading.{IsBeingRead, ReadsNext, AllAreRead, ReadingLeads, ReadingBegins, ReadingGoes}
+use Rattle.restart_reads.specs.Reading.{IsBeingRead, ReadsNext, ReadingLeads, ReadingBegins, ReadingGoes}
 use Rattle.restart_reads.proofs.Logs.{as_many, IsAt, log_at, one_more}
 use Rattle.restart_reads.proofs.Bad_fields.{ReadAgain, not_bad}
 

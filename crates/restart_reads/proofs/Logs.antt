@@ -1,5 +1,5 @@
 -- The logs of a disk by their places, and what is read of them in turn.
-use Rattle.std.proofs.Common.{◌≡◌, ℕ, ◌+◌, ◌-◌, ◌≤◌, List, [], ◌∷◌, ◌++◌, length, get_or, refl, sym, ap, subst, ◌∙◌, arith}
+use Rattle.std.proofs.Common.{◌≡◌, ℕ, ◌+◌, ◌-◌, List, [], ◌∷◌, ◌++◌, length, get_or, refl, sym, ap, subst, arith}
 use Rattle.ds_disk.specs.Contents.{log_of}
 use Rattle.log_record.specs.declared.log.Log.{Log}
 use Rattle.sound_disk.specs.Whole_logs.{IsWholeLog, AreWholeLogs}
