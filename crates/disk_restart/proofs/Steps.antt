@@ -21,7 +21,7 @@ use Rattle.group_restart.specs.declared.stage.Stage.TheVariants as stage
 use Rattle.group_restart.specs.Calls.{call_in, call_of}
 use Rattle.group_restart.specs.Disk.{Drive, Calls, TellsLength, Cuts as CutsLog, Appends, ReadsPage, WritesPage, with_page}
 use Rattle.group_restart.specs.Machine.{Restart}
-use Rattle.group_restart.specs.Course.{Next, IsBegun, TakesTold, TakesReply, appended, take_done, done}
+use Rattle.group_restart.specs.Course.{IsBegun, TakesTold, TakesReply, appended, take_done, done}
 use Rattle.group_restart.specs.Steps.{WantsMemory, Takes, Steps}
 use Rattle.disk_restart.specs.Ends.{EndsBehind}
 use Rattle.disk_restart.specs.Keeping.{KeepsRecords}

@@ -215,7 +215,7 @@ pub length_is_kept : LengthIsKept
 length_is_kept h keeps_all kept zero = record { looked = kept.looked; spelled = kept.spelled; allowed = kept.allowed; from_start = λ _. zero; begins = inl zero }
 
 abbrev marked_from : HeldState → Mark → HeldState
-marked_from h m = record { start = h.start + m.from; end = h.end; bytes = drop m.from h.bytes; passed = m.to - m.from; low = m.low; keeps_all = h.keeps_all }
+marked_from h m = record { start = h.start + m.from; end = h.end; bytes = drop m.from h.bytes; passed = m.to - m.from; low = m.low; keeps_all = h.keeps_all; has_old = m.has_old }
 
 from_mark : (h : HeldState) (m : Mark) → h.keeps_all ≡ false → m.wants_all ≡ false → SeenAll h.start h.bytes m → IsKept (marked_from h m)
 from_mark h m not_all fits s =
@@ -246,7 +246,7 @@ record IsGrown (h : HeldState) : Type 0 where
   from_start : h.keeps_all ≡ true → h.start ≡ 0
   begins : (h.start ≡ 0) ⊎ BeginAt h.start h.low looked
 
-first_seen : (h : HeldState) → IsGrown h → IsSeen h.start h.bytes (first_mark h.passed h.low)
+first_seen : (h : HeldState) → IsGrown h → IsSeen h.start h.bytes (first_mark h.passed h.low h.has_old)
 first_seen h g =
     let all : h.passed - 0 ≡ h.passed = omega arith in
     let none : h.start + 0 ≡ h.start = omega arith in (
@@ -263,18 +263,18 @@ first_seen h g =
 all_kept : (h : HeldState) → IsGrown h → h.keeps_all ≡ true → IsKept h
 all_kept h g e = record { looked = g.looked; spelled = g.spelled; allowed = g.allowed; from_start = g.from_start; begins = inl (g.from_start e) }
 
-settled_kept : ReadingLaws → (h : HeldState) (b : Bool) → h.keeps_all ≡ b → AreBytes h.bytes → IsGrown h → IsKept (cond (b || nat_lt (length h.bytes) h.passed) h (with_mark h (marked_all h.start (first_mark h.passed h.low) (whole_records (drop h.passed h.bytes)))))
+settled_kept : ReadingLaws → (h : HeldState) (b : Bool) → h.keeps_all ≡ b → AreBytes h.bytes → IsGrown h → IsKept (cond (b || nat_lt (length h.bytes) h.passed) h (with_mark h (marked_all h.start (first_mark h.passed h.low h.has_old) (whole_records (drop h.passed h.bytes)))))
 settled_kept k h true e are g = all_kept h g e
 settled_kept k h false e are g =
-    cond_both (nat_lt (length h.bytes) h.passed) h (with_mark h (marked_all h.start (first_mark h.passed h.low) (whole_records (drop h.passed h.bytes)))) IsKept
+    cond_both (nat_lt (length h.bytes) h.passed) h (with_mark h (marked_all h.start (first_mark h.passed h.low h.has_old) (whole_records (drop h.passed h.bytes)))) IsKept
     (λ over. absurd (let lt = ltb-true (length h.bytes) h.passed over in let le = g.passed in let never : ⊥ = omega (arith, lt, le) in never))
-    (λ _. mark_kept h (marked_all h.start (first_mark h.passed h.low) (whole_records (drop h.passed h.bytes))) e (walk k h.start h.bytes (whole_records (drop h.passed h.bytes)) are (first_mark h.passed h.low) (first_seen h g) refl))
+    (λ _. mark_kept h (marked_all h.start (first_mark h.passed h.low h.has_old) (whole_records (drop h.passed h.bytes))) e (walk k h.start h.bytes (whole_records (drop h.passed h.bytes)) are (first_mark h.passed h.low h.has_old) (first_seen h g) refl))
 
 settled_is : ReadingLaws → (h : HeldState) → AreBytes h.bytes → IsGrown h → IsKept (settled h)
 unfolding settled
 settled_is k h are g = settled_kept k h h.keeps_all refl are g
 
-more_grown : (log : List ℕ) (h : HeldState) (more : List ℕ) → IsOf log h → IsKept h → IsGrown (record { start = h.start; end = h.end + length more; bytes = h.bytes ++ more; passed = h.passed; low = h.low; keeps_all = h.keeps_all })
+more_grown : (log : List ℕ) (h : HeldState) (more : List ℕ) → IsOf log h → IsKept h → IsGrown (record { start = h.start; end = h.end + length more; bytes = h.bytes ++ more; passed = h.passed; low = h.low; keeps_all = h.keeps_all; has_old = h.has_old })
 more_grown log h more is kept =
     let long = length-append h.bytes more in
     let le = is.passed in
@@ -304,7 +304,7 @@ take_bytes n bytes h i = elim (cases_lt i (length (take n bytes))) [
 
 pub grown_is_kept : ReadingLaws → GrownIsKept
 grown_is_kept k log h block n is kept are within next =
-    settled_is k (record { start = h.start; end = h.end + length (take n block); bytes = h.bytes ++ take n block; passed = h.passed; low = h.low; keeps_all = h.keeps_all })
+    settled_is k (record { start = h.start; end = h.end + length (take n block); bytes = h.bytes ++ take n block; passed = h.passed; low = h.low; keeps_all = h.keeps_all; has_old = h.has_old })
     (both_bytes h.bytes (take n block) is.bytes (take_bytes n block are)) (more_grown log h (take n block) is kept)
 
 -- ---- what was read
@@ -390,7 +390,7 @@ front_length bytes r read front h spelled le =
     sym (ap (λ (bs : List ℕ). length bs) h.spelled) ∙ length-take-le (read.length - r.held.start) r.held.bytes (omega (arith, begins, whole)) in
     omega (arith, all, one, two, begins)
 
-same_parts : (bytes : List ℕ) (p q : Parts) → parts_in bytes ≡ Ok p → parts_in bytes ≡ Ok q → p ≡ q
+pub same_parts : (bytes : List ℕ) (p q : Parts) → parts_in bytes ≡ Ok p → parts_in bytes ≡ Ok q → p ≡ q
 same_parts bytes p q h k = cc
 
 pub last_is_read : ReadingLaws → AreRead → ReadIsLast → LastIsRead

@@ -201,9 +201,8 @@ read_number reads = greatest_is reads
 
 pub plan_read_suits : ReadsBring → HaveGreatest → PlanReadSuits
 unfolding plan_of
-plan_read_suits brings same c logs reads h are renews = record {
+plan_read_suits brings same c logs reads h are = record {
   pages_are = refl;
   brings = λ id. brings c logs reads id h are;
   number = greatest_is reads ∙ same c logs reads h.sound are;
-  renews = renews;
 }

@@ -1,17 +1,18 @@
 -- What holds of logs that were read, where the logs are those of a sound disk.
-use Rattle.std.specs.Prelude.{◌≡◌, ℕ, ◌+◌, ◌≤◌, Bool, List, length, take, drop, None}
+use Rattle.std.specs.Prelude.{◌≡◌, ℕ, ◌+◌, ◌≤◌, Bool, List, [], ◌∷◌, ◌++◌, length, take, drop, None}
 use Rattle.ds_disk.specs.Contents.{Contents}
 use Rattle.log_record.specs.declared.log.Log.{Log}
 use Rattle.log_reader.specs.Held.{HeldState, nothing_held, grown}
-use Rattle.log_reader.specs.Keeping.{AreBytes, IsOf}
+use Rattle.log_reader.specs.Keeping.{AreBytes, IsOf, IsNoted}
 use Rattle.log_reader.specs.Readers.{ReaderState, IsLogRead}
 use Rattle.log_trans.specs.Numbers.{greatest}
 use Rattle.log_merge.specs.Merging.{all_records}
 use Rattle.ds_base.specs.declared.names.PageId.{PageId}
 use Rattle.ds_disk.specs.Pages.{page_at}
 use Rattle.page_redo.specs.Forward.{brought_forward}
-use Rattle.restart_plan.specs.Renewal.{must_renew}
-use Rattle.group_restart.specs.Course.{found_damage, plan_read}
+use Rattle.restart_plan.specs.Renewal.{asks_behind, asks_renewal, must_renew}
+use Rattle.group_restart.specs.Machine.{Restart}
+use Rattle.group_restart.specs.Course.{found_damage, plan_read, with_log}
 use Rattle.sound_disk.specs.Versions.{merged, last_images}
 use Rattle.sound_restarts.specs.Redo.{IsSoundNow, IsBrought, PlanSuits}
 use Rattle.sound_disk.specs.Sound.{IsSoundWith}
@@ -35,9 +36,9 @@ HaveGreatest = (c : Contents) (logs reads : List Log) → IsSoundWith c logs →
 abbrev pub ReadsBring : Type 0
 ReadsBring = (c : Contents) (logs reads : List Log) (id : PageId) → IsSoundNow c logs → AreReadOf logs reads → IsBrought (page_at c.pages id) (last_images logs id) (brought_forward id (page_at c.pages id) (merged reads))
 
--- so their plan suits the disk, if it renews pages of version 1 where the logs ask for it
+-- so their plan suits the disk
 abbrev pub PlanReadSuits : Type 0
-PlanReadSuits = (c : Contents) (logs reads : List Log) → IsSoundNow c logs → AreReadOf logs reads → must_renew reads ≡ must_renew logs → PlanSuits (plan_read reads) c logs
+PlanReadSuits = (c : Contents) (logs reads : List Log) → IsSoundNow c logs → AreReadOf logs reads → PlanSuits (plan_read reads) c logs
 
 -- ---- reading
 
@@ -54,3 +55,14 @@ GrownIsKept = (log : List ℕ) (h : HeldState) (block : List ℕ) (n : ℕ) → 
 -- in the end it was read of the log
 abbrev pub LastIsRead : Type 0
 LastIsRead = (member : ℕ) (bytes : List ℕ) (log : Log) (r : ReaderState) (read : Log) → IsWholeLog member bytes log → IsOf bytes r.held → IsKept r.held → length bytes ≤ r.held.end → IsLogRead r read → read.member ≡ member → IsReadOf log read
+
+-- ---- pages of version 1
+
+-- by what was read of a log, and was noted while it was, pages of version 1 are looked for exactly where the log asks for it
+abbrev pub ReadAsks : Type 0
+ReadAsks = (member : ℕ) (bytes : List ℕ) (log : Log) (r : ReaderState) (read : Log) → IsWholeLog member bytes log → IsOf bytes r.held → IsKept r.held → IsNoted bytes r.held → length bytes ≤ r.held.end → IsLogRead r read → read.member ≡ member
+    → asks_behind r.held.has_old read ≡ asks_renewal log
+
+-- so behind each log that was read they are where one of the logs up to it does
+abbrev pub AddedAsks : Type 0
+AddedAsks = (h : Restart) (logs : List Log) (log read : Log) → h.renews ≡ must_renew logs → asks_behind h.reader.held.has_old read ≡ asks_renewal log → (with_log h read).renews ≡ must_renew (logs ++ log ∷ [])

@@ -3,7 +3,7 @@
 //! The crate has definitions and proofs alone. Its functions do nothing: their contracts are the laws.
 #![tactic(auto)]
 
-ghost use Rattle.sound_reads.specs.Laws.{FindsNoDamage, GrownIsKept, HaveGreatest, LastIsRead, LengthIsKept, NothingIsKept, PlanReadSuits, ReadsBring, ReadsStandApart};
+ghost use Rattle.sound_reads.specs.Laws.{AddedAsks, FindsNoDamage, GrownIsKept, HaveGreatest, LastIsRead, LengthIsKept, NothingIsKept, PlanReadSuits, ReadAsks, ReadsBring, ReadsStandApart};
 
 /// Where each log of a sound disk is read whole, or from a Checkpoint on that names its own place, as all behind it do, and behind
 /// which no record belongs to an earlier transaction, what was read are records of transactions that fit each other; no number
@@ -17,7 +17,7 @@ pub fn read_laws()
 }
 
 /// What was left out so is in the pages of the disk: the merged records of what was read bring each of them forward to its last
-/// version, so that the plan of it suits the disk, if it renews pages of version 1 where the logs ask for it.
+/// version, so that the plan of it suits the disk.
 pub fn suit_laws()
     ensures brings { ReadsBring }
     ensures suits { PlanReadSuits }
@@ -31,11 +31,14 @@ pub fn suit_laws()
 }
 
 /// The reader of a log keeps all of it, or what stands from such a Checkpoint on; so in the end it has read a log of a sound disk so.
+/// By what it has noted of the log besides, a restart looks for pages of version 1 exactly where one of the logs asks for it.
 pub fn kept_laws()
     ensures nothing { NothingIsKept }
     ensures length { LengthIsKept }
     ensures grown { GrownIsKept }
     ensures last { LastIsRead }
+    ensures asks { ReadAsks }
+    ensures added { AddedAsks }
 {
     log_record::reading_laws();
     log_head::whole_laws();

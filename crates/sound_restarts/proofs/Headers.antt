@@ -69,7 +69,7 @@ either_index at records table n (inr whole) = index_header at table n whole.page
 
 -- ---- of which table a page is
 
-abbrev IsOfTable : ℕ → PageId → Type 0
+abbrev pub IsOfTable : ℕ → PageId → Type 0
 IsOfTable table id = (id.set ≡ heap_set table) ⊎ (id.set ≡ index_set table)
 
 abbrev id_in : ℕ → ℕ → PageId
@@ -82,9 +82,9 @@ has_header at records table id whole (inr e) =
     subst (λ (q : PageId). is_page (header_of (at q) q) ≡ true) (ap (λ (s : ℕ). id_in s id.number) (sym e)) (either_index at records table id.number whole.index)
 
 -- the set of a page of a table
-record IsSet (n : ℕ) : Type 0 where
-  from : 1 ≤ n
-  to : n ≤ 128
+pub record IsSet (n : ℕ) : Type 0 where
+  pub from : 1 ≤ n
+  pub to : n ≤ 128
 
 halved : (n t r : ℕ) → n + 1 ≡ 2 * t + r → r < 2 → 1 ≤ n → n ≤ 128 → IsTable t × ((n ≡ 2 * t - 1) ⊎ (n ≡ 2 * t))
 halved n t r e lt from to = (
@@ -95,7 +95,7 @@ halved n t r e lt from to = (
   ],
 )
 
-table_of : (id : PageId) → IsSet id.set → (t : ℕ) × IsTable t × IsOfTable t id
+pub table_of : (id : PageId) → IsSet id.set → (t : ℕ) × IsTable t × IsOfTable t id
 table_of id h =
     let from = h.from in
     let to = h.to in
@@ -128,7 +128,7 @@ body_set v body.Ended id h e = absurd cc
 body_set v (body.Checkpoint offset) id h e = absurd cc
 body_set v body.RestartEnd id h e = absurd cc
 
-touched_set : (rs : List LogRecord) (id : PageId) → AllByRecursion IsAllowed rs → list_any (touches id) rs ≡ true → IsSet id.set
+pub touched_set : (rs : List LogRecord) (id : PageId) → AllByRecursion IsAllowed rs → list_any (touches id) rs ≡ true → IsSet id.set
 touched_set [] id allowed h = absurd cc
 touched_set (r ∷ rs) id allowed h =
     elim (or_cases (touches id r) (list_any (touches id) rs) h) as (λ _. IsSet id.set) [

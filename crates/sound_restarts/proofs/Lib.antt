@@ -8,6 +8,8 @@ pub mod Numbers
 pub mod Listed_pages
 pub mod Bringing
 pub mod Redoing
+pub mod Counted
+pub mod Renewing
 pub mod Undamaged
 pub mod Undone
 pub mod Cutting

@@ -1,9 +1,9 @@
 -- The redo of a group restart over a sound disk, call by call.
-use Rattle.std.proofs.Common.{◌≡◌, ℕ, ◌≤◌, Bool, true, false, cond, List, [], ◌∷◌, ◌++◌, drop, Result, inl, inr, refl, sym, ap, subst, ◌∙◌, arith}
-use Rattle.std.specs.Prelude.{◌||◌, ◌&&◌, nat_lt, slice_get}
+use Rattle.std.proofs.Common.{◌≡◌, ℕ, ◌≤◌, Bool, true, false, cond, List, [], ◌∷◌, drop, Result, inl, inr, refl, sym, ap, subst, ◌∙◌, arith}
+use Rattle.std.specs.Prelude.{◌||◌, nat_lt, slice_get}
 use Rattle.std.specs.List.{list_any}
 use Rattle.page_chain.specs.Chains.{touches}
-use Rattle.std.proofs.lemmas.Bool.{both_ways, cases_Bool, cond-false, cond_both, le-ltb, or_left, or_right}
+use Rattle.std.proofs.lemmas.Bool.{both_ways, cases_Bool, cond-false, le-ltb, or_left, or_right}
 use Rattle.ds_base.specs.Pages.{same_page}
 use Rattle.ds_base.specs.declared.names.PageId.{PageId}
 use Rattle.ds_base.specs.declared.names.Volume.TheVariants as volume
@@ -28,7 +28,7 @@ use Rattle.group_restart.specs.declared.stage.Stage.TheVariants as stage
 use Rattle.group_restart.specs.Machine.{Restart}
 use Rattle.group_restart.specs.Disk.{with_page as with_hand}
 use Rattle.group_restart.specs.PageNumbers.{with_page_number}
-use Rattle.group_restart.specs.Course.{Next, with_plan, with_greatest, page_or, next_redo, raised, numbered_by, noted, take_raised, forwarded, take_page, take_done}
+use Rattle.group_restart.specs.Course.{Next, with_plan, with_greatest, page_or, next_redo, raised, numbered_by, take_raised, forwarded, take_page, take_done}
 use Rattle.sound_disk.specs.Versions.{current, last_images}
 use Rattle.sound_restarts.specs.Redo.{IsSoundNow, with_page, IsLast, IsBrought, PlanSuits, PlanOfAllSuits, NoneOldElsewhere, names_of, HasRestOf, Redoes, with_hand_page, RedoLeads, RedoBegins, RedoReads, RedoWrites}
 use Rattle.sound_restarts.proofs.Bringing.{DiskLaws, last_new, last_within, page_within, last_keeps, brings_forward, never_written}
@@ -57,18 +57,17 @@ leads_of : (pages : List PageRecords) (p : Plan) (h : Restart) (c : Contents) (l
 leads_of [] p h c logs r = inr (record {
   behind = with_pages h [];
   goes = refl;
-  brought = record { now = r.brought.now; last = r.brought.last; noted = r.brought.noted; rest = rest_of p h.plan [] r.brought.rest };
+  brought = record { now = r.brought.now; last = r.brought.last; asks = r.brought.asks; rest = rest_of p h.plan [] r.brought.rest };
 })
 leads_of (q ∷ qs) p h c logs r = inl (
   refl,
   record {
-    brought = record { now = r.brought.now; last = r.brought.last; noted = r.brought.noted; rest = rest_of p h.plan qs r.brought.rest };
+    brought = record { now = r.brought.now; last = r.brought.last; asks = r.brought.asks; rest = rest_of p h.plan qs r.brought.rest };
     merged_is = r.merged_is;
     rise = r.rise;
     places = r.places;
     brings = r.brings;
     number = r.number;
-    renews = r.renews;
   },
 )
 
@@ -83,7 +82,7 @@ plan_number logs = greatest_is logs
 
 pub plan_of_all_suits : DiskLaws → PlanOfAllSuits
 unfolding plan_of
-plan_of_all_suits k c logs now = record { pages_are = refl; brings = λ id. brings_forward k c logs id now; number = plan_number logs; renews = refl }
+plan_of_all_suits k c logs now = record { pages_are = refl; brings = λ id. brings_forward k c logs id now; number = plan_number logs }
 
 pub none_old_elsewhere : DiskLaws → NoneOldElsewhere
 unfolding plan_of
@@ -99,7 +98,7 @@ redo_begins k p h c logs b =
       brought = record {
         now = b.now;
         last = λ id e. not_brought k p c logs id b.suits (not_listed id p.merged e);
-        noted = λ id e old. absurd (both_ways (is_old (page_at c.pages id)) (b.none_old id (not_listed id p.merged e)) old);
+        asks = b.asks;
         rest = b.rest;
       };
       merged_is = b.merged_is;
@@ -107,7 +106,6 @@ redo_begins k p h c logs b =
       places = all_places p.merged;
       brings = λ id _. b.suits.brings id;
       number = b.suits.number;
-      renews = b.suits.renews;
     })
 
 -- ---- the page at hand is brought forward
@@ -116,18 +114,6 @@ redo_begins k p h c logs b =
 same_greatest : (g : Greatest) (id : PageId) (page : List ℕ) → lrsn_of page ≤ g.lrsn → with_page_number g id page ≡ g
 unfolding with_page_number
 same_greatest g id page le = cond-false (nat_lt g.lrsn (lrsn_of page)) (record { lrsn = lrsn_of page; volume = volume.Page id; at = lrsn_at }) g (le-ltb g.lrsn (lrsn_of page) le)
-
-more_if : (a b d : Bool) → (a || b) ≡ true → (b ≡ true → d ≡ true) → (a || d) ≡ true
-more_if true b d h f = refl
-more_if false b d h f = f h
-
-has_more : (xs : List PageId) (x id : PageId) → has_page xs id ≡ true → has_page (xs ++ x ∷ []) id ≡ true
-has_more [] x id h = absurd cc
-has_more (y ∷ ys) x id h = more_if (same_page y id) (has_page ys id) (has_page (ys ++ x ∷ []) id) h (has_more ys x id)
-
-has_last : (xs : List PageId) (x : PageId) → has_page (xs ++ x ∷ []) x ≡ true
-has_last [] x = or_left (same_page x x) false (same_self x)
-has_last (y ∷ ys) x = or_right (same_page y x) (has_page (ys ++ x ∷ []) x) (has_last ys x)
 
 or_both : (a b : Bool) → a ≡ false → b ≡ false → (a || b) ≡ false
 or_both true b h k = absurd cc
@@ -146,41 +132,29 @@ record Hands (id : PageId) (b : Bool) (p : Plan) (h : Restart) (c : Contents) (l
   hand_is : h.page ≡ cond b (last_images logs id) (page_at c.pages id)
   is_last : current h.page ≡ last_images logs id
 
-abbrev with_old : Restart → List PageId → Restart
-with_old h pages = record h { old_pages = pages }
-
--- with the pages that are to be renewed
-raised_leads : (b : Bool) (id : PageId) (p : Plan) (h : Restart) (old : List PageId) (c : Contents) (logs : List Log) → Hands id b p h c logs → ((q : PageId) → has_page h.old_pages q ≡ true → has_page old q ≡ true)
-    → (is_old h.page ≡ true → h.plan.renews ≡ true → has_page old id ≡ true) → RedoLeads (raised (with_old h old) id b) p c logs
-raised_leads true id p h old c logs r keeps own = inl (
+raised_leads : (b : Bool) (id : PageId) (p : Plan) (h : Restart) (c : Contents) (logs : List Log) → Hands id b p h c logs → RedoLeads (raised h id b) p c logs
+raised_leads true id p h c logs r = inl (
   refl,
   (
     record {
-      brought = record { now = r.redoes.brought.now; last = r.redoes.brought.last; noted = λ q e o. keeps q (r.redoes.brought.noted q e o); rest = r.redoes.brought.rest };
+      brought = record { now = r.redoes.brought.now; last = r.redoes.brought.last; asks = r.redoes.brought.asks; rest = r.redoes.brought.rest };
       merged_is = r.redoes.merged_is;
       rise = r.redoes.rise;
       places = r.redoes.places;
       brings = r.redoes.brings;
       number = r.redoes.number;
-      renews = r.redoes.renews;
     },
     r.hand_is,
   ),
 )
-raised_leads false id p h old c logs r keeps own =
-    leads h.plan.pages p (with_old h old) c logs refl (record {
+raised_leads false id p h c logs r =
+    leads h.plan.pages p h c logs refl (record {
       brought = record {
         now = r.redoes.brought.now;
         last = λ q e.
             either_page id q (names_of h.plan.pages) (IsLast c logs q) e
             (λ s. subst (IsLast c logs) s (ap current (sym r.hand_is) ∙ r.is_last)) (r.redoes.brought.last q);
-        noted = λ q e o.
-            either_page id q (names_of h.plan.pages) (has_page old q ≡ true) e
-            (λ s.
-            let here : is_old (page_at c.pages id) ≡ true = ap (λ (n : PageId). is_old (page_at c.pages n)) s ∙ o in
-            let renews : h.plan.renews ≡ true = r.redoes.brought.rest.renews ∙ r.redoes.renews ∙ (r.redoes.brought.now.sound.versions id).renewing here in
-            ap (λ (n : PageId). has_page old n) (sym s) ∙ own (ap is_old r.hand_is ∙ here) renews)
-            (λ n. keeps q (r.redoes.brought.noted q n o));
+        asks = r.redoes.brought.asks;
         rest = r.redoes.brought.rest;
       };
       merged_is = r.redoes.merged_is;
@@ -188,18 +162,7 @@ raised_leads false id p h old c logs r keeps own =
       places = r.redoes.places.1;
       brings = λ q e. r.redoes.brings q (or_right (same_page id q) (has_page (names_of h.plan.pages) q) e);
       number = r.redoes.number;
-      renews = r.redoes.renews;
     })
-
-not_both : (a b : Bool) → (a && b) ≡ false → a ≡ true → b ≡ true → ⊥
-not_both true b e p q = both_ways b e q
-not_both false b e p q = both_ways false refl p
-
-taken_leads : (b : Bool) (id : PageId) (p : Plan) (h : Restart) (c : Contents) (logs : List Log) → Hands id b p h c logs → RedoLeads (raised (noted h id) id b) p c logs
-taken_leads b id p h c logs r =
-    cond_both (h.plan.renews && is_old h.page) (with_old h (h.old_pages ++ id ∷ [])) h (λ (n : Restart). RedoLeads (raised n id b) p c logs)
-    (λ _. raised_leads b id p h (h.old_pages ++ id ∷ []) c logs r (λ q e. has_more h.old_pages id q e) (λ _ _. has_last h.old_pages id))
-    (λ e. raised_leads b id p h h.old_pages c logs r (λ q e'. e') (λ old renews. absurd (not_both h.plan.renews (is_old h.page) e renews old)))
 
 numbered_leads : (b : Bool) (id : PageId) (p : Plan) (h : Restart) (c : Contents) (logs : List Log) → Hands id b p h c logs → lrsn_of h.page ≤ greatest (all_records logs) → RedoLeads (take_raised h id b) p c logs
 unfolding take_raised
@@ -207,7 +170,7 @@ numbered_leads b id p h c logs r le =
     let n : h.plan.greatest.lrsn ≡ greatest (all_records logs) = ap (λ (g : Greatest). g.lrsn) r.redoes.brought.rest.greatest ∙ r.redoes.number in
     let same : with_page_number h.plan.greatest id h.page ≡ h.plan.greatest = same_greatest h.plan.greatest id h.page (omega (arith, le, n)) in
     let back : h ≡ numbered_by h id = ap (λ (g : Greatest). with_plan h (with_greatest h.plan g)) (sym same) in
-    subst (λ (k : Restart). RedoLeads (raised (noted k id) id b) p c logs) back (taken_leads b id p h c logs r)
+    subst (λ (k : Restart). RedoLeads (raised k id b) p c logs) back (raised_leads b id p h c logs r)
 
 -- ---- the page is read
 
@@ -223,13 +186,12 @@ outcome_leads k p h id c logs f r is =
     (numbered_leads is.is_raised id p (with_hand h f.page) c logs
     (record {
       redoes = record {
-        brought = record { now = r.brought.now; last = r.brought.last; noted = r.brought.noted; rest = r.brought.rest };
+        brought = record { now = r.brought.now; last = r.brought.last; asks = r.brought.asks; rest = r.brought.rest };
         merged_is = r.merged_is;
         rise = r.rise;
         places = r.places;
         brings = r.brings;
         number = r.number;
-        renews = r.renews;
       };
       hand_is = is.page_is;
       is_last = is.is_last;
@@ -279,10 +241,7 @@ redo_writes k p h id c logs r =
               put_has (λ (n : PageId) (x : List ℕ). has_page (names_of h.plan.pages) n ≡ false → current x ≡ last_images logs n) c id q (last_images logs id)
               (λ _. current_new (last_images logs id) new)
               (λ n e'. r.0.brought.last q (or_both (same_page id q) (has_page (names_of h.plan.pages) q) n e')) e;
-          noted = λ q e o.
-              put_has (λ (n : PageId) (x : List ℕ). has_page (names_of h.plan.pages) n ≡ false → is_old x ≡ true → has_page h.old_pages n ≡ true) c id q (last_images logs id)
-              (λ _ o'. absurd (both_ways (is_old (last_images logs id)) new o'))
-              (λ n e' o'. r.0.brought.noted q (or_both (same_page id q) (has_page (names_of h.plan.pages) q) n e') o') e o;
+          asks = r.0.brought.asks;
           rest = r.0.brought.rest;
         };
         merged_is = r.0.merged_is;
@@ -292,6 +251,5 @@ redo_writes k p h id c logs r =
             brings_still p c logs id q (last_images logs id) (not_it (same_page id q) id q (names_of h.plan.pages) refl (not_above id h.plan.pages r.0.rise.0) e)
             (r.0.brings q (or_right (same_page id q) (has_page (names_of h.plan.pages) q) e));
         number = r.0.number;
-        renews = r.0.renews;
       }),
     )

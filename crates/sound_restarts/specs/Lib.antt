@@ -1,4 +1,5 @@
 pub mod Damage
 pub mod Redo
 pub mod Undo
+pub mod Renewal
 pub mod Cuts

@@ -75,12 +75,11 @@ BringsForward = (c : Contents) (logs : List Log) (id : PageId) → IsSoundNow c 
 -- ---- the plan
 
 -- a plan whose merged records bring each page of the disk forward to its last version, that lists the pages which these change, and has the
--- greatest number of the logs; it renews pages of version 1 where the logs ask for it
+-- greatest number of the logs
 pub record PlanSuits (p : Plan) (c : Contents) (logs : List Log) : Type 0 where
   pub pages_are : p.pages ≡ by_page p.merged
   pub brings : (id : PageId) → IsBrought (page_at c.pages id) (last_images logs id) (brought_forward id (page_at c.pages id) p.merged)
   pub number : p.greatest.lrsn ≡ greatest (all_records logs)
-  pub renews : p.renews ≡ must_renew logs
 
 -- such is the plan of all records
 abbrev pub PlanOfAllSuits : Type 0
@@ -100,11 +99,11 @@ pub record HasRestOf (p q : Plan) : Type 0 where
   pub renews : q.renews ≡ p.renews
   pub greatest : q.greatest ≡ p.greatest
 
--- of the plan nothing is left but these pages: all others are as all records leave them, and those of version 1 among them are to be renewed
+-- of the plan nothing is left but these pages: all others are as all records leave them; and pages of version 1 are looked for where the logs ask for it
 pub record AreBroughtBut (pages : List PageId) (p : Plan) (h : Restart) (c : Contents) (logs : List Log) : Type 0 where
   pub now : IsSoundNow c logs
   pub last : (id : PageId) → has_page pages id ≡ false → IsLast c logs id
-  pub noted : (id : PageId) → has_page pages id ≡ false → is_old (page_at c.pages id) ≡ true → has_page h.old_pages id ≡ true
+  pub asks : h.renews ≡ must_renew logs
   pub rest : HasRestOf p h.plan
 
 -- these pages are left, each with the places of its records among the merged ones, which bring it forward
@@ -115,7 +114,6 @@ pub record Redoes (left : List PageRecords) (p : Plan) (h : Restart) (c : Conten
   pub places : AllByRecursion (λ (q : PageRecords). q.places ≡ places_at q.page (by_page p.merged)) left
   pub brings : (id : PageId) → has_page (names_of left) id ≡ true → IsBrought (page_at c.pages id) (last_images logs id) (brought_forward id (page_at c.pages id) p.merged)
   pub number : p.greatest.lrsn ≡ greatest (all_records logs)
-  pub renews : p.renews ≡ must_renew logs
 
 -- the page at hand, and those behind it
 abbrev pub with_hand_page : PageId → Restart → List PageRecords
@@ -155,13 +153,12 @@ pub record BeginsRedo (p : Plan) (h : Restart) (c : Contents) (logs : List Log) 
   pub rest : HasRestOf p h.plan
   pub merged_is : h.plan.merged ≡ p.merged
   pub pages_are : h.plan.pages ≡ p.pages
-  -- of the pages that no record of the plan changes none is of version 1
-  pub none_old : (id : PageId) → list_any (touches id) p.merged ≡ false → is_old (page_at c.pages id) ≡ false
+  pub asks : h.renews ≡ must_renew logs
 
 abbrev pub RedoBegins : Type 0
 RedoBegins = (p : Plan) (h : Restart) (c : Contents) (logs : List Log) → BeginsRedo p h c logs → RedoLeads (next_redo h) p c logs
 
--- the last of which holds of the plan of all records
+-- of the pages that no record changes none is of version 1
 abbrev pub NoneOldElsewhere : Type 0
 NoneOldElsewhere = (c : Contents) (logs : List Log) (id : PageId) → IsSoundNow c logs → list_any (touches id) (plan_of logs).merged ≡ false → is_old (page_at c.pages id) ≡ false
 

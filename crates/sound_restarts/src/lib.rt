@@ -6,6 +6,7 @@
 ghost use Rattle.sound_restarts.specs.Cuts.{CutKeepsSound, SameRecordsKeepSound};
 ghost use Rattle.sound_restarts.specs.Damage.{FindsNoDamage, PlansAll, GoesToTails};
 ghost use Rattle.sound_restarts.specs.Undo.{OthersLeavePages, UndoFindsItsRow, UndoLeavesLast, UndoLeavesOthers, UndoMakesLast, UndoReads};
+ghost use Rattle.sound_restarts.specs.Renewal.{OldIsCounted, RenewalBegins, RenewalReads, RenewalWrites};
 ghost use Rattle.sound_restarts.specs.Redo.{BringsForward, LastKeeps, NoneOldElsewhere, PlanOfAllSuits, RedoBegins, RedoReads, RedoWrites, RenewalKeeps};
 
 /// No number and no offset of the logs of a sound disk, read whole, is one that can't stand there, and the plan of a restart is
@@ -30,7 +31,7 @@ pub fn cut_laws()
 /// Each page of a sound disk, of either version, is brought forward to its last version, with no field in the way. The disk
 /// stays sound where that, or a page of version 1 in the version that is written, is written. So the redo of a restart leads,
 /// page after page, by a plan whose merged records bring the pages forward, as those of all logs do, to a sound disk with the last
-/// versions of all pages, and has noted those of version 1.
+/// versions of all pages, and then looks for pages of version 1 where the logs ask for it.
 pub fn redo_laws()
     ensures brings { BringsForward }
     ensures last { LastKeeps }
@@ -40,6 +41,25 @@ pub fn redo_laws()
     ensures begins { RedoBegins }
     ensures reads { RedoReads }
     ensures writes { RedoWrites }
+{
+    sound_disk::page_laws();
+    page_redo::forward_laws();
+    page_chain::chain_laws();
+    page_chain::redo_laws();
+    page_images::header_laws();
+    page_images::front_laws();
+    page_images::part_laws();
+    page_images::renewal_laws();
+}
+
+/// Each page of version 1 of a sound disk is one that the header page of its set counts. So the renewal of a restart that looks for
+/// such pages leads, page after page, to a sound disk without them, on which all pages are still as all records leave them; and so it
+/// is where there are none, and the restart doesn't look.
+pub fn renewal_laws()
+    ensures counted { OldIsCounted }
+    ensures begins { RenewalBegins }
+    ensures reads { RenewalReads }
+    ensures writes { RenewalWrites }
 {
     sound_disk::page_laws();
     page_redo::forward_laws();

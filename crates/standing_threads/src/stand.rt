@@ -1,4 +1,4 @@
-//! The threads are started, and stand until the leading one is done.
+//! The threads are started, one by another, and stand until the leading one is done. A value that leads may be large: it goes through few calls.
 ghost use Rattle.std.specs.Prelude.{◌≡◌, length, IfOk, IfErr};
 ghost use Rattle.std.specs.Thread.{IsSend, IsSync};
 ghost use Rattle.standing_threads.specs.Ends.{HasNone};
@@ -32,44 +32,57 @@ fn lead_all<R: Wait, T: Task, L: Leader<T>>(rt: &R, leader: L, mut pool: Pool<T>
     answer
 }
 
-// Lets a thread stand at each of these ends, and leads them in this one.
+// Lets a thread stand at each of these ends: at the last one this thread, which starts the next one before.
 #[cycle(threads)]
-fn stand_all<R: Threads + Wait + Sync, T: Task + Send, L: Leader<T>>(
+fn stand_all<R: Threads + Wait + Sync, T: Task + Send>(rt: &R, mut posts: Vec<Post<T>>)
+    requires { AllOf HasNone posts.items }
+{
+    if let Some(post) = posts.pop() {
+        stand_one(rt, post, posts);
+    }
+}
+
+// Lets this thread stand at this end, and others at those.
+#[cycle(threads)]
+fn stand_one<R: Threads + Wait + Sync, T: Task + Send>(rt: &R, post: Post<T>, posts: Vec<Post<T>>)
+    requires { HasNone post × AllOf HasNone posts.items }
+{
+    if posts.is_empty() {
+        post.stand(rt);
+        return;
+    }
+    let (_, _) = join(
+        rt,
+        move ||
+            requires { IsSync R.row × IsSend T.row × AllOf HasNone posts.items }
+        { stand_all(rt, posts) },
+        move ||
+            requires { HasNone post }
+        { post.stand(rt) },
+    );
+}
+
+// Leads the threads in this one, where there are any to be.
+fn lead_beside<R: Threads + Wait + Sync, T: Task + Send, L: Leader<T>>(
     rt: &R,
     leader: L,
     pool: Pool<T>,
-    mut posts: Vec<Post<T>>,
+    posts: Vec<Post<T>>,
 ) -> L::Answer
     requires { AllOf HasNone posts.items }
     ensures { L.leads leader result }
 {
-    match posts.pop() {
-        Some(post) => stand_one(rt, leader, pool, post, posts),
-        None => lead_all(rt, leader, pool),
+    if posts.is_empty() {
+        return lead_all(rt, leader, pool);
     }
-}
-
-// Lets a thread stand at this end, and others at those.
-#[cycle(threads)]
-fn stand_one<R: Threads + Wait + Sync, T: Task + Send, L: Leader<T>>(
-    rt: &R,
-    leader: L,
-    pool: Pool<T>,
-    post: Post<T>,
-    posts: Vec<Post<T>>,
-) -> L::Answer
-    requires { HasNone post × AllOf HasNone posts.items }
-    ensures { L.leads leader result }
-{
     let (_, answer) = join(
         rt,
         move ||
-            requires { IsSync R.row × IsSend T.row × HasNone post }
-        { post.stand(rt) },
-        move || -> L::Answer
             requires { IsSync R.row × IsSend T.row × AllOf HasNone posts.items }
+        { stand_all(rt, posts) },
+        move || -> L::Answer
             ensures { L.leads leader result }
-        { stand_all(rt, leader, pool, posts) },
+        { lead_all(rt, leader, pool) },
     );
     answer
 }
@@ -85,7 +98,7 @@ pub fn with_threads<R: Threads + Wait + Sync, T: Task + Send, L: Leader<T>>(
     ensures refused { IfErr result (λ r. r.1 ≡ leader) }
 {
     match Pool::new(alloc, count) {
-        Ok((pool, posts)) => Ok(stand_all(rt, leader, pool, posts)),
+        Ok((pool, posts)) => Ok(lead_beside(rt, leader, pool, posts)),
         Err(refused) => Err((refused, leader)),
     }
 }
