@@ -181,12 +181,12 @@ header_known k number id h c logs r zero =
       within = omega (arith, zero);
     }
 
-inner_known : DiskLaws → NumberOfPart → (id : PageId) (h : Restart) (c : Contents) (logs : List Log) → Looks id h c logs → IsWithin id h logs → (id.number == 0) ≡ false → Knows id h c logs
-inner_known k number id h c logs r w some =
+inner_known : DiskLaws → NumberOfPart → (id : PageId) (h : Restart) (c : Contents) (logs : List Log) → Looks id h c logs → IsWithin id h logs → 1 ≤ id.number → Knows id h c logs
+inner_known k number id h c logs r w one =
     let s : SetIsCounted (last_images logs) id.set = set_is_counted c logs id r.to.now (record { from = r.to.set_from; to = r.to.set_to }) in
     let same : s.last ≡ h.last = same_count logs id.set s.last h.last s.counts w.counts in
     let few = w.within in
-    let one : 1 ≤ id.number = grind arith in
+    let some : (id.number == 0) ≡ false = ne_eqb id.number 0 (λ e. let never : ⊥ = omega (arith, e, one) in never) in
     record {
       last = h.last;
       told = disk_counts k number c logs id h.last r.to.now (r.to.last id)
@@ -202,7 +202,7 @@ knows k number id h c logs r =
       | inl zero ↦ header_known k number id h c logs r zero
       | inr w ↦ elim (cases_lt id.number 1) as (λ _. Knows id h c logs) [
         | inl lt ↦ header_known k number id h c logs r (omega (arith, lt))
-        | inr one ↦ inner_known k number id h c logs r w (ne_eqb id.number 0 (λ e. let never : ⊥ = omega (arith, e, one) in never))
+        | inr one ↦ inner_known k number id h c logs r w one
       ]
     ]
 

@@ -25,7 +25,7 @@ use Rattle.index_leaf.specs.Changes.{next_page_of, half}
 use Rattle.index_leaf.specs.Search.{find}
 use Rattle.page_images.specs.Images.{Images}
 use Rattle.page_chain.specs.Chains.{touches, images_of}
-use Rattle.page_redo.specs.Rows.{or_fault, kind_fault, key_fault, slot_fault, headed_fault}
+use Rattle.page_redo.specs.Rows.{or_fault, kind_fault, key_fault, slot_fault, headed_fault, change_fault}
 use Rattle.index_protocol.specs.Opening.{Disk, IsSound}
 use Rattle.sound_disk.specs.Layouts.{count_in}
 use Rattle.sound_disk.specs.Heaps.{IsHeapHeader, IsRowPage, heap_last, IsHeap}
@@ -339,15 +339,20 @@ slot_found page slot key row h is given none there =
     ∙ ap (key_fault key (slot_at slot)) there
     ∙ ap (λ (b : Bool). if b then None else Some (slot_at slot + 8)) (eq-eqb key key refl)
 
-pub change_stands : (records : List LogRecord) (c : RowChange) → ChangeIsAllowed c → HasSlot (images_of records) c → IsWholeTable (images_of records) records c.table → row_after records c.table c.key ≡ c.before → Stood records c
-change_stands records c allowed has is row =
+-- the slot of a row's change is there, and its key's
+pub change_found : (records : List LogRecord) (c : RowChange) → ChangeIsAllowed c → HasSlot (images_of records) c → IsWholeTable (images_of records) records c.table
+    → change_fault (heap_page c.table c.place.page) c (images_of records (heap_page c.table c.place.page)) ≡ None
+change_found records c allowed has is =
     let at = images_of records in
     let page = at (heap_page c.table c.place.page) in
-    let there : said_at at c.table c.place ≡ Some (c.key, c.before) = is.rows c.key c.place has ∙ ap (λ (v : Option (List ℕ)). Some (c.key, v)) row in
     let rows = page_there at c allowed has is.heap in
     let header = row_header page (heap_page c.table c.place.page) rows.kind_is in
-    record {
-      slot = ap (headed_fault c.place.slot c.key page) header.0 ∙ slot_found page c.place.slot c.key c.before (header_in page) header.1 has.given (rows.slots c.place.slot has.given).fault_none there;
-      there = there;
-      before = row;
-    }
+    ap (headed_fault c.place.slot c.key page) header.0
+    ∙ slot_found page c.place.slot c.key (row_after records c.table c.key) (header_in page) header.1 has.given (rows.slots c.place.slot has.given).fault_none (is.rows c.key c.place has)
+
+pub change_stands : (records : List LogRecord) (c : RowChange) → ChangeIsAllowed c → HasSlot (images_of records) c → IsWholeTable (images_of records) records c.table → row_after records c.table c.key ≡ c.before → Stood records c
+change_stands records c allowed has is row = record {
+  slot = change_found records c allowed has is;
+  there = is.rows c.key c.place has ∙ ap (λ (v : Option (List ℕ)). Some (c.key, v)) row;
+  before = row;
+}

@@ -1,9 +1,8 @@
 -- The pages behind a compensation.
-use Rattle.std.proofs.Common.{◌≡◌, ℕ, ◌^◌, ◌<◌, ◌≤◌, Bool, true, false, cond, List, [], ◌∷◌, ◌++◌, length, refl, sym, ap, subst, ◌∙◌, arith, append_assoc}
+use Rattle.std.proofs.Common.{◌≡◌, ℕ, ◌^◌, ◌<◌, ◌≤◌, Bool, true, false, cond, List, [], ◌∷◌, ◌++◌, length, refl, ap, ◌∙◌, arith}
 use Rattle.std.specs.Prelude.{◌==◌}
 use Rattle.std.specs.List.{list_any, AllByRecursion}
 use Rattle.std.proofs.lemmas.Bool.{eq-eqb, both_ways, or_from}
-use Rattle.std.proofs.lemmas.List.{append-nil}
 use Rattle.ds_base.specs.Pages.{same_page, heap_page, index_page}
 use Rattle.ds_base.specs.declared.names.PageId.{PageId}
 use Rattle.ds_model.specs.declared.log.LogRecord.{LogRecord}
@@ -12,28 +11,16 @@ use Rattle.ds_model.specs.declared.log.Body.{Body}
 use Rattle.ds_model.specs.declared.log.Body.TheVariants as body
 use Rattle.ds_model.specs.declared.log.Version.{Version}
 use Rattle.ds_model.specs.declared.log.Version.TheVariants as version
-use Rattle.ds_model.specs.RecordBytes.{IsAllowed, IsNumber, PatchIsAllowed, ChangeIsAllowed, BodyIsAllowed, TranFits, is_of_tran}
-use Rattle.log_record.specs.declared.log.Log.{Log}
-use Rattle.log_merge.specs.Merging.{is_merged}
+use Rattle.ds_model.specs.RecordBytes.{IsAllowed, IsNumber, PatchIsAllowed, ChangeIsAllowed, BodyIsAllowed}
 use Rattle.page_images.specs.Images.{zeros, after_change}
 use Rattle.page_format.specs.declared.patch.Patch.{Patch}
 use Rattle.heap_space.specs.Written.{after_patch, written}
 use Rattle.page_images.specs.Parts.{Lies}
 use Rattle.page_chain.specs.Chains.{row_patch, changes_of, touches, after_record, version_from, images_of, GrowsByRecords}
-use Rattle.sound_disk.specs.Whole_logs.{AreWholeLogs}
-use Rattle.sound_disk.specs.Transactions.{AreTransactions}
-use Rattle.sound_disk.specs.Rows_there.{row_with, row_after, IsPlaceOf, Stood, BodyStood, BeforesAgree}
-use Rattle.sound_disk.specs.Tables.{AreWholeTables, AreTables}
-use Rattle.sound_disk.specs.Versions.{merged, last_images}
 use Rattle.sound_disk.specs.Laws.{AreMerged}
-use Rattle.sound_appends.specs.Appends.{Compensates, IsNext, Appends}
 use Rattle.sound_appends.specs.Laws.{StandsBehind}
-use Rattle.sound_appends.proofs.Left.{undo_of}
-use Rattle.sound_tables.specs.Keeping.{HasItsSlot, RowsStayInPlace, AreTableLogs}
 use Rattle.sound_tables.proofs.Patched.{image_length, PageLaws, IsPatched, behind}
-use Rattle.sound_tables.proofs.Open_rows.{row_last, Last, each_of_last}
-use Rattle.sound_tables.proofs.Last_rows.{IsLast, is_last, last_row}
-use Rattle.sound_tables.proofs.Kept_tables.{IsBehind, place_behind, count_stays, table_stays, change_stands}
+use Rattle.sound_tables.proofs.Kept_tables.{IsBehind}
 
 -- what is known of page names, of patches and of images of slots
 pub record Known : Type 0 where

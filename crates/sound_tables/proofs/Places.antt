@@ -27,8 +27,8 @@ use Rattle.sound_disk.specs.Transactions.{AreTransactions}
 use Rattle.sound_disk.specs.Rows_there.{key_in, IsPlaceOf, Stood, SlotsStay, BodyStood, BeforesAgree}
 use Rattle.sound_disk.specs.Tables.{AreTables}
 use Rattle.sound_disk.specs.Versions.{merged}
-use Rattle.sound_tables.specs.Keeping.{HasItsSlot, RowsStayInPlace}
-use Rattle.sound_tables.proofs.Kept_tables.{IsBehind, place_behind}
+use Rattle.sound_tables.specs.Keeping.{HasItsSlot, RowsStayInPlace, IsMadeBy, FindsItsSlot}
+use Rattle.sound_tables.proofs.Kept_tables.{IsBehind, place_behind, change_found}
 use Rattle.sound_tables.proofs.Pages_behind.{Known, is_behind}
 
 -- ---- a change that met its row has its slot
@@ -143,3 +143,24 @@ places_from k earlier (r ∷ rs) low all more order stood h =
 
 pub in_place : Known → (bytes : List (List ℕ)) (logs : List Log) → AreWholeLogs 1 bytes logs → AreTransactions logs → AreTables logs → RowsStayInPlace logs
 in_place k bytes logs w h t = let rs = k.merged bytes logs w h in places_from k [] (merged logs) 0 tt rs.0 rs.1 t.befores tt
+
+-- ---- a change of one of them
+
+each_at : (P : LogRecord → Type 0) (front : List LogRecord) (it : LogRecord) (back : List LogRecord) → AllByRecursion P (front ++ it ∷ back) → P it
+each_at P [] it back h = h.0
+each_at P (x ∷ xs) it back h = each_at P xs it back h.1
+
+-- what holds of all records holds of the one that made the change
+pub of_made : (P : LogRecord → Type 0) (rs : List LogRecord) (c : RowChange) → AllByRecursion P rs → (m : IsMadeBy rs c) → P m.it
+of_made P rs c h m = each_at P m.front m.it m.back (subst (AllByRecursion P) m.split h)
+
+pub change_allowed : (v : Version) (b : Body) (c : RowChange) → b ≡ body.RowChange c → BodyIsAllowed v b → ChangeIsAllowed c
+change_allowed v b c is h = subst (BodyIsAllowed v) is h
+
+pub made_found : Known → FindsItsSlot
+made_found k bytes logs c w h t m =
+    let rs = merged logs in
+    let allowed : IsAllowed m.it = of_made IsAllowed rs c (k.merged bytes logs w h).0 m in
+    let fits : ChangeIsAllowed c = change_allowed m.it.version m.it.body c m.changes allowed.body_is in
+    let own : HasItsSlot (images_of rs) m.it.body = of_made (λ (s : LogRecord). HasItsSlot (images_of rs) s.body) rs c (in_place k bytes logs w h t) m in
+    change_found rs c fits (subst (HasItsSlot (images_of rs)) m.changes own) (t.tables c.table fits.table_in)

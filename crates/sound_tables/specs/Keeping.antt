@@ -1,5 +1,5 @@
 -- What a group restart's appends make of the rows and of the pages of tables: the fourth clause of a sound disk.
-use Rattle.std.specs.Prelude.{◌≡◌, ℕ, ◌-◌, false, List, [], ◌∷◌, ◌++◌, length, take, map, slice_get, Some}
+use Rattle.std.specs.Prelude.{◌≡◌, ℕ, ◌-◌, false, List, [], ◌∷◌, ◌++◌, length, take, map, slice_get, None, Some}
 use Rattle.std.specs.List.{AllByRecursion}
 use Rattle.ds_disk.specs.Contents.{Contents, log_of, with_log}
 use Rattle.ds_model.specs.declared.log.LogRecord.{LogRecord}
@@ -9,6 +9,8 @@ use Rattle.ds_model.specs.declared.log.Body.TheVariants as body
 use Rattle.ds_model.specs.RecordBytes.{log_bytes}
 use Rattle.log_record.specs.declared.log.Log.{Log}
 use Rattle.page_images.specs.Images.{Images}
+use Rattle.page_chain.specs.Chains.{row_patch}
+use Rattle.page_redo.specs.Rows.{change_fault}
 use Rattle.sound_disk.specs.Whole_logs.{AreWholeLogs}
 use Rattle.sound_disk.specs.Transactions.{AreTransactions, EachFollows}
 use Rattle.sound_disk.specs.Turns.{ChangeInTurn}
@@ -65,6 +67,19 @@ RowsStayInPlace logs = AllByRecursion (λ (r : LogRecord). HasItsSlot (last_imag
 -- so it is after all records of a sound disk: neither a row record nor one of other patches takes a slot from its key
 abbrev pub StayInPlace : Type 0
 StayInPlace = (bytes : List (List ℕ)) (logs : List Log) → AreWholeLogs 1 bytes logs → AreTransactions logs → AreTables logs → RowsStayInPlace logs
+
+-- one of the records has made the change
+pub record IsMadeBy (records : List LogRecord) (change : RowChange) : Type 0 where
+  pub front : List LogRecord
+  pub it : LogRecord
+  pub back : List LogRecord
+  pub split : records ≡ front ++ it ∷ back
+  pub changes : it.body ≡ body.RowChange change
+
+-- so the slot of each change is there still, and no field of its page is in the way
+abbrev pub FindsItsSlot : Type 0
+FindsItsSlot = (bytes : List (List ℕ)) (logs : List Log) (change : RowChange) → AreWholeLogs 1 bytes logs → AreTransactions logs → AreTables logs → IsMadeBy (merged logs) change
+    → change_fault (row_patch change).page change (last_images logs (row_patch change).page) ≡ None
 
 -- the logs of a sound disk, of which each row record tells the row before it
 pub record AreTableLogs (bytes : List (List ℕ)) (logs : List Log) : Type 0 where

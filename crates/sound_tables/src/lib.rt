@@ -4,7 +4,7 @@
 //! The crate has definitions and proofs alone. Its functions do nothing: their contracts are the laws.
 #![tactic(auto)]
 
-ghost use Rattle.sound_tables.specs.Keeping.{AllKeepSound, KeepsTables, LastOpenStands, MeetsItsRow, MergedFollow, StayInPlace, StopKeepsSound};
+ghost use Rattle.sound_tables.specs.Keeping.{AllKeepSound, FindsItsSlot, KeepsTables, LastOpenStands, MeetsItsRow, MergedFollow, StayInPlace, StopKeepsSound};
 
 /// The merged records of sound logs fit each other, and an open row change that is the last of its transaction has left its row
 /// as it is.
@@ -29,9 +29,11 @@ pub fn table_laws()
     sound_appends::turn_laws();
 }
 
-/// Rows stay in their places: after all records the slot of each row record is its key's.
+/// Rows stay in their places: after all records the slot of each row record is its key's. So a change finds its slot in its page,
+/// where no field is in the way.
 pub fn place_laws()
-    ensures { StayInPlace }
+    ensures stay { StayInPlace }
+    ensures found { FindsItsSlot }
 {
     heap_space::image_laws();
     page_images::name_laws();
