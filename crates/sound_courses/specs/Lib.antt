@@ -1,0 +1,4 @@
+pub mod Standing
+pub mod Undoing
+pub mod Ending
+pub mod Bringing
