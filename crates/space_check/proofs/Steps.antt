@@ -27,6 +27,7 @@ use Rattle.disk_logs.specs.Broken.{IsFirstBroken}
 use Rattle.disk_logs.specs.declared.logs.Found.{Found}
 use Rattle.disk_logs.specs.Looking.{AreOfSome, AreFound, AreFoundOfSome}
 use Rattle.disk_versions.specs.declared.set.Placing.{Placing}
+use Rattle.disk_versions.specs.declared.set.Placing.TheVariants as placing
 use Rattle.disk_versions.specs.Told.{AreAllPlaced, IsFirstUnplaced, IsTold as Told, AreToldBy}
 use Rattle.index_places.specs.Whole.{AreAllWhole, IsFirstUnwhole, IsFirstTold}
 use Rattle.kept_pages.specs.Unkept.{IsUnkept, AreKept}
@@ -41,7 +42,7 @@ use Rattle.space_check.specs.declared.verdict.Breach.{Breach}
 use Rattle.space_check.specs.declared.verdict.Verdict.{Verdict}
 use Rattle.space_check.specs.declared.verdict.Verdict.TheVariants as verdict
 use Rattle.space_check.specs.Clauses.{ArePlaced, IsBreach, IsTablesPage}
-use Rattle.space_check.specs.Judging.{AreTablesJudged, IsLastBreach, AreLastJudged, AreSaid, AreRight}
+use Rattle.space_check.specs.Judging.{AreTablesJudged, IsLastBreach, AreLastJudged, AreRight}
 use Rattle.space_check.specs.Verdicts.{IsTold}
 use Rattle.space_check.specs.Telling.{AreFit, IsOutTold, verdict_by, verdict_of, AreTurnsTold, ArePlacedTold, ArePagesTold}
 

@@ -1,4 +1,4 @@
-use Rattle.std.proofs.Common.{◌≡◌, ℕ, Option, None, true, [], subst}
+use Rattle.std.proofs.Common.{◌≡◌, ℕ, Option, true, [], subst}
 use Rattle.std.specs.Prelude.{IfNone}
 use Rattle.ds_disk.specs.Contents.{Contents}
 use Rattle.sound_disk.specs.Turns.{are_in_turn}

@@ -10,8 +10,8 @@ use Rattle.space_check.proofs.pages.tell_out.Goals as goal
 pub turn_spot-requires : goal.turn_spot-requires
 turn_spot-requires g c = allowed_of c.in-Whole.logs c.as_slice.result.now (some_at c.in_ok-found.found (found.Whole c.in-Whole.logs) c.in-Whole.is c.in_ok-found.ensures.some) c.as_slice.ensures
 
-pub returns-in-Whole : goal.returns-in-Whole
-returns-in-Whole g c =
+pub returns-in_ok-turn_spot-in-Whole : goal.returns-in_ok-turn_spot-in-Whole
+returns-in_ok-turn_spot-in-Whole g c =
     let read = c.in_ok-found.ensures.reads in
     one_read _ _ _ _ (λ (d : Contents). AreFound d.logs c.in_ok-found.found) (λ (v : Verdict) (d : Contents). IsOutTold d c.args.number v) _ read.ok read.same read.later
     (λ (d : Contents) are.
