@@ -1,0 +1,7 @@
+pub mod Settling
+pub mod Left_out
+pub mod Told
+pub mod Members
+pub mod Fitting
+pub mod Ends
+pub mod Beginning

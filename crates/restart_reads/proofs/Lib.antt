@@ -1,0 +1,3 @@
+pub mod Logs
+pub mod Bad_fields
+pub mod Going
