@@ -1,0 +1,5 @@
+use Rattle.failed_logs.proofs.logs_taken_over.Goals as goal
+use Rattle.failed_logs.proofs.Taken.{taken_over}
+
+pub returns : goal.returns
+returns c = taken_over c.rows_taken_over.ensures c.appends_tell.ensures.all
