@@ -14,7 +14,7 @@ use group_core::Policy;
 use group_crew::look_for;
 use group_member::MemberPart;
 use member_intents::Look as Seen;
-use turn_gate::Look;
+use turn_gate::{Laid, Look};
 
 // The choices of the member that are ready. Of one that isn't live none is.
 fn choices_of<P: Policy>(part: &MemberPart<P>, seen: &Seen, is_live: bool) -> u32 {
@@ -110,12 +110,13 @@ impl<D, C: CacheFace, P: Policy> Shared<D, C, P> {
     }
 
     /// A phase begins with these members. A ringing of the bells concerns those that are live.
-    pub fn find_all_listening(&mut self, hands: &[Hand<P>])
+    pub fn find_all_listening(&mut self, hands: &[Laid<Hand<P>>])
         ensures { self.new ≡ record self.old { listening = self.new.listening } }
     {
         for hand in hands {
-            if !self.group.crew.facility.live(hand.part.id) {
-                self.listening.remove(hand.part.id);
+            let id = hand.get().part.id;
+            if !self.group.crew.facility.live(id) {
+                self.listening.remove(id);
             }
         }
     }

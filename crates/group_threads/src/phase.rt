@@ -24,7 +24,7 @@ use standing_threads::Pool;
 use std::alloc::Global;
 use std::sync::{Arc, Wait};
 use std::thread;
-use turn_gate::Journal;
+use turn_gate::{Journal, Laid};
 use turn_story::{Closed, Desk, Phase, Room};
 
 /// The most members that the number of an event can name.
@@ -152,7 +152,7 @@ fn work_all<'g, R: Wait, D: Disk + Drop, C: CacheFace + Drop, P: Policy + Drop, 
 fn unplayed<D: Disk, C: CacheFace, P: Policy>(
     alloc: Global,
     shared: Shared<D, C, P>,
-    hands: Vec<Hand<P>>,
+    hands: Vec<Laid<Hand<P>>>,
 ) -> Closed<Shared<D, C, P>>
     ensures { result ≡ record { value = shared; parts = hands; journal = []; ended = true } }
 {
@@ -254,7 +254,7 @@ fn play_with<'g, R: Wait, D: Disk + Drop, C: CacheFace + Drop, P: Policy + Drop,
     alloc: Global,
     pool: &mut Pool<Errand<'g, Shared<D, C, P>, G>>,
     shared: Shared<D, C, P>,
-    hands: Vec<Hand<P>>,
+    hands: Vec<Laid<Hand<P>>>,
     gate: &'g G,
 ) -> Closed<Shared<D, C, P>>
     requires few { (1 ≤ length hands.items) × (length hands.items ≤ 63) }

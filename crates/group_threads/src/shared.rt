@@ -1,4 +1,4 @@
-ghost use Rattle.std.specs.Prelude.{◌≡◌, ◌≤◌, [], length, map, vec_capacity, IfOk, IfErr};
+ghost use Rattle.std.specs.Prelude.{◌≡◌, ◌+◌, ◌≤◌, [], ◌++◌, length, map, reverse, vec_capacity, IfOk, IfErr};
 ghost use Rattle.group_crew.specs.Crews.{unlooked};
 ghost use Rattle.group_threads.specs.Wholes.{parts_in};
 
@@ -10,6 +10,7 @@ use group_crew::Crew;
 use group_member::MemberPart;
 use std::alloc::Global;
 use std::mem;
+use turn_gate::Laid;
 
 /// What the members of a group share.
 #[derive(Drop)]
@@ -28,29 +29,65 @@ pub struct Shared<D, C, P> {
 #[derive(Drop)]
 pub struct Apart<D, C, P> {
     pub shared: Shared<D, C, P>,
-    pub hands: Vec<Hand<P>>,
+    pub hands: Vec<Laid<Hand<P>>>,
     pub room: Vec<MemberPart<P>>,
 }
 
-// Gives each member to a hand. The list is left empty, with its room.
-fn hand_out<P>(parts: &mut Vec<MemberPart<P>>, mut hands: Vec<Hand<P>>) -> Vec<Hand<P>>
+// The member in a hand.
+fn part_of<P>(hand: Hand<P>) -> MemberPart<P>
+    ensures { result ≡ hand.part }
+{
+    let Hand {
+        part,
+        concerned: _,
+        asks: _,
+    } = hand;
+    part
+}
+
+// Gives each member to a hand, the last one first. The list is left empty, with its room; where memory is wanting, it keeps those that have
+// none.
+fn hand_out<P>(
+    alloc: Global,
+    parts: &mut Vec<MemberPart<P>>,
+    mut hands: Vec<Laid<Hand<P>>>,
+) -> Result<Vec<Laid<Hand<P>>>, Vec<Laid<Hand<P>>>>
     requires room { (hands.items ≡ []) × (length parts.old.items ≤ vec_capacity hands) }
-    ensures hands { parts_in result.items ≡ parts.old.items }
-    ensures empty { (parts.new.items ≡ []) × (vec_capacity parts.new ≡ vec_capacity parts.old) }
+    ensures hands { IfOk result (λ hands. (parts_in (reverse hands.items) ≡ parts.old.items) × (parts.new.items ≡ [])) }
+    ensures refused { IfErr result (λ hands. parts.old.items ≡ parts.new.items ++ parts_in (reverse hands.items)) }
+    ensures room { vec_capacity parts.new ≡ vec_capacity parts.old }
+    ensures fits { IfErr result (λ hands. length parts.new.items + length hands.items ≤ vec_capacity parts.new) }
 {
     while let Some(part) = parts.pop() {
-        hands.push_reserved(Hand {
+        let hand = Hand {
             part,
             concerned: Members::none(),
             asks: 0,
-        });
+        };
+        match Laid::new(alloc, hand) {
+            Ok(hand) => hands.push_reserved(hand),
+            Err(hand) => {
+                parts.push_reserved(part_of(hand));
+                return Err(hands);
+            }
+        }
     }
-    hands.reverse();
-    hands
+    Ok(hands)
+}
+
+// Puts members back behind the others, the first one last, as they were.
+fn put_back<P>(mut hands: Vec<Laid<Hand<P>>>, parts: &mut Vec<MemberPart<P>>)
+    requires room { length parts.old.items + length hands.items ≤ vec_capacity parts.old }
+    ensures { parts.new.items ≡ parts.old.items ++ parts_in (reverse hands.items) }
+{
+    while let Some(hand) = hands.pop() {
+        parts.push_reserved(part_of(hand.into_inner()));
+    }
+    hands.destroy_empty();
 }
 
 // Takes the members back. What is ready of them has to be found again.
-fn take_back<P>(mut hands: Vec<Hand<P>>, mut parts: Vec<MemberPart<P>>) -> Vec<MemberPart<P>>
+fn take_back<P>(mut hands: Vec<Laid<Hand<P>>>, mut parts: Vec<MemberPart<P>>) -> Vec<MemberPart<P>>
     requires room { (parts.items ≡ []) × (length hands.items ≤ vec_capacity parts) }
     ensures { map unlooked result.items ≡ map unlooked (parts_in hands.items) }
 {
@@ -60,7 +97,7 @@ fn take_back<P>(mut hands: Vec<Hand<P>>, mut parts: Vec<MemberPart<P>>) -> Vec<M
             mut part,
             concerned: _,
             asks: _,
-        } = hand;
+        } = hand.into_inner();
         part.is_stale = true;
         parts.push_reserved(part);
     }
@@ -76,14 +113,23 @@ pub fn take_apart<D, C, P>(
     ensures shared { IfOk result (λ r. r.shared.group ≡ record group { crew = record group.crew { parts = r.shared.group.crew.parts } }) }
     ensures hands { IfOk result (λ r. parts_in r.hands.items ≡ group.crew.parts.items) }
     ensures room { IfOk result (λ r. (r.room.items ≡ []) × (length r.hands.items ≤ vec_capacity r.room)) }
-    ensures err { IfErr result (λ r. r.1 ≡ group) }
+    ensures err { IfErr result (λ r. (r.1 ≡ record group { crew = record group.crew { parts = r.1.crew.parts } }) × (r.1.crew.parts.items ≡ group.crew.parts.items)) }
 {
     let count = group.crew.parts.len();
     let Ok(hands) = Vec::with_capacity(alloc, count) else {
         return Err((NoMemory, group));
     };
     let mut room = mem::replace(&mut group.crew.parts, Vec::new(alloc));
-    let hands = hand_out(&mut room, hands);
+    let mut hands = match hand_out(alloc, &mut room, hands) {
+        Ok(hands) => hands,
+        Err(hands) => {
+            put_back(hands, &mut room);
+            let none = mem::replace(&mut group.crew.parts, room);
+            none.destroy_empty();
+            return Err((NoMemory, group));
+        }
+    };
+    hands.reverse();
     let shared = Shared {
         group,
         count,
@@ -100,7 +146,7 @@ pub fn take_apart<D, C, P>(
 /// Puts a group together again. It takes no memory.
 pub fn put_together<D, C, P: Drop>(
     shared: Shared<D, C, P>,
-    hands: Vec<Hand<P>>,
+    hands: Vec<Laid<Hand<P>>>,
     room: Vec<MemberPart<P>>,
 ) -> Group<D, C, P>
     requires room { (room.items ≡ []) × (length hands.items ≤ vec_capacity room) }

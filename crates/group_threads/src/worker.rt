@@ -104,16 +104,16 @@ impl<D: Disk, C: CacheFace, P: Policy> Worker<Shared<D, C, P>> {
         requires { number < 64 }
         ensures { IfSome result (λ event. event % 64 ≡ number) }
     {
-        if self.desk.part.part.is_stale {
+        if self.desk.part.get().part.is_stale {
             return None;
         }
-        let ready = self.desk.part.part.ready & !self.asking;
+        let ready = self.desk.part.get().part.ready & !self.asking;
         next_event(ready, number, self.from)
     }
 
     // Whether the member has nothing to do but to ask once more for answers.
     fn is_asking(&self) -> bool {
-        self.desk.part.part.ready & self.asking != 0
+        self.desk.part.get().part.ready & self.asking != 0
     }
 
     // What the member with this number takes next: what was ready behind its last event, or what is found in a turn.
@@ -172,7 +172,7 @@ impl<D: Disk, C: CacheFace, P: Policy> Worker<Shared<D, C, P>> {
         self.note_end(event);
         self.from = self.next_from(event);
         self.has_run = true;
-        gate.pass(self.desk.part.part.id, command_number);
+        gate.pass(self.desk.part.get().part.id, command_number);
         self.desk.take_turn(rt, alloc, turn, event) != Turned::NoMemory
     }
 
@@ -182,18 +182,18 @@ impl<D: Disk, C: CacheFace, P: Policy> Worker<Shared<D, C, P>> {
     {
         self.note_take(event);
         self.is_done = event / 64 == DUTY;
-        let mut asking = self.asking | self.desk.part.asks;
+        let mut asking = self.asking | self.desk.part.get().asks;
         if self.takes >= TAKES {
             asking |= 1 << QUERIES;
         }
-        self.asking = still_asking(&self.desk.part.part, asking);
+        self.asking = still_asking(&self.desk.part.get().part, asking);
     }
 
     // A transaction that ends is what the floor was had for: the member may go on as long again.
     fn note_end(&mut self, event: u64)
         ensures { self.new.desk ≡ self.old.desk }
     {
-        if ends_one(&self.desk.part.part, event / 64) {
+        if ends_one(&self.desk.part.get().part, event / 64) {
             self.burst = BURST;
         }
     }
@@ -202,7 +202,7 @@ impl<D: Disk, C: CacheFace, P: Policy> Worker<Shared<D, C, P>> {
     fn note_take(&mut self, event: u64)
         ensures { self.new.desk ≡ self.old.desk }
     {
-        let is_left = event / 64 == QUERIES && wants_others(&self.desk.part.part, QUERIES);
+        let is_left = event / 64 == QUERIES && wants_others(&self.desk.part.get().part, QUERIES);
         self.takes = if is_left {
             self.takes.saturating_add(1)
         } else {
@@ -251,7 +251,7 @@ impl<D: Disk, C: CacheFace, P: Policy> Worker<Shared<D, C, P>> {
                     hall.close();
                     return false;
                 }
-                hall.tell(self.desk.part.concerned);
+                hall.tell(self.desk.part.get().concerned);
                 self.note_asking(event);
                 self.yield_floor(hall, number);
                 true

@@ -1,5 +1,6 @@
 //! The table, and what each step on it tells.
 use crate::kept::Kept;
+use crate::laid::Laid;
 use crate::machine::Machine;
 use crate::view::View;
 use atomic_table::{Join, Play, Seat, Shared, Split, TableRule};
@@ -12,11 +13,14 @@ pub(crate) type Key<M> = (u64, Snapshot<M>);
 /// What a seat at the table knows.
 pub(crate) type Knows<M> = View<<M as Machine>::Start, <M as Machine>::Entry>;
 
+/// What lies in the slot while no seat has it. The machine may be large: it stays where it is while it goes from seat to seat.
+pub(crate) type Slot<M> = Option<Laid<Kept<M>>>;
+
 /// The words and the slot of a turn, as all threads see them.
-pub(crate) type Top<M> = Shared<Option<Kept<M>>, Knows<M>, Key<M>, Law<M>>;
+pub(crate) type Top<M> = Shared<Slot<M>, Knows<M>, Key<M>, Law<M>>;
 
 /// A seat at the table, for one caller or for several.
-pub(crate) type Place<M> = Seat<Option<Kept<M>>, Knows<M>>;
+pub(crate) type Place<M> = Seat<Slot<M>, Knows<M>>;
 
 /// The next ticket.
 pub(crate) const TICKET: usize = 0;
@@ -32,7 +36,7 @@ pub struct Law<M> {
     machine: PhantomData<M>,
 }
 
-impl<M: Machine> TableRule<Option<Kept<M>>, View<M::Start, M::Entry>, Key<M>> for Law<M> {
+impl<M: Machine> TableRule<Slot<M>, View<M::Start, M::Entry>, Key<M>> for Law<M> {
     ghost use Rattle.turn_gate.specs.Known.{newcomers};
     ghost use Rattle.turn_gate.specs.Ruled.{Ruled, sits};
     ghost use Rattle.turn_gate.specs.Told.{Good, ended_of};
@@ -47,7 +51,7 @@ pub struct Draw<M> {
     machine: PhantomData<M>,
 }
 
-impl<M: Machine> Play<Option<Kept<M>>, View<M::Start, M::Entry>> for Draw<M> {
+impl<M: Machine> Play<Slot<M>, View<M::Start, M::Entry>> for Draw<M> {
     ghost use Rattle.turn_gate.specs.Ruled.{Drawn};
     ghost use Rattle.turn_gate.specs.Told.{Good, ended_of};
 
@@ -59,7 +63,7 @@ pub struct LookServed<M> {
     machine: PhantomData<M>,
 }
 
-impl<M: Machine> Play<Option<Kept<M>>, View<M::Start, M::Entry>> for LookServed<M> {
+impl<M: Machine> Play<Slot<M>, View<M::Start, M::Entry>> for LookServed<M> {
     ghost use Rattle.turn_gate.specs.Ruled.{Looked};
     ghost use Rattle.turn_gate.specs.Told.{Good, ended_of};
 
@@ -71,7 +75,7 @@ pub struct Raise<M> {
     machine: PhantomData<M>,
 }
 
-impl<M: Machine> Play<Option<Kept<M>>, View<M::Start, M::Entry>> for Raise<M> {
+impl<M: Machine> Play<Slot<M>, View<M::Start, M::Entry>> for Raise<M> {
     ghost use Rattle.turn_gate.specs.Ruled.{Raised};
     ghost use Rattle.turn_gate.specs.Told.{Good, ended_of};
 
@@ -83,7 +87,7 @@ pub struct Pass<M> {
     machine: PhantomData<M>,
 }
 
-impl<M: Machine> Play<Option<Kept<M>>, View<M::Start, M::Entry>> for Pass<M> {
+impl<M: Machine> Play<Slot<M>, View<M::Start, M::Entry>> for Pass<M> {
     ghost use Rattle.turn_gate.specs.Ruled.{Passed};
     ghost use Rattle.turn_gate.specs.Told.{Good, ended_of};
 

@@ -7,6 +7,7 @@ ghost use Rattle.turn_gate.specs.Ruled.{sits, holder};
 ghost use Rattle.turn_gate.specs.Told.{Good};
 
 use crate::kept::Kept;
+use crate::laid::Laid;
 use crate::machine::Machine;
 use crate::rule::{COUNT, Draw, LookServed, Pass, Place, Raise, SERVING, TICKET, Top};
 use std::sync::Wait;
@@ -65,7 +66,7 @@ fn wait_for<M: Machine, R: Wait>(
 }
 
 // The value in the slot that the seat has.
-fn take_out<M: Machine>(top: &Top<M>, place: &mut Place<M>) -> Kept<M>
+fn take_out<M: Machine>(top: &Top<M>, place: &mut Place<M>) -> Laid<Kept<M>>
     requires table { (place.old.table_id ≡ top.now.table_id) × IsGate top.now.table_id }
     requires has { (kept : Kept M) × Has place.old (Some kept) }
     ensures same { IsSame place.old place.new × (place.new.me.0 ≡ place.old.me.0) }
@@ -84,7 +85,7 @@ pub(crate) fn enter<M: Machine, R: Wait>(
     top: &Top<M>,
     parked: &AtomicU64,
     place: &mut Place<M>,
-) -> Kept<M>
+) -> Laid<Kept<M>>
     requires table { (place.old.table_id ≡ top.now.table_id) × IsGate top.now.table_id }
     requires idle { IsIdle place.old × (1 ≤ length place.old.me.0.seats) }
     ensures same { IsSame place.old place.new }
@@ -97,7 +98,7 @@ pub(crate) fn enter<M: Machine, R: Wait>(
 }
 
 // Puts the value back.
-fn put_back<M: Machine>(top: &Top<M>, place: &mut Place<M>, kept: Kept<M>)
+fn put_back<M: Machine>(top: &Top<M>, place: &mut Place<M>, kept: Laid<Kept<M>>)
     requires table { (place.old.table_id ≡ top.now.table_id) × IsGate top.now.table_id }
     requires out { Has place.old None }
     ensures same { IsSame place.old place.new × (place.new.me.0 ≡ place.old.me.0) }
@@ -128,7 +129,7 @@ fn pass<M: Machine>(top: &Top<M>, place: &mut Place<M>)
 }
 
 // Puts the value back with the journal as it was, and passes the turn on.
-pub(crate) fn leave<M: Machine>(top: &Top<M>, place: &mut Place<M>, kept: Kept<M>)
+pub(crate) fn leave<M: Machine>(top: &Top<M>, place: &mut Place<M>, kept: Laid<Kept<M>>)
     requires table { (place.old.table_id ≡ top.now.table_id) × IsGate top.now.table_id }
     requires out { Has place.old None }
     requires value { (k : Knowledge M.Start M.Entry) × (place.old.me.0.seats ≡ k ∷ []) × Good M.event_of M.start M.story M.sound (Some kept) k.start k.seen × (k.ended ≡ true → kept.ended ≡ true) }
@@ -140,14 +141,14 @@ pub(crate) fn leave<M: Machine>(top: &Top<M>, place: &mut Place<M>, kept: Kept<M
 }
 
 // Puts the value back with one event more in the journal, raises the count and passes the turn on.
-pub(crate) fn finish<M: Machine>(top: &Top<M>, place: &mut Place<M>, kept: Kept<M>)
+pub(crate) fn finish<M: Machine>(top: &Top<M>, place: &mut Place<M>, kept: Laid<Kept<M>>)
     requires table { (place.old.table_id ≡ top.now.table_id) × IsGate top.now.table_id }
     requires out { Has place.old None }
     requires value { (k : Knowledge M.Start M.Entry) × (e : M.Entry) × (place.old.me.0.seats ≡ k ∷ []) × (M.caller (M.event_of e) ≡ k.caller) × (k.ended ≡ false) × Good M.event_of M.start M.story M.sound (Some kept) k.start (k.seen ++ e ∷ []) }
     ensures same { IsSame place.old place.new }
     ensures idle { (k : Knowledge M.Start M.Entry) (e : M.Entry) → place.old.me.0.seats ≡ k ∷ [] → M.caller (M.event_of e) ≡ k.caller → Good M.event_of M.start M.story M.sound (Some kept) k.start (k.seen ++ e ∷ []) → place.new.me ≡ (sits (hears kept.ended (adds e k) ∷ []), []) }
 {
-    let count = kept.journal.len() as u64;
+    let count = kept.count();
     put_back(top, place, kept);
     raise(top, place, count);
     pass(top, place);

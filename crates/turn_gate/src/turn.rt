@@ -9,8 +9,9 @@ ghost use Rattle.turn_gate.specs.Turns.{IfRan, IfRefused, is_refused, Follows, H
 
 use crate::answer::{Look, Turned};
 use crate::kept::Kept;
+use crate::laid::Laid;
 use crate::machine::Machine;
-use crate::rule::{Key, Knows, Law, OffFirst, Place, SERVING, Together, Top};
+use crate::rule::{Key, Knows, Law, OffFirst, Place, SERVING, Slot, Together, Top};
 use crate::seat::Seat;
 use crate::visit::{look_in_turn, run_in_turn};
 use atomic_table::{Refused, Table};
@@ -27,7 +28,7 @@ pub type Journal = Sequence<u64>;
 /// A machine with its journal, at which seats take turns. Threads share it by reference.
 #[derive(Drop)]
 pub struct Turn<M: Machine> {
-    table: Table<Option<Kept<M>>, Knows<M>, Key<M>, Law<M>, Global>,
+    table: Table<Slot<M>, Knows<M>, Key<M>, Law<M>, Global>,
     seats: u64,
     parked: AtomicU64,
 }
@@ -78,11 +79,11 @@ impl<M: Machine> Turn<M> {
     /// A turn at the machine, and a seat for each part: the k-th, counted from 1, is caller k's.
     ///
     /// The refusal comes for want of memory alone, and hands the machine and the journal back as they were.
-    pub fn new(
+    pub fn new<P>(
         alloc: Global,
         machine: M,
         journal: Journal,
-        parts: &[M::Part],
+        parts: &[P],
     ) -> Result<(Turn<M>, Vec<Seat<M>>), (NoMemory, M, Journal)>
         requires parts { (1 ≤ length parts.now) × (length parts.now < 2 ^ 32) }
         requires stands { M.sound machine × (journal ≡ map M.event_of (M.story machine)) }
@@ -113,7 +114,7 @@ impl<M: Machine> Turn<M> {
         journal: Vec<u64>,
         count: u64,
         row: Vec<Seat<M>>,
-        mut slots: Vec<Option<Kept<M>>>,
+        slots: Vec<Slot<M>>,
     ) -> Result<(Turn<M>, Vec<Seat<M>>), (NoMemory, M, Journal)>
         requires count { (1 ≤ count) × (count < 2 ^ 32) }
         requires room { (row.items ≡ []) × (count ≤ vec_capacity row) × (slots.items ≡ []) × (1 ≤ vec_capacity slots) }
@@ -122,13 +123,35 @@ impl<M: Machine> Turn<M> {
         ensures seats { IfOk result (λ r. r.1.items ≡ first_seats (λ x. M.caller (M.event_of x)) r.0.id (M.start machine) (M.story machine) count) }
         ensures err { IfErr result (λ r. (r.1 ≡ machine) × (r.2 ≡ journal.items)) }
     {
-        let about = (count, Snapshot::of(&machine));
-        let words = [0, 0, journal.len() as u64];
-        slots.push_reserved(Some(Kept {
+        let kept = Kept {
             machine,
             journal,
             ended: false,
-        }));
+        };
+        match Laid::new(alloc, kept) {
+            Ok(kept) => Turn::over_slot(alloc, kept, count, row, slots),
+            Err(kept) => Err(Turn::not_laid(kept, slots)),
+        }
+    }
+
+    // The turn over the slot, once its machine lies where it is to stay.
+    fn over_slot(
+        alloc: Global,
+        kept: Laid<Kept<M>>,
+        count: u64,
+        row: Vec<Seat<M>>,
+        mut slots: Vec<Slot<M>>,
+    ) -> Result<(Turn<M>, Vec<Seat<M>>), (NoMemory, M, Journal)>
+        requires count { (1 ≤ count) × (count < 2 ^ 32) }
+        requires room { (row.items ≡ []) × (count ≤ vec_capacity row) × (slots.items ≡ []) × (1 ≤ vec_capacity slots) }
+        requires stands { M.sound kept.machine × (kept.journal.items ≡ map M.event_of (M.story kept.machine)) × (kept.ended ≡ false) }
+        ensures turn { IfOk result (λ r. (r.0.seats ≡ count) × (r.0.start ≡ M.start kept.machine)) }
+        ensures seats { IfOk result (λ r. r.1.items ≡ first_seats (λ x. M.caller (M.event_of x)) r.0.id (M.start kept.machine) (M.story kept.machine) count) }
+        ensures err { IfErr result (λ r. (r.1 ≡ kept.machine) × (r.2 ≡ kept.journal.items)) }
+    {
+        let about = (count, Snapshot::of(&kept.get().machine));
+        let words = [0, 0, kept.count()];
+        slots.push_reserved(Some(kept));
         match Table::new(alloc, &words, slots, &about) {
             Ok((table, place)) => {
                 let seats = Turn::deal(&table.shared, &about.1, place, row, count);
@@ -145,8 +168,18 @@ impl<M: Machine> Turn<M> {
         }
     }
 
+    // What there was no memory for, where nothing lies in the slot.
+    fn not_laid(kept: Kept<M>, slots: Vec<Slot<M>>) -> (NoMemory, M, Journal)
+        requires { slots.items ≡ [] }
+        ensures { (result.1 ≡ kept.machine) × (result.2 ≡ kept.journal.items) }
+    {
+        slots.destroy_empty();
+        let (machine, journal, _) = kept.into_parts();
+        (NoMemory, machine, journal)
+    }
+
     // What was to lie in the slot.
-    fn given_back(refused: Refused<Option<Kept<M>>, Global>) -> (NoMemory, M, Journal)
+    fn given_back(refused: Refused<Slot<M>, Global>) -> (NoMemory, M, Journal)
         requires { (kept : Kept M) × (refused.slots.items ≡ Some kept ∷ []) }
         ensures { (kept : Kept M) → refused.slots.items ≡ Some kept ∷ [] → (result.1 ≡ kept.machine) × (result.2 ≡ kept.journal.items) }
     {

@@ -9,13 +9,13 @@ use crate::stepping::Stepping;
 use crate::told::Told;
 use std::alloc::Global;
 use std::sync::Wait;
-use turn_gate::{Look, Seat, Turn, Turned};
+use turn_gate::{Laid, Look, Seat, Turn, Turned};
 
-/// A seat at the turn, with its caller's part.
+/// A seat at the turn, with its caller's part, which stays where it lies while the desk goes from thread to thread.
 #[derive(Drop)]
 pub struct Desk<M: Stepping> {
     pub seat: Seat<Told<M>>,
-    pub part: M::Part,
+    pub part: Laid<M::Part>,
 }
 
 impl<M: Stepping> Desk<M> {
@@ -36,7 +36,8 @@ impl<M: Stepping> Desk<M> {
         ensures ended { self.new.seat.knows.ended ≡ is_refused result }
         ensures refused { IfRefused result (((self.new.seat.knows.own ≡ self.old.seat.knows.own) × (self.new.part ≡ self.old.part)) ⊎ ((place : ℕ) × HasRun number_of self.old.seat.knows self.new.seat.knows event place)) }
     {
-        self.seat.take_turn(rt, alloc, turn, &mut self.part, event)
+        self.seat
+            .take_turn(rt, alloc, turn, self.part.get_mut(), event)
     }
 
     /// Which event the desk's caller can run after all events so far, from `from` on. It may wait for the turns of other
@@ -49,6 +50,6 @@ impl<M: Stepping> Desk<M> {
         ensures over { self.new.seat.knows.ended ≡ true → result ≡ looked.Over }
         ensures answer { self.new.seat.knows.ended ≡ false → M.looks (value_after turn.now.start.value.value self.new.seat.knows.seen) self.new.part from result }
     {
-        self.seat.look(rt, turn, &self.part, from)
+        self.seat.look(rt, turn, self.part.get(), from)
     }
 }

@@ -11,28 +11,28 @@ use crate::told::Told;
 use ds_base::NoMemory;
 use std::alloc::Global;
 use std::marker::Model;
-use turn_gate::{Journal, Seat, Turn};
+use turn_gate::{Journal, Laid, Seat, Turn};
 
 /// A turn at a value, with the room that its desks came from.
 #[derive(Drop)]
 pub struct Phase<M: Stepping> {
     turn: Turn<Told<M>>,
     seats: Vec<Seat<Told<M>>>,
-    parts: Vec<M::Part>,
+    parts: Vec<Laid<M::Part>>,
 }
 
 /// What is left of a phase whose turn is out: the room that its desks came from. Contracts see for how many desks it is.
 #[derive(Drop)]
 pub struct Room<M: Stepping> {
     seats: Vec<Seat<Told<M>>>,
-    parts: Vec<M::Part>,
+    parts: Vec<Laid<M::Part>>,
 }
 
 /// What a phase leaves. `ended` says that a turn was refused for want of memory.
 #[derive(Drop)]
 pub struct Closed<M: Stepping> {
     pub value: M,
-    pub parts: Vec<M::Part>,
+    pub parts: Vec<Laid<M::Part>>,
     pub journal: Journal,
     pub ended: bool,
 }
@@ -66,8 +66,8 @@ impl<M: Stepping> Phase<M> {
     pub fn open(
         alloc: Global,
         value: M,
-        mut parts: Vec<M::Part>,
-    ) -> Result<(Phase<M>, Vec<Desk<M>>), (NoMemory, M, Vec<M::Part>)>
+        mut parts: Vec<Laid<M::Part>>,
+    ) -> Result<(Phase<M>, Vec<Desk<M>>), (NoMemory, M, Vec<Laid<M::Part>>)>
         requires { (1 ≤ length parts.items) × (length parts.items < 2 ^ 32) }
         ensures phase { IfOk result (λ r. (r.0.seats ≡ length parts.items) × (r.0.start.value.value ≡ value) × (r.0.start.parts.value.items ≡ parts.items)) }
         ensures desks { IfOk result (λ r. (length r.1.items ≡ length parts.items) × AllAt M.caller r.0.id r.0.start r.1.items (λ d. d.seat) (λ d. d.part) 1) }

@@ -4,12 +4,12 @@ ghost use Rattle.std.specs.Prelude.{◌≡◌, ◌≤◌, [], length, map, vec_c
 use crate::desk::Desk;
 use crate::stepping::Stepping;
 use crate::told::Told;
-use turn_gate::Seat;
+use turn_gate::{Laid, Seat};
 
 // Puts each part to its seat. Both are left empty, with their room.
 pub(crate) fn put_together<M: Stepping>(
     seats: &mut Vec<Seat<Told<M>>>,
-    parts: &mut Vec<M::Part>,
+    parts: &mut Vec<Laid<M::Part>>,
     mut row: Vec<Desk<M>>,
 ) -> Vec<Desk<M>>
     requires count { length seats.old.items ≡ length parts.old.items }
@@ -33,7 +33,7 @@ pub(crate) fn put_together<M: Stepping>(
 pub(crate) fn take_apart<M: Stepping>(
     mut desks: Vec<Desk<M>>,
     seats: &mut Vec<Seat<Told<M>>>,
-    parts: &mut Vec<M::Part>,
+    parts: &mut Vec<Laid<M::Part>>,
 )
     requires empty { (seats.old.items ≡ []) × (parts.old.items ≡ []) }
     requires room { (length desks.items ≤ vec_capacity seats.old) × (length desks.items ≤ vec_capacity parts.old) }

@@ -1,4 +1,4 @@
-ghost use Rattle.std.specs.Prelude.{◌≡◌, ℕ, ◌+◌, ◌%◌, ◌^◌, ◌<◌, ◌≤◌, length};
+ghost use Rattle.std.specs.Prelude.{◌≡◌, ℕ, ◌+◌, ◌%◌, ◌^◌, ◌<◌, ◌≤◌, length, IfSome};
 ghost use Rattle.turn_story.specs.Desks.{IsAt, AllAt};
 
 use crate::{Desk, Phase, Stepping, Told};
@@ -8,7 +8,7 @@ use std::sync::Wait;
 use std::test::*;
 use std::thread;
 use std::thread::Threads;
-use turn_gate::{Look, Turn, Turned};
+use turn_gate::{Laid, Look, Turn, Turned};
 
 /// A sum that its callers add to.
 #[derive(Drop)]
@@ -93,9 +93,19 @@ fn work_all<R: Threads + Wait + Sync>(
     thread::for_each_mut(rt, desks, threads, &each);
 }
 
-// Three callers: the sum, what each has added, and how many events there were.
-fn add_all<R: Threads + Wait + Sync>(rt: &R, alloc: Global) -> Option<(u64, Vec<u64>, usize)> {
-    let parts = vec![in alloc; 0u64; 3].ok()?;
+// The parts of three callers.
+fn three_parts(alloc: Global) -> Option<Vec<Laid<u64>>>
+    ensures { IfSome result (λ parts. length parts.items ≡ 3) }
+{
+    let first = Laid::new(alloc, 0u64).ok()?;
+    let second = Laid::new(alloc, 0u64).ok()?;
+    let third = Laid::new(alloc, 0u64).ok()?;
+    vec![in alloc; first, second, third].ok()
+}
+
+// Three callers: the sum, whether each has added as much as it was to, and how many events there were.
+fn add_all<R: Threads + Wait + Sync>(rt: &R, alloc: Global) -> Option<(u64, bool, usize)> {
+    let parts = three_parts(alloc)?;
     let Ok((phase, mut desks)) = Phase::open(alloc, Adder { sum: 0 }, parts) else {
         return None;
     };
@@ -104,16 +114,20 @@ fn add_all<R: Threads + Wait + Sync>(rt: &R, alloc: Global) -> Option<(u64, Vec<
     if closed.ended {
         return None;
     }
-    Some((closed.value.sum, closed.parts, closed.journal.len()))
+    let [first, second, third] = closed.parts.as_slice() else {
+        return None;
+    };
+    let each = *first.get() == 1500 && *second.get() == 1500 && *third.get() == 1500;
+    Some((closed.value.sum, each, closed.journal.len()))
 }
 
 #[test]
 fn three_threads_add_what_each_has_added(rt: HostRuntime) -> Result<(), Fail> {
-    let Some((sum, parts, events)) = add_all(&rt, rt.alloc()) else {
+    let Some((sum, each, events)) = add_all(&rt, rt.alloc()) else {
         return Ok(());
     };
     assert!(rt; events == 3000);
     assert!(rt; sum == 4500);
-    assert!(rt; parts.as_slice() == [1500, 1500, 1500].as_slice());
+    assert!(rt; each);
     Ok(())
 }

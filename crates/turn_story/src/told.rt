@@ -8,7 +8,7 @@ use crate::stepping::Stepping;
 use ds_base::NoMemory;
 use std::alloc::Global;
 use std::snapshot::Snapshot;
-use turn_gate::{Look, Machine};
+use turn_gate::{Laid, Look, Machine};
 
 /// A value together with its start and its history, which are there for proofs alone and have no bytes.
 #[derive(Drop)]
@@ -21,7 +21,7 @@ pub struct Told<M: Stepping> {
 
 impl<M: Stepping> Told<M> {
     /// The value before any event, with the part of each caller, the first caller's first.
-    pub fn new(value: M, parts: &Vec<M::Part>) -> Told<M>
+    pub fn new(value: M, parts: &Vec<Laid<M::Part>>) -> Told<M>
         ensures value { result.value ≡ value }
         ensures start { (result.start.value.value ≡ value) × (result.start.parts.value ≡ parts.now) }
         ensures history { result.history.items ≡ [] }

@@ -133,12 +133,12 @@ fn print_rate<R: Threads + Wait + Sync + Clock + Print>(
     println!(rt; "{seats} seats: {turned} turns a second, and {locked} under a lock")
 }
 
-/// Prints the rates of 1, 2, 4 and 8 seats.
+/// Prints the rates of 1, 2, 4, 8 and 32 seats.
 pub fn print_rates<R: Threads + Wait + Sync + Clock + Print>(
     rt: &R,
     alloc: Global,
 ) -> io::Result<()> {
-    for seats in [1usize, 2, 4, 8] {
+    for seats in [1usize, 2, 4, 8, 32] {
         print_rate(rt, alloc, seats)?;
     }
     Ok(())

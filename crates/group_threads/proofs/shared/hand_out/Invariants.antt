@@ -6,6 +6,7 @@ abbrev pub invariant-loop-part : goal.invariant-loop-part
 invariant-loop-part g l =
     (l.fn.parts.items ≡ l.parts.items ++ map (λ h. h.part) (reverse l.hands.items))
     × (length l.parts.items + length l.hands.items ≤ vec_capacity l.hands)
+    × (length l.parts.items + length l.hands.items ≤ vec_capacity l.parts)
     × (vec_capacity l.parts ≡ vec_capacity l.fn.parts)
 
 abbrev pub decreases-loop-part : goal.decreases-loop-part

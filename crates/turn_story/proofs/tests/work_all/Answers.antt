@@ -1,11 +1,15 @@
+use denote.Param.Send.{sendable}
 use Rattle.std.proofs.Common.{rules, ◌≡◌, ◌+◌, ◌%◌, ◌<◌, length, sym, subst, arith}
+use Rattle.std.proofs.Crossing.{crosses}
+use Rattle.atomic_table.proofs.shared.Seat.TheSendSync.{the_send as place_send}
+use Rattle.turn_story.proofs.history.History.TheSendSync.{the_send as history_send}
 use Rattle.turn_story.specs.Desks.{IsAt}
 use Rattle.turn_story.proofs.Rows.{moved, at_place, from_places}
 use Rattle.turn_story.proofs.tests.work_all.Goals as goal
 
 pub for_each_mut-requires-send-T : goal.for_each_mut-requires-send-T
 unfolding types.Keyed.entry denote.Memory.part_of
-for_each_mut-requires-send-T g c κs within = search rules
+for_each_mut-requires-send-T g c κs within = search (sendable, crosses, place_send, history_send) depth 400 fits 200000
 
 pub for_each_mut-requires-clause-accepts : goal.for_each_mut-requires-clause-accepts
 for_each_mut-requires-clause-accepts g c κs within i p less is =

@@ -10,7 +10,8 @@ take_turn-requires-clause-part g c lasts =
     let M = g.M.Stepping in
     let s = c.args.self.now.seat in
     let at = c.requires.at in
-    subst (λ b. part_of (parts_after M.caller b.parts.value.items s.knows.seen) s.knows.caller ≡ Some c.args.self.now.part) (sym at.began) (at.part lasts)
+    let mine = subst (λ b. part_of (parts_after M.caller b.parts.value.items s.knows.seen) s.knows.caller ≡ Some c.args.self.now.part) (sym at.began) (at.part lasts) in
+    subst (λ p. part_of (parts_after M.caller s.knows.start.parts.value.items s.knows.seen) s.knows.caller ≡ Some p) (sym c.get_mut.ensures.value) mine
 
 pub returns-clause-at : goal.returns-clause-at
 returns-clause-at g c =

@@ -1,0 +1,11 @@
+use Rattle.std.proofs.Common.{◌≡◌, ◌+◌, ◌≤◌, ◌++◌, length, map, vec_capacity}
+use mathlib.Core.List.{reverse}
+use Rattle.group_threads.proofs.shared.put_back.Given as goal
+
+abbrev pub invariant-loop-hand : goal.invariant-loop-hand
+invariant-loop-hand g l =
+    (l.fn.parts.items ++ map (λ h. h.part) (reverse l.fn.hands.items) ≡ l.parts.items ++ map (λ h. h.part) (reverse l.hands.items))
+    × (length l.parts.items + length l.hands.items ≤ vec_capacity l.parts)
+
+abbrev pub decreases-loop-hand : goal.decreases-loop-hand
+decreases-loop-hand g l = length l.hands.items
