@@ -1,5 +1,6 @@
 pub mod Kept
 pub mod Told
+pub mod Runs
 pub mod Each
 pub mod Whole
 pub mod Cutting

@@ -5,6 +5,7 @@ ghost use Rattle.group_restart.specs.Course.{IsBegun};
 ghost use Rattle.group_restart.specs.declared.calls.State.TheVariants as state;
 ghost use Rattle.disk_restart.specs.Ends.{EndsBehind};
 ghost use Rattle.disk_restart.specs.Keeping.{KeepsRecords};
+ghost use Rattle.disk_restart.specs.Runs.{IsRun, RestartsDisk};
 
 use crate::laws::keeping_laws;
 use ds_base::NoMemory;
@@ -28,6 +29,7 @@ pub fn run_restart<D: Disk>(
     ensures failed { result ≡ Ok state.Failed → Rose (D.faults disk.old) (D.faults disk.new) }
     ensures ends { IfOk result (λ s. s ≢ state.Going) }
     ensures keeps { Becomes (D.contents disk.old) (D.contents disk.new) KeepsRecords }
+    ensures run { IsRun (record { alive = D.alive disk.old; contents = D.contents disk.old }) restart.old result (record { alive = D.alive disk.new; contents = D.contents disk.new }) restart.new }
     ensures there { (counter : ℕ) → result ≡ Ok (state.Done counter) → Becomes (D.contents disk.old) (D.contents disk.new) (λ _ c. EndsBehind restart.new c) }
 {
     log_laws();
@@ -47,6 +49,7 @@ pub fn restart_disk<D: Disk>(alloc: Global, disk: &mut D) -> Result<State, NoMem
     ensures failed { result ≡ Ok state.Failed → Rose (D.faults disk.old) (D.faults disk.new) }
     ensures ends { IfOk result (λ s. s ≢ state.Going) }
     ensures keeps { Becomes (D.contents disk.old) (D.contents disk.new) KeepsRecords }
+    ensures run { RestartsDisk (record { alive = D.alive disk.old; contents = D.contents disk.old }) result (record { alive = D.alive disk.new; contents = D.contents disk.new }) }
 {
     keeping_laws();
     let mut restart = GroupRestart::new(alloc)?;

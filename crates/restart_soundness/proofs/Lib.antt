@@ -1,3 +1,6 @@
 pub mod Counting
 pub mod Planned
 pub mod Steps
+pub mod Rows
+pub mod Numbered
+pub mod Runs

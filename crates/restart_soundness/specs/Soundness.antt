@@ -1,5 +1,5 @@
 -- A group restart over a sound disk, from its first call to its last.
-use Rattle.std.specs.Prelude.{◌≡◌, ◌⊎◌, ℕ, zero, suc, List, length, Some, Result, Ok, IfOk}
+use Rattle.std.specs.Prelude.{◌≡◌, ◌⊎◌, ℕ, List, length, Some, Result, IfOk}
 use Rattle.ds_base.specs.declared.fault.NoMemory.{NoMemory}
 use Rattle.ds_disk.specs.Contents.{Contents, Becomes}
 use Rattle.log_record.specs.declared.log.Log.{Log}
@@ -10,6 +10,7 @@ use Rattle.group_restart.specs.Disk.{Drive}
 use Rattle.group_restart.specs.Machine.{Restart}
 use Rattle.group_restart.specs.Course.{IsBegun}
 use Rattle.group_restart.specs.Steps.{Steps}
+use Rattle.disk_restart.specs.Runs.{AllGo}
 use Rattle.restart_reads.specs.Reading.{ReadsNext}
 use Rattle.sound_restarts.specs.Redo.{IsSoundNow}
 use Rattle.sound_courses.specs.Standing.{IsLeftSound}
@@ -63,12 +64,7 @@ RestartBegins = (c : Contents) (logs : List Log) (h : Restart) → IsSoundNow c 
 abbrev pub StepLeavesSound : Type 0
 StepLeavesSound = (w v : Drive) (h k : Restart) (result : Result State NoMemory) (c : Contents) → w.contents ≡ Some c → Runs h c → Steps w h result v k → Becomes (Some c) v.contents (λ _ d. LeavesSound result k d)
 
--- so many steps, each of which goes on
-abbrev pub AllGo : ℕ → Drive → Restart → Drive → Restart → Type 0
-AllGo zero w h v k = (v ≡ w) × (k ≡ h)
-AllGo (suc n) w h v k = (mid : Drive) × ((between : Restart) × (Steps w h (Ok state.Going) mid between × AllGo n mid between v k))
-
--- and one more, however it ends
+-- so many steps that go on, and one more, however it ends
 abbrev pub RunLeavesSound : Type 0
 RunLeavesSound = (n : ℕ) (w mid v : Drive) (h between k : Restart) (result : Result State NoMemory) (c : Contents) → w.contents ≡ Some c → Runs h c → AllGo n w h mid between → Steps mid between result v k
     → Becomes (Some c) v.contents (λ _ d. LeavesSound result k d)

@@ -3,6 +3,7 @@
 //! The crate has definitions and proofs alone. Its function does nothing: its contract is the law.
 #![tactic(auto)]
 
+ghost use Rattle.restart_soundness.specs.Runs.{BytesAreNumbered, LeftDisksAreSound, RenewedAreNumbered, RestartsLeaveSound, RunsLeaveSound, SoundDisksBegin};
 ghost use Rattle.restart_soundness.specs.Soundness.{RestartBegins, RunLeavesSound, StepLeavesSound};
 
 /// Each step of a group restart over a sound disk with the logs of all members, from its first to its last, leaves a sound disk,
@@ -20,3 +21,28 @@ pub fn soundness_laws()
     sound_plans::plan_laws();
     sound_steps::step_laws();
 }
+
+/// A whole run of a group restart over a sound disk leaves a sound disk with the same rows, wherever it ends: done, failed, in any
+/// of its calls, or for want of memory. It names no damage; and where it is done, no row change is open, no log has a tail, each
+/// page is as all records leave it, and none is of version 1. Such a run is what the contract of `disk_restart::run_restart`
+/// tells of it, and of `disk_restart::restart_disk`.
+pub fn run_laws()
+    ensures run { RunsLeaveSound }
+    ensures restart { RestartsLeaveSound }
+{
+    soundness_laws();
+    log_record::log_laws();
+    log_reader::reader_laws();
+    sound_disk::page_laws();
+    sound_plans::queue_laws();
+    sound_plans::open_laws();
+}
+
+/// Such a run may begin with each sound disk whose pages are bytes, and with each of which no log asks for pages of version 1
+/// to be renewed: the numbers of its pages of version 1 are of the format. What it leaves is a sound disk.
+pub fn disk_laws()
+    ensures bytes { BytesAreNumbered }
+    ensures renewed { RenewedAreNumbered }
+    ensures begin { SoundDisksBegin }
+    ensures left { LeftDisksAreSound }
+{}

@@ -1,0 +1,90 @@
+-- A whole run of a group restart over a sound disk: what it leaves, wherever it ends.
+use Rattle.std.specs.Prelude.{◌≡◌, ℕ, true, false, List, length, Some, Result, IfOk}
+use Rattle.ds_base.specs.declared.fault.NoMemory.{NoMemory}
+use Rattle.ds_base.specs.declared.names.PageId.{PageId}
+use Rattle.ds_disk.specs.Contents.{Contents, Becomes}
+use Rattle.ds_disk.specs.Pages.{page_at}
+use Rattle.ds_model.specs.Logs.{StandFor}
+use Rattle.ds_model.specs.Rows.{Rows}
+use Rattle.log_record.specs.declared.log.Log.{Log}
+use Rattle.log_reader.specs.Keeping.{AreBytes}
+use Rattle.log_trans.specs.Numbers.{greatest}
+use Rattle.log_merge.specs.Merging.{all_records}
+use Rattle.restart_plan.specs.Renewal.{must_renew}
+use Rattle.group_restart.specs.declared.calls.State.{State}
+use Rattle.group_restart.specs.declared.calls.State.TheVariants as state
+use Rattle.group_restart.specs.Disk.{Drive}
+use Rattle.group_restart.specs.Machine.{Restart}
+use Rattle.group_restart.specs.Course.{IsBegun}
+use Rattle.disk_restart.specs.Runs.{IsRun, RestartsDisk}
+use Rattle.sound_disk.specs.Settled.{has_ended}
+use Rattle.sound_disk.specs.Sound.{IsSoundWith, IsSoundDisk}
+use Rattle.sound_disk.specs.Versions.{last_images}
+use Rattle.sound_appends.specs.Laws.{HaveNoTails}
+use Rattle.sound_plans.specs.Queues.{records_for}
+use Rattle.sound_restarts.specs.Redo.{OldAreNumbered}
+use Rattle.sound_courses.specs.Standing.{NoneIsOld, IsLeftSound}
+
+-- ---- what a run leaves
+
+-- the logs stand for the rows for which they stood
+abbrev pub KeepsRows : Contents → Contents → Type 0
+KeepsRows c d = (rows : Rows) → StandFor c.logs rows → StandFor d.logs rows
+
+-- the disk is sound, and nothing is left to be restarted: no row change is open, no log has a tail, each page is as all records leave it, and none is
+-- of version 1. This is the greatest number of the logs
+pub record IsAtRest (counter : ℕ) (d : Contents) : Type 0 where
+  pub logs : List Log
+  pub sound : IsSoundWith d logs
+  pub ended : (member tran : ℕ) → has_ended (records_for logs member) tran ≡ true
+  pub no_tails : HaveNoTails logs
+  pub pages : (id : PageId) → page_at d.pages id ≡ last_images logs id
+  pub none_old : NoneIsOld d
+  pub number : counter ≡ greatest (all_records logs)
+
+-- where all is done, the disk is at rest; no damage is named
+abbrev pub EndsWith : State → Contents → Type 0
+EndsWith state.Going d = Unit {0}
+EndsWith (state.Done counter) d = IsAtRest counter d
+EndsWith (state.Damaged volume at) d = ⊥
+EndsWith state.Failed d = Unit {0}
+
+-- whatever the end, the disk is sound, with the same rows
+pub record IsLeft (result : Result State NoMemory) (c d : Contents) : Type 0 where
+  pub sound : IsLeftSound d
+  pub rows : KeepsRows c d
+  pub ends : IfOk result (λ s. EndsWith s d)
+
+-- ---- laws
+
+-- a disk that tells what it holds has the logs of all members
+abbrev pub HasLogs : Drive → Type 0
+HasLogs w = (c : Contents) → w.contents ≡ Some c → length c.logs ≡ 32
+
+-- each run of a restart that has only begun, also one that ends inside a call of the disk, or for want of memory
+abbrev pub RunsLeaveSound : Type 0
+RunsLeaveSound = (w v : Drive) (h k : Restart) (result : Result State NoMemory) → HasLogs w → HasLogs v → IsBegun h → IsRun w h result v k → Becomes w.contents v.contents (λ c d. IsLeftSound c → IsLeft result c d)
+
+-- and one that is made for the disk
+abbrev pub RestartsLeaveSound : Type 0
+RestartsLeaveSound = (w v : Drive) (result : Result State NoMemory) → HasLogs w → HasLogs v → RestartsDisk w result v → Becomes w.contents v.contents (λ c d. IsLeftSound c → IsLeft result c d)
+
+-- ---- where such a run may begin
+
+abbrev pub PagesAreBytes : Contents → Type 0
+PagesAreBytes c = (id : PageId) → AreBytes (page_at c.pages id)
+
+-- the numbers of pages of version 1 are numbers of the format where the pages are bytes
+abbrev pub BytesAreNumbered : Type 0
+BytesAreNumbered = (c : Contents) → PagesAreBytes c → OldAreNumbered c
+
+-- and there are none where no log asks for their renewal
+abbrev pub RenewedAreNumbered : Type 0
+RenewedAreNumbered = (c : Contents) (logs : List Log) → IsSoundWith c logs → must_renew logs ≡ false → OldAreNumbered c
+
+-- so a run may begin with each sound disk whose pages are bytes, and what it leaves is a sound disk
+abbrev pub SoundDisksBegin : Type 0
+SoundDisksBegin = (c : Contents) → PagesAreBytes c → IsSoundDisk c → IsLeftSound c
+
+abbrev pub LeftDisksAreSound : Type 0
+LeftDisksAreSound = (c : Contents) → IsLeftSound c → IsSoundDisk c
