@@ -1,5 +1,5 @@
 -- What is settled of the replies to commands that take and give up no locks.
-use Rattle.std.proofs.Common.{◌≡◌, ℕ, ◌<◌, refl, sym, ap, subst, Bool, true, false, List, Option, Some, None}
+use Rattle.std.proofs.Common.{◌≡◌, ℕ, ◌<◌, refl, sym, ◌∙◌, ap, subst, Bool, true, false, List, Option, Some, None}
 use Rattle.std.specs.Prelude.{nat_lt, if◌then◌else◌, length, slice_set}
 use Rattle.std.proofs.lemmas.Bool.{cond_both}
 use Rattle.ds_base.specs.declared.names.PageId.{PageId}
@@ -24,7 +24,7 @@ use Rattle.member_intents.specs.declared.intent.Frames.{Frames}
 use Rattle.member_trans.specs.declared.fate.Owner.{Owner}
 use Rattle.member_trans.specs.declared.fate.Owner.TheVariants as owner
 use Rattle.member_marks.specs.Names.{without_name}
-use Rattle.member_marks.specs.State.{MarksState}
+use Rattle.member_marks.specs.State.{MarksState, slot_tran, tran_of}
 use Rattle.member_marks.specs.Claims.{offered}
 use Rattle.member_marks.specs.Frames.{frame_in, is_placed, with_registered, with_filled, after_registered, after_filled, after_written, after_marked, after_unregister}
 use Rattle.member_pool.specs.Heads.{freed, marked, written as head_written}
@@ -40,11 +40,12 @@ use Rattle.member_effects.specs.Closing.{purged_after}
 use Rattle.member_effects.specs.Cycles.{RefusesCycle, cycle_after}
 use Rattle.member_effects.specs.Frames.{read_after, valid_after, tested_after, written_after, unregistered_after, full_at}
 use Rattle.member_effects.specs.Kept as bytes
+use Rattle.member_effects.specs.Puts.{change_records, commit_records, drawn_by, undo_records}
 use Rattle.log_rows.specs.Rows.{BothTell}
 use Rattle.member_trans.specs.Trans.{TransState, is_forward, is_undoing, tran_of as tran_in}
 use Rattle.member_log.specs.Buffers.{LogBuffer}
-use Rattle.closing_law.proofs.Kept.{Kept, PutsRows, Same, Stays, kept_after, kept_as, kept_heads, kept_if, kept_itself, kept_names, kept_stays, puts_after, puts_kept, same_if, same_itself, same_on, stays_heads, stays_if, stays_itself, stays_lists, stays_same}
-use Rattle.closing_law.proofs.Records.{changed_name, kept_change, kept_commit, kept_system, kept_undo}
+use Rattle.closing_law.proofs.Kept.{Adds, Kept, PutsRows, Same, Stays, adds_after, adds_these, kept_after, kept_as, kept_heads, kept_if, kept_itself, kept_names, kept_stays, puts_adds, puts_after, puts_kept, puts_these, same_if, same_itself, same_on, stays_heads, stays_if, stays_itself, stays_lists, stays_same}
+use Rattle.closing_law.proofs.Records.{adds_commit, adds_system, adds_undo, changed_name, puts_change}
 
 -- ---- refusals
 pub stays_offered : (s : MarksState) (o : Owner) (r : Refusal) (place : ℕ) → Stays s (offered s o r place)
@@ -275,9 +276,6 @@ abbrev pub IsAbove : ℕ → Reply → Type 0
 IsAbove low (reply.Drawn lrsn) = low < lrsn
 IsAbove low _ = Unit {0}
 
-abbrev pub KeptBytes : bytes.Kept → bytes.Kept → Type 0
-KeptBytes k l = Kept k.marks l.marks
-
 abbrev pub SameBytes : bytes.Kept → bytes.Kept → Type 0
 SameBytes k l = Same k.marks l.marks
 
@@ -306,6 +304,13 @@ row_in : (k : bytes.Kept) (o : Option ℕ) (c : RowChange) (lrsn : ℕ) → Same
 row_in k None c lrsn = same_itself k.marks
 row_in k (Some at) c lrsn = row_at k at (frame_in k.marks.heads at).page c lrsn
 
+-- the records that are put behind it are those of the begin
+change_same : (s u : MarksState) (slot : ℕ) (p : Plan) (lrsn : ℕ) → Same s u → change_records u.log (slot_tran u slot) p lrsn ≡ change_records s.log (slot_tran s slot) p lrsn
+change_same s u slot p lrsn e = ap (λ (z : LogBuffer). change_records z (slot_tran u slot) p lrsn) e.log ∙ ap (λ (z : TransState). change_records s.log (tran_in z (owner.Slot slot)) p lrsn) e.trans
+
+undo_same : (s u : MarksState) (o : Owner) (p : Plan) (lrsn : ℕ) → Same s u → undo_records u.log (tran_of u o) p lrsn ≡ undo_records s.log (tran_of s o) p lrsn
+undo_same s u o p lrsn e = ap (λ (z : LogBuffer). undo_records z (tran_of u o) p lrsn) e.log ∙ ap (λ (z : TransState). undo_records s.log (tran_in z o) p lrsn) e.trans
+
 -- what a row change that was planned gives
 pub record Gives (k l : bytes.Kept) (slot : ℕ) (p : Plan) (id : ℕ) (x : Spot) : Type 0 where
   pub change : RowChange
@@ -314,27 +319,32 @@ pub record Gives (k l : bytes.Kept) (slot : ℕ) (p : Plan) (id : ℕ) (x : Spot
   pub named : (tran_in l.marks.trans (owner.Slot slot)).first ≡ id
 
 kept_changed : BothTell → (G : ℕ → Spot → Type 0) (k : bytes.Kept) (slot : ℕ) (frames : Frames) (p : Plan) (lrsn : ℕ) → is_forward (tran_in k.marks.trans (owner.Slot slot)).stage ≡ true → ((id : ℕ) (x : Spot) → Gives k (changed_by k slot frames p lrsn) slot p id x → G id x)
-    → PutsRows G k.marks (changed_by k slot frames p lrsn).marks
+    → PutsRows G k.marks (changed_by k slot frames p lrsn).marks (change_records k.marks.log (slot_tran k.marks slot) p lrsn)
 kept_changed law G k slot frames plan.None lrsn forward give = puts_kept G k.marks k.marks (kept_itself k.marks)
 kept_changed law G k slot frames (plan.System ps) lrsn forward give =
-    puts_kept G k.marks _ (kept_after k.marks _ _ (stays_same k.marks (patched_frames k frames ps lrsn).marks (patched_all k frames ps lrsn)) (kept_system law (patched_frames k frames ps lrsn).marks slot ps lrsn))
+    let same = patched_all k frames ps lrsn in
+    let mid : MarksState = (patched_frames k frames ps lrsn).marks in
+    puts_adds G k.marks _ _ (adds_these k.marks _ _ _ (change_same k.marks mid slot (plan.System ps) lrsn same) (adds_after k.marks mid _ _ (stays_same k.marks mid same) (adds_system law mid slot ps lrsn)))
 kept_changed law G k slot frames (plan.Row c) lrsn forward give =
     let same = row_in k (frame_of frames 0) c lrsn in
-    let mid = (row_nth k (frame_of frames 0) c lrsn).marks in
+    let mid : MarksState = (row_nth k (frame_of frames 0) c lrsn).marks in
     let going : is_forward (tran_in mid.trans (owner.Slot slot)).stage ≡ true = subst (λ (z : TransState). is_forward (tran_in z (owner.Slot slot)).stage ≡ true) (sym same.trans) forward in
-    puts_after G k.marks mid (after_change mid slot lrsn c) (stays_same k.marks mid same)
-    (kept_change law G mid slot lrsn c going (λ may. give _ _ (record { change = c; planned = refl; row = refl; named = changed_name mid slot lrsn c going may })))
+    puts_these G k.marks (after_change mid slot lrsn c) _ _ (change_same k.marks mid slot (plan.Row c) lrsn same)
+    (puts_after G k.marks mid (after_change mid slot lrsn c) _ (stays_same k.marks mid same)
+    (puts_change law G mid slot lrsn c going (λ may. give _ _ (record { change = c; planned = refl; row = refl; named = changed_name mid slot lrsn c going may }))))
 kept_changed law G k slot frames (plan.Back c) lrsn forward give = puts_kept G k.marks k.marks (kept_itself k.marks)
 kept_changed law G k slot frames (plan.Fault page at) lrsn forward give = puts_kept G k.marks k.marks (kept_itself k.marks)
 
-kept_back : BothTell → (k : bytes.Kept) (o : Owner) (at : ℕ) (p : Plan) (lrsn : ℕ) → k.marks.log.stable < lrsn → is_undoing (tran_in k.marks.trans o).stage ≡ true → KeptBytes k (back_by k o at p lrsn)
+kept_back : BothTell → (k : bytes.Kept) (o : Owner) (at : ℕ) (p : Plan) (lrsn : ℕ) → k.marks.log.stable < lrsn → is_undoing (tran_in k.marks.trans o).stage ≡ true
+    → Adds k.marks (back_by k o at p lrsn).marks (undo_records k.marks.log (tran_of k.marks o) p lrsn)
 kept_back law k o at plan.None lrsn above undoing = kept_itself k.marks
 kept_back law k o at (plan.System ps) lrsn above undoing = kept_itself k.marks
 kept_back law k o at (plan.Row c) lrsn above undoing = kept_itself k.marks
 kept_back law k o at (plan.Back c) lrsn above undoing =
     let same = row_at k at (frame_in k.marks.heads at).page c lrsn in
-    kept_after k.marks _ _ (stays_same k.marks (row_frame k at c lrsn).marks same)
-    (kept_undo law (row_frame k at c lrsn).marks o lrsn (subst (λ (z : LogBuffer). z.stable < lrsn) (sym same.log) above) (subst (λ (z : TransState). is_undoing (tran_in z o).stage ≡ true) (sym same.trans) undoing))
+    let mid : MarksState = (row_frame k at c lrsn).marks in
+    adds_these k.marks _ _ _ (undo_same k.marks mid o (plan.Back c) lrsn same) (adds_after k.marks mid _ _ (stays_same k.marks mid same)
+    (adds_undo law mid o lrsn (subst (λ (z : LogBuffer). z.stable < lrsn) (sym same.log) above) (subst (λ (z : TransState). is_undoing (tran_in z o).stage ≡ true) (sym same.trans) undoing)))
 kept_back law k o at (plan.Fault page offset) lrsn above undoing = kept_itself k.marks
 
 kept_undrawn : (s : MarksState) (o : Owner) (answer : Reply) (place : ℕ) → Kept s (undrawn_after s o answer place)
@@ -373,7 +383,7 @@ kept_undrawn s o (reply.Stale index) place = kept_registered s index false
 kept_undrawn s o (reply.LrsnEnd at) place = kept_offered s o (refusal.LrsnEnd at) place
 
 pub kept_drawn : BothTell → (G : ℕ → Spot → Type 0) (k : bytes.Kept) (slot : ℕ) (frames : Frames) (p : Plan) (answer : Reply) (place : ℕ) → is_forward (tran_in k.marks.trans (owner.Slot slot)).stage ≡ true
-    → ((id : ℕ) (x : Spot) → Gives k (drawn_after k slot frames p answer place) slot p id x → G id x) → PutsRows G k.marks (drawn_after k slot frames p answer place).marks
+    → ((id : ℕ) (x : Spot) → Gives k (drawn_after k slot frames p answer place) slot p id x → G id x) → PutsRows G k.marks (drawn_after k slot frames p answer place).marks (drawn_by answer (change_records k.marks.log (slot_tran k.marks slot) p))
 kept_drawn law G k slot frames p (reply.Granted version) place forward give = puts_kept G k.marks _ (kept_undrawn k.marks (owner.Slot slot) (reply.Granted version) place)
 kept_drawn law G k slot frames p (reply.Retained by) place forward give = puts_kept G k.marks _ (kept_undrawn k.marks (owner.Slot slot) (reply.Retained by) place)
 kept_drawn law G k slot frames p (reply.RecordsFull limit) place forward give = puts_kept G k.marks _ (kept_undrawn k.marks (owner.Slot slot) (reply.RecordsFull limit) place)
@@ -408,7 +418,8 @@ kept_drawn law G k slot frames p (reply.Drawn lrsn) place forward give = kept_ch
 kept_drawn law G k slot frames p (reply.Stale index) place forward give = puts_kept G k.marks _ (kept_undrawn k.marks (owner.Slot slot) (reply.Stale index) place)
 kept_drawn law G k slot frames p (reply.LrsnEnd at) place forward give = puts_kept G k.marks _ (kept_undrawn k.marks (owner.Slot slot) (reply.LrsnEnd at) place)
 
-pub kept_undone : BothTell → (k : bytes.Kept) (o : Owner) (at : ℕ) (p : Plan) (answer : Reply) (place : ℕ) → IsAbove k.marks.log.stable answer → is_undoing (tran_in k.marks.trans o).stage ≡ true → KeptBytes k (undone_after k o at p answer place)
+pub kept_undone : BothTell → (k : bytes.Kept) (o : Owner) (at : ℕ) (p : Plan) (answer : Reply) (place : ℕ) → IsAbove k.marks.log.stable answer → is_undoing (tran_in k.marks.trans o).stage ≡ true
+    → Adds k.marks (undone_after k o at p answer place).marks (drawn_by answer (undo_records k.marks.log (tran_of k.marks o) p))
 kept_undone law k o at p (reply.Granted version) place above undoing = kept_undrawn k.marks o (reply.Granted version) place
 kept_undone law k o at p (reply.Retained by) place above undoing = kept_undrawn k.marks o (reply.Retained by) place
 kept_undone law k o at p (reply.RecordsFull limit) place above undoing = kept_undrawn k.marks o (reply.RecordsFull limit) place
@@ -443,7 +454,8 @@ kept_undone law k o at p (reply.Drawn lrsn) place above undoing = kept_back law 
 kept_undone law k o at p (reply.Stale index) place above undoing = kept_undrawn k.marks o (reply.Stale index) place
 kept_undone law k o at p (reply.LrsnEnd end) place above undoing = kept_undrawn k.marks o (reply.LrsnEnd end) place
 
-pub kept_committed : BothTell → (s : MarksState) (slot : ℕ) (answer : Reply) (place : ℕ) → is_forward (tran_in s.trans (owner.Slot slot)).stage ≡ true → Kept s (committed_after s slot answer place)
+pub kept_committed : BothTell → (s : MarksState) (slot : ℕ) (answer : Reply) (place : ℕ) → is_forward (tran_in s.trans (owner.Slot slot)).stage ≡ true
+    → Adds s (committed_after s slot answer place) (drawn_by answer (commit_records s.log (slot_tran s slot)))
 kept_committed law s slot (reply.Granted version) place forward = kept_undrawn s (owner.Slot slot) (reply.Granted version) place
 kept_committed law s slot (reply.Retained by) place forward = kept_undrawn s (owner.Slot slot) (reply.Retained by) place
 kept_committed law s slot (reply.RecordsFull limit) place forward = kept_undrawn s (owner.Slot slot) (reply.RecordsFull limit) place
@@ -474,6 +486,6 @@ kept_committed law s slot (reply.Status status) place forward = kept_undrawn s (
 kept_committed law s slot reply.NotLost place forward = kept_undrawn s (owner.Slot slot) reply.NotLost place
 kept_committed law s slot (reply.ClaimTaken by) place forward = kept_undrawn s (owner.Slot slot) (reply.ClaimTaken by) place
 kept_committed law s slot reply.Claimed place forward = kept_undrawn s (owner.Slot slot) reply.Claimed place
-kept_committed law s slot (reply.Drawn lrsn) place forward = kept_commit law s slot lrsn forward
+kept_committed law s slot (reply.Drawn lrsn) place forward = adds_commit law s slot lrsn forward
 kept_committed law s slot (reply.Stale index) place forward = kept_undrawn s (owner.Slot slot) (reply.Stale index) place
 kept_committed law s slot (reply.LrsnEnd at) place forward = kept_undrawn s (owner.Slot slot) (reply.LrsnEnd at) place

@@ -26,6 +26,7 @@ use Rattle.log_rows.specs.Rows.{BothTell, has_changed, is_closed}
 use Rattle.member_intents.specs.declared.intent.Intent.{Intent}
 use Rattle.member_intents.specs.declared.intent.Intent.TheVariants as intent
 use Rattle.member_intents.specs.declared.outcome.Answered.{Answered}
+use Rattle.member_intents.specs.declared.outcome.Answered.TheVariants as answered
 use Rattle.member_intents.specs.declared.outcome.Sent.{Sent}
 use Rattle.member_intents.specs.declared.outcome.Sent.TheVariants as sent
 use Rattle.member_intents.specs.declared.test.Test.{Test}
@@ -44,6 +45,7 @@ use Rattle.member_needs.specs.Plans.{intent_plan}
 use Rattle.member_needs.specs.declared.needs.Setting.{Setting}
 use Rattle.member_needs.specs.declared.plans.Plan.{Plan}
 use Rattle.member_effects.specs.declared.told.Told.{Told}
+use Rattle.member_effects.specs.Puts.{event_records, reply_records}
 use Rattle.member_resources.specs.declared.prepared.Prepared.{Prepared}
 use Rattle.member_resources.specs.Events.{Calls, Drive, Happens, ReadsAs, ReadsFrame, Runs, RunsCall, Stores, World, frame_read, holder_in}
 use Rattle.member_resources.specs.Held.{Held, begun, with_spare}
@@ -52,7 +54,7 @@ use Rattle.member_resources.specs.Settled.{stored}
 use Rattle.needs_law.specs.Lawful.{Lawful, MayEnd, SendsLawfully}
 use Rattle.closing_law.specs.Closing.{ArePlain, AllStand, ChangedIn, Closes, ClosesStay, IsUnfailed, LogIs, StillCloses, TranStands, Waits}
 use Rattle.closing_law.proofs.Effects.{IsAbove}
-use Rattle.closing_law.proofs.Kept.{Kept, PutsRows, Stays, puts_kept, stays_as, stays_itself, stays_lists, stays_locks, stays_on, stays_trans}
+use Rattle.closing_law.proofs.Kept.{PutsRows, Stays, puts_adds, puts_kept, stays_as, stays_itself, stays_lists, stays_locks, stays_on, stays_trans}
 use Rattle.closing_law.proofs.Lists.{all_as, all_at, all_set}
 use Rattle.closing_law.proofs.Locals.{reach_stays}
 use Rattle.closing_law.proofs.Records.{put_there}
@@ -441,17 +443,17 @@ module _ (base : List ℕ) where
   none_more : (disk : List LogRecord) → disk ++ [] ≡ disk
   none_more disk = append-nil disk
 
-  stays_closed : (disk pend new : List LogRecord) (G : ℕ → Spot → Type 0) (drive : Drive) (s : MarksState) → ArePlain new → ((id : ℕ) (x : Spot) → has_changed new id x ≡ true → G id x) → LogIs base drive s.member disk → Closes disk (pend ++ new) s → StillCloses base disk pend G drive s
+  stays_closed : (disk pend new : List LogRecord) (G : ℕ → Spot → Type 0) (drive : Drive) (s : MarksState) → ArePlain new → ((id : ℕ) (x : Spot) → has_changed new id x ≡ true → G id x) → LogIs base drive s.member disk → Closes disk (pend ++ new) s → StillCloses base disk pend new G drive s
   stays_closed disk pend new G drive s plain rows l c = record {
     more = [];
     left = pend ++ new;
-    goes = inl (refl, record { new = new; is = refl; plain = plain; rows = rows });
+    goes = inl (refl, record { is = refl; plain = plain; rows = rows });
     log = subst (λ (z : List LogRecord). LogIs base drive s.member z) (sym (none_more disk)) l;
     closes = subst (λ (z : List LogRecord). Closes z (pend ++ new) s) (sym (none_more disk)) c;
   }
 
-  puts_closed : (disk pend : List LogRecord) (G : ℕ → Spot → Type 0) (drive : Drive) (s t : MarksState) → PutsRows G s t → LogIs base drive t.member disk → Closes disk pend s → StillCloses base disk pend G drive t
-  puts_closed disk pend G drive s t k l c = stays_closed disk pend k.new G drive t k.plain k.rows l (k.closes disk pend c)
+  puts_closed : (disk pend new : List LogRecord) (G : ℕ → Spot → Type 0) (drive : Drive) (s t : MarksState) → PutsRows G s t new → LogIs base drive t.member disk → Closes disk pend s → StillCloses base disk pend new G drive t
+  puts_closed disk pend new G drive s t k l c = stays_closed disk pend new G drive t k.plain k.rows l (k.closes disk pend c)
 
   -- what a call leaves told
   told_after : (before after : Option Contents) (c : Contents) (P : Contents → Contents → Type 0) → before ≡ Some c → Becomes before after P → (d : Contents) × (after ≡ Some d) × P c d
@@ -487,6 +489,11 @@ module _ (base : List ℕ) where
   stored_is h k i (Err disk_error.Failed) a told well e = absurd (subst (λ (z : Answered). IsUnfailed z) e.0 well)
   stored_is h k i (Err disk_error.NoMemory) a told well e = absurd e
 
+  stored_done : (h k : Held) (i : Intent) (done : Result (Unit {0}) DiskError) (a : Answered) (told : Told) → IsUnfailed a → Stores h i done a told k → a ≡ answered.Done
+  stored_done h k i (Ok x) a told well e = e.0
+  stored_done h k i (Err disk_error.Failed) a told well e = absurd (subst (λ (z : Answered). IsUnfailed z) e.0 well)
+  stored_done h k i (Err disk_error.NoMemory) a told well e = absurd e
+
   made_ok : (h k : Held) (i : Intent) (done : Result (Unit {0}) DiskError) (a : Answered) (told : Told) → IsUnfailed a → Stores h i done a told k → (P : Unit {0} → Type 0) → IfOk done P → (x : Unit {0}) × P x
   made_ok h k i (Ok x) a told well e P ok = (x, ok)
   made_ok h k i (Err disk_error.Failed) a told well e P ok = absurd (subst (λ (z : Answered). IsUnfailed z) e.0 well)
@@ -505,20 +512,24 @@ module _ (base : List ℕ) where
       by false r = (c, ap (λ (z : Drive). z.contents) r.1 ∙ told, refl)
 
   -- ---- by what is sent
-  none_closes : (disk pend : List LogRecord) (G : ℕ → Spot → Type 0) (w v : World) (h k : Held) → v.drive ≡ w.drive → PutsRows G h.marks k.marks → LogIs base w.drive h.marks.member disk → Closes disk pend h.marks → StillCloses base disk pend G v.drive k.marks
-  none_closes disk pend G w v h k drive kept l c = puts_closed disk pend G v.drive h.marks k.marks kept (same_log w.drive v.drive h.marks.member k.marks.member disk drive kept.member l) c
+  none_closes : (disk pend new : List LogRecord) (G : ℕ → Spot → Type 0) (w v : World) (h k : Held) → v.drive ≡ w.drive → PutsRows G h.marks k.marks new → LogIs base w.drive h.marks.member disk → Closes disk pend h.marks → StillCloses base disk pend new G v.drive k.marks
+  none_closes disk pend new G w v h k drive kept l c = puts_closed disk pend new G v.drive h.marks k.marks kept (same_log w.drive v.drive h.marks.member k.marks.member disk drive kept.member l) c
+
+  -- by what was answered
+  answered_closes : (disk pend : List LogRecord) (G : ℕ → Spot → Type 0) (v : World) (s t : MarksState) (i : Intent) (p : Plan) (a b : Answered) → a ≡ b → StillCloses base disk pend (event_records s i p b) G v.drive t → StillCloses base disk pend (event_records s i p a) G v.drive t
+  answered_closes disk pend G v s t i p a b e k = subst (λ (z : Answered). StillCloses base disk pend (event_records s i p z) G v.drive t) (sym e) k
 
   quiet_closes : BothTell → (disk pend : List LogRecord) (G : ℕ → Spot → Type 0) (w v : World) (h ready k : Held) (c : Setting) (i : Intent) (x : Command) (p : Plan) (place : ℕ) (a : Answered) (told : Told) → IsQuiet i → Lawful h.marks h.pages c i (sent.Command x) → Reserves i h ready
-      → Fits (begun ready place).marks i → Runs w (begun ready place) i (sent.Command x) p place a told v k → h.marks.log.stable ≤ w.facility.counter → LogIs base w.drive (begun ready place).marks.member disk → Closes disk pend (begun ready place).marks → StillCloses base disk pend G v.drive k.marks
+      → Fits (begun ready place).marks i → Runs w (begun ready place) i (sent.Command x) p place a told v k → h.marks.log.stable ≤ w.facility.counter → LogIs base w.drive (begun ready place).marks.member disk → Closes disk pend (begun ready place).marks → StillCloses base disk pend (event_records (begun ready place).marks i p a) G v.drive k.marks
   quiet_closes law disk pend G w v h ready k c i x p place a told quiet lawful reserves fits r low l closes =
-      none_closes disk pend G w v (begun ready place) k r.1
-      (puts_kept G (begun ready place).marks k.marks (command_kept law w v (begun ready place) k i x p place a told quiet fits r.0
+      answered_closes disk pend G v (begun ready place).marks k.marks i p a (answered.Reply r.0.answer) r.0.is (none_closes disk pend (reply_records (begun ready place).marks i p r.0.answer) G w v (begun ready place) k r.1
+      (puts_adds G (begun ready place).marks k.marks _ (command_kept law w v (begun ready place) k i x p place a told quiet fits r.0
       (subst (λ (z : LogBuffer). AboveFor i z.stable r.0.answer) (sym (ready_log h ready i reserves)) (above_sent h.marks h.pages c i x w.facility v.facility (begun ready place).marks.member _ _ r.0.answer lawful r.0.gives.executed.executes low))))
-      l closes
+      l closes)
 
   command_closes : BothTell → (disk pend : List LogRecord) (G : ℕ → Spot → Type 0) (w v : World) (h ready k : Held) (c : Setting) (i : Intent) (x : Command) (p : Plan) (place : ℕ) (a : Answered) (told : Told) → Lawful h.marks h.pages c i (sent.Command x) → Reserves i h ready
       → Fits (begun ready place).marks i → Runs w (begun ready place) i (sent.Command x) p place a told v k → h.marks.log.stable ≤ w.facility.counter → ((id : ℕ) (spot : Spot) → ChangedIn i p k.marks id spot → G id spot)
-      → LogIs base w.drive (begun ready place).marks.member disk → Closes disk pend (begun ready place).marks → StillCloses base disk pend G v.drive k.marks
+      → LogIs base w.drive (begun ready place).marks.member disk → Closes disk pend (begun ready place).marks → StillCloses base disk pend (event_records (begun ready place).marks i p a) G v.drive k.marks
   command_closes law disk pend G w v h ready k c intent.Step x p place a told lawful reserves fits r low give l closes = quiet_closes law disk pend G w v h ready k c intent.Step x p place a told tt lawful reserves fits r low l closes
   command_closes law disk pend G w v h ready k c (intent.Obtain o n m) x p place a told lawful reserves fits r low give l closes = quiet_closes law disk pend G w v h ready k c (intent.Obtain o n m) x p place a told tt lawful reserves fits r low l closes
   command_closes law disk pend G w v h ready k c (intent.Grant o n m) x p place a told lawful reserves fits r low give l closes = quiet_closes law disk pend G w v h ready k c (intent.Grant o n m) x p place a told tt lawful reserves fits r low l closes
@@ -543,7 +554,8 @@ module _ (base : List ℕ) where
   command_closes law disk pend G w v h ready k c (intent.WritePage at) x p place a told lawful reserves fits r low give l closes = quiet_closes law disk pend G w v h ready k c (intent.WritePage at) x p place a told tt lawful reserves fits r low l closes
   command_closes law disk pend G w v h ready k c (intent.Unregister at) x p place a told lawful reserves fits r low give l closes = quiet_closes law disk pend G w v h ready k c (intent.Unregister at) x p place a told tt lawful reserves fits r low l closes
   command_closes law disk pend G w v h ready k c (intent.Change slot action frames) x p place a told lawful reserves fits r low give l closes =
-      none_closes disk pend G w v (begun ready place) k r.1 (command_puts law G w v (begun ready place) k slot action frames x p place a told fits give r.0) l closes
+      answered_closes disk pend G v (begun ready place).marks k.marks (intent.Change slot action frames) p a (answered.Reply r.0.answer) r.0.is
+      (none_closes disk pend (reply_records (begun ready place).marks (intent.Change slot action frames) p r.0.answer) G w v (begun ready place) k r.1 (command_puts law G w v (begun ready place) k slot action frames x p place a told fits give r.0) l closes)
   command_closes law disk pend G w v h ready k c (intent.Undo o at) x p place a told lawful reserves fits r low give l closes = quiet_closes law disk pend G w v h ready k c (intent.Undo o at) x p place a told tt lawful reserves fits r low l closes
   command_closes law disk pend G w v h ready k c (intent.Commit slot) x p place a told lawful reserves fits r low give l closes = quiet_closes law disk pend G w v h ready k c (intent.Commit slot) x p place a told tt lawful reserves fits r low l closes
   command_closes law disk pend G w v h ready k c intent.Append x p place a told lawful reserves fits r low give l closes = quiet_closes law disk pend G w v h ready k c intent.Append x p place a told tt lawful reserves fits r low l closes
@@ -553,27 +565,27 @@ module _ (base : List ℕ) where
   command_closes law disk pend G w v h ready k c intent.CastoutDone x p place a told lawful reserves fits r low give l closes = quiet_closes law disk pend G w v h ready k c intent.CastoutDone x p place a told tt lawful reserves fits r low l closes
   command_closes law disk pend G w v h ready k c intent.PhaseDone x p place a told lawful reserves fits r low give l closes = quiet_closes law disk pend G w v h ready k c intent.PhaseDone x p place a told tt lawful reserves fits r low l closes
 
-  read_closes : (disk pend : List LogRecord) (G : ℕ → Spot → Type 0) (w v : World) (h k : Held) (i : Intent) (page : PageId) (a : Answered) (told : Told) → IsOther i → IsUnfailed a → RunsCall w.drive h i (sent.ReadPage page) a told v.drive k → LogIs base w.drive h.marks.member disk → Closes disk pend h.marks → StillCloses base disk pend G v.drive k.marks
-  read_closes disk pend G w v h k i page a told other well r l closes =
+  read_closes : (disk pend : List LogRecord) (G : ℕ → Spot → Type 0) (w v : World) (h k : Held) (i : Intent) (page : PageId) (p : Plan) (a : Answered) (told : Told) → IsOther i → IsUnfailed a → RunsCall w.drive h i (sent.ReadPage page) a told v.drive k → LogIs base w.drive h.marks.member disk → Closes disk pend h.marks → StillCloses base disk pend (event_records h.marks i p a) G v.drive k.marks
+  read_closes disk pend G w v h k i page p a told other well r l closes =
       let kept = puts_kept G h.marks k.marks (called_kept w.drive v.drive h k i (sent.ReadPage page) a told other r) in
-      puts_closed disk pend G v.drive h.marks k.marks kept
+      answered_closes disk pend G v h.marks k.marks i p a answered.Done (stored_done r.after k i r.done a told well r.stores) (puts_closed disk pend [] G v.drive h.marks k.marks kept
       (subst (λ (z : ℕ). LogIs base v.drive z disk) (sym kept.member) (keeps_logs w.drive v.drive h.marks.member disk l (read_logs w.drive v.drive h r.after page r.done (frame_read i) l.contents l.told (made_ok r.after k i r.done a told well r.stores) r.calls)))
-      closes
+      closes)
 
-  write_closes : (disk pend : List LogRecord) (G : ℕ → Spot → Type 0) (w v : World) (h k : Held) (i : Intent) (page : PageId) (a : Answered) (told : Told) → IsOther i → IsUnfailed a → RunsCall w.drive h i (sent.WritePage page) a told v.drive k → LogIs base w.drive h.marks.member disk → Closes disk pend h.marks → StillCloses base disk pend G v.drive k.marks
-  write_closes disk pend G w v h k i page a told other well r l closes =
+  write_closes : (disk pend : List LogRecord) (G : ℕ → Spot → Type 0) (w v : World) (h k : Held) (i : Intent) (page : PageId) (p : Plan) (a : Answered) (told : Told) → IsOther i → IsUnfailed a → RunsCall w.drive h i (sent.WritePage page) a told v.drive k → LogIs base w.drive h.marks.member disk → Closes disk pend h.marks → StillCloses base disk pend (event_records h.marks i p a) G v.drive k.marks
+  write_closes disk pend G w v h k i page p a told other well r l closes =
       let kept = puts_kept G h.marks k.marks (called_kept w.drive v.drive h k i (sent.WritePage page) a told other r) in
       let ok = made_ok r.after k i r.done a told well r.stores _ r.calls.0.ok in
       let t = told_after w.drive.contents v.drive.contents l.contents _ l.told ok.1.2 in
-      puts_closed disk pend G v.drive h.marks k.marks kept
+      answered_closes disk pend G v h.marks k.marks i p a answered.Done (stored_done r.after k i r.done a told well r.stores) (puts_closed disk pend [] G v.drive h.marks k.marks kept
       (subst (λ (z : ℕ). LogIs base v.drive z disk) (sym kept.member) (keeps_logs w.drive v.drive h.marks.member disk l (t.0, t.1, ap (λ (z : Contents). z.logs) t.2)))
-      closes
+      closes)
 
   abbrev stored_by : Held → Intent → Held
   stored_by x y = stored x y
 
-  append_closes : BothTell → (disk pend : List LogRecord) (G : ℕ → Spot → Type 0) (w v : World) (h k : Held) (i : Intent) (a : Answered) (told : Told) → i ≡ intent.Append → IsUnfailed a → RunsCall w.drive h i sent.AppendLog a told v.drive k → LogIs base w.drive h.marks.member disk → Closes disk pend h.marks → StillCloses base disk pend G v.drive k.marks
-  append_closes law disk pend G w v h k i a told is well r l closes =
+  append_closes : BothTell → (disk pend new : List LogRecord) (G : ℕ → Spot → Type 0) (w v : World) (h k : Held) (i : Intent) (a : Answered) (told : Told) → i ≡ intent.Append → IsUnfailed a → RunsCall w.drive h i sent.AppendLog a told v.drive k → LogIs base w.drive h.marks.member disk → Closes disk pend h.marks → StillCloses base disk pend new G v.drive k.marks
+  append_closes law disk pend new G w v h k i a told is well r l closes =
       let ok = made_ok r.after k i r.done a told well r.stores _ r.calls.0.ok in
       let t = told_after w.drive.contents v.drive.contents l.contents _ l.told ok.1.2 in
       let marks : k.marks ≡ after_append h.marks = ap (λ (z : Held). z.marks) (stored_is r.after k i r.done a told well r.stores) ∙ (ap (λ (z : Intent). (stored_by r.after z).marks) is ∙ ap (λ (z : Held). after_append z.marks) r.calls.1) in
@@ -587,16 +599,16 @@ module _ (base : List ℕ) where
 
   runs_close : BothTell → (disk pend : List LogRecord) (G : ℕ → Spot → Type 0) (w v : World) (h ready k : Held) (c : Setting) (i : Intent) (s : Sent) (p : Plan) (place : ℕ) (a : Answered) (told : Told) → Lawful h.marks h.pages c i s → Reserves i h ready → IsUnfailed a
       → Fits (begun ready place).marks i → Runs w (begun ready place) i s p place a told v k → h.marks.log.stable ≤ w.facility.counter → ((id : ℕ) (spot : Spot) → ChangedIn i p k.marks id spot → G id spot)
-      → LogIs base w.drive (begun ready place).marks.member disk → Closes disk pend (begun ready place).marks → StillCloses base disk pend G v.drive k.marks
+      → LogIs base w.drive (begun ready place).marks.member disk → Closes disk pend (begun ready place).marks → StillCloses base disk pend (event_records (begun ready place).marks i p a) G v.drive k.marks
   runs_close law disk pend G w v h ready k c i sent.None p place a told lawful reserves well fits r low give l closes =
-      none_closes disk pend G w v (begun ready place) k (ap (λ (z : World). z.drive) r.world) (puts_kept G (begun ready place).marks k.marks (nothing_kept (begun ready place) k i fits r.held)) l closes
+      answered_closes disk pend G v (begun ready place).marks k.marks i p a answered.None r.is (none_closes disk pend [] G w v (begun ready place) k (ap (λ (z : World). z.drive) r.world) (puts_kept G (begun ready place).marks k.marks (nothing_kept (begun ready place) k i fits r.held)) l closes)
   runs_close law disk pend G w v h ready k c i (sent.Command x) p place a told lawful reserves well fits r low give l closes = command_closes law disk pend G w v h ready k c i x p place a told lawful reserves fits r low give l closes
   runs_close law disk pend G w v h ready k c i sent.AppendLog p place a told lawful reserves well fits r low give l closes =
-      append_closes law disk pend G w v (begun ready place) k i a told (append_sent h.marks h.pages c i lawful) well r.0 l closes
+      append_closes law disk pend (event_records (begun ready place).marks i p a) G w v (begun ready place) k i a told (append_sent h.marks h.pages c i lawful) well r.0 l closes
   runs_close law disk pend G w v h ready k c i (sent.ReadPage page) p place a told lawful reserves well fits r low give l closes =
-      read_closes disk pend G w v (begun ready place) k i page a told (other_sent h.marks h.pages c i (sent.ReadPage page) (λ e. absurd cc) lawful) well r.0 l closes
+      read_closes disk pend G w v (begun ready place) k i page p a told (other_sent h.marks h.pages c i (sent.ReadPage page) (λ e. absurd cc) lawful) well r.0 l closes
   runs_close law disk pend G w v h ready k c i (sent.WritePage page) p place a told lawful reserves well fits r low give l closes =
-      write_closes disk pend G w v (begun ready place) k i page a told (other_sent h.marks h.pages c i (sent.WritePage page) (λ e. absurd cc) lawful) well r.0 l closes
+      write_closes disk pend G w v (begun ready place) k i page p a told (other_sent h.marks h.pages c i (sent.WritePage page) (λ e. absurd cc) lawful) well r.0 l closes
 
   -- ---- the whole event
   abbrev sent_in : Result Prepared Test → Result Sent Test
@@ -609,8 +621,8 @@ module _ (base : List ℕ) where
   needs_sent (Ok t) (Ok q) s p e = ap sent_in e
 
   -- local moves change neither
-  reached : (disk pend : List LogRecord) (G : ℕ → Spot → Type 0) (drive : Drive) (s t : MarksState) → Stays s t → StillCloses base disk pend G drive s → StillCloses base disk pend G drive t
-  reached disk pend G drive s t k c = record {
+  reached : (disk pend new : List LogRecord) (G : ℕ → Spot → Type 0) (drive : Drive) (s t : MarksState) → Stays s t → StillCloses base disk pend new G drive s → StillCloses base disk pend new G drive t
+  reached disk pend new G drive s t k c = record {
     more = c.more;
     left = c.left;
     goes = c.goes;
@@ -624,13 +636,13 @@ module _ (base : List ℕ) where
 
   pub stay_closed : BothTell → SendsLawfully → (disk pend : List LogRecord) (w v : World) (h k : Held) (i : Intent) (place : ℕ) (sent : Sent) (a : Answered)
       → (happens : Happens w h i place sent a v k) → IsUnfailed a → h.marks.log.stable ≤ w.facility.counter → LogIs base w.drive h.marks.member disk → Closes disk pend h.marks
-      → StillCloses base disk pend (ChangedIn i happens.plan happens.after.marks) v.drive k.marks
+      → StillCloses base disk pend (event_records (begun happens.ready place).marks i happens.plan a) (ChangedIn i happens.plan happens.after.marks) v.drive k.marks
   stay_closed law sends disk pend w v h k i place s a happens well low l closes =
       let c : Setting = setting_of h (holder_in w.facility h.cast) place in
       let lawful : Lawful h.marks h.pages c i s = sends h.marks h.pages c i s (needs_sent (need_of h.marks h.pages c i) (intent_plan h.marks h.pages h.limit i) s happens.plan happens.lawful) in
       let first : Stays h.marks (begun happens.ready place).marks = begun_closes h happens.ready i place happens.reserves in
       let fits : Fits (begun happens.ready place).marks i = fits_event happens.ready.marks place i (fits_ready h happens.ready i (fits_lawful h.marks h.pages c i s lawful) happens.reserves) in
-      reached disk pend (ChangedIn i happens.plan happens.after.marks) v.drive happens.after.marks k.marks (reach_stays happens.after.marks k.marks happens.ends.0)
+      reached disk pend (event_records (begun happens.ready place).marks i happens.plan a) (ChangedIn i happens.plan happens.after.marks) v.drive happens.after.marks k.marks (reach_stays happens.after.marks k.marks happens.ends.0)
       (runs_close law disk pend (ChangedIn i happens.plan happens.after.marks) w v h happens.ready happens.after c i s happens.plan place a happens.said lawful happens.reserves well fits happens.runs low (λ id spot given. given)
       (same_log w.drive w.drive h.marks.member (begun happens.ready place).marks.member disk refl first.member l) (first.closes disk pend closes))
 

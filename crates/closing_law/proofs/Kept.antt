@@ -14,6 +14,7 @@ use Rattle.member_pool.specs.Heads.{HeadState}
 use Rattle.member_trans.specs.Trans.{TransState}
 use Rattle.member_marks.specs.Names.{NameSet}
 use Rattle.member_marks.specs.State.{MarksState, with_heads, with_kept, with_locks, with_trans}
+use Rattle.member_effects.specs.Puts.{both_if, one_if}
 use Rattle.closing_law.specs.Closing.{AllStand, ArePlain, Closes, is_checkpoint}
 use Rattle.closing_law.proofs.Trans.{same_lists}
 
@@ -35,32 +36,56 @@ pub stays_if : (s x y : MarksState) (b : Bool) → (b ≡ true → Stays s x) �
 stays_if s x y b p q = cond_both b x y (λ z. Stays s z) p q
 
 -- ---- these records are put behind those of the buffer, and change no rows
-pub record Kept (s t : MarksState) : Type 0 where
+pub record Adds (s t : MarksState) (new : List LogRecord) : Type 0 where
   pub member : t.member ≡ s.member
-  pub new : List LogRecord
   pub plain : ArePlain new
   pub quiet : (id : ℕ) (x : Spot) → has_changed new id x ≡ false
   pub closes : (disk pend : List LogRecord) → Closes disk pend s → Closes disk (pend ++ new) t
 
+pub adds_as : (s t u : MarksState) (new : List LogRecord) → t ≡ u → Adds s u new → Adds s t new
+adds_as s t u new e k = subst (λ (z : MarksState). Adds s z new) (sym e) k
+
+pub adds_these : (s t : MarksState) (a b : List LogRecord) → a ≡ b → Adds s t a → Adds s t b
+adds_these s t a b e k = subst (λ (z : List LogRecord). Adds s t z) e k
+
+pub adds_after : (s t u : MarksState) (new : List LogRecord) → Stays s t → Adds t u new → Adds s u new
+adds_after s t u new a b = record { member = b.member ∙ a.member; plain = b.plain; quiet = b.quiet; closes = λ disk pend c. b.closes disk pend (a.closes disk pend c) }
+
+-- none is put
+abbrev pub Kept : MarksState → MarksState → Type 0
+Kept s t = Adds s t []
+
 pub kept_stays : (s t : MarksState) → Stays s t → Kept s t
-kept_stays s t k = record { member = k.member; new = []; plain = tt; quiet = λ id x. refl; closes = λ disk pend c. subst (λ (z : List LogRecord). Closes disk z t) (sym (append-nil pend)) (k.closes disk pend c) }
+kept_stays s t k = record { member = k.member; plain = tt; quiet = λ id x. refl; closes = λ disk pend c. subst (λ (z : List LogRecord). Closes disk z t) (sym (append-nil pend)) (k.closes disk pend c) }
 
 pub kept_itself : (s : MarksState) → Kept s s
 kept_itself s = kept_stays s s (stays_itself s)
 
 pub kept_as : (s t u : MarksState) → t ≡ u → Kept s u → Kept s t
-kept_as s t u e k = subst (λ z. Kept s z) (sym e) k
+kept_as s t u e k = adds_as s t u [] e k
 
 pub kept_after : (s t u : MarksState) → Stays s t → Kept t u → Kept s u
-kept_after s t u a b = record { member = b.member ∙ a.member; new = b.new; plain = b.plain; quiet = b.quiet; closes = λ disk pend c. b.closes disk pend (a.closes disk pend c) }
+kept_after s t u a b = adds_after s t u [] a b
 
 pub kept_if : (s x y : MarksState) (b : Bool) → (b ≡ true → Kept s x) → (b ≡ false → Kept s y) → Kept s (if b then x else y)
-kept_if s x y b p q = cond_both b x y (λ z. Kept s z) p q
+kept_if s x y b p q = cond_both b x y (λ (z : MarksState). Kept s z) p q
+
+-- where they are put, one, or two, or the first of the two
+pub adds_one : (s x : MarksState) (b : Bool) (r : LogRecord) → (b ≡ true → Adds s x (r ∷ [])) → Adds s (if b then x else s) (one_if b r)
+adds_one s x true r k = k refl
+adds_one s x false r k = kept_itself s
+
+pub adds_both : (s x : MarksState) (fit is_last : Bool) (r q : LogRecord) → (fit ≡ true → Adds s x (both_if true is_last r q)) → Adds s (if fit then x else s) (both_if fit is_last r q)
+adds_both s x true is_last r q k = k refl
+adds_both s x false is_last r q k = kept_itself s
+
+pub adds_may : (s x : MarksState) (may fit is_last : Bool) (r q : LogRecord) → (may ≡ true → Adds s x (both_if fit is_last r q)) → Adds s (if may then x else s) (both_if (may && fit) is_last r q)
+adds_may s x true fit is_last r q k = k refl
+adds_may s x false fit is_last r q k = kept_itself s
 
 -- ---- they may change rows, of which this holds
-pub record PutsRows (G : ℕ → Spot → Type 0) (s t : MarksState) : Type 0 where
+pub record PutsRows (G : ℕ → Spot → Type 0) (s t : MarksState) (new : List LogRecord) : Type 0 where
   pub member : t.member ≡ s.member
-  pub new : List LogRecord
   pub plain : ArePlain new
   pub rows : (id : ℕ) (x : Spot) → has_changed new id x ≡ true → G id x
   pub closes : (disk pend : List LogRecord) → Closes disk pend s → Closes disk (pend ++ new) t
@@ -68,14 +93,20 @@ pub record PutsRows (G : ℕ → Spot → Type 0) (s t : MarksState) : Type 0 wh
 both_ways : (b : Bool) → b ≡ false → b ≡ true → ⊥
 both_ways b p q = cc
 
-pub puts_kept : (G : ℕ → Spot → Type 0) (s t : MarksState) → Kept s t → PutsRows G s t
-puts_kept G s t k = record { member = k.member; new = k.new; plain = k.plain; rows = λ id x h. absurd (both_ways (has_changed k.new id x) (k.quiet id x) h); closes = k.closes }
+pub puts_adds : (G : ℕ → Spot → Type 0) (s t : MarksState) (new : List LogRecord) → Adds s t new → PutsRows G s t new
+puts_adds G s t new k = record { member = k.member; plain = k.plain; rows = λ id x h. absurd (both_ways (has_changed new id x) (k.quiet id x) h); closes = k.closes }
 
-pub puts_as : (G : ℕ → Spot → Type 0) (s t u : MarksState) → t ≡ u → PutsRows G s u → PutsRows G s t
-puts_as G s t u e k = subst (λ z. PutsRows G s z) (sym e) k
+pub puts_kept : (G : ℕ → Spot → Type 0) (s t : MarksState) → Kept s t → PutsRows G s t []
+puts_kept G s t k = puts_adds G s t [] k
 
-pub puts_after : (G : ℕ → Spot → Type 0) (s t u : MarksState) → Stays s t → PutsRows G t u → PutsRows G s u
-puts_after G s t u a b = record { member = b.member ∙ a.member; new = b.new; plain = b.plain; rows = b.rows; closes = λ disk pend c. b.closes disk pend (a.closes disk pend c) }
+pub puts_as : (G : ℕ → Spot → Type 0) (s t u : MarksState) (new : List LogRecord) → t ≡ u → PutsRows G s u new → PutsRows G s t new
+puts_as G s t u new e k = subst (λ (z : MarksState). PutsRows G s z new) (sym e) k
+
+pub puts_these : (G : ℕ → Spot → Type 0) (s t : MarksState) (a b : List LogRecord) → a ≡ b → PutsRows G s t a → PutsRows G s t b
+puts_these G s t a b e k = subst (λ (z : List LogRecord). PutsRows G s t z) e k
+
+pub puts_after : (G : ℕ → Spot → Type 0) (s t u : MarksState) (new : List LogRecord) → Stays s t → PutsRows G t u new → PutsRows G s u new
+puts_after G s t u new a b = record { member = b.member ∙ a.member; plain = b.plain; rows = b.rows; closes = λ disk pend c. b.closes disk pend (a.closes disk pend c) }
 
 -- ---- where log and transactions stay
 pub record Same (s t : MarksState) : Type 0 where
@@ -170,19 +201,17 @@ no_row r none id x = ap (λ (b : Bool). ((r.tran == id) && b) || false) (none x)
 no_rows : (r q : LogRecord) → ((x : Spot) → is_change_of x r.body ≡ false) → ((x : Spot) → is_change_of x q.body ≡ false) → (id : ℕ) (x : Spot) → has_changed (r ∷ q ∷ []) id x ≡ false
 no_rows r q none last id x = ap (λ (b : Bool). ((r.tran == id) && b) || has_changed (q ∷ []) id x) (none x) ∙ (ap (λ (b : Bool). ((r.tran == id) && false) || b) (no_row q last id x) ∙ and_none (r.tran == id))
 
-pub kept_put : (s : MarksState) (r : LogRecord) (t : TransState) → is_checkpoint r.body ≡ false → ((x : Spot) → is_change_of x r.body ≡ false) → LeavesWith s (r ∷ []) t → Kept s (record s { log = after_put s.log r; trans = t })
-kept_put s r t plain none left = record {
+pub adds_put : (s : MarksState) (r : LogRecord) (t : TransState) → is_checkpoint r.body ≡ false → ((x : Spot) → is_change_of x r.body ≡ false) → LeavesWith s (r ∷ []) t → Adds s (record s { log = after_put s.log r; trans = t }) (r ∷ [])
+adds_put s r t plain none left = record {
   member = refl;
-  new = r ∷ [];
   plain = (plain, tt);
   quiet = no_row r none;
   closes = λ disk pend c. record { spelled = one_more s.log.pending pend r c.spelled; all = left disk pend c.all };
 }
 
-pub kept_put_both : (s : MarksState) (r q : LogRecord) (t : TransState) → is_checkpoint r.body ≡ false → is_checkpoint q.body ≡ false → ((x : Spot) → is_change_of x r.body ≡ false) → ((x : Spot) → is_change_of x q.body ≡ false) → LeavesWith s (r ∷ q ∷ []) t → Kept s (record s { log = after_put (after_put s.log r) q; trans = t })
-kept_put_both s r q t plain ends none last left = record {
+pub adds_put_both : (s : MarksState) (r q : LogRecord) (t : TransState) → is_checkpoint r.body ≡ false → is_checkpoint q.body ≡ false → ((x : Spot) → is_change_of x r.body ≡ false) → ((x : Spot) → is_change_of x q.body ≡ false) → LeavesWith s (r ∷ q ∷ []) t → Adds s (record s { log = after_put (after_put s.log r) q; trans = t }) (r ∷ q ∷ [])
+adds_put_both s r q t plain ends none last left = record {
   member = refl;
-  new = r ∷ q ∷ [];
   plain = (plain, (ends, tt));
   quiet = no_rows r q none last;
   closes = λ disk pend c. record {
@@ -191,11 +220,14 @@ kept_put_both s r q t plain ends none last left = record {
   };
 }
 
-pub puts_row : (G : ℕ → Spot → Type 0) (s : MarksState) (r : LogRecord) (t : TransState) → is_checkpoint r.body ≡ false → ((id : ℕ) (x : Spot) → has_changed (r ∷ []) id x ≡ true → G id x) → LeavesWith s (r ∷ []) t → PutsRows G s (record s { log = after_put s.log r; trans = t })
+pub puts_row : (G : ℕ → Spot → Type 0) (s : MarksState) (r : LogRecord) (t : TransState) → is_checkpoint r.body ≡ false → ((id : ℕ) (x : Spot) → has_changed (r ∷ []) id x ≡ true → G id x) → LeavesWith s (r ∷ []) t → PutsRows G s (record s { log = after_put s.log r; trans = t }) (r ∷ [])
 puts_row G s r t plain rows left = record {
   member = refl;
-  new = r ∷ [];
   plain = (plain, tt);
   rows = rows;
   closes = λ disk pend c. record { spelled = one_more s.log.pending pend r c.spelled; all = left disk pend c.all };
 }
+
+pub puts_one : (G : ℕ → Spot → Type 0) (s x : MarksState) (b : Bool) (r : LogRecord) → (b ≡ true → PutsRows G s x (r ∷ [])) → PutsRows G s (if b then x else s) (one_if b r)
+puts_one G s x true r k = k refl
+puts_one G s x false r k = puts_kept G s s (kept_itself s)

@@ -20,8 +20,9 @@ use Rattle.member_trans.specs.Trans.{TransState, TranState, free_tran, tran_of a
 use Rattle.member_marks.specs.State.{MarksState, tran_of, slot_tran}
 use Rattle.member_marks.specs.Records.{fits_in, is_at_row, row_record, may_change, set_noted, sets_noted, row_noted, after_change, after_system, back_noted, back_record, ended_record, both_fit, after_back, may_back, undone_as, after_undo, commit_record, may_commit, after_commit}
 use Rattle.member_effects.specs.Changes.{system_record}
+use Rattle.member_effects.specs.Puts.{back_records, both_if, commit_records, one_if}
 use Rattle.closing_law.specs.Closing.{AllStand, HasEnd, TranStands, Waits, is_checkpoint}
-use Rattle.closing_law.proofs.Kept.{Kept, PutsRows, kept_if, kept_itself, kept_put, kept_put_both, puts_kept, puts_row}
+use Rattle.closing_law.proofs.Kept.{Adds, PutsRows, adds_both, adds_may, adds_one, adds_put, adds_put_both, kept_itself, puts_one, puts_row}
 use Rattle.closing_law.proofs.Lists.{all_push}
 use Rattle.closing_law.proofs.Trans.{all_more, closed_last, forward_only, owner_stands, same_lists, set_like, set_owner, set_sets, set_slot, stands_more, undoing_only}
 
@@ -30,10 +31,9 @@ sets_stand : (disk pend : List LogRecord) (stable : ℕ) (t : TransState) (slot 
 sets_stand disk pend stable t slot [] h = h
 sets_stand disk pend stable t slot (p ∷ ps) h = sets_stand disk pend stable (set_noted t slot p.page.set) slot ps (set_sets disk pend stable t (owner.Slot slot) p.page.set h)
 
-pub kept_system : BothTell → (s : MarksState) (slot : ℕ) (ps : List Patch) (lrsn : ℕ) → Kept s (after_system s slot (system_record ps lrsn))
-kept_system law s slot ps lrsn = kept_if s _ _ (fits_in s.log (system_record ps lrsn))
-    (λ e. kept_put s (system_record ps lrsn) (sets_noted s.trans slot ps) refl (λ x. refl) (λ disk pend h. sets_stand disk (pend ++ system_record ps lrsn ∷ []) s.log.stable s.trans slot ps (all_more law disk pend (system_record ps lrsn ∷ []) s.log.stable s.trans h)))
-    (λ e. kept_itself s)
+pub adds_system : BothTell → (s : MarksState) (slot : ℕ) (ps : List Patch) (lrsn : ℕ) → Adds s (after_system s slot (system_record ps lrsn)) (one_if (fits_in s.log (system_record ps lrsn)) (system_record ps lrsn))
+adds_system law s slot ps lrsn = adds_one s _ (fits_in s.log (system_record ps lrsn)) (system_record ps lrsn)
+    (λ e. adds_put s (system_record ps lrsn) (sets_noted s.trans slot ps) refl (λ x. refl) (λ disk pend h. sets_stand disk (pend ++ system_record ps lrsn ∷ []) s.log.stable s.trans slot ps (all_more law disk pend (system_record ps lrsn ∷ []) s.log.stable s.trans h)))
 
 -- the slot's transaction is the one that was put there
 pub put_there : (ts : List TranState) (slot : ℕ) (x : TranState) → is_forward (slice_index_or ts slot free_tran).stage ≡ true → slice_index_or (slice_set ts slot x) slot free_tran ≡ x
@@ -77,9 +77,9 @@ record_row G t lrsn c given id x h =
         subst (λ (z : Spot). G id z) row (subst (λ (z : ℕ). G z (c.table, c.key)) (eqb-true (first_with t.first lrsn) id p.0) given)
     by (inr e) = absurd (never e)
 
-pub kept_change : BothTell → (G : ℕ → Spot → Type 0) (s : MarksState) (slot lrsn : ℕ) (c : RowChange) → is_forward (slot_tran s slot).stage ≡ true → (may_change s slot lrsn c ≡ true → G (first_with (slot_tran s slot).first lrsn) (c.table, c.key))
-    → PutsRows G s (after_change s slot lrsn c)
-kept_change law G s slot lrsn c forward give = cond_both (may_change s slot lrsn c) (record s { log = after_put s.log (row_record (slot_tran s slot) lrsn c); trans = row_noted s.trans slot lrsn c }) s (λ z. PutsRows G s z)
+pub puts_change : BothTell → (G : ℕ → Spot → Type 0) (s : MarksState) (slot lrsn : ℕ) (c : RowChange) → is_forward (slot_tran s slot).stage ≡ true → (may_change s slot lrsn c ≡ true → G (first_with (slot_tran s slot).first lrsn) (c.table, c.key))
+    → PutsRows G s (after_change s slot lrsn c) (one_if (may_change s slot lrsn c) (row_record (slot_tran s slot) lrsn c))
+puts_change law G s slot lrsn c forward give = puts_one G s (record s { log = after_put s.log (row_record (slot_tran s slot) lrsn c); trans = row_noted s.trans slot lrsn c }) (may_change s slot lrsn c) (row_record (slot_tran s slot) lrsn c)
     (λ e. puts_row G s (row_record (slot_tran s slot) lrsn c) (row_noted s.trans slot lrsn c) refl (record_row G (slot_tran s slot) lrsn c (give e)) (λ disk pend h.
     let all = all_more law disk pend (row_record (slot_tran s slot) lrsn c ∷ []) s.log.stable s.trans h in
     let next : List LogRecord = pend ++ row_record (slot_tran s slot) lrsn c ∷ [] in
@@ -87,7 +87,6 @@ kept_change law G s slot lrsn c forward give = cond_both (may_change s slot lrsn
     (set_slot disk next s.log.stable s.trans slot (changed (tran_at s.trans slot) lrsn c) all
     (change_stands disk next s.log.stable (tran_at s.trans slot) lrsn c forward (owner_stands disk next s.log.stable s.trans (owner.Slot slot) all))
     (change_waits next (tran_at s.trans slot) (changed (tran_at s.trans slot) lrsn c) forward))))
-    (λ e. puts_kept G s s (kept_itself s))
 
 -- the slot's transaction has the name that the record says
 room_first : (t : TranState) (lrsn : ℕ) (c : RowChange) → t.has_room ≡ true → (changed t lrsn c).first ≡ first_with t.first lrsn
@@ -176,20 +175,20 @@ noted_back law s o lrsn set q undoing new disk pend h =
     set_sets disk (pend ++ q) s.log.stable mid o set
     (set_owner disk (pend ++ q) s.log.stable s.trans o (with_undone (tran_of s o) lrsn) all (new disk pend (owner_stands disk pend s.log.stable s.trans o h)) (back_waits (pend ++ q) (tran_of s o) (with_undone (tran_of s o) lrsn) undoing))
 
-kept_back : BothTell → (s : MarksState) (o : Owner) (lrsn set : ℕ) (r q : LogRecord) → is_checkpoint r.body ≡ false → is_checkpoint q.body ≡ false → ((x : Spot) → is_change_of x r.body ≡ false) → ((x : Spot) → is_change_of x q.body ≡ false) → q.tran ≡ (tran_of s o).first → is_end q.body ≡ true → s.log.stable < lrsn → is_undoing (tran_of s o).stage ≡ true → Kept s (after_back s o lrsn set r q)
-kept_back law s o lrsn set r q plain ends none last is closes above undoing = kept_if s _ _ (both_fit s.log r q) (λ e. by (length (tran_of s o).changes == 1) refl) (λ e. kept_itself s)
+adds_back : BothTell → (s : MarksState) (o : Owner) (lrsn set : ℕ) (r q : LogRecord) → is_checkpoint r.body ≡ false → is_checkpoint q.body ≡ false → ((x : Spot) → is_change_of x r.body ≡ false) → ((x : Spot) → is_change_of x q.body ≡ false) → q.tran ≡ (tran_of s o).first → is_end q.body ≡ true → s.log.stable < lrsn → is_undoing (tran_of s o).stage ≡ true → Adds s (after_back s o lrsn set r q) (both_if (both_fit s.log r q) (length (tran_of s o).changes == 1) r q)
+adds_back law s o lrsn set r q plain ends none last is closes above undoing = adds_both s _ (both_fit s.log r q) (length (tran_of s o).changes == 1) r q (λ e. by (length (tran_of s o).changes == 1) refl)
   where
-    by : (b : Bool) → (length (tran_of s o).changes == 1) ≡ b → Kept s (record s { log = if b then after_put (after_put s.log r) q else after_put s.log r; trans = back_noted s.trans o (tran_of s o) lrsn set })
-    by true one = kept_put_both s r q (back_noted s.trans o (tran_of s o) lrsn set) plain ends none last (noted_back law s o lrsn set (r ∷ q ∷ []) undoing (λ disk pend h. back_last law disk pend s.log.stable (tran_of s o) lrsn r q one is closes above undoing h))
-    by false more = kept_put s r (back_noted s.trans o (tran_of s o) lrsn set) plain none (noted_back law s o lrsn set (r ∷ []) undoing (λ disk pend h. back_first law disk pend s.log.stable (tran_of s o) lrsn r more undoing h))
+    by : (b : Bool) → (length (tran_of s o).changes == 1) ≡ b → Adds s (record s { log = if b then after_put (after_put s.log r) q else after_put s.log r; trans = back_noted s.trans o (tran_of s o) lrsn set }) (both_if true b r q)
+    by true one = adds_put_both s r q (back_noted s.trans o (tran_of s o) lrsn set) plain ends none last (noted_back law s o lrsn set (r ∷ q ∷ []) undoing (λ disk pend h. back_last law disk pend s.log.stable (tran_of s o) lrsn r q one is closes above undoing h))
+    by false more = adds_put s r (back_noted s.trans o (tran_of s o) lrsn set) plain none (noted_back law s o lrsn set (r ∷ []) undoing (λ disk pend h. back_first law disk pend s.log.stable (tran_of s o) lrsn r more undoing h))
 
-kept_undone : BothTell → (s : MarksState) (o : Owner) (lrsn : ℕ) (x : Option Change) → s.log.stable < lrsn → is_undoing (tran_of s o).stage ≡ true → Kept s (undone_as s o lrsn x)
-kept_undone law s o lrsn None above undoing = kept_itself s
-kept_undone law s o lrsn (Some it) above undoing = kept_if s _ _ (may_back (tran_of s o) it)
-    (λ e. kept_back law s o lrsn (heap_set it.change.table) (back_record (tran_of s o) lrsn it) (ended_record (tran_of s o) lrsn) refl refl (λ x. refl) (λ x. refl) refl refl above undoing) (λ e. kept_itself s)
+adds_undone : BothTell → (s : MarksState) (o : Owner) (lrsn : ℕ) (x : Option Change) → s.log.stable < lrsn → is_undoing (tran_of s o).stage ≡ true → Adds s (undone_as s o lrsn x) (back_records s.log (tran_of s o) lrsn x)
+adds_undone law s o lrsn None above undoing = kept_itself s
+adds_undone law s o lrsn (Some it) above undoing = adds_may s _ (may_back (tran_of s o) it) (both_fit s.log (back_record (tran_of s o) lrsn it) (ended_record (tran_of s o) lrsn)) (length (tran_of s o).changes == 1) (back_record (tran_of s o) lrsn it) (ended_record (tran_of s o) lrsn)
+    (λ e. adds_back law s o lrsn (heap_set it.change.table) (back_record (tran_of s o) lrsn it) (ended_record (tran_of s o) lrsn) refl refl (λ x. refl) (λ x. refl) refl refl above undoing)
 
-pub kept_undo : BothTell → (s : MarksState) (o : Owner) (lrsn : ℕ) → s.log.stable < lrsn → is_undoing (tran_of s o).stage ≡ true → Kept s (after_undo s o lrsn)
-kept_undo law s o lrsn above undoing = kept_undone law s o lrsn (newest_of (tran_of s o)) above undoing
+pub adds_undo : BothTell → (s : MarksState) (o : Owner) (lrsn : ℕ) → s.log.stable < lrsn → is_undoing (tran_of s o).stage ≡ true → Adds s (after_undo s o lrsn) (back_records s.log (tran_of s o) lrsn (newest_of (tran_of s o)))
+adds_undo law s o lrsn above undoing = adds_undone law s o lrsn (newest_of (tran_of s o)) above undoing
 
 -- ---- a commit
 abbrev drawn_now : TransState → ℕ → TransState
@@ -221,8 +220,7 @@ draw_stands law s slot lrsn disk pend forward h =
     (set_slot disk (pend ++ r) s.log.stable s.trans slot (drawn t) (all_more law disk pend r s.log.stable s.trans h) (drawn_stands disk (pend ++ r) s.log.stable t) (change_waits (pend ++ r) t (drawn t) forward))
     (subst (λ (z : TranState). Waits (pend ++ r) z) (sym (put_there s.trans.slots slot (drawn t) forward)) (record { drawn = refl; closed = λ n. closed_last law pend r t.first (commit_closes t lrsn n) }))
 
-pub kept_commit : BothTell → (s : MarksState) (slot lrsn : ℕ) → is_forward (slot_tran s slot).stage ≡ true → Kept s (after_commit s slot lrsn)
-kept_commit law s slot lrsn forward = kept_if s _ _ (may_commit s slot lrsn)
-    (λ e. kept_put s (commit_record (slot_tran s slot) lrsn) (after_draw s.trans slot) refl (λ x. refl) (λ disk pend h.
+pub adds_commit : BothTell → (s : MarksState) (slot lrsn : ℕ) → is_forward (slot_tran s slot).stage ≡ true → Adds s (after_commit s slot lrsn) (commit_records s.log (slot_tran s slot) lrsn)
+adds_commit law s slot lrsn forward = adds_one s _ (may_commit s slot lrsn) (commit_record (slot_tran s slot) lrsn)
+    (λ e. adds_put s (commit_record (slot_tran s slot) lrsn) (after_draw s.trans slot) refl (λ x. refl) (λ disk pend h.
     subst (λ (b : Bool). AllStand disk (pend ++ commit_record (slot_tran s slot) lrsn ∷ []) s.log.stable (if b then drawn_now s.trans slot else s.trans)) (sym forward) (draw_stands law s slot lrsn disk pend forward h)))
-    (λ e. kept_itself s)

@@ -37,8 +37,9 @@ use Rattle.ds_model.specs.Rows.{Spot}
 use Rattle.page_plans.specs.declared.action.Action.{Action}
 use Rattle.member_intents.specs.declared.intent.Frames.{Frames}
 use Rattle.member_effects.specs.Changes.{drawn_after}
+use Rattle.member_effects.specs.Puts.{reply_records}
 use Rattle.closing_law.specs.Closing.{ChangedIn}
-use Rattle.closing_law.proofs.Kept.{Kept, PutsRows, kept_as, kept_itself, puts_as}
+use Rattle.closing_law.proofs.Kept.{Adds, Kept, PutsRows, adds_as, kept_as, kept_itself, puts_as}
 
 -- ---- what an intent asks of the stage of its transaction
 abbrev pub Fits : MarksState → Intent → Type 0
@@ -181,7 +182,7 @@ cast_kept h page (reply.Drawn lrsn) = kept_itself h.marks
 cast_kept h page (reply.Stale index) = kept_itself h.marks
 cast_kept h page (reply.LrsnEnd at) = kept_itself h.marks
 
-settles_kept : BothTell → (h k : Held) (i : Intent) (p : Plan) (answer : Reply) (cells : List Cell) (place : ℕ) → IsQuiet i → Fits h.marks i → AboveFor i h.marks.log.stable answer → Settles h i p answer cells place k → Kept h.marks k.marks
+settles_kept : BothTell → (h k : Held) (i : Intent) (p : Plan) (answer : Reply) (cells : List Cell) (place : ℕ) → IsQuiet i → Fits h.marks i → AboveFor i h.marks.log.stable answer → Settles h i p answer cells place k → Adds h.marks k.marks (reply_records h.marks i p answer)
 settles_kept law h k intent.Step p answer cells place quiet fits above e = kept_as h.marks k.marks (settled h intent.Step p answer cells place).marks (ap (λ (z : Held). z.marks) e) (kept_itself h.marks)
 settles_kept law h k (intent.Obtain o n m) p answer cells place quiet fits above e = kept_claimed h.marks k.marks o n m answer place e.0
 settles_kept law h k (intent.Grant o n m) p answer cells place quiet fits above e = kept_claimed h.marks k.marks o n m answer place e.0
@@ -206,8 +207,8 @@ settles_kept law h k (intent.Test at slot gives) p answer cells place quiet fits
 settles_kept law h k (intent.WritePage at) p answer cells place quiet fits above e = kept_as h.marks k.marks (settled h (intent.WritePage at) p answer cells place).marks (ap (λ (z : Held). z.marks) e) (kept_written h.marks at answer)
 settles_kept law h k (intent.Unregister at) p answer cells place quiet fits above e = kept_as h.marks k.marks (settled h (intent.Unregister at) p answer cells place).marks (ap (λ (z : Held). z.marks) e) (kept_unregistered h.marks at answer)
 settles_kept law h k (intent.Change slot action frames) p answer cells place quiet fits above e = absurd quiet
-settles_kept law h k (intent.Undo o at) p answer cells place quiet fits above e = kept_as h.marks k.marks (settled h (intent.Undo o at) p answer cells place).marks (ap (λ (z : Held). z.marks) e) (kept_undone law (kept_of h) o at p answer place above fits)
-settles_kept law h k (intent.Commit slot) p answer cells place quiet fits above e = kept_as h.marks k.marks (settled h (intent.Commit slot) p answer cells place).marks (ap (λ (z : Held). z.marks) e) (kept_committed law h.marks slot answer place fits)
+settles_kept law h k (intent.Undo o at) p answer cells place quiet fits above e = adds_as h.marks k.marks (settled h (intent.Undo o at) p answer cells place).marks (reply_records h.marks (intent.Undo o at) p answer) (ap (λ (z : Held). z.marks) e) (kept_undone law (kept_of h) o at p answer place above fits)
+settles_kept law h k (intent.Commit slot) p answer cells place quiet fits above e = adds_as h.marks k.marks (settled h (intent.Commit slot) p answer cells place).marks (reply_records h.marks (intent.Commit slot) p answer) (ap (λ (z : Held). z.marks) e) (kept_committed law h.marks slot answer place fits)
 settles_kept law h k intent.Append p answer cells place quiet fits above e = kept_as h.marks k.marks (settled h intent.Append p answer cells place).marks (ap (λ (z : Held). z.marks) e) (kept_itself h.marks)
 settles_kept law h k (intent.NextChanged past) p answer cells place quiet fits above e = kept_as h.marks k.marks (settled h (intent.NextChanged past) p answer cells place).marks (ap (λ (z : Held). z.marks) e) (kept_itself h.marks)
 settles_kept law h k (intent.CastoutRead page) p answer cells place quiet fits above e = kept_as h.marks k.marks (settled h (intent.CastoutRead page) p answer cells place).marks (ap (λ (z : Held). z.marks) e) (cast_kept h page answer)
@@ -216,9 +217,10 @@ settles_kept law h k intent.CastoutDone p answer cells place quiet fits above e 
 settles_kept law h k intent.PhaseDone p answer cells place quiet fits above e = kept_as h.marks k.marks (settled h intent.PhaseDone p answer cells place).marks (ap (λ (z : Held). z.marks) e) (kept_itself h.marks)
 
 -- whatever was looked for
-settled_kept : BothTell → (h k : Held) (i : Intent) (p : Plan) (waits : List Wait) (answer : Reply) (cells : List Cell) (place : ℕ) (told : Told) (o : Option ℕ) → IsQuiet i → Fits h.marks i → AboveFor i h.marks.log.stable answer → SettlesAs o h i p waits cells answer place told k → Kept h.marks k.marks
-settled_kept law h k i p waits answer cells place told None quiet fits above e = settles_kept law h k i p answer cells place quiet fits above e.1
-settled_kept law h k i p waits answer cells place told (Some slots) quiet fits above e = kept_cycle h.marks k.marks waits slots place told e.0
+settled_kept : BothTell → (h k : Held) (i : Intent) (p : Plan) (waits : List Wait) (answer : Reply) (cells : List Cell) (place : ℕ) (told : Told) → IsQuiet i → Fits h.marks i → AboveFor i h.marks.log.stable answer → SettlesAs (waits_in i) h i p waits cells answer place told k
+    → Adds h.marks k.marks (reply_records h.marks i p answer)
+settled_kept law h k (intent.Waits slots) p waits answer cells place told quiet fits above e = kept_cycle h.marks k.marks waits slots place told e.0
+settled_kept law h k i p waits answer cells place told quiet fits above e = settles_kept law h k i p answer cells place quiet fits above e.1
 
 -- ---- the bytes that a command is lent
 lent_kept : (h k : Held) (l : Lent) (page : List ℕ) → k ≡ with_bytes h l page → k.marks ≡ h.marks
@@ -360,19 +362,20 @@ pub nothing_kept : (h k : Held) (i : Intent) → Fits h.marks i → k ≡ unsent
 nothing_kept h k i fits e = kept_as h.marks k.marks (unsent h i).marks (ap (λ (z : Held). z.marks) e) (unsent_kept h i fits)
 
 -- a command of an intent that changes no row, where the number that it may draw is above the last one on disk
-pub command_kept : BothTell → (w v : World) (h k : Held) (i : Intent) (c : Command) (p : Plan) (place : ℕ) (a : Answered) (told : Told) → IsQuiet i → Fits h.marks i → (r : RunsCommand w.facility h i c p place a told v.facility k) → AboveFor i h.marks.log.stable r.answer → Kept h.marks k.marks
+pub command_kept : BothTell → (w v : World) (h k : Held) (i : Intent) (c : Command) (p : Plan) (place : ℕ) (a : Answered) (told : Told) → IsQuiet i → Fits h.marks i → (r : RunsCommand w.facility h i c p place a told v.facility k) → AboveFor i h.marks.log.stable r.answer → Adds h.marks k.marks (reply_records h.marks i p r.answer)
 command_kept law w v h k i c p place a told quiet fits r above =
     let same = lent_kept h r.after (lent_of h c) _ r.gives.executed.back in
-    from_marks h r.after k same
-    (settled_kept law r.after k i p v.facility.lists.waits r.answer (cells_for v.facility.lists.cells r.after.marks.member c) place told (waits_in i) quiet
+    subst (λ (z : MarksState). Adds z k.marks (reply_records z i p r.answer)) same
+    (settled_kept law r.after k i p v.facility.lists.waits r.answer (cells_for v.facility.lists.cells r.after.marks.member c) place told quiet
     (subst (λ (z : MarksState). Fits z i) (sym same) fits) (subst (λ (z : MarksState). AboveFor i z.log.stable r.answer) (sym same) above) r.settles)
 
 -- and that of one which changes pages
 change_puts : BothTell → (G : ℕ → Spot → Type 0) (h k : Held) (slot : ℕ) (action : Action) (frames : Frames) (p : Plan) (answer : Reply) (cells : List Cell) (place : ℕ) → is_forward (tran_in h.marks.trans (owner.Slot slot)).stage ≡ true
-    → ((id : ℕ) (x : Spot) → ChangedIn (intent.Change slot action frames) p k.marks id x → G id x) → Settles h (intent.Change slot action frames) p answer cells place k → PutsRows G h.marks k.marks
+    → ((id : ℕ) (x : Spot) → ChangedIn (intent.Change slot action frames) p k.marks id x → G id x) → Settles h (intent.Change slot action frames) p answer cells place k
+    → PutsRows G h.marks k.marks (reply_records h.marks (intent.Change slot action frames) p answer)
 change_puts law G h k slot action frames p answer cells place forward give e =
     let marks : k.marks ≡ (drawn_after (kept_of h) slot frames p answer place).marks = ap (λ (z : Held). z.marks) e in
-    puts_as G h.marks k.marks (drawn_after (kept_of h) slot frames p answer place).marks marks
+    puts_as G h.marks k.marks (drawn_after (kept_of h) slot frames p answer place).marks (reply_records h.marks (intent.Change slot action frames) p answer) marks
     (kept_drawn law G (kept_of h) slot frames p answer place forward (λ id x g. give id x (record {
       slot = slot;
       action = action;
@@ -385,8 +388,9 @@ change_puts law G h k slot action frames p answer cells place forward give e =
     })))
 
 pub command_puts : BothTell → (G : ℕ → Spot → Type 0) (w v : World) (h k : Held) (slot : ℕ) (action : Action) (frames : Frames) (c : Command) (p : Plan) (place : ℕ) (a : Answered) (told : Told) → is_forward (tran_in h.marks.trans (owner.Slot slot)).stage ≡ true
-    → ((id : ℕ) (x : Spot) → ChangedIn (intent.Change slot action frames) p k.marks id x → G id x) → RunsCommand w.facility h (intent.Change slot action frames) c p place a told v.facility k → PutsRows G h.marks k.marks
+    → ((id : ℕ) (x : Spot) → ChangedIn (intent.Change slot action frames) p k.marks id x → G id x) → (r : RunsCommand w.facility h (intent.Change slot action frames) c p place a told v.facility k)
+    → PutsRows G h.marks k.marks (reply_records h.marks (intent.Change slot action frames) p r.answer)
 command_puts law G w v h k slot action frames c p place a told forward give r =
     let same = lent_kept h r.after (lent_of h c) _ r.gives.executed.back in
-    subst (λ z. PutsRows G z k.marks) same
+    subst (λ (z : MarksState). PutsRows G z k.marks (reply_records z (intent.Change slot action frames) p r.answer)) same
     (change_puts law G r.after k slot action frames p r.answer (cells_for v.facility.lists.cells r.after.marks.member c) place (subst (λ (z : MarksState). is_forward (tran_in z.trans (owner.Slot slot)).stage ≡ true) (sym same) forward) give r.settles.1)

@@ -23,8 +23,9 @@ use Rattle.member_marks.specs.Local.{Reaches}
 use Rattle.member_marks.specs.State.{MarksState, slot_tran, tran_of}
 use Rattle.member_needs.specs.declared.plans.Plan.{Plan}
 use Rattle.member_needs.specs.declared.plans.Plan.TheVariants as plan
+use Rattle.member_effects.specs.Puts.{event_records}
 use Rattle.member_resources.specs.Events.{Drive, Happens, World}
-use Rattle.member_resources.specs.Held.{Held, IsNew}
+use Rattle.member_resources.specs.Held.{Held, IsNew, begun}
 
 -- ---- one transaction, where these records are on disk, those in the log buffer, and this is the last number on disk
 
@@ -97,18 +98,17 @@ is_checkpoint body.RestartEnd = false
 abbrev pub ArePlain : List LogRecord → Type 0
 ArePlain records = AllByRecursion (λ (r : LogRecord). is_checkpoint r.body ≡ false) records
 
--- these records were put behind those of the buffer, maybe none
-pub record Puts (pend left : List LogRecord) (Changes : ℕ → Spot → Type 0) : Type 0 where
-  pub new : List LogRecord
+-- these new records were put behind those of the buffer, maybe none
+pub record Puts (pend new left : List LogRecord) (Changes : ℕ → Spot → Type 0) : Type 0 where
   pub is : left ≡ pend ++ new
   pub plain : ArePlain new
   pub rows : (id : ℕ) (spot : Spot) → has_changed new id spot ≡ true → Changes id spot
 
--- So it is of what an event leaves: records were put behind those of the buffer, or those of the buffer are on disk now.
-pub record StillCloses (base : List ℕ) (disk pend : List LogRecord) (Changes : ℕ → Spot → Type 0) (drive : Drive) (s : MarksState) : Type 0 where
+-- So it is of what an event leaves that puts these new records: they stand behind those of the buffer, or those of the buffer are on disk now.
+pub record StillCloses (base : List ℕ) (disk pend new : List LogRecord) (Changes : ℕ → Spot → Type 0) (drive : Drive) (s : MarksState) : Type 0 where
   pub more : List LogRecord
   pub left : List LogRecord
-  pub goes : ((more ≡ []) × Puts pend left Changes) ⊎ ((more ≡ pend) × (left ≡ []))
+  pub goes : ((more ≡ []) × Puts pend new left Changes) ⊎ ((more ≡ pend) × (left ≡ []))
   pub log : LogIs base drive s.member (disk ++ more)
   pub closes : Closes (disk ++ more) left s
 
@@ -122,7 +122,7 @@ IsUnfailed answered.Failed = ⊥
 abbrev pub ClosesStay : Type 0
 ClosesStay = (base : List ℕ) (disk pend : List LogRecord) (w v : World) (h k : Held) (i : Intent) (place : ℕ) (sent : Sent) (a : Answered)
     → (happens : Happens w h i place sent a v k) → IsUnfailed a → h.marks.log.stable ≤ w.facility.counter → LogIs base w.drive h.marks.member disk → Closes disk pend h.marks
-    → StillCloses base disk pend (ChangedIn i happens.plan happens.after.marks) v.drive k.marks
+    → StillCloses base disk pend (event_records (begun happens.ready place).marks i happens.plan a) (ChangedIn i happens.plan happens.after.marks) v.drive k.marks
 
 -- ---- an owner whose transaction is over, and has changed a row, is closed on disk
 

@@ -17,9 +17,10 @@ use Rattle.member_marks.specs.State.{MarksState}
 use Rattle.member_intents.specs.declared.intent.Intent.{Intent}
 use Rattle.member_intents.specs.declared.outcome.Answered.{Answered}
 use Rattle.member_intents.specs.declared.outcome.Sent.{Sent}
+use Rattle.member_effects.specs.Puts.{event_records}
 use Rattle.member_resources.specs.Events.{Drive, Happens, World}
 use Rattle.member_resources.specs.Held.{Held, IsNew, begun}
-use Rattle.put_records.specs.Puts.{event_records, is_append, is_done}
+use Rattle.put_records.specs.Puts.{is_append, is_done}
 use Rattle.strict_locking.specs.Rows.{HasLocked}
 use Rattle.closing_law.specs.Closing.{ArePlain, IsUnfailed}
 use Rattle.row_claims.specs.Rows.{AllClosed, RowsLocked}
@@ -54,7 +55,7 @@ LockedBegins = (log : List ℕ) (member : ℕ) (sizes : Sizes) (h : Held)
 abbrev pub LockedReaches : Type 0
 LockedReaches = (log : List ℕ) (pend : List LogRecord) (s t : MarksState) → Reaches s t → LogLocked log pend s → LogLocked log pend t
 
--- ---- and behind events that put no record, or append those that wait
+-- ---- and behind events
 
 -- the disk tells these bytes as the log of the member
 pub record TellsLog (log : List ℕ) (drive : Drive) (member : ℕ) : Type 0 where
@@ -68,15 +69,16 @@ abbrev pub log_after : Bool → List ℕ → List LogRecord → List ℕ
 log_after true log pend = log ++ log_bytes pend
 log_after false log pend = log
 
-abbrev pub pend_after : Bool → List LogRecord → List LogRecord
-pend_after true pend = []
-pend_after false pend = pend
+-- and else the new records stand behind them
+abbrev pub pend_after : Bool → List LogRecord → List LogRecord → List LogRecord
+pend_after true pend new = []
+pend_after false pend new = pend ++ new
 
-pub record LogStays (appends : Bool) (log : List ℕ) (pend : List LogRecord) (drive : Drive) (s : MarksState) : Type 0 where
+pub record LogStays (appends : Bool) (log : List ℕ) (pend new : List LogRecord) (drive : Drive) (s : MarksState) : Type 0 where
   pub tells : TellsLog (log_after appends log pend) drive s.member
-  pub locked : LogLocked (log_after appends log pend) (pend_after appends pend) s
+  pub locked : LogLocked (log_after appends log pend) (pend_after appends pend new) s
 
 abbrev pub LockedStay : Type 0
 LockedStay = (log : List ℕ) (pend : List LogRecord) (w v : World) (h k : Held) (i : Intent) (place : ℕ) (sent : Sent) (a : Answered)
     → (happens : Happens w h i place sent a v k) → IsUnfailed a → h.marks.log.stable ≤ w.facility.counter → TellsLog log w.drive h.marks.member
-    → event_records (begun happens.ready place).marks i happens.plan a ≡ [] → LogLocked log pend h.marks → LogStays (is_done a && is_append i) log pend v.drive k.marks
+    → LogLocked log pend h.marks → LogStays (is_done a && is_append i) log pend (event_records (begun happens.ready place).marks i happens.plan a) v.drive k.marks

@@ -21,7 +21,8 @@ pub fn left_is_locked()
 }
 
 /// The rows of its log are locked so for a member that begins over a log which closes all of which it has changed rows; behind local moves; and
-/// behind each event that puts no record, over a disk that tells what it holds: also one that appends those that wait.
+/// behind each event whose call of the disk doesn't fail, over a disk that tells what it holds: one that puts records too, and one that appends
+/// those that wait.
 pub fn logs_stay_locked()
     ensures begin { LockedBegins }
     ensures local { LockedReaches }

@@ -46,7 +46,7 @@ whole_again log new whole allowed = record {
 }
 
 -- ---- what stops inside
-torn_short : FrontIsCut → NothingIsShort → (t : List ℕ) → IsTorn t → record_in t ≡ Err NotWhole
+pub torn_short : FrontIsCut → NothingIsShort → (t : List ℕ) → IsTorn t → record_in t ≡ Err NotWhole
 torn_short cut none t (inl e) = ap record_in e ∙ none
 torn_short cut none t (inr (r, allowed, n, less, e)) = ap record_in e ∙ cut r n allowed less
 
@@ -99,13 +99,13 @@ abbrev first_in : LogRecord → Result (LogRecord × ℕ) RecordFault → LogRec
 first_in other (Ok x) = x.0
 first_in other (Err fault) = other
 
-same_first : (x : Result (LogRecord × ℕ) RecordFault) (r q : LogRecord) (n m : ℕ) → x ≡ Ok (r, n) → x ≡ Ok (q, m) → r ≡ q
+pub same_first : (x : Result (LogRecord × ℕ) RecordFault) (r q : LogRecord) (n m : ℕ) → x ≡ Ok (r, n) → x ≡ Ok (q, m) → r ≡ q
 same_first x r q n m e f = ap (λ (z : Result (LogRecord × ℕ) RecordFault). first_in r z) (sym e ∙ f)
 
 never_both : (x : LogRecord × ℕ) → Ok x ≡ Err NotWhole → ⊥
 never_both x e = cc
 
--- where whole records and a rest spell what other whole records and a torn one do, these begin with those, and the rest has what is left
+-- where whole records and a rest spell what other whole records and what is none do, these begin with those, and the rest has what is left
 pub record Behind (records first : List LogRecord) (tail left : List ℕ) : Type 0 where
   pub behind : List LogRecord
   pub split : records ≡ first ++ behind
@@ -113,20 +113,20 @@ pub record Behind (records first : List LogRecord) (tail left : List ℕ) : Type
 
 module _ (again : ReadAgain) (cut : FrontIsCut) (none : NothingIsShort) where
   pub split_off : (first records : List LogRecord) (tail left : List ℕ)
-      → AllByRecursion IsAllowed first → AllByRecursion IsAllowed records → IsTorn tail → log_bytes records ++ tail ≡ log_bytes first ++ left → Behind records first tail left
-  split_off [] records tail left a b torn e = record { behind = records; split = refl; bytes = sym e }
-  split_off (r ∷ first) [] tail left a b torn e =
+      → AllByRecursion IsAllowed first → AllByRecursion IsAllowed records → record_in tail ≡ Err NotWhole → log_bytes records ++ tail ≡ log_bytes first ++ left → Behind records first tail left
+  split_off [] records tail left a b short e = record { behind = records; split = refl; bytes = sym e }
+  split_off (r ∷ first) [] tail left a b short e =
       let whole : record_in tail ≡ Ok (r, length (record_bytes r)) =
       ap record_in (e ∙ append_assoc (record_bytes r) (log_bytes first) left) ∙ again r (log_bytes first ++ left) a.0 in
-      absurd (never_both (r, length (record_bytes r)) (sym whole ∙ torn_short cut none tail torn))
-  split_off (r ∷ first) (q ∷ records) tail left a b torn e =
+      absurd (never_both (r, length (record_bytes r)) (sym whole ∙ short))
+  split_off (r ∷ first) (q ∷ records) tail left a b short e =
       let e2 : record_bytes q ++ (log_bytes records ++ tail) ≡ record_bytes r ++ (log_bytes first ++ left) =
       sym (append_assoc (record_bytes q) (log_bytes records) tail) ∙ e ∙ append_assoc (record_bytes r) (log_bytes first) left in
       let same : q ≡ r = same_first (record_in (record_bytes q ++ (log_bytes records ++ tail))) q r (length (record_bytes q)) (length (record_bytes r))
       (again q (log_bytes records ++ tail) b.0) (ap record_in e2 ∙ again r (log_bytes first ++ left) a.0) in
       let e3 : record_bytes r ++ (log_bytes records ++ tail) ≡ record_bytes r ++ (log_bytes first ++ left) =
       ap (λ (z : LogRecord). record_bytes z ++ (log_bytes records ++ tail)) (sym same) ∙ e2 in
-      next same (split_off first records tail left a.1 b.1 torn (append_cancel_left (record_bytes r) (log_bytes records ++ tail) (log_bytes first ++ left) e3))
+      next same (split_off first records tail left a.1 b.1 short (append_cancel_left (record_bytes r) (log_bytes records ++ tail) (log_bytes first ++ left) e3))
     where
       next : q ≡ r → Behind records first tail left → Behind (q ∷ records) (r ∷ first) tail left
       next same k = record {
@@ -135,12 +135,12 @@ module _ (again : ReadAgain) (cut : FrontIsCut) (none : NothingIsShort) where
         bytes = k.bytes;
       }
 
-  -- spelled records, and a torn one, begin with a record only if there is one, and then with that
+  -- spelled records, and what is none, begin with a record only if there is one, and then with that
   pub begins_with : (records : List LogRecord) (tail : List ℕ) (made : LogRecord) (size : ℕ)
-      → AllByRecursion IsAllowed records → IsTorn tail → record_in (log_bytes records ++ tail) ≡ Ok (made, size)
+      → AllByRecursion IsAllowed records → record_in tail ≡ Err NotWhole → record_in (log_bytes records ++ tail) ≡ Ok (made, size)
       → (more : List LogRecord) × (records ≡ made ∷ more)
-  begins_with [] tail made size a torn e = absurd (never_both (made, size) (sym e ∙ torn_short cut none tail torn))
-  begins_with (r ∷ records) tail made size a torn e =
+  begins_with [] tail made size a short e = absurd (never_both (made, size) (sym e ∙ short))
+  begins_with (r ∷ records) tail made size a short e =
       let here : record_in (record_bytes r ++ log_bytes records ++ tail) ≡ Ok (r, length (record_bytes r)) =
       ap record_in (append_assoc (record_bytes r) (log_bytes records) tail) ∙ again r (log_bytes records ++ tail) a.0 in
       (records, ap (λ (z : LogRecord). z ∷ records) (same_first (record_in (record_bytes r ++ log_bytes records ++ tail)) r made (length (record_bytes r)) size here e))

@@ -15,7 +15,7 @@ use Rattle.log_reader.specs.Held.{names}
 use Rattle.log_reader.specs.Keeping.{AreWhole}
 use Rattle.log_starts.specs.Starts.{MayBegin, NamesOwn}
 use Rattle.log_appends.specs.Appends.{AllAreLast, AreBehind, AreLastFrom, LastAreBehind, LastSpell, NoneNames}
-use Rattle.log_appends.proofs.Spelling.{Behind, Front, FrontIsCut, ReadAgain, back_all, begins_with, both_all, both_bytes, front_all, front_of, some_bytes, split_off}
+use Rattle.log_appends.proofs.Spelling.{Behind, Front, FrontIsCut, ReadAgain, back_all, begins_with, both_all, both_bytes, front_all, front_of, some_bytes, split_off, torn_short}
 
 -- a log's whole records are read, with what is left behind them
 abbrev pub LogIsRead : Type 0
@@ -55,7 +55,7 @@ same_parts x a b e f = cc
 pub last_spell : ReadAgain → FrontIsCut → NothingIsShort → LogIsRead → LastSpell
 last_spell again cut none sound log start back whole last =
     let split : Behind whole.records last.whole.records [] (drop start log) =
-    split_off again cut none last.whole.records whole.records [] (drop start log) last.whole.allowed whole.allowed (inl refl)
+    split_off again cut none last.whole.records whole.records [] (drop start log) last.whole.allowed whole.allowed none
     (append-nil (log_bytes whole.records) ∙ sym whole.spelled ∙ sym (take-append-drop start log) ∙ ap (λ (z : List ℕ). z ++ drop start log) last.whole.spelled) in
     let allowed : AllByRecursion IsAllowed split.behind = back_all IsAllowed last.whole.records split.behind (subst (AllByRecursion IsAllowed) split.split whole.allowed) in
     let read = sound (drop start log) split.behind (record { tail = []; whole = split.bytes; allowed = allowed; torn = inl refl }) in
@@ -85,8 +85,11 @@ module _ (again : ReadAgain) (cut : FrontIsCut) (none : NothingIsShort) (sound :
   spelled = ap (λ (z : List ℕ). log ++ z) f.bytes ∙ sym (append_assoc log (log_bytes f.front) f.tail)
       ∙ ap (λ (z : List ℕ). z ++ f.tail) (ap (λ (z : List ℕ). z ++ log_bytes f.front) whole.spelled ∙ sym (both_bytes old f.front))
 
+  short : record_in f.tail ≡ Err NotWhole
+  short = torn_short cut none f.tail f.torn
+
   split : Behind (old ++ f.front) first f.tail (drop start bytes)
-  split = split_off again cut none first (old ++ f.front) f.tail (drop start bytes) last.whole.allowed all_allowed f.torn
+  split = split_off again cut none first (old ++ f.front) f.tail (drop start bytes) last.whole.allowed all_allowed short
       (sym spelled ∙ sym (take-append-drop start bytes) ∙ ap (λ (z : List ℕ). z ++ drop start bytes) last.whole.spelled)
 
   abbrev behind : List LogRecord
@@ -105,7 +108,7 @@ module _ (again : ReadAgain) (cut : FrontIsCut) (none : NothingIsShort) (sound :
   -- none of the appended records names its place
   none_named : (records : List LogRecord) → ((more : List LogRecord) × (f.front ≡ more ++ records)) → NamesOwn start (log_bytes records ++ f.tail) → AllByRecursion IsAllowed records → ⊥
   none_named rs among own ok =
-      let begun = begins_with again cut none rs f.tail own.made own.size ok f.torn own.read in
+      let begun = begins_with again cut none rs f.tail own.made own.size ok short own.read in
       let front_plain : AllByRecursion (λ (r : LogRecord). names start r.body ≡ false) f.front =
       front_all (λ (r : LogRecord). names start r.body ≡ false) f.front f.rest (subst (AllByRecursion (λ (r : LogRecord). names start r.body ≡ false)) f.split (plain start)) in
       let own_plain : AllByRecursion (λ (r : LogRecord). names start r.body ≡ false) (own.made ∷ begun.0) =
@@ -180,7 +183,7 @@ module _ (again : ReadAgain) (cut : FrontIsCut) (none : NothingIsShort) (sound :
       own_there : (rs : List LogRecord) → AllByRecursion IsAllowed rs → NamesOwn start (log_bytes (rs ++ f.front) ++ f.tail) → NamesOwn start (log_bytes rs)
       own_there [] ok own = absurd (none_named f.front ([], refl) own allowed_front)
       own_there (r ∷ rs) ok own =
-          let begun = begins_with again cut none (r ∷ (rs ++ f.front)) f.tail own.made own.size (ok.0, both_all IsAllowed rs f.front ok.1 allowed_front) f.torn own.read in
+          let begun = begins_with again cut none (r ∷ (rs ++ f.front)) f.tail own.made own.size (ok.0, both_all IsAllowed rs f.front ok.1 allowed_front) short own.read in
           let same : r ≡ own.made = (let e = begun.1 in cc) in
           record {
             made = r;

@@ -5,6 +5,7 @@
 #![tactic(auto)]
 
 ghost use Rattle.log_appends.specs.Appends.{AllAreLast, AppendsAreWhole, LastAreBehind, LastSpell};
+ghost use Rattle.log_appends.specs.Rests.{AppendsLeave, LastAreAllowed, LastWithRest, LastWithoutRest, NothingIsRest, RestIsTold};
 
 use log_head::whole_laws;
 use log_record::{log_laws, reading_laws};
@@ -17,6 +18,21 @@ pub fn appends_tell()
     ensures all { AllAreLast }
     ensures spell { LastSpell }
     ensures last { LastAreBehind }
+{
+    reading_laws();
+    log_laws();
+    whole_laws();
+}
+
+/// What an append leaves that has stopped inside are records that were to be appended, and then a rest, which is none. Behind a log of whole
+/// records a rest changes nothing of its last records, which are allowed.
+pub fn rests_tell()
+    ensures none { NothingIsRest }
+    ensures without { LastWithoutRest }
+    ensures with_rest { LastWithRest }
+    ensures told { RestIsTold }
+    ensures allowed { LastAreAllowed }
+    ensures leave { AppendsLeave }
 {
     reading_laws();
     log_laws();

@@ -6,4 +6,5 @@ pub mod Cycles
 pub mod Frames
 pub mod Lists
 pub mod Changes
+pub mod Puts
 pub mod Outcomes

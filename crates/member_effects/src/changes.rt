@@ -2,16 +2,19 @@
 
 ghost use Rattle.std.specs.Prelude.{◌≡◌, ◌<◌, if◌then◌else◌, length, slice_set};
 ghost use Rattle.std.specs.List.{AllByRecursion};
-ghost use Rattle.ds_model.specs.RecordBytes.{PatchIsAllowed, PatchesAreAllowed};
+ghost use Rattle.ds_model.specs.RecordBytes.{IsAllowed, PatchIsAllowed, PatchesAreAllowed};
 ghost use Rattle.page_plans.specs.Rows.{after_row};
 ghost use Rattle.ds_base.specs.Pages.{same_page};
 ghost use Rattle.heap_space.specs.Written.{after_patch, written};
 ghost use Rattle.write_order.specs.Ranks.{rank_of as full_rank};
 ghost use Rattle.member_marks.specs.Frames.{after_marked};
-ghost use Rattle.member_marks.specs.Records.{after_system};
+ghost use Rattle.member_marks.specs.Records.{after_system, after_commit, fits_in};
+ghost use Rattle.member_marks.specs.State.{slot_tran, tran_of};
 ghost use Rattle.member_needs.specs.Plans.{PlanIsAllowed};
+ghost use Rattle.member_needs.specs.declared.plans.Plan.TheVariants as plans;
 ghost use Rattle.member_effects.specs.declared.told.Told.TheVariants as told;
 ghost use Rattle.member_effects.specs.Changes.{bytes_at, system_record, patched_frame, patched_nth, patched_frames, row_frame, row_nth, changed_by, plan_told, back_by, back_told, undone_after, undone_told, undrawn_after, undrawn_told, drawn_after, drawn_told, committed_after, committed_told};
+ghost use Rattle.member_effects.specs.Puts.{one_if, change_records, undo_records, commit_records, drawn_by};
 
 use crate::told::Told;
 use ds_base::{Lrsn, PageId};
@@ -141,12 +144,49 @@ fn system_record(patches: Patches, lrsn: Lrsn) -> LogRecord
     }
 }
 
+#[tactic(auto, using(crate::proofs::Allowed::one_allowed))]
 fn log_system(marks: &mut Marks, slot: u8, patches: Patches, lrsn: Lrsn)
     requires { PatchesAreAllowed patches }
-    ensures { marks.new ≡ after_system marks.old slot (system_record patches lrsn) }
+    ensures after { marks.new ≡ after_system marks.old slot (system_record patches lrsn) }
+    ensures allowed { AllByRecursion IsAllowed (one_if (fits_in marks.old.log (system_record patches lrsn)) (system_record patches lrsn)) }
 {
     let it = system_record(patches, lrsn);
     marks.put_system(slot, &it);
+}
+
+// The pages are changed as the patches say, and their record is put.
+#[tactic(auto, using(crate::proofs::Allowed::patched_allowed))]
+fn change_pages(
+    marks: &mut Marks,
+    pages: &mut [Page],
+    slot: u8,
+    frames: &Frames,
+    patches: Patches,
+    lrsn: Lrsn,
+)
+    requires { PatchesAreAllowed patches }
+    ensures after { record { marks = marks.new; pages = pages.new } ≡ changed_by (record { marks = marks.old; pages = pages.old }) slot frames.now (plans.System patches) lrsn }
+    ensures allowed { AllByRecursion IsAllowed (change_records marks.old.log (slot_tran marks.old slot) (plans.System patches) lrsn) }
+{
+    patch_frames(marks, pages, frames, patches.as_slice(), lrsn);
+    log_system(marks, slot, patches, lrsn);
+}
+
+// The row is changed in its page, and the record of the change is put.
+#[tactic(auto, using(crate::proofs::Allowed::row_allowed))]
+fn change_row(
+    marks: &mut Marks,
+    pages: &mut [Page],
+    slot: u8,
+    frames: &Frames,
+    change: &RowChange,
+    lrsn: Lrsn,
+)
+    ensures after { record { marks = marks.new; pages = pages.new } ≡ changed_by (record { marks = marks.old; pages = pages.old }) slot frames.now (plans.Row change.now) lrsn }
+    ensures allowed { AllByRecursion IsAllowed (change_records marks.old.log (slot_tran marks.old slot) (plans.Row change.now) lrsn) }
+{
+    put_nth(marks, pages, frame_of(frames, 0), change, lrsn);
+    marks.note_change(slot, lrsn, change);
 }
 
 fn change_by(
@@ -160,22 +200,37 @@ fn change_by(
     requires { PlanIsAllowed plan }
     ensures told { result ≡ plan_told plan }
     ensures after { record { marks = marks.new; pages = pages.new } ≡ changed_by (record { marks = marks.old; pages = pages.old }) slot frames.now plan lrsn }
+    ensures allowed { AllByRecursion IsAllowed (change_records marks.old.log (slot_tran marks.old slot) plan lrsn) }
 {
     match plan {
         Plan::None => Told::Drawn,
         Plan::System(patches) => {
-            patch_frames(marks, pages, frames, patches.as_slice(), lrsn);
-            log_system(marks, slot, patches, lrsn);
+            change_pages(marks, pages, slot, frames, patches, lrsn);
             Told::Drawn
         }
         Plan::Row(change) => {
-            put_nth(marks, pages, frame_of(frames, 0), &change, lrsn);
-            marks.note_change(slot, lrsn, &change);
+            change_row(marks, pages, slot, frames, &change, lrsn);
             Told::Drawn
         }
         Plan::Back(_) => Told::Drawn,
         Plan::Fault { page, at } => Told::Damaged { page, at },
     }
+}
+
+// The row is put back in its page, and the records of that are put.
+fn back_row(
+    marks: &mut Marks,
+    pages: &mut [Page],
+    owner: &Owner,
+    at: u16,
+    change: &RowChange,
+    lrsn: Lrsn,
+)
+    ensures after { record { marks = marks.new; pages = pages.new } ≡ back_by (record { marks = marks.old; pages = pages.old }) owner.now at (plans.Back change.now) lrsn }
+    ensures allowed { AllByRecursion IsAllowed (undo_records marks.old.log (tran_of marks.old owner.now) (plans.Back change.now) lrsn) }
+{
+    put_frame(marks, pages, at, change, lrsn);
+    marks.note_undone(owner, lrsn);
 }
 
 // The newest change of the owner's transaction is taken back.
@@ -190,12 +245,12 @@ fn back_by(
     requires { PlanIsAllowed plan }
     ensures told { result ≡ back_told plan }
     ensures after { record { marks = marks.new; pages = pages.new } ≡ back_by (record { marks = marks.old; pages = pages.old }) owner.now at plan lrsn }
+    ensures allowed { AllByRecursion IsAllowed (undo_records marks.old.log (tran_of marks.old owner.now) plan lrsn) }
 {
     match &plan {
         Plan::None | Plan::System(_) | Plan::Row(_) => Told::Drawn,
         Plan::Back(change) => {
-            put_frame(marks, pages, at, change, lrsn);
-            marks.note_undone(owner, lrsn);
+            back_row(marks, pages, owner, at, change, lrsn);
             Told::Drawn
         }
         Plan::Fault { page, at } => Told::Damaged {
@@ -236,6 +291,7 @@ pub fn drawn(
     requires { PlanIsAllowed plan }
     ensures told { result ≡ drawn_told plan reply.now }
     ensures after { record { marks = marks.new; pages = pages.new } ≡ drawn_after (record { marks = marks.old; pages = pages.old }) slot frames.now plan reply.now place }
+    ensures allowed { AllByRecursion IsAllowed (drawn_by reply.now (change_records marks.old.log (slot_tran marks.old slot) plan)) }
 {
     match reply {
         Reply::Drawn { lrsn } => change_by(marks, pages, slot, frames, plan, *lrsn),
@@ -256,6 +312,7 @@ pub fn undone(
     requires { PlanIsAllowed plan }
     ensures told { result ≡ undone_told plan reply.now }
     ensures after { record { marks = marks.new; pages = pages.new } ≡ undone_after (record { marks = marks.old; pages = pages.old }) owner.now at plan reply.now place }
+    ensures allowed { AllByRecursion IsAllowed (drawn_by reply.now (undo_records marks.old.log (tran_of marks.old owner.now) plan)) }
 {
     match reply {
         Reply::Drawn { lrsn } => back_by(marks, pages, owner, at, plan, *lrsn),
@@ -263,14 +320,23 @@ pub fn undone(
     }
 }
 
+#[tactic(auto, using(crate::proofs::Allowed::one_allowed))]
+fn put_commit(marks: &mut Marks, slot: u8, lrsn: Lrsn)
+    ensures after { marks.new ≡ after_commit marks.old slot lrsn }
+    ensures allowed { AllByRecursion IsAllowed (commit_records marks.old.log (slot_tran marks.old slot) lrsn) }
+{
+    marks.draw_commit(slot, lrsn);
+}
+
 /// The reply to `draw` for a Commit record.
 pub fn commit_drawn(marks: &mut Marks, slot: u8, reply: &Reply, place: u64) -> Told
     ensures told { result ≡ committed_told reply.now }
     ensures after { marks.new ≡ committed_after marks.old slot reply.now place }
+    ensures allowed { AllByRecursion IsAllowed (drawn_by reply.now (commit_records marks.old.log (slot_tran marks.old slot))) }
 {
     match reply {
         Reply::Drawn { lrsn } => {
-            marks.draw_commit(slot, *lrsn);
+            put_commit(marks, slot, *lrsn);
             Told::Drawn
         }
         _ => not_drawn(marks, &Owner::Slot(slot), reply, place),

@@ -1,6 +1,6 @@
-ghost use Rattle.std.specs.Prelude.{◌≡◌, ◌==◌, ◌+◌, ◌≤◌, length, true, OnOk, OnErr};
+ghost use Rattle.std.specs.Prelude.{◌≡◌, ◌==◌, ◌+◌, ◌≤◌, length, true, OnOk, OnErr, IfSome};
 ghost use Rattle.ds_base.specs.Pages.{heap_set};
-ghost use Rattle.ds_model.specs.RecordBytes.{Fits, record_bytes};
+ghost use Rattle.ds_model.specs.RecordBytes.{Fits, IsAllowed, record_bytes};
 ghost use Rattle.member_log.specs.Buffers.{room_of, is_above};
 ghost use Rattle.member_trans.specs.Trans.{with_tran, with_room, first_with, newest_of};
 ghost use Rattle.member_trans.specs.declared.fate.Owner.TheVariants as owners;
@@ -16,6 +16,10 @@ ghost use Rattle.member_marks.specs.Records.{
   sets_noted,
   both_fit,
   both_logged,
+  row_record,
+  back_record,
+  ended_record,
+  commit_record,
   after_back,
   may_undo_as,
   after_undo,
@@ -126,6 +130,7 @@ impl Marks {
         requires { Fits it.now }
         ensures told { result ≡ fits_in self.old.log it.now }
         ensures after { self.new ≡ with_log self.old (logged self.old.log it.now) }
+        ensures allowed { result ≡ true → IsAllowed it.now }
     {
         self.log.put(it).is_ok()
     }
@@ -134,6 +139,7 @@ impl Marks {
     pub fn note_change(&mut self, slot: u8, lrsn: Lrsn, change: &RowChange) -> bool
         ensures told { result ≡ may_change self.old slot lrsn change.now }
         ensures after { self.new ≡ after_change self.old slot lrsn change.now }
+        ensures allowed { result ≡ true → IsAllowed (row_record (slot_tran self.old slot) lrsn change.now) }
     {
         if lrsn.number() == 0 || !is_at_row(change) || !self.trans.has_room(slot) {
             return false;
@@ -157,6 +163,7 @@ impl Marks {
         requires { Fits it.now }
         ensures told { result ≡ fits_in self.old.log it.now }
         ensures after { self.new ≡ after_system self.old slot it.now }
+        ensures allowed { result ≡ true → IsAllowed it.now }
     {
         if !self.put(it) {
             return false;
@@ -172,6 +179,8 @@ impl Marks {
     pub fn note_undone(&mut self, owner: &Owner, lrsn: Lrsn) -> bool
         ensures told { result ≡ may_undo_as self.old owner.now lrsn (newest_of (tran_of self.old owner.now)) }
         ensures after { self.new ≡ after_undo self.old owner.now lrsn }
+        ensures back { result ≡ true → IfSome (newest_of (tran_of self.old owner.now)) (λ it. IsAllowed (back_record (tran_of self.old owner.now) lrsn it)) }
+        ensures ended { result ≡ true → (length (tran_of self.old owner.now).changes == 1) ≡ true → IsAllowed (ended_record (tran_of self.old owner.now) lrsn) }
     {
         let Some(newest) = self.trans.newest(owner) else {
             return false;
@@ -206,6 +215,8 @@ impl Marks {
         requires fits { Fits back.now × Fits ended.now }
         ensures told { result ≡ both_fit self.old.log back.now ended.now }
         ensures after { self.new ≡ after_back self.old owner.now lrsn set back.now ended.now }
+        ensures back { result ≡ true → IsAllowed back.now }
+        ensures ended { result ≡ true → (length (tran_of self.old owner.now).changes == 1) ≡ true → IsAllowed ended.now }
     {
         if record_length(back) + record_length(ended) > self.log.room() as usize {
             return false;
@@ -220,7 +231,9 @@ impl Marks {
     fn put_both(&mut self, back: &LogRecord, ended: &LogRecord, is_last: bool)
         requires fits { Fits back.now × Fits ended.now }
         requires room { both_fit self.old.log back.now ended.now ≡ true }
-        ensures { self.new ≡ with_log self.old (both_logged self.old.log back.now ended.now is_last) }
+        ensures after { self.new ≡ with_log self.old (both_logged self.old.log back.now ended.now is_last) }
+        ensures back { IsAllowed back.now }
+        ensures ended { is_last ≡ true → IsAllowed ended.now }
     {
         let _ = self.log.put(back);
         if is_last {
@@ -232,6 +245,7 @@ impl Marks {
     pub fn draw_commit(&mut self, slot: u8, lrsn: Lrsn) -> bool
         ensures told { result ≡ may_commit self.old slot lrsn }
         ensures after { self.new ≡ after_commit self.old slot lrsn }
+        ensures allowed { result ≡ true → IsAllowed (commit_record (slot_tran self.old slot) lrsn) }
     {
         if lrsn.number() == 0 || !self.trans.is_forward(slot) {
             return false;

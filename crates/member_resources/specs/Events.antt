@@ -1,12 +1,14 @@
 -- An event of a member.
 use Rattle.std.specs.Prelude.{ℕ, ◌≡◌, ◌++◌, ◌⊎◌, nat_lt, Bool, true, false, List, length, Option, Some, None, Result, Ok, Err}
 use Rattle.std.specs.FinMap as map
+use Rattle.std.specs.List.{AllByRecursion}
 use Rattle.ds_base.specs.declared.names.PageId.{PageId}
 use Rattle.ds_disk.specs.Answers.{Answers, Appended}
 use Rattle.ds_disk.specs.Contents.{Contents, Same, log_of, with_log}
 use Rattle.ds_disk.specs.Pages as disk
 use Rattle.ds_disk.specs.declared.disk.DiskError.{DiskError}
 use Rattle.ds_disk.specs.declared.disk.DiskError.TheVariants.{Failed}
+use Rattle.ds_model.specs.RecordBytes.{IsAllowed}
 use Rattle.list_structure.specs.declared.query.Cell.{Cell}
 use Rattle.list_structure.specs.declared.wait.Wait.{Wait}
 use Rattle.list_structure.specs.States.{ListsState}
@@ -30,6 +32,7 @@ use Rattle.member_needs.specs.declared.castout.Cast.{Cast}
 pub use Rattle.member_needs.specs.declared.plans.Plan.{Plan}
 pub use Rattle.member_effects.specs.declared.told.Told.{Told}
 use Rattle.member_effects.specs.declared.told.Told.TheVariants as told
+use Rattle.member_effects.specs.Puts.{event_records}
 use Rattle.member_resources.specs.declared.prepared.Prepared.{Prepared}
 use Rattle.member_resources.specs.Held.{Held, with_marks, begun}
 use Rattle.member_resources.specs.Prepared.{wanted, Reserves}
@@ -180,7 +183,7 @@ abbrev pub Ends : Held → Held → Type 0
 Ends h k = Reaches h.marks k.marks × (k ≡ with_marks h k.marks)
 
 -- The intent was lawful, what it needs went out and was answered, the answer was settled in full, and then the policy made
--- local moves.
+-- local moves. The records that were put are allowed.
 pub record Happens (w : World) (h : Held) (i : Intent) (place : ℕ) (s : Sent) (a : Answered) (v : World) (k : Held) : Type 0 where
   pub plan : Plan
   pub ready : Held
@@ -190,6 +193,7 @@ pub record Happens (w : World) (h : Held) (i : Intent) (place : ℕ) (s : Sent) 
   pub reserves : Reserves i h ready
   pub runs : Runs w (begun ready place) i s plan place a said v after
   pub ends : Ends after k
+  pub allowed : AllByRecursion IsAllowed (event_records (begun ready place).marks i plan a)
 
 -- The intent fails this test, and nothing is changed.
 pub record IsUnlawful (w : World) (h : Held) (i : Intent) (place : ℕ) (test : Test) (v : World) (k : Held) : Type 0 where

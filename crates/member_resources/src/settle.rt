@@ -1,9 +1,13 @@
 ghost use Rattle.std.specs.Prelude.{◌≡◌, None, IfOk, OnErr};
+ghost use Rattle.std.specs.List.{AllByRecursion};
+ghost use Rattle.ds_model.specs.RecordBytes.{IsAllowed};
 ghost use Rattle.member_effects.specs.declared.told.Told.TheVariants as told;
 ghost use Rattle.member_effects.specs.Lists.{cast_told};
 ghost use Rattle.member_effects.specs.Claims.{claimed_told};
 ghost use Rattle.member_effects.specs.Changes.{drawn_told, undone_told};
+ghost use Rattle.member_effects.specs.Puts.{change_records, drawn_by as records_by, reply_records, undo_records};
 ghost use Rattle.member_marks.specs.Records.{after_append};
+ghost use Rattle.member_marks.specs.State.{slot_tran, tran_of};
 ghost use Rattle.member_needs.specs.Plans.{PlanIsAllowed};
 ghost use Rattle.member_resources.specs.Held.{with_marks, with_cast};
 ghost use Rattle.member_resources.specs.Settled.{cast_read, written_cast, drawn as drawn_by, undone as undone_by, unsent, unsent_told, SettlesClaim, Settles, told_by, SettlesWaits, stored, stored_told};
@@ -94,6 +98,7 @@ impl Resources {
         requires { PlanIsAllowed plan }
         ensures told { result ≡ drawn_told plan reply.now }
         ensures after { self.new ≡ drawn_by self.old slot frames.now plan reply.now place }
+        ensures allowed { AllByRecursion IsAllowed (records_by reply.now (change_records self.old.marks.log (slot_tran self.old.marks slot) plan)) }
     {
         drawn(
             &mut self.marks,
@@ -117,6 +122,7 @@ impl Resources {
         requires { PlanIsAllowed plan }
         ensures told { result ≡ undone_told plan reply.now }
         ensures after { self.new ≡ undone_by self.old owner.now frame plan reply.now place }
+        ensures allowed { AllByRecursion IsAllowed (records_by reply.now (undo_records self.old.marks.log (tran_of self.old.marks owner.now) plan)) }
     {
         undone(
             &mut self.marks,
@@ -152,6 +158,7 @@ impl Resources {
         requires { PlanIsAllowed plan }
         ensures told { result ≡ told_by self.old intent.now plan reply.now cells.now }
         ensures after { Settles self.old intent.now plan reply.now cells.now place self.new }
+        ensures allowed { AllByRecursion IsAllowed (reply_records self.old.marks intent.now plan reply.now) }
     {
         match *intent {
             Intent::Obtain { owner, name, mode } | Intent::Grant { owner, name, mode } => {

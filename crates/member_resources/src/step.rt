@@ -1,6 +1,8 @@
-ghost use Rattle.std.specs.Prelude.{◌≡◌, ◌≢◌, ◌<◌, ◌≤◌, length, IfOk, MatchResult};
+ghost use Rattle.std.specs.Prelude.{◌≡◌, ◌≢◌, ◌<◌, ◌≤◌, length, IfOk, OnOk, MatchResult};
+ghost use Rattle.std.specs.List.{AllByRecursion};
 ghost use Rattle.ds_base.specs.Causes.{Rose};
 ghost use Rattle.ds_disk.specs.Answers.{HasCause};
+ghost use Rattle.ds_model.specs.RecordBytes.{IsAllowed};
 ghost use Rattle.ds_disk.specs.declared.disk.DiskError.TheVariants.{Failed};
 ghost use Rattle.member_intents.specs.declared.outcome.Answered.TheVariants as answered;
 ghost use Rattle.facility.specs.Commands.{AsksSlot};
@@ -9,6 +11,7 @@ ghost use Rattle.member_intents.specs.declared.test.Test.{Test};
 ghost use Rattle.member_intents.specs.declared.test.StepFault.TheVariants.{Unlawful, NotExecutable};
 ghost use Rattle.member_intents.specs.declared.test.StepFault.TheVariants as faults;
 ghost use Rattle.member_needs.specs.Plans.{PlanIsAllowed};
+ghost use Rattle.member_effects.specs.Puts.{event_records, reply_records};
 ghost use Rattle.member_resources.specs.Held.{begun};
 ghost use Rattle.member_resources.specs.Events.{world_of, waits_in, frame_read, SettlesReply, RunsCommand, CannotExecute, ReadsInto, Reads, Calls, Stores, RunsCall, Runs, IsStopped, holder_in, Ends, Happens, IsUnlawful, IsNotExecutable};
 
@@ -97,6 +100,7 @@ impl Resources {
 
     // Settles the reply to a command, behind which the facility is so. The waits and the cells that it asks for are looked
     // at where they stand.
+    #[tactic(auto, using(crate::proofs::Allowed::waits_allowed))]
     fn settle<C: CacheFace>(
         &mut self,
         alloc: Global,
@@ -109,7 +113,8 @@ impl Resources {
     ) -> Result<Told, NoMemory>
         requires plan { PlanIsAllowed plan }
         requires slot { AsksSlot command.now }
-        ensures { IfOk result (λ said. SettlesReply self.old intent.now command.now plan facility.now.lists reply.now place said self.new) }
+        ensures settles { IfOk result (λ said. SettlesReply self.old intent.now command.now plan facility.now.lists reply.now place said self.new) }
+        ensures allowed { OnOk result (AllByRecursion IsAllowed (reply_records self.old.marks intent.now plan reply.now)) }
     {
         match waits_in(intent) {
             Some(slots) => self.settle_waits(alloc, facility.waits(), slots, place),
@@ -123,6 +128,7 @@ impl Resources {
 
 impl Resources {
     // Gives a command, and settles its reply.
+    #[tactic(auto, using(crate::proofs::Allowed::given_allowed))]
     fn run_command<C: CacheFace>(
         &mut self,
         alloc: Global,
@@ -136,6 +142,7 @@ impl Resources {
         ensures ok { IfOk result (λ r. RunsCommand (held C.directory facility.old) self.old intent.now command.now plan place r.1 r.0 (held C.directory facility.new) self.new) }
         ensures lawful { (test : Test) → result ≢ Err (Unlawful test) }
         ensures cannot { result ≡ Err NotExecutable → CannotExecute (held C.directory facility.old) self.old command.now (held C.directory facility.new) self.new }
+        ensures allowed { IfOk result (λ r. AllByRecursion IsAllowed (event_records self.old.marks intent.now plan r.1)) }
     {
         let reply = self.give(facility, command)?;
         let told = self.settle(alloc, facility, intent, command, plan, &reply, place)?;
@@ -158,6 +165,7 @@ impl Resources {
     }
 
     // Sends what was prepared, and settles what comes back.
+    #[tactic(auto, using(crate::proofs::Allowed::called_allowed))]
     fn run<C: CacheFace, D: Disk>(
         &mut self,
         alloc: Global,
@@ -172,6 +180,7 @@ impl Resources {
         ensures ok { IfOk result (λ r. Runs (world_of C.directory D.alive D.contents facility.old disk.old) self.old intent.now sent.now plan place r.1 r.0 (world_of C.directory D.alive D.contents facility.new disk.new) self.new) }
         ensures lawful { (test : Test) → result ≢ Err (Unlawful test) }
         ensures cannot { result ≡ Err NotExecutable → IsStopped (world_of C.directory D.alive D.contents facility.old disk.old) self.old sent.now (world_of C.directory D.alive D.contents facility.new disk.new) self.new }
+        ensures allowed { IfOk result (λ r. AllByRecursion IsAllowed (event_records self.old.marks intent.now plan r.1)) }
         ensures later { D.faults disk.old ≤ D.faults disk.new }
         ensures failed { IfOk result (λ r. r.1 ≡ answered.Failed → Rose (D.faults disk.old) (D.faults disk.new)) }
     {

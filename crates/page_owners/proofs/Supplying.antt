@@ -152,7 +152,7 @@ module _ (facts : Facts) (l : LockWorld) (u v : event.World) (g : Holdings) (hel
   }
 
   settled : Happens u h i place s a v after
-  settled = record { plan = happens.plan; ready = happens.ready; said = happens.said; after = after; lawful = happens.lawful; reserves = happens.reserves; runs = happens.runs; ends = (stays after.marks, refl) }
+  settled = record { plan = happens.plan; ready = happens.ready; said = happens.said; after = after; lawful = happens.lawful; reserves = happens.reserves; runs = happens.runs; ends = (stays after.marks, refl); allowed = happens.allowed }
 
   goes : Goes l u.facility v.facility left h.marks after.marks
   goes = facts.event l u v held left h after i place s a sound tied stands.up stands.slots stands.knows settled leads

@@ -1,6 +1,7 @@
 -- The end of a restart.
-use Rattle.std.proofs.Common.{◌≡◌, ◌≢◌, ℕ, zero, suc, ◌≤◌, refl, sym, ◌∙◌, ap, subst, arith, List, [], ◌∷◌, None, Ok, slice_set}
+use Rattle.std.proofs.Common.{◌≡◌, ◌≢◌, ℕ, zero, suc, ◌≤◌, refl, sym, ◌∙◌, ap, subst, arith, true, List, [], ◌∷◌, None, Ok, slice_set}
 use Rattle.std.specs.Prelude.{◌-◌, ◌==◌, is_none, length, slice_index_or}
+use Rattle.std.proofs.lemmas.Bool.{eqb-true}
 use Rattle.std.proofs.lemmas.List.{get_or-set_other}
 use Rattle.list_structure.specs.declared.standing.MemberStatus.TheVariants as standing
 use Rattle.list_structure.specs.Standings.{status_of}
@@ -19,23 +20,33 @@ use Rattle.page_world.specs.Holdings.{StandsAs}
 use Rattle.page_members.specs.Members.{OpensGo}
 use Rattle.page_restarts.specs.Beside.{as_restarting}
 use Rattle.page_restarts.specs.Events.{EndGoes}
-use Rattle.page_restarts.proofs.Needs.{after_first, after_tests, is_nothing, sent_as, when_first}
+use Rattle.page_restarts.proofs.Needs.{after_first, after_tests, is_nothing, passes, sent_as, when_first, when_rest}
 use Rattle.page_restarts.proofs.Standing.{copy_none}
 
 -- ---- what is lawful
 pub record IsLast (s : RestartState) (x : RestartSent) : Type 0 where
   pub placed : s.hand.page ≡ None
+  pub listed : s.is_listed ≡ true
+  pub none : length s.pages ≡ 0
+  pub unclaimed : s.claim ≡ None
   pub is : x ≡ sent.Command (command.SetStatus standing.Up)
 
-ups : (s : RestartState) (x : RestartSent) → up_need s ≡ Ok x → IsLast s x
+pub ups : (s : RestartState) (x : RestartSent) → up_need s ≡ Ok x → IsLast s x
 ups s x e =
     let claimed : Tested = when (is_none s.claim) test.StillClaimed (when (length s.log.pending == 0) test.StillPending (when (s.own.tail == 0) test.HasTail passed)) in
     let rest : Tested = when (is_none s.hand.page) test.StillPlaced claimed in
     let over : Tested = after (over_test s) rest in
     let tests : Tested = after (recovered_test s) over in
     let first = after_first tests (Ok (sent.Command (command.SetStatus standing.Up))) x e in
+    let recovered : Tested = when (length s.pages == 0) test.PagesLeft passed in
+    let known = passes (recovered_test s) over first in
+    let last = after_tests (over_test s) rest (after_tests (recovered_test s) over first) in
+    let pending : Tested = when (length s.log.pending == 0) test.StillPending (when (s.own.tail == 0) test.HasTail passed) in
     record {
-      placed = is_nothing s.hand.page (when_first (is_none s.hand.page) test.StillPlaced claimed (after_tests (over_test s) rest (after_tests (recovered_test s) over first)));
+      placed = is_nothing s.hand.page (when_first (is_none s.hand.page) test.StillPlaced claimed last);
+      listed = when_first s.is_listed test.NotListed recovered known;
+      none = eqb-true (length s.pages) 0 (when_first (length s.pages == 0) test.PagesLeft passed (when_rest s.is_listed test.NotListed recovered known));
+      unclaimed = is_nothing s.claim (when_first (is_none s.claim) test.StillClaimed pending (when_rest (is_none s.hand.page) test.StillPlaced claimed last));
       is = sent_as tests (sent.Command (command.SetStatus standing.Up)) x e;
     }
 

@@ -1,7 +1,8 @@
 -- Any event of a restart, by its intent: what is run and settled, and then the policy's local moves.
 use Rattle.std.proofs.Common.{◌≡◌, ◌≢◌, ℕ, ◌≤◌, refl, sym, ◌∙◌, ap, subst, arith, Bool, true, false, inl, inr, List, [], ◌∷◌, Option, Some, None, Result, Ok, Err}
 use Rattle.std.specs.Prelude.{◌+◌, ◌⊎◌, ◌==◌, ◌&&◌, not, if◌then◌else◌, is_none, length, slice_get}
-use Rattle.std.proofs.lemmas.Bool.{and_parts, both_ways, cond-false, cond-true, eq-eqb, eqb-true, false_from_ne_true}
+use Rattle.std.proofs.lemmas.Bool.{and_from, and_parts, both_ways, cases_Bool, cases_eq, cond-false, cond-true, eq-eqb, eqb-true, false_from_ne_true, ne_eqb}
+use Rattle.std.proofs.lemmas.Option.{none-some, same_Some}
 use Rattle.ds_base.specs.declared.names.PageId.{PageId}
 use Rattle.ds_model.specs.declared.lock.Name.{Name}
 use Rattle.ds_model.specs.declared.lock.Name.TheVariants as name
@@ -69,12 +70,12 @@ use Rattle.page_intents.specs.Logs.{all_forced}
 use Rattle.page_members.specs.Members.{Shows, leaves_pages}
 use Rattle.page_restarts.specs.Beside.{Beside, as_restarting}
 use Rattle.page_restarts.specs.Bringing.{Forwards}
-use Rattle.page_restarts.specs.Events.{EventsGo, IsGiven, IsQuiet, MayGiveUp, MayTake, MayUndo, is_granted}
+use Rattle.page_restarts.specs.Events.{EventsGo, IsGiven, IsQuiet, MayGiveUp, MayTake, MayUndo, Owns, asks_page, frees_page, gives_page, is_granted, takes_page}
 use Rattle.page_restarts.specs.Stands.{GoesAlong, SameHand, behind}
 use Rattle.page_restarts.specs.Undoes.{IsUndone, undone_behind}
 use Rattle.page_restarts.proofs.Hands.{tested_copy}
 use Rattle.page_restarts.proofs.Leading.{Facts, KeepsStandings, Led, Level, behind_leads, directory_standings, ended, give_up_leads, lock_leads, made, others_forced, others_undone, standings_same, stay_leads, unregister_leads, went_on}
-use Rattle.page_restarts.proofs.Needs.{after_first, asks_page, err_ok, fills_hand, is_nothing, just_as, locks_page, purges_hand, reads_hand, releases_page, sent_as, tests_hand, undoes_hand, when_first, writes_hand}
+use Rattle.page_restarts.proofs.Needs.{after_first, asks_page as asks_page_of, err_ok, fills_hand, is_nothing, just_as, locks_page, passes, purges_hand, reads_hand, releases_page, sent_as, tests_hand, undoes_hand, when_first, writes_hand}
 
 -- ---- what an answer leaves of the page in hand and of the own log
 record Keeps (h t : Held) : Type 0 where
@@ -165,17 +166,17 @@ own_all : (xs : List Local) (s : RestartState) → (all_moved xs s).own ≡ s.ow
 own_all [] s = refl
 own_all (x ∷ xs) s = own_all xs (moved x s) ∙ own_one x s
 
-own_reaches : (s t : RestartState) → Reaches s t → t.own ≡ s.own
+pub own_reaches : (s t : RestartState) → Reaches s t → t.own ≡ s.own
 unfolding Reaches
 own_reaches s t r = ap (λ (z : RestartState). z.own) r.1 ∙ own_all r.0 s
 
 -- ---- calls of the disk
-was_done : (after k : Held) (s : RestartSent) (x : Result Got DiskError) (a : Answered) (told : RestartTold) → a ≢ answered.Failed → Stores after s x a told k → (g : Got) × (x ≡ Ok g)
+pub was_done : (after k : Held) (s : RestartSent) (x : Result Got DiskError) (a : Answered) (told : RestartTold) → a ≢ answered.Failed → Stores after s x a told k → (g : Got) × (x ≡ Ok g)
 was_done after k s (Ok g) a told works e = (g, refl)
 was_done after k s (Err Failed) a told works e = absurd (works e.0)
 was_done after k s (Err NoMemory) a told works e = absurd e
 
-undo_answer : (o : Option ℕ) (counter : ℕ) (answer : Reply) → answer ≡ number_drawn o counter → ((o ≡ None) × (answer ≡ reply.Drawn (counter + 1))) ⊎ ((index : ℕ) × (o ≡ Some index) × (answer ≡ reply.Stale index))
+pub undo_answer : (o : Option ℕ) (counter : ℕ) (answer : Reply) → answer ≡ number_drawn o counter → ((o ≡ None) × (answer ≡ reply.Drawn (counter + 1))) ⊎ ((index : ℕ) × (o ≡ Some index) × (answer ≡ reply.Stale index))
 undo_answer None counter answer e = inl (refl, e)
 undo_answer (Some index) counter answer e = inr (index, refl, e)
 
@@ -211,12 +212,96 @@ read_once : (x : Bool) → x ≡ true → (rest : Result RestartSent RestartTest
 read_once true so rest s e = err_ok test.AlreadyRead s (Err test.AlreadyRead) refl e
 read_once false never rest s e = cc never
 
+-- ---- what is done to page locks
+pub answered_same : (x y : Reply) → answered.Reply x ≡ answered.Reply y → x ≡ y
+answered_same x y e = cc
+
+pub unasked : (c : Command) (a : Answered) (n : ℕ) → asks_page c n ≡ false → takes_page (sent.Command c) a n ≡ false
+unasked c answered.None n e = refl
+unasked c (answered.Reply answer) n e = ap (λ z. z && is_granted answer) e
+unasked c answered.Done n e = refl
+unasked c answered.Failed n e = refl
+
+pub ungranted : (b c : Bool) → c ≡ false → (b && c) ≡ false
+ungranted true c e = e
+ungranted false c e = refl
+
+pub no_page : (s : RestartState) (n : Name) (j : ℕ) → (mark_of s.names n).retained ≡ true → frees_page (command.Purge n) j ≡ false
+no_page s (name.Space t) j e = refl
+no_page s (name.Row t k) j e = refl
+no_page s (name.Page p) j e = absurd (both_ways false refl e)
+no_page s (name.Set n) j e = refl
+
+owns_same : (before : ℕ → Option ℕ) (m : ℕ) (s : RestartSent) (a : Answered) → ((n : ℕ) → takes_page s a n ≡ false) → ((n : ℕ) → gives_page s n ≡ false) → Owns before before m s a
+owns_same before m s a takes gives = record { takes = λ n e. absurd (both_ways (takes_page s a n) (takes n) e); keeps = λ n e o. o; only = λ n o. inr (gives n, o) }
+
+-- a page is given up that was the member's, or wasn't
+owns_less : (before : ℕ → Option ℕ) (m q : ℕ) (c : Command) (a : Answered) → ((n : ℕ) → asks_page c n ≡ false) → ((n : ℕ) → frees_page c n ≡ (n == q)) → Owns before (put before q None) m (sent.Command c) a
+owns_less before m q c a asks frees = record {
+  takes = λ n e. absurd (both_ways (takes_page (sent.Command c) a n) (unasked c a n (asks n)) e);
+  keeps = λ n e o. put_there n (sym (frees n) ∙ e) ∙ o;
+  only = λ n o. only n o;
+}
+  where
+    put_there : (n : ℕ) → (n == q) ≡ false → put before q None n ≡ before n
+    put_there n e = cond-false (n == q) None (before n) e
+
+    only : (n : ℕ) → put before q None n ≡ Some m → (takes_page (sent.Command c) a n ≡ true) ⊎ ((frees_page c n ≡ false) × (before n ≡ Some m))
+    only n o = elim (cases_Bool (n == q)) [
+      | inl e ↦ absurd (none-some m (sym (cond-true (n == q) None (before n) e) ∙ o))
+      | inr e ↦ inr (frees n ∙ e, sym (put_there n e) ∙ o)
+    ]
+
+owns_other : (before : ℕ → Option ℕ) (m q : ℕ) (c : Command) (a : Answered) → ((n : ℕ) → asks_page c n ≡ false) → ((n : ℕ) → frees_page c n ≡ (n == q)) → before q ≢ Some m → Owns before before m (sent.Command c) a
+owns_other before m q c a asks frees other = record {
+  takes = λ n e. absurd (both_ways (takes_page (sent.Command c) a n) (unasked c a n (asks n)) e);
+  keeps = λ n e o. o;
+  only = λ n o. inr (frees n ∙ away n o, o);
+}
+  where
+    away : (n : ℕ) → before n ≡ Some m → (n == q) ≡ false
+    away n o = ne_eqb n q (λ e. other (ap before (sym e) ∙ o))
+
+-- one is granted
+owns_more : (before left : ℕ → Option ℕ) (m q : ℕ) (c : Command) (answer : Reply) → ((n : ℕ) → asks_page c n ≡ (n == q)) → ((n : ℕ) → frees_page c n ≡ false) → is_granted answer ≡ true
+    → left q ≡ Some m → ((n : ℕ) → n ≢ q → left n ≡ before n) → Owns before left m (sent.Command c) (answered.Reply answer)
+owns_more before left m q c answer asks frees granted has others = record {
+  takes = λ n e. ap left (eqb-true n q (sym (asks n) ∙ (and_parts (asks_page c n) (is_granted answer) e).0)) ∙ has;
+  keeps = λ n e o. keeps n o;
+  only = λ n o. only n o;
+}
+  where
+    keeps : (n : ℕ) → before n ≡ Some m → left n ≡ Some m
+    keeps n o = elim (cases_eq n q) [
+      | inl e ↦ ap left e ∙ has
+      | inr ne ↦ others n ne ∙ o
+    ]
+
+    only : (n : ℕ) → left n ≡ Some m → ((asks_page c n && is_granted answer) ≡ true) ⊎ ((frees_page c n ≡ false) × (before n ≡ Some m))
+    only n o = elim (cases_eq n q) [
+      | inl e ↦ inl (and_from (asks_page c n) (is_granted answer) (asks n ∙ eq-eqb n q e) granted)
+      | inr ne ↦ inr (frees n, sym (others n ne) ∙ o)
+    ]
+
+-- what an event has made, with what it has done to page locks
+record Made (w : World) (v : Outside) (g : Holdings) (content : ℕ → ℕ → List ℕ) (forced : ℕ → ℕ) (h k : Held) (s : RestartSent) (a : Answered) : Type 0 where
+  pub owned : ℕ → Option ℕ
+  pub led : Led w v g content forced h k owned
+  pub owns : Owns g.owner owned h.marks.member s a
+
 module _ (facts : Facts) (w : World) (u v : Outside) (g : Holdings) (content : ℕ → ℕ → List ℕ) (forced : ℕ → ℕ) (h k : Held) (a : Answered) (said : RestartTold) (b : Beside w u g content forced h) (quiet : IsQuiet g h k a) (works : a ≢ answered.Failed) where
   abbrev Goes : Type 0
-  Goes = Led w v g content forced h k
+  Goes = Led w v g content forced h k g.owner
 
   level : Level g h.marks.member k
   level = quiet.level
+
+  -- page locks stay as they are
+  kept : (s t : RestartSent) → s ≡ t → ((n : ℕ) → takes_page t a n ≡ false) → ((n : ℕ) → gives_page t n ≡ false) → Goes → Made w v g content forced h k s a
+  kept s t is takes gives goes = record { owned = g.owner; led = goes; owns = subst (λ z. Owns g.owner g.owner h.marks.member z a) (sym is) (owns_same g.owner h.marks.member t a takes gives) }
+
+  kept_by : (s : RestartSent) (c : Command) → s ≡ sent.Command c → ((n : ℕ) → asks_page c n ≡ false) → ((n : ℕ) → frees_page c n ≡ false) → Goes → Made w v g content forced h k s a
+  kept_by s c is asks frees goes = kept s (sent.Command c) is (λ n. unasked c a n (asks n)) frees goes
 
   -- the disk tells what it told
   drive_on : (as_restarting v).drive ≡ (as_restarting u).drive → Shows v.drive g.disk
@@ -314,35 +399,70 @@ module _ (facts : Facts) (w : World) (u v : Outside) (g : Holdings) (content : �
       (subst (λ (f : Facility). IsSound f.directory) (sym write.1) (facts.sound.write g.facility.directory h.marks.member p 0 h.page b.begins.sound)) (drive_on drive) (ap (λ (z : OwnState). z.is_read) goes.own ∙ b.read) level
 
   -- ---- a page is given up
-  gives_up : (p : PageId) → MayGiveUp w g h.marks.member p → (h.marks.hand.page ≡ Some p → h.marks.hand.changed ≡ false) → KeepsPages g.facility v.facility → Shows v.drive g.disk → Keeps h k → Goes
-  gives_up p may clean keeps drive s =
-      give_up_leads facts w u v g content forced h k p b (facts.give_up w g content forced h k p v.facility b.begins may.own clean may.written keeps s.hand) may.own keeps drive (is_read s) level
+  gives_up : (s : RestartSent) (c : Command) (p : PageId) → s ≡ sent.Command c → ((n : ℕ) → asks_page c n ≡ false) → ((n : ℕ) → frees_page c n ≡ (n == page_number p))
+      → MayGiveUp w g h.marks.member p → (h.marks.hand.page ≡ Some p → h.marks.hand.changed ≡ false) → KeepsPages g.facility v.facility → Shows v.drive g.disk → Keeps h k → Made w v g content forced h k s a
+  gives_up s c p is asks frees may clean keeps drive x = by (g.owner (page_number p)) refl
+    where
+      m : ℕ
+      m = h.marks.member
 
-  purges : (p : PageId) → h.marks.hand.changed ≡ false → (r : RunsCommand u.facility h intent.PurgePage (command.Purge (name.Page p)) a said v.facility k) → (as_restarting v).drive ≡ (as_restarting u).drive → MayGiveUp w g h.marks.member p → Goes
-  purges p clean r drive may =
+      mine : g.owner (page_number p) ≡ Some m → Made w v g content forced h k s a
+      mine own = record {
+        owned = put g.owner (page_number p) None;
+        led = give_up_leads facts w u v g content forced h k p b (facts.give_up w g content forced h k p v.facility b.begins own clean (may own) keeps x.hand) own keeps drive (is_read x) level;
+        owns = subst (λ z. Owns g.owner (put g.owner (page_number p) None) m z a) (sym is) (owns_less g.owner m (page_number p) c a asks frees);
+      }
+
+      other : g.owner (page_number p) ≢ Some m → Made w v g content forced h k s a
+      other ne = record { owned = g.owner; led = stays keeps drive x; owns = subst (λ z. Owns g.owner g.owner m z a) (sym is) (owns_other g.owner m (page_number p) c a asks frees ne) }
+
+      by : (o : Option ℕ) → g.owner (page_number p) ≡ o → Made w v g content forced h k s a
+      by None e = other (λ f. none-some m (sym e ∙ f))
+      by (Some q) e = elim (cases_eq q m) [
+        | inl same ↦ mine (e ∙ ap Some same)
+        | inr ne ↦ other (λ f. ne (same_Some q m (sym e ∙ f)))
+      ]
+
+  purges : (s : RestartSent) (p : PageId) → s ≡ sent.Command (command.Purge (name.Page p)) → h.marks.hand.changed ≡ false
+      → (r : RunsCommand u.facility h intent.PurgePage (command.Purge (name.Page p)) a said v.facility k) → (as_restarting v).drive ≡ (as_restarting u).drive → MayGiveUp w g h.marks.member p → Made w v g content forced h k s a
+  purges s p is clean r drive may =
       let x = r.gives.executed in
-      let s = keeps_as h (with_marks (record h { spare = r.after.spare }) (page_freed h.marks h.marks.hand.key)) k
+      let y = keeps_as h (with_marks (record h { spare = r.after.spare }) (page_freed h.marks h.marks.hand.key)) k
       (r.settles ∙ ap (settled r.after intent.PurgePage) x.executes.0.0 ∙ ap (λ (z : Held). with_marks z (page_freed z.marks z.marks.hand.key)) x.back) (freed_keeps h r.after.spare h.marks.hand.key) in
-      gives_up p may (λ _. clean) (kept_of intent.PurgePage (command.Purge (name.Page p)) refl refl r) (drive_on drive) s
+      gives_up s (command.Purge (name.Page p)) p is (λ n. refl) (λ n. refl) may (λ _. clean) (kept_of intent.PurgePage (command.Purge (name.Page p)) refl refl r) (drive_on drive) y
 
-  releases : (p : PageId) → (h.marks.hand.page ≡ Some p → h.marks.hand.changed ≡ false)
-      → (r : RunsCommand u.facility h intent.ReleasePage (command.Release (name.Page p) (record { share = false; exclusive = false })) a said v.facility k) → (as_restarting v).drive ≡ (as_restarting u).drive → MayGiveUp w g h.marks.member p → Goes
-  releases p clean r drive may =
-      let y = r.gives.executed in
-      let s = keeps_as h (with_marks (record h { spare = r.after.spare }) (record h.marks { claim = None })) k
-      (r.settles ∙ ap (settled r.after intent.ReleasePage) y.executes.0.0 ∙ ap (λ (z : Held). with_marks z (record z.marks { claim = None })) y.back)
+  releases : (s : RestartSent) (p : PageId) → s ≡ sent.Command (command.Release (name.Page p) (record { share = false; exclusive = false })) → (h.marks.hand.page ≡ Some p → h.marks.hand.changed ≡ false)
+      → (r : RunsCommand u.facility h intent.ReleasePage (command.Release (name.Page p) (record { share = false; exclusive = false })) a said v.facility k) → (as_restarting v).drive ≡ (as_restarting u).drive → MayGiveUp w g h.marks.member p → Made w v g content forced h k s a
+  releases s p is clean r drive may =
+      let x = r.gives.executed in
+      let y = keeps_as h (with_marks (record h { spare = r.after.spare }) (record h.marks { claim = None })) k
+      (r.settles ∙ ap (settled r.after intent.ReleasePage) x.executes.0.0 ∙ ap (λ (z : Held). with_marks z (record z.marks { claim = None })) x.back)
       (record { hand = record { member = refl; log = refl; page = refl; copy = refl; last = refl }; own = refl }) in
-      gives_up p may clean (kept_of intent.ReleasePage (command.Release (name.Page p) (record { share = false; exclusive = false })) refl refl r) (drive_on drive) s
+      gives_up s (command.Release (name.Page p) (record { share = false; exclusive = false })) p is (λ n. refl) (λ n. refl) may clean
+      (kept_of intent.ReleasePage (command.Release (name.Page p) (record { share = false; exclusive = false })) refl refl r) (drive_on drive) y
 
   -- ---- a page's lock is asked for
-  takes : (p : PageId) (answer : Reply) → (is_granted answer ≡ true → MayTake g h.marks.member (Some p)) → KeepsPages g.facility v.facility → Shows v.drive g.disk → Keeps h k → Goes
-  takes p answer may keeps drive s = by (is_granted answer) refl
+  takes : (s : RestartSent) (c : Command) (p : PageId) (answer : Reply) → s ≡ sent.Command c → a ≡ answered.Reply answer → ((n : ℕ) → asks_page c n ≡ (n == page_number p)) → ((n : ℕ) → frees_page c n ≡ false)
+      → (is_granted answer ≡ true → MayTake g h.marks.member (Some p)) → KeepsPages g.facility v.facility → Shows v.drive g.disk → Keeps h k → Made w v g content forced h k s a
+  takes s c p answer is said_is asks frees may keeps drive x = by (is_granted answer) refl
     where
-      by : (x : Bool) → is_granted answer ≡ x → Goes
-      by false e = stays keeps drive s
+      m : ℕ
+      m = h.marks.member
+
+      as_asked : (left : ℕ → Option ℕ) → Owns g.owner left m (sent.Command c) (answered.Reply answer) → Owns g.owner left m s a
+      as_asked left o = subst (λ z. Owns g.owner left m z a) (sym is) (subst (λ z. Owns g.owner left m (sent.Command c) z) (sym said_is) o)
+
+      by : (y : Bool) → is_granted answer ≡ y → Made w v g content forced h k s a
+      by false e = record { owned = g.owner; led = stays keeps drive x; owns = as_asked g.owner (owns_same g.owner m (sent.Command c) (answered.Reply answer) (λ n. ungranted (asks_page c n) (is_granted answer) e) frees) }
       by true e = elim (may e) [
-        | inl free ↦ lock_leads facts w u v g content forced h k p b free keeps drive s.hand (is_read s) level
-        | inr own ↦ stays keeps drive s
+        | inl free ↦ record {
+          owned = put g.owner (page_number p) (Some m);
+          led = lock_leads facts w u v g content forced h k p b free keeps drive x.hand (is_read x) level;
+          owns = as_asked (put g.owner (page_number p) (Some m))
+              (owns_more g.owner (put g.owner (page_number p) (Some m)) m (page_number p) c answer asks frees e (cond-true (page_number p == page_number p) (Some m) (g.owner (page_number p)) (eq-eqb (page_number p) (page_number p) refl))
+              (λ n ne. cond-false (n == page_number p) (Some m) (g.owner n) (ne_eqb n (page_number p) ne)));
+        }
+        | inr own ↦ record { owned = g.owner; led = stays keeps drive x; owns = as_asked g.owner (owns_more g.owner g.owner m (page_number p) c answer asks frees e own (λ n ne. refl)) }
       ]
 
   -- ---- the registration of index 0 is dropped
@@ -361,7 +481,7 @@ module _ (facts : Facts) (w : World) (u v : Outside) (g : Holdings) (content : �
       let on = went_on u.drive v.drive.contents g.disk b.drive _ told.0.ok.2 in
       let is : k ≡ with_marks h (forced_after h.marks) = stored.2 ∙ ap (got_after r.after sent.AppendLog) on.2.0 ∙ ap (λ (z : Held). with_marks z (forced_after z.marks)) told.1 in
       let m = h.marks.member in
-      subst (λ (z : Held). Led w v g content forced h z) (sym is)
+      subst (λ (z : Held). Led w v g content forced h z g.owner) (sym is)
       (made facts.good w u v g (all_forced g m) content content forced (put forced m h.marks.log.last) h (with_marks h (forced_after h.marks)) b (facts.append w g content forced h b.begins)
       (b.facility ∙ sym same) (pages_on on.0 on.1 (ap (λ (z : Contents). z.pages) on.2.1)) b.begins.sound b.read (others_forced g forced m h.marks.log.last) (λ n i l. refl) (λ c e. cond-true (m == m) (g.written m) (g.stable m) (eq-eqb m m refl)))
 
@@ -373,7 +493,7 @@ module _ (facts : Facts) (w : World) (u v : Outside) (g : Holdings) (content : �
       let stored = subst (λ z. Stores r.after (sent.CutLog long) z a said k) it.1 r.stores in
       let on = went_on u.drive v.drive.contents g.disk b.drive _ told.0.ok.2 in
       let is : k ≡ with_marks h (tail_cut h.marks) = stored.2 ∙ ap (got_after r.after (sent.CutLog long)) on.2.0 ∙ ap (λ (z : Held). with_marks z (tail_cut z.marks)) told.1 in
-      subst (λ (z : Held). Led w v g content forced h z) (sym is)
+      subst (λ (z : Held). Led w v g content forced h z g.owner) (sym is)
       (stay_leads facts w u v g content forced h (with_marks h (tail_cut h.marks)) b (same_facility same) (pages_on on.0 on.1 (ap (λ (z : Contents). z.pages) on.2.1))
       (record { member = refl; log = refl; page = refl; copy = refl; last = refl }) b.read (subst (λ (z : Held). Level g h.marks.member z) is level))
 
@@ -425,96 +545,104 @@ module _ (facts : Facts) (w : World) (u v : Outside) (g : Holdings) (content : �
   ran i s t e r = subst (λ z. Runs (as_restarting u) h i z a said (as_restarting v) k) e r
 
   by_intent : (i : RestartIntent) (s : RestartSent) → need_of h.marks i ≡ Ok s → i ≢ intent.Up → (r : Runs (as_restarting u) h i s a said (as_restarting v) k)
-      → ((c : Command) → s ≡ sent.Command c → (r : RunsCommand u.facility h i c a said v.facility k) → IsGiven w g content h r.after i r.answer) → Goes
+      → ((c : Command) → s ≡ sent.Command c → (r : RunsCommand u.facility h i c a said v.facility k) → IsGiven w g content h r.after i r.answer) → Made w v g content forced h k s a
   by_intent intent.Step s e up r given =
       let q = ran intent.Step s sent.None (just_as sent.None s e) r in
-      stays (same_facility (ap (λ (z : restarting.World). z.facility) q.world)) (drive_on (ap (λ (z : restarting.World). z.drive) q.world)) (keeps_as h h k q.held (record { hand = record { member = refl; log = refl; page = refl; copy = refl; last = refl }; own = refl }))
+      kept s sent.None (just_as sent.None s e) (λ n. refl) (λ n. refl)
+      (stays (same_facility (ap (λ (z : restarting.World). z.facility) q.world)) (drive_on (ap (λ (z : restarting.World). z.drive) q.world)) (keeps_as h h k q.held (record { hand = record { member = refl; log = refl; page = refl; copy = refl; last = refl }; own = refl })))
   by_intent intent.ReadLog s e up r given = absurd (read_once h.marks.own.is_read b.read (call_sent (next_in h.marks.own.reader)) s e)
   by_intent intent.CutTail s e up r given =
       let is = sent_as (when h.marks.own.is_read test.NotRead (when (not (h.marks.own.tail == 0)) test.NoTail passed)) (sent.CutLog h.marks.own.long) s e in
       let q = ran intent.CutTail s (sent.CutLog h.marks.own.long) is r in
-      cuts h.marks.own.long q.0 q.1
+      kept s (sent.CutLog h.marks.own.long) is (λ n. refl) (λ n. refl) (cuts h.marks.own.long q.0 q.1)
   by_intent intent.RetainedAt s e up r given =
       let c = command.RetainedAt h.marks.listed in
       let is = sent_as (when h.marks.own.is_read test.NotRead (when (not (is_end_listed h.marks)) test.AlreadyListed passed)) (sent.Command c) s e in
       let q = ran intent.RetainedAt s (sent.Command c) is r in
-      quietly intent.RetainedAt c refl refl q.0 q.1 (λ x answer done. subst (λ z. Keeps h (settled (record h { spare = x }) intent.RetainedAt z)) (sym done.0.0) (record_keeps h x (slice_get (retained_in u.facility.locks h.marks.member) h.marks.listed)))
+      kept_by s c is (λ n. refl) (λ n. refl)
+      (quietly intent.RetainedAt c refl refl q.0 q.1 (λ x answer done. subst (λ z. Keeps h (settled (record h { spare = x }) intent.RetainedAt z)) (sym done.0.0) (record_keeps h x (slice_get (retained_in u.facility.locks h.marks.member) h.marks.listed))))
   by_intent intent.Read s e up r given =
       let x = reads_hand h.marks s h.marks.hand.page refl e in
       let q = ran intent.Read s (sent.Command (command.Read x.page 0)) x.is r in
-      reads x.page x.placed q.0 q.1 (given (command.Read x.page 0) x.is q.0 x.page x.placed)
+      kept_by s (command.Read x.page 0) x.is (λ n. refl) (λ n. refl) (reads x.page x.placed q.0 q.1 (given (command.Read x.page 0) x.is q.0 x.page x.placed))
   by_intent intent.ReadPage s e up r given =
       let x = fills_hand h.marks s h.marks.hand.page refl e in
       let q = ran intent.ReadPage s (sent.ReadPage x.page) x.is r in
-      fills x.page x.placed x.registered x.unfilled q.0 q.1
+      kept s (sent.ReadPage x.page) x.is (λ n. refl) (λ n. refl) (fills x.page x.placed x.registered x.unfilled q.0 q.1)
   by_intent intent.Test s e up r given =
       let x = tests_hand h.marks s h.marks.hand.page refl e in
       let q = ran intent.Test s (sent.Command (command.Test 0)) x.is r in
-      tests x.page x.placed x.filled q.0 q.1 (given (command.Test 0) x.is q.0 x.page x.placed)
+      kept_by s (command.Test 0) x.is (λ n. refl) (λ n. refl) (tests x.page x.placed x.filled q.0 q.1 (given (command.Test 0) x.is q.0 x.page x.placed))
   by_intent intent.WritePage s e up r given =
       let x = writes_hand h.marks s h.marks.hand.page refl e in
       let q = ran intent.WritePage s (sent.Command (command.Write x.page 0)) x.is r in
-      writes x.page x.placed x.changed x.stable q.0 q.1
+      kept_by s (command.Write x.page 0) x.is (λ n. refl) (λ n. refl) (writes x.page x.placed x.changed x.stable q.0 q.1)
   by_intent intent.PurgePage s e up r given =
       let x = purges_hand h.marks s h.marks.hand.page refl e in
       let q = ran intent.PurgePage s (sent.Command (command.Purge (name.Page x.page))) x.is r in
-      purges x.page x.clean q.0 q.1 (given (command.Purge (name.Page x.page)) x.is q.0 x.page x.placed)
+      purges s x.page x.is x.clean q.0 q.1 (given (command.Purge (name.Page x.page)) x.is q.0 x.page x.placed)
   by_intent (intent.Purge n) s e up r given =
       let marked : Tested = when (mark_of h.marks.names n).retained test.NotRetained (when ((mark_of h.marks.names n).needed == 0) test.StillNeeded passed) in
       let rest : Tested = after (recovered_test h.marks) (when (not h.marks.hand.changed) test.StillChanged (when (length h.marks.log.pending == 0) test.StillPending passed)) in
       let is = sent_as (after marked rest) (sent.Command (command.Purge n)) s e in
+      let retained : (mark_of h.marks.names n).retained ≡ true =
+      when_first (mark_of h.marks.names n).retained test.NotRetained (when ((mark_of h.marks.names n).needed == 0) test.StillNeeded passed) (passes marked rest (after_first (after marked rest) (Ok (sent.Command (command.Purge n))) s e)) in
       let q = ran (intent.Purge n) s (sent.Command (command.Purge n)) is r in
-      quietly (intent.Purge n) (command.Purge n) refl refl q.0 q.1 (λ x answer done. subst (λ z. Keeps h (settled (record h { spare = x }) (intent.Purge n) z)) (sym done.0.0) (record { hand = record { member = refl; log = refl; page = refl; copy = refl; last = refl }; own = refl }))
+      kept_by s (command.Purge n) is (λ j. refl) (λ j. no_page h.marks n j retained)
+      (quietly (intent.Purge n) (command.Purge n) refl refl q.0 q.1 (λ x answer done. subst (λ z. Keeps h (settled (record h { spare = x }) (intent.Purge n) z)) (sym done.0.0) (record { hand = record { member = refl; log = refl; page = refl; copy = refl; last = refl }; own = refl })))
   by_intent intent.Append s e up r given =
       let is = sent_as (when (not (length h.marks.log.pending == 0)) test.NonePending (when (h.marks.own.tail == 0) test.HasTail passed)) sent.AppendLog s e in
       let q = ran intent.Append s sent.AppendLog is r in
-      appends q.0 q.1
+      kept s sent.AppendLog is (λ n. refl) (λ n. refl) (appends q.0 q.1)
   by_intent (intent.Obtain id) s e up r given =
       let x = locks_page h.marks (λ page. command.Obtain (name.Page page) X) s (page_undone h.marks.trans id) e in
       let c = command.Obtain (name.Page x.0) X in
       let q = ran (intent.Obtain id) s (sent.Command c) x.2 r in
       let y = q.0.gives.executed in
-      takes x.0 q.0.answer (λ so. subst (λ o. MayTake g h.marks.member o) x.1 (given c x.2 q.0 so)) (kept_of (intent.Obtain id) c refl refl q.0) (drive_on q.1)
+      takes s c x.0 q.0.answer x.2 q.0.is (λ n. refl) (λ n. refl) (λ so. subst (λ o. MayTake g h.marks.member o) x.1 (given c x.2 q.0 so)) (kept_of (intent.Obtain id) c refl refl q.0) (drive_on q.1)
       (keeps_as h (with_marks (record h { spare = q.0.after.spare }) (claim_after h.marks id q.0.answer)) k (q.0.settles ∙ ap (λ (z : Held). with_marks z (claim_after z.marks id q.0.answer)) y.back) (claimed_keeps h q.0.after.spare id q.0.answer))
   by_intent (intent.Ask id to) s e up r given =
-      let x = asks_page (λ page. command.Ask 0 to (name.Page page) X) s (page_undone h.marks.trans id) e in
+      let x = asks_page_of (λ page. command.Ask 0 to (name.Page page) X) s (page_undone h.marks.trans id) e in
       let c = command.Ask 0 to (name.Page x.0) X in
       let q = ran (intent.Ask id to) s (sent.Command c) x.1 r in
-      quietly (intent.Ask id to) c refl refl q.0 q.1 (λ x answer done. still h x)
+      kept_by s c x.1 (λ n. refl) (λ n. refl) (quietly (intent.Ask id to) c refl refl q.0 q.1 (λ x answer done. still h x))
   by_intent (intent.Answers id asked) s e up r given =
-      let x = asks_page (λ page. command.Answers 0) s (page_undone h.marks.trans id) e in
+      let x = asks_page_of (λ page. command.Answers 0) s (page_undone h.marks.trans id) e in
       let q = ran (intent.Answers id asked) s (sent.Command (command.Answers 0)) x.1 r in
-      quietly (intent.Answers id asked) (command.Answers 0) refl refl q.0 q.1 (λ x answer done. still h x)
+      kept_by s (command.Answers 0) x.1 (λ n. refl) (λ n. refl) (quietly (intent.Answers id asked) (command.Answers 0) refl refl q.0 q.1 (λ x answer done. still h x))
   by_intent (intent.Grant id) s e up r given =
       let x = locks_page h.marks (λ page. command.Grant 0 (name.Page page) X) s (page_undone h.marks.trans id) e in
       let c = command.Grant 0 (name.Page x.0) X in
       let q = ran (intent.Grant id) s (sent.Command c) x.2 r in
       let y = q.0.gives.executed in
-      takes x.0 q.0.answer (λ so. subst (λ o. MayTake g h.marks.member o) x.1 (given c x.2 q.0 so)) (kept_of (intent.Grant id) c refl refl q.0) (drive_on q.1)
+      takes s c x.0 q.0.answer x.2 q.0.is (λ n. refl) (λ n. refl) (λ so. subst (λ o. MayTake g h.marks.member o) x.1 (given c x.2 q.0 so)) (kept_of (intent.Grant id) c refl refl q.0) (drive_on q.1)
       (keeps_as h (with_marks (record h { spare = q.0.after.spare }) (claim_after h.marks id q.0.answer)) k (q.0.settles ∙ ap (λ (z : Held). with_marks z (claim_after z.marks id q.0.answer)) y.back) (claimed_keeps h q.0.after.spare id q.0.answer))
   by_intent (intent.Status m) s e up r given =
-      let q = ran (intent.Status m) s (sent.Command (command.Status m)) (just_as (sent.Command (command.Status m)) s e) r in
-      quietly (intent.Status m) (command.Status m) refl refl q.0 q.1 (λ x answer done. still h x)
+      let is = just_as (sent.Command (command.Status m)) s e in
+      let q = ran (intent.Status m) s (sent.Command (command.Status m)) is r in
+      kept_by s (command.Status m) is (λ n. refl) (λ n. refl) (quietly (intent.Status m) (command.Status m) refl refl q.0 q.1 (λ x answer done. still h x))
   by_intent (intent.Undo id) s e up r given =
       let x = undoes_hand h.marks s (newest h.marks.trans id) e in
       let q = ran (intent.Undo id) s (sent.Command undo_command) x.is r in
-      undoes id x.page x.placed x.filled q.0 q.1 (λ number is. given undo_command x.is q.0 number x.page is x.placed)
+      kept_by s undo_command x.is (λ n. refl) (λ n. refl) (undoes id x.page x.placed x.filled q.0 q.1 (λ number is. given undo_command x.is q.0 number x.page is x.placed))
   by_intent intent.ReleasePage s e up r given =
       let x = releases_page h.marks s h.marks.claim refl e in
       let c = command.Release (name.Page x.page) (record { share = false; exclusive = false }) in
       let q = ran intent.ReleasePage s (sent.Command c) x.is r in
-      releases x.page x.clean q.0 q.1 (given c x.is q.0 x.page x.claimed)
+      releases s x.page x.is x.clean q.0 q.1 (given c x.is q.0 x.page x.claimed)
   by_intent intent.Unregister s e up r given =
       let tests : Tested = when (is_none h.marks.hand.page) test.StillPlaced passed in
       let is = sent_as tests (sent.Command (command.Unregister 0)) s e in
       let none = is_nothing h.marks.hand.page (when_first (is_none h.marks.hand.page) test.StillPlaced passed (after_first tests (Ok (sent.Command (command.Unregister 0))) s e)) in
       let q = ran intent.Unregister s (sent.Command (command.Unregister 0)) is r in
-      unregisters none q.0 q.1
+      kept_by s (command.Unregister 0) is (λ n. refl) (λ n. refl) (unregisters none q.0 q.1)
   by_intent intent.Up s e up r given = absurd (up refl)
 
 pub events_go : Facts → EventsGo
 events_go facts w u v g content forced h k s a b happens up supplied =
     let mid = happens.after in
-    let led = by_intent facts w u v g content forced h mid a happens.said b supplied.quiet supplied.works happens.intent s happens.lawful up happens.runs supplied.given in
+    let did = by_intent facts w u v g content forced h mid a happens.said b supplied.quiet supplied.works happens.intent s happens.lawful up happens.runs supplied.given in
+    let led = did.led in
     let own : k.marks.own ≡ mid.marks.own = own_reaches mid.marks k.marks happens.ends.0 in
-    ended facts w v g content forced h mid k led.leads (λ c e. subst (λ z. led.leads.left.stable z ≡ led.leads.left.written z) (sym led.leads.same) (led.level c e)) happens.ends (ap (λ (z : OwnState). z.is_read) own ∙ led.leads.beside.read)
+    let on = ended facts w v g content forced h mid k led.leads (λ c e. subst (λ z. led.leads.left.stable z ≡ led.leads.left.written z) (sym led.leads.same) (led.level c e)) happens.ends (ap (λ (z : OwnState). z.is_read) own ∙ led.leads.beside.read) in
+    record { leads = on.leads; owns = subst (λ z. Owns g.owner z h.marks.member s a) (sym (on.owner ∙ led.owner)) did.owns }

@@ -176,17 +176,18 @@ others_restart g left forced force m h same ne r =
 abbrev pub Level : Holdings → ℕ → Held → Type 0
 Level g m k = k.marks.hand.changed ≡ true → is_some k.marks.hand.key ≡ true → g.stable m ≡ g.written m
 
-pub record Led (w : World) (v : Outside) (g : Holdings) (content : ℕ → ℕ → List ℕ) (forced : ℕ → ℕ) (h k : Held) : Type 0 where
+pub record Led (w : World) (v : Outside) (g : Holdings) (content : ℕ → ℕ → List ℕ) (forced : ℕ → ℕ) (h k : Held) (owned : ℕ → Option ℕ) : Type 0 where
   pub leads : Leads w v g content forced h k
   pub level : Level leads.left h.marks.member k
+  pub owner : leads.left.owner ≡ owned
 
 -- the castout locks are as they were
-still_none : (w v : World) (g left : Holdings) (content versions : ℕ → ℕ → List ℕ) (m : ℕ) → Tied w g content → Tied v left versions → ((n : ℕ) → (v.pages n).castout ≡ (w.pages n).castout) → CastsNone g m → CastsNone left m
+pub still_none : (w v : World) (g left : Holdings) (content versions : ℕ → ℕ → List ℕ) (m : ℕ) → Tied w g content → Tied v left versions → ((n : ℕ) → (v.pages n).castout ≡ (w.pages n).castout) → CastsNone g m → CastsNone left m
 still_none w v g left content versions m t u same none n e = none n ((t.pages n).castout ∙ sym (same n) ∙ sym ((u.pages n).castout) ∙ e)
 
 pub made : AlwaysGood → (w : World) (u v : Outside) (g left : Holdings) (content versions : ℕ → ℕ → List ℕ) (forced force : ℕ → ℕ) (h k : Held)
     → Beside w u g content forced h → Goes w versions force left h k → left.facility ≡ v.facility → Shows v.drive left.disk → IsSound left.facility.directory → k.marks.own.is_read ≡ true
-    → SameOthers g left forced force h.marks.member → ((n i : ℕ) → i ≤ (w.pages n).last → versions n i ≡ content n i) → Level left h.marks.member k → Led w v g content forced h k
+    → SameOthers g left forced force h.marks.member → ((n i : ℕ) → i ≤ (w.pages n).last → versions n i ≡ content n i) → Level left h.marks.member k → Led w v g content forced h k left.owner
 made law w u v g left content versions forced force h k b goes facility drive sound read others kept level = record {
   leads = record {
     moves = goes.moves;
@@ -207,18 +208,19 @@ made law w u v g left content versions forced force h k b goes facility drive so
     kept = kept;
   };
   level = level;
+  owner = refl;
 }
 
 -- ---- an event that leaves the page in hand
 pub stay_leads : Facts → (w : World) (u v : Outside) (g : Holdings) (content : ℕ → ℕ → List ℕ) (forced : ℕ → ℕ) (h k : Held)
-    → Beside w u g content forced h → KeepsPages g.facility v.facility → Shows v.drive g.disk → SameHand h k → k.marks.own.is_read ≡ true → Level g h.marks.member k → Led w v g content forced h k
+    → Beside w u g content forced h → KeepsPages g.facility v.facility → Shows v.drive g.disk → SameHand h k → k.marks.own.is_read ≡ true → Level g h.marks.member k → Led w v g content forced h k g.owner
 stay_leads facts w u v g content forced h k b keeps drive s read level =
     made facts.good w u v g (with_facility g v.facility) content content forced forced h k b (facts.stay w g content forced h k v.facility b.begins keeps s)
     refl drive (subst IsSound (sym keeps.directory) b.begins.sound) read (others_facility g v.facility forced h.marks.member (standings_of g.facility v.facility keeps)) (λ n i l. refl) level
 
 -- ---- one that changes it
 pub behind_leads : Facts → (w : World) (u v : Outside) (g : Holdings) (content : ℕ → ℕ → List ℕ) (forced : ℕ → ℕ) (h k : Held)
-    → Beside w u g content forced h → Goes w content forced (behind g v.facility h.marks.member k) h k → KeepsStandings g.facility v.facility → IsSound v.facility.directory → Shows v.drive g.disk → k.marks.own.is_read ≡ true → Level g h.marks.member k → Led w v g content forced h k
+    → Beside w u g content forced h → Goes w content forced (behind g v.facility h.marks.member k) h k → KeepsStandings g.facility v.facility → IsSound v.facility.directory → Shows v.drive g.disk → k.marks.own.is_read ≡ true → Level g h.marks.member k → Led w v g content forced h k g.owner
 behind_leads facts w u v g content forced h k b goes keeps sound drive read level =
     made facts.good w u v g (behind g v.facility h.marks.member k) content content forced forced h k b goes refl drive sound read (others_behind g v.facility forced h.marks.member k keeps) (λ n i l. refl) level
 
@@ -226,7 +228,7 @@ behind_leads facts w u v g content forced h k b goes keeps sound drive read leve
 away : (g : Holdings) (forced : ℕ → ℕ) (h : Held) → IsRestarting g forced h → h.marks.hand.page ≡ None → (j : ℕ) → g.copies h.marks.member j ≡ no_copy
 away g forced h r none j = r.copies j ∙ copy_none h j none
 
-unregister_goes : PlacesStays → UnregistersMoves → (w : World) (g : Holdings) (content : ℕ → ℕ → List ℕ) (forced : ℕ → ℕ) (h : Held) (answer : Reply) (v : Facility)
+pub unregister_goes : PlacesStays → UnregistersMoves → (w : World) (g : Holdings) (content : ℕ → ℕ → List ℕ) (forced : ℕ → ℕ) (h : Held) (answer : Reply) (v : Facility)
     → Begins w g content forced h → h.marks.hand.page ≡ None → UnregistersFrame g.facility h.marks.member 0 answer v → Goes w content forced (with_facility g v) h h
 unregister_goes places law w g content forced h answer v b none r = record {
   moves = At 0 (DropFrame m) ∷ [];
@@ -294,22 +296,22 @@ unregister_goes places law w g content forced h answer v b none r = record {
         (law w taken content h.marks.member 0 0 answer v still (record { placed = ap (λ (c : Copy). c.placed) here; at = ap (λ (c : Copy). c.index) here }) (ap (λ (c : Copy). c.marked) here) r)
 
 pub unregister_leads : Facts → (w : World) (u v : Outside) (g : Holdings) (content : ℕ → ℕ → List ℕ) (forced : ℕ → ℕ) (h k : Held) (answer : Reply)
-    → Beside w u g content forced h → h.marks.hand.page ≡ None → UnregistersFrame g.facility h.marks.member 0 answer v.facility → Shows v.drive g.disk → k ≡ h → Level g h.marks.member h → Led w v g content forced h k
-unregister_leads facts w u v g content forced h k answer b none r drive is level = subst (λ (z : Held). Led w v g content forced h z) (sym is) (
+    → Beside w u g content forced h → h.marks.hand.page ≡ None → UnregistersFrame g.facility h.marks.member 0 answer v.facility → Shows v.drive g.disk → k ≡ h → Level g h.marks.member h → Led w v g content forced h k g.owner
+unregister_leads facts w u v g content forced h k answer b none r drive is level = subst (λ (z : Held). Led w v g content forced h z g.owner) (sym is) (
     made facts.good w u v g (with_facility g v.facility) content content forced forced h h b (unregister_goes facts.places facts.unregisters w g content forced h answer v.facility b.begins none r)
     refl drive (subst (λ (z : Facility). IsSound z.directory) (sym r.1) (facts.sound.unregister g.facility.directory h.marks.member 0 b.begins.sound)) b.read
     (others_facility g v.facility forced h.marks.member (directory_standings g.facility v.facility (after_unregister g.facility.directory h.marks.member 0) r.1)) (λ n i l. refl) level)
 
 -- ---- page locks
 pub lock_leads : Facts → (w : World) (u v : Outside) (g : Holdings) (content : ℕ → ℕ → List ℕ) (forced : ℕ → ℕ) (h k : Held) (p : PageId)
-    → Beside w u g content forced h → g.owner (page_number p) ≡ None → KeepsPages g.facility v.facility → Shows v.drive g.disk → SameHand h k → k.marks.own.is_read ≡ true → Level g h.marks.member k → Led w v g content forced h k
+    → Beside w u g content forced h → g.owner (page_number p) ≡ None → KeepsPages g.facility v.facility → Shows v.drive g.disk → SameHand h k → k.marks.own.is_read ≡ true → Level g h.marks.member k → Led w v g content forced h k (put g.owner (page_number p) (Some h.marks.member))
 lock_leads facts w u v g content forced h k p b free keeps drive s read level =
     made facts.good w u v g (owned_by g v.facility (page_number p) (Some h.marks.member)) content content forced forced h k b (facts.lock w g content forced h k p v.facility b.begins free keeps s)
     refl drive (subst IsSound (sym keeps.directory) b.begins.sound) read
     (others_owned g v.facility forced h.marks.member (page_number p) (Some h.marks.member) (standings_of g.facility v.facility keeps) (λ j ne e. none-some j (sym free ∙ e)) (λ j ne e. ne (sym (same_Some h.marks.member j e)))) (λ n i l. refl) level
 
 pub give_up_leads : Facts → (w : World) (u v : Outside) (g : Holdings) (content : ℕ → ℕ → List ℕ) (forced : ℕ → ℕ) (h k : Held) (p : PageId)
-    → Beside w u g content forced h → Goes w content forced (owned_by g v.facility (page_number p) None) h k → g.owner (page_number p) ≡ Some h.marks.member → KeepsPages g.facility v.facility → Shows v.drive g.disk → k.marks.own.is_read ≡ true → Level g h.marks.member k → Led w v g content forced h k
+    → Beside w u g content forced h → Goes w content forced (owned_by g v.facility (page_number p) None) h k → g.owner (page_number p) ≡ Some h.marks.member → KeepsPages g.facility v.facility → Shows v.drive g.disk → k.marks.own.is_read ≡ true → Level g h.marks.member k → Led w v g content forced h k (put g.owner (page_number p) None)
 give_up_leads facts w u v g content forced h k p b goes own keeps drive read level =
     made facts.good w u v g (owned_by g v.facility (page_number p) None) content content forced forced h k b goes refl drive (subst IsSound (sym keeps.directory) b.begins.sound) read
     (others_owned g v.facility forced h.marks.member (page_number p) None (standings_of g.facility v.facility keeps) (λ j ne e. ne (sym (same_Some h.marks.member j (sym own ∙ e)))) (λ j ne e. none-some j e)) (λ n i l. refl) level
@@ -336,8 +338,12 @@ run_on : (w mid v : World) (xs ys : List Move) → Run set_of w xs mid → Run s
 run_on w mid v [] ys r q = subst (λ x. Run set_of x ys v) r q
 run_on w mid v (e ∷ es) ys r q = (r.0, r.1, run_on r.0 mid v es ys r.2 q)
 
+pub record LedOn (w : World) (v : Outside) (g : Holdings) (content : ℕ → ℕ → List ℕ) (forced : ℕ → ℕ) (h k : Held) (owned : ℕ → Option ℕ) : Type 0 where
+  pub leads : Leads w v g content forced h k
+  pub owner : leads.left.owner ≡ owned
+
 pub ended : Facts → (w : World) (v : Outside) (g : Holdings) (content : ℕ → ℕ → List ℕ) (forced : ℕ → ℕ) (h mid k : Held)
-    → (a : Leads w v g content forced h mid) → (mid.marks.hand.changed ≡ true → is_some mid.marks.hand.key ≡ true → a.left.stable mid.marks.member ≡ a.left.written mid.marks.member) → Ends mid k → k.marks.own.is_read ≡ true → Leads w v g content forced h k
+    → (a : Leads w v g content forced h mid) → (mid.marks.hand.changed ≡ true → is_some mid.marks.hand.key ≡ true → a.left.stable mid.marks.member ≡ a.left.written mid.marks.member) → Ends mid k → k.marks.own.is_read ≡ true → LedOn w v g content forced h k a.left.owner
 ended facts w v g content forced h mid k a park ends read =
     let b = a.beside in
     let f = a.left.facility in
@@ -345,22 +351,25 @@ ended facts w v g content forced h mid k a park ends read =
     let left = behind a.left f m k in
     let goes : Goes a.world a.versions a.force left mid k = facts.reaches a.world a.left a.versions a.force mid k b.begins b.casts park ends in
     record {
-      moves = a.moves ++ goes.moves;
-      world = goes.moved.world;
-      run = run_on w a.world goes.moved.world a.moves goes.moves a.run goes.moved.run;
-      left = left;
-      versions = a.versions;
-      force = a.force;
-      beside = record {
-        begins = record { good = facts.good set_of goes.moves a.world goes.moved.world b.begins.good goes.moved.run; tied = goes.moved.tied; numbered = goes.numbered; sound = b.begins.sound; restarts = goes.stands };
-        facility = b.facility;
-        drive = b.drive;
-        casts = subst (λ z. CastsNone a.left z) (sym goes.same) b.casts;
-        read = read;
+      leads = record {
+        moves = a.moves ++ goes.moves;
+        world = goes.moved.world;
+        run = run_on w a.world goes.moved.world a.moves goes.moves a.run goes.moved.run;
+        left = left;
+        versions = a.versions;
+        force = a.force;
+        beside = record {
+          begins = record { good = facts.good set_of goes.moves a.world goes.moved.world b.begins.good goes.moved.run; tied = goes.moved.tied; numbered = goes.numbered; sound = b.begins.sound; restarts = goes.stands };
+          facility = b.facility;
+          drive = b.drive;
+          casts = subst (λ z. CastsNone a.left z) (sym goes.same) b.casts;
+          read = read;
+        };
+        same = goes.same ∙ a.same;
+        others = others_on g a.left left forced a.force a.force h.marks.member m a.same a.others (others_behind a.left f a.force m k (standings_same f));
+        kept = a.kept;
       };
-      same = goes.same ∙ a.same;
-      others = others_on g a.left left forced a.force a.force h.marks.member m a.same a.others (others_behind a.left f a.force m k (standings_same f));
-      kept = a.kept;
+      owner = refl;
     }
 
 -- ---- what the disk tells goes on

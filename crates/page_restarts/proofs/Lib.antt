@@ -9,3 +9,4 @@ pub mod Leading
 pub mod Needs
 pub mod Events
 pub mod Ending
+pub mod Reading

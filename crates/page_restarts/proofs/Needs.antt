@@ -1,7 +1,7 @@
 -- What a lawful intent of a restart sends, and what its tests show.
 use Rattle.std.proofs.Common.{◌≡◌, ◌≤◌, refl, sym, ◌∙◌, ap, subst, Bool, true, false, Option, Some, None, Result, Ok, Err}
 use Rattle.std.specs.Prelude.{◌&&◌, ◌==◌, not, is_none, is_some, nat_le}
-use Rattle.std.proofs.lemmas.Bool.{and_from, eq-eqb, leb-true}
+use Rattle.std.proofs.lemmas.Bool.{and_from, and_parts, eq-eqb, eqb-true, leb-true}
 use Rattle.ds_base.specs.declared.names.PageId.{PageId}
 use Rattle.ds_model.specs.declared.lock.Name.TheVariants as name
 use Rattle.facility.specs.declared.command.Command.{Command}
@@ -29,7 +29,7 @@ err_ok t y x a b = cc
 pub same_ok : {T : Type 0} → (x y : T) (a b : Result T RestartTest) → a ≡ Ok x → b ≡ Ok y → a ≡ b → x ≡ y
 same_ok x y a b p q e = cc
 
-after_rest : {T : Type 0} → (t : Tested) (r : Result T RestartTest) (y : T) → after t r ≡ Ok y → r ≡ Ok y
+pub after_rest : {T : Type 0} → (t : Tested) (r : Result T RestartTest) (y : T) → after t r ≡ Ok y → r ≡ Ok y
 after_rest (Ok x) r y e = e
 after_rest {T} (Err t) r y e = absurd (err_ok t y (Err t) refl e)
 
@@ -44,7 +44,7 @@ pub when_first : (b : Bool) (t : RestartTest) (rest : Tested) → holds (when b 
 when_first true t rest h = refl
 when_first false t rest h = absurd (never h)
 
-when_rest : (b : Bool) (t : RestartTest) (rest : Tested) → holds (when b t rest) ≡ true → holds rest ≡ true
+pub when_rest : (b : Bool) (t : RestartTest) (rest : Tested) → holds (when b t rest) ≡ true → holds rest ≡ true
 when_rest true t rest h = h
 when_rest false t rest h = absurd (never h)
 
@@ -52,7 +52,7 @@ pub after_tests : (t rest : Tested) → holds (after t rest) ≡ true → holds 
 after_tests (Ok x) rest h = h
 after_tests (Err t) rest h = absurd (never h)
 
-passes : (t rest : Tested) → holds (after t rest) ≡ true → holds t ≡ true
+pub passes : (t rest : Tested) → holds (after t rest) ≡ true → holds t ≡ true
 passes (Ok y) rest h = refl
 passes (Err t) rest h = absurd (never h)
 
@@ -141,6 +141,9 @@ writes_hand s x (Some page) placed e =
 pub record PurgesHand (s : RestartState) (x : RestartSent) : Type 0 where
   pub page : PageId
   pub placed : s.hand.page ≡ Some page
+  pub listed : s.is_listed ≡ true
+  pub retained : is_some s.hand.key ≡ true
+  pub unclaimed : is_claimed s page ≡ false
   pub clean : s.hand.changed ≡ false
   pub is : x ≡ sent.Command (command.Purge (name.Page page))
 
@@ -153,10 +156,15 @@ purges_hand s x (Some page) placed e =
     let retained : Tested = when (is_some s.hand.key) test.NotRetained brought in
     let tests : Tested = after (listed_test s) retained in
     let first : holds tests ≡ true = after_first tests (Ok (sent.Command (command.Purge (name.Page page)))) x e in
+    let last : holds retained ≡ true = after_tests (listed_test s) retained first in
+    let still : holds unchanged ≡ true = when_rest s.hand.brought test.NotBrought unchanged (when_rest (is_some s.hand.key) test.NotRetained brought last) in
     record {
       page = page;
       placed = placed;
-      clean = not_false s.hand.changed (when_first (not s.hand.changed) test.StillChanged unclaimed (when_rest s.hand.brought test.NotBrought unchanged (when_rest (is_some s.hand.key) test.NotRetained brought (after_tests (listed_test s) retained first))));
+      listed = when_first s.is_listed test.NotListed passed (passes (listed_test s) retained first);
+      retained = when_first (is_some s.hand.key) test.NotRetained brought last;
+      unclaimed = not_false (is_claimed s page) (when_first (not (is_claimed s page)) test.StillClaimed passed (when_rest (not s.hand.changed) test.StillChanged unclaimed still));
+      clean = not_false s.hand.changed (when_first (not s.hand.changed) test.StillChanged unclaimed still);
       is = sent_as tests (sent.Command (command.Purge (name.Page page))) x e;
     }
 
@@ -207,14 +215,38 @@ pub record UndoesHand (s : RestartState) (x : RestartSent) : Type 0 where
   pub page : PageId
   pub placed : s.hand.page ≡ Some page
   pub filled : s.hand.filled ≡ true
+  pub claimed : s.claim ≡ Some page
   pub is : x ≡ sent.Command undo_command
 
-hand_tested : (s : RestartState) (page : PageId) (p : Option PageId) → holds (undone_hand_test s page p) ≡ true → (own : PageId) × (p ≡ Some own) × (s.hand.filled ≡ true)
+same_page : (p q : PageId) → is_same p q ≡ true → p ≡ q
+same_page p q e =
+    let both = and_parts (p.set == q.set) (p.number == q.number) e in
+    let sets : p.set ≡ q.set = eqb-true p.set q.set both.0 in
+    let numbers : p.number ≡ q.number = eqb-true p.number q.number both.1 in
+    λ i. record { set = sets i; number = numbers i }
+
+claimed_as : (o : Option PageId) (page : PageId) → is_claimed_as o page ≡ true → o ≡ Some page
+claimed_as None page e = absurd (never e)
+claimed_as (Some q) page e = ap Some (same_page q page e)
+
+record HasHand (s : RestartState) (p : Option PageId) : Type 0 where
+  pub own : PageId
+  pub is : p ≡ Some own
+  pub filled : s.hand.filled ≡ true
+  pub claimed : s.claim ≡ Some own
+
+hand_tested : (s : RestartState) (page : PageId) (p : Option PageId) → holds (undone_hand_test s page p) ≡ true → HasHand s p
 hand_tested s page None h = absurd (never h)
 hand_tested s page (Some own) h =
     let claimed : Tested = when (is_claimed s page) test.NotClaimed passed in
     let filled : Tested = when s.hand.filled test.NotFilled claimed in
-    (own, refl, when_first s.hand.filled test.NotFilled claimed (when_rest (is_same own page) test.OtherPage filled h))
+    let rest : holds filled ≡ true = when_rest (is_same own page) test.OtherPage filled h in
+    record {
+      own = own;
+      is = refl;
+      filled = when_first s.hand.filled test.NotFilled claimed rest;
+      claimed = claimed_as s.claim page (when_first (is_claimed s page) test.NotClaimed passed (when_rest s.hand.filled test.NotFilled claimed rest)) ∙ ap Some (sym (same_page own page (when_first (is_same own page) test.OtherPage filled h)));
+    }
 
 pub undoes_hand : (s : RestartState) (x : RestartSent) (p : Option Newest) → undo_with s p ≡ Ok x → UndoesHand s x
 undoes_hand s x None e = absurd (err_ok test.NoneStands x (Err test.NoneStands) refl e)
@@ -225,4 +257,4 @@ undoes_hand s x (Some it) e =
     let tests : Tested = after (recovered_test s) (after hand rest) in
     let first : holds tests ≡ true = after_first tests (Ok (sent.Command undo_command)) x e in
     let it = hand_tested s (page_of c) s.hand.page (passes hand rest (after_tests (recovered_test s) (after hand rest) first)) in
-    record { page = it.0; placed = it.1; filled = it.2; is = sent_as tests (sent.Command undo_command) x e }
+    record { page = it.own; placed = it.is; filled = it.filled; claimed = it.claimed; is = sent_as tests (sent.Command undo_command) x e }

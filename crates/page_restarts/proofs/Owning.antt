@@ -30,7 +30,7 @@ same_of h t n s =
     let page = s.page in
     λ i. copy_for (copy i) (page i) n
 
-still : (g : Holdings) (forced : ℕ → ℕ) (h t : Held) (v : Facility) (owner : ℕ → Option ℕ) → IsRestarting g forced h → KeepsPages g.facility v → SameHand h t → IsRestarting (record g { facility = v; owner = owner }) forced t
+pub still : (g : Holdings) (forced : ℕ → ℕ) (h t : Held) (v : Facility) (owner : ℕ → Option ℕ) → IsRestarting g forced h → KeepsPages g.facility v → SameHand h t → IsRestarting (record g { facility = v; owner = owner }) forced t
 still g forced h t v owner r keeps s = record {
   least = subst (λ m. 1 ≤ m) (sym s.member) r.least;
   among = subst (λ m. m ≤ v.lists.members) (sym s.member) (subst (λ z. h.marks.member ≤ z) (sym keeps.members) r.among);

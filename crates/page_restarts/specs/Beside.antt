@@ -6,7 +6,8 @@ use Rattle.restart_resources.specs.Held.{Held}
 use Rattle.page_protocol.specs.Moves.{World, Move, Run}
 use Rattle.page_world.specs.Numbers.{set_of}
 use Rattle.page_world.specs.Holdings.{Holdings}
-use Rattle.page_members.specs.Members.{SameOthers, Shows}
+-- given out again: what an event of one member leaves of the others
+pub use Rattle.page_members.specs.Members.{SameOthers, Shows}
 use Rattle.page_restarts.specs.Locals.{CastsNone}
 use Rattle.page_restarts.specs.Stands.{Begins, IsRestarting}
 

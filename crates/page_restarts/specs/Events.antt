@@ -1,7 +1,9 @@
 -- Any event of a member's restart, as moves in the world of pages.
-use Rattle.std.specs.Prelude.{◌≡◌, ◌≢◌, ◌⊎◌, ℕ, Bool, true, false, List, Option, Some, None, is_some}
+use Rattle.std.specs.Prelude.{◌≡◌, ◌≢◌, ◌⊎◌, ℕ, ◌==◌, ◌&&◌, Bool, true, false, List, Option, Some, None, is_some}
 use Rattle.ds_base.specs.declared.names.PageId.{PageId}
+use Rattle.ds_model.specs.declared.lock.Name.TheVariants as name
 use Rattle.facility.specs.declared.command.Command.{Command}
+use Rattle.facility.specs.declared.command.Command.TheVariants as command
 use Rattle.facility.specs.declared.command.Reply.{Reply}
 use Rattle.facility.specs.declared.command.Reply.TheVariants as reply
 use Rattle.member_intents.specs.declared.outcome.Answered.{Answered}
@@ -29,10 +31,9 @@ use Rattle.page_restarts.specs.Undoes.{IsUndone}
 abbrev pub IsRaised : World → Holdings → (ℕ → ℕ → List ℕ) → Held → Held → Type 0
 IsRaised w g content h e = (p : PageId) → h.marks.hand.page ≡ Some p → Forwards w g content e p
 
--- a page is given up that the member has, and all of its changes of it are in the group's copy
-pub record MayGiveUp (w : World) (g : Holdings) (m : ℕ) (p : PageId) : Type 0 where
-  pub own : g.owner (page_number p) ≡ Some m
-  pub written : IsWritten w.group (w.pages (page_number p)) m
+-- where a page that is given up is the member's, all of its changes of it are in the group's copy
+abbrev pub MayGiveUp : World → Holdings → ℕ → PageId → Type 0
+MayGiveUp w g m p = g.owner (page_number p) ≡ Some m → IsWritten w.group (w.pages (page_number p)) m
 
 -- the lock of a page is granted that nobody has, or the member itself
 abbrev pub MayTake : Holdings → ℕ → Option PageId → Type 0
@@ -71,11 +72,44 @@ pub record Supplied (w : World) (u v : Outside) (g : Holdings) (content : ℕ �
   -- the disk does what it is asked
   pub works : a ≢ answered.Failed
 
+-- ---- what an event does to page locks
+
+-- the lock of the page is asked for
+abbrev pub asks_page : Command → ℕ → Bool
+asks_page (command.Obtain (name.Page p) mode) n = n == page_number p
+asks_page (command.Grant slot (name.Page p) mode) n = n == page_number p
+asks_page _ n = false
+
+-- it is given up, or the retained record of it is freed
+abbrev pub frees_page : Command → ℕ → Bool
+frees_page (command.Release (name.Page p) keeps) n = n == page_number p
+frees_page (command.Purge (name.Page p)) n = n == page_number p
+frees_page _ n = false
+
+abbrev pub takes_page : RestartSent → Answered → ℕ → Bool
+takes_page (sent.Command c) (answered.Reply answer) n = asks_page c n && is_granted answer
+takes_page _ _ n = false
+
+abbrev pub gives_page : RestartSent → ℕ → Bool
+gives_page (sent.Command c) n = frees_page c n
+gives_page _ n = false
+
+-- by page, who has had its lock and who has it: the member has those that it had and has not given up, and the one that it was granted
+pub record Owns (before left : ℕ → Option ℕ) (m : ℕ) (s : RestartSent) (a : Answered) : Type 0 where
+  pub takes : (n : ℕ) → takes_page s a n ≡ true → left n ≡ Some m
+  pub keeps : (n : ℕ) → gives_page s n ≡ false → before n ≡ Some m → left n ≡ Some m
+  pub only : (n : ℕ) → left n ≡ Some m → (takes_page s a n ≡ true) ⊎ ((gives_page s n ≡ false) × (before n ≡ Some m))
+
 -- ---- any event, but for the end of the restart: whatever was wanted, it was lawful, went out and was settled, and then the policy made local
 -- moves
+
+pub record EventLeads (w : World) (v : Outside) (g : Holdings) (content : ℕ → ℕ → List ℕ) (forced : ℕ → ℕ) (h k : Held) (s : RestartSent) (a : Answered) : Type 0 where
+  pub leads : Leads w v g content forced h k
+  pub owns : Owns g.owner leads.left.owner h.marks.member s a
+
 abbrev pub EventsGo : Type 0
 EventsGo = (w : World) (u v : Outside) (g : Holdings) (content : ℕ → ℕ → List ℕ) (forced : ℕ → ℕ) (h k : Held) (s : RestartSent) (a : Answered)
-    → Beside w u g content forced h → (happens : Happens (as_restarting u) h s a (as_restarting v) k) → happens.intent ≢ intent.Up → Supplied w u v g content h k s a happens → Leads w v g content forced h k
+    → Beside w u g content forced h → (happens : Happens (as_restarting u) h s a (as_restarting v) k) → happens.intent ≢ intent.Up → Supplied w u v g content h k s a happens → EventLeads w v g content forced h k s a
 
 -- ---- its end, with no page lock left: the member is up, and has no copy of a page
 

@@ -6,3 +6,4 @@ pub mod Locals
 pub mod Bringing
 pub mod Beside
 pub mod Events
+pub mod Reading

@@ -10,6 +10,7 @@ ghost use Rattle.page_restarts.specs.Events.{EndGoes, EventsGo};
 ghost use Rattle.page_restarts.specs.Hands.{FillGoes, ForwardGoes, PutsDown, ReadGoes, TakesUp, TestGoes, WriteGoes};
 ghost use Rattle.page_restarts.specs.Locals.{PutsAside, ReachesGo};
 ghost use Rattle.page_restarts.specs.Locks.{AppendGoes, GiveUpGoes, LockGoes, StayGoes};
+ghost use Rattle.page_restarts.specs.Reading.{ReadingBegins, ReadingGoes};
 ghost use Rattle.page_restarts.specs.Undoes.{UndoGoes};
 
 use cache_structure::keeps_entries_apart;
@@ -95,7 +96,8 @@ pub fn undoes_go()
 }
 
 /// Any event of a restart that has read its log, but for its end, whatever was wanted, whatever the answer, and whatever local moves the policy
-/// has made of it, leads to a good world that stands beside what is left, with its restart still in hand.
+/// has made of it, leads to a good world that stands beside what is left, with its restart still in hand. The member has the page locks that it
+/// had and has not given up, and the one that it was granted.
 pub fn events_go()
     ensures { EventsGo }
 {
@@ -123,3 +125,18 @@ pub fn ends_go()
 pub fn others_still_restart()
     ensures { OthersRestart }
 {}
+
+/// While a restart reads its log, from its begin on, its events leave the pages, but that they may drop a registration. Where the log is whole,
+/// the restart goes on as one that has read it.
+pub fn readings_go()
+    ensures begin { ReadingBegins }
+    ensures event { ReadingGoes }
+{
+    pages_have_numbers();
+    frames_are_moves();
+    keeps_entries_apart();
+    coherent_pages();
+    commands_leave();
+    locals_go();
+    owners_go();
+}

@@ -7,8 +7,9 @@ use Rattle.ds_model.specs.RecordBytes.{IsAllowed, log_bytes, record_bytes}
 use Rattle.ds_model.specs.declared.log.LogRecord.{LogRecord}
 use Rattle.member_log.specs.Buffers.{LogBuffer}
 use Rattle.member_marks.specs.State.{MarksState}
+use Rattle.member_effects.specs.Puts.{event_records}
 use Rattle.member_resources.specs.Held.{begun}
-use Rattle.put_records.specs.Puts.{AllowedBegin, AllowedReach, AllowedStay, BufferIsAllowed, event_records, is_append, is_done, pending_after}
+use Rattle.put_records.specs.Puts.{AllowedBegin, AllowedReach, AllowedStay, BufferIsAllowed, is_append, is_done, pending_after}
 use Rattle.put_records.proofs.Events.{events_put}
 use Rattle.put_records.proofs.Locals.{reach_stays}
 
@@ -32,5 +33,5 @@ left s t new false allowed k e = record {
 }
 
 pub allowed_stay : AllowedStay
-allowed_stay w v h k i place s a happens allowed b =
-    left h.marks k.marks (event_records (begun happens.ready place).marks i happens.plan a) (is_done a && is_append i) allowed b (events_put w v h k i place s a happens)
+allowed_stay w v h k i place s a happens b =
+    left h.marks k.marks (event_records (begun happens.ready place).marks i happens.plan a) (is_done a && is_append i) happens.allowed b (events_put w v h k i place s a happens)

@@ -1,19 +1,12 @@
 -- The log buffer behind the reply to an intent.
 use Rattle.std.proofs.Common.{◌≡◌, ℕ, refl, Bool, true, false, List, Option, Some, None}
-use Rattle.std.specs.Prelude.{nat_lt, is_some, length, slice_set}
-use Rattle.std.proofs.lemmas.Bool.{cond_both}
+use Rattle.std.specs.Prelude.{nat_lt, is_some, length}
 use Rattle.ds_base.specs.declared.names.PageId.{PageId}
 use Rattle.ds_base.specs.declared.names.TranId.{TranId}
 use Rattle.ds_model.specs.declared.fate.Refusal.{Refusal}
 use Rattle.ds_model.specs.declared.fate.Refusal.TheVariants as refusal
 use Rattle.ds_model.specs.declared.lock.Name.{Name}
 use Rattle.ds_model.specs.declared.lock.Name.TheVariants as name
-use Rattle.ds_model.specs.declared.log.RowChange.{RowChange}
-use Rattle.page_format.specs.declared.patch.Patch.{Patch}
-use Rattle.heap_space.specs.Written.{written}
-use Rattle.write_order.specs.declared.rank.Rank.{Rank}
-use Rattle.write_order.specs.Ranks.{rank_of}
-use Rattle.page_plans.specs.Rows.{after_row}
 use Rattle.lock_names.specs.declared.mode.Mode.{Mode}
 use Rattle.lock_manager.specs.declared.claim.Ask.{Ask}
 use Rattle.lock_manager.specs.declared.claim.Ask.TheVariants as ask
@@ -28,7 +21,7 @@ use Rattle.member_pool.specs.Heads.{freed, written as head_written}
 use Rattle.member_trans.specs.declared.fate.Owner.{Owner}
 use Rattle.member_trans.specs.declared.fate.Owner.TheVariants as owner
 use Rattle.member_marks.specs.Claims.{PageEntered, after_end_of, after_release_of, entered, entered_as, has_page, has_spare, is_agent, is_for_agents, lock_place, may_claim, may_enter_page, noted_released, offered, rollback_over, rollback_releasing}
-use Rattle.member_marks.specs.Frames.{after_filled, after_marked, after_registered, frame_in, is_placed, with_filled, with_registered}
+use Rattle.member_marks.specs.Frames.{after_filled, after_registered, frame_in, is_placed, with_filled, with_registered}
 use Rattle.member_marks.specs.Names.{without_name}
 use Rattle.member_marks.specs.State.{MarksState, slot_id, slot_tran, tran_of, with_locks}
 use Rattle.member_needs.specs.declared.plans.Plan.{Plan}
@@ -38,15 +31,16 @@ use Rattle.member_effects.specs.declared.answers.Said.{Said}
 use Rattle.member_effects.specs.declared.answers.Said.TheVariants as said
 use Rattle.member_effects.specs.declared.told.Told.{Told}
 use Rattle.member_effects.specs.Answers.{found_after, in_the_way_after}
-use Rattle.member_effects.specs.Changes.{back_by, bytes_at, changed_by, committed_after, drawn_after, patched_frames, patched_nth, patched_page, put_page, row_frame, row_nth, row_page, undone_after, undrawn_after}
+use Rattle.member_effects.specs.Changes.{back_by, changed_by, committed_after, drawn_after, patched_frames, row_frame, row_nth, undone_after, undrawn_after}
 use Rattle.member_effects.specs.Claims.{Claims, Enters, EntersPage, agent_entered, refused_after}
 use Rattle.member_effects.specs.Closing.{ended_after, page_released_after, purged_after, released_after}
 use Rattle.member_effects.specs.Cycles.{RefusesCycle, cycle_after}
 use Rattle.member_effects.specs.Frames.{full_at, read_after, tested_after, unregistered_after, valid_after, written_after}
 use Rattle.member_effects.specs.Kept.{Kept}
-use Rattle.put_records.specs.Puts.{change_records, commit_records, drawn_by, undo_records}
+use Rattle.member_effects.specs.Puts.{change_records, commit_records, drawn_by, undo_records}
+use Rattle.member_effects.proofs.Same.{patched_all, row_at, row_in}
 use Rattle.put_records.proofs.Records.{change_same, commit_put, row_put, system_put, undo_put, undo_same}
-use Rattle.put_records.proofs.Stays.{Puts, Same, Stays, puts_itself, puts_none, same_if, same_itself, same_on, stays_as, stays_heads, stays_if, stays_itself, stays_locks, stays_log, stays_names, stays_on}
+use Rattle.put_records.proofs.Stays.{Puts, Stays, puts_itself, puts_none, stays_as, stays_heads, stays_if, stays_itself, stays_locks, stays_log, stays_names, stays_on}
 
 -- ---- refusals
 pub stays_offered : (s : MarksState) (o : Owner) (r : Refusal) (place : ℕ) → Stays s (offered s o r place)
@@ -166,34 +160,6 @@ stays_ended s o reply.Done = stays_ended_of s o
 stays_ended s o _ = stays_itself s
 
 -- ---- changes
-same_marked : (s : MarksState) (at : ℕ) (rank : Rank) → Same s (after_marked s at rank)
-same_marked s at rank = same_if s _ _ (is_placed s.heads at) (record { log = refl; trans = refl }) (same_itself s)
-
-patched_at : (k : Kept) (at : ℕ) (o : Option PageId) (ps : List Patch) (n : ℕ) → Same k.marks (patched_page k at o ps n).marks
-patched_at k at None ps n = same_itself k.marks
-patched_at k at (Some id) ps n = cond_both (nat_lt at (length k.pages)) (put_page k at id (written id n ps (bytes_at k.pages at))) k (λ (z : Kept). Same k.marks z.marks)
-    (λ e. same_marked k.marks at (rank_of id (bytes_at (slice_set k.pages at (written id n ps (bytes_at k.pages at))) at))) (λ e. same_itself k.marks)
-
-patched_in : (k : Kept) (o : Option ℕ) (ps : List Patch) (n : ℕ) → Same k.marks (patched_nth k o ps n).marks
-patched_in k None ps n = same_itself k.marks
-patched_in k (Some at) ps n = patched_at k at (frame_in k.marks.heads at).page ps n
-
-patched_all : (k : Kept) (frames : Frames) (ps : List Patch) (n : ℕ) → Same k.marks (patched_frames k frames ps n).marks
-patched_all k frames ps n =
-    let one : Kept = patched_nth k (frame_of frames 0) ps n in
-    let two : Kept = patched_nth one (frame_of frames 1) ps n in
-    let last : Kept = patched_nth two (frame_of frames 2) ps n in
-    same_on k.marks two.marks last.marks (same_on k.marks one.marks two.marks (patched_in k (frame_of frames 0) ps n) (patched_in one (frame_of frames 1) ps n)) (patched_in two (frame_of frames 2) ps n)
-
-row_at : (k : Kept) (at : ℕ) (o : Option PageId) (c : RowChange) (n : ℕ) → Same k.marks (row_page k at o c n).marks
-row_at k at None c n = same_itself k.marks
-row_at k at (Some id) c n = cond_both (nat_lt at (length k.pages)) (put_page k at id (after_row n c (bytes_at k.pages at))) k (λ (z : Kept). Same k.marks z.marks)
-    (λ e. same_marked k.marks at (rank_of id (bytes_at (slice_set k.pages at (after_row n c (bytes_at k.pages at))) at))) (λ e. same_itself k.marks)
-
-row_in : (k : Kept) (o : Option ℕ) (c : RowChange) (n : ℕ) → Same k.marks (row_nth k o c n).marks
-row_in k None c n = same_itself k.marks
-row_in k (Some at) c n = row_at k at (frame_in k.marks.heads at).page c n
-
 changed_put : (k : Kept) (slot : ℕ) (frames : Frames) (p : Plan) (n : ℕ) → Puts k.marks (changed_by k slot frames p n).marks (change_records k.marks.log (slot_tran k.marks slot) p n)
 changed_put k slot frames plan.None n = puts_itself k.marks
 changed_put k slot frames (plan.System ps) n = change_same k.marks (patched_frames k frames ps n).marks (changed_by k slot frames (plan.System ps) n).marks slot (plan.System ps) n

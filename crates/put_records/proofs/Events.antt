@@ -21,6 +21,7 @@ use Rattle.member_log.specs.Buffers.{LogBuffer}
 use Rattle.member_marks.specs.State.{MarksState}
 use Rattle.member_needs.specs.declared.plans.Plan.{Plan}
 use Rattle.member_effects.specs.Answers.{nothing, summed}
+use Rattle.member_effects.specs.Puts.{event_records, reply_records}
 use Rattle.member_effects.specs.declared.told.Told.{Told}
 use Rattle.member_resources.specs.declared.lending.Lent.{Lent}
 use Rattle.member_resources.specs.declared.lending.Lent.TheVariants as lent
@@ -29,7 +30,7 @@ use Rattle.member_resources.specs.Held.{Held, begun, with_spare}
 use Rattle.member_resources.specs.Lending.{lent_of, with_bytes}
 use Rattle.member_resources.specs.Prepared.{Reserves, with_change_room}
 use Rattle.member_resources.specs.Settled.{Settles, cast_read, kept_of, settled, stored, unsent}
-use Rattle.put_records.specs.Puts.{EventsPut, event_records, is_append, is_done, pending_after, reply_records}
+use Rattle.put_records.specs.Puts.{EventsPut, is_append, is_done, pending_after}
 use Rattle.put_records.proofs.Effects.{committed_put, drawn_put, stays_claimed, stays_cycle, stays_ended, stays_ended_of, stays_filled, stays_found, stays_page_released, stays_purged, stays_read, stays_released, stays_tested, stays_unregistered, stays_written, undone_put}
 use Rattle.put_records.proofs.Locals.{reach_stays}
 use Rattle.put_records.proofs.Stays.{Puts, Stays, puts_as, puts_none, stays_as, stays_itself, stays_log, stays_on}

@@ -16,8 +16,9 @@ use Rattle.member_marks.specs.Records.{after_change, after_commit, after_system,
 use Rattle.member_needs.specs.declared.plans.Plan.{Plan}
 use Rattle.member_needs.specs.declared.plans.Plan.TheVariants as plan
 use Rattle.member_effects.specs.Changes.{system_record}
-use Rattle.put_records.specs.Puts.{back_records, both_if, change_records, commit_records, one_if, undo_records}
-use Rattle.put_records.proofs.Stays.{Puts, Same, puts_itself}
+use Rattle.member_effects.specs.Puts.{back_records, both_if, change_records, commit_records, one_if, undo_records}
+use Rattle.member_effects.proofs.Same.{Same}
+use Rattle.put_records.proofs.Stays.{Puts, puts_itself}
 
 -- one record behind those that wait
 one_put : (s : MarksState) (r : LogRecord) (t : TransState) (b : Bool) → Puts s (if b then record s { log = after_put s.log r; trans = t } else s) (one_if b r)

@@ -43,20 +43,6 @@ stays_locks s b = stays_log s (with_locks s b) refl
 pub stays_trans : (s : MarksState) (t : TransState) → Stays s (with_trans s t)
 stays_trans s t = stays_log s (with_trans s t) refl
 
--- ---- and the transactions too
-pub record Same (s t : MarksState) : Type 0 where
-  pub log : t.log ≡ s.log
-  pub trans : t.trans ≡ s.trans
-
-pub same_itself : (s : MarksState) → Same s s
-same_itself s = record { log = refl; trans = refl }
-
-pub same_on : (s t u : MarksState) → Same s t → Same t u → Same s u
-same_on s t u a b = record { log = b.log ∙ a.log; trans = b.trans ∙ a.trans }
-
-pub same_if : (s x y : MarksState) (b : Bool) → Same s x → Same s y → Same s (if b then x else y)
-same_if s x y b p q = cond_both b x y (λ (z : MarksState). Same s z) (λ e. p) (λ e. q)
-
 -- ---- records are put
 pub record Puts (s t : MarksState) (new : List LogRecord) : Type 0 where
   pub pending : t.log.pending ≡ s.log.pending ++ log_bytes new

@@ -90,6 +90,7 @@ module _ (law : SendsLawfully) (K : Claim) (m : Member) (w : World) (place : ℕ
             reserves = a.happens.reserves;
             runs = a.happens.runs;
             ends = (b.0, refl);
+            allowed = a.happens.allowed;
           };
           member = refl;
         };

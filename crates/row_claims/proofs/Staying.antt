@@ -12,8 +12,9 @@ use Rattle.member_marks.specs.State.{MarksState, tran_of}
 use Rattle.member_intents.specs.declared.intent.Intent.{Intent}
 use Rattle.member_intents.specs.declared.outcome.Answered.{Answered}
 use Rattle.member_intents.specs.declared.outcome.Sent.{Sent}
+use Rattle.member_effects.specs.Puts.{event_records}
 use Rattle.member_resources.specs.Events.{Happens, World}
-use Rattle.member_resources.specs.Held.{Held}
+use Rattle.member_resources.specs.Held.{Held, begun}
 use Rattle.marks_law.specs.Slots.{SlotsBegin, SlotsReach, SlotsStay}
 use Rattle.strict_locking.specs.Keeping.{ChangesLock, EventsKeep, MovesKeep}
 use Rattle.strict_locking.specs.Rows.{HasLocked, is_over}
@@ -69,41 +70,42 @@ before f disk pend more w v h k i place sent a happens l id spot some changed =
     by (inl closed) = inl (closed_more f.both disk more id closed)
     by (inr x) = inr x
 
-rows_behind : Facts → (disk pend more left : List LogRecord) (w v : World) (h k : Held) (i : Intent) (place : ℕ) (sent : Sent) (a : Answered) (happens : Happens w h i place sent a v k) → RowsLocked disk pend h.marks
-    → ((more ≡ []) × Puts pend left (ChangedIn i happens.plan happens.after.marks)) ⊎ ((more ≡ pend) × (left ≡ []))
+rows_behind : Facts → (disk pend new more left : List LogRecord) (w v : World) (h k : Held) (i : Intent) (place : ℕ) (sent : Sent) (a : Answered) (happens : Happens w h i place sent a v k) → RowsLocked disk pend h.marks
+    → ((more ≡ []) × Puts pend new left (ChangedIn i happens.plan happens.after.marks)) ⊎ ((more ≡ pend) × (left ≡ []))
     → (id : ℕ) (spot : Spot) → id ≢ 0 → has_changed ((disk ++ more) ++ left) id spot ≡ true → (is_closed (disk ++ more) id ≡ true) ⊎ HasLocked k.marks id spot
-rows_behind f disk pend more left w v h k i place sent a happens l (inl g) id spot some changed =
-    by (or_cases (has_changed (disk ++ pend) id spot) (has_changed g.1.new id spot) (sym (f.both.changed (disk ++ pend) g.1.new id spot) ∙ there))
+rows_behind f disk pend new more left w v h k i place sent a happens l (inl g) id spot some changed =
+    by (or_cases (has_changed (disk ++ pend) id spot) (has_changed new id spot) (sym (f.both.changed (disk ++ pend) new id spot) ∙ there))
   where
-    there : has_changed ((disk ++ pend) ++ g.1.new) id spot ≡ true
-    there = ap (λ (z : List LogRecord). has_changed z id spot) (append_assoc disk pend g.1.new)
+    there : has_changed ((disk ++ pend) ++ new) id spot ≡ true
+    there = ap (λ (z : List LogRecord). has_changed z id spot) (append_assoc disk pend new)
         ∙ (sym (ap (λ (z : List LogRecord). has_changed (disk ++ z) id spot) g.1.is)
         ∙ (sym (ap (λ (z : List LogRecord). has_changed (z ++ left) id spot) (ap (λ (z : List LogRecord). disk ++ z) g.0 ∙ none_more disk)) ∙ changed))
 
-    by : (has_changed (disk ++ pend) id spot ≡ true) ⊎ (has_changed g.1.new id spot ≡ true) → (is_closed (disk ++ more) id ≡ true) ⊎ HasLocked k.marks id spot
+    by : (has_changed (disk ++ pend) id spot ≡ true) ⊎ (has_changed new id spot ≡ true) → (is_closed (disk ++ more) id ≡ true) ⊎ HasLocked k.marks id spot
     by (inl old) = before f disk pend more w v h k i place sent a happens l id spot some old
-    by (inr new) = inr (new_locked f.change w v h k i place sent a happens l.book l.slots id spot some (g.1.rows id spot new))
-rows_behind f disk pend more left w v h k i place sent a happens l (inr g) id spot some changed =
+    by (inr e) = inr (new_locked f.change w v h k i place sent a happens l.book l.slots id spot some (g.1.rows id spot e))
+rows_behind f disk pend new more left w v h k i place sent a happens l (inr g) id spot some changed =
     before f disk pend more w v h k i place sent a happens l id spot some
     (sym (ap (λ (z : List LogRecord). has_changed z id spot) (ap (λ (z : List LogRecord). (disk ++ more) ++ z) g.1 ∙ (none_more (disk ++ more) ∙ ap (λ (z : List LogRecord). disk ++ z) g.0))) ∙ changed)
 
-plain_goes : (disk pend more left : List LogRecord) (G : ℕ → Spot → Type 0) → ((more ≡ []) × Puts pend left G) ⊎ ((more ≡ pend) × (left ≡ [])) → ((more ≡ []) × PutsPlain pend left) ⊎ ((more ≡ pend) × (left ≡ []))
-plain_goes disk pend more left G (inl g) = inl (g.0, record { new = g.1.new; is = g.1.is; plain = g.1.plain })
-plain_goes disk pend more left G (inr g) = inr g
+plain_goes : (disk pend new more left : List LogRecord) (G : ℕ → Spot → Type 0) → ((more ≡ []) × Puts pend new left G) ⊎ ((more ≡ pend) × (left ≡ [])) → ((more ≡ []) × PutsPlain pend new left) ⊎ ((more ≡ pend) × (left ≡ []))
+plain_goes disk pend new more left G (inl g) = inl (g.0, record { is = g.1.is; plain = g.1.plain })
+plain_goes disk pend new more left G (inr g) = inr g
 
 pub rows_stay : Facts → RowsStay
 rows_stay f base disk pend w v h k i place sent a happens well low log l =
-    let behind : StillCloses base disk pend (ChangedIn i happens.plan happens.after.marks) v.drive k.marks = f.closes base disk pend w v h k i place sent a happens well low log l.closes in
+    let new : List LogRecord = event_records (begun happens.ready place).marks i happens.plan a in
+    let behind : StillCloses base disk pend new (ChangedIn i happens.plan happens.after.marks) v.drive k.marks = f.closes base disk pend w v h k i place sent a happens well low log l.closes in
     record {
       more = behind.more;
       left = behind.left;
-      goes = plain_goes disk pend behind.more behind.left (ChangedIn i happens.plan happens.after.marks) behind.goes;
+      goes = plain_goes disk pend new behind.more behind.left (ChangedIn i happens.plan happens.after.marks) behind.goes;
       log = behind.log;
       locked = record {
         closes = behind.closes;
         book = (f.keep w v h k i place sent a l.book happens).book;
         slots = f.slots w v h k i place sent a happens l.slots;
-        rows = rows_behind f disk pend behind.more behind.left w v h k i place sent a happens l behind.goes;
+        rows = rows_behind f disk pend new behind.more behind.left w v h k i place sent a happens l behind.goes;
       };
     }
 

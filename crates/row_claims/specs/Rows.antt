@@ -10,8 +10,9 @@ use Rattle.member_intents.specs.declared.outcome.Answered.{Answered}
 use Rattle.member_intents.specs.declared.outcome.Sent.{Sent}
 use Rattle.member_marks.specs.Local.{Reaches}
 use Rattle.member_marks.specs.State.{MarksState}
+use Rattle.member_effects.specs.Puts.{event_records}
 use Rattle.member_resources.specs.Events.{Drive, Happens, World}
-use Rattle.member_resources.specs.Held.{Held, IsNew}
+use Rattle.member_resources.specs.Held.{Held, IsNew, begun}
 use Rattle.lock_world.specs.Books.{IsBook}
 use Rattle.marks_law.specs.Slots.{SlotsStand}
 use Rattle.strict_locking.specs.Rows.{HasLocked}
@@ -34,25 +35,24 @@ RowsBegin = (disk : List LogRecord) (member : ℕ) (sizes : Sizes) (h : Held) �
 abbrev pub RowsReach : Type 0
 RowsReach = (disk pend : List LogRecord) (s t : MarksState) → Reaches s t → RowsLocked disk pend s → RowsLocked disk pend t
 
--- these records were put behind those of the buffer, maybe none, and no Checkpoint is among them
-pub record PutsPlain (pend left : List LogRecord) : Type 0 where
-  pub new : List LogRecord
+-- these new records were put behind those of the buffer, maybe none, and no Checkpoint is among them
+pub record PutsPlain (pend new left : List LogRecord) : Type 0 where
   pub is : left ≡ pend ++ new
   pub plain : ArePlain new
 
--- So it is of what is on disk and in the buffer behind an event: records were put behind those of the buffer, or those of the buffer are on disk
--- now.
-pub record StillLocked (base : List ℕ) (disk pend : List LogRecord) (drive : Drive) (s : MarksState) : Type 0 where
+-- So it is of what is on disk and in the buffer behind an event that puts these new records: they stand behind those of the buffer, or those of
+-- the buffer are on disk now.
+pub record StillLocked (base : List ℕ) (disk pend new : List LogRecord) (drive : Drive) (s : MarksState) : Type 0 where
   pub more : List LogRecord
   pub left : List LogRecord
-  pub goes : ((more ≡ []) × PutsPlain pend left) ⊎ ((more ≡ pend) × (left ≡ []))
+  pub goes : ((more ≡ []) × PutsPlain pend new left) ⊎ ((more ≡ pend) × (left ≡ []))
   pub log : LogIs base drive s.member (disk ++ more)
   pub locked : RowsLocked (disk ++ more) left s
 
 abbrev pub RowsStay : Type 0
 RowsStay = (base : List ℕ) (disk pend : List LogRecord) (w v : World) (h k : Held) (i : Intent) (place : ℕ) (sent : Sent) (a : Answered)
-    → Happens w h i place sent a v k → IsUnfailed a → h.marks.log.stable ≤ w.facility.counter → LogIs base w.drive h.marks.member disk → RowsLocked disk pend h.marks
-    → StillLocked base disk pend v.drive k.marks
+    → (happens : Happens w h i place sent a v k) → IsUnfailed a → h.marks.log.stable ≤ w.facility.counter → LogIs base w.drive h.marks.member disk → RowsLocked disk pend h.marks
+    → StillLocked base disk pend (event_records (begun happens.ready place).marks i happens.plan a) v.drive k.marks
 
 -- a transaction that is open in the records on disk, behind which a front of those of the buffer may stand, has locked all rows that it has changed
 abbrev pub RowsOpen : Type 0

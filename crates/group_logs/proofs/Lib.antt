@@ -1,0 +1,4 @@
+pub mod Calls
+pub mod Own
+pub mod Others
+pub mod Groups

@@ -1,0 +1,14 @@
+mod Lists
+mod Places
+mod Chains
+mod Moving
+mod Disk
+mod Numbers
+mod Redoing
+mod Merging
+mod Leading
+mod Pending
+mod Later
+mod Covered
+mod Settling
+mod Clearing

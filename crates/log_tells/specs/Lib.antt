@@ -1,0 +1,4 @@
+pub mod Told
+pub mod Keeps
+pub mod Leads
+pub mod Clear

@@ -1,0 +1,9 @@
+pub mod Logs
+pub mod Trans
+pub mod Steps
+pub mod Replies
+pub mod Needs
+pub mod Events
+pub mod Telling
+pub mod Failing
+pub mod Resting
