@@ -15,8 +15,7 @@ use Rattle.page_format.specs.declared.patch.Patch.{Patch}
 use Rattle.heap_space.specs.Slots.{head, image}
 use Rattle.heap_space.specs.Written.{written}
 use Rattle.ds_base.specs.Pages.{same_page}
-use Rattle.index_leaf.specs.Nodes.{patches_for, all_stamped}
-use Rattle.page_images.specs.Images.{zeros, IsFree}
+use Rattle.page_images.specs.Images.{zeros, patches_for, all_stamped, IsFree}
 use Rattle.page_images.specs.Parts.{AreWithin}
 use Rattle.page_chain.specs.Chains.{row_patch, changes_of, touches, after_record}
 

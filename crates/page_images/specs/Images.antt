@@ -7,6 +7,8 @@ use Rattle.heap_space.specs.Written.{written}
 use Rattle.ds_base.specs.Pages.{same_page}
 use Rattle.index_leaf.specs.Changes.{front_of}
 use Rattle.index_leaf.specs.Changes.{zeros as zero_bytes}
+-- given out again: the patches of a page, and the page after them
+pub use Rattle.index_leaf.specs.Nodes.{patches_for, all_stamped}
 
 -- the bytes of each page
 abbrev pub Images : Type 0
