@@ -9,7 +9,8 @@ ghost use Rattle.ds_base.specs.declared.names.TranId.{TranId};
 use crate::step::{Step, add_steps};
 use crate::waiters::Waiters;
 use ds_base::{NoMemory, TranId};
-use list_structure::{Cycle, Wait};
+use ds_model::Cycle;
+use list_structure::Wait;
 use std::alloc::Global;
 
 /// A cycle of the pairs through this transaction in which it has the highest number, from it on: each

@@ -16,7 +16,6 @@ mod query;
 mod standing;
 mod wait;
 
-pub use ds_model::Cycle;
 pub use flags::Flag;
 pub use lists::Lists;
 pub use query::{Asker, Cell, CellAnswer, Query};

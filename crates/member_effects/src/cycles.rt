@@ -8,8 +8,8 @@ ghost use Rattle.member_effects.specs.Cycles.{is_looked, Finds, cycle_after, cyc
 use crate::told::Told;
 use deadlock_cycle::find_cycle;
 use ds_base::NoMemory;
-use ds_model::Refusal;
-use list_structure::{Cycle, Wait};
+use ds_model::{Cycle, Refusal};
+use list_structure::Wait;
 use member_marks::{Marks, Owner};
 use std::alloc::Global;
 
