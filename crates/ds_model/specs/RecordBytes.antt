@@ -2,7 +2,9 @@
 use Rattle.std.specs.Prelude.{◌≡◌, ◌≢◌, ℕ, ◌+◌, ◌*◌, ◌<◌, ◌≤◌, ◌^◌, Bool, true, false, List, [], ◌∷◌, ◌++◌, length, Option, Some, None}
 use Rattle.std.specs.List.{flat_map, AllByRecursion}
 use Rattle.std.specs.Int.{w16, w32, w64, to_be_bytes, bytes_high_first}
-use Rattle.ds_base.specs.Ids.{IsTable, lrsn_width, old_lrsn_width}
+use Rattle.ds_base.specs.Ids.{lrsn_width, old_lrsn_width}
+-- given out again: which numbers tables have
+pub use Rattle.ds_base.specs.Ids.{IsTable}
 use Rattle.ds_base.specs.Values.{IsValue}
 use Rattle.page_format.specs.declared.patch.Patch.{Patch}
 use Rattle.page_format.specs.Fields.{page_size}

@@ -11,6 +11,7 @@ mod log;
 mod report;
 mod script;
 
+pub use ds_base::{PageId, TableId};
 pub use fate::{Answer, Cycle, Fate, Reads, Refusal};
 pub use history::Entry;
 pub use lock::Name;

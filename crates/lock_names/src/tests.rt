@@ -1,7 +1,7 @@
-ghost use Rattle.ds_base.specs.Ids.{IsTable};
+ghost use Rattle.ds_model.specs.RecordBytes.{IsTable};
 
 use super::*;
-use ds_base::{PageId, TableId};
+use ds_model::{PageId, TableId};
 use std::test::Fail;
 
 fn table(number: u64) -> TableId
