@@ -3,11 +3,11 @@ use Rattle.std.specs.Prelude.{◌≡◌, ◌≢◌, ℕ, ◌+◌, ◌*◌, ◌<�
 use Rattle.std.specs.List.{flat_map, AllByRecursion}
 use Rattle.std.specs.Int.{w16, w32, w64, to_be_bytes, bytes_high_first}
 use Rattle.ds_base.specs.Ids.{lrsn_width, old_lrsn_width}
--- given out again: which numbers tables have
+-- given out again: which numbers tables have, the patches of a change, and the bytes of a page
 pub use Rattle.ds_base.specs.Ids.{IsTable}
+pub use Rattle.page_format.specs.declared.patch.Patch.{Patch}
+pub use Rattle.page_format.specs.Fields.{page_size}
 use Rattle.ds_base.specs.Values.{IsValue}
-use Rattle.page_format.specs.declared.patch.Patch.{Patch}
-use Rattle.page_format.specs.Fields.{page_size}
 use Rattle.ds_model.specs.declared.log.LogRecord.{LogRecord}
 use Rattle.ds_model.specs.declared.log.RowChange.{RowChange}
 use Rattle.ds_model.specs.declared.log.Body.{Body}

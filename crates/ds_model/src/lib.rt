@@ -16,6 +16,7 @@ pub use fate::{Answer, Cycle, Fate, Reads, Refusal};
 pub use history::Entry;
 pub use lock::Name;
 pub use log::{Body, LogRecord, RecordList, RowChange, Version};
+pub use page_format::{Patch, Patches};
 pub use report::{
     CauseLine, CauseLineList, EventLine, EventLineList, NameList, Report, ReportEntry,
     ReportEntryList, Told, ToldRead, ToldReads, ToldRefusal, Trace,

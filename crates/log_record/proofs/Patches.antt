@@ -6,9 +6,7 @@ use Rattle.std.specs.Int.{bytes_high_first}
 use Rattle.std.proofs.lemmas.Bool.{leb-true, le-leb, and_parts, and_from}
 use Rattle.std.proofs.lemmas.List.{append-nil}
 use Rattle.ds_base.specs.declared.names.PageId.{PageId}
-use Rattle.page_format.specs.declared.patch.Patch.{Patch}
-use Rattle.page_format.specs.Fields.{page_size}
-use Rattle.ds_model.specs.RecordBytes.{patch_bytes, page_sets, patches_limit, patch_limit, PatchIsAllowed}
+use Rattle.ds_model.specs.RecordBytes.{Patch, page_size, patch_bytes, page_sets, patches_limit, patch_limit, PatchIsAllowed}
 use Rattle.log_record.specs.declared.fault.RecordFault.{RecordFault}
 use Rattle.log_record.specs.Parts.{page_bytes}
 use Rattle.log_record.specs.Fields.{◌>>=◌, set_at, number_in_set_at, start_at, size_at, content_at, page_id_at, patch_at, patches_from, patch_count_at, patches_at}

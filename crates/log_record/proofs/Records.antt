@@ -9,13 +9,12 @@ use Rattle.std.proofs.lemmas.List.{append-nil, length-append, length-take, lengt
 use Rattle.byteorder.specs.Endian.{big_number}
 use Rattle.byteorder.specs.Numbers.{big_from-take, big_number-reads_back}
 use Rattle.ds_model.specs.declared.log.LogRecord.{LogRecord}
-use Rattle.page_format.specs.declared.patch.Patch.{Patch}
 use Rattle.ds_model.specs.declared.log.RowChange.{RowChange}
 use Rattle.ds_model.specs.declared.log.Body.{Body}
 use Rattle.ds_model.specs.declared.log.Body.TheVariants as body
 use Rattle.ds_model.specs.declared.log.Version.{Version}
 use Rattle.ds_model.specs.declared.log.Version.TheVariants as version
-use Rattle.ds_model.specs.RecordBytes.{state_bytes, change_bytes, patch_bytes, kind_of, version_byte, width_of, body_bytes, length_in, lrsn_bytes, spelling, record_bytes, patches_limit, is_of_tran, TranFits, StateIsAllowed, ChangeIsAllowed, PatchIsAllowed, ArePatches, IsNumber, BodyIsAllowed, IsAllowed, BodyFits, Fits}
+use Rattle.ds_model.specs.RecordBytes.{Patch, state_bytes, change_bytes, patch_bytes, kind_of, version_byte, width_of, body_bytes, length_in, lrsn_bytes, spelling, record_bytes, patches_limit, is_of_tran, TranFits, StateIsAllowed, ChangeIsAllowed, PatchIsAllowed, ArePatches, IsNumber, BodyIsAllowed, IsAllowed, BodyFits, Fits}
 use Rattle.log_record.specs.declared.fault.RecordFault.{RecordFault}
 use Rattle.log_record.specs.declared.fault.RecordFault.TheVariants as fault
 use Rattle.log_record.specs.declared.kind.Kind.{Kind}

@@ -5,9 +5,7 @@ use Rattle.std.specs.List.{list_all}
 use Rattle.byteorder.specs.Endian.{big_number}
 use Rattle.ds_base.specs.declared.names.Place.{Place}
 use Rattle.ds_base.specs.declared.names.PageId.{PageId}
-use Rattle.page_format.specs.declared.patch.Patch.{Patch}
-use Rattle.page_format.specs.Fields.{page_size}
-use Rattle.ds_model.specs.RecordBytes.{width_of, page_sets, patches_limit, patch_limit}
+use Rattle.ds_model.specs.RecordBytes.{Patch, page_size, width_of, page_sets, patches_limit, patch_limit}
 use Rattle.ds_model.specs.declared.log.RowChange.{RowChange}
 use Rattle.ds_model.specs.declared.log.Body.{Body}
 use Rattle.ds_model.specs.declared.log.Body.TheVariants as body

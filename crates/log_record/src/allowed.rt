@@ -7,8 +7,7 @@ use crate::layout::{LONGEST, PAGE_SETS, PAGE_SIZE, PATCH_LIMIT, PATCHES_LIMIT, S
 use crate::size::patches_length;
 use crate::version::{end_of, frame_of};
 use ds_base::{Lrsn, PageId, VALUE_LIMIT, Value};
-use ds_model::{Body, LogRecord, RowChange, Version};
-use page_format::Patch;
+use ds_model::{Body, LogRecord, Patch, RowChange, Version};
 
 fn state_is_allowed(state: &Option<Value>) -> bool
     ensures always { IsTrue result }

@@ -9,7 +9,7 @@ use crate::field::bytes_at;
 use crate::layout::{PAGE_SETS, PAGE_SIZE, PATCH_LIMIT, PATCHES_LIMIT};
 use byteorder::{BigEndian, ByteOrder};
 use ds_base::{Bytes, PageId};
-use page_format::{Patch, Patches};
+use ds_model::{Patch, Patches};
 use std::alloc::Global;
 
 #[tactic(auto, unfolding(crate::specs::Fields::field_at))]

@@ -7,8 +7,7 @@ ghost use Rattle.ds_model.specs.declared.log.Version.TheVariants as versions;
 
 use crate::version::{frame_of, width_of};
 use ds_base::Value;
-use ds_model::{Body, LogRecord, RowChange, Version};
-use page_format::Patch;
+use ds_model::{Body, LogRecord, Patch, RowChange, Version};
 
 /// The most bytes of a record without patches, in version 2.
 pub const LONGEST_WITHOUT_PATCHES: usize = 259;

@@ -8,7 +8,7 @@ use crate::{
     Body, LogRecord, RowChange, Version, is_allowed, record_length, records_bytes, records_in,
 };
 use ds_base::{Bytes, Lrsn, PageId, Place, TableId, Value};
-use page_format::{Patch, Patches};
+use ds_model::{Patch, Patches};
 use std::alloc::Global;
 use std::test::Fail;
 

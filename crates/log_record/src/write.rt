@@ -10,8 +10,7 @@ use crate::layout::LONGEST;
 use crate::put::put;
 use crate::size::{LONGEST_WITHOUT_PATCHES, record_length, written_length};
 use ds_base::{Bytes, LRSN_WIDTH, Lrsn, NoMemory, PageId, Value};
-use ds_model::{Body, LogRecord, RowChange};
-use page_format::Patch;
+use ds_model::{Body, LogRecord, Patch, RowChange};
 use std::alloc::Global;
 
 // The version in which records are written.
