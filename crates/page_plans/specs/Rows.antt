@@ -7,9 +7,7 @@ use Rattle.page_format.specs.Header.{slots_per_page}
 use Rattle.ds_base.specs.Pages.{heap_page}
 use Rattle.heap_space.specs.Slots.{Content, content, slot_in}
 use Rattle.heap_space.specs.Written.{after_patch}
-use Rattle.log_record.specs.Changes.{inverse}
-use Rattle.page_chain.specs.Chains.{row_patch}
-use Rattle.page_redo.specs.Rows.{row_fault, change_fault}
+use Rattle.page_redo.specs.Rows.{inverse, row_patch, row_fault, change_fault}
 use Rattle.page_plans.specs.declared.action.RowPlan.{RowPlan}
 use Rattle.page_plans.specs.declared.action.RowPlan.TheVariants as plan
 

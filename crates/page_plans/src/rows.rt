@@ -9,9 +9,8 @@ use crate::action::RowPlan;
 use ds_base::{Key, Lrsn, Place, TableId, Value};
 use ds_model::RowChange;
 use heap_space::{Slot, row};
-use log_record::inverse;
 use page_format::{Page, SLOTS_PER_PAGE};
-use page_redo::row_fault;
+use page_redo::{inverse, row_fault};
 use std::alloc::Global;
 
 // The value of these bytes.

@@ -10,6 +10,9 @@ use Rattle.page_format.specs.declared.header.PageKind.{PageKind}
 use Rattle.page_format.specs.declared.header.PageKind.TheVariants as kind
 use Rattle.heap_space.specs.Layout.{slot_at, key_at}
 use Rattle.heap_space.specs.Slots.{Content, fault_in, content, slot_in}
+-- given out again: the patch of a change, and the change that takes it back
+pub use Rattle.log_record.specs.Changes.{inverse}
+pub use Rattle.page_chain.specs.Chains.{row_patch}
 
 abbrev pub or_fault : Option ℕ → Option ℕ → Option ℕ
 or_fault (Some at) other = Some at
