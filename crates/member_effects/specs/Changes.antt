@@ -12,7 +12,6 @@ use Rattle.write_order.specs.Ranks.{rank_of}
 use Rattle.page_plans.specs.Rows.{after_row}
 use Rattle.facility.specs.declared.command.Reply.{Reply}
 use Rattle.facility.specs.declared.command.Reply.TheVariants as reply
-use Rattle.member_intents.specs.declared.intent.Frames.{Frames}
 use Rattle.member_trans.specs.declared.fate.Owner.{Owner}
 use Rattle.member_trans.specs.declared.fate.Owner.TheVariants as owner
 use Rattle.member_marks.specs.State.{MarksState}
@@ -21,6 +20,7 @@ use Rattle.member_marks.specs.Frames.{frame_in, after_registered, after_marked}
 use Rattle.member_marks.specs.Records.{after_change, after_system, after_undo, after_commit}
 use Rattle.member_needs.specs.declared.plans.Plan.{Plan}
 use Rattle.member_needs.specs.declared.plans.Plan.TheVariants as plan
+use Rattle.member_needs.specs.Plans.{Frames}
 use Rattle.member_needs.specs.Records.{frame_of}
 use Rattle.member_effects.specs.declared.told.Told.{Told}
 use Rattle.member_effects.specs.declared.told.Told.TheVariants as told

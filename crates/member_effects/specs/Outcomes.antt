@@ -1,8 +1,8 @@
 -- What a policy is told.
 use Rattle.std.specs.Prelude.{◌≡◌, ℕ, List, slice_get, Option, Some, None}
 use Rattle.ds_base.specs.declared.names.Volume.TheVariants as volume
-use Rattle.member_intents.specs.declared.outcome.Outcome.{Outcome}
-use Rattle.member_intents.specs.declared.outcome.Outcome.TheVariants as outcome
+use Rattle.member_needs.specs.Plans.{Outcome}
+use Rattle.member_needs.specs.Plans.outcome as outcome
 use Rattle.member_effects.specs.declared.told.Told.{Told}
 use Rattle.member_effects.specs.declared.told.Told.TheVariants as told
 

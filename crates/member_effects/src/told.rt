@@ -4,7 +4,7 @@ ghost use Rattle.member_effects.specs.Outcomes.{LendsAt, Tells};
 use ds_base::{PageId, TranId, Volume};
 use list_structure::{MemberStatus, Query};
 use lock_names::Name;
-use member_intents::Outcome;
+use member_needs::Outcome;
 use page_format::Page;
 
 /// What an event came to, with the frame of a valid page in place of its bytes.

@@ -13,7 +13,10 @@ use Rattle.page_plans.specs.declared.action.RowPlan.{RowPlan}
 use Rattle.page_plans.specs.declared.action.RowPlan.TheVariants as row
 use Rattle.page_plans.specs.Plans.{plan_of}
 use Rattle.page_plans.specs.Rows.{row_plan, undo_plan}
-use Rattle.member_intents.specs.declared.intent.Frames.{Frames}
+-- given out again: the frames of a change, and what an event comes to
+pub use Rattle.member_intents.specs.declared.intent.Frames.{Frames}
+pub use Rattle.member_intents.specs.declared.outcome.Outcome.{Outcome}
+pub use Rattle.member_intents.specs.declared.outcome.Outcome.TheVariants as outcome
 use Rattle.member_intents.specs.declared.intent.Intent.{Intent}
 use Rattle.member_intents.specs.declared.intent.Intent.TheVariants as intent
 use Rattle.member_intents.specs.declared.test.Test.{Test}

@@ -22,7 +22,7 @@ mod step;
 mod told;
 
 pub use intent::{RebuildFault, RebuildIntent, RebuildSent, RebuildTest};
-pub use member_intents::Event;
+pub use member_intents::{Answered, Event, Sent};
 pub use policy::RebuildPolicy;
 pub use resources::Rebuild;
 pub use told::RebuildTold;

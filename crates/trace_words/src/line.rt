@@ -1,8 +1,7 @@
 use crate::rebuild::rebuild_word;
 use crate::restart::restart_word;
 use crate::words::{answered_word, sent_word};
-use member_intents::{Answered, Sent};
-use rebuild_resources::RebuildSent;
+use rebuild_resources::{Answered, RebuildSent, Sent};
 use restart_marks::RestartSent;
 
 /// An event as a trace tells it: its place from 1, its member (0 for the group) and its choice, with the words of what was

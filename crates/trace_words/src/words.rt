@@ -2,7 +2,7 @@
 
 use facility::{Command, Reply};
 use list_structure::MemberStatus;
-use member_intents::{Answered, Sent};
+use rebuild_resources::{Answered, Sent};
 
 // The word of a command of the lock structure or the counter.
 fn lock_word(command: &Command) -> Option<&'static [u8]> {
