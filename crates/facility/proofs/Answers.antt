@@ -2,7 +2,7 @@
 use Rattle.std.proofs.Common.{◌≡◌, ℕ, zero, suc, ◌+◌, ◌-◌, ◌≤◌, refl, arith, List, [], ◌∷◌, ◌++◌, slice_index_or, add-one, append-nil}
 use Rattle.std.specs.Prelude.{Option, Some, None}
 use Rattle.ds_base.specs.Ids.{IsMember}
-use Rattle.ds_model.specs.declared.lock.Name.{Name}
+use Rattle.lock_names.specs.Given.{Name}
 use Rattle.lock_names.specs.declared.mode.Mode.{Mode}
 use Rattle.list_structure.specs.declared.query.Cell.{Cell}
 use Rattle.list_structure.specs.declared.query.Cell.TheVariants.{Empty}

@@ -2,7 +2,7 @@
 use Rattle.std.specs.Prelude.{ℕ, ◌≡◌, ◌+◌, ◌^◌, ◌≤◌, ◌<◌, ◌==◌, ◌||◌, Bool, false, IsTrue, List, [], Option}
 use Rattle.std.specs.Option.{ForSome}
 use Rattle.ds_base.specs.Ids.{IsLrsn}
-use Rattle.ds_model.specs.declared.lock.Name.{Name}
+use Rattle.lock_names.specs.Given.{Name}
 use Rattle.lock_structure.specs.Locks.{Locks, entry_for, has_room}
 use Rattle.lock_structure.specs.Records.{area_of}
 use Rattle.cache_structure.specs.declared.face.DoneReply.TheVariants as done

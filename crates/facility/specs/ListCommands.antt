@@ -1,7 +1,7 @@
 -- The commands of the list structure.
 use Rattle.std.specs.Prelude.{ℕ, ◌≡◌, ◌-◌, ◌≤◌, Bool, true, false, List, map, slice_set, Option, Some, None, if◌then◌else◌}
 use Rattle.ds_base.specs.declared.names.TranId.{TranId}
-use Rattle.ds_model.specs.declared.lock.Name.{Name}
+use Rattle.lock_names.specs.Given.{Name}
 use Rattle.lock_names.specs.declared.mode.Mode.{Mode}
 use Rattle.lock_structure.specs.Locks.{entry_for}
 use Rattle.list_structure.specs.declared.query.Asker.{Asker}

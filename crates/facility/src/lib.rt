@@ -16,3 +16,4 @@ mod lock_commands;
 
 pub use command::{Command, Indexes, Reply};
 pub use facility::Facility;
+pub use list_structure::{Asker, MemberStatus, Query};

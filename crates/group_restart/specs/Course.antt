@@ -18,7 +18,7 @@ use Rattle.log_reader.specs.Keeping.{AreBytes}
 use Rattle.log_reader.specs.Readers.{ReaderState, IsNew, IsRead, after_reply}
 use Rattle.log_trans.specs.declared.damage.Damaged.{Damaged}
 use Rattle.log_trans.specs.Damage.{log_damage}
-use Rattle.page_records.specs.declared.places.PageRecords.{PageRecords}
+use Rattle.restart_plan.specs.Given.{PageRecords}
 use Rattle.page_redo.specs.declared.fault.FieldFault.{FieldFault}
 use Rattle.page_redo.specs.Forward.{Forward}
 use Rattle.restart_plan.specs.declared.greatest.Greatest.{Greatest}

@@ -25,10 +25,9 @@ use ds_base::{Lrsn, MemberId, NoMemory, PageId, Volume};
 use log_reader::{LogRead, LogReader, LogReply, place_in};
 use log_record::Log;
 use log_trans::{Damaged, find_log_damage, has_numbers};
-use page_records::PageRecords;
 use page_redo::page_changed;
 use places_redo::bring_places;
-use restart_plan::{Logs, Plan, Undo, asks_behind, plan_of};
+use restart_plan::{Logs, PageRecords, Plan, Undo, asks_behind, plan_of};
 use std::alloc::Global;
 
 fn damaged_log(damaged: Damaged) -> State

@@ -1,3 +1,4 @@
 pub mod Modes
 pub mod Entries
 pub mod Names
+pub mod Given

@@ -1,7 +1,7 @@
 -- What becomes of a chain's records, name by name.
 use Rattle.std.proofs.Common.{◌≡◌, ℕ, true, List, [], ◌∷◌, map, refl, arith, if◌then◌else◌, ◌==◌}
 use Rattle.std.specs.Prelude.{Some, None, is_some, ◌&&◌}
-use Rattle.ds_model.specs.declared.lock.Name.{Name}
+use Rattle.lock_names.specs.Given.{Name}
 use Rattle.lock_names.specs.declared.mode.Mode.{Mode}
 use Rattle.lock_names.specs.Names.{same_name}
 use Rattle.lock_names.proofs.Names.{same_left, same_right}

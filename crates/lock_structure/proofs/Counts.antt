@@ -3,8 +3,8 @@ use Rattle.std.proofs.Common.{◌≡◌, ℕ, zero, suc, ◌+◌, ◌<◌, ◌�
 use Rattle.std.specs.Prelude.{is_some}
 use Rattle.std.proofs.lemmas.List.{get_or_default}
 use Rattle.std.proofs.lemmas.Grind.{common_steps}
-use Rattle.ds_model.specs.declared.lock.Name.{Name}
-use Rattle.ds_model.specs.declared.lock.Name.TheVariants as name
+use Rattle.lock_names.specs.Given.{Name}
+use Rattle.lock_names.specs.Given.name_variants as name
 use Rattle.lock_names.specs.Names.{same_name}
 use Rattle.lock_names.proofs.Names.{same_equal}
 use Rattle.lock_structure.specs.declared.chain.Record.{Record}

@@ -5,7 +5,7 @@ use Rattle.std.proofs.lemmas.Bool.{cases_eq, ne_eqb}
 use Rattle.std.proofs.lemmas.Nat.{mod_below}
 use Rattle.std.proofs.lemmas.List.{get_or-set_other, get_or-set_same, length-set, length-map, length-replicate, map-append}
 use Rattle.std.proofs.lemmas.Grind.{common_steps}
-use Rattle.ds_model.specs.declared.lock.Name.{Name}
+use Rattle.lock_names.specs.Given.{Name}
 use Rattle.lock_names.specs.declared.mode.Mode.{Mode}
 use Rattle.lock_names.specs.Entries.{entry_number}
 use Rattle.lock_names.specs.Names.{same_name}

@@ -4,7 +4,7 @@ use Rattle.std.specs.Prelude.{Option, Some, None, ◌&&◌, ◌||◌, IfSome}
 use Rattle.std.proofs.lemmas.Bool.{cases_Bool}
 use Rattle.std.proofs.lemmas.Bool.Decides.{nat_tests}
 use Rattle.ds_base.specs.Ids.{IsMember}
-use Rattle.ds_model.specs.declared.lock.Name.{Name}
+use Rattle.lock_names.specs.Given.{Name}
 use Rattle.lock_names.specs.declared.mode.Mode.{Mode}
 use Rattle.lock_names.specs.Entries.{entry_number}
 use Rattle.lock_names.specs.Names.{same_name}

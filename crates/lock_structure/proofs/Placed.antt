@@ -2,7 +2,7 @@
 use Rattle.std.proofs.Common.{◌≡◌, ℕ, zero, suc, ◌+◌, ◌-◌, ◌<◌, ◌≤◌, List, [], ◌∷◌, ◌++◌, length, set, get_or, drop, refl, sym, ◌∙◌, ap, arith, add-one}
 use Rattle.std.specs.Prelude.{Option, Some, None, slice_get}
 use Rattle.std.proofs.lemmas.List.{length-set}
-use Rattle.ds_model.specs.declared.lock.Name.{Name}
+use Rattle.lock_names.specs.Given.{Name}
 use Rattle.lock_names.specs.declared.mode.Mode.{Mode}
 use Rattle.lock_structure.specs.declared.chain.Held.{Held}
 use Rattle.lock_structure.specs.declared.cursor.Cursor.{Cursor}

@@ -1,7 +1,7 @@
 -- The retained records of one chain after the other.
 use Rattle.std.proofs.Common.{◌≡◌, ℕ, zero, suc, ◌+◌, ◌<◌, refl, arith, List, [], ◌∷◌, ◌++◌, length, drop, get_or, add-one}
 use Rattle.std.specs.Prelude.{slice_get, Some}
-use Rattle.ds_model.specs.declared.lock.Name.{Name}
+use Rattle.lock_names.specs.Given.{Name}
 use Rattle.lock_names.specs.declared.mode.Mode.{Mode}
 use Rattle.lock_structure.specs.declared.chain.Held.{Held}
 use Rattle.lock_structure.specs.Records.{retained_of}

@@ -1,6 +1,6 @@
 -- The records by the buckets on which their names fall.
 use Rattle.std.specs.Prelude.{◌≡◌, ℕ, zero, suc, ◌+◌, ◌<◌, ◌≤◌, ◌^◌, Bool, true, false, not, ◌&&◌, ◌==◌, nat_le, if◌then◌else◌, length, slice_index_or, Option, Some, None, List, [], ◌∷◌, ◌++◌}
-use Rattle.ds_model.specs.declared.lock.Name.{Name}
+use Rattle.lock_names.specs.Given.{Name}
 use Rattle.lock_names.specs.declared.mode.Mode.{Mode}
 use Rattle.lock_names.specs.Modes.{is_recorded, are_compatible}
 use Rattle.lock_names.specs.Entries.{entry_number}

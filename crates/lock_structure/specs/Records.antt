@@ -1,7 +1,7 @@
 -- The records of locks: who holds what in which mode, and whether it is retained.
 use Rattle.std.specs.Prelude.{◌≡◌, ℕ, ◌+◌, Bool, true, false, ◌&&◌, ◌||◌, ◌==◌, if◌then◌else◌, Option, Some, None, is_some, nat_lt, List, [], ◌∷◌}
-use Rattle.ds_model.specs.declared.lock.Name.{Name}
-use Rattle.ds_model.specs.declared.lock.Name.TheVariants as name
+use Rattle.lock_names.specs.Given.{Name}
+use Rattle.lock_names.specs.Given.name_variants as name
 use Rattle.lock_names.specs.declared.mode.Mode.{Mode}
 use Rattle.lock_names.specs.Modes.{join_of, is_recorded}
 use Rattle.lock_names.specs.Names.{same_name}

@@ -8,8 +8,7 @@ ghost use Rattle.lock_structure.specs.Buckets.{recorded_in, released_in, purged_
 use crate::chain::{Chain, Held, Record};
 use crate::cursor::Cursor;
 use ds_base::{MemberId, NoMemory};
-use ds_model::Name;
-use lock_names::{Mode, entry_of, join, recorded};
+use lock_names::{Mode, Name, entry_of, join, recorded};
 use record_area::Area;
 use std::alloc::Global;
 use std::marker::Model;

@@ -6,8 +6,7 @@ ghost use Rattle.lock_structure.specs.Records.{is_of, record_in, retained_of, re
 ghost use Rattle.lock_structure.specs.Buckets.{put_in, without, is_keeping, lower, lowest_in};
 
 use ds_base::MemberId;
-use ds_model::Name;
-use lock_names::{Mode, compatible, is_same_name};
+use lock_names::{Mode, Name, compatible, is_same_name};
 use record_area::Cell;
 use std::marker::Model;
 use std::mem;

@@ -10,8 +10,7 @@ use crate::buckets::{Buckets, area_of};
 use crate::chain::Record;
 use crate::cursor::{Cursor, kept, start_for};
 use ds_base::{MemberId, NoMemory};
-use ds_model::Name;
-use lock_names::Mode;
+use lock_names::{Mode, Name};
 use std::alloc::Global;
 use std::marker::Model;
 

@@ -12,8 +12,7 @@ use crate::mask;
 use crate::records::Records;
 use crate::replies::{GrantReply, Obtained};
 use ds_base::{MemberId, NoMemory};
-use ds_model::Name;
-use lock_names::{Interest, Mode, class, entry_of, recorded};
+use lock_names::{Interest, Mode, Name, class, entry_of, recorded};
 use std::alloc::Global;
 use std::marker::Model;
 

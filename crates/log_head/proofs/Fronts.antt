@@ -5,8 +5,8 @@ use Rattle.std.proofs.lemmas.Bool.{ltb-false, le-ltb, leb-true, eqb-true}
 use Rattle.std.proofs.lemmas.List.{length-take, take-take, drop-take}
 use Rattle.byteorder.specs.Endian.{big_number}
 use Rattle.byteorder.specs.Numbers.{big_from-take}
-use Rattle.ds_model.specs.declared.log.LogRecord.{LogRecord}
-use Rattle.ds_model.specs.RecordBytes.{record_limit}
+use Rattle.log_record.specs.Given.{LogRecord}
+use Rattle.log_record.specs.Given.{record_limit}
 use Rattle.log_record.specs.declared.fault.RecordFault.{RecordFault}
 use Rattle.log_record.specs.declared.fault.RecordFault.TheVariants as fault
 use Rattle.log_record.specs.Fields.{◌>>=◌}

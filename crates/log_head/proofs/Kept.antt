@@ -1,9 +1,9 @@
 -- The records that are kept beside the bytes in hand.
 use Rattle.std.proofs.Common.{◌≡◌, ℕ, ◌+◌, ◌-◌, ◌<◌, ◌≤◌, ◌^◌, List, [], ◌∷◌, ◌++◌, length, take, drop, Option, Some, None, Result, Ok, Err, refl, sym, ap, subst, ◌∙◌, arith, append_assoc}
 use Rattle.std.proofs.lemmas.List.{append-nil, drop-drop, length-drop, take_at}
-use Rattle.ds_model.specs.declared.log.LogRecord.{LogRecord}
+use Rattle.log_record.specs.Given.{LogRecord}
 use Rattle.log_record.specs.Reading.{record_in}
-use Rattle.ds_model.specs.RecordBytes.{record_limit}
+use Rattle.log_record.specs.Given.{record_limit}
 use Rattle.log_record.specs.declared.fault.RecordFault.{RecordFault}
 use Rattle.log_record.specs.declared.fault.RecordFault.TheVariants.{NotWhole, Bad, NoMemory}
 use Rattle.std.specs.Prelude.{◌≢◌}

@@ -1,7 +1,7 @@
 -- The whole records of bytes, one after the other.
 use Rattle.std.proofs.Common.{◌≡◌, ℕ, zero, suc, ◌+◌, ◌-◌, ◌<◌, ◌≤◌, List, [], ◌∷◌, ◌++◌, length, take, drop, Result, Ok, Err, refl, sym, ap, subst, ◌∙◌, arith}
 use Rattle.std.proofs.lemmas.List.{length-drop, nil_from_length, length-take, drop-take}
-use Rattle.ds_model.specs.declared.log.LogRecord.{LogRecord}
+use Rattle.log_record.specs.Given.{LogRecord}
 use Rattle.log_record.specs.declared.fault.RecordFault.{RecordFault}
 use Rattle.log_record.specs.declared.fault.RecordFault.TheVariants.{NotWhole, Bad, NoMemory}
 use Rattle.log_record.specs.Reading.{record_in}

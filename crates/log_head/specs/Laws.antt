@@ -1,8 +1,8 @@
 -- What reading by blocks comes to.
 use Rattle.std.specs.Prelude.{◌≡◌, ◌≢◌, ℕ, ◌+◌, ◌-◌, ◌≤◌, List, [], ◌∷◌, length, take, drop, Ok, Err}
 use Rattle.byteorder.specs.Endian.{big_number}
-use Rattle.ds_model.specs.RecordBytes.{record_limit}
-use Rattle.ds_model.specs.declared.log.LogRecord.{LogRecord}
+use Rattle.log_record.specs.Given.{record_limit}
+use Rattle.log_record.specs.Given.{LogRecord}
 use Rattle.log_record.specs.declared.fault.RecordFault.{RecordFault}
 use Rattle.log_record.specs.declared.fault.RecordFault.TheVariants.{NotWhole, Bad}
 use Rattle.log_record.specs.Reading.{record_in}

@@ -1,11 +1,11 @@
 ghost use Rattle.std.specs.Prelude.{◌≡◌, ◌+◌, ◌-◌, ◌≤◌, [], ◌++◌, length, take, drop, OnOk, OnErr};
-ghost use Rattle.ds_model.specs.RecordBytes.{record_limit};
+ghost use Rattle.log_record.specs.Given.{record_limit};
 ghost use Rattle.log_record.specs.Reading.{record_in};
 
 use crate::records::read_records;
 use crate::standing::Standing;
 use ds_base::{Lrsn, NoMemory};
-use ds_model::LogRecord;
+use log_record::LogRecord;
 use std::alloc::Global;
 use std::collections::VecDeque;
 use std::marker::Model;

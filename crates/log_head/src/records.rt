@@ -1,13 +1,12 @@
 //! The whole records of bytes, in the order in which they stand there.
 
 ghost use Rattle.std.specs.Prelude.{◌≡◌, ℕ, ◌+◌, ◌-◌, ◌<◌, ◌≤◌, ◌^◌, [], length, drop, Ok, IfOk, IfSome, IfNone};
-ghost use Rattle.ds_model.specs.declared.log.LogRecord.{LogRecord};
+ghost use Rattle.log_record.specs.Given.{LogRecord};
 ghost use Rattle.log_record.specs.Reading.{record_in};
 ghost use Rattle.log_head.specs.Heads.{Stops, AreRead};
 
 use ds_base::NoMemory;
-use ds_model::LogRecord;
-use log_record::{RecordFault, read_record};
+use log_record::{LogRecord, RecordFault, read_record};
 use std::alloc::Global;
 use std::collections::VecDeque;
 

@@ -8,7 +8,7 @@ use Rattle.ds_model.specs.declared.log.RowChange.{RowChange}
 use Rattle.page_format.specs.declared.patch.Patch.{Patch}
 use Rattle.facility.specs.declared.command.Reply.{Reply}
 use Rattle.facility.specs.declared.command.Reply.TheVariants as reply
-use Rattle.member_intents.specs.declared.intent.Frames.{Frames}
+use Rattle.member_needs.specs.Given.{Frames}
 use Rattle.member_log.specs.Buffers.{LogBuffer}
 use Rattle.member_trans.specs.declared.fate.Change.{Change}
 use Rattle.member_trans.specs.declared.fate.Owner.{Owner}

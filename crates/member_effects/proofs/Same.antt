@@ -9,7 +9,7 @@ use Rattle.heap_space.specs.Written.{written}
 use Rattle.write_order.specs.declared.rank.Rank.{Rank}
 use Rattle.write_order.specs.Ranks.{rank_of}
 use Rattle.page_plans.specs.Rows.{after_row}
-use Rattle.member_intents.specs.declared.intent.Frames.{Frames}
+use Rattle.member_needs.specs.Given.{Frames}
 use Rattle.member_log.specs.Buffers.{LogBuffer}
 use Rattle.member_trans.specs.Trans.{TransState}
 use Rattle.member_marks.specs.Frames.{after_marked, frame_in, is_placed}

@@ -8,3 +8,4 @@ pub mod Lists
 pub mod Changes
 pub mod Puts
 pub mod Outcomes
+pub mod Given

@@ -8,10 +8,10 @@ use Rattle.member_trans.specs.declared.fate.Change.{Change}
 use Rattle.member_trans.specs.Trans.{TranState, is_forward, newest_of}
 use Rattle.member_marks.specs.Records.{back_record, both_fit, commit_record, ended_record, fits_in, is_at_row, may_back, row_record}
 use Rattle.member_marks.specs.State.{MarksState, slot_tran, tran_of}
-use Rattle.member_intents.specs.declared.intent.Intent.{Intent}
-use Rattle.member_intents.specs.declared.intent.Intent.TheVariants as intent
-use Rattle.member_intents.specs.declared.outcome.Answered.{Answered}
-use Rattle.member_intents.specs.declared.outcome.Answered.TheVariants as answered
+use Rattle.member_needs.specs.Given.{Intent}
+use Rattle.member_needs.specs.Given.intent_variants as intent
+use Rattle.member_needs.specs.Given.{Answered}
+use Rattle.member_needs.specs.Given.answered_variants as answered
 use Rattle.member_needs.specs.declared.plans.Plan.{Plan}
 use Rattle.member_needs.specs.declared.plans.Plan.TheVariants as plan
 use Rattle.member_effects.specs.Changes.{system_record}

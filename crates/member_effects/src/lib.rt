@@ -19,4 +19,5 @@ pub use closing::{end_now, ended, page_released, purged, released};
 pub use cycles::cycle_refused;
 pub use frames::{page_read, read, tested, unregistered, written};
 pub use lists::{cast_told, changed_told, flag_told, query_told, status_told};
+pub use member_needs::{Cast, Plan, Setting, is_stable, need, plan_for};
 pub use told::{Told, outcome_of};

@@ -1,5 +1,5 @@
 use ds_base::{MemberId, PageId, TableId, TranId};
-use list_structure::Asker;
+use facility::Asker;
 use lock_names::{Mode, Name};
 use member_trans::Owner;
 use page_plans::Action;

@@ -10,6 +10,10 @@ mod outcome;
 mod test;
 
 pub use cells::cell_slot;
+pub use facility::{Command, Indexes};
 pub use intent::{Frames, Intent};
 pub use outcome::{Answered, Event, Look, Outcome, Sent};
+pub use page_plans::{
+    Action, RowPlan, action_page, patches_length, place_of, plan, row_change, undo_change,
+};
 pub use test::{StepFault, Test};

@@ -1,6 +1,5 @@
 use ds_base::{PageId, TranId, Volume};
-use facility::{Command, Reply};
-use list_structure::{MemberStatus, Query};
+use facility::{Command, MemberStatus, Query, Reply};
 use lock_names::Name;
 use page_format::Page;
 

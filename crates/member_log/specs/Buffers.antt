@@ -1,7 +1,7 @@
 -- The log buffer of a member.
 use Rattle.std.specs.Prelude.{ℕ, ◌-◌, Bool, ◌&&◌, List, [], ◌++◌, length, nat_lt}
-use Rattle.ds_model.specs.declared.log.LogRecord.{LogRecord}
-use Rattle.ds_model.specs.RecordBytes.{record_bytes}
+use Rattle.log_record.specs.Given.{LogRecord}
+use Rattle.log_record.specs.Given.{record_bytes}
 
 -- the bytes that it has room for, the spelling of the records that were put since the last force, the LRSN of the last
 -- record that was put, and that of the last one before the pending records

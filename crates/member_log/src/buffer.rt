@@ -1,5 +1,5 @@
 ghost use Rattle.std.specs.Prelude.{◌≡◌, ◌+◌, ◌<◌, ◌≤◌, ◌++◌, ◌==◌, length, take, OnOk, OnErr, IfOk, IfErr};
-ghost use Rattle.ds_model.specs.RecordBytes.{record_bytes, IsAllowed, Fits};
+ghost use Rattle.log_record.specs.Given.{record_bytes, IsAllowed, Fits};
 ghost use Rattle.member_log.specs.Buffers.{empty_buffer, room_of, after_put, after_force, started, is_above};
 
 use ds_base::{Lrsn, NoMemory};

@@ -6,3 +6,4 @@ mod buffer;
 mod tests;
 
 pub use buffer::{MemberLog, MustForce};
+pub use log_record::{compensation_of, record_length};

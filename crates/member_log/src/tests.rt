@@ -1,6 +1,6 @@
 ghost use Rattle.std.specs.Prelude.{◌≡◌};
 ghost use Rattle.ds_base.specs.Ids.{IsLrsn};
-ghost use Rattle.ds_model.specs.RecordBytes.{Fits};
+ghost use Rattle.log_record.specs.Given.{Fits};
 
 use crate::{MemberLog, MustForce};
 use ds_base::Lrsn;

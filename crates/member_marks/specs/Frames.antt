@@ -1,7 +1,7 @@
 -- The heads of the frames.
 use Rattle.std.specs.Prelude.{ℕ, ◌+◌, ◌-◌, ◌/◌, ◌^◌, Bool, true, ◌&&◌, nat_lt, if◌then◌else◌, Option, Some, None, is_some, is_none, length, zero, suc}
 use Rattle.ds_base.specs.declared.names.PageId.{PageId}
-use Rattle.write_order.specs.declared.rank.Rank.{Rank}
+use Rattle.member_pool.specs.Given.{Rank}
 use Rattle.member_pool.specs.declared.frame.Frame.{Frame}
 use Rattle.member_pool.specs.Frames.{find_page, is_unpinned}
 use Rattle.member_pool.specs.Heads.{HeadState, head_of, with_head, placed_in, freed, pinned_to, marked, written, free_in, first_to_write, has_changed}

@@ -5,3 +5,4 @@ pub mod Frames
 pub mod Records
 pub mod Rollbacks
 pub mod Local
+pub mod Given

@@ -9,7 +9,7 @@ use Rattle.ds_model.specs.declared.log.Body.TheVariants as body
 use Rattle.ds_model.specs.declared.log.Version.TheVariants as version
 use Rattle.ds_model.specs.RecordBytes.{record_bytes}
 use Rattle.page_format.specs.declared.patch.Patch.{Patch}
-use Rattle.log_record.specs.Changes.{inverse}
+use Rattle.member_log.specs.Given.{inverse}
 use Rattle.member_log.specs.Buffers.{LogBuffer, room_of, after_put, after_force}
 use Rattle.member_trans.specs.declared.fate.Change.{Change}
 use Rattle.member_trans.specs.declared.fate.Owner.{Owner}

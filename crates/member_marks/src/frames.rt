@@ -22,9 +22,8 @@ ghost use Rattle.member_marks.specs.Frames.{
 
 use crate::Marks;
 use ds_base::{PageId, TableId};
-use member_pool::{Frame, Heads};
+use member_pool::{Frame, Heads, Rank};
 use member_trans::{Owner, Trans};
-use write_order::Rank;
 
 /// The last page set of a table.
 const LAST_SET: u16 = 128;

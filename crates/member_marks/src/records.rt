@@ -31,7 +31,7 @@ ghost use Rattle.member_marks.specs.Records.{
 use crate::Marks;
 use ds_base::{LRSN_LIMIT, Lrsn, NoMemory, PageId};
 use ds_model::{Body, LogRecord, RowChange, Version};
-use log_record::{compensation_of, record_length};
+use member_log::{compensation_of, record_length};
 use member_trans::{Owner, Trans};
 use page_format::Patch;
 

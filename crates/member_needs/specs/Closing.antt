@@ -3,12 +3,12 @@ use Rattle.std.specs.Prelude.{ℕ, ◌==◌, Bool, false, not, ◌||◌, if◌th
 use Rattle.ds_base.specs.declared.names.PageId.{PageId}
 use Rattle.ds_model.specs.declared.lock.Name.{Name}
 use Rattle.lock_names.specs.declared.mode.Interest.{Interest}
-use Rattle.facility.specs.declared.command.Command.TheVariants as command
+use Rattle.member_intents.specs.Given.command_variants as command
 use Rattle.member_intents.specs.declared.outcome.Sent.{Sent}
 use Rattle.member_intents.specs.declared.outcome.Sent.TheVariants as sent
 use Rattle.member_intents.specs.declared.test.Test.{Test}
 use Rattle.member_intents.specs.declared.test.Test.TheVariants.{NotOver, StillChanged, NoneLeft, SomeLeft, NotClaimed, StillClaimed, NotRetained}
-use Rattle.member_pool.specs.Frames.{find_page}
+use Rattle.member_marks.specs.Given.{find_page}
 use Rattle.member_trans.specs.declared.fate.Owner.{Owner}
 use Rattle.member_trans.specs.Trans.{is_over_at, was_postponed}
 use Rattle.member_marks.specs.State.{MarksState, tran_of, id_of}

@@ -3,13 +3,13 @@ use Rattle.std.specs.Prelude.{ℕ, ◌==◌, nat_le, nat_lt, Bool, false, not, �
 use Rattle.ds_base.specs.declared.names.PageId.{PageId}
 use Rattle.page_format.specs.Fields.{lrsn_of}
 use Rattle.ds_base.specs.Pages.{same_page, heap_page}
-use Rattle.facility.specs.declared.command.Command.TheVariants as command
+use Rattle.member_intents.specs.Given.command_variants as command
 use Rattle.member_intents.specs.declared.outcome.Sent.{Sent}
 use Rattle.member_intents.specs.declared.outcome.Sent.TheVariants as sent
 use Rattle.member_intents.specs.declared.test.Test.{Test}
 use Rattle.member_intents.specs.declared.test.Test.TheVariants.{NotForward, NotPlaced, NotRegistered, NotFilled, StillFilled, NotChanged, StillChanged, StillPinned, StillClaimed, NotClaimed, NotFirst, NotStable, OtherPage}
-use Rattle.member_pool.specs.declared.frame.Frame.{Frame}
-use Rattle.member_pool.specs.Heads.{is_first_to_write}
+use Rattle.member_marks.specs.Given.{Frame}
+use Rattle.member_marks.specs.Given.{is_first_to_write}
 use Rattle.member_trans.specs.Trans.{is_forward}
 use Rattle.member_marks.specs.State.{MarksState, slot_tran}
 use Rattle.member_marks.specs.Claims.{has_page}

@@ -7,3 +7,4 @@ pub mod Records
 pub mod Castout
 pub mod Needs
 pub mod Plans
+pub mod Given

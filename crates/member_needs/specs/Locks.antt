@@ -6,7 +6,7 @@ use Rattle.lock_names.specs.declared.mode.Mode.{Mode}
 use Rattle.lock_names.specs.declared.mode.Mode.TheVariants.{IS, IX, S, U, SIX, X}
 use Rattle.lock_names.specs.Modes.{is_covering}
 use Rattle.list_structure.specs.declared.query.Asker.{Asker}
-use Rattle.facility.specs.declared.command.Command.TheVariants as command
+use Rattle.member_intents.specs.Given.command_variants as command
 use Rattle.member_intents.specs.declared.outcome.Sent.{Sent}
 use Rattle.member_intents.specs.declared.outcome.Sent.TheVariants as sent
 use Rattle.member_intents.specs.declared.test.Test.{Test}

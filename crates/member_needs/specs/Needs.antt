@@ -1,6 +1,6 @@
 -- What each intent sends, or the first test that fails.
 use Rattle.std.specs.Prelude.{ℕ, List, Result, Ok}
-use Rattle.facility.specs.declared.command.Command.TheVariants as command
+use Rattle.member_intents.specs.Given.command_variants as command
 use Rattle.member_intents.specs.declared.intent.Intent.{Intent}
 use Rattle.member_intents.specs.declared.intent.Intent.TheVariants as intent
 use Rattle.member_intents.specs.declared.outcome.Sent.{Sent}

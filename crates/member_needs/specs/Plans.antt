@@ -7,12 +7,12 @@ use Rattle.ds_model.specs.declared.log.Body.TheVariants as body
 use Rattle.ds_model.specs.RecordBytes.{length_of, PatchesAreAllowed, ChangeFits}
 use Rattle.page_format.specs.declared.patch.Patch.{Patch}
 use Rattle.ds_base.specs.Pages.{heap_page}
-use Rattle.page_plans.specs.declared.action.Action.{Action}
-use Rattle.page_plans.specs.declared.action.Action.TheVariants as action
-use Rattle.page_plans.specs.declared.action.RowPlan.{RowPlan}
-use Rattle.page_plans.specs.declared.action.RowPlan.TheVariants as row
-use Rattle.page_plans.specs.Plans.{plan_of}
-use Rattle.page_plans.specs.Rows.{row_plan, undo_plan}
+use Rattle.member_intents.specs.Given.{Action}
+use Rattle.member_intents.specs.Given.action_variants as action
+use Rattle.member_intents.specs.Given.{RowPlan}
+use Rattle.member_intents.specs.Given.row_plan_variants as row
+use Rattle.member_intents.specs.Given.{plan_of}
+use Rattle.member_intents.specs.Given.{row_plan, undo_plan}
 -- given out again: the frames of a change, and what an event comes to
 pub use Rattle.member_intents.specs.declared.intent.Frames.{Frames}
 pub use Rattle.member_intents.specs.declared.outcome.Outcome.{Outcome}
@@ -23,7 +23,7 @@ use Rattle.member_intents.specs.declared.test.Test.{Test}
 use Rattle.member_intents.specs.declared.test.Test.TheVariants.{Moot, NoRoom, OtherPage}
 use Rattle.member_intents.specs.declared.test.StepFault.{StepFault}
 use Rattle.member_intents.specs.declared.test.StepFault.TheVariants.{Unlawful, NotExecutable, NoMemory}
-use Rattle.member_log.specs.Buffers.{room_of}
+use Rattle.member_marks.specs.Given.{room_of}
 use Rattle.member_trans.specs.declared.fate.Change.{Change}
 use Rattle.member_trans.specs.Trans.{newest_of}
 use Rattle.member_marks.specs.State.{MarksState, tran_of}

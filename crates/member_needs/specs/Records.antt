@@ -7,20 +7,20 @@ use Rattle.ds_model.specs.declared.log.RowChange.{RowChange}
 use Rattle.lock_names.specs.declared.mode.Mode.{Mode}
 use Rattle.lock_names.specs.declared.mode.Mode.TheVariants.{IS, IX, S, U, SIX, X}
 use Rattle.ds_base.specs.Pages.{same_page, heap_page}
-use Rattle.facility.specs.Counting.{limit}
-use Rattle.facility.specs.declared.command.Indexes.{Indexes}
-use Rattle.facility.specs.declared.command.Command.TheVariants as command
-use Rattle.page_plans.specs.declared.action.Action.{Action}
-use Rattle.page_plans.specs.declared.action.Action.TheVariants as action
-use Rattle.page_plans.specs.Names.{action_page}
-use Rattle.page_plans.specs.Looks.{look_of, place_in}
+use Rattle.member_intents.specs.Given.{limit}
+use Rattle.member_intents.specs.Given.{Indexes}
+use Rattle.member_intents.specs.Given.command_variants as command
+use Rattle.member_intents.specs.Given.{Action}
+use Rattle.member_intents.specs.Given.action_variants as action
+use Rattle.member_intents.specs.Given.{action_page}
+use Rattle.member_intents.specs.Given.{look_of, place_in}
 use Rattle.member_intents.specs.declared.intent.Frames.{Frames}
 use Rattle.member_intents.specs.declared.outcome.Sent.{Sent}
 use Rattle.member_intents.specs.declared.outcome.Sent.TheVariants as sent
 use Rattle.member_intents.specs.declared.test.Test.{Test}
 use Rattle.member_intents.specs.declared.test.Test.TheVariants.{NotForward, NotUndoing, NoneStands, AboveLimit, NoRow, NoSpace, NotPlaced, OtherPage, NotClaimed, NotFilled, NoRoom, NonePending}
-use Rattle.member_log.specs.Buffers.{room_of, is_above}
-use Rattle.member_pool.specs.declared.frame.Frame.{Frame}
+use Rattle.member_marks.specs.Given.{room_of, is_above}
+use Rattle.member_marks.specs.Given.{Frame}
 use Rattle.member_trans.specs.declared.fate.Change.{Change}
 use Rattle.member_trans.specs.declared.fate.Owner.{Owner}
 use Rattle.member_trans.specs.declared.fate.Owner.TheVariants as owner

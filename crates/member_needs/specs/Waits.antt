@@ -1,7 +1,7 @@
 -- Waits of transactions for one another.
 use Rattle.std.specs.Prelude.{ℕ, ◌==◌, not, Result}
 use Rattle.ds_base.specs.declared.names.TranId.{TranId}
-use Rattle.facility.specs.declared.command.Command.TheVariants as command
+use Rattle.member_intents.specs.Given.command_variants as command
 use Rattle.member_intents.specs.declared.outcome.Sent.{Sent}
 use Rattle.member_intents.specs.declared.outcome.Sent.TheVariants as sent
 use Rattle.member_intents.specs.declared.test.Test.{Test}

@@ -4,8 +4,7 @@ ghost use Rattle.std.specs.Prelude.{◌≡◌};
 ghost use Rattle.member_needs.specs.Castout.{done, cast_need, done_need};
 
 use ds_base::PageId;
-use facility::Command;
-use member_intents::{Sent, Test};
+use member_intents::{Command, Sent, Test};
 
 /// The page that was read to be cast out, and whether it was written.
 #[derive(Clone, Copy, Debug, PartialEq, Eq)]

@@ -4,9 +4,8 @@ ghost use Rattle.std.specs.Prelude.{◌≡◌};
 ghost use Rattle.member_needs.specs.Closing.{over_test, release_need, end_test, end_sent, end_need, purge_need, is_page_changed, release_page_need};
 
 use ds_base::PageId;
-use facility::Command;
 use lock_names::Name;
-use member_intents::{Sent, Test};
+use member_intents::{Command, Sent, Test};
 use member_marks::{Marks, Owner, Stage};
 
 // The transaction is over, and has given up a lock already or no page of its sets is changed.

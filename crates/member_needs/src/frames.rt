@@ -5,8 +5,7 @@ ghost use Rattle.page_format.specs.Fields.{lrsn_of};
 ghost use Rattle.member_needs.specs.Frames.{is_stable, placed, read_need, read_page_need, header_test, gives_test, test_need, write_need, unregister_need};
 
 use ds_base::{Lrsn, PageId, TableId};
-use facility::Command;
-use member_intents::{Sent, Test};
+use member_intents::{Command, Sent, Test};
 use member_marks::{Frame, Marks};
 use page_format::Page;
 

@@ -5,10 +5,9 @@ ghost use Rattle.member_marks.specs.Claims.{is_for_agents};
 ghost use Rattle.member_needs.specs.Locks.{is_x, is_joined, slot_test, agent_test, page_test, claim_test, obtain_need, grant_need, is_page_claimed, ask_need, answers_need, answer_need};
 
 use ds_base::MemberId;
-use facility::Command;
 use list_structure::Asker;
 use lock_names::{Mode, Name, covers};
-use member_intents::{Sent, Test, cell_slot};
+use member_intents::{Command, Sent, Test, cell_slot};
 use member_marks::{Marks, Owner};
 
 /// Whether agents claim the name.

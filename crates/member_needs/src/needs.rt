@@ -9,8 +9,7 @@ use crate::frames::{read_need, read_page_need, test_need, unregister_need, write
 use crate::locks::{answer_need, answers_need, ask_need, grant_need, obtain_need};
 use crate::records::{append_need, change_need, commit_need, undo_need};
 use crate::waits::{unwait_need, wait_need};
-use facility::Command;
-use member_intents::{Intent, Sent, Test};
+use member_intents::{Command, Intent, Sent, Test};
 use member_marks::Marks;
 use page_format::Page;
 

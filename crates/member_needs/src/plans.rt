@@ -1,7 +1,7 @@
 //! What a change comes to over the pages in the frames.
 
 ghost use Rattle.std.specs.Prelude.{◌≡◌, IfOk, option_copied, slice_get};
-ghost use Rattle.page_plans.specs.Rows.{Fits};
+ghost use Rattle.member_intents.specs.Given.{Fits};
 ghost use Rattle.member_trans.specs.Trans.{newest_of};
 ghost use Rattle.member_marks.specs.State.{tran_of};
 ghost use Rattle.member_needs.specs.Plans.{IsUnlessMemory, system_plan, row_or_fault, row_with, change_plan, back_or_fault, back_plan, intent_plan, PlanIsAllowed};
@@ -9,10 +9,11 @@ ghost use Rattle.member_needs.specs.Plans.{IsUnlessMemory, system_plan, row_or_f
 use crate::records::{ROW_CHANGE_BYTES, page_of};
 use ds_base::{Key, NoMemory, PageId, Place, TableId, Value};
 use ds_model::RowChange;
-use member_intents::{Frames, Intent, StepFault, Test};
+use member_intents::{
+    Action, Frames, Intent, RowPlan, StepFault, Test, patches_length, plan, row_change, undo_change,
+};
 use member_marks::{Marks, Owner};
 use page_format::{Page, Patches};
-use page_plans::{Action, RowPlan, patches_length, plan, row_change, undo_change};
 use std::alloc::Global;
 
 /// What is made where a number was drawn.

@@ -8,12 +8,10 @@ ghost use Rattle.member_needs.specs.Records.{allows_row, allows_space, row_test,
 
 use crate::frames::placed;
 use ds_base::{Key, PageId, Place, TableId};
-use facility::{Command, Indexes};
 use lock_names::{Mode, Name};
-use member_intents::{Frames, Sent, Test};
+use member_intents::{Action, Command, Frames, Indexes, Sent, Test, action_page, place_of};
 use member_marks::{Marks, Owner, Stage};
 use page_format::Page;
-use page_plans::{Action, action_page, place_of};
 
 /// The most bytes of the record of a row change.
 pub const ROW_CHANGE_BYTES: u32 = 30 + 15 + 2 * 102;

@@ -4,8 +4,7 @@ ghost use Rattle.std.specs.Prelude.{◌≡◌};
 ghost use Rattle.member_needs.specs.Waits.{tran_test, wait_need, unwait_need};
 
 use ds_base::TranId;
-use facility::Command;
-use member_intents::{Sent, Test};
+use member_intents::{Command, Sent, Test};
 use member_marks::{Marks, Owner};
 
 // The slot has a transaction.

@@ -8,3 +8,4 @@ pub mod Marks
 pub mod Pools
 pub mod Sets
 pub mod Sound
+pub mod Given

@@ -14,3 +14,4 @@ pub use heads::Heads;
 pub use law::keeps_pages_apart;
 pub use pool::Pool;
 pub use sets::SetMask;
+pub use write_order::Rank;

@@ -16,7 +16,7 @@ use Rattle.member_intents.specs.declared.outcome.Sent.{Sent}
 use Rattle.member_intents.specs.declared.test.StepFault.{StepFault}
 use Rattle.member_intents.specs.declared.test.StepFault.TheVariants as faults
 use Rattle.member_marks.specs.State.{MarksState}
-use Rattle.member_needs.specs.declared.plans.Plan.{Plan}
+use Rattle.member_effects.specs.Given.{Plan}
 use Rattle.member_effects.specs.declared.told.Told.{Told}
 use Rattle.member_effects.specs.Puts.{event_records, reply_records}
 use Rattle.member_resources.specs.declared.lending.Lent.{Lent}

@@ -3,7 +3,7 @@ use Rattle.std.proofs.Common.{◌≡◌, ℕ, List, Result, Err, ap}
 use Rattle.member_intents.specs.declared.outcome.Sent.{Sent}
 use Rattle.member_intents.specs.declared.test.Test.{Test}
 use Rattle.member_marks.specs.State.{MarksState}
-use Rattle.member_needs.specs.declared.plans.Plan.{Plan}
+use Rattle.member_effects.specs.Given.{Plan}
 use Rattle.member_effects.specs.Kept.{Kept}
 use Rattle.member_resources.specs.Held.{Held}
 use Rattle.member_resources.specs.Prepared.{needed}

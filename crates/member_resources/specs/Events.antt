@@ -27,9 +27,9 @@ use Rattle.member_intents.specs.declared.outcome.Answered.{Answered}
 use Rattle.member_intents.specs.declared.outcome.Answered.TheVariants as answered
 use Rattle.member_intents.specs.declared.test.Test.{Test}
 use Rattle.member_marks.specs.Local.{Reaches}
-use Rattle.member_needs.specs.declared.castout.Cast.{Cast}
+use Rattle.member_effects.specs.Given.{Cast}
 -- given out again: what was planned, and what the policy is told
-pub use Rattle.member_needs.specs.declared.plans.Plan.{Plan}
+pub use Rattle.member_effects.specs.Given.{Plan}
 pub use Rattle.member_effects.specs.declared.told.Told.{Told}
 use Rattle.member_effects.specs.declared.told.Told.TheVariants as told
 use Rattle.member_effects.specs.Puts.{event_records}

@@ -4,7 +4,7 @@ use Rattle.ds_base.specs.declared.names.Sizes.{Sizes}
 use Rattle.page_format.specs.Fields.{page_size}
 use Rattle.member_trans.specs.Trans.{after_event}
 use Rattle.member_marks.specs.State.{MarksState, IsFresh, with_trans}
-use Rattle.member_needs.specs.declared.castout.Cast.{Cast}
+use Rattle.member_effects.specs.Given.{Cast}
 
 pub record Held : Type 0 where
   pub marks : MarksState

@@ -6,10 +6,10 @@ use Rattle.member_intents.specs.declared.outcome.Sent.{Sent}
 use Rattle.member_intents.specs.declared.test.Test.{Test}
 use Rattle.member_trans.specs.Trans.{with_tran, with_room}
 use Rattle.member_marks.specs.State.{slot_tran, with_trans}
-use Rattle.member_needs.specs.declared.needs.Setting.{Setting}
-use Rattle.member_needs.specs.declared.plans.Plan.{Plan}
-use Rattle.member_needs.specs.Needs.{need_of}
-use Rattle.member_needs.specs.Plans.{intent_plan}
+use Rattle.member_effects.specs.Given.{Setting}
+use Rattle.member_effects.specs.Given.{Plan}
+use Rattle.member_effects.specs.Given.{need_of}
+use Rattle.member_effects.specs.Given.{intent_plan}
 use Rattle.member_resources.specs.declared.prepared.Prepared.{Prepared}
 use Rattle.member_resources.specs.Held.{Held, with_marks, with_spare}
 

@@ -14,8 +14,8 @@ use Rattle.member_trans.specs.declared.fate.Owner.{Owner}
 use Rattle.member_marks.specs.Claims.{after_end_of}
 use Rattle.member_marks.specs.Frames.{after_filled}
 use Rattle.member_marks.specs.Records.{after_append}
-use Rattle.member_needs.specs.declared.castout.Cast.{Cast}
-use Rattle.member_needs.specs.declared.plans.Plan.{Plan}
+use Rattle.member_effects.specs.Given.{Cast}
+use Rattle.member_effects.specs.Given.{Plan}
 use Rattle.member_effects.specs.declared.told.Told.{Told}
 use Rattle.member_effects.specs.declared.told.Told.TheVariants as told
 use Rattle.member_effects.specs.Kept.{Kept}

@@ -1,14 +1,14 @@
 ghost use Rattle.std.specs.Prelude.{◌≡◌, ◌≤◌, IfOk, OnOk, OnErr};
 ghost use Rattle.member_intents.specs.declared.test.Test.{Test as TestValue};
 ghost use Rattle.member_intents.specs.declared.test.StepFault.TheVariants.{Unlawful};
-ghost use Rattle.member_needs.specs.Needs.{need_of};
-ghost use Rattle.member_needs.specs.Plans.{IsUnlessMemory, PlanIsAllowed, intent_plan};
+ghost use Rattle.member_effects.specs.Given.{need_of};
+ghost use Rattle.member_effects.specs.Given.{IsUnlessMemory, PlanIsAllowed, intent_plan};
 ghost use Rattle.member_resources.specs.Prepared.{is_holder, setting_of, wanted, HasSpare, with_change_room, Reserves};
 
 use crate::Resources;
 use ds_base::{MemberId, NoMemory};
+use member_effects::{Plan, Setting, need, plan_for};
 use member_intents::{Intent, Sent, StepFault, Test};
-use member_needs::{Plan, Setting, need, plan_for};
 use std::alloc::Global;
 
 /// A lawful event: what goes out, and what is changed where a number is drawn for it.

@@ -1,13 +1,13 @@
 ghost use Rattle.std.specs.Prelude.{◌≡◌, ◌≤◌, replicate, IfOk, OnOk, OnErr};
 ghost use Rattle.member_marks.specs.State.{with_trans};
 ghost use Rattle.member_marks.specs.Rollbacks.{may_adopt, after_adopt, with_room_of};
-ghost use Rattle.member_needs.specs.Frames.{is_stable as is_page_stable};
+ghost use Rattle.member_effects.specs.Given.{is_stable as is_page_stable};
 ghost use Rattle.member_resources.specs.Held.{IsNew, zeros, with_marks};
 
 use ds_base::{Lrsn, MemberId, NoMemory, Sizes};
 use ds_model::RowChange;
+use member_effects::{Cast, is_stable};
 use member_marks::{Change, Marks, Refused};
-use member_needs::{Cast, is_stable};
 use page_format::Page;
 use std::alloc::Global;
 use std::marker::Model;

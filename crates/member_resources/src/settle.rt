@@ -8,7 +8,7 @@ ghost use Rattle.member_effects.specs.Changes.{drawn_told, undone_told};
 ghost use Rattle.member_effects.specs.Puts.{change_records, drawn_by as records_by, reply_records, undo_records};
 ghost use Rattle.member_marks.specs.Records.{after_append};
 ghost use Rattle.member_marks.specs.State.{slot_tran, tran_of};
-ghost use Rattle.member_needs.specs.Plans.{PlanIsAllowed};
+ghost use Rattle.member_effects.specs.Given.{PlanIsAllowed};
 ghost use Rattle.member_resources.specs.Held.{with_marks, with_cast};
 ghost use Rattle.member_resources.specs.Settled.{cast_read, written_cast, drawn as drawn_by, undone as undone_by, unsent, unsent_told, SettlesClaim, Settles, told_by, SettlesWaits, stored, stored_told};
 
@@ -18,13 +18,12 @@ use facility::Reply;
 use list_structure::{Cell, Wait};
 use lock_names::{Mode, Name};
 use member_effects::{
-    Told, answered, cast_told, changed_told, claimed, commit_drawn, cycle_refused, drawn, end_now,
-    ended, flag_told, page_read, page_released, purged, query_told, read, released, status_told,
-    tested, undone, unregistered, written,
+    Cast, Plan, Told, answered, cast_told, changed_told, claimed, commit_drawn, cycle_refused,
+    drawn, end_now, ended, flag_told, page_read, page_released, purged, query_told, read, released,
+    status_told, tested, undone, unregistered, written,
 };
 use member_intents::{Frames, Intent};
 use member_marks::Owner;
-use member_needs::{Cast, Plan};
 use std::alloc::Global;
 
 impl Resources {

@@ -10,7 +10,7 @@ ghost use Rattle.facility.specs.States.{held};
 ghost use Rattle.member_intents.specs.declared.test.Test.{Test};
 ghost use Rattle.member_intents.specs.declared.test.StepFault.TheVariants.{Unlawful, NotExecutable};
 ghost use Rattle.member_intents.specs.declared.test.StepFault.TheVariants as faults;
-ghost use Rattle.member_needs.specs.Plans.{PlanIsAllowed};
+ghost use Rattle.member_effects.specs.Given.{PlanIsAllowed};
 ghost use Rattle.member_effects.specs.Puts.{event_records, reply_records};
 ghost use Rattle.member_resources.specs.Held.{begun};
 ghost use Rattle.member_resources.specs.Events.{world_of, waits_in, frame_read, SettlesReply, RunsCommand, CannotExecute, ReadsInto, Reads, Calls, Stores, RunsCall, Runs, IsStopped, holder_in, Ends, Happens, IsUnlawful, IsNotExecutable};
@@ -21,9 +21,8 @@ use cache_structure::CacheFace;
 use ds_base::{MemberId, NoMemory, PageId};
 use ds_disk::{Disk, DiskError};
 use facility::{Command, Facility, Reply};
-use member_effects::{Told, outcome_of};
+use member_effects::{Plan, Told, outcome_of};
 use member_intents::{Answered, Event, Intent, Sent, StepFault};
-use member_needs::Plan;
 use std::alloc::Global;
 
 // The slots whose transactions are looked for in cycles.

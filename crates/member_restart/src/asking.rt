@@ -7,12 +7,11 @@ use crate::stage::Stage;
 use ds_base::{Lrsn, MemberId, PageId};
 use list_structure::MemberStatus;
 use lock_names::{Mode, Name};
-use member_intents::{Event, Intent, Outcome};
 use member_trans::Owner;
 use page_format::Page;
 use plock_negotiate::{Negotiation, Progress};
 use restart_marks::{RestartIntent, RestartMarks};
-use restart_resources::RestartOutcome;
+use restart_resources::{Event, Intent, Outcome, RestartOutcome};
 
 /// What a negotiation wants next for the transaction.
 pub fn intent_of(negotiation: &Negotiation, tran: Option<Lrsn>) -> RestartIntent {

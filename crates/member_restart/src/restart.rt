@@ -4,10 +4,9 @@ use crate::asking;
 use crate::stage::{Ended, Stage};
 use ds_base::{Lrsn, MemberId, NoMemory};
 use lock_names::Name;
-use member_intents::Event;
 use plock_negotiate::Negotiation;
 use restart_marks::{RestartIntent, RestartMarks};
-use restart_resources::{RestartOutcome, RestartPolicy};
+use restart_resources::{Event, RestartOutcome, RestartPolicy};
 use std::alloc::Global;
 
 /// The restart of a member: where it stands, and what is left to do.

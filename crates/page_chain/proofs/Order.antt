@@ -4,8 +4,8 @@ use Rattle.std.specs.List.{AllByRecursion, list_any}
 use Rattle.ds_base.specs.declared.names.PageId.{PageId}
 use Rattle.ds_model.specs.declared.log.LogRecord.{LogRecord}
 use Rattle.ds_model.specs.RecordBytes.{IsAllowed}
-use Rattle.page_format.specs.Fields.{lrsn_of}
-use Rattle.page_format.specs.declared.patch.Patch.{Patch}
+use Rattle.page_images.specs.Given.{lrsn_of}
+use Rattle.page_images.specs.Given.{Patch}
 use Rattle.ds_base.specs.Pages.{same_page}
 use Rattle.page_chain.specs.Chains.{changes_of, touches, after_record, version_from, Follows, AreInOrder}
 use Rattle.page_chain.proofs.Others.{Stamping, others_stay, record_whole, record_stamps}

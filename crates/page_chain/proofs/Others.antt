@@ -10,10 +10,10 @@ use Rattle.ds_model.specs.declared.log.Body.TheVariants as body
 use Rattle.ds_model.specs.declared.log.Version.{Version}
 use Rattle.ds_model.specs.declared.log.Version.TheVariants as version
 use Rattle.ds_model.specs.RecordBytes.{IsAllowed, StateIsAllowed, ChangeIsAllowed, PatchIsAllowed, IsNumber, BodyIsAllowed}
-use Rattle.page_format.specs.Fields.{lrsn_of}
-use Rattle.page_format.specs.declared.patch.Patch.{Patch}
-use Rattle.heap_space.specs.Slots.{head, image}
-use Rattle.heap_space.specs.Written.{written}
+use Rattle.page_images.specs.Given.{lrsn_of}
+use Rattle.page_images.specs.Given.{Patch}
+use Rattle.page_images.specs.Given.{head, image}
+use Rattle.page_images.specs.Given.{written}
 use Rattle.ds_base.specs.Pages.{same_page}
 use Rattle.page_images.specs.Images.{zeros, patches_for, all_stamped, IsFree}
 use Rattle.page_images.specs.Parts.{AreWithin}

@@ -5,7 +5,7 @@ use Rattle.std.specs.List.{AllByRecursion}
 use Rattle.ds_base.specs.declared.names.PageId.{PageId}
 use Rattle.ds_model.specs.declared.log.LogRecord.{LogRecord}
 use Rattle.ds_model.specs.RecordBytes.{IsAllowed}
-use Rattle.page_format.specs.Fields.{lrsn_of}
+use Rattle.page_images.specs.Given.{lrsn_of}
 use Rattle.page_images.specs.Images.{zeros}
 use Rattle.page_chain.specs.Chains.{changes_of, touches, after_record, version_from, version_of, redo, AreInOrder, AreRecords, up_to}
 use Rattle.page_chain.proofs.Others.{Stamping, others_stay, record_whole, record_stamps}

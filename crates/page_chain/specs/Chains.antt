@@ -7,12 +7,12 @@ use Rattle.ds_model.specs.declared.log.RowChange.{RowChange}
 use Rattle.ds_model.specs.declared.log.Body.{Body}
 use Rattle.ds_model.specs.declared.log.Body.TheVariants as body
 use Rattle.ds_model.specs.RecordBytes.{IsAllowed}
-use Rattle.page_format.specs.Fields.{lrsn_of}
-use Rattle.page_format.specs.declared.patch.Patch.{Patch}
+use Rattle.page_images.specs.Given.{lrsn_of}
+use Rattle.page_images.specs.Given.{Patch}
 use Rattle.ds_base.specs.Pages.{same_page, heap_page}
-use Rattle.heap_space.specs.Layout.{slot_at}
-use Rattle.heap_space.specs.Slots.{image}
-use Rattle.heap_space.specs.Written.{written}
+use Rattle.page_images.specs.Given.{slot_at}
+use Rattle.page_images.specs.Given.{image}
+use Rattle.page_images.specs.Given.{written}
 use Rattle.page_images.specs.Images.{Images, zeros, after_change}
 
 -- ---- records as changes of pages

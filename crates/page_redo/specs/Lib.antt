@@ -1,3 +1,4 @@
 pub mod Rows
 pub mod Forward
 pub mod Pages
+pub mod Given

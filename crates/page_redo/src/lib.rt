@@ -15,6 +15,7 @@ pub use fault::FieldFault;
 pub use forward::{bring_forward, bring_record};
 pub use laws::forward_laws;
 pub use log_record::inverse;
+pub use page_chain::redo_laws;
 pub use pages::{page_changed, pages_of};
 pub use rows::{put_row, row_fault, undo_row};
 

@@ -12,3 +12,4 @@ pub mod Locks
 pub mod Cells
 pub mod Undoing
 pub mod Adopt
+pub mod Given

@@ -6,7 +6,7 @@ use Rattle.log_record.specs.declared.log.Log.{Log}
 use Rattle.log_record.specs.Logs.{Parts}
 use Rattle.log_reader.specs.declared.calls.LogReply.{LogReply}
 use Rattle.log_reader.specs.Begin.{begin_of}
-use Rattle.checkpoint_reader.specs.Readers.{ReaderState, after_reply, is_whole, parts_read}
+use Rattle.restart_records.specs.Given.{ReaderState, after_reply, is_whole, parts_read}
 use Rattle.log_trans.specs.declared.damage.Damaged.{Damaged}
 use Rattle.log_trans.specs.Courses.{open_trans}
 use Rattle.log_trans.specs.Damage.{log_damage}

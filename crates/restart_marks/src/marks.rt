@@ -6,13 +6,13 @@ ghost use Rattle.restart_records.specs.Own.{KnowsTo, own_with};
 ghost use Rattle.restart_records.specs.Maps.{places_at};
 
 use crate::hand::Hand;
-use checkpoint_reader::CheckpointReader;
 use ds_base::{Lrsn, MemberId, NoMemory, PageId, Sequence};
 use ds_model::LogRecord;
 use lock_names::Name;
 use member_log::MemberLog;
 use restart_records::{
-    NameMark, Names, Newest, OwnLog, Queue, RestartTran, RestartTrans, TurnKey, page_of,
+    CheckpointReader, NameMark, Names, Newest, OwnLog, Queue, RestartTran, RestartTrans, TurnKey,
+    page_of,
 };
 use std::alloc::Global;
 use std::marker::Model;

@@ -5,10 +5,10 @@ ghost use Rattle.restart_marks.specs.OwnNeeds.{read_log_need, cut_need, listing_
 
 use crate::intent::{RestartSent, RestartTest};
 use crate::marks::RestartMarks;
-use checkpoint_reader::LogCall;
 use facility::Command;
 use list_structure::MemberStatus;
 use lock_names::Name;
+use restart_records::LogCall;
 
 fn call_sent(call: Option<LogCall>) -> Result<RestartSent, RestartTest>
     ensures { result ≡ call_sent call }

@@ -5,18 +5,19 @@ ghost use Rattle.ds_base.specs.declared.names.Volume.TheVariants.{Log as LogVolu
 ghost use Rattle.std.specs.List.{AllByRecursion};
 ghost use Rattle.ds_model.specs.RecordBytes.{IsAllowed};
 ghost use Rattle.log_trans.specs.Damage.{log_damage};
-ghost use Rattle.checkpoint_reader.specs.Readers.{IsRead};
+ghost use Rattle.restart_records.specs.Given.{IsRead};
 ghost use Rattle.restart_marks.specs.declared.told.RestartTold.TheVariants as told;
 ghost use Rattle.restart_marks.specs.State.{with_own};
 ghost use Rattle.restart_marks.specs.Reading.{entered, judged_told, judged_after, read_told, read_after, read_on_told, read_on_after};
 
 use crate::marks::RestartMarks;
 use crate::told::RestartTold;
-use checkpoint_reader::{CheckpointReader, LogRead, LogReply, place_in};
 use ds_base::{MemberId, NoMemory, Volume};
 use log_record::Log;
 use log_trans::{Damaged, greatest_number, open_trans};
-use restart_records::{judge, last_number, places_of};
+use restart_records::{
+    CheckpointReader, LogRead, LogReply, judge, last_number, place_in, places_of,
+};
 use std::alloc::Global;
 
 fn damaged(member: MemberId, at: u64) -> RestartTold

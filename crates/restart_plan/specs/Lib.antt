@@ -5,3 +5,4 @@ pub mod Ends
 pub mod Opened
 pub mod Plans
 pub mod Renewal
+pub mod Given

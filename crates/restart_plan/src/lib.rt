@@ -20,6 +20,7 @@ pub use ends::Ends;
 pub use greatest::Greatest;
 pub use logs::Logs;
 pub use opened::{Closing, Undo};
+pub use page_records::PageRecords;
 pub use plan::{Plan, plan_of};
 pub use queue::Queue;
 pub use renewal::asks_behind;

@@ -4,3 +4,4 @@ pub mod Names
 pub mod Own
 pub mod Trans
 pub mod Written
+pub mod Given

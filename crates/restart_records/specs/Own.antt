@@ -3,7 +3,7 @@ use Rattle.std.specs.Prelude.{◌≡◌, ℕ, ◌-◌, Bool, true, false, List, 
 use Rattle.ds_base.specs.declared.names.PageId.{PageId}
 use Rattle.ds_model.specs.declared.log.LogRecord.{LogRecord}
 use Rattle.log_record.specs.declared.log.Log.{Log}
-use Rattle.log_reader.specs.declared.calls.LogCall.{LogCall}
+use Rattle.checkpoint_reader.specs.Given.{LogCall}
 use Rattle.checkpoint_reader.specs.Readers.{ReaderState, IsNew, next_call}
 use Rattle.page_records.specs.declared.places.PageRecords.{PageRecords}
 use Rattle.restart_records.specs.Maps.{PagePlaces, with_places}

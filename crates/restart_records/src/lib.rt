@@ -10,6 +10,7 @@ mod queue;
 mod trans;
 mod written;
 
+pub use checkpoint_reader::{CheckpointReader, LogCall, LogRead, LogReply, place_in};
 pub use judged::{judge, last_number, no_number};
 pub use log_trans::OpenTran;
 pub use map::PlaceMap;

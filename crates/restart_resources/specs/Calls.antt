@@ -17,7 +17,7 @@ use Rattle.restart_marks.specs.declared.intent.RestartSent.TheVariants as sent
 use Rattle.restart_marks.specs.declared.told.RestartTold.{RestartTold}
 use Rattle.restart_marks.specs.declared.told.RestartTold.TheVariants as told
 use Rattle.restart_marks.specs.Hands.{filled_after}
-use Rattle.restart_records.specs.Own.{own_with}
+use Rattle.restart_marks.specs.Given.{own_with}
 use Rattle.restart_marks.specs.Reading.{read_on_told, read_on_after}
 use Rattle.restart_marks.specs.State.{RestartState, with_hand, with_own}
 use Rattle.restart_marks.specs.Undoing.{forced_after}

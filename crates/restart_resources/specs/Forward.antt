@@ -4,7 +4,7 @@ use Rattle.ds_base.specs.declared.names.PageId.{PageId}
 use Rattle.page_records.specs.Places.{places_in}
 use Rattle.page_redo.specs.Forward.{Forward}
 use Rattle.places_redo.specs.Picked.{brought_at}
-use Rattle.restart_records.specs.Maps.{places_at}
+use Rattle.restart_marks.specs.Given.{places_at}
 use Rattle.restart_marks.specs.State.{RestartState}
 
 -- by those of its records that change the page

@@ -2,7 +2,7 @@
 use Rattle.std.specs.Prelude.{◌≡◌, ℕ, List, replicate}
 use Rattle.page_format.specs.Fields.{page_size}
 use Rattle.restart_marks.specs.State.{RestartState, IsFresh}
-use Rattle.restart_records.specs.Own as own
+use Rattle.restart_marks.specs.Given.own_module as own
 
 pub record Held : Type 0 where
   pub marks : RestartState

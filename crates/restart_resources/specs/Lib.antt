@@ -5,3 +5,4 @@ pub mod Outcomes
 pub mod Settled
 pub mod Calls
 pub mod Events
+pub mod Given

@@ -16,13 +16,13 @@ use Rattle.restart_marks.specs.declared.intent.RestartIntent.{RestartIntent}
 use Rattle.restart_marks.specs.declared.intent.RestartIntent.TheVariants as intent
 use Rattle.restart_marks.specs.declared.told.RestartTold.{RestartTold}
 use Rattle.restart_marks.specs.declared.told.RestartTold.TheVariants as told
-use Rattle.restart_records.specs.declared.trans.Newest.{Newest}
+use Rattle.restart_marks.specs.Given.{Newest}
 use Rattle.restart_marks.specs.Cells.{answers_told}
 use Rattle.restart_marks.specs.Hands as hand
 use Rattle.restart_marks.specs.Listing as listing
 use Rattle.restart_marks.specs.Locks as locks
 use Rattle.restart_marks.specs.State.{with_hand}
-use Rattle.restart_records.specs.Trans.{newest, page_of}
+use Rattle.restart_marks.specs.Given.{newest, page_of}
 use Rattle.restart_marks.specs.Undoing as undoing
 use Rattle.restart_resources.specs.Forward.{own_forward}
 use Rattle.restart_resources.specs.Held.{Held, with_marks, with_page}

@@ -14,6 +14,7 @@ mod resources;
 mod settle;
 mod step;
 
+pub use member_intents::{Event, Intent, Outcome};
 pub use outcome::RestartOutcome;
 pub use policy::RestartPolicy;
 pub use resources::RestartResources;

@@ -15,7 +15,7 @@ use Rattle.heap_space.specs.Layout.{last_page_at}
 use Rattle.index_leaf.specs.Changes.{zeros as zero_bytes}
 use Rattle.log_record.specs.declared.log.Log.{Log}
 use Rattle.page_images.specs.Images.{Images, zeros}
-use Rattle.page_chain.specs.Chains.{images_of}
+use Rattle.page_redo.specs.Given.{images_of}
 use Rattle.sound_disk.specs.Versions.{merged, is_page, current, MayStand}
 use Rattle.sound_disk.specs.Heaps.{heap_last, IsHeap}
 use Rattle.sound_disk.specs.Rows_there.{IsPlaceOf, BeforesAgree}

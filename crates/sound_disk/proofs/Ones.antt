@@ -10,7 +10,7 @@ use Rattle.ds_model.specs.RecordBytes.{IsAllowed, log_bytes}
 use Rattle.log_record.specs.declared.log.Log.{Log}
 use Rattle.log_merge.specs.Merging.{all_records, in_order, RisesFrom}
 use Rattle.page_images.specs.Images.{Images, zeros}
-use Rattle.page_chain.specs.Chains.{images_of}
+use Rattle.page_redo.specs.Given.{images_of}
 use Rattle.sound_disk.specs.Whole_logs.{IsWholeLog, AreWholeLogs}
 use Rattle.sound_disk.specs.Transactions.{drawn_numbers, all_differ, stands_apart, stand_apart, EachFollows, AreTransactions}
 use Rattle.sound_disk.specs.Versions.{merged, MayStand}

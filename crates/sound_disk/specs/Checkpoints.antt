@@ -10,7 +10,7 @@ use Rattle.page_format.specs.Fields.{lrsn_of}
 use Rattle.page_format.specs.declared.patch.Patch.{Patch}
 use Rattle.log_record.specs.declared.log.Log.{Log}
 use Rattle.page_images.specs.Images.{Images}
-use Rattle.page_chain.specs.Chains.{changes_of}
+use Rattle.page_redo.specs.Given.{changes_of}
 use Rattle.sound_disk.specs.Settled.{has_ended}
 
 -- ---- offsets

@@ -10,7 +10,7 @@ use Rattle.index_leaf.specs.Entries.{low_of, high_of, right_field, entries_of}
 use Rattle.index_leaf.specs.Changes.{branch, leaf}
 use Rattle.index_leaf.specs.Search.{find}
 use Rattle.page_images.specs.Images.{Images}
-use Rattle.page_chain.specs.Chains.{touches}
+use Rattle.page_redo.specs.Given.{touches}
 use Rattle.index_protocol.specs.Index.{Kind, Unmade, Leaf, Branch, Link}
 use Rattle.index_protocol.specs.Opening.{Disk}
 

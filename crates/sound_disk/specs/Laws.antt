@@ -9,7 +9,7 @@ use Rattle.ds_model.specs.RecordBytes.{record_bytes, IsAllowed}
 use Rattle.log_record.specs.declared.log.Log.{Log}
 use Rattle.log_record.specs.Logs.{parts_in, parts_of}
 use Rattle.log_trans.specs.Damage.{log_damage}
-use Rattle.page_chain.specs.Chains.{AreRecords, redo}
+use Rattle.page_redo.specs.Given.{AreRecords, redo}
 use Rattle.index_protocol.specs.Opening.{opening}
 use Rattle.index_protocol.specs.Whole.{WholeIndex}
 use Rattle.page_images.specs.Images.{Images}

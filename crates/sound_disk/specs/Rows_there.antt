@@ -10,7 +10,7 @@ use Rattle.ds_model.specs.declared.log.Body.TheVariants as body
 use Rattle.page_format.specs.Header.{slots_per_page}
 use Rattle.heap_space.specs.Slots.{Content, content, slot_in}
 use Rattle.page_images.specs.Images.{Images, after_change}
-use Rattle.page_chain.specs.Chains.{images_of}
+use Rattle.page_redo.specs.Given.{images_of}
 use Rattle.page_redo.specs.Rows.{change_fault}
 use Rattle.sound_disk.specs.Layouts.{count_in}
 

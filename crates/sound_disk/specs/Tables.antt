@@ -10,7 +10,7 @@ use Rattle.index_leaf.specs.Entries.{entries_of}
 use Rattle.index_leaf.specs.Search.{find}
 use Rattle.log_record.specs.declared.log.Log.{Log}
 use Rattle.page_images.specs.Images.{Images}
-use Rattle.page_chain.specs.Chains.{images_of}
+use Rattle.page_redo.specs.Given.{images_of}
 use Rattle.index_protocol.specs.Opening.{IsSound}
 use Rattle.sound_disk.specs.Versions.{merged}
 use Rattle.sound_disk.specs.Heaps.{IsHeap}

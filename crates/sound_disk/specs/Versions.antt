@@ -9,7 +9,7 @@ use Rattle.page_format.specs.declared.header.NotAPage.{NotAPage}
 use Rattle.log_record.specs.declared.log.Log.{Log}
 use Rattle.log_merge.specs.Merging.{all_records, in_order}
 use Rattle.page_images.specs.Images.{Images}
-use Rattle.page_chain.specs.Chains.{IsVersion, images_of}
+use Rattle.page_redo.specs.Given.{IsVersion, images_of}
 use Rattle.restart_plan.specs.Renewal.{must_renew}
 
 -- the records of all logs that change pages or commit, in the order of their numbers

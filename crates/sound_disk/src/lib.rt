@@ -36,7 +36,7 @@ pub fn page_laws()
     ensures index { IndexOpens }
 {
     log_merge::merging_laws();
-    page_chain::redo_laws();
+    page_redo::redo_laws();
     index_protocol::opens_on_sound_disk();
 }
 

@@ -1,4 +1,4 @@
-use Rattle.page_format.specs.Fields.{width_in}
+use Rattle.page_images.specs.Given.{width_in}
 use Rattle.page_images.specs.Images.{zeros}
 use Rattle.page_chain.proofs.Redoes.{redo_reaches, bears_its_number, number_tells}
 use Rattle.page_chain.proofs.redo_laws.Goals as goal

@@ -1,6 +1,6 @@
 use Rattle.std.proofs.Common.{◌≡◌, ℕ, ◌+◌, ◌-◌, List, [], length, take, drop, subst, arith}
 use Rattle.std.proofs.lemmas.List.{append-nil, length-drop, take_all}
-use Rattle.ds_model.specs.declared.log.LogRecord.{LogRecord}
+use Rattle.log_record.specs.Given.{LogRecord}
 use Rattle.log_head.specs.Heads.{AreRead}
 use Rattle.log_head.proofs.records.read_records.Goals as goal
 

@@ -1,5 +1,5 @@
 use Rattle.std.proofs.Common.{ℕ, ◌+◌, ◌-◌, ◌≤◌, List, ◌++◌, length, drop, Option}
-use Rattle.ds_model.specs.declared.log.LogRecord.{LogRecord}
+use Rattle.log_record.specs.Given.{LogRecord}
 use Rattle.log_head.specs.Heads.{AreRead}
 use Rattle.log_head.proofs.records.read_records.Given as goal
 

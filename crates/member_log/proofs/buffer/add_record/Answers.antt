@@ -1,6 +1,6 @@
 use Rattle.std.proofs.Common.{◌≡◌, ℕ, ◌+◌, ◌≤◌, List, ◌++◌, length, take, drop, sym, ap, ◌∙◌, append_assoc, arith, length-append}
 use Rattle.std.proofs.lemmas.List.{take-append-drop, take_at, length-take-le}
-use Rattle.ds_model.specs.RecordBytes.{record_bytes}
+use Rattle.log_record.specs.Given.{record_bytes}
 use Rattle.member_log.proofs.buffer.add_record.Goals as goal
 
 -- what is written begins with this text, so the text stands behind what was there before

@@ -1,5 +1,5 @@
 use Rattle.std.proofs.Common.{rules, ◌≡◌, ◌+◌, ◌-◌, ◌≤◌, ℕ, List, ◌∷◌, subst, arith}
-use Rattle.ds_model.specs.declared.log.LogRecord.{LogRecord}
+use Rattle.log_record.specs.Given.{LogRecord}
 use Rattle.log_head.specs.Heads.{Keeps}
 use Rattle.log_head.proofs.Kept.{first_kept}
 use Rattle.log_head.proofs.head.Head.take.Goals as goal
