@@ -21,8 +21,8 @@ use Rattle.member_resources.specs.Held.{Held}
 use Rattle.lock_manager.specs.Managers.{is_postponed}
 use Rattle.lock_world.specs.Books.{IsBook}
 use Rattle.marks_law.specs.Slots.{SlotsAdopt, SlotsStand}
-use Rattle.strict_locking.specs.Rows.{HasLocked, IsTaken}
-use Rattle.closing_law.specs.Closing.{AllStand, Closes, TranStands}
+use Rattle.row_claims.specs.Given.{HasLocked, IsTaken}
+use Rattle.row_claims.specs.Given.{AllStand, Closes, TranStands}
 use Rattle.row_claims.specs.Rows.{RowsLocked}
 use Rattle.group_member.specs.Adopting.{Adopts, AdoptsAll, change_in, changes_in, changes_left, row_in, rows_in, rows_left}
 use Rattle.group_member.specs.Adopting.{row_of as row_in_body}

@@ -10,8 +10,8 @@ use Rattle.member_resources.specs.Held.{Held}
 use Rattle.lock_world.specs.Books.{IsBook}
 use Rattle.lock_world.specs.Views.{claim_in}
 use Rattle.marks_law.specs.Slots.{SlotsStand}
-use Rattle.strict_locking.specs.Rows.{HasLocked}
-use Rattle.closing_law.specs.Closing.{Closes}
+use Rattle.row_claims.specs.Given.{HasLocked}
+use Rattle.row_claims.specs.Given.{Closes}
 use Rattle.row_claims.specs.Rows.{RowsLocked}
 use Rattle.group_member.specs.Adopting.{AdoptsAll}
 

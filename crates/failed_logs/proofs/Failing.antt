@@ -9,7 +9,7 @@ use Rattle.lock_names.specs.declared.mode.Mode.{Mode}
 use Rattle.list_structure.specs.Standings.{is_live, status_of}
 use Rattle.group_member.specs.declared.restarting.Restarting.{Restarting as RestartHeld}
 use Rattle.group_member.specs.Members.{Member}
-use Rattle.group_crew.specs.States.{CrewState}
+use Rattle.group_locks.specs.Given.{CrewState}
 use Rattle.lock_protocol.specs.Machine.{World, failed}
 use Rattle.lock_protocol.specs.Moves.{Fail, Move, Run}
 use Rattle.lock_protocol.specs.Own.{AreOf}
@@ -17,8 +17,8 @@ use Rattle.lock_protocol.specs.Sound.{RunKeepsSound, Sound}
 use Rattle.lock_world.specs.Numbers.{name_at}
 use Rattle.lock_world.specs.Tied.{Moved, Tied}
 use Rattle.lock_world.specs.Views.{claim_in, entry_in, rollback_owner}
-use Rattle.lock_members.specs.Known.{LeadsTo, known_of, or_else, restart_claim}
-use Rattle.lock_members.specs.Members.{FailuresGo}
+use Rattle.group_locks.specs.Given.{LeadsTo, known_of, or_else, restart_claim}
+use Rattle.group_locks.specs.Given.{FailuresGo}
 use Rattle.failed_claims.specs.Failing.{FailureLeaves, HandedOver, HandsOver, HoldsRow, IsLeft}
 use Rattle.group_locks.specs.Events.{Moves, OfMember}
 use Rattle.group_locks.specs.Stands.{LocksTied, MemberStands, known, known_by}

@@ -12,8 +12,8 @@ use Rattle.lock_protocol.specs.Sound.{RunKeepsSound}
 use Rattle.lock_world.specs.Rollbacks.{row_of, space_of}
 use Rattle.lock_world.specs.Tied.{ClaimTied}
 use Rattle.lock_world.specs.Views.{claim_in, rollback_owner}
-use Rattle.lock_members.specs.Known.{or_else, restart_claim}
-use Rattle.lock_members.specs.Members.{FailuresGo}
+use Rattle.group_locks.specs.Given.{or_else, restart_claim}
+use Rattle.group_locks.specs.Given.{FailuresGo}
 use Rattle.marks_law.specs.Transactions.{has_tran}
 use Rattle.member_trans.specs.declared.fate.Owner.{Owner}
 use Rattle.member_trans.specs.declared.fate.Owner.TheVariants as owner
@@ -21,7 +21,7 @@ use Rattle.member_trans.specs.declared.fate.Stage.{Stage}
 use Rattle.member_trans.specs.declared.fate.Stage.TheVariants as stage
 use Rattle.member_trans.specs.Trans.{is_free}
 use Rattle.member_marks.specs.State.{slot_tran}
-use Rattle.strict_locking.specs.Rows.{HasLocked, IsTaken, name_of, number_of}
+use Rattle.failed_claims.specs.Given.{HasLocked, IsTaken, name_of, number_of}
 use Rattle.failed_claims.specs.Failing.{HoldsRow, RowsOutlive}
 use Rattle.group_locks.specs.Stands.{MemberStands}
 use Rattle.group_locks.specs.Whole.{MemberFailsMoves}

@@ -3,7 +3,7 @@ use Rattle.std.proofs.Common.{ℕ, List, []}
 use Rattle.ds_model.specs.declared.log.LogRecord.{LogRecord}
 use Rattle.adopted_rows.specs.Rows.{RowsTakenOver}
 use Rattle.log_appends.specs.Appends.{AllAreLast, AreLastFrom}
-use Rattle.row_claims.specs.Rows.{RowsLocked}
+use Rattle.adopted_rows.specs.Given.{RowsLocked}
 use Rattle.failed_logs.specs.Logs.{TakenOverLocked}
 
 pub taken_over : RowsTakenOver → AllAreLast → TakenOverLocked

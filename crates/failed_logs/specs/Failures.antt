@@ -4,11 +4,11 @@ use Rattle.ds_model.specs.Rows.{Spot}
 use Rattle.list_structure.specs.declared.standing.MemberStatus.TheVariants.{Up}
 use Rattle.list_structure.specs.Standings.{status_of}
 use Rattle.group_member.specs.Members.{Member}
-use Rattle.group_crew.specs.States.{CrewState}
+use Rattle.group_locks.specs.Given.{CrewState}
 use Rattle.lock_protocol.specs.Machine.{World}
 use Rattle.lock_world.specs.Views.{rollback_owner}
 use Rattle.log_numbers.specs.Numbers.{AreCounted}
-use Rattle.strict_locking.specs.Rows.{HasLocked}
+use Rattle.failed_claims.specs.Given.{HasLocked}
 use Rattle.failed_claims.specs.Failing.{HoldsRow}
 use Rattle.group_locks.specs.Events.{Moves, OfMember}
 use Rattle.group_locks.specs.Stands.{LocksTied}

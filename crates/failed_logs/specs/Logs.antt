@@ -17,7 +17,7 @@ use Rattle.adopted_rows.specs.Rows.{RowsBut}
 use Rattle.member_resources.specs.Held.{Held}
 use Rattle.group_member.specs.Adopting.{AdoptsAll}
 use Rattle.group_member.specs.Members.{Member}
-use Rattle.group_crew.specs.States.{CrewState}
+use Rattle.group_locks.specs.Given.{CrewState}
 use Rattle.lock_protocol.specs.Machine.{World}
 use Rattle.left_open.specs.Logs.{LogLocked}
 use Rattle.group_locks.specs.Events.{Moves, OfMember, Whose, spared}

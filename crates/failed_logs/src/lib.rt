@@ -16,9 +16,8 @@ ghost use Rattle.failed_logs.specs.Logs.{
 
 use adopted_rows::rows_taken_over;
 use failed_claims::{claims_handed_over, failures_leave};
-use group_locks::{member_failures_go, moves_spare};
+use group_locks::{member_failures_go, members_fail, moves_spare};
 use left_open::left_is_locked;
-use lock_members::members_fail;
 use lock_protocol::keeps_sound;
 use log_appends::appends_tell;
 use restart_claims::claims_tell;

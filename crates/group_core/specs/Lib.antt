@@ -8,3 +8,4 @@ pub mod Fresh
 pub mod Ends
 pub mod Closing
 pub mod Starts
+pub mod Given

@@ -18,7 +18,7 @@ pub use close::Played;
 pub use closed::Closed;
 pub use fault::{RunFault, StartFault};
 pub use group::Group;
-pub use group_crew::{MemberPart, Policy};
+pub use group_crew::{Crew, MemberPart, Policy, command_of, look_for};
 pub use lines::{note, note_failure, note_silent, reserve, stepped_line};
 pub use schedule::{RunEnd, run_one_thread};
 pub use script_fates::Cause;

@@ -63,7 +63,7 @@ use Rattle.lock_world.specs.Numbers.{AreNumbered, name_at, number}
 use Rattle.lock_world.specs.Standing.{StaysTied}
 use Rattle.lock_world.specs.Tied.{Claims, Moved, Tied}
 use Rattle.lock_world.specs.Views.{as_cell, cell_in, claim_in, is_member, is_slot}
-use Rattle.lock_events.specs.Quiet.{CommandsStay, Quiet, is_quiet}
+use Rattle.lock_members.specs.Given.{CommandsStay, Quiet, is_quiet}
 use Rattle.lock_members.specs.Known.{or_else, page_claim, restart_claim}
 
 pub record Facts : Type 0 where

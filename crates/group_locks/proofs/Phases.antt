@@ -18,8 +18,8 @@ use Rattle.restart_resources.specs.Held.{IsNew}
 use Rattle.script_phases.specs.Phases.{is_failed, restarts_in}
 use Rattle.group_member.specs.declared.restarting.Restarting.{Restarting as RestartHeld}
 use Rattle.group_member.specs.Members.{Member}
-use Rattle.group_crew.specs.Beginning.{AllRestart, Restarts, begins_restart, restarting}
-use Rattle.group_crew.specs.States.{CrewState}
+use Rattle.group_core.specs.Given.{AllRestart, Restarts, begins_restart, restarting}
+use Rattle.group_core.specs.Given.{CrewState}
 use Rattle.lock_protocol.specs.Machine.{World}
 use Rattle.lock_protocol.specs.Moves.{Move, Restart}
 use Rattle.lock_protocol.specs.Sound.{RunKeepsSound, Sound}

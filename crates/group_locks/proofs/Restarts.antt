@@ -40,7 +40,7 @@ use Rattle.group_member.specs.Entering.{told_once}
 use Rattle.group_member.specs.Happening.{AdoptsLeft, GoesOn, HandsOver, RestartEnds, RestartGoesOn, Restarts, Takes, Tells, as_restarting}
 use Rattle.group_member.specs.Members.{Member}
 use Rattle.group_member.specs.Resting.{NoneInSlots, frees_claimed}
-use Rattle.group_crew.specs.States.{CrewState}
+use Rattle.group_core.specs.Given.{CrewState}
 use Rattle.lock_protocol.specs.Machine.{Covers, World}
 use Rattle.lock_protocol.specs.Moves.{Move, Run}
 use Rattle.lock_protocol.specs.Own.{AreOf}
@@ -53,7 +53,7 @@ use Rattle.lock_world.specs.Standing.{StaysTied}
 use Rattle.lock_world.specs.Tied.{Claims, Moved, Tied, is_own}
 use Rattle.lock_world.specs.Views.{claim_in, entry_in, rollback_owner}
 use Rattle.lock_intents.specs.Stands.{Goes as UpGoes, IsUp, Leads as UpLeads}
-use Rattle.lock_events.specs.Events.{ToldGoes}
+use Rattle.lock_members.specs.Given.{ToldGoes}
 use Rattle.marks_law.specs.Free.{FreeHoldNothing}
 use Rattle.marks_law.specs.Slots.{AreSlots, SlotsReach, SlotsStand, SlotsTell, has_own}
 use Rattle.lock_members.specs.Known.{known_of, or_else, page_claim, restart_claim}

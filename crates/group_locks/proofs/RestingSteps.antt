@@ -41,7 +41,7 @@ use Rattle.group_member.specs.Happening.{Acts, RebuildEnds, Rebuilds, Steps, Tel
 use Rattle.group_member.specs.Members.{Member}
 use Rattle.group_member.specs.Resting.{NoneInSlots, RestsIdle}
 use Rattle.group_member.specs.Stepping.{is_failure}
-use Rattle.group_crew.specs.States.{CrewState}
+use Rattle.group_core.specs.Given.{CrewState}
 use Rattle.marks_law.specs.Slots.{AreSlots, SlotsReach, SlotsStand, SlotsStay, SlotsTell, has_own}
 use Rattle.lock_protocol.specs.Machine.{World}
 use Rattle.lock_protocol.specs.Sound.{RunKeepsSound}
@@ -49,7 +49,7 @@ use Rattle.lock_world.specs.Books.{IsBook, RollbackWaits}
 use Rattle.lock_world.specs.Standing.{StaysTied}
 use Rattle.lock_world.specs.Tied.{Moved, Tied}
 use Rattle.lock_world.specs.Views.{claim_in}
-use Rattle.lock_events.specs.Quiet.{CommandsStay, Quiet, is_quiet}
+use Rattle.lock_members.specs.Given.{CommandsStay, Quiet, is_quiet}
 use Rattle.lock_members.specs.Known.{known_of, or_else, restart_claim}
 use Rattle.lock_members.specs.Members.{StepsKeepFree}
 use Rattle.group_locks.specs.Events.{Moves, OfMember}

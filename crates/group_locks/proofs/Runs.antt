@@ -8,9 +8,9 @@ use Rattle.lock_names.specs.Entries.{entry_number}
 use Rattle.restart_marks.specs.Adopt.{adopted_told}
 use Rattle.group_member.specs.declared.part.MemberPart.{MemberPart}
 use Rattle.group_member.specs.Members.{IsDown, Member, member_of}
-use Rattle.group_crew.specs.declared.crew.Crew.{Crew}
-use Rattle.group_crew.specs.Crews.{is_ready_in, unlooked}
-use Rattle.group_crew.specs.States.{CrewState, crew_state}
+use Rattle.group_core.specs.Given.{Crew}
+use Rattle.group_core.specs.Given.{is_ready_in, unlooked}
+use Rattle.group_core.specs.Given.{CrewState, crew_state}
 use Rattle.group_core.specs.declared.fault.RunFault.{RunFault}
 use Rattle.group_core.specs.declared.fault.RunFault.TheVariants as fault
 use Rattle.group_core.specs.declared.group.Group.{Group}

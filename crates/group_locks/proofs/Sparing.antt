@@ -6,7 +6,7 @@ use Rattle.lock_protocol.specs.Machine.{World}
 use Rattle.lock_protocol.specs.Moves.{Move, Obtain, Grant, Refuse, Local, Ask, AnswerClean, AnswerConflict, Release, GiveUp, Demote, Postpone, Fail, Restart, Purge, GroupFail, Run}
 use Rattle.lock_protocol.specs.Own.{OthersKeep}
 use Rattle.lock_world.specs.Views.{entry_in}
-use Rattle.group_crew.specs.States.{CrewState}
+use Rattle.group_core.specs.Given.{CrewState}
 use Rattle.group_locks.specs.Events.{AreBy, AreRestarts, Moves, MovesSpare, OfGroup, OfMember, OfPhase, Whose, spared}
 
 never : false ≡ true → ⊥

@@ -25,12 +25,12 @@ use Rattle.group_member.specs.declared.stepped.Stepped.TheVariants as steps
 use Rattle.group_member.specs.Happening.{Comes, Steps}
 use Rattle.group_member.specs.Members.{Member, member_of}
 use Rattle.group_member.specs.Stepping.{is_failure, is_over}
-use Rattle.group_crew.specs.Beginning.{PhaseBegins}
-use Rattle.group_crew.specs.Failing.{GroupFails, fail_counted}
-use Rattle.group_crew.specs.Happening.{ComesAt, member_at}
-use Rattle.group_crew.specs.Crews.{is_ready_in}
-use Rattle.group_crew.specs.Ready.{is_own, ready_for}
-use Rattle.group_crew.specs.States.{CrewState, crew_state}
+use Rattle.group_core.specs.Given.{PhaseBegins}
+use Rattle.group_core.specs.Given.{GroupFails, fail_counted}
+use Rattle.group_core.specs.Given.{ComesAt, member_at}
+use Rattle.group_core.specs.Given.{is_ready_in}
+use Rattle.group_core.specs.Given.{is_own, ready_for}
+use Rattle.group_core.specs.Given.{CrewState, crew_state}
 use Rattle.group_core.specs.declared.fault.RunFault.{RunFault}
 use Rattle.group_core.specs.declared.fault.RunFault.TheVariants as fault
 use Rattle.group_core.specs.declared.group.Group.{Group}

@@ -12,8 +12,8 @@ use Rattle.list_structure.specs.declared.standing.MemberStatus.TheVariants.{Down
 use Rattle.list_structure.specs.Standings.{status_of}
 use Rattle.list_structure.specs.States.{IsNew, ListsState}
 use Rattle.group_member.specs.Members.{IsDown, Member}
-use Rattle.group_crew.specs.Failing.{id_of}
-use Rattle.group_crew.specs.States.{CrewState}
+use Rattle.group_core.specs.Given.{id_of}
+use Rattle.group_core.specs.Given.{CrewState}
 use Rattle.lock_protocol.specs.Machine.{World}
 use Rattle.lock_protocol.specs.Moves.{Fail, GroupFail}
 use Rattle.lock_protocol.specs.Sound.{RunKeepsSound}

@@ -2,7 +2,7 @@
 use Rattle.std.specs.Prelude.{◌≡◌, ◌⊎◌, ℕ, true, Some}
 use Rattle.lock_names.specs.declared.mode.Mode.{Mode}
 use Rattle.lock_names.specs.Modes.{are_compatible, class_of}
-use Rattle.group_crew.specs.States.{CrewState}
+use Rattle.group_core.specs.Given.{CrewState}
 use Rattle.lock_protocol.specs.Machine.{World, RetainedCovers, backs}
 use Rattle.lock_protocol.specs.Words.{AreOthers}
 use Rattle.lock_world.specs.Views.{entry_in, interest_in, record_in}

@@ -2,7 +2,7 @@
 use Rattle.std.specs.Prelude.{◌≡◌, ℕ, ◌+◌, ◌≤◌, IfSome, length, slice_get}
 use Rattle.facility.specs.States.{IsMade}
 use Rattle.group_member.specs.Members.{IsDown}
-use Rattle.group_crew.specs.States.{CrewState}
+use Rattle.group_core.specs.Given.{CrewState}
 use Rattle.lock_protocol.specs.Machine.{start}
 use Rattle.group_locks.specs.Stands.{LocksTied}
 

@@ -1,6 +1,6 @@
 -- What an event of a group is in the world of locks.
 use Rattle.std.specs.Prelude.{◌≡◌, ℕ, ◌%◌, ◌==◌, not, Bool, true, false, List, [], ◌∷◌, length}
-use Rattle.group_crew.specs.States.{CrewState}
+use Rattle.group_core.specs.Given.{CrewState}
 use Rattle.lock_protocol.specs.Machine.{World}
 use Rattle.lock_protocol.specs.Moves.{Move, Restart, Run}
 use Rattle.lock_protocol.specs.Own.{AreOf}

@@ -1,7 +1,7 @@
 -- The claims of a member that has failed, as they are handed on to the rollbacks that its transactions are from then on.
 use Rattle.std.specs.Prelude.{◌≡◌, ◌≢◌, ℕ, ◌≤◌, false, None}
 use Rattle.list_structure.specs.Standings.{is_live, status_of}
-use Rattle.group_crew.specs.States.{CrewState}
+use Rattle.group_core.specs.Given.{CrewState}
 use Rattle.lock_protocol.specs.Machine.{World}
 use Rattle.group_locks.specs.Events.{Moves, OfMember}
 use Rattle.group_locks.specs.Stands.{LocksTied}

@@ -11,3 +11,4 @@ pub mod Taken
 pub mod Agreeing
 pub mod Runs
 pub mod Handing
+pub mod Given

@@ -6,7 +6,7 @@ use Rattle.member_resources.specs.Events.{Drive}
 use Rattle.group_member.specs.declared.stepped.Stepped.{Stepped}
 use Rattle.group_member.specs.Happening.{Steps}
 use Rattle.group_member.specs.Members.{Member}
-use Rattle.group_crew.specs.States.{CrewState}
+use Rattle.group_core.specs.Given.{CrewState}
 use Rattle.lock_protocol.specs.Machine.{World}
 use Rattle.group_locks.specs.Events.{Moves, OfMember}
 use Rattle.group_locks.specs.Stands.{LocksTied}

@@ -1,7 +1,7 @@
 -- The begin of a phase.
 use Rattle.ds_model.specs.declared.script.Phase.{Phase}
-use Rattle.group_crew.specs.Beginning.{PhaseBegins}
-use Rattle.group_crew.specs.States.{CrewState}
+use Rattle.group_core.specs.Given.{PhaseBegins}
+use Rattle.group_core.specs.Given.{CrewState}
 use Rattle.lock_protocol.specs.Machine.{World}
 use Rattle.group_locks.specs.Events.{Moves, OfPhase}
 use Rattle.group_locks.specs.Stands.{LocksTied}

@@ -11,7 +11,7 @@ use Rattle.group_member.specs.declared.stepped.Stepped.TheVariants as steps
 use Rattle.group_member.specs.Happening.{Steps}
 use Rattle.group_member.specs.Members.{Member}
 use Rattle.group_member.specs.Stepping.{is_failure}
-use Rattle.group_crew.specs.States.{CrewState}
+use Rattle.group_core.specs.Given.{CrewState}
 use Rattle.lock_protocol.specs.Machine.{World, given_up}
 use Rattle.lock_restarts.specs.Changes.{gone_by}
 use Rattle.group_locks.specs.Adopting.{HaveClaimed}

@@ -9,7 +9,7 @@ use Rattle.restart_marks.specs.declared.intent.RestartSent.{RestartSent}
 use Rattle.group_member.specs.declared.stepped.Stepped.TheVariants as steps
 use Rattle.group_member.specs.Happening.{Steps}
 use Rattle.group_member.specs.Members.{Member}
-use Rattle.group_crew.specs.States.{CrewState, crew_state}
+use Rattle.group_core.specs.Given.{CrewState, crew_state}
 use Rattle.group_core.specs.declared.fault.RunFault.TheVariants as fault
 use Rattle.group_core.specs.declared.group.Group.{Group}
 use Rattle.group_core.specs.Fresh.{RunsFresh}

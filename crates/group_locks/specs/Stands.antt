@@ -9,7 +9,7 @@ use Rattle.restart_marks.specs.State.{RestartState}
 use Rattle.group_member.specs.declared.restarting.Restarting.{Restarting as RestartHeld}
 use Rattle.group_member.specs.Members.{Member}
 use Rattle.group_member.specs.Resting.{NoneInSlots, RestsIdle}
-use Rattle.group_crew.specs.States.{CrewState}
+use Rattle.group_core.specs.Given.{CrewState}
 use Rattle.lock_protocol.specs.Machine.{World}
 use Rattle.lock_protocol.specs.Sound.{Sound}
 use Rattle.lock_world.specs.Books.{IsBook}

@@ -2,8 +2,8 @@
 use Rattle.std.specs.Prelude.{◌≡◌, ◌≢◌, ℕ, length, Some, slice_get}
 use Rattle.facility.specs.States.{MemberFailed}
 use Rattle.group_member.specs.Members.{IsDown, Member}
-use Rattle.group_crew.specs.Failing.{BeginsAnew, GroupFails}
-use Rattle.group_crew.specs.States.{CrewState}
+use Rattle.group_core.specs.Given.{BeginsAnew, GroupFails}
+use Rattle.group_core.specs.Given.{CrewState}
 use Rattle.lock_protocol.specs.Machine.{World}
 use Rattle.group_locks.specs.Events.{Moves, OfGroup, OfMember}
 use Rattle.group_locks.specs.Stands.{LocksTied}

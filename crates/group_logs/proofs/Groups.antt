@@ -8,8 +8,8 @@ use Rattle.cache_structure.specs.Directory.{Directory}
 use Rattle.member_resources.specs.Events.{World, world_of}
 use Rattle.group_member.specs.declared.stepped.Stepped.TheVariants as steps
 use Rattle.group_member.specs.Members.{Member, member_of}
-use Rattle.group_crew.specs.Happening.{ComesAt, member_at}
-use Rattle.group_crew.specs.States.{CrewState, crew_state}
+use Rattle.group_core.specs.Given.{ComesAt, member_at}
+use Rattle.group_core.specs.Given.{CrewState, crew_state}
 use Rattle.group_core.specs.declared.fault.RunFault.{RunFault}
 use Rattle.group_core.specs.declared.fault.RunFault.TheVariants as fault
 use Rattle.group_core.specs.declared.group.Group.{Group}

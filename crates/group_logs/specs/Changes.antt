@@ -8,7 +8,7 @@ use Rattle.script_fates.specs.Fated.{FatesState}
 use Rattle.group_member.specs.declared.stepped.Stepped.{Stepped}
 use Rattle.group_member.specs.Happening.{Comes, Makes, World}
 use Rattle.group_member.specs.Members.{Member}
-use Rattle.group_crew.specs.States.{CrewState, crew_state}
+use Rattle.group_core.specs.Given.{CrewState, crew_state}
 use Rattle.group_core.specs.declared.fault.RunFault.TheVariants as fault
 use Rattle.group_core.specs.declared.group.Group.{Group}
 use Rattle.group_core.specs.Takes.{Takes}

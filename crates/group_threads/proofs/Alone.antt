@@ -12,10 +12,10 @@ use Rattle.group_member.specs.declared.part.MemberPart.{MemberPart}
 use Rattle.group_member.specs.declared.stepped.Stepped.{Stepped}
 use Rattle.group_member.specs.Happening.{Comes}
 use Rattle.group_member.specs.Members.{Member, member_of}
-use Rattle.group_crew.specs.Crews.{Keeps, unlooked}
-use Rattle.group_crew.specs.Happening.{ComesAt, IsRefusedAt, member_at}
+use Rattle.group_core.specs.Given.{Keeps, unlooked}
+use Rattle.group_core.specs.Given.{ComesAt, IsRefusedAt, member_at}
 use Rattle.script_phases.specs.Progresses.{own_choice}
-use Rattle.group_crew.specs.Ready.{ready_at, ready_for}
+use Rattle.group_core.specs.Given.{ready_at, ready_for}
 use Rattle.group_core.specs.declared.fault.RunFault.{RunFault}
 use Rattle.group_core.specs.declared.fault.RunFault.TheVariants as fault
 use Rattle.group_core.specs.declared.group.Group.{Group}

@@ -7,7 +7,7 @@ use lib.ListN.{length-set, length-map}
 use Rattle.ds_disk.specs.Contents.{Contents}
 use Rattle.cache_structure.specs.Directory.{Directory}
 use Rattle.group_member.specs.declared.part.MemberPart.{MemberPart}
-use Rattle.group_crew.specs.Crews.{unlooked}
+use Rattle.group_core.specs.Given.{unlooked}
 use Rattle.group_core.specs.declared.group.Group.{Group}
 use Rattle.group_core.specs.Goes.{Goes}
 use Rattle.group_core.proofs.Going.{on, stays}

@@ -9,7 +9,7 @@ use Rattle.group_member.specs.Happening.{Comes}
 use Rattle.group_member.specs.Members.{Member, member_of}
 use Rattle.group_member.specs.Refusing.{IsRefused}
 use Rattle.group_member.specs.Stepping.{has_failed}
-use Rattle.group_crew.specs.Crews.{unlooked}
+use Rattle.group_core.specs.Given.{unlooked}
 use Rattle.group_core.specs.declared.fault.RunFault.{RunFault}
 use Rattle.group_core.specs.declared.fault.RunFault.TheVariants as fault
 use Rattle.group_core.specs.Goes.{noted}

@@ -3,7 +3,7 @@ use Rattle.std.proofs.Common.{◌≡◌, ℕ, ◌≤◌, Bool, List, [], ◌∷�
 use Rattle.std.proofs.lemmas.List.{append-nil}
 use Rattle.ds_disk.specs.Contents.{Contents}
 use Rattle.cache_structure.specs.Directory.{Directory}
-use Rattle.group_crew.specs.declared.crew.Crew.{Crew}
+use Rattle.group_core.specs.Given.{Crew}
 use Rattle.group_core.specs.declared.group.Group.{Group}
 use Rattle.group_core.specs.Goes.{Goes}
 use Rattle.group_core.specs.Takes.{Takes}

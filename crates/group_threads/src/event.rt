@@ -3,7 +3,7 @@
 ghost use Rattle.std.specs.Prelude.{◌≡◌, ◌≤◌, ◌/◌, ◌&&◌, ℕ, true, false, not, None, Some, Err, is_some, length, IfOk, OnOk};
 ghost use Rattle.ds_base.specs.Causes.{Rose};
 ghost use Rattle.group_member.specs.declared.fault.EventFault.TheVariants as faults;
-ghost use Rattle.group_crew.specs.Crews.{unlooked};
+ghost use Rattle.group_core.specs.Given.{unlooked};
 ghost use Rattle.group_core.specs.Takes.{is_read, world_of};
 ghost use Rattle.choice_bits.specs.Choices.{has_choice};
 ghost use Rattle.group_member.specs.Happening.{Comes};
@@ -20,8 +20,10 @@ use cache_structure::CacheFace;
 use ds_base::NoMemory;
 use ds_disk::Disk;
 use facility::Command;
-use group_core::{Group, Policy, RunFault, note, note_failure, note_silent, reserve, stepped_line};
-use group_crew::{Crew, command_of};
+use group_core::{
+    Crew, Group, Policy, RunFault, command_of, note, note_failure, note_silent, reserve,
+    stepped_line,
+};
 use group_member::{EventFault, MemberPart, Stepped, has_choice, step_one};
 use member_intents::Intent;
 use std::alloc::Global;

@@ -1,7 +1,7 @@
 //! What a member's thread can take.
 
 ghost use Rattle.std.specs.Prelude.{◌≡◌, ◌||◌, true, is_some};
-ghost use Rattle.group_crew.specs.Crews.{unlooked};
+ghost use Rattle.group_core.specs.Given.{unlooked};
 ghost use Rattle.group_threads.specs.Wholes.{LooksHand};
 
 use crate::hand::{Hand, next_event};
@@ -10,8 +10,7 @@ use crate::shared::Shared;
 use cache_structure::CacheFace;
 use ds_base::MemberId;
 use facility::Facility;
-use group_core::Policy;
-use group_crew::look_for;
+use group_core::{Policy, look_for};
 use group_member::MemberPart;
 use member_intents::Look as Seen;
 use turn_gate::{Laid, Look};

@@ -1,12 +1,11 @@
 ghost use Rattle.std.specs.Prelude.{◌≡◌, ◌+◌, ◌≤◌, [], ◌++◌, length, map, reverse, vec_capacity, IfOk, IfErr};
-ghost use Rattle.group_crew.specs.Crews.{unlooked};
+ghost use Rattle.group_core.specs.Given.{unlooked};
 ghost use Rattle.group_threads.specs.Wholes.{parts_in};
 
 use crate::hand::Hand;
 use crate::members::Members;
 use ds_base::NoMemory;
-use group_core::Group;
-use group_crew::Crew;
+use group_core::{Crew, Group};
 use group_member::MemberPart;
 use std::alloc::Global;
 use std::mem;

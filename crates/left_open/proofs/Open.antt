@@ -9,7 +9,7 @@ use Rattle.log_rows.specs.Rows.{IsOpenIn, OpenTell}
 use Rattle.log_trans.specs.Courses.{open_trans}
 use Rattle.log_trans.specs.declared.opened.OpenTran.{OpenTran}
 use Rattle.log_appends.specs.Appends.{AllAreLast, AreBehind, AreLastFrom, LastAreBehind, NoneNames}
-use Rattle.closing_law.specs.Closing.{ArePlain, is_checkpoint}
+use Rattle.row_claims.specs.Given.{ArePlain, is_checkpoint}
 use Rattle.row_claims.specs.Rows.{RowsBegin, RowsLocked, RowsOpen, RowsReach}
 use Rattle.left_open.specs.Logs.{HasAllLocked, LeftIsLocked, LockedBegins, LockedReaches}
 

@@ -14,7 +14,7 @@ use Rattle.member_effects.specs.Puts.{event_records}
 use Rattle.member_resources.specs.Events.{Happens, World}
 use Rattle.member_resources.specs.Held.{Held, begun}
 use Rattle.put_records.specs.Puts.{EventsPut, is_append, is_done, pending_after}
-use Rattle.closing_law.specs.Closing.{ArePlain, IsUnfailed, LogIs, is_checkpoint}
+use Rattle.row_claims.specs.Given.{ArePlain, IsUnfailed, LogIs, is_checkpoint}
 use Rattle.row_claims.specs.Rows.{PutsPlain, RowsLocked, RowsStay, StillLocked}
 use Rattle.left_open.specs.Logs.{LockedStay, LogLocked, LogStays, TellsLog, log_after, pend_after}
 use Rattle.left_open.proofs.Open.{none_names}

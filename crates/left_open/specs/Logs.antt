@@ -21,8 +21,8 @@ use Rattle.member_effects.specs.Puts.{event_records}
 use Rattle.member_resources.specs.Events.{Drive, Happens, World}
 use Rattle.member_resources.specs.Held.{Held, IsNew, begun}
 use Rattle.put_records.specs.Puts.{is_append, is_done}
-use Rattle.strict_locking.specs.Rows.{HasLocked}
-use Rattle.closing_law.specs.Closing.{ArePlain, IsUnfailed}
+use Rattle.row_claims.specs.Given.{HasLocked}
+use Rattle.row_claims.specs.Given.{ArePlain, IsUnfailed}
 use Rattle.row_claims.specs.Rows.{AllClosed, RowsLocked}
 
 -- The log has these bytes, which are whole records, and these records wait in the buffer, which are allowed, and none of them a Checkpoint. Wherever

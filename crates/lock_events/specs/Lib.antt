@@ -1,3 +1,4 @@
 pub mod Quiet
 pub mod Events
 pub mod Standings
+pub mod Given

@@ -46,3 +46,5 @@ pub fn commands_stay()
 {
     groups_begin();
 }
+
+pub use marks_law::{free_slots_stay, slots_stay};

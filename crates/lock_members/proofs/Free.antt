@@ -15,7 +15,7 @@ use Rattle.group_member.specs.Entering.{told_once}
 use Rattle.group_member.specs.Happening.{Acts, AdoptsLeft, GoesOn, Makes, RebuildEnds, RestartEnds, Tells}
 use Rattle.group_member.specs.Members.{Member}
 use Rattle.group_member.specs.Stepping.{is_failure}
-use Rattle.marks_law.specs.Free.{FreeAdopt, FreeHoldNothing, FreeReach, FreeStay}
+use Rattle.lock_events.specs.Given.{FreeAdopt, FreeHoldNothing, FreeReach, FreeStay}
 use Rattle.lock_members.specs.Members.{StepsKeepFree}
 
 pub record Facts : Type 0 where

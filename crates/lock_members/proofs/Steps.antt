@@ -45,11 +45,11 @@ use Rattle.lock_protocol.specs.Sound.{Sound}
 use Rattle.lock_world.specs.Books.{IsBook}
 use Rattle.lock_world.specs.Tied.{Claims, Tied}
 use Rattle.lock_world.specs.Views.{claim_in, entry_in}
-use Rattle.lock_intents.specs.Stands.{Goes, IsUp, Knows, Leads}
+use Rattle.lock_events.specs.Given.{Goes, IsUp, Knows, Leads}
 use Rattle.lock_events.specs.Events.{EventGoes, ToldGoes}
 use Rattle.lock_events.specs.Quiet.{CommandsStay, GoesStay, Quiet, SameLists, is_quiet}
 use Rattle.lock_events.specs.Standings.{SameStandings, StandingsStay}
-use Rattle.marks_law.specs.Slots.{AreSlots, SlotsReach, SlotsStand, SlotsStay, has_own}
+use Rattle.lock_events.specs.Given.{AreSlots, SlotsReach, SlotsStand, SlotsStay, has_own}
 use Rattle.lock_members.specs.Known.{KnowsOwn, LeadsTo, known_of, or_else, restart_claim}
 use Rattle.lock_members.specs.Members.{MemberGoes, MemberIsUp, StepsGo}
 

@@ -14,10 +14,10 @@ use Rattle.lock_protocol.specs.Own.{AreOf}
 use Rattle.lock_protocol.specs.Sound.{Sound}
 use Rattle.lock_world.specs.Tied.{Claims, Tied, Moved}
 use Rattle.lock_world.specs.Views.{entry_in}
-use Rattle.lock_intents.specs.Stands.{IsUp}
+use Rattle.lock_events.specs.Given.{IsUp}
 use Rattle.lock_events.specs.Standings.{SameStandings}
-use Rattle.marks_law.specs.Free.{FreeHoldNothing}
-use Rattle.marks_law.specs.Slots.{SlotsStand}
+use Rattle.lock_events.specs.Given.{FreeHoldNothing}
+use Rattle.lock_events.specs.Given.{SlotsStand}
 use Rattle.lock_members.specs.Known.{KnowsOwn, LeadsTo}
 
 -- it is up in a group of this facility, its transactions are its agents', and no restart is in hand

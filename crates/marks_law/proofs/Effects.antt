@@ -27,9 +27,9 @@ use Rattle.member_marks.specs.State.{MarksState}
 use Rattle.member_marks.specs.Claims.{offered}
 use Rattle.member_marks.specs.Frames.{frame_in, is_placed, with_registered, with_filled, after_registered, after_filled, after_written, after_marked, after_unregister}
 use Rattle.member_pool.specs.Heads.{freed, marked, written as head_written}
-use Rattle.member_needs.specs.declared.plans.Plan.{Plan}
-use Rattle.member_needs.specs.declared.plans.Plan.TheVariants as plan
-use Rattle.member_needs.specs.Records.{frame_of}
+use Rattle.member_effects.specs.Given.{Plan}
+use Rattle.member_effects.specs.Given.plan_variants as plan
+use Rattle.member_effects.specs.Given.{frame_of}
 use Rattle.member_effects.specs.declared.answers.Said.{Said}
 use Rattle.member_effects.specs.declared.answers.Said.TheVariants as said
 use Rattle.member_effects.specs.declared.told.Told.{Told}

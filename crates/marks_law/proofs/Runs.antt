@@ -16,7 +16,7 @@ use Rattle.member_intents.specs.declared.outcome.Sent.{Sent}
 use Rattle.member_intents.specs.declared.outcome.Sent.TheVariants as sent
 use Rattle.member_trans.specs.Trans.{after_event, with_room, with_tran}
 use Rattle.member_marks.specs.State.{slot_tran}
-use Rattle.member_needs.specs.declared.plans.Plan.{Plan}
+use Rattle.member_effects.specs.Given.{Plan}
 use Rattle.member_effects.specs.declared.told.Told.{Told}
 use Rattle.member_effects.specs.Answers.{summed, nothing}
 use Rattle.member_resources.specs.declared.lending.Lent.{Lent}

@@ -4,7 +4,7 @@ use Rattle.member_intents.specs.declared.intent.Intent.{Intent}
 use Rattle.member_intents.specs.declared.intent.Intent.TheVariants as intent
 use Rattle.member_intents.specs.declared.outcome.Answered.{Answered}
 use Rattle.member_intents.specs.declared.outcome.Sent.{Sent}
-use Rattle.member_needs.specs.declared.plans.Plan.{Plan}
+use Rattle.member_effects.specs.Given.{Plan}
 use Rattle.member_effects.specs.declared.told.Told.{Told}
 use Rattle.member_marks.specs.State.{MarksState}
 use Rattle.member_resources.specs.Held.{Held}

@@ -3,7 +3,7 @@ use Rattle.std.specs.Prelude.{◌≡◌, ◌⊎◌, ℕ, Bool, true, false}
 use Rattle.member_intents.specs.declared.intent.Intent.{Intent}
 use Rattle.member_intents.specs.declared.outcome.Answered.{Answered}
 use Rattle.member_intents.specs.declared.outcome.Sent.{Sent}
-use Rattle.member_needs.specs.declared.plans.Plan.{Plan}
+use Rattle.member_effects.specs.Given.{Plan}
 use Rattle.member_effects.specs.declared.told.Told.{Told}
 use Rattle.member_trans.specs.declared.fate.Stage.{Stage}
 use Rattle.member_trans.specs.declared.fate.Stage.TheVariants as stage

@@ -14,8 +14,8 @@ use Rattle.member_trans.specs.declared.fate.Change.{Change}
 use Rattle.member_trans.specs.declared.fate.Owner.{Owner}
 use Rattle.member_trans.specs.declared.fate.Owner.TheVariants as owner
 use Rattle.member_trans.specs.Trans.{TransState, newest_of, tran_at, tran_of as tran_in}
-use Rattle.member_marks.specs.Records.{back_record, both_fit, ended_record, fits_in, may_back, may_change, may_undo_as, row_record}
-use Rattle.member_marks.specs.State.{MarksState, slot_tran, tran_of}
+use Rattle.member_needs.specs.Given.{back_record, both_fit, ended_record, fits_in, may_back, may_change, may_undo_as, row_record}
+use Rattle.member_needs.specs.Given.{MarksState, slot_tran, tran_of}
 use Rattle.member_needs.specs.declared.plans.Plan.{Plan}
 use Rattle.member_needs.specs.declared.plans.Plan.TheVariants as plan
 use Rattle.member_effects.specs.declared.told.Told.{Told}

@@ -12,8 +12,8 @@ use Rattle.page_plans.specs.Rows.{after_row}
 use Rattle.member_needs.specs.Given.{Frames}
 use Rattle.member_log.specs.Buffers.{LogBuffer}
 use Rattle.member_trans.specs.Trans.{TransState}
-use Rattle.member_marks.specs.Frames.{after_marked, frame_in, is_placed}
-use Rattle.member_marks.specs.State.{MarksState}
+use Rattle.member_needs.specs.Given.{after_marked, frame_in, is_placed}
+use Rattle.member_needs.specs.Given.{MarksState}
 use Rattle.member_needs.specs.Records.{frame_of}
 use Rattle.member_effects.specs.Changes.{bytes_at, patched_frames, patched_nth, patched_page, put_page, row_nth, row_page}
 use Rattle.member_effects.specs.Kept.{Kept}

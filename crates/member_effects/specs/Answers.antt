@@ -10,8 +10,8 @@ use Rattle.list_structure.specs.declared.query.CellAnswer.{CellAnswer}
 use Rattle.list_structure.specs.declared.query.CellAnswer.TheVariants as answer
 use Rattle.facility.specs.LockCommands.{is_about}
 use Rattle.member_trans.specs.declared.fate.Owner.{Owner}
-use Rattle.member_marks.specs.State.{MarksState}
-use Rattle.member_marks.specs.Claims.{offered}
+use Rattle.member_needs.specs.Given.{MarksState}
+use Rattle.member_needs.specs.Given.{offered}
 use Rattle.member_effects.specs.declared.answers.Said.{Said}
 use Rattle.member_effects.specs.declared.answers.Said.TheVariants as said
 use Rattle.member_effects.specs.declared.answers.Sum.{Sum}

@@ -14,10 +14,10 @@ use Rattle.facility.specs.declared.command.Reply.{Reply}
 use Rattle.facility.specs.declared.command.Reply.TheVariants as reply
 use Rattle.member_trans.specs.declared.fate.Owner.{Owner}
 use Rattle.member_trans.specs.declared.fate.Owner.TheVariants as owner
-use Rattle.member_marks.specs.State.{MarksState}
-use Rattle.member_marks.specs.Claims.{offered}
-use Rattle.member_marks.specs.Frames.{frame_in, after_registered, after_marked}
-use Rattle.member_marks.specs.Records.{after_change, after_system, after_undo, after_commit}
+use Rattle.member_needs.specs.Given.{MarksState}
+use Rattle.member_needs.specs.Given.{offered}
+use Rattle.member_needs.specs.Given.{frame_in, after_registered, after_marked}
+use Rattle.member_needs.specs.Given.{after_change, after_system, after_undo, after_commit}
 use Rattle.member_needs.specs.declared.plans.Plan.{Plan}
 use Rattle.member_needs.specs.declared.plans.Plan.TheVariants as plan
 use Rattle.member_needs.specs.Plans.{Frames}

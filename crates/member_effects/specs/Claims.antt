@@ -8,10 +8,10 @@ use Rattle.facility.specs.declared.command.Reply.{Reply}
 use Rattle.facility.specs.declared.command.Reply.TheVariants as reply
 use Rattle.member_trans.specs.declared.fate.Owner.{Owner}
 use Rattle.member_trans.specs.declared.fate.Owner.TheVariants as owner
-use Rattle.member_marks.specs.declared.trial.Trial.{Trial}
-use Rattle.member_marks.specs.declared.trial.Trial.TheVariants as trial
-use Rattle.member_marks.specs.State.{MarksState}
-use Rattle.member_marks.specs.Claims.{is_for_agents, may_enter_page, PageEntered, after_enter, enter_told, offered}
+use Rattle.member_needs.specs.Given.{Trial}
+use Rattle.member_needs.specs.Given.trial_variants as trial
+use Rattle.member_needs.specs.Given.{MarksState}
+use Rattle.member_needs.specs.Given.{is_for_agents, may_enter_page, PageEntered, after_enter, enter_told, offered}
 use Rattle.member_effects.specs.declared.told.Told.{Told}
 use Rattle.member_effects.specs.declared.told.Told.TheVariants as told
 

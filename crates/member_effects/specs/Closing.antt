@@ -6,9 +6,9 @@ use Rattle.lock_names.specs.declared.mode.Interest.{Interest}
 use Rattle.facility.specs.declared.command.Reply.{Reply}
 use Rattle.facility.specs.declared.command.Reply.TheVariants as reply
 use Rattle.member_trans.specs.declared.fate.Owner.{Owner}
-use Rattle.member_marks.specs.Names.{without_name}
-use Rattle.member_marks.specs.State.{MarksState, with_kept}
-use Rattle.member_marks.specs.Claims.{after_release_of, released_told as given_up, after_release_page, after_end_of}
+use Rattle.member_needs.specs.Given.{without_name}
+use Rattle.member_needs.specs.Given.{MarksState, with_kept}
+use Rattle.member_needs.specs.Given.{after_release_of, released_told as given_up, after_release_page, after_end_of}
 use Rattle.member_effects.specs.declared.told.Told.{Told}
 use Rattle.member_effects.specs.declared.told.Told.TheVariants as told
 

@@ -7,8 +7,8 @@ use Rattle.list_structure.specs.declared.wait.Wait.{Wait}
 use Rattle.deadlock_cycle.specs.Cycles.{IsCycle}
 use Rattle.member_trans.specs.declared.fate.Owner.TheVariants as owner
 use Rattle.member_trans.specs.Trans.{is_forward}
-use Rattle.member_marks.specs.State.{MarksState, slot_tran, slot_id}
-use Rattle.member_marks.specs.Claims.{offered}
+use Rattle.member_needs.specs.Given.{MarksState, slot_tran, slot_id}
+use Rattle.member_needs.specs.Given.{offered}
 use Rattle.member_effects.specs.declared.told.Told.{Told}
 use Rattle.member_effects.specs.declared.told.Told.TheVariants as told
 

@@ -8,9 +8,9 @@ use Rattle.page_plans.specs.Looks.{look_of}
 use Rattle.facility.specs.declared.command.Reply.{Reply}
 use Rattle.facility.specs.declared.command.Reply.TheVariants as reply
 use Rattle.member_trans.specs.declared.fate.Owner.TheVariants as owner
-use Rattle.member_marks.specs.State.{MarksState}
-use Rattle.member_marks.specs.Claims.{offered}
-use Rattle.member_marks.specs.Frames.{frame_in, after_registered, after_filled, after_written, after_unregister}
+use Rattle.member_needs.specs.Given.{MarksState}
+use Rattle.member_needs.specs.Given.{offered}
+use Rattle.member_needs.specs.Given.{frame_in, after_registered, after_filled, after_written, after_unregister}
 use Rattle.member_effects.specs.declared.told.Told.{Told}
 use Rattle.member_effects.specs.declared.told.Told.TheVariants as told
 

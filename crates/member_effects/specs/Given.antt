@@ -5,3 +5,5 @@ pub use Rattle.member_needs.specs.declared.needs.Setting.{Setting}
 pub use Rattle.member_needs.specs.Needs.{need_of}
 pub use Rattle.member_needs.specs.Plans.{intent_plan, IsUnlessMemory, PlanIsAllowed}
 pub use Rattle.member_needs.specs.Frames.{is_stable}
+pub use Rattle.member_needs.specs.declared.plans.Plan.TheVariants as plan_variants
+pub use Rattle.member_needs.specs.Records.{frame_of}

@@ -6,8 +6,8 @@ use Rattle.facility.specs.declared.command.Reply.TheVariants as reply
 use Rattle.member_log.specs.Buffers.{LogBuffer}
 use Rattle.member_trans.specs.declared.fate.Change.{Change}
 use Rattle.member_trans.specs.Trans.{TranState, is_forward, newest_of}
-use Rattle.member_marks.specs.Records.{back_record, both_fit, commit_record, ended_record, fits_in, is_at_row, may_back, row_record}
-use Rattle.member_marks.specs.State.{MarksState, slot_tran, tran_of}
+use Rattle.member_needs.specs.Given.{back_record, both_fit, commit_record, ended_record, fits_in, is_at_row, may_back, row_record}
+use Rattle.member_needs.specs.Given.{MarksState, slot_tran, tran_of}
 use Rattle.member_needs.specs.Given.{Intent}
 use Rattle.member_needs.specs.Given.intent_variants as intent
 use Rattle.member_needs.specs.Given.{Answered}

@@ -3,7 +3,7 @@
 ghost use Rattle.std.specs.Prelude.{◌≡◌};
 ghost use Rattle.ds_model.specs.declared.fate.Refusal.TheVariants.{Held, Retained};
 ghost use Rattle.facility.specs.LockCommands.{is_about};
-ghost use Rattle.member_marks.specs.Claims.{offered};
+ghost use Rattle.member_needs.specs.Given.{offered};
 ghost use Rattle.member_effects.specs.Answers.{said_in_answer, said_by, is_asked, added, is_found, summed, nothing, in_the_way_after, in_the_way_told, found_after, sum_told, answered_after, answered_told};
 
 use crate::told::Told;
@@ -11,7 +11,7 @@ use ds_base::{MemberId, TranId};
 use ds_model::Refusal;
 use list_structure::{Cell, CellAnswer};
 use lock_names::{Mode, Name, is_same_mode, is_same_name};
-use member_marks::{Marks, Owner};
+use member_needs::{Marks, Owner};
 
 /// What one cell says about a need.
 #[derive(Clone, Copy, Debug, PartialEq, Eq)]

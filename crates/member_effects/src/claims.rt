@@ -1,7 +1,7 @@
 //! The replies to `obtain` and `grant`.
 
 ghost use Rattle.std.specs.Prelude.{◌≡◌};
-ghost use Rattle.member_marks.specs.Claims.{is_for_agents, offered};
+ghost use Rattle.member_needs.specs.Given.{is_for_agents, offered};
 ghost use Rattle.member_effects.specs.declared.told.Told.TheVariants as told;
 ghost use Rattle.member_effects.specs.Claims.{EntersPage, agent_entered, agent_told, Enters, told_of, granted_told, Claims, claimed_told};
 
@@ -9,7 +9,7 @@ use crate::told::Told;
 use ds_model::Refusal;
 use facility::Reply;
 use lock_names::{Mode, Name};
-use member_marks::{Marks, Owner, Trial};
+use member_needs::{Marks, Owner, Trial};
 
 // The lock of a page is the member's.
 fn enter_page(marks: &mut Marks, name: &Name)

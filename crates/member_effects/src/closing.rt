@@ -2,14 +2,14 @@
 
 ghost use Rattle.std.specs.Prelude.{◌≡◌};
 ghost use Rattle.member_effects.specs.declared.told.Told.TheVariants as told;
-ghost use Rattle.member_marks.specs.Claims.{after_end_of};
+ghost use Rattle.member_needs.specs.Given.{after_end_of};
 ghost use Rattle.member_effects.specs.Closing.{released_name, released_after, released_told, page_released_after, page_released_told, purged_after, purged_told, ended_after, ended_told};
 
 use crate::told::Told;
 use ds_base::PageId;
 use facility::Reply;
 use lock_names::{Interest, Name};
-use member_marks::{Marks, Owner};
+use member_needs::{Marks, Owner};
 
 fn released_name(given: Option<(Name, Interest)>) -> Option<Name>
     ensures { result ≡ released_name given }

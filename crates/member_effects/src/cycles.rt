@@ -2,7 +2,7 @@
 
 ghost use Rattle.std.specs.Prelude.{◌≡◌, IfOk, OnErr};
 ghost use Rattle.std.specs.Int.{bit_at};
-ghost use Rattle.member_marks.specs.State.{slot_id};
+ghost use Rattle.member_needs.specs.Given.{slot_id};
 ghost use Rattle.member_effects.specs.Cycles.{is_looked, Finds, cycle_after, cycle_told, RefusesCycle};
 
 use crate::told::Told;
@@ -10,7 +10,7 @@ use deadlock_cycle::find_cycle;
 use ds_base::NoMemory;
 use ds_model::{Cycle, Refusal};
 use list_structure::Wait;
-use member_marks::{Marks, Owner};
+use member_needs::{Marks, Owner};
 use std::alloc::Global;
 
 /// The highest slot of an agent.

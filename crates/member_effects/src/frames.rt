@@ -1,7 +1,7 @@
 //! Frames after the replies about them.
 
 ghost use Rattle.std.specs.Prelude.{◌≡◌, true};
-ghost use Rattle.member_marks.specs.Frames.{after_filled};
+ghost use Rattle.member_needs.specs.Given.{after_filled};
 ghost use Rattle.member_effects.specs.declared.told.Told.TheVariants as told;
 ghost use Rattle.member_effects.specs.Frames.{parked_told, read_told, empty_after, read_after, full_in, full_heap, full_at, valid_after, valid_told, tested_after, tested_told, written_told, written_after, unregistered_after};
 
@@ -9,7 +9,7 @@ use crate::told::Told;
 use ds_base::TableId;
 use ds_model::Refusal;
 use facility::Reply;
-use member_marks::{Marks, Owner};
+use member_needs::{Marks, Owner};
 use page_format::Page;
 use page_plans::{Action, Look, look};
 

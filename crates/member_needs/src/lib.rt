@@ -15,6 +15,7 @@ mod waits;
 pub use castout::Cast;
 pub use frames::is_stable;
 pub use member_intents::{Frames, Outcome};
+pub use member_marks::{Marks, Owner, Trial};
 pub use needs::{Setting, need};
 pub use plans::{Plan, plan_for};
 pub use records::frame_of;

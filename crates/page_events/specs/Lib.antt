@@ -1,3 +1,4 @@
 pub mod Beside
 pub mod Quiet
 pub mod Events
+pub mod Given

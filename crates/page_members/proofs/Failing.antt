@@ -16,7 +16,7 @@ use Rattle.page_protocol.specs.Always.{AlwaysGood}
 use Rattle.page_world.specs.Numbers.{set_of}
 use Rattle.page_world.specs.Holdings.{no_copy, no_cast, Holdings, with_facility}
 use Rattle.page_world.specs.Failing.{without, FailsMoves}
-use Rattle.page_intents.specs.Numbers.{AreNumbered}
+use Rattle.page_events.specs.Given.{AreNumbered}
 use Rattle.page_events.specs.Beside.{SameOthers}
 use Rattle.page_members.specs.Members.{FailuresGo}
 

@@ -10,7 +10,7 @@ use Rattle.page_world.specs.Numbers.{set_of}
 use Rattle.page_world.specs.Holdings.{Holdings, StandsAs, with_facility}
 use Rattle.page_world.specs.Failing.{without}
 use Rattle.page_world.specs.Tied.{Tied}
-use Rattle.page_intents.specs.Numbers.{AreNumbered}
+use Rattle.page_events.specs.Given.{AreNumbered}
 -- given out again: a member beside its group, and any event of it
 pub use Rattle.page_events.specs.Beside.{Beside, Leads, OthersStayUp, SameOthers, Shows, WritesShow}
 pub use Rattle.page_events.specs.Events.{EventGoes, IsRecorded, Supplied, ToldGoes, page_named, page_taken}

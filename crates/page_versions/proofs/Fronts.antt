@@ -11,7 +11,7 @@ use Rattle.page_format.specs.Fields.{page_size, is_old}
 use Rattle.page_format.specs.Header.{header_of}
 use Rattle.page_images.specs.Images.{zeros}
 use Rattle.page_chain.specs.Chains.{after_record, version_from, version_of, IsVersion, touches, LeavesOthers}
-use Rattle.restart_plan.specs.Renewal.{must_renew}
+use Rattle.sound_disk.specs.Given.{must_renew}
 use Rattle.sound_disk.specs.Versions.{merged, is_page, current, MayStand}
 use Rattle.page_versions.specs.Fronts.{is_later, is_from, has_header, IsPlaced}
 

@@ -7,7 +7,7 @@ use Rattle.log_record.specs.declared.log.Log.{Log}
 use Rattle.page_format.specs.Fields.{is_old}
 use Rattle.page_format.specs.Header.{header_of}
 use Rattle.page_chain.specs.Chains.{after_record, IsVersion}
-use Rattle.restart_plan.specs.Renewal.{must_renew}
+use Rattle.sound_disk.specs.Given.{must_renew}
 use Rattle.sound_disk.specs.Versions.{merged, is_page, current, MayStand}
 
 -- ---- the page after a front of the records, as a test

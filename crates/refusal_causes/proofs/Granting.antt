@@ -25,11 +25,11 @@ use Rattle.group_member.specs.declared.stepped.Stepped.TheVariants as steps
 use Rattle.group_member.specs.Happening.{Comes, Makes, as_rebuilding, as_restarting}
 use Rattle.group_member.specs.Members.{Member}
 use Rattle.group_member.specs.Stepping.{is_over}
-use Rattle.group_crew.specs.declared.crew.Crew.{Crew}
-use Rattle.group_crew.specs.Beginning.{AllRestart, PhaseBegins, begins_restart, lists_begun, restarting}
-use Rattle.group_crew.specs.Crews.{is_ready_in}
-use Rattle.group_crew.specs.Happening.{ComesAt, member_at}
-use Rattle.group_crew.specs.States.{CrewState, crew_state}
+use Rattle.group_core.specs.Given.{Crew}
+use Rattle.group_core.specs.Given.{AllRestart, PhaseBegins, begins_restart, lists_begun, restarting}
+use Rattle.group_core.specs.Given.{is_ready_in}
+use Rattle.group_core.specs.Given.{ComesAt, member_at}
+use Rattle.group_core.specs.Given.{CrewState, crew_state}
 use Rattle.group_core.specs.declared.fault.RunFault.{RunFault}
 use Rattle.group_core.specs.declared.fault.RunFault.TheVariants as fault
 use Rattle.group_core.specs.declared.group.Group.{Group}

@@ -5,7 +5,7 @@ use Rattle.ds_model.specs.declared.fate.Refusal.{Refusal}
 use Rattle.cache_structure.specs.Directory.{Directory}
 use Rattle.needs_law.specs.Lawful.{SendsLawfully}
 use Rattle.script_fates.specs.Fated.{FatesState, no_fates}
-use Rattle.group_crew.specs.declared.crew.Crew.{Crew}
+use Rattle.group_core.specs.Given.{Crew}
 use Rattle.group_core.specs.declared.fault.RunFault.{RunFault}
 use Rattle.group_core.specs.declared.group.Group.{Group}
 use Rattle.group_core.specs.Fresh.{IsLooked, RunsFresh}

@@ -18,13 +18,13 @@ use Rattle.group_restart.specs.declared.calls.State.{State}
 use Rattle.group_restart.specs.declared.calls.State.TheVariants as state
 use Rattle.group_member.specs.declared.stepped.Stepped.{Stepped}
 use Rattle.group_member.specs.Members.{Member}
-use Rattle.group_crew.specs.declared.crew.Crew.{Crew}
-use Rattle.group_crew.specs.Beginning.{BeginsNext, PhaseBegins, is_left_out_in}
-use Rattle.group_crew.specs.Crews.{is_ready_in}
-use Rattle.group_crew.specs.Failing.{StopsLast, last_begun}
-use Rattle.group_crew.specs.Happening.{ComesAt, member_at}
-use Rattle.group_crew.specs.Ready.{is_own, ready_for}
-use Rattle.group_crew.specs.States.{CrewState, crew_state}
+use Rattle.group_core.specs.Given.{Crew}
+use Rattle.group_core.specs.Given.{BeginsNext, PhaseBegins, is_left_out_in}
+use Rattle.group_core.specs.Given.{is_ready_in}
+use Rattle.group_core.specs.Given.{StopsLast, last_begun}
+use Rattle.group_core.specs.Given.{ComesAt, member_at}
+use Rattle.group_core.specs.Given.{is_own, ready_for}
+use Rattle.group_core.specs.Given.{CrewState, crew_state}
 use Rattle.group_core.specs.declared.fault.RunFault.{RunFault}
 use Rattle.group_core.specs.declared.fault.RunFault.TheVariants as fault
 use Rattle.group_core.specs.declared.group.Group.{Group}

@@ -14,7 +14,7 @@ use Rattle.list_structure.specs.Askers.{IsAsker}
 use Rattle.list_structure.specs.Cells.{cell_of}
 use Rattle.member_marks.specs.State.{MarksState}
 use Rattle.group_member.specs.Members.{Member}
-use Rattle.group_crew.specs.Happening.{member_at}
+use Rattle.group_core.specs.Given.{member_at}
 use Rattle.group_core.specs.declared.group.Group.{Group}
 use Rattle.group_core.specs.Starts.{IsFresh}
 use Rattle.group_core.specs.Takes.{Takes}

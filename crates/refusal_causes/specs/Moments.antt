@@ -18,7 +18,7 @@ use Rattle.group_member.specs.declared.stepped.Stepped.{Stepped}
 use Rattle.group_member.specs.Entering.{told_once}
 use Rattle.group_member.specs.Happening.{Makes}
 use Rattle.group_member.specs.Members.{Member}
-use Rattle.group_crew.specs.Happening.{member_at}
+use Rattle.group_core.specs.Given.{member_at}
 use Rattle.group_core.specs.declared.group.Group.{Group}
 use Rattle.group_core.specs.Takes.{Takes}
 use Rattle.group_core.specs.Fresh.{RunsFresh}

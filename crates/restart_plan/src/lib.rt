@@ -18,6 +18,7 @@ mod tran;
 
 pub use ends::Ends;
 pub use greatest::Greatest;
+pub use log_merge::merging_laws;
 pub use logs::Logs;
 pub use opened::{Closing, Undo};
 pub use page_records::PageRecords;

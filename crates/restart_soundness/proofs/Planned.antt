@@ -15,7 +15,7 @@ use Rattle.sound_plans.specs.Plans.{QueueOfPlanFits, NumbersSuffice}
 use Rattle.sound_reads.specs.Laws.{PlanReadSuits}
 use Rattle.sound_reads.specs.Reads.{AreReadOf}
 use Rattle.sound_restarts.specs.Redo.{IsSoundNow}
-use Rattle.sound_courses.specs.Bringing.{PlanFits}
+use Rattle.sound_steps.specs.Given.{PlanFits}
 use Rattle.sound_steps.specs.Whole.{SoundLeads, CourseBegins}
 use Rattle.restart_soundness.proofs.Counting.{as_long}
 

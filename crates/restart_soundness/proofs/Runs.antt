@@ -23,8 +23,8 @@ use Rattle.sound_disk.specs.Laws.{records_of, LogsStand}
 use Rattle.sound_disk.specs.Settled.{has_ended}
 use Rattle.sound_plans.specs.Opens.{EndsWhereNothingIsLeft}
 use Rattle.sound_plans.specs.Queues.{records_for, IsSettled, QueueFits, EmptyQueueSettles}
-use Rattle.sound_courses.specs.Standing.{IsLeftSound}
-use Rattle.sound_courses.specs.Ending.{HasEnded}
+use Rattle.sound_steps.specs.Given.{IsLeftSound}
+use Rattle.sound_steps.specs.Given.{HasEnded}
 use Rattle.restart_soundness.specs.Soundness.{Runs, Tells, LeavesSound, RestartBegins, StepLeavesSound}
 use Rattle.restart_soundness.specs.Runs.{KeepsRows, IsAtRest, EndsWith, IsLeft, RunsLeaveSound, RestartsLeaveSound}
 use Rattle.restart_soundness.proofs.Rows.{rows_stay}

@@ -23,8 +23,8 @@ use Rattle.group_restart.specs.Disk.{Drive, Calls}
 use Rattle.group_restart.specs.Steps.{WantsMemory, Takes, Steps}
 use Rattle.restart_reads.specs.Reading.{ReadingLeads, ReadingBegins, ReadingGoes}
 use Rattle.sound_restarts.specs.Redo.{IsSoundNow}
-use Rattle.sound_courses.specs.Standing.{IsLeftSound}
-use Rattle.sound_courses.specs.Ending.{HasEnded}
+use Rattle.sound_steps.specs.Given.{IsLeftSound}
+use Rattle.sound_steps.specs.Given.{HasEnded}
 use Rattle.sound_steps.specs.Whole.{SoundLeads, GoesOnWith, CallLeavesSound, AnswerGoesOn}
 use Rattle.restart_soundness.specs.Soundness.{IsReading, IsFollowing, Runs, Tells, LeavesSound, RestartBegins, StepLeavesSound, RunLeavesSound}
 use Rattle.restart_soundness.proofs.Planned.{PlanLaws, read_leads}

@@ -23,7 +23,7 @@ use Rattle.sound_disk.specs.Versions.{last_images}
 use Rattle.sound_appends.specs.Laws.{HaveNoTails}
 use Rattle.sound_plans.specs.Queues.{records_for}
 use Rattle.sound_restarts.specs.Redo.{OldAreNumbered}
-use Rattle.sound_courses.specs.Standing.{NoneIsOld, IsLeftSound}
+use Rattle.sound_steps.specs.Given.{NoneIsOld, IsLeftSound}
 
 -- ---- what a run leaves
 

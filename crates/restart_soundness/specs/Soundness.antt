@@ -13,8 +13,8 @@ use Rattle.group_restart.specs.Steps.{Steps}
 use Rattle.disk_restart.specs.Runs.{AllGo}
 use Rattle.restart_reads.specs.Reading.{ReadsNext}
 use Rattle.sound_restarts.specs.Redo.{IsSoundNow}
-use Rattle.sound_courses.specs.Standing.{IsLeftSound}
-use Rattle.sound_courses.specs.Ending.{HasEnded}
+use Rattle.sound_steps.specs.Given.{IsLeftSound}
+use Rattle.sound_steps.specs.Given.{HasEnded}
 use Rattle.sound_steps.specs.Whole.{SoundIn}
 
 -- ---- between two calls

@@ -32,7 +32,7 @@ use Rattle.member_resources.specs.Events.{Happens, World, holder_in}
 use Rattle.member_resources.specs.Held.{Held}
 use Rattle.member_resources.specs.Prepared.{needed, planned, setting_of}
 use Rattle.lock_world.specs.Books.{IsBook}
-use Rattle.marks_law.specs.Slots.{SlotsStand}
+use Rattle.strict_locking.specs.Given.{SlotsStand}
 use Rattle.strict_locking.specs.Keeping.{ChangesLock}
 use Rattle.strict_locking.specs.Rows.{HasLocked, row_for}
 use Rattle.closing_law.specs.Closing.{ChangedIn}

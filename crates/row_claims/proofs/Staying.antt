@@ -15,7 +15,7 @@ use Rattle.member_intents.specs.declared.outcome.Sent.{Sent}
 use Rattle.member_effects.specs.Puts.{event_records}
 use Rattle.member_resources.specs.Events.{Happens, World}
 use Rattle.member_resources.specs.Held.{Held, begun}
-use Rattle.marks_law.specs.Slots.{SlotsBegin, SlotsReach, SlotsStay}
+use Rattle.strict_locking.specs.Given.{SlotsBegin, SlotsReach, SlotsStay}
 use Rattle.strict_locking.specs.Keeping.{ChangesLock, EventsKeep, MovesKeep}
 use Rattle.strict_locking.specs.Rows.{HasLocked, is_over}
 use Rattle.closing_law.specs.Closing.{ChangedIn, Closes, ClosesBegin, ClosesReach, ClosesStay, ClosesTell, Puts, StillCloses}

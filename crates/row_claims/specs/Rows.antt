@@ -14,7 +14,7 @@ use Rattle.member_effects.specs.Puts.{event_records}
 use Rattle.member_resources.specs.Events.{Drive, Happens, World}
 use Rattle.member_resources.specs.Held.{Held, IsNew, begun}
 use Rattle.lock_world.specs.Books.{IsBook}
-use Rattle.marks_law.specs.Slots.{SlotsStand}
+use Rattle.strict_locking.specs.Given.{SlotsStand}
 use Rattle.strict_locking.specs.Rows.{HasLocked}
 use Rattle.closing_law.specs.Closing.{ArePlain, Closes, IsUnfailed, LogIs}
 

@@ -9,8 +9,7 @@ ghost use Rattle.row_claims.specs.Rows.{RowsBegin, RowsOpen, RowsReach, RowsStay
 
 use closing_law::{closes_tell, work_closes};
 use log_rows::both_tell;
-use marks_law::slots_stay;
-use strict_locking::locks_stay;
+use strict_locking::{locks_stay, slots_stay};
 
 /// So it is of a member that holds nothing, over a log that closes all of which it has changed rows, and no event of it changes that, where
 /// the disk tells what it holds; nor do local moves.

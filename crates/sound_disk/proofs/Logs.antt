@@ -8,7 +8,7 @@ use Rattle.ds_model.specs.Logs.{IsLog}
 use Rattle.ds_model.specs.RecordBytes.{IsAllowed, record_bytes, log_bytes}
 use Rattle.log_record.specs.declared.log.Log.{Log}
 use Rattle.log_record.specs.Logs.{Parts, parts_in, parts_of}
-use Rattle.log_merge.specs.Merging.{RisesFrom}
+use Rattle.restart_plan.specs.Given.{RisesFrom}
 use Rattle.sound_disk.specs.Whole_logs.{IsWholeLog, AreWholeLogs}
 use Rattle.sound_disk.specs.Laws.{last_number, with_record, with_tail}
 

@@ -11,7 +11,7 @@ use Rattle.ds_model.specs.RecordBytes.{IsAllowed}
 use Rattle.page_format.specs.declared.patch.Patch.{Patch}
 use Rattle.log_record.specs.declared.log.Log.{Log}
 use Rattle.log_record.specs.Changes.{is_drawn}
-use Rattle.log_merge.specs.Merging.{is_merged, kept, all_records, in_order, RisesFrom}
+use Rattle.restart_plan.specs.Given.{is_merged, kept, all_records, in_order, RisesFrom}
 use Rattle.page_redo.specs.Given.{changes_of, Follows, AreInOrder, AreRecords}
 use Rattle.sound_disk.specs.Whole_logs.{AreWholeLogs}
 use Rattle.sound_disk.specs.Transactions.{drawn_numbers, is_among, all_differ, AreTransactions}

@@ -8,7 +8,7 @@ use Rattle.ds_disk.specs.Pages.{Pages, page_at}
 use Rattle.ds_model.specs.declared.log.LogRecord.{LogRecord}
 use Rattle.ds_model.specs.RecordBytes.{IsAllowed, log_bytes}
 use Rattle.log_record.specs.declared.log.Log.{Log}
-use Rattle.log_merge.specs.Merging.{all_records, in_order, RisesFrom}
+use Rattle.restart_plan.specs.Given.{all_records, in_order, RisesFrom}
 use Rattle.page_images.specs.Images.{Images, zeros}
 use Rattle.page_redo.specs.Given.{images_of}
 use Rattle.sound_disk.specs.Whole_logs.{IsWholeLog, AreWholeLogs}

@@ -5,7 +5,7 @@ use Rattle.ds_base.specs.declared.names.PageId.{PageId}
 use Rattle.ds_model.specs.declared.log.LogRecord.{LogRecord}
 use Rattle.ds_model.specs.Logs.{AreLogs}
 use Rattle.log_record.specs.declared.log.Log.{Log}
-use Rattle.log_merge.specs.Merging.{RisesFrom}
+use Rattle.restart_plan.specs.Given.{RisesFrom}
 use Rattle.page_redo.specs.Given.{AreRecords, IsVersion, RedoReaches, version_of, redo}
 use Rattle.sound_disk.specs.Whole_logs.{AreWholeLogs}
 use Rattle.sound_disk.specs.Laws.{records_of}

@@ -12,7 +12,7 @@ use Rattle.ds_model.specs.declared.log.LogRecord.{LogRecord}
 use Rattle.ds_model.specs.RecordBytes.{record_bytes}
 use Rattle.log_record.specs.declared.log.Log.{Log}
 use Rattle.log_record.specs.Changes.{is_drawn}
-use Rattle.log_merge.specs.Merging.{all_records, RisesFrom}
+use Rattle.restart_plan.specs.Given.{all_records, RisesFrom}
 use Rattle.log_trans.specs.declared.course.Course.{Course}
 use Rattle.log_trans.specs.declared.known.Known.{Known}
 use Rattle.log_trans.specs.declared.damage.Damaged.{Damaged}

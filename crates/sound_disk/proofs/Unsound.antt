@@ -11,7 +11,7 @@ use Rattle.ds_model.specs.declared.log.Body.TheVariants as body
 use Rattle.ds_model.specs.RecordBytes.{IsAllowed, record_bytes, spelling, log_bytes}
 use Rattle.page_format.specs.Header.{header_of}
 use Rattle.log_record.specs.declared.log.Log.{Log}
-use Rattle.log_merge.specs.Merging.{RisesFrom, all_records, in_order}
+use Rattle.restart_plan.specs.Given.{RisesFrom, all_records, in_order}
 use Rattle.page_images.specs.Images.{zeros}
 use Rattle.page_redo.specs.Rows.{headed_fault, change_fault}
 use Rattle.ds_base.specs.Ids.{IsLrsn}

@@ -14,3 +14,4 @@ pub mod Tables
 pub mod Sound
 pub mod Laws
 pub mod Examples
+pub mod Given

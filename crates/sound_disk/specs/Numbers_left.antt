@@ -4,7 +4,7 @@ use Rattle.ds_base.specs.Ids.{IsLrsn}
 use Rattle.ds_model.specs.declared.log.LogRecord.{LogRecord}
 use Rattle.log_record.specs.declared.log.Log.{Log}
 use Rattle.log_trans.specs.Numbers.{greatest}
-use Rattle.log_merge.specs.Merging.{all_records}
+use Rattle.restart_plan.specs.Given.{all_records}
 use Rattle.sound_disk.specs.Settled.{is_open}
 
 -- the row changes that are neither committed nor compensated

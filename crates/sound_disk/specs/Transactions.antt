@@ -11,7 +11,7 @@ use Rattle.log_record.specs.Changes.{is_drawn, inverse}
 use Rattle.log_trans.specs.declared.course.Course.{Course}
 use Rattle.log_trans.specs.Courses.{new_course, after_body}
 use Rattle.log_trans.specs.Damage.{body_fault}
-use Rattle.log_merge.specs.Merging.{all_records}
+use Rattle.restart_plan.specs.Given.{all_records}
 
 -- ---- numbers
 

@@ -7,7 +7,7 @@ use Rattle.page_format.specs.Header.{header_of}
 use Rattle.page_format.specs.declared.header.Header.{Header}
 use Rattle.page_format.specs.declared.header.NotAPage.{NotAPage}
 use Rattle.log_record.specs.declared.log.Log.{Log}
-use Rattle.log_merge.specs.Merging.{all_records, in_order}
+use Rattle.restart_plan.specs.Given.{all_records, in_order}
 use Rattle.page_images.specs.Images.{Images}
 use Rattle.page_redo.specs.Given.{IsVersion, images_of}
 use Rattle.restart_plan.specs.Renewal.{must_renew}

@@ -3,7 +3,7 @@ use Rattle.std.specs.Prelude.{◌≡◌, ℕ, ◌+◌, List, [], ◌∷◌, leng
 use Rattle.ds_model.specs.RecordBytes.{log_bytes}
 use Rattle.ds_model.specs.Logs.{IsLog}
 use Rattle.log_record.specs.declared.log.Log.{Log}
-use Rattle.log_merge.specs.Merging.{RisesFrom}
+use Rattle.restart_plan.specs.Given.{RisesFrom}
 
 -- the bytes of the member's log are the log's whole records, in the order of their numbers, and then a proper front of a record or nothing
 pub record IsWholeLog (member : ℕ) (bytes : List ℕ) (log : Log) : Type 0 where

@@ -35,7 +35,7 @@ pub fn page_laws()
     ensures rows { LogsStand }
     ensures index { IndexOpens }
 {
-    log_merge::merging_laws();
+    restart_plan::merging_laws();
     page_redo::redo_laws();
     index_protocol::opens_on_sound_disk();
 }

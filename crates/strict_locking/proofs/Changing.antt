@@ -23,8 +23,8 @@ use Rattle.member_needs.specs.Records.{allows_row, allows_space}
 use Rattle.member_needs.specs.declared.needs.Setting.{Setting}
 use Rattle.member_intents.specs.declared.intent.Intent.TheVariants as intent
 use Rattle.needs_law.specs.Lawful.{Lawful, MayChange, MayChangeRow}
-use Rattle.member_resources.specs.Events.{holder_in}
-use Rattle.member_resources.specs.Prepared.{setting_of}
+use Rattle.marks_law.specs.Given.{holder_in}
+use Rattle.marks_law.specs.Given.{setting_of}
 use Rattle.marks_law.specs.Slots.{SlotsTell}
 use Rattle.marks_law.specs.Transactions.{MarksStay, has_tran}
 use Rattle.lock_protocol.specs.Machine.{Covers}

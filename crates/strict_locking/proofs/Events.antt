@@ -27,10 +27,10 @@ use Rattle.member_effects.specs.declared.told.Told.{Told}
 use Rattle.member_effects.specs.Claims.{Claims as SettlesClaims}
 use Rattle.member_effects.specs.Closing.{ended_after, page_released_after, released_after}
 use Rattle.needs_law.specs.Lawful.{Lawful, MayEnd, SendsLawfully}
-use Rattle.member_resources.specs.declared.prepared.Prepared.{Prepared}
-use Rattle.member_resources.specs.Events.{Runs, World, holder_in}
-use Rattle.member_resources.specs.Held.{Held, begun, with_marks, with_spare}
-use Rattle.member_resources.specs.Prepared.{Reserves, needed, setting_of}
+use Rattle.marks_law.specs.Given.{Prepared}
+use Rattle.marks_law.specs.Given.{Runs, World, holder_in}
+use Rattle.marks_law.specs.Given.{Held, begun, with_marks, with_spare}
+use Rattle.marks_law.specs.Given.{Reserves, needed, setting_of}
 use Rattle.marks_law.specs.Claims.{changes_claims}
 use Rattle.marks_law.specs.Transactions.{EventsStay}
 use Rattle.marks_law.proofs.Staying.{stay_same}

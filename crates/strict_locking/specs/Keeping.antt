@@ -10,8 +10,8 @@ use Rattle.member_intents.specs.declared.outcome.Sent.{Sent}
 use Rattle.member_marks.specs.Local.{Reaches}
 use Rattle.member_marks.specs.State.{MarksState, slot_tran}
 use Rattle.marks_law.specs.Slots.{SlotsStand}
-use Rattle.member_resources.specs.Held.{Held}
-use Rattle.member_resources.specs.Events.{Happens, World}
+use Rattle.marks_law.specs.Given.{Held}
+use Rattle.marks_law.specs.Given.{Happens, World}
 use Rattle.lock_world.specs.Books.{IsBook}
 use Rattle.strict_locking.specs.Rows.{HasLocked, is_over, row_for}
 

@@ -25,3 +25,5 @@ pub fn locks_stay()
     transactions_stay();
     sends_lawfully();
 }
+
+pub use marks_law::slots_stay;

@@ -1,6 +1,6 @@
 use Rattle.std.proofs.Common.{◌≡◌, ◌+◌, ◌≤◌, ◌++◌, length, map, vec_capacity}
 use mathlib.Core.List.{reverse}
-use Rattle.group_crew.specs.Crews.{unlooked}
+use Rattle.group_core.specs.Given.{unlooked}
 use Rattle.group_threads.proofs.shared.take_back.Given as goal
 
 abbrev pub invariant-loop-hand : goal.invariant-loop-hand
