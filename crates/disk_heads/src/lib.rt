@@ -4,8 +4,6 @@
 mod blocks;
 mod ends;
 mod records;
-#[cfg(test)]
-mod tests;
 
 pub use blocks::{BLOCK, read_at, read_length};
 pub use ends::find_end;

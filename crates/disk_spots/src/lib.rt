@@ -8,6 +8,3 @@ mod spot;
 pub use drawn::drawn_spot_of;
 pub use search::{next_place, spot_of};
 pub use spot::Spot;
-
-#[cfg(test)]
-mod tests;

@@ -11,6 +11,3 @@ pub use ends::{BEHIND, end_of, last_in_records};
 pub use renewal::must_renew;
 pub use set::Placing;
 pub use sets::find_unplaced;
-
-#[cfg(test)]
-mod tests;

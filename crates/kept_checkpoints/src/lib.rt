@@ -9,6 +9,3 @@ mod start;
 pub use needs::{Need, needs_laws, needs_of};
 pub use offsets::find_bad_offset;
 pub use start::start_of;
-
-#[cfg(test)]
-mod tests;

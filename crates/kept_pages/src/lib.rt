@@ -7,6 +7,3 @@ mod unmet;
 
 pub use unkept::find_unkept;
 pub use unmet::find_unmet;
-
-#[cfg(test)]
-mod tests;

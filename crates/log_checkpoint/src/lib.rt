@@ -13,6 +13,3 @@ mod search;
 pub use found::Found;
 pub use laws::search_laws;
 pub use search::CheckpointSearch;
-
-#[cfg(test)]
-mod tests;

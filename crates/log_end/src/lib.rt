@@ -8,6 +8,3 @@ mod end;
 
 pub use end::WholeEnd;
 pub use log_head::Standing;
-
-#[cfg(test)]
-mod tests;

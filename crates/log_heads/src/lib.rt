@@ -12,6 +12,3 @@ mod taken;
 pub use heads::Heads;
 pub use laws::heads_laws;
 pub use taken::Taken;
-
-#[cfg(test)]
-mod tests;

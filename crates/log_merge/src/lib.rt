@@ -12,6 +12,3 @@ mod pairs;
 
 pub use laws::merging_laws;
 pub use merged::{Merged, merge};
-
-#[cfg(test)]
-mod tests;

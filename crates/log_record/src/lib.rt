@@ -40,6 +40,3 @@ pub use size::record_length;
 pub use version::width_of;
 pub use whole::records_in;
 pub use write::{put_record, records_bytes, write_record};
-
-#[cfg(test)]
-mod tests;

@@ -3,8 +3,6 @@
 
 mod fault;
 mod read;
-#[cfg(test)]
-mod tests;
 
 pub use fault::LogFault;
 pub use log_record::Log;

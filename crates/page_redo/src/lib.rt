@@ -18,6 +18,3 @@ pub use log_record::inverse;
 pub use page_chain::redo_laws;
 pub use pages::{page_changed, pages_of};
 pub use rows::{put_row, row_fault, undo_row};
-
-#[cfg(test)]
-mod tests;

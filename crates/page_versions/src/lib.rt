@@ -7,6 +7,3 @@ mod places;
 
 pub use apply::apply_record;
 pub use front::{image_of, is_placed, is_version, version_laws};
-
-#[cfg(test)]
-mod tests;

@@ -14,8 +14,6 @@ mod order;
 mod rows;
 mod same;
 mod sound;
-#[cfg(test)]
-mod tests;
 
 pub use laws::soundness_laws;
 pub use logged::are_logged;

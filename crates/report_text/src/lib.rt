@@ -6,8 +6,6 @@ mod error;
 mod read;
 mod reads;
 mod report;
-#[cfg(test)]
-mod tests;
 mod trace;
 
 pub use ds_model::{

@@ -5,6 +5,3 @@ mod befores;
 mod rows;
 
 pub use befores::befores_of;
-
-#[cfg(test)]
-mod tests;

@@ -8,6 +8,3 @@ mod turns;
 
 pub use logs::turn_spot;
 pub use turns::find_out_of_turn;
-
-#[cfg(test)]
-mod tests;

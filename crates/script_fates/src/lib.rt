@@ -4,8 +4,6 @@
 
 mod copies;
 mod fates;
-#[cfg(test)]
-mod tests;
 
 pub use copies::{copy_tran, copy_trans};
 pub use fates::{Cause, Fates};

@@ -9,6 +9,3 @@ mod trans;
 pub use marks::Marks;
 pub use numbers::{count_open, find_last_number};
 pub use trans::unsettled_trans;
-
-#[cfg(test)]
-mod tests;

@@ -6,8 +6,6 @@ mod laws;
 mod logs;
 mod pages;
 mod said;
-#[cfg(test)]
-mod tests;
 mod verdict;
 
 pub use check::check_disk;

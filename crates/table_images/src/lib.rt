@@ -10,6 +10,3 @@ pub use blank::is_blank;
 pub use heap::{heap_end, heap_page_stands};
 pub use index::{index_end, index_page_stands};
 pub use laws::stands_laws;
-
-#[cfg(test)]
-mod tests;

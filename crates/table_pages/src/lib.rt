@@ -10,6 +10,3 @@ pub use bytes::count_in;
 pub use heap::{given_in, is_heap_header, is_row_page};
 pub use index::is_index_header;
 pub use node::is_node_page;
-
-#[cfg(test)]
-mod tests;

@@ -13,6 +13,3 @@ mod system;
 mod torn;
 
 pub use torn::is_torn;
-
-#[cfg(test)]
-mod tests;

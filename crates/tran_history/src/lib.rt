@@ -7,8 +7,6 @@ mod history;
 mod one_thread;
 mod ops;
 mod same;
-#[cfg(test)]
-mod tests;
 
 pub use ds_model::{Answer, Cycle, Entry, Fate, Reads, Refusal, Report, ReportEntry};
 pub use history::History;

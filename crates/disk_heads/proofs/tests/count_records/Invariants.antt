@@ -1,6 +1,0 @@
-use Rattle.disk_heads.specs.Records.{IsSound}
-use Rattle.disk_heads.proofs.tests.count_records.Given as goal
-
--- reading can go on
-abbrev pub invariant-loop-count : goal.invariant-loop-count
-invariant-loop-count l = IsSound l.head
