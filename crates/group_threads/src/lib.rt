@@ -13,6 +13,7 @@ mod hand;
 mod look;
 mod members;
 mod phase;
+mod rack;
 mod run;
 mod shared;
 mod worker;

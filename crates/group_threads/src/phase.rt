@@ -14,6 +14,7 @@ use crate::errand::{Errand, Stage};
 use crate::gate::Gate;
 use crate::hall::Hall;
 use crate::hand::Hand;
+use crate::rack::Rack;
 use crate::shared::{Apart, Shared, put_together, take_apart};
 use crate::worker::Worker;
 use cache_structure::CacheFace;
@@ -22,6 +23,7 @@ use ds_disk::Disk;
 use group_core::{Group, Policy, RunFault};
 use standing_threads::Pool;
 use std::alloc::Global;
+use std::mem;
 use std::sync::{Arc, Wait};
 use std::thread;
 use turn_gate::{Journal, Laid};
@@ -288,18 +290,19 @@ fn settled<D: Disk, C: CacheFace, P: Policy>(
     group
 }
 
-// Plays the phase in hand by a group that is taken apart, and puts the group together again.
+// Plays the phase in hand by a group that is taken apart, and puts the group together again. The rack is given back.
 fn play_apart<'g, R: Wait, D: Disk + Drop, C: CacheFace + Drop, P: Policy + Drop, G: Gate>(
     rt: &R,
     alloc: Global,
     pool: &mut Pool<Errand<'g, Shared<D, C, P>, G>>,
     apart: Apart<D, C, P>,
     gate: &'g G,
-) -> Group<D, C, P>
+) -> (Group<D, C, P>, Rack<P>)
     requires few { (1 ≤ length apart.hands.items) × (length apart.hands.items ≤ 63) }
-    requires room { (apart.room.items ≡ []) × (length apart.hands.items ≤ vec_capacity apart.room) }
-    ensures runs { (old : AnyGroup D C P) → apart.shared.group ≡ record old { crew = record old.crew { parts = apart.shared.group.crew.parts } } → parts_in apart.hands.items ≡ old.crew.parts.items → (result.fault ≡ Some fault.NoMemory) ⊎ RunsFrom C.directory D.alive D.contents D.faults old result }
-    ensures later { D.faults apart.shared.group.disk ≤ D.faults result.disk }
+    requires room { length apart.hands.items ≤ apart.room }
+    ensures runs { (old : AnyGroup D C P) → apart.shared.group ≡ record old { crew = record old.crew { parts = apart.shared.group.crew.parts } } → parts_in apart.hands.items ≡ old.crew.parts.items → (result.0.fault ≡ Some fault.NoMemory) ⊎ RunsFrom C.directory D.alive D.contents D.faults old result.0 }
+    ensures later { D.faults apart.shared.group.disk ≤ D.faults result.0.disk }
+    ensures rack { result.1 ≡ length apart.hands.items }
 {
     let Apart {
         mut shared,
@@ -313,31 +316,32 @@ fn play_apart<'g, R: Wait, D: Disk + Drop, C: CacheFace + Drop, P: Policy + Drop
         journal: _,
         ended,
     } = play_with(rt, alloc, pool, shared, hands, gate);
-    settled(put_together(value, parts, room), ended)
+    let (group, rack) = put_together(value, parts, room);
+    (settled(group, ended), rack)
 }
 
 /// Plays the phase in hand to its end, each member in a thread of its own, or in this one where that hasn't come to it. Where memory was
-/// wanting, that is the group's fault.
-/// A group whose members the numbers of events can't all name is left as it is.
+/// wanting, that is the group's fault. The rack is lent to it: the members' hands lie there meanwhile.
+/// A group whose members the numbers of events can't all name, or for which the rack isn't made, is left as it is.
 pub fn play_phase<'g, R: Wait, D: Disk + Drop, C: CacheFace + Drop, P: Policy + Drop, G: Gate>(
     rt: &R,
     alloc: Global,
     pool: &mut Pool<Errand<'g, Shared<D, C, P>, G>>,
     group: Group<D, C, P>,
+    rack: &mut Rack<P>,
     gate: &'g G,
 ) -> Group<D, C, P>
     ensures runs { (result.fault ≡ Some fault.NoMemory) ⊎ RunsFrom C.directory D.alive D.contents D.faults group result }
     ensures later { D.faults group.disk ≤ D.faults result.disk }
+    ensures rack { rack.new ≡ rack.old }
 {
     let count = group.crew.parts.len();
-    if count == 0 || count > NAMED {
+    if count == 0 || count > NAMED || count != rack.count() {
         return group;
     }
-    match take_apart(alloc, group) {
-        Ok(apart) => play_apart(rt, alloc, pool, apart, gate),
-        Err((NoMemory, mut group)) => {
-            group.fault = Some(RunFault::NoMemory);
-            group
-        }
-    }
+    let lent = mem::replace(rack, Rack::empty(alloc));
+    let apart = take_apart(group, lent);
+    let (group, back) = play_apart(rt, alloc, pool, apart, gate);
+    *rack = back;
+    group
 }

@@ -9,6 +9,7 @@ ghost use Rattle.group_core.specs.Fresh.{RunsFrom};
 use crate::errand::Errand;
 use crate::gate::Gate;
 use crate::phase::{NAMED, play_phase};
+use crate::rack::Rack;
 use crate::shared::Shared;
 use cache_structure::CacheFace;
 use ds_base::NoMemory;
@@ -66,18 +67,20 @@ fn go_on<'g, R: Wait, D: Disk + Drop, C: CacheFace + Drop, P: Policy + Drop, G: 
     alloc: Global,
     pool: &mut Pool<Errand<'g, Shared<D, C, P>, G>>,
     mut group: Group<D, C, P>,
+    rack: &mut Rack<P>,
     gate: &'g G,
 ) -> (Group<D, C, P>, Result<(), NoMemory>)
     ensures runs { OnOk result.1 (RunsFrom C.directory D.alive D.contents D.faults group result.0) }
     ensures later { D.faults group.disk ≤ D.faults result.0.disk }
     ensures wanting { OnErr result.1 (result.0.fault ≡ Some fault.NoMemory) }
+    ensures rack { rack.new ≡ rack.old }
 {
     if let Some(event) = group.own_event() {
         let taken = group.step(alloc, event);
         return (group, taken);
     }
     let before = group.journal().len();
-    let mut group = play_phase(rt, alloc, pool, group, gate);
+    let mut group = play_phase(rt, alloc, pool, group, rack, gate);
     if is_wanting(&group) {
         return (group, Err(NoMemory));
     }
@@ -88,12 +91,13 @@ fn go_on<'g, R: Wait, D: Disk + Drop, C: CacheFace + Drop, P: Policy + Drop, G: 
     (group, taken)
 }
 
-// Plays the script of a group to its end, with these threads.
+// Plays the script of a group to its end, with these threads. The rack is kept from phase to phase.
 fn play_all<'g, R: Wait, D: Disk + Drop, C: CacheFace + Drop, P: Policy + Drop, G: Gate>(
     rt: &R,
     alloc: Global,
     pool: &mut Pool<Errand<'g, Shared<D, C, P>, G>>,
     group: Group<D, C, P>,
+    rack: Rack<P>,
     gate: &'g G,
 ) -> (Group<D, C, P>, Result<RunEnd, NoMemory>)
     ensures ends { IfOk result.1 (λ end. Ends end result.0) }
@@ -103,11 +107,12 @@ fn play_all<'g, R: Wait, D: Disk + Drop, C: CacheFace + Drop, P: Policy + Drop, 
     ensures wanting { OnErr result.1 (result.0.fault ≡ Some fault.NoMemory) }
 {
     let mut group = group;
+    let mut rack = rack;
     for _ in rt.forever() {
         if let Some(end) = end_of(&group) {
             return (group, end);
         }
-        let (next, taken) = go_on(rt, alloc, pool, group, gate);
+        let (next, taken) = go_on(rt, alloc, pool, group, &mut rack, gate);
         group = next;
         if let Err(NoMemory) = taken {
             return (group, Err(NoMemory));
@@ -116,11 +121,12 @@ fn play_all<'g, R: Wait, D: Disk + Drop, C: CacheFace + Drop, P: Policy + Drop, 
     unreachable!()
 }
 
-/// A group whose script is to be played.
+/// A group whose script is to be played, and the room for its members while they are out.
 #[derive(Drop)]
 struct Play<'g, D, C, P, G> {
     alloc: Global,
     group: Group<D, C, P>,
+    rack: Rack<P>,
     gate: &'g G,
 }
 
@@ -138,8 +144,13 @@ impl<'g, D: Disk + Drop, C: CacheFace + Drop, P: Policy + Drop, G: Gate> Leader<
         rt: &R,
         pool: &mut Pool<Errand<'g, Shared<D, C, P>, G>>,
     ) -> (Group<D, C, P>, Result<RunEnd, NoMemory>) {
-        let Play { alloc, group, gate } = self;
-        play_all(rt, alloc, pool, group, gate)
+        let Play {
+            alloc,
+            group,
+            rack,
+            gate,
+        } = self;
+        play_all(rt, alloc, pool, group, rack, gate)
     }
 }
 
@@ -172,8 +183,17 @@ pub fn run_threads<
     ensures later { D.faults group.disk ≤ D.faults result.0.disk }
     ensures wanting { OnErr result.1 (result.0.fault ≡ Some fault.NoMemory) }
 {
-    let threads = group.crew.parts.len().min(NAMED).saturating_sub(1);
-    match with_threads(rt, alloc, threads, Play { alloc, group, gate }) {
+    let count = group.crew.parts.len();
+    let Ok(rack) = Rack::new(alloc, count) else {
+        return (unled(group), Err(NoMemory));
+    };
+    let play = Play {
+        alloc,
+        group,
+        rack,
+        gate,
+    };
+    match with_threads(rt, alloc, count.min(NAMED).saturating_sub(1), play) {
         Ok(played) => played,
         Err((_, play)) => (unled(play.group), Err(NoMemory)),
     }

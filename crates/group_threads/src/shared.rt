@@ -1,14 +1,11 @@
-ghost use Rattle.std.specs.Prelude.{◌≡◌, ◌+◌, ◌≤◌, [], ◌++◌, length, map, reverse, vec_capacity, IfOk, IfErr};
+ghost use Rattle.std.specs.Prelude.{◌≡◌, ◌≤◌, length, map};
 ghost use Rattle.group_core.specs.Given.{unlooked};
 ghost use Rattle.group_threads.specs.Wholes.{parts_in};
 
 use crate::hand::Hand;
 use crate::members::Members;
-use ds_base::NoMemory;
+use crate::rack::{Rack, Room};
 use group_core::{Crew, Group};
-use group_member::MemberPart;
-use std::alloc::Global;
-use std::mem;
 use turn_gate::Laid;
 
 /// What the members of a group share.
@@ -24,133 +21,47 @@ pub struct Shared<D, C, P> {
     pub listening: Members,
 }
 
-/// A group that is taken apart: what its members share, each member in the hand of its thread, and the room from which they came.
+/// A group that is taken apart: what its members share, each member in the hand of its thread, and what is left of the rack.
 #[derive(Drop)]
 pub struct Apart<D, C, P> {
     pub shared: Shared<D, C, P>,
     pub hands: Vec<Laid<Hand<P>>>,
-    pub room: Vec<MemberPart<P>>,
+    pub room: Room<P>,
 }
 
-// The member in a hand.
-fn part_of<P>(hand: Hand<P>) -> MemberPart<P>
-    ensures { result ≡ hand.part }
-{
-    let Hand {
-        part,
-        concerned: _,
-        asks: _,
-    } = hand;
-    part
-}
-
-// Gives each member to a hand, the last one first. The list is left empty, with its room; where memory is wanting, it keeps those that have
-// none.
-fn hand_out<P>(
-    alloc: Global,
-    parts: &mut Vec<MemberPart<P>>,
-    mut hands: Vec<Laid<Hand<P>>>,
-) -> Result<Vec<Laid<Hand<P>>>, Vec<Laid<Hand<P>>>>
-    requires room { (hands.items ≡ []) × (length parts.old.items ≤ vec_capacity hands) }
-    ensures hands { IfOk result (λ hands. (parts_in (reverse hands.items) ≡ parts.old.items) × (parts.new.items ≡ [])) }
-    ensures refused { IfErr result (λ hands. parts.old.items ≡ parts.new.items ++ parts_in (reverse hands.items)) }
-    ensures room { vec_capacity parts.new ≡ vec_capacity parts.old }
-    ensures fits { IfErr result (λ hands. length parts.new.items + length hands.items ≤ vec_capacity parts.new) }
-{
-    while let Some(part) = parts.pop() {
-        let hand = Hand {
-            part,
-            concerned: Members::none(),
-            asks: 0,
-        };
-        match Laid::new(alloc, hand) {
-            Ok(hand) => hands.push_reserved(hand),
-            Err(hand) => {
-                parts.push_reserved(part_of(hand));
-                return Err(hands);
-            }
-        }
-    }
-    Ok(hands)
-}
-
-// Puts members back behind the others, the first one last, as they were.
-fn put_back<P>(mut hands: Vec<Laid<Hand<P>>>, parts: &mut Vec<MemberPart<P>>)
-    requires room { length parts.old.items + length hands.items ≤ vec_capacity parts.old }
-    ensures { parts.new.items ≡ parts.old.items ++ parts_in (reverse hands.items) }
-{
-    while let Some(hand) = hands.pop() {
-        parts.push_reserved(part_of(hand.into_inner()));
-    }
-    hands.destroy_empty();
-}
-
-// Takes the members back. What is ready of them has to be found again.
-fn take_back<P>(mut hands: Vec<Laid<Hand<P>>>, mut parts: Vec<MemberPart<P>>) -> Vec<MemberPart<P>>
-    requires room { (parts.items ≡ []) × (length hands.items ≤ vec_capacity parts) }
-    ensures { map unlooked result.items ≡ map unlooked (parts_in hands.items) }
-{
-    hands.reverse();
-    while let Some(hand) = hands.pop() {
-        let Hand {
-            mut part,
-            concerned: _,
-            asks: _,
-        } = hand.into_inner();
-        part.is_stale = true;
-        parts.push_reserved(part);
-    }
-    hands.destroy_empty();
-    parts
-}
-
-/// Takes a group apart: the first member's hand is the first. Want of memory hands the group back as it was.
-pub fn take_apart<D, C, P>(
-    alloc: Global,
-    mut group: Group<D, C, P>,
-) -> Result<Apart<D, C, P>, (NoMemory, Group<D, C, P>)>
-    ensures shared { IfOk result (λ r. r.shared.group ≡ record group { crew = record group.crew { parts = r.shared.group.crew.parts } }) }
-    ensures hands { IfOk result (λ r. parts_in r.hands.items ≡ group.crew.parts.items) }
-    ensures room { IfOk result (λ r. (r.room.items ≡ []) × (length r.hands.items ≤ vec_capacity r.room)) }
-    ensures err { IfErr result (λ r. (r.1 ≡ record group { crew = record group.crew { parts = r.1.crew.parts } }) × (r.1.crew.parts.items ≡ group.crew.parts.items)) }
+/// Takes a group apart, for whose members the rack has room: the first member's hand is the first. It takes no memory.
+pub fn take_apart<D, C, P>(mut group: Group<D, C, P>, rack: Rack<P>) -> Apart<D, C, P>
+    requires { length group.crew.parts.items ≡ rack }
+    ensures shared { result.shared.group ≡ record group { crew = record group.crew { parts = result.shared.group.crew.parts } } }
+    ensures hands { parts_in result.hands.items ≡ group.crew.parts.items }
+    ensures count { length result.hands.items ≡ rack }
+    ensures room { length result.hands.items ≤ result.room }
 {
     let count = group.crew.parts.len();
-    let Ok(hands) = Vec::with_capacity(alloc, count) else {
-        return Err((NoMemory, group));
-    };
-    let mut room = mem::replace(&mut group.crew.parts, Vec::new(alloc));
-    let mut hands = match hand_out(alloc, &mut room, hands) {
-        Ok(hands) => hands,
-        Err(hands) => {
-            put_back(hands, &mut room);
-            let none = mem::replace(&mut group.crew.parts, room);
-            none.destroy_empty();
-            return Err((NoMemory, group));
-        }
-    };
-    hands.reverse();
+    let (hands, room) = rack.hand_out(&mut group.crew.parts);
     let shared = Shared {
         group,
         count,
         stale: Members::all(),
         listening: Members::all(),
     };
-    Ok(Apart {
+    Apart {
         shared,
         hands,
         room,
-    })
+    }
 }
 
-/// Puts a group together again. It takes no memory.
-pub fn put_together<D, C, P: Drop>(
+/// Puts a group together again, and gives the rack back. It takes no memory.
+pub fn put_together<D, C, P>(
     shared: Shared<D, C, P>,
     hands: Vec<Laid<Hand<P>>>,
-    room: Vec<MemberPart<P>>,
-) -> Group<D, C, P>
-    requires room { (room.items ≡ []) × (length hands.items ≤ vec_capacity room) }
-    ensures rest { result ≡ record shared.group { crew = record shared.group.crew { parts = result.crew.parts } } }
-    ensures parts { map unlooked result.crew.parts.items ≡ map unlooked (parts_in hands.items) }
+    room: Room<P>,
+) -> (Group<D, C, P>, Rack<P>)
+    requires { length hands.items ≤ room }
+    ensures rest { result.0 ≡ record shared.group { crew = record shared.group.crew { parts = result.0.crew.parts } } }
+    ensures parts { map unlooked result.0.crew.parts.items ≡ map unlooked (parts_in hands.items) }
+    ensures rack { result.1 ≡ length hands.items }
 {
     let Shared {
         group,
@@ -168,7 +79,7 @@ pub fn put_together<D, C, P: Drop>(
     } = group;
     let Crew {
         facility,
-        parts: _,
+        parts: none,
         script,
         progress,
         restart,
@@ -177,11 +88,12 @@ pub fn put_together<D, C, P: Drop>(
         was_half,
         sizes,
     } = crew;
-    Group {
+    let (parts, rack) = room.take_back(hands, none);
+    let group = Group {
         disk,
         crew: Crew {
             facility,
-            parts: take_back(hands, room),
+            parts,
             script,
             progress,
             restart,
@@ -194,5 +106,6 @@ pub fn put_together<D, C, P: Drop>(
         lines,
         faults,
         fault,
-    }
+    };
+    (group, rack)
 }
