@@ -23,9 +23,8 @@ use ds_disk::Disk;
 use group_core::{Group, Policy, RunFault};
 use standing_threads::Pool;
 use std::alloc::Global;
-use std::mem;
 use std::sync::{Arc, Wait};
-use std::thread;
+use std::{mem, thread};
 use turn_gate::{Journal, Laid};
 use turn_story::{Closed, Desk, Phase, Room};
 
