@@ -11,7 +11,8 @@ ghost use Rattle.lock_events.specs.Standings.{StandingsStay};
 use lock_intents::{claims_go, closings_go, homes_go, queries_go};
 use lock_protocol::keeps_sound;
 use lock_world::groups_begin;
-use marks_law::{claims_stay, slots_stay};
+use marks_law::claims_stay;
+pub use marks_law::{free_slots_stay, slots_stay};
 use needs_law::sends_lawfully;
 
 /// An event of a member that is up leads to a world that stands beside what is left, and the member is still up. So does what it is
@@ -46,5 +47,3 @@ pub fn commands_stay()
 {
     groups_begin();
 }
-
-pub use marks_law::{free_slots_stay, slots_stay};

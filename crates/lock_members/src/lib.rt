@@ -5,7 +5,8 @@
 
 ghost use Rattle.lock_members.specs.Members.{FailuresGo, StepsGo, StepsKeepFree};
 
-use lock_events::{commands_stay, events_go, free_slots_stay, slots_stay, standings_stay};
+use lock_events::{free_slots_stay, slots_stay, standings_stay};
+pub use lock_events::{commands_stay, events_go};
 use lock_world::failures_are_moves;
 
 /// Each event of a member that is up, in which it doesn't fail, is moves: its own, with the fates of its transactions entered, or that of
@@ -32,5 +33,3 @@ pub fn members_keep_free()
 {
     free_slots_stay();
 }
-
-pub use lock_events::{commands_stay, events_go};

@@ -7,7 +7,8 @@
 ghost use Rattle.strict_locking.specs.Keeping.{ChangesLock, EventsKeep, MovesKeep};
 
 use lock_world::{books_change, books_tell, rollbacks_change};
-use marks_law::{slots_stay, transactions_stay};
+pub use marks_law::slots_stay;
+use marks_law::transactions_stay;
 use needs_law::sends_lawfully;
 
 /// In an event of a member each row that a transaction has locked in X, with its table space, stays locked by that transaction, if it isn't
@@ -25,5 +26,3 @@ pub fn locks_stay()
     transactions_stay();
     sends_lawfully();
 }
-
-pub use marks_law::slots_stay;
