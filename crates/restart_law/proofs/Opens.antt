@@ -30,6 +30,7 @@ Keeps s t = OpensStand s → OpensStand t
 pub record Near (s t : RestartState) : Type 0 where
   pub member : t.member ≡ s.member
   pub idle : s.trans ≡ no_trans → t.log.pending ≡ s.log.pending
+  pub own : t.own ≡ s.own
   pub read : t.own.is_read ≡ s.own.is_read
   pub reader : t.own.reader ≡ s.own.reader
   pub records : t.own.records ≡ s.own.records
@@ -43,6 +44,7 @@ pub near : (s : RestartState) → Near s s
 near s = record {
   member = refl;
   idle = λ _. refl;
+  own = refl;
   read = refl;
   reader = refl;
   records = refl;
@@ -58,6 +60,7 @@ near_on s t u a b = record {
   member = b.member ∙ a.member;
   idle = λ e. b.idle (a.none e) ∙ a.idle e;
   none = λ e. b.none (a.none e);
+  own = b.own ∙ a.own;
   read = b.read ∙ a.read;
   reader = b.reader ∙ a.reader;
   records = b.records ∙ a.records;
@@ -100,6 +103,7 @@ mark_names : (s : RestartState) (n : Name) (b : Bool) → s.own.is_read ≡ true
 mark_names s n b read = record {
   member = refl;
   idle = λ _. refl;
+  own = refl;
   read = refl;
   reader = refl;
   records = refl;
@@ -131,6 +135,7 @@ pub purges : (s : RestartState) (n : Name) → Near s (record s { names = purged
 purges s n = record {
   member = refl;
   idle = λ _. refl;
+  own = refl;
   read = refl;
   reader = refl;
   records = refl;
@@ -154,6 +159,7 @@ pub trans_near : (s t : RestartState) → t.member ≡ s.member → (s.trans ≡
 trans_near s t member idle own names none l = record {
   member = member;
   idle = idle;
+  own = own;
   read = ap (λ (z : OwnState). z.is_read) own;
   reader = ap (λ (z : OwnState). z.reader) own;
   records = ap (λ (z : OwnState). z.records) own;

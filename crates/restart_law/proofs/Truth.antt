@@ -32,7 +32,7 @@ use Rattle.restart_marks.specs.Reading.{judged_after, log_from, read_after, read
 use Rattle.restart_marks.specs.State.{RestartState, with_hand, with_own}
 use Rattle.restart_records.specs.Own.{HasNewReader, OwnState, own_with}
 use Rattle.restart_law.specs.Opens.{OpensStand}
-use Rattle.restart_law.specs.Reads.{AreLast, IsKnown, ReadsBegin, ReadsFront, ReadsStay, ReadsTrue, StillReads, TellsLog}
+use Rattle.restart_law.specs.Reads.{AreLast, IsKnown, ReadsBegin, ReadsFront, ReadsStay, ReadsTrue, ReadsWhole, StillReads, TellsLog, WholeIsRead}
 use Rattle.ds_base.specs.declared.names.PageId.{PageId}
 use Rattle.ds_model.specs.declared.lock.Name.TheVariants as name
 use Rattle.facility.specs.declared.command.Command.{Command}
@@ -184,7 +184,7 @@ fits_released : (s : RestartState) (x : RestartSent) (p : Option PageId) → rel
 fits_released s x None e = absurd (err_ok test.NotClaimed x (Err test.NotClaimed) refl e)
 fits_released s x (Some page) e = fits_as s (unchanged_test s page) (sent.Command (command.Release (name.Page page) (record { share = false; exclusive = false }))) x tt e
 
-fits_read : (s : RestartState) (i : RestartIntent) (x : RestartSent) → need_of s i ≡ Ok x → FitsRead s x
+pub fits_read : (s : RestartState) (i : RestartIntent) (x : RestartSent) → need_of s i ≡ Ok x → FitsRead s x
 fits_read s intent.Step x e = fits_ok s sent.None x tt e
 fits_read s intent.ReadLog x e =
     let first : Tested = when (not s.own.is_read) test.AlreadyRead passed in
@@ -420,6 +420,120 @@ pub reads_stay : OpenTell → Laws → ReadsStay
 reads_stay law laws bytes u v h k x a e well o st =
     let mid : StillReads bytes v.drive e.after.marks = runs_true laws bytes u v h e.after e.intent x a e.said e.lawful well (fits_read h.marks e.intent x e.lawful) o st e.runs in
     still_as bytes v.drive v.drive e.after.marks k.marks refl (locals e.after.marks k.marks e.ends.0) (runs_keep law u v h e.after e.intent x a e.said e.lawful e.runs o) mid
+
+-- ---- the event in which it is read
+
+-- so it is where the log is read
+abbrev ReadsThen : List ℕ → RestartState → Type 0
+ReadsThen bytes t = t.own.is_read ≡ true → ReadsWhole bytes t.own
+
+still_unread : (bytes : List ℕ) (t : RestartState) → t.own.is_read ≡ false → ReadsThen bytes t
+still_unread bytes t unread read = absurd (both_ways t.own.is_read unread read)
+
+judged_whole : (bytes : List ℕ) (s : RestartState) (m start : ℕ) (p : Parts) (o : Option Damaged) → s.own.is_read ≡ false → AreWhole (take start bytes) → MayBegin start (drop start bytes) → parts_in (drop start bytes) ≡ Ok p
+    → ReadsThen bytes (judged_after s (log_from m (record { records = p.records; size = start + p.size; tail = p.tail })) o)
+judged_whole bytes s m start p None unread whole begins is read = record { last = record { start = start; whole = whole; begins = begins; parts = p; told = is; are = refl }; long = refl; tail = refl }
+judged_whole bytes s m start p (Some d) unread whole begins is read = still_unread bytes s unread read
+
+parts_whole : (bytes : List ℕ) (s : RestartState) (m start : ℕ) (x : Result Parts ℕ) → s.own.is_read ≡ false → AreWhole (take start bytes) → MayBegin start (drop start bytes) → parts_in (drop start bytes) ≡ x → ReadsThen bytes (whole_after s m (parts_behind start x))
+parts_whole bytes s m start (Err at) unread whole begins is = still_unread bytes s unread
+parts_whole bytes s m start (Ok p) unread whole begins is =
+    let log : Log = log_from m (record { records = p.records; size = start + p.size; tail = p.tail }) in
+    judged_whole bytes s m start p (log_damage (log ∷ [])) unread whole begins is
+
+reader_whole : (bytes : List ℕ) (s : RestartState) (member : ℕ) (q : ReaderState) → s.own.is_read ≡ false → ReadsFront member bytes q → ReadsThen bytes (read_after s q)
+reader_whole bytes s member q unread f = by (is_whole q) refl
+  where
+    by : (b : Bool) → is_whole q ≡ b → ReadsThen bytes (if b then whole_after s q.member (parts_read q) else with_own s (own_with s.own (Some q)))
+    by true whole =
+        let all : q.held.bytes ≡ drop q.held.start bytes = all_held bytes q.held f.stands.kept (read_to_end member bytes q f whole) in
+        parts_whole bytes s q.member q.held.start (parts_in q.held.bytes) unread f.stands.kept.before f.begins (ap (λ (z : List ℕ). parts_in z) (sym all))
+    by false more = still_unread bytes (with_own s (own_with s.own (Some q))) unread
+
+replied_whole : (bytes : List ℕ) (s : RestartState) (o : Option ReaderState) (answer : LogReply) → s.own.is_read ≡ false → IfSome o (λ r. ReadsFront s.member bytes (after_reply r answer)) → ReadsThen bytes (reader_after s o answer)
+replied_whole bytes s None answer unread f = still_unread bytes s unread
+replied_whole bytes s (Some r) answer unread f = reader_whole bytes (with_own s (own_with s.own None)) s.member (after_reply r answer) unread f
+
+length_whole : Laws → (bytes : List ℕ) (w v : Drive) (h k : Held) (a : Answered) (said : RestartTold) → a ≢ answered.Failed → h.marks.own.is_read ≡ false → StillReads bytes w h.marks → RunsCall w h sent.LogLength a said v k → ReadsThen bytes k.marks
+length_whole laws bytes w v h k a said well unread st r =
+    let g = was_got r.after k sent.LogLength r.done a said well r.stores in
+    let l = st.tells unread in
+    let ok = ok_at _ r.done g.got g.ok r.calls.0.ok in
+    let t = told_after w.contents v.contents l.contents _ l.told ok.2 in
+    let told : g.got ≡ got.Length (length bytes) = t.2.1 ∙ ap (λ (z : List ℕ). got.Length (length z)) l.log in
+    let marks : k.marks ≡ read_on_after h.marks (logged.Length (length bytes)) =
+    ap (λ (z : Held). z.marks) g.is ∙ (ap (λ (z : Got). (got_after r.after sent.LogLength z).marks) told ∙ ap (λ (z : Held). read_on_after z.marks (logged.Length (length bytes))) r.calls.1) in
+    subst (ReadsThen bytes) (sym marks) (replied_whole bytes h.marks h.marks.own.reader (logged.Length (length bytes)) unread (by h.marks.own.reader (st.reads.reading unread)))
+  where
+    by : (o : Option ReaderState) → IfSome o (ReadsFront h.marks.member bytes) → IfSome o (λ r. ReadsFront h.marks.member bytes (after_reply r (logged.Length (length bytes))))
+    by None f = f
+    by (Some reader) f = front_length laws h.marks.member bytes reader f
+
+block_whole : Laws → (bytes : List ℕ) (w v : Drive) (h after k : Held) (at count : ℕ) (done : Result Got DiskError) (o : Option ReaderState) → h.marks.own.reader ≡ o → h.marks.own.is_read ≡ false → next_in o ≡ Some (call.Read at count) → StillReads bytes w h.marks
+    → ReadsBy o w h at count done v after → WasGot after k (sent.ReadLog at count) done → ReadsThen bytes k.marks
+block_whole laws bytes w v h after k at count done None there unread next st r g = absurd cc
+block_whole laws bytes w v h after k at count done (Some reader) there unread next st r g = by g.got g.ok g.is
+  where
+    front : ReadsFront h.marks.member bytes reader
+    front = subst (λ (z : Option ReaderState). IfSome z (ReadsFront h.marks.member bytes)) there (st.reads.reading unread)
+
+    l : TellsLog w h.marks.member bytes
+    l = st.tells unread
+
+    mid : RestartState
+    mid = (with_reader h (with_block reader r.block)).marks
+
+    counted : (n : ℕ) → done ≡ Ok (got.Count n) → k ≡ got_after after (sent.ReadLog at count) (got.Count n) → ReadsThen bytes k.marks
+    counted n ok is =
+        let good = ok_at _ done (got.Count n) ok r.reads.ok in
+        let t = told_after w.contents v.contents l.contents _ l.told good.2 in
+        let few : n ≡ min (min count block_size) (length bytes - at) = t.2.1.0 ∙ ap (λ (z : List ℕ). min (min count block_size) (length z - at)) l.log in
+        let same : take n r.block ≡ take n (drop at bytes) = t.2.1.1 ∙ ap (λ (z : List ℕ). take n (drop at z)) l.log in
+        let marks : k.marks ≡ read_on_after mid (logged.Count n) = ap (λ (z : Held). z.marks) is ∙ ap (λ (z : Held). read_on_after z.marks (logged.Count n)) r.held in
+        subst (ReadsThen bytes) (sym marks)
+        (replied_whole bytes mid (Some (with_block reader r.block)) (logged.Count n) unread (front_count laws h.marks.member bytes reader r.block n at count st.are front (same_call (next_call reader) (call.Read at count) next) few same))
+
+    other : (x : Got) → done ≡ Ok x → (IsCount x (λ n. (n ≡ min (min count block_size) (length (log_of l.contents.logs h.marks.member) - at)) × (take n r.block ≡ take n (drop at (log_of l.contents.logs h.marks.member)))) → ⊥) → ReadsThen bytes k.marks
+    other x ok never =
+        let good = ok_at _ done x ok r.reads.ok in
+        let t = told_after w.contents v.contents l.contents _ l.told good.2 in
+        absurd (never t.2.1)
+
+    by : (x : Got) → done ≡ Ok x → k ≡ got_after after (sent.ReadLog at count) x → ReadsThen bytes k.marks
+    by got.Done ok is = other got.Done ok (λ e. e)
+    by (got.Length n) ok is = other (got.Length n) ok (λ e. e)
+    by (got.Count n) ok is = counted n ok is
+
+-- what doesn't read it leaves it unread
+same_unread : (bytes : List ℕ) (s t : RestartState) → t.own.is_read ≡ s.own.is_read → s.own.is_read ≡ false → ReadsThen bytes t
+same_unread bytes s t same unread = still_unread bytes t (same ∙ unread)
+
+page_unread : (bytes : List ℕ) (w v : Drive) (h k : Held) (page : PageId) (a : Answered) (said : RestartTold) → a ≢ answered.Failed → OpensStand h.marks → StillReads bytes w h.marks → h.marks.own.is_read ≡ false → RunsCall w h (sent.ReadPage page) a said v k → ReadsThen bytes k.marks
+page_unread bytes w v h k page a said well o st unread r =
+    let g = was_got r.after k (sent.ReadPage page) r.done a said well r.stores in
+    let l = st.tells unread in
+    let ok = ok_at _ r.done g.got g.ok r.calls.0.ok in
+    let t = told_after w.contents v.contents l.contents _ l.told ok.2 in
+    let marks : k.marks ≡ with_hand r.after.marks (filled_after r.after.marks.hand) = ap (λ (z : Held). z.marks) g.is ∙ ap (λ (z : Got). (got_after r.after (sent.ReadPage page) z).marks) t.2.0 in
+    same_unread bytes h.marks k.marks (ap (λ (z : RestartState). z.own.is_read) marks ∙ ap (λ (z : Held). z.marks.own.is_read) r.calls.1) unread
+
+runs_whole : Laws → (bytes : List ℕ) (u v : World) (h k : Held) (i : RestartIntent) (x : RestartSent) (a : Answered) (said : RestartTold) → need_of h.marks i ≡ Ok x → a ≢ answered.Failed → FitsRead h.marks x → OpensStand h.marks → StillReads bytes u.drive h.marks → h.marks.own.is_read ≡ false → Runs u h i x a said v k
+    → ReadsThen bytes k.marks
+runs_whole laws bytes u v h k i sent.None a said lawful well fits o st unread r = same_unread bytes h.marks k.marks (ap (λ (z : Held). z.marks.own.is_read) r.held) unread
+runs_whole laws bytes u v h k i (sent.Command c) a said lawful well fits o st unread r =
+    let near : Near h.marks (settled r.0.after i r.0.answer).marks = from_marks h r.0.after i (sent.Command c) r.0.answer (same_marks h r.0.after (is_hand h c) (lent_bytes r.0.after (is_hand h c)) r.0.gives.executed.back) lawful in
+    same_unread bytes h.marks k.marks (ap (λ (z : Held). z.marks.own.is_read) r.0.settles ∙ near.read) unread
+runs_whole laws bytes u v h k i sent.LogLength a said lawful well fits o st unread r = length_whole laws bytes u.drive v.drive h k a said well fits st r.0
+runs_whole laws bytes u v h k i (sent.ReadLog at count) a said lawful well fits o st unread r =
+    block_whole laws bytes u.drive v.drive h r.0.after k at count r.0.done h.marks.own.reader refl fits.0 fits.1 st r.0.calls (was_got r.0.after k (sent.ReadLog at count) r.0.done a said well r.0.stores)
+runs_whole laws bytes u v h k i (sent.CutLog long) a said lawful well fits o st unread r = absurd (both_ways h.marks.own.is_read unread fits)
+runs_whole laws bytes u v h k i sent.AppendLog a said lawful well fits o st unread r = absurd (both_ways h.marks.own.is_read unread (read_then h.marks bytes st.reads fits))
+runs_whole laws bytes u v h k i (sent.ReadPage page) a said lawful well fits o st unread r = page_unread bytes u.drive v.drive h k page a said well o st unread r.0
+
+pub whole_is_read : Laws → WholeIsRead
+whole_is_read laws bytes u v h k x a e well o st unread read =
+    let near : Near e.after.marks k.marks = locals e.after.marks k.marks e.ends.0 in
+    subst (ReadsWhole bytes) (sym near.own) (runs_whole laws bytes u v h e.after e.intent x a e.said e.lawful well (fits_read h.marks e.intent x e.lawful) o st unread e.runs (sym near.read ∙ read))
 
 -- ---- the begin
 pub reads_begin : NothingStands → ReadsBegin

@@ -1,5 +1,5 @@
 -- The log that a restart reads, beside the one that the disk tells.
-use Rattle.std.specs.Prelude.{◌≡◌, ◌≢◌, ℕ, true, false, List, [], ◌++◌, length, take, drop, Some, Ok, IfSome}
+use Rattle.std.specs.Prelude.{◌≡◌, ◌≢◌, ℕ, ◌+◌, true, false, List, [], ◌++◌, length, take, drop, Some, Ok, IfSome}
 use Rattle.ds_disk.specs.Contents.{Contents, log_of}
 use Rattle.ds_model.specs.declared.log.LogRecord.{LogRecord}
 use Rattle.log_reader.specs.Keeping.{AreBytes, AreWhole}
@@ -9,6 +9,7 @@ use Rattle.log_starts.specs.Starts.{BeginsIn, MayBegin}
 use Rattle.log_record.specs.Logs.{Parts, parts_in}
 use Rattle.member_intents.specs.declared.outcome.Answered.{Answered}
 use Rattle.member_intents.specs.declared.outcome.Answered.TheVariants as answered
+use Rattle.restart_records.specs.Own.{OwnState}
 use Rattle.restart_marks.specs.declared.intent.RestartSent.{RestartSent}
 use Rattle.restart_marks.specs.State.{IsFresh, RestartState}
 use Rattle.restart_resources.specs.Calls.{Drive}
@@ -76,3 +77,14 @@ pub record StillReads (bytes : List ℕ) (drive : Drive) (s : RestartState) : Ty
 
 abbrev pub ReadsStay : Type 0
 ReadsStay = (bytes : List ℕ) (u v : World) (h k : Held) (x : RestartSent) (a : Answered) → Happens u h x a v k → a ≢ answered.Failed → OpensStand h.marks → StillReads bytes u.drive h.marks → StillReads bytes v.drive k.marks
+
+-- what was read are the last records of the bytes, and it is told up to which byte they go, and how many bytes follow
+pub record ReadsWhole (bytes : List ℕ) (o : OwnState) : Type 0 where
+  pub last : AreLast bytes o.records
+  pub long : o.long ≡ last.start + last.parts.size
+  pub tail : o.tail ≡ last.parts.tail
+
+-- behind the event in which the log is read
+abbrev pub WholeIsRead : Type 0
+WholeIsRead = (bytes : List ℕ) (u v : World) (h k : Held) (x : RestartSent) (a : Answered)
+    → Happens u h x a v k → a ≢ answered.Failed → OpensStand h.marks → StillReads bytes u.drive h.marks → h.marks.own.is_read ≡ false → k.marks.own.is_read ≡ true → ReadsWhole bytes k.marks.own

@@ -15,7 +15,7 @@ ghost use Rattle.restart_law.specs.Opens.{
   PurgesSpare,
   PurgesSpareLeft,
 };
-ghost use Rattle.restart_law.specs.Reads.{NothingKnown, ReadsBegin, ReadsStay, WholeKnown};
+ghost use Rattle.restart_law.specs.Reads.{NothingKnown, ReadsBegin, ReadsStay, WholeIsRead, WholeKnown};
 
 use checkpoint_reader::reader_laws;
 use log_rows::{both_tell, open_trans_tell};
@@ -53,6 +53,14 @@ pub fn reads_true()
     reader_laws();
     replies_begin();
     open_trans_tell();
+}
+
+/// And in the event in which it is read, the restart knows up to which byte the whole records of the log go, and how many bytes follow them.
+pub fn whole_is_read()
+    ensures { WholeIsRead }
+{
+    reader_laws();
+    replies_begin();
 }
 
 /// Once the log is read, the restart's transactions stay the same, and one that is over stays so; where it is read, they are those that it
