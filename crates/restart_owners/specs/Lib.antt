@@ -1,0 +1,4 @@
+pub mod Owners
+pub mod Listing
+pub mod Events
+pub mod Ends
