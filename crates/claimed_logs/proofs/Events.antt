@@ -1,0 +1,316 @@
+-- The logs of a group behind an event of a member, in which no call of the disk has failed.
+use Rattle.std.proofs.Common.{◌≡◌, ℕ, zero, suc, ◌+◌, ◌≤◌, ◌<◌, refl, sym, ◌∙◌, ap, subst, arith, Bool, true, false, inl, inr, List, [], ◌∷◌, length, Option, Some, None}
+use Rattle.std.specs.Prelude.{◌≢◌, ◌⊎◌, ◌-◌, ◌==◌, not, IfSome, nat_lt, slice_get, slice_index_or, slice_set}
+use Rattle.std.proofs.lemmas.Bool.{eqb-true, lt-ltb}
+use Rattle.std.proofs.lemmas.Option.{slice_get_within}
+use Rattle.ds_base.specs.Ids.{IsMember}
+use Rattle.ds_disk.specs.Contents.{Becomes, Contents, log_of}
+use Rattle.facility.specs.States.{Held as Facility}
+use Rattle.list_structure.specs.declared.standing.MemberStatus.{MemberStatus}
+use Rattle.list_structure.specs.declared.standing.MemberStatus.TheVariants.{Down, Restarting, Up}
+use Rattle.list_structure.specs.Standings.{is_live, status_of}
+use Rattle.log_numbers.specs.Numbers.{CommandsCount}
+use Rattle.member_intents.specs.declared.outcome.Answered.{Answered}
+use Rattle.member_intents.specs.declared.outcome.Answered.TheVariants as answered
+use Rattle.member_resources.specs.Events.{Drive, World as Resources}
+use Rattle.restart_marks.specs.declared.intent.RestartIntent.{RestartIntent}
+use Rattle.restart_marks.specs.declared.intent.RestartSent.{RestartSent}
+use Rattle.restart_marks.specs.declared.intent.RestartSent.TheVariants as sent
+use Rattle.restart_marks.specs.declared.told.RestartTold.{RestartTold}
+use Rattle.restart_law.specs.Reads.{TellsLog as TellsRead}
+use Rattle.restart_resources.specs.Events as event
+use Rattle.restart_resources.specs.Held.{Held}
+use Rattle.restart_resources.specs.Lending.{is_hand, lent_bytes}
+use Rattle.lock_protocol.specs.Machine.{World}
+use Rattle.lock_members.specs.Known.{KnowsOwn, LeadsTo}
+use Rattle.lock_members.specs.Members.{MemberIsUp, StepsGo}
+use Rattle.lock_restarts.specs.Changes.{gone_by}
+use Rattle.lock_restarts.specs.Courses.{Follows, IsInOrder, RestartsFollow, Sets, StandingsFollow}
+use Rattle.lock_restarts.specs.Stands.{Spares}
+use Rattle.left_open.specs.Logs.{LogLocked, TellsLog}
+use Rattle.group_member.specs.declared.restarting.Restarting.{Restarting as RestartHeld}
+use Rattle.group_member.specs.declared.stepped.Stepped.TheVariants as steps
+use Rattle.group_member.specs.Happening.{GoesOn, RestartEnds, RestartGoesOn, as_restarting}
+use Rattle.group_member.specs.Members.{Member}
+use Rattle.group_member.specs.Stepping.{is_failure}
+use Rattle.group_core.specs.Given.{CrewState}
+use Rattle.group_logs.specs.Changes.{MadeGo}
+use Rattle.group_logs.specs.Logs.{IsNumbered, LogGoes, OneGoes}
+use Rattle.group_locks.specs.Events.{Moves, MovesSpare, OfMember}
+use Rattle.group_locks.specs.Stands.{LocksTied, MemberStands, RestartInHand, RestartStands, known, known_by}
+use Rattle.claimed_logs.specs.Events.{RestartEventsLogged, UpEventsLogged}
+use Rattle.claimed_logs.specs.Logs.{MemberLogged, OneLogged, RestartLogged, UpLogged}
+use Rattle.claimed_logs.specs.Steps.{HandedLogged, RestartStepsLogged, StillLogged, UpStepsLogged}
+
+pub record Facts : Type 0 where
+  pub one : OneLogged
+  pub spare : MovesSpare
+  pub made : MadeGo
+  pub up : UpStepsLogged
+  pub members : StepsGo
+  pub restart : RestartStepsLogged
+  pub handed : HandedLogged
+  pub follow : RestartsFollow
+  pub standings : StandingsFollow
+  pub commands : CommandsCount
+
+never : true ≡ false → ⊥
+never e = cc
+
+-- ---- places and numbers
+index : (k : ℕ) → k + 1 - 1 ≡ k
+index k = omega arith
+
+from_one : (k : ℕ) → 1 ≤ k + 1
+from_one k = omega arith
+
+other : (k at : ℕ) → k ≢ at → k + 1 ≢ at + 1
+other k at ne e = ne (omega (arith, e))
+
+apart : (k n : ℕ) → k ≢ n → not (k == n) ≡ true
+apart k n ne = by (k == n) refl
+  where
+    by : (b : Bool) → (k == n) ≡ b → not b ≡ true
+    by true e = absurd (ne (eqb-true k n e))
+    by false e = refl
+
+within : (ms : List Member) (at : ℕ) (m : Member) (logs : List (List ℕ)) → slice_get ms at ≡ Some m → length ms ≤ length logs → nat_lt (at + 1 - 1) (length logs) ≡ true
+within ms at m logs had few = let a : at < length ms = slice_get_within ms at m had in lt-ltb (at + 1 - 1) (length logs) (omega (arith, a, few))
+
+-- ---- what a disk tells of a log is one thing
+one_told : (log : List ℕ) (drive : Drive) (member : ℕ) (d : Contents) → TellsLog log drive member → drive.contents ≡ Some d → log_of d.logs member ≡ log
+one_told log drive member d tells is =
+    let same : d ≡ tells.contents = let both : Some d ≡ Some tells.contents = sym is ∙ tells.told in cc in
+    ap (λ (z : Contents). log_of z.logs member) same ∙ tells.bytes
+
+goes_told : (before after : Option Contents) (c d : Contents) (P : Contents → Contents → Type 0) → before ≡ Some c → after ≡ Some d → Becomes before after P → P c d
+goes_told before after c d P told left h = subst (λ (z : Option Contents). Becomes (Some c) z P) left (subst (λ (z : Option Contents). Becomes z after P) told h)
+
+-- ---- standings
+set_apart : (xs : List MemberStatus) (i j : ℕ) (a : MemberStatus) → j ≢ i → slice_index_or (slice_set xs i a) j Down ≡ slice_index_or xs j Down
+set_apart [] i j a ne = refl
+set_apart (x ∷ xs) zero zero a ne = absurd (ne refl)
+set_apart (x ∷ xs) zero (suc j) a ne = refl
+set_apart (x ∷ xs) (suc i) zero a ne = refl
+set_apart (x ∷ xs) (suc i) (suc j) a ne = set_apart xs i j a (λ e. ne (ap suc e))
+
+set_live : (xs : List MemberStatus) (i : ℕ) (a : MemberStatus) → is_live (slice_index_or xs i Down) ≡ true → slice_index_or (slice_set xs i a) i Down ≡ a
+set_live [] i a e = absurd (never (sym e))
+set_live (x ∷ xs) zero a e = refl
+set_live (x ∷ xs) (suc i) a e = set_live xs i a e
+
+-- ---- a member that is up
+pub up_events : Facts → UpEventsLogged
+up_events facts c d old new at m n w t e ok told left moves l = facts.one c d old new w moves.world at n t l
+    (record {
+      has = e.has;
+      members = e.count;
+      others = e.others;
+      logs = goes.count;
+      left = λ k ne. goes.others (k + 1) (from_one k) (other k at ne);
+      counter = step.rises;
+      statuses = λ k ne. ap (λ (z : List MemberStatus). status_of z (k + 1)) standings;
+      claims = λ k o q ne. facts.spare (OfMember m.id) old new w moves (k + 1) o q (apart (k + 1) m.id (λ z. other k at ne (z ∙ stood.id)));
+    })
+    (record {
+      up = λ _. record { pend = step.logged.pend; locked = subst (λ (z : List ℕ). LogLocked z step.logged.pend n.holds.marks) (sym log_is) step.logged.locked; counted = step.logged.counted };
+      restarts = subst (λ (z : Option RestartHeld). IfSome z (λ q. RestartLogged (log_of d.logs (at + 1)) moves.world q.resources.marks)) (sym (stood_now.up now_up)) tt;
+      down = λ dead. absurd (never (sym (ap is_live now_up) ∙ dead));
+    })
+  where
+    stood : MemberStands old.facility (at + 1) m
+    stood = subst (λ (z : Option Member). IfSome z (MemberStands old.facility (at + 1))) e.had (t.stands at)
+
+    tied : LocksTied new moves.world
+    tied = moves.tied
+
+    stood_now : MemberStands new.facility (at + 1) n
+    stood_now = subst (λ (z : Option Member). IfSome z (MemberStands new.facility (at + 1))) e.has (tied.stands at)
+
+    before : MemberLogged old.facility w (at + 1) (log_of c.logs (at + 1)) m
+    before = subst (λ (z : Option Member). IfSome z (MemberLogged old.facility w (at + 1) (log_of c.logs (at + 1)))) e.had (l.each at)
+
+    was_up : status_of old.facility.lists.statuses (at + 1) ≡ Up
+    was_up = ap (λ (z : ℕ). status_of old.facility.lists.statuses z) (sym stood.id) ∙ e.up
+
+    rests : m.restart ≡ None
+    rests = stood.up was_up
+
+    u : Resources
+    u = record { facility = old.facility; drive = e.drive }
+
+    v : Resources
+    v = record { facility = new.facility; drive = e.left }
+
+    tells : TellsLog (log_of c.logs (at + 1)) e.drive m.holds.marks.member
+    tells = subst (λ (k : ℕ). TellsLog (log_of c.logs (at + 1)) e.drive k) (sym stood.member) (record { contents = c; told = told; there = within old.members at m c.logs e.had l.there; bytes = refl })
+
+    step : StillLogged e.left old.facility.counter new.facility.counter n.holds.marks
+    step = facts.up (log_of c.logs (at + 1)) m n u v old.fates new.fates e.place e.stepped e.steps ok rests (subst (λ (k : ℕ). 1 ≤ k) (sym stood.member) (from_one at)) (stood_now.member ∙ sym stood.member) tells (before.up was_up)
+
+    log_is : log_of d.logs (at + 1) ≡ step.log
+    log_is = ap (λ (k : ℕ). log_of d.logs k) (sym stood_now.member) ∙ one_told step.log e.left n.holds.marks.member d step.tells left
+
+    numbered : IsNumbered (at + 1) m
+    numbered = record { own = stood.member; restart = subst (λ (z : Option RestartHeld). IfSome z (λ q. q.resources.marks.member ≡ at + 1)) (sym rests) tt }
+
+    goes : OneGoes (at + 1) (LogGoes m e.stepped) c d
+    goes = goes_told e.drive.contents e.left.contents c d (OneGoes (at + 1) (LogGoes m e.stepped)) told left (facts.made (at + 1) m e.steps.mid u v e.place e.stepped e.steps.makes (from_one at) numbered)
+
+    -- ---- the standings
+    among : at + 1 ≤ old.facility.lists.members
+    among = let a : at < length old.members = slice_get_within old.members at m e.had in let count = t.count in omega (arith, a, count)
+
+    is_up : MemberIsUp old.facility m
+    is_up = record {
+      up = record {
+        member = subst IsMember (sym stood.member) (from_one at, (let a = among in let few = t.few in omega (arith, a, few)));
+        among = subst (λ (z : ℕ). z ≤ old.facility.lists.members) (sym stood.member) among;
+        few = t.few;
+        up = ap (λ (z : ℕ). status_of old.facility.lists.statuses z) stood.member ∙ was_up;
+        size = stood.size;
+        book = stood.book;
+      };
+      id = stood.member ∙ sym stood.id;
+      slots = stood.slots;
+      rests = rests;
+    }
+
+    next : (k : ℕ) → k ≡ at → suc k ≡ m.id
+    next k same = let id = stood.id in omega (arith, same, id)
+
+    knows : KnowsOwn (known old.members) m
+    knows o q = ap (λ (z : ℕ). known old.members z o q) (sym (next at refl)) ∙ ap (λ (z : Option Member). known_by z o q) e.had
+
+    others : (k o q : ℕ) → k ≢ m.id → known new.members k o q ≡ known old.members k o q
+    others zero o q ne = refl
+    others (suc k) o q ne = ap (λ (z : Option Member). known_by z o q) (e.others k (λ same. ne (next k same)))
+
+    leads : LeadsTo (known old.members) (known new.members) m n
+    leads = record {
+      others = others;
+      own = λ o q. ap (λ (z : ℕ). known new.members z o q) (sym (next at refl)) ∙ ap (λ (z : Option Member). known_by z o q) e.has;
+    }
+
+    standings : new.facility.lists.statuses ≡ old.facility.lists.statuses
+    standings = (facts.members w u v (known old.members) (known new.members) m n old.fates new.fates e.place e.stepped t.sound t.tied is_up knows e.steps leads).standings.statuses
+
+    now_up : status_of new.facility.lists.statuses (at + 1) ≡ Up
+    now_up = ap (λ (z : List MemberStatus). status_of z (at + 1)) standings ∙ was_up
+
+-- ---- a restart
+at_most : (n k : ℕ) → k ≡ n → n ≤ k
+at_most n k e = omega (arith, e)
+
+restart_rises : CommandsCount → (w v : event.World) (h k : Held) (i : RestartIntent) (s : RestartSent) (a : Answered) (said : RestartTold) → event.Runs w h i s a said v k → w.facility.counter ≤ v.facility.counter
+restart_rises law w v h k i sent.None a said e = at_most w.facility.counter v.facility.counter (ap (λ (z : event.World). z.facility.counter) e.world)
+restart_rises law w v h k i (sent.Command c) a said e =
+    law w.facility v.facility h.marks.member c (lent_bytes h (is_hand h c)) (lent_bytes e.0.after (is_hand h c)) e.0.answer e.0.gives.executed.executes
+restart_rises law w v h k i sent.LogLength a said e = at_most w.facility.counter v.facility.counter (ap (λ (z : Facility). z.counter) e.1)
+restart_rises law w v h k i (sent.ReadLog at count) a said e = at_most w.facility.counter v.facility.counter (ap (λ (z : Facility). z.counter) e.1)
+restart_rises law w v h k i (sent.CutLog long) a said e = at_most w.facility.counter v.facility.counter (ap (λ (z : Facility). z.counter) e.1)
+restart_rises law w v h k i sent.AppendLog a said e = at_most w.facility.counter v.facility.counter (ap (λ (z : Facility). z.counter) e.1)
+restart_rises law w v h k i (sent.ReadPage page) a said e = at_most w.facility.counter v.facility.counter (ap (λ (z : Facility). z.counter) e.1)
+
+not_failed : (a : Answered) → is_failure a ≡ false → a ≢ answered.Failed
+not_failed a ok e = never (sym (ap is_failure e) ∙ ok)
+
+pub restart_events : Facts → RestartEventsLogged
+restart_events facts c d old new at m n w t e told left moves spares up l = facts.one c d old new w moves.world at n t l
+    (record {
+      has = e.has;
+      members = e.count;
+      others = e.others;
+      logs = goes.count;
+      left = λ k ne. goes.others (k + 1) (from_one k) (other k at ne);
+      counter = restart_rises facts.commands (as_restarting u) (as_restarting v) before.resources e.made.makes.makes.happens.after e.made.makes.makes.happens.intent e.sent e.answered e.made.makes.makes.happens.said e.made.makes.makes.happens.runs;
+      statuses = apart_status;
+      claims = λ k o q ne. facts.spare (OfMember m.id) old new w moves (k + 1) o q (apart (k + 1) m.id (λ z. other k at ne (z ∙ stood.id)));
+    })
+    (record {
+      up = up;
+      restarts = subst (λ (z : Option RestartHeld). IfSome z (λ q. RestartLogged (log_of d.logs (at + 1)) moves.world q.resources.marks)) (sym n_restart) (goes_on reached.resources.marks.is_up ends.goes_on);
+      down = λ dead. absurd (never (sym still_live ∙ dead));
+    })
+  where
+    u : Resources
+    u = record { facility = old.facility; drive = e.drive }
+
+    v : Resources
+    v = record { facility = new.facility; drive = e.left }
+
+    stood : MemberStands old.facility (at + 1) m
+    stood = subst (λ (z : Option Member). IfSome z (MemberStands old.facility (at + 1))) e.had (t.stands at)
+
+    reached : RestartHeld
+    reached = e.made.makes.reached
+
+    before : RestartHeld
+    before = e.made.makes.makes.before
+
+    standing : RestartStands (at + 1) m before.resources.marks
+    standing = subst (λ (z : Option RestartHeld). RestartInHand (at + 1) m z) e.made.makes.makes.had stood.restart
+
+    logged : MemberLogged old.facility w (at + 1) (log_of c.logs (at + 1)) m
+    logged = subst (λ (z : Option Member). IfSome z (MemberLogged old.facility w (at + 1) (log_of c.logs (at + 1)))) e.had (l.each at)
+
+    restart_logged : RestartLogged (log_of c.logs (at + 1)) w before.resources.marks
+    restart_logged = subst (λ (z : Option RestartHeld). IfSome z (λ q. RestartLogged (log_of c.logs (at + 1)) w q.resources.marks)) e.made.makes.makes.had logged.restarts
+
+    follows : Follows before.resources.marks reached.resources.marks
+    follows = facts.follow (as_restarting u) (as_restarting v) before.resources reached.resources e.sent e.answered e.made.makes.makes.happens
+
+    now : RestartLogged (log_of d.logs (at + 1)) moves.world reached.resources.marks
+    now = facts.restart (log_of c.logs (at + 1)) (log_of d.logs (at + 1)) w moves.world (as_restarting u) (as_restarting v) before.resources reached.resources e.sent e.answered e.made.makes.makes.happens
+        (not_failed e.answered e.unfailed) standing.order (subst (λ (k : ℕ). Spares w moves.world k (gone_by e.sent)) (stood.id ∙ sym standing.member) spares)
+        (record { contents = c; told = told; log = ap (λ (k : ℕ). log_of c.logs k) standing.member })
+        (record { contents = d; told = left; log = ap (λ (k : ℕ). log_of d.logs k) (follows.member ∙ standing.member) })
+        restart_logged
+
+    -- ---- what its member makes of it
+    ends : RestartGoesOn reached m e.place e.made.mid
+    ends = subst (λ (b : Bool). RestartEnds b reached m e.place e.made.mid) e.unfailed e.made.makes.ends
+
+    n_restart : n.restart ≡ e.made.mid.restart
+    n_restart = ap (λ (z : Member). z.restart) e.made.enters.member
+
+    goes_on : (b : Bool) → GoesOn b reached m.holds e.made.mid.restart ends.left → IfSome e.made.mid.restart (λ q. RestartLogged (log_of d.logs (at + 1)) moves.world q.resources.marks)
+    goes_on true over = subst (λ (z : Option RestartHeld). IfSome z (λ q. RestartLogged (log_of d.logs (at + 1)) moves.world q.resources.marks)) (sym over.0) tt
+    goes_on false over = subst (λ (z : Option RestartHeld). IfSome z (λ q. RestartLogged (log_of d.logs (at + 1)) moves.world q.resources.marks)) (sym over.restart) (elim over.takes [
+      | inl x ↦ subst (λ (q : RestartHeld). RestartLogged (log_of d.logs (at + 1)) moves.world q.resources.marks) (sym x.1) now
+      | inr x ↦ subst (λ (q : RestartHeld). RestartLogged (log_of d.logs (at + 1)) moves.world q.resources.marks) (sym x.1) (facts.handed (log_of d.logs (at + 1)) moves.world reached.resources.marks (follows.order standing.order) now)
+    ])
+
+    -- ---- the standings
+    sets : Sets old.facility.lists new.facility.lists before.resources.marks reached.resources.marks
+    sets = facts.standings (as_restarting u) (as_restarting v) before.resources reached.resources e.sent e.answered e.made.makes.makes.happens
+
+    own_index : before.resources.marks.member - 1 ≡ at
+    own_index = ap (λ (z : ℕ). z - 1) standing.member ∙ index at
+
+    restarting : status_of old.facility.lists.statuses (at + 1) ≡ Restarting
+    restarting = ap (λ (z : ℕ). status_of old.facility.lists.statuses z) (sym stood.id) ∙ e.restarting
+
+    restarting_there : is_live (slice_index_or old.facility.lists.statuses (before.resources.marks.member - 1) Down) ≡ true
+    restarting_there = ap is_live (ap (λ (z : ℕ). status_of old.facility.lists.statuses z) standing.member ∙ restarting)
+
+    still_live : is_live (status_of new.facility.lists.statuses (at + 1)) ≡ true
+    still_live = elim sets.statuses [
+      | inl x ↦ ap is_live (ap (λ (z : List MemberStatus). status_of z (at + 1)) x.1 ∙ restarting)
+      | inr x ↦ ap is_live (ap (λ (z : List MemberStatus). status_of z (at + 1)) x.2 ∙ ap (λ (k : ℕ). status_of (slice_set old.facility.lists.statuses (before.resources.marks.member - 1) Up) k) (sym standing.member)
+          ∙ set_live old.facility.lists.statuses (before.resources.marks.member - 1) Up restarting_there)
+    ]
+
+    apart_status : (k : ℕ) → k ≢ at → status_of new.facility.lists.statuses (k + 1) ≡ status_of old.facility.lists.statuses (k + 1)
+    apart_status k ne = elim sets.statuses [
+      | inl x ↦ ap (λ (z : List MemberStatus). status_of z (k + 1)) x.1
+      | inr x ↦ ap (λ (z : List MemberStatus). status_of z (k + 1)) x.2 ∙ set_apart old.facility.lists.statuses (before.resources.marks.member - 1) (k + 1 - 1) Up (λ same. ne (sym (index k) ∙ same ∙ own_index))
+    ]
+
+    -- ---- the logs
+    numbered : IsNumbered (at + 1) m
+    numbered = record { own = stood.member; restart = subst (λ (z : Option RestartHeld). IfSome z (λ q. q.resources.marks.member ≡ at + 1)) (sym e.made.makes.makes.had) standing.member }
+
+    goes : OneGoes (at + 1) (LogGoes m (steps.Restart e.sent e.answered)) c d
+    goes = goes_told e.drive.contents e.left.contents c d (OneGoes (at + 1) (LogGoes m (steps.Restart e.sent e.answered))) told left
+        (facts.made (at + 1) m e.made.mid u v e.place (steps.Restart e.sent e.answered) e.made.makes (from_one at) numbered)

@@ -1,0 +1,10 @@
+pub mod Unread
+pub mod Found
+pub mod Logs
+pub mod Failing
+pub mod Phases
+pub mod Up
+pub mod Restarts
+pub mod Runs
+pub mod Events
+pub mod Leaving

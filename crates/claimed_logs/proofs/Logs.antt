@@ -1,0 +1,149 @@
+-- The logs of a group where nothing is held, and behind what leaves them as they were.
+use Rattle.std.proofs.Common.{◌≡◌, ℕ, zero, suc, ◌+◌, ◌≤◌, refl, sym, ◌∙◌, ap, subst, arith, true, false, inl, inr, List, [], ◌∷◌, length, Option, Some, None}
+use Rattle.std.specs.Prelude.{◌≢◌, IfSome, slice_get}
+use Rattle.std.specs.List.{AllByRecursion}
+use Rattle.std.proofs.lemmas.Bool.{cases_eq}
+use Rattle.ds_disk.specs.Contents.{Contents, log_of}
+use Rattle.ds_model.specs.Rows.{Spot}
+use Rattle.ds_model.specs.declared.log.LogRecord.{LogRecord}
+use Rattle.lock_names.specs.declared.mode.Mode.{Mode}
+use Rattle.lock_names.specs.declared.mode.Mode.TheVariants.{IX, X}
+use Rattle.facility.specs.States.{Held as Facility}
+use Rattle.list_structure.specs.declared.standing.MemberStatus.{MemberStatus}
+use Rattle.list_structure.specs.Standings.{is_live, status_of}
+use Rattle.log_rows.specs.Rows.{IsOpenIn, OpenTell}
+use Rattle.log_trans.specs.Courses.{open_trans}
+use Rattle.log_trans.specs.declared.opened.OpenTran.{OpenTran}
+use Rattle.log_appends.specs.Appends.{AreLastFrom}
+use Rattle.log_numbers.specs.Numbers.{AreCounted, CountedBegin, CountedMore}
+use Rattle.lock_protocol.specs.Machine.{Covers, World}
+use Rattle.lock_world.specs.Rollbacks.{row_of, space_of}
+use Rattle.lock_world.specs.Views.{rollback_owner}
+use Rattle.member_marks.specs.State.{MarksState}
+use Rattle.restart_marks.specs.State.{RestartState}
+use Rattle.restart_law.specs.Reads.{AreLast}
+use Rattle.restart_claims.specs.Claims.{ClaimsLeft, HasRow, HasRows}
+use Rattle.group_member.specs.declared.restarting.Restarting.{Restarting}
+use Rattle.group_member.specs.Members.{IsDown, Member}
+use Rattle.group_core.specs.Given.{CrewState}
+use Rattle.left_open.specs.Logs.{LockedBegins}
+use Rattle.failed_logs.specs.Logs.{LogClaimed}
+use Rattle.group_locks.specs.Stands.{LocksTied, MemberStands, RestartInHand}
+use Rattle.claimed_logs.specs.Found.{OpensKnown}
+use Rattle.claimed_logs.specs.Logs.{FreshLogged, GroupFailsLogged, LeavesOthers, LogCloses, LogsClaimed, LogsKnow, MemberLogged, OneLogged, RestartLogged, UpLogged}
+
+never : true ≡ false → ⊥
+never e = cc
+
+each : {A : Type 0} → (P Q : A → Type 0) → ((x : A) → P x → Q x) → (xs : List A) → AllByRecursion P xs → AllByRecursion Q xs
+each P Q go [] h = tt
+each P Q go (x ∷ xs) h = (go x h.0, each P Q go xs h.1)
+
+pub last_from : (bytes : List ℕ) (records : List LogRecord) → (l : AreLast bytes records) → AreLastFrom bytes l.start records
+last_from bytes records l = record { whole = l.whole; begins = l.begins; parts = l.parts; told = l.told; are = l.are }
+
+-- ---- what restarts know
+known : (log : List ℕ) (w : World) (s : RestartState) → RestartLogged log w s → OpensKnown w s
+known log w s h = record {
+  stands = h.stands;
+  found = λ read. record { bytes = h.bytes; last = h.reads.records read; few = h.few s.own.records (h.reads.records read); claimed = h.claimed };
+}
+
+restart_known : (log : List ℕ) (w : World) (x : Option Restarting) → IfSome x (λ q. RestartLogged log w q.resources.marks) → IfSome x (λ q. OpensKnown w q.resources.marks)
+restart_known log w None h = tt
+restart_known log w (Some q) h = known log w q.resources.marks h
+
+pub logs_know : LogsKnow
+logs_know c s w l at = on (slice_get s.members at) (l.each at)
+  where
+    on : (o : Option Member) → IfSome o (MemberLogged s.facility w (at + 1) (log_of c.logs (at + 1))) → IfSome o (λ (m : Member). IfSome m.restart (λ q. OpensKnown w q.resources.marks))
+    on None h = tt
+    on (Some m) h = restart_known (log_of c.logs (at + 1)) w m.restart h.restarts
+
+-- ---- a log that leaves nothing open
+pub closes_claimed : OpenTell → (log : List ℕ) (w : World) (k : ℕ) → LogCloses log → LogClaimed log w k
+closes_claimed tell log w k closes records last = each (IsOpenIn records) (HasRows w k) none (open_trans records) (tell records)
+  where
+    none : (t : OpenTran) → IsOpenIn records t → HasRows w k t
+    none t opened spot touched = absurd (never (sym (closes.closed last.start records (last_from log records last) t.id spot opened.numbered (opened.changed spot touched)) ∙ opened.unclosed))
+
+pub record FreshFacts : Type 0 where
+  pub tell : OpenTell
+  pub begin : LockedBegins
+  pub counted : CountedBegin
+
+pub fresh_logged : FreshFacts → FreshLogged
+fresh_logged facts c s w t down there close = record { there = there; each = λ at. on at (slice_get s.members at) (down at) (close at) (t.stands at) }
+  where
+    on : (at : ℕ) (o : Option Member) → IfSome o (IsDown s.sizes) → IfSome o (λ (m : Member). LogCloses (log_of c.logs (at + 1))) → IfSome o (MemberStands s.facility (at + 1)) → IfSome o (MemberLogged s.facility w (at + 1) (log_of c.logs (at + 1)))
+    on at None d closes stood = tt
+    on at (Some m) d closes stood = record {
+      up = λ _. record {
+        pend = [];
+        locked = facts.begin (log_of c.logs (at + 1)) m.id s.sizes m.holds closes.whole stood.book d.holds closes.closed;
+        counted = facts.counted s.facility.counter m.id s.sizes m.holds d.holds;
+      };
+      restarts = subst (λ (z : Option Restarting). IfSome z (λ q. RestartLogged (log_of c.logs (at + 1)) w q.resources.marks)) (sym d.rests) tt;
+      down = λ _. closes_claimed facts.tell (log_of c.logs (at + 1)) w (at + 1) closes;
+    }
+
+pub group_fails_logged : GroupFailsLogged
+group_fails_logged c old new w fails l = subst (λ (z : CrewState). LogsClaimed c z w) (sym fails.rest) (record { there = l.there; each = l.each })
+
+-- ---- a member that is as it was
+same_row : (w z : World) (m owner : ℕ) (spot : Spot) → ((o c : ℕ) → z.claims m o c ≡ w.claims m o c) → HasRow w m owner spot → HasRow z m owner spot
+same_row w z m owner spot same h = (
+  subst (λ (x : Option Mode). Covers x IX) (sym (same owner (space_of spot))) h.0,
+  subst (λ (x : Option Mode). Covers x X) (sym (same owner (row_of spot))) h.1,
+)
+
+pub log_left : (log : List ℕ) (w z : World) (m : ℕ) → ((o c : ℕ) → z.claims m o c ≡ w.claims m o c) → LogClaimed log w m → LogClaimed log z m
+log_left log w z m same claimed records last =
+    each (HasRows w m) (HasRows z m) (λ x h spot touched. same_row w z m (rollback_owner x.id) spot same (h spot touched)) (open_trans records) (claimed records last)
+
+pub record LeftFacts : Type 0 where
+  pub left : ClaimsLeft
+  pub more : CountedMore
+
+restart_left : ClaimsLeft → (log : List ℕ) (w z : World) (k : ℕ) (s : RestartState) → s.member ≡ k → ((o c : ℕ) → z.claims k o c ≡ w.claims k o c) → RestartLogged log w s → RestartLogged log z s
+restart_left law log w z k s own same h = record {
+  bytes = h.bytes;
+  are = h.are;
+  few = h.few;
+  stands = h.stands;
+  reads = h.reads;
+  claimed = law h.bytes w z s (λ o c. subst (λ (n : ℕ). z.claims n o c ≡ w.claims n o c) (sym own) (same o c)) h.claimed;
+  unread = h.unread;
+}
+
+restarts_left : ClaimsLeft → (log : List ℕ) (w z : World) (k : ℕ) (m : Member) (x : Option Restarting) → RestartInHand k m x → ((o c : ℕ) → z.claims k o c ≡ w.claims k o c)
+    → IfSome x (λ q. RestartLogged log w q.resources.marks) → IfSome x (λ q. RestartLogged log z q.resources.marks)
+restarts_left law log w z k m None stands same h = tt
+restarts_left law log w z k m (Some q) stands same h = restart_left law log w z k q.resources.marks stands.member same h
+
+pub member_left : LeftFacts → (f g : Facility) (w z : World) (k : ℕ) (log : List ℕ) (m : Member) → f.counter ≤ g.counter → status_of g.lists.statuses k ≡ status_of f.lists.statuses k → ((o c : ℕ) → z.claims k o c ≡ w.claims k o c)
+    → RestartInHand k m m.restart → MemberLogged f w k log m → MemberLogged g z k log m
+member_left facts f g w z k log m rises status same stands h = record {
+  up = λ up. let before : UpLogged log f.counter m.holds.marks = h.up (sym status ∙ up) in record { pend = before.pend; locked = before.locked; counted = facts.more f.counter g.counter m.holds.marks rises before.counted };
+  restarts = restarts_left facts.left log w z k m m.restart stands same h.restarts;
+  down = λ dead. log_left log w z k same (h.down (sym (ap is_live status) ∙ dead));
+}
+
+pub one_logged : LeftFacts → OneLogged
+one_logged facts c d old new w z at n t l leaves here = record {
+  there = subst (λ (k : ℕ). k ≤ length d.logs) (sym leaves.members) (subst (λ (k : ℕ). length old.members ≤ k) (sym leaves.logs) l.there);
+  each = at_all;
+}
+  where
+    on : (k : ℕ) (o : Option Member) → k ≢ at → IfSome o (MemberStands old.facility (k + 1)) → IfSome o (MemberLogged old.facility w (k + 1) (log_of c.logs (k + 1)))
+        → IfSome o (MemberLogged new.facility z (k + 1) (log_of d.logs (k + 1)))
+    on k None ne stood h = tt
+    on k (Some m) ne stood h = subst (λ (log : List ℕ). MemberLogged new.facility z (k + 1) log m) (sym (leaves.left k ne))
+        (member_left facts old.facility new.facility w z (k + 1) (log_of c.logs (k + 1)) m leaves.counter (leaves.statuses k ne) (λ o q. leaves.claims k o q ne) stood.restart h)
+
+    at_all : (k : ℕ) → IfSome (slice_get new.members k) (MemberLogged new.facility z (k + 1) (log_of d.logs (k + 1)))
+    at_all k = elim (cases_eq k at) [
+      | inl e ↦ subst (λ (j : ℕ). IfSome (slice_get new.members j) (MemberLogged new.facility z (j + 1) (log_of d.logs (j + 1)))) (sym e)
+          (subst (λ (x : Option Member). IfSome x (MemberLogged new.facility z (at + 1) (log_of d.logs (at + 1)))) (sym leaves.has) here)
+      | inr ne ↦ subst (λ (x : Option Member). IfSome x (MemberLogged new.facility z (k + 1) (log_of d.logs (k + 1)))) (sym (leaves.others k ne)) (on k (slice_get old.members k) ne (t.stands k) (l.each k))
+    ]

@@ -1,0 +1,18 @@
+use Rattle.claimed_logs.proofs.events_logged.Goals as goal
+use Rattle.claimed_logs.proofs.Events.{Facts, restart_events, up_events}
+
+pub returns : goal.returns
+returns c =
+    let facts : Facts = record {
+      one = c.logs_claimed.ensures.one;
+      spare = c.moves_spare.ensures;
+      made = c.members_log.ensures.made;
+      up = c.steps_logged.ensures.up;
+      members = c.members_go.ensures;
+      restart = c.steps_logged.ensures.restart;
+      handed = c.steps_logged.ensures.handed;
+      follow = c.restarts_follow.ensures.follows;
+      standings = c.restarts_follow.ensures.standings;
+      commands = c.commands_count.ensures;
+    } in
+    record { up = up_events facts; restart = restart_events facts }

@@ -1,0 +1,29 @@
+-- A phase begins, and with it restarts of members that have failed.
+use Rattle.std.specs.Prelude.{◌≡◌, ℕ, ◌+◌, true, List, IfSome, slice_get}
+use Rattle.ds_disk.specs.Contents.{Contents, log_of}
+use Rattle.ds_model.specs.declared.log.LogRecord.{LogRecord}
+use Rattle.ds_model.specs.declared.script.Phase.{Phase}
+use Rattle.log_reader.specs.Keeping.{AreBytes}
+use Rattle.restart_law.specs.Opens.{FewNeeds}
+use Rattle.restart_law.specs.Reads.{AreLast, KnowsWhole}
+use Rattle.lock_protocol.specs.Machine.{World}
+use Rattle.group_core.specs.Given.{PhaseBegins, begins_restart}
+use Rattle.group_core.specs.Given.{CrewState}
+use Rattle.group_locks.specs.Events.{Moves, OfPhase}
+use Rattle.group_locks.specs.Stands.{LocksTied}
+use Rattle.claimed_logs.specs.Logs.{LogsClaimed}
+
+-- the log is bytes, of fewer records than 64 bits count
+pub record IsLog (log : List ℕ) : Type 0 where
+  pub are : AreBytes log
+  pub few : (records : List LogRecord) → AreLast log records → FewNeeds records
+
+-- each restart that begins was told of whole records alone
+abbrev pub BeginKnowing : Contents → Phase → CrewState → CrewState → Type 0
+BeginKnowing c phase old new = (at : ℕ)
+    → IfSome (slice_get new.members at) (λ n. begins_restart phase old.facility.lists.statuses n.id ≡ true → IfSome n.restart (λ q. KnowsWhole (log_of c.logs (at + 1)) q.resources.marks))
+
+abbrev pub PhasesLogged : Type 0
+PhasesLogged = (c : Contents) (phase : Phase) (old new : CrewState) (w : World)
+    → LocksTied old w → PhaseBegins phase old new → ((at : ℕ) → IsLog (log_of c.logs (at + 1))) → BeginKnowing c phase old new
+    → (moves : Moves OfPhase old new w) → LogsClaimed c old w → LogsClaimed c new moves.world

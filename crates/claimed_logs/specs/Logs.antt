@@ -1,0 +1,92 @@
+-- The logs of a group's members on disk, beside the world of locks beside which the group stands.
+use Rattle.std.specs.Prelude.{◌≡◌, ◌≢◌, ℕ, ◌+◌, ◌≤◌, false, List, length, Some, IfSome, slice_get}
+use Rattle.ds_disk.specs.Contents.{Contents, log_of}
+use Rattle.ds_model.specs.declared.log.LogRecord.{LogRecord}
+use Rattle.facility.specs.States.{Held as Facility}
+use Rattle.list_structure.specs.declared.standing.MemberStatus.TheVariants.{Up}
+use Rattle.list_structure.specs.Standings.{is_live, status_of}
+use Rattle.log_reader.specs.Keeping.{AreBytes, AreWhole}
+use Rattle.log_appends.specs.Appends.{AreLastFrom}
+use Rattle.log_numbers.specs.Numbers.{AreCounted}
+use Rattle.lock_protocol.specs.Machine.{World}
+use Rattle.member_marks.specs.State.{MarksState}
+use Rattle.restart_marks.specs.State.{RestartState}
+use Rattle.restart_law.specs.Opens.{FewNeeds, OpensStand}
+use Rattle.restart_law.specs.Reads.{AreLast, ReadsTrue}
+use Rattle.restart_claims.specs.Claims.{OpensClaimed}
+use Rattle.row_claims.specs.Rows.{AllClosed}
+use Rattle.group_member.specs.Members.{IsDown, Member}
+use Rattle.group_core.specs.Given.{GroupFails}
+use Rattle.group_core.specs.Given.{CrewState}
+use Rattle.left_open.specs.Logs.{LogLocked}
+use Rattle.failed_logs.specs.Logs.{LogClaimed}
+use Rattle.group_locks.specs.Stands.{LocksTied}
+use Rattle.claimed_logs.specs.Found.{AllOpensKnown}
+
+-- ---- the log of a member
+
+-- that of one that is up: wherever reading may begin, the rows of the log and of the log buffer are locked, or closed on disk
+pub record UpLogged (log : List ℕ) (counter : ℕ) (s : MarksState) : Type 0 where
+  pub pend : List LogRecord
+  pub locked : LogLocked log pend s
+  pub counted : AreCounted counter s
+
+-- that of one that restarts: as long as its restart hasn't read it, it has the bytes that the restart reads
+pub record RestartLogged (log : List ℕ) (w : World) (s : RestartState) : Type 0 where
+  pub bytes : List ℕ
+  pub are : AreBytes bytes
+  pub few : (records : List LogRecord) → AreLast bytes records → FewNeeds records
+  pub stands : OpensStand s
+  pub reads : ReadsTrue bytes s
+  pub claimed : OpensClaimed bytes w s
+  pub unread : s.own.is_read ≡ false → bytes ≡ log
+
+-- by its standing
+pub record MemberLogged (f : Facility) (w : World) (k : ℕ) (log : List ℕ) (m : Member) : Type 0 where
+  pub up : status_of f.lists.statuses k ≡ Up → UpLogged log f.counter m.holds.marks
+  pub restarts : IfSome m.restart (λ q. RestartLogged log w q.resources.marks)
+  pub down : is_live (status_of f.lists.statuses k) ≡ false → LogClaimed log w k
+
+-- ---- those of all members, for each of which the disk has one
+
+pub record LogsClaimed (c : Contents) (s : CrewState) (w : World) : Type 0 where
+  pub there : length s.members ≤ length c.logs
+  pub each : (at : ℕ) → IfSome (slice_get s.members at) (MemberLogged s.facility w (at + 1) (log_of c.logs (at + 1)))
+
+-- each restart that has read its log knows then that what it has left open has its claims
+abbrev pub LogsKnow : Type 0
+LogsKnow = (c : Contents) (s : CrewState) (w : World) → LogsClaimed c s w → AllOpensKnown s w
+
+-- ---- where nothing is held, as at the start, and behind a group restart
+
+-- the log is whole records, and closes all of which it has changed rows, wherever reading may begin
+pub record LogCloses (log : List ℕ) : Type 0 where
+  pub whole : AreWhole log
+  pub closed : (start : ℕ) (back : List LogRecord) → AreLastFrom log start back → AllClosed back
+
+abbrev pub AllClose : Contents → CrewState → Type 0
+AllClose c s = (at : ℕ) → IfSome (slice_get s.members at) (λ m. LogCloses (log_of c.logs (at + 1)))
+
+abbrev pub FreshLogged : Type 0
+FreshLogged = (c : Contents) (s : CrewState) (w : World)
+    → LocksTied s w → ((at : ℕ) → IfSome (slice_get s.members at) (IsDown s.sizes)) → length s.members ≤ length c.logs → AllClose c s → LogsClaimed c s w
+
+-- a failure of the group changes nothing of it
+abbrev pub GroupFailsLogged : Type 0
+GroupFailsLogged = (c : Contents) (old new : CrewState) (w : World) → GroupFails old new → LogsClaimed c old w → LogsClaimed c new w
+
+-- ---- an event of the member at this place, which leaves the others as they were
+
+pub record LeavesOthers (c d : Contents) (old new : CrewState) (w z : World) (at : ℕ) (n : Member) : Type 0 where
+  pub has : slice_get new.members at ≡ Some n
+  pub members : length new.members ≡ length old.members
+  pub others : (k : ℕ) → k ≢ at → slice_get new.members k ≡ slice_get old.members k
+  pub logs : length d.logs ≡ length c.logs
+  pub left : (k : ℕ) → k ≢ at → log_of d.logs (k + 1) ≡ log_of c.logs (k + 1)
+  pub counter : old.facility.counter ≤ new.facility.counter
+  pub statuses : (k : ℕ) → k ≢ at → status_of new.facility.lists.statuses (k + 1) ≡ status_of old.facility.lists.statuses (k + 1)
+  pub claims : (k o q : ℕ) → k ≢ at → z.claims (k + 1) o q ≡ w.claims (k + 1) o q
+
+abbrev pub OneLogged : Type 0
+OneLogged = (c d : Contents) (old new : CrewState) (w z : World) (at : ℕ) (n : Member)
+    → LocksTied old w → LogsClaimed c old w → LeavesOthers c d old new w z at n → MemberLogged new.facility z (at + 1) (log_of d.logs (at + 1)) n → LogsClaimed d new z
