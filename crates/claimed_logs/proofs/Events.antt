@@ -22,22 +22,22 @@ use Rattle.restart_resources.specs.Events as event
 use Rattle.restart_resources.specs.Held.{Held}
 use Rattle.restart_resources.specs.Lending.{is_hand, lent_bytes}
 use Rattle.lock_protocol.specs.Machine.{World}
-use Rattle.lock_members.specs.Known.{KnowsOwn, LeadsTo}
-use Rattle.lock_members.specs.Members.{MemberIsUp, StepsGo}
+use Rattle.failed_logs.specs.Given.{KnowsOwn, LeadsTo}
+use Rattle.failed_logs.specs.Given.{MemberIsUp, StepsGo}
 use Rattle.lock_restarts.specs.Changes.{gone_by}
 use Rattle.lock_restarts.specs.Courses.{Follows, IsInOrder, RestartsFollow, Sets, StandingsFollow}
 use Rattle.lock_restarts.specs.Stands.{Spares}
-use Rattle.left_open.specs.Logs.{LogLocked, TellsLog}
-use Rattle.group_member.specs.declared.restarting.Restarting.{Restarting as RestartHeld}
-use Rattle.group_member.specs.declared.stepped.Stepped.TheVariants as steps
-use Rattle.group_member.specs.Happening.{GoesOn, RestartEnds, RestartGoesOn, as_restarting}
-use Rattle.group_member.specs.Members.{Member}
-use Rattle.group_member.specs.Stepping.{is_failure}
+use Rattle.failed_logs.specs.Given.{LogLocked, TellsLog}
+use Rattle.failed_logs.specs.Given.{Restarting as RestartHeld}
+use Rattle.failed_logs.specs.Given.stepped_variants as steps
+use Rattle.failed_logs.specs.Given.{GoesOn, RestartEnds, RestartGoesOn, as_restarting}
+use Rattle.failed_logs.specs.Given.{Member}
+use Rattle.failed_logs.specs.Given.{is_failure}
 use Rattle.group_core.specs.Given.{CrewState}
 use Rattle.group_logs.specs.Changes.{MadeGo}
 use Rattle.group_logs.specs.Logs.{IsNumbered, LogGoes, OneGoes}
-use Rattle.group_locks.specs.Events.{Moves, MovesSpare, OfMember}
-use Rattle.group_locks.specs.Stands.{LocksTied, MemberStands, RestartInHand, RestartStands, known, known_by}
+use Rattle.failed_logs.specs.Given.{Moves, MovesSpare, OfMember}
+use Rattle.failed_logs.specs.Given.{LocksTied, MemberStands, RestartInHand, RestartStands, known, known_by}
 use Rattle.claimed_logs.specs.Events.{RestartEventsLogged, UpEventsLogged}
 use Rattle.claimed_logs.specs.Logs.{MemberLogged, OneLogged, RestartLogged, UpLogged}
 use Rattle.claimed_logs.specs.Steps.{HandedLogged, RestartStepsLogged, StillLogged, UpStepsLogged}

@@ -9,13 +9,13 @@ use Rattle.list_structure.specs.declared.standing.MemberStatus.TheVariants.{Down
 use Rattle.list_structure.specs.Standings.{status_of}
 use Rattle.list_structure.specs.States.{ListsState}
 use Rattle.lock_protocol.specs.Machine.{World}
-use Rattle.group_member.specs.declared.restarting.Restarting.{Restarting as RestartHeld}
-use Rattle.group_member.specs.Members.{Member}
+use Rattle.failed_logs.specs.Given.{Restarting as RestartHeld}
+use Rattle.failed_logs.specs.Given.{Member}
 use Rattle.group_core.specs.Given.{CrewState}
 use Rattle.failed_logs.specs.Logs.{ClaimsOf, FailsClaimed, FailsUnread, LogClaimed, StillClaimed}
-use Rattle.group_locks.specs.Events.{Moves, MovesSpare, OfMember}
-use Rattle.group_locks.specs.Stands.{LocksTied, MemberStands}
-use Rattle.group_locks.specs.Whole.{FailsAt}
+use Rattle.failed_logs.specs.Given.{Moves, MovesSpare, OfMember}
+use Rattle.failed_logs.specs.Given.{LocksTied, MemberStands}
+use Rattle.failed_logs.specs.Given.{FailsAt}
 use Rattle.group_logs.specs.Logs.{OneGoes}
 use Rattle.claimed_logs.specs.Failing.{AnyBytes, HasFront, RestartFailsLogged, UpFailsLogged}
 use Rattle.claimed_logs.specs.Logs.{LeavesOthers, LogsClaimed, MemberLogged, OneLogged, RestartLogged, UpLogged}

@@ -24,12 +24,12 @@ use Rattle.restart_law.specs.Opens.{ListGoes, ListsGo}
 use Rattle.restart_law.specs.Reads.{AreLast, ReadsTrue}
 use Rattle.restart_claims.specs.Claims.{ClaimsStay, OpensClaimed}
 use Rattle.adopted_claims.specs.Rows.{AdoptedHave}
-use Rattle.group_member.specs.declared.restarting.Restarting.{Restarting}
-use Rattle.group_member.specs.Happening.{as_restarting}
-use Rattle.group_member.specs.Members.{Member}
-use Rattle.group_locks.specs.Adopting.{HaveClaimed, rows_of}
-use Rattle.group_locks.specs.Restarts.{freed_world}
-use Rattle.group_locks.specs.Stands.{MemberStands, RestartInHand, RestartStands}
+use Rattle.failed_logs.specs.Given.{Restarting}
+use Rattle.failed_logs.specs.Given.{as_restarting}
+use Rattle.failed_logs.specs.Given.{Member}
+use Rattle.failed_logs.specs.Given.{HaveClaimed, rows_of}
+use Rattle.failed_logs.specs.Given.{freed_world}
+use Rattle.failed_logs.specs.Given.{MemberStands, RestartInHand, RestartStands}
 use Rattle.claimed_logs.specs.Found.{AdoptionsFound, OpensFound, OpensKnown}
 use Rattle.claimed_logs.proofs.Unread.{hands_nothing}
 

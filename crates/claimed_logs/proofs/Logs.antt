@@ -23,12 +23,12 @@ use Rattle.member_marks.specs.State.{MarksState}
 use Rattle.restart_marks.specs.State.{RestartState}
 use Rattle.restart_law.specs.Reads.{AreLast}
 use Rattle.restart_claims.specs.Claims.{ClaimsLeft, HasRow, HasRows}
-use Rattle.group_member.specs.declared.restarting.Restarting.{Restarting}
-use Rattle.group_member.specs.Members.{IsDown, Member}
+use Rattle.failed_logs.specs.Given.{Restarting}
+use Rattle.failed_logs.specs.Given.{IsDown, Member}
 use Rattle.group_core.specs.Given.{CrewState}
-use Rattle.left_open.specs.Logs.{LockedBegins}
+use Rattle.failed_logs.specs.Given.{LockedBegins}
 use Rattle.failed_logs.specs.Logs.{LogClaimed}
-use Rattle.group_locks.specs.Stands.{LocksTied, MemberStands, RestartInHand}
+use Rattle.failed_logs.specs.Given.{LocksTied, MemberStands, RestartInHand}
 use Rattle.claimed_logs.specs.Found.{OpensKnown}
 use Rattle.claimed_logs.specs.Logs.{FreshLogged, GroupFailsLogged, LeavesOthers, LogCloses, LogsClaimed, LogsKnow, MemberLogged, OneLogged, RestartLogged, UpLogged}
 

@@ -18,13 +18,13 @@ use Rattle.restart_law.specs.Opens.{OpensBegin}
 use Rattle.restart_law.specs.Reads.{KnowsWhole, ReadsBegin}
 use Rattle.restart_claims.specs.Claims.{ClaimsLeft}
 use Rattle.script_phases.specs.Phases.{is_failed, restarts_in}
-use Rattle.group_member.specs.declared.restarting.Restarting.{Restarting as RestartHeld}
-use Rattle.group_member.specs.Members.{Member}
+use Rattle.failed_logs.specs.Given.{Restarting as RestartHeld}
+use Rattle.failed_logs.specs.Given.{Member}
 use Rattle.group_core.specs.Given.{AllRestart, PhaseBegins, Restarts, begins_restart, lists_begun, restarting}
 use Rattle.group_core.specs.Given.{CrewState}
 use Rattle.failed_logs.specs.Logs.{BeginsClaimed, LogClaimed}
-use Rattle.group_locks.specs.Events.{Moves, MovesSpare, OfPhase}
-use Rattle.group_locks.specs.Stands.{LocksTied, MemberStands}
+use Rattle.failed_logs.specs.Given.{Moves, MovesSpare, OfPhase}
+use Rattle.failed_logs.specs.Given.{LocksTied, MemberStands}
 use Rattle.claimed_logs.specs.Beginning.{BeginKnowing, IsLog, PhasesLogged}
 use Rattle.claimed_logs.specs.Logs.{LogsClaimed, MemberLogged, RestartLogged}
 use Rattle.claimed_logs.proofs.Logs.{LeftFacts, log_left, member_left}

@@ -6,7 +6,7 @@ use Rattle.cache_structure.specs.Directory.{Directory}
 use Rattle.group_core.specs.Given.{CrewState, crew_state}
 use Rattle.group_core.specs.declared.group.Group.{Group}
 use Rattle.group_core.specs.Fresh.{RunsFresh}
-use Rattle.group_locks.specs.Runs.{AllEvents, FindsClaims, RunsStand}
+use Rattle.failed_logs.specs.Given.{AllEvents, FindsClaims, RunsStand}
 use Rattle.claimed_logs.specs.Found.{AdoptionsFound}
 use Rattle.claimed_logs.specs.Runs.{FindsOpens, KnowingRunsStand, StandsKnowing}
 

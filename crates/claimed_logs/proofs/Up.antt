@@ -9,7 +9,7 @@ use Rattle.script_fates.specs.Fated.{FatesState}
 use Rattle.log_appends.specs.Appends.{AreLastFrom}
 use Rattle.log_numbers.specs.Numbers.{AreCounted, CommandsCount, CountedMore, CountedReach, CountedStay, StillCounted}
 use Rattle.log_rows.specs.Rows.{has_changed, is_closed}
-use Rattle.strict_locking.specs.Given.{SlotsStand}
+use Rattle.failed_logs.specs.Given.{SlotsStand}
 use Rattle.member_intents.specs.declared.outcome.Answered.{Answered}
 use Rattle.member_intents.specs.declared.outcome.Answered.TheVariants as answered
 use Rattle.member_intents.specs.declared.outcome.Sent.{Sent}
@@ -28,19 +28,19 @@ use Rattle.rebuild_resources.specs.declared.intent.RebuildSent.TheVariants as re
 use Rattle.rebuild_resources.specs.declared.told.RebuildTold.{RebuildTold}
 use Rattle.rebuild_resources.specs.Events as rebuilding
 use Rattle.rebuild_resources.specs.State.{RebuildState}
-use Rattle.strict_locking.specs.Rows.{HasLocked, IsTaken, name_of}
-use Rattle.row_claims.specs.Given.{IsUnfailed}
-use Rattle.row_claims.specs.Rows.{RowsLocked}
-use Rattle.left_open.specs.Logs.{LockedReaches, LockedStay, LogLocked, LogStays, TellsLog, log_after, pend_after}
+use Rattle.failed_logs.specs.Given.{HasLocked, IsTaken, name_of}
+use Rattle.failed_logs.specs.Given.{IsUnfailed}
+use Rattle.failed_logs.specs.Given.{RowsLocked}
+use Rattle.failed_logs.specs.Given.{LockedReaches, LockedStay, LogLocked, LogStays, TellsLog, log_after, pend_after}
 use Rattle.member_effects.specs.Puts.{event_records}
 use Rattle.put_records.specs.Puts.{is_append, is_done}
-use Rattle.group_member.specs.declared.restarting.Restarting.{Restarting}
-use Rattle.group_member.specs.declared.stepped.Stepped.{Stepped}
-use Rattle.group_member.specs.declared.stepped.Stepped.TheVariants as steps
-use Rattle.group_member.specs.Entering.{told_once}
-use Rattle.group_member.specs.Happening.{Acts, RebuildEnds, RebuildGoesOn, Rebuilds, Restarts, Steps}
-use Rattle.group_member.specs.Members.{Member}
-use Rattle.group_member.specs.Stepping.{is_failure}
+use Rattle.failed_logs.specs.Given.{Restarting}
+use Rattle.failed_logs.specs.Given.{Stepped}
+use Rattle.failed_logs.specs.Given.stepped_variants as steps
+use Rattle.failed_logs.specs.Given.{told_once}
+use Rattle.failed_logs.specs.Given.{Acts, RebuildEnds, RebuildGoesOn, Rebuilds, Restarts, Steps}
+use Rattle.failed_logs.specs.Given.{Member}
+use Rattle.failed_logs.specs.Given.{is_failure}
 use Rattle.group_logs.specs.Changes.{MadeGo}
 use Rattle.group_logs.specs.Logs.{IsNumbered, LogGoes, OneGoes}
 use Rattle.claimed_logs.specs.Logs.{UpLogged}

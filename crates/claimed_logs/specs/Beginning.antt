@@ -9,8 +9,8 @@ use Rattle.restart_law.specs.Reads.{AreLast, KnowsWhole}
 use Rattle.lock_protocol.specs.Machine.{World}
 use Rattle.group_core.specs.Given.{PhaseBegins, begins_restart}
 use Rattle.group_core.specs.Given.{CrewState}
-use Rattle.group_locks.specs.Events.{Moves, OfPhase}
-use Rattle.group_locks.specs.Stands.{LocksTied}
+use Rattle.failed_logs.specs.Given.{Moves, OfPhase}
+use Rattle.failed_logs.specs.Given.{LocksTied}
 use Rattle.claimed_logs.specs.Logs.{LogsClaimed}
 
 -- the log is bytes, of fewer records than 64 bits count

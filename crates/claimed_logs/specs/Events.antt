@@ -6,13 +6,13 @@ use Rattle.list_structure.specs.Standings.{status_of}
 use Rattle.lock_protocol.specs.Machine.{World}
 use Rattle.lock_restarts.specs.Changes.{gone_by}
 use Rattle.lock_restarts.specs.Stands.{Spares}
-use Rattle.group_member.specs.Members.{Member}
-use Rattle.group_member.specs.Stepping.{has_failed}
+use Rattle.failed_logs.specs.Given.{Member}
+use Rattle.failed_logs.specs.Given.{has_failed}
 use Rattle.group_core.specs.Given.{CrewState}
-use Rattle.group_locks.specs.Events.{Moves, OfMember}
-use Rattle.group_locks.specs.Members.{StepsAt}
-use Rattle.group_locks.specs.Restarts.{RestartStepsAt}
-use Rattle.group_locks.specs.Stands.{LocksTied}
+use Rattle.failed_logs.specs.Given.{Moves, OfMember}
+use Rattle.failed_logs.specs.Given.{StepsAt}
+use Rattle.failed_logs.specs.Given.{RestartStepsAt}
+use Rattle.failed_logs.specs.Given.{LocksTied}
 use Rattle.claimed_logs.specs.Logs.{LogsClaimed, UpLogged}
 
 -- one that is up

@@ -4,12 +4,12 @@ use Rattle.ds_disk.specs.Contents.{Contents, log_of}
 use Rattle.list_structure.specs.declared.standing.MemberStatus.TheVariants.{Up}
 use Rattle.list_structure.specs.Standings.{status_of}
 use Rattle.lock_protocol.specs.Machine.{World}
-use Rattle.group_member.specs.Members.{Member}
+use Rattle.failed_logs.specs.Given.{Member}
 use Rattle.group_core.specs.Given.{CrewState}
 use Rattle.failed_logs.specs.Logs.{LogClaimed}
-use Rattle.group_locks.specs.Events.{Moves, OfMember}
-use Rattle.group_locks.specs.Stands.{LocksTied}
-use Rattle.group_locks.specs.Whole.{FailsAt}
+use Rattle.failed_logs.specs.Given.{Moves, OfMember}
+use Rattle.failed_logs.specs.Given.{LocksTied}
+use Rattle.failed_logs.specs.Given.{FailsAt}
 use Rattle.group_logs.specs.Logs.{OneGoes}
 use Rattle.claimed_logs.specs.Logs.{LogsClaimed}
 

@@ -6,8 +6,8 @@ use Rattle.restart_marks.specs.State.{RestartState}
 use Rattle.restart_law.specs.Opens.{FewNeeds, OpensStand}
 use Rattle.restart_law.specs.Reads.{AreLast}
 use Rattle.restart_claims.specs.Claims.{OpensClaimed}
-use Rattle.group_locks.specs.Stands.{LocksTied}
-use Rattle.group_locks.specs.Taken.{AdoptedClaim}
+use Rattle.failed_logs.specs.Given.{LocksTied}
+use Rattle.failed_logs.specs.Given.{AdoptedClaim}
 
 -- What the restart has read are last records of a log that had these bytes, and what it has left open of it has its claims.
 pub record OpensFound (w : World) (s : RestartState) : Type 0 where

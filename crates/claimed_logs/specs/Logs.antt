@@ -14,13 +14,13 @@ use Rattle.restart_marks.specs.State.{RestartState}
 use Rattle.restart_law.specs.Opens.{FewNeeds, OpensStand}
 use Rattle.restart_law.specs.Reads.{AreLast, ReadsTrue}
 use Rattle.restart_claims.specs.Claims.{OpensClaimed}
-use Rattle.row_claims.specs.Rows.{AllClosed}
-use Rattle.group_member.specs.Members.{IsDown, Member}
+use Rattle.failed_logs.specs.Given.{AllClosed}
+use Rattle.failed_logs.specs.Given.{IsDown, Member}
 use Rattle.group_core.specs.Given.{GroupFails}
 use Rattle.group_core.specs.Given.{CrewState}
-use Rattle.left_open.specs.Logs.{LogLocked}
+use Rattle.failed_logs.specs.Given.{LogLocked}
 use Rattle.failed_logs.specs.Logs.{LogClaimed}
-use Rattle.group_locks.specs.Stands.{LocksTied}
+use Rattle.failed_logs.specs.Given.{LocksTied}
 use Rattle.claimed_logs.specs.Found.{AllOpensKnown}
 
 -- ---- the log of a member

@@ -8,7 +8,7 @@ use Rattle.group_core.specs.declared.fault.RunFault.TheVariants as fault
 use Rattle.group_core.specs.declared.group.Group.{Group}
 use Rattle.group_core.specs.Fresh.{RunsFresh}
 use Rattle.group_core.specs.Starts.{IsFresh}
-use Rattle.group_locks.specs.Runs.{AllEvents, AreCounted, IsSafe, StandsBeside}
+use Rattle.failed_logs.specs.Given.{AllEvents, AreCounted, IsSafe, StandsBeside}
 use Rattle.claimed_logs.specs.Found.{AllOpensKnown}
 
 -- the group stands beside a world in which each restart in hand knows so once it has read its log

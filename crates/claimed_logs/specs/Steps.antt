@@ -15,11 +15,11 @@ use Rattle.lock_protocol.specs.Machine.{World as Locks}
 use Rattle.lock_restarts.specs.Changes.{gone_by}
 use Rattle.lock_restarts.specs.Courses.{IsInOrder}
 use Rattle.lock_restarts.specs.Stands.{Spares}
-use Rattle.left_open.specs.Logs.{TellsLog}
-use Rattle.group_member.specs.declared.stepped.Stepped.{Stepped}
-use Rattle.group_member.specs.Happening.{Steps}
-use Rattle.group_member.specs.Members.{Member}
-use Rattle.group_member.specs.Stepping.{has_failed}
+use Rattle.failed_logs.specs.Given.{TellsLog}
+use Rattle.failed_logs.specs.Given.{Stepped}
+use Rattle.failed_logs.specs.Given.{Steps}
+use Rattle.failed_logs.specs.Given.{Member}
+use Rattle.failed_logs.specs.Given.{has_failed}
 use Rattle.claimed_logs.specs.Logs.{RestartLogged, UpLogged}
 
 -- ---- a member that is up

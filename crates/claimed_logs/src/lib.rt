@@ -16,11 +16,11 @@ ghost use Rattle.claimed_logs.specs.Steps.{HandedLogged, RestartStepsLogged, UpS
 use adopted_claims::adopted_have_claims;
 use cache_structure::CacheFace;
 use ds_disk::Disk;
-use failed_logs::{claims_stay as logs_stay_claimed, failures_claim};
-use group_locks::{groups_run, moves_spare};
+use failed_logs::{
+    claims_stay as logs_stay_claimed, failures_claim, groups_run, logs_stay_locked, members_go,
+    moves_spare,
+};
 use group_logs::members_log;
-use left_open::logs_stay_locked;
-use lock_members::members_go;
 use lock_restarts::restarts_follow;
 use log_numbers::{commands_count, numbers_stay};
 use log_rows::open_trans_tell;

@@ -16,8 +16,10 @@ ghost use Rattle.failed_logs.specs.Logs.{
 
 use adopted_rows::rows_taken_over;
 use failed_claims::{claims_handed_over, failures_leave};
-use group_locks::{member_failures_go, members_fail, moves_spare};
+pub use group_locks::{groups_run, members_go, moves_spare};
+use group_locks::{member_failures_go, members_fail};
 use left_open::left_is_locked;
+pub use left_open::logs_stay_locked;
 use lock_protocol::keeps_sound;
 use log_appends::appends_tell;
 use restart_claims::claims_tell;

@@ -20,8 +20,8 @@ ghost use Rattle.group_locks.specs.Whole.{AnewMoves, GroupFailsTied, MemberFails
 
 use cache_structure::CacheFace;
 use ds_disk::Disk;
-pub use lock_members::members_fail;
-use lock_members::{commands_stay, events_go, members_go, members_keep_free};
+pub use lock_members::{members_fail, members_go};
+use lock_members::{commands_stay, events_go, members_keep_free};
 use lock_protocol::{claims_give, keeps_sound, moves_leave_others};
 use lock_restarts::{restarts_follow, restarts_go};
 use lock_world::{
