@@ -11,6 +11,11 @@ use std::test::Fail;
 
 const ID: PageId = PageId { set: 3, number: 2 };
 
+/// A disk with a page that no record made.
+fn stray_disk(alloc: Global) -> Result<MemoryDisk, Fail> {
+    disk_with(alloc, ID, &[1; 4096])
+}
+
 /// What is found by these records, where so many pages are read behind the last one.
 fn found_by(
     alloc: Global,
@@ -23,14 +28,18 @@ fn found_by(
     Ok(find_unplaced(alloc, disk, records, false, behind)?)
 }
 
+/// What is found on the disk without records.
+fn found_on(alloc: Global, disk: MemoryDisk, behind: u32) -> Result<Placing, Fail> {
+    let mut disk = disk;
+    found_by(alloc, &mut disk, &[], behind)
+}
+
 #[test]
 fn a_page_that_no_record_changed_is_named(rt: HostRuntime) -> Result<(), Fail> {
     let alloc = rt.alloc();
     let none = Placing::All { pages: 0 };
-    let mut empty = empty_disk(alloc)?;
-    assert!(rt; found_by(alloc, &mut empty, &[], 2)? == none);
-    let mut disk = disk_with(alloc, ID, &[1; 4096])?;
-    assert!(rt; found_by(alloc, &mut disk, &[], 2)? == Placing::Unplaced { id: ID });
-    assert!(rt; found_by(alloc, &mut disk, &[], 1)? == none);
+    assert!(rt; found_on(alloc, empty_disk(alloc)?, 2)? == none);
+    assert!(rt; found_on(alloc, stray_disk(alloc)?, 2)? == Placing::Unplaced { id: ID });
+    assert!(rt; found_on(alloc, stray_disk(alloc)?, 1)? == none);
     Ok(())
 }
