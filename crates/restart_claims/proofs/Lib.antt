@@ -1,3 +1,5 @@
 pub mod Freeing
 pub mod Staying
 pub mod Telling
+pub mod Stopping
+pub mod Whole
