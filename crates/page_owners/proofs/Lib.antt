@@ -3,3 +3,4 @@ pub mod Supplying
 pub mod Steps
 pub mod Starting
 pub mod Runs
+pub mod Resting

@@ -1,3 +1,4 @@
 pub mod Owners
 pub mod Groups
 pub mod Runs
+pub mod Resting

@@ -6,6 +6,7 @@
 
 ghost use Rattle.page_owners.specs.Groups.{EventsGo, FailuresGo, GroupsBegin, GroupsStart, LocksSupply, ToldGo};
 ghost use Rattle.page_owners.specs.Owners.{BeginInX, StayInX, ToldInX};
+ghost use Rattle.page_owners.specs.Resting.{RestsLeave};
 ghost use Rattle.page_owners.specs.Runs.{RunsStand};
 
 use lock_events::events_go as locks_go;
@@ -14,6 +15,7 @@ use lock_world::{books_tell, failures_are_moves, groups_begin};
 use marks_law::{claims_stay, slots_stay};
 use needs_law::sends_lawfully;
 use page_groups::{events_go as pages_go, failures_go, groups_stand, groups_start as pages_start};
+use page_members::commands_leave;
 use page_policies::own_claims_stay;
 use page_world::pages_have_numbers;
 
@@ -90,4 +92,13 @@ pub fn groups_run()
     groups_start();
     members_go();
     members_fail();
+}
+
+/// A member with no frame, nothing to write, no transaction that goes forward and nothing to cast out, as one whose restart is in hand, leaves all
+/// that pages know of the facility, and the disk, in each event of its own but the loss of the cache and the begin of a castout.
+pub fn resting_members_leave()
+    ensures { RestsLeave }
+{
+    sends_lawfully();
+    commands_leave();
 }
