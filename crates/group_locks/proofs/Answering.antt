@@ -54,7 +54,7 @@ use Rattle.group_member.specs.Queries.{answers_held, is_held}
 use Rattle.group_member.specs.Resting.{changes_locks}
 use Rattle.marks_law.specs.Claims.{ClaimsStay, changes_claims}
 use Rattle.lock_protocol.specs.Machine.{Empty, World}
-use Rattle.lock_protocol.specs.Moves.{AnswerClean, AnswerConflict, Ask, Move}
+use Rattle.lock_protocol.specs.Moves.{AnswerClean, AnswerConflict, Ask, Demote, Fail, GiveUp, Grant, GroupFail, Local, Move, Obtain, Postpone, Purge, Refuse, Release, Restart, Run, Step}
 use Rattle.lock_protocol.specs.Own.{AreOf}
 use Rattle.lock_world.specs.Answers.{AnswersClean, AnswersConflict}
 use Rattle.lock_world.specs.Books.{AnswersTell}
@@ -62,7 +62,7 @@ use Rattle.lock_world.specs.Cells.{AsksMoves}
 use Rattle.lock_world.specs.Numbers.{AreNumbered, name_at, number}
 use Rattle.lock_world.specs.Standing.{StaysTied}
 use Rattle.lock_world.specs.Tied.{Claims, Moved, Tied}
-use Rattle.lock_world.specs.Views.{as_cell, cell_in, claim_in, is_member, is_slot}
+use Rattle.lock_world.specs.Views.{as_cell, cell_in, claim_in, entry_in, is_member, is_slot}
 use Rattle.lock_members.specs.Given.{CommandsStay, Quiet, is_quiet}
 use Rattle.lock_members.specs.Known.{or_else, page_claim, restart_claim}
 
@@ -85,6 +85,7 @@ pub record FacilityGoes (m : ℕ) (w : World) (f g : Facility) (held : Claims) :
   pub moves : List Move
   pub by : AreOf m moves
   pub moved : Moved w moves f.locks g.locks g.lists held
+  pub claims : (k o c : ℕ) → moved.world.claims k o c ≡ w.claims k o c
   pub statuses : g.lists.statuses ≡ f.lists.statuses
   pub members : g.lists.members ≡ f.lists.members
 
@@ -95,21 +96,61 @@ pub by_quiet : Facts → (m : ℕ) (w : World) (f g : Facility) (held : Claims) 
 by_quiet facts m w f g held tied q = record {
   moves = [];
   by = tt;
-  moved = subst (λ (z : Locks). Moved w [] f.locks z g.lists held) (sym q.locks)
-      (facts.stay w f.locks f.lists g.lists held held tied (record { cells = q.lists.cells; statuses = q.lists.statuses; members = q.lists.members; claims = λ k o c. refl }));
+  moved = moved;
+  claims = λ k o c. ap (λ (z : World). z.claims k o c) moved.run;
   statuses = q.lists.statuses;
   members = q.lists.members;
 }
+  where
+    moved : Moved w [] f.locks g.locks g.lists held
+    moved = subst (λ (z : Locks). Moved w [] f.locks z g.lists held) (sym q.locks)
+        (facts.stay w f.locks f.lists g.lists held held tied (record { cells = q.lists.cells; statuses = q.lists.statuses; members = q.lists.members; claims = λ k o c. refl }))
+
+-- moves that ask and answer change no claim
+abbrev OnlyTells : Move → Type 0
+OnlyTells (Ask m owner to name mode) = Unit {0}
+OnlyTells (AnswerClean k m owner name mode) = Unit {0}
+OnlyTells (AnswerConflict k m owner name mode) = Unit {0}
+OnlyTells _ = ⊥
+
+abbrev OnlyTell : List Move → Type 0
+OnlyTell [] = Unit {0}
+OnlyTell (x ∷ xs) = OnlyTells x × OnlyTell xs
+
+one_tells : (entry : ℕ → ℕ) (w v : World) (x : Move) → OnlyTells x → Step entry w x v → (k o c : ℕ) → v.claims k o c ≡ w.claims k o c
+one_tells entry w v (Obtain m owner name need b) t e k o c = absurd t
+one_tells entry w v (Grant m owner name need b) t e k o c = absurd t
+one_tells entry w v (Refuse m owner) t e k o c = absurd t
+one_tells entry w v (Local m owner name need) t e k o c = absurd t
+one_tells entry w v (Ask m owner to name mode) t e k o c = ap (λ (z : World). z.claims k o c) e
+one_tells entry w v (AnswerClean m asker owner name mode) t e k o c = ap (λ (z : World). z.claims k o c) e.1
+one_tells entry w v (AnswerConflict m asker owner name mode) t e k o c = ap (λ (z : World). z.claims k o c) e
+one_tells entry w v (Release m owner name keeps) t e k o c = absurd t
+one_tells entry w v (GiveUp m which) t e k o c = absurd t
+one_tells entry w v (Demote m owner name mode) t e k o c = absurd t
+one_tells entry w v (Postpone m owner to) t e k o c = absurd t
+one_tells entry w v (Fail m) t e k o c = absurd t
+one_tells entry w v (Restart m) t e k o c = absurd t
+one_tells entry w v (Purge m name) t e k o c = absurd t
+one_tells entry w v GroupFail t e k o c = absurd t
+
+all_tell : (entry : ℕ → ℕ) (w v : World) (xs : List Move) → OnlyTell xs → Run entry w xs v → (k o c : ℕ) → v.claims k o c ≡ w.claims k o c
+all_tell entry w v [] t r k o c = ap (λ (z : World). z.claims k o c) r
+all_tell entry w v (x ∷ xs) t r k o c = all_tell entry r.0 v xs t.1 r.2 k o c ∙ one_tells entry w r.0 x t.0 r.1 k o c
 
 -- only cells change
-by_cells : (m : ℕ) (w : World) (f g : Facility) (held : Claims) (moves : List Move) → AreOf m moves → g ≡ record f { lists = record f.lists { cells = g.lists.cells } } → Moved w moves f.locks f.locks g.lists held → FacilityGoes m w f g held
-by_cells m w f g held moves by same moved = record {
+by_cells : (m : ℕ) (w : World) (f g : Facility) (held : Claims) (moves : List Move) → AreOf m moves → OnlyTell moves → g ≡ record f { lists = record f.lists { cells = g.lists.cells } } → Moved w moves f.locks f.locks g.lists held → FacilityGoes m w f g held
+by_cells m w f g held moves by tell same moved = record {
   moves = moves;
   by = by;
-  moved = subst (λ (z : Locks). Moved w moves f.locks z g.lists held) (sym (ap (λ (z : Facility). z.locks) same)) moved;
+  moved = now;
+  claims = all_tell (entry_in f.locks) w now.world moves tell now.run;
   statuses = ap (λ (z : Facility). z.lists.statuses) same;
   members = ap (λ (z : Facility). z.lists.members) same;
 }
+  where
+    now : Moved w moves f.locks g.locks g.lists held
+    now = subst (λ (z : Locks). Moved w moves f.locks z g.lists held) (sym (ap (λ (z : Facility). z.locks) same)) moved
 
 -- ---- queries that aren't between members
 is_within : (a o k : ℕ) → (is_member a && (is_slot o && is_member k)) ≡ true → IsMember a × ((o ≤ 16) × IsMember k)
@@ -163,7 +204,7 @@ strangers facts m w f g held asker to c tied none are same =
     let lists : g.lists ≡ record f.lists { cells = g.lists.cells } = ap (λ (z : Facility). z.lists) same in
     let cells : (a o k : ℕ) → cell_in g.lists a o k ≡ cell_in f.lists a o k = cells_as f.lists g.lists (with_cell f.lists.cells asker to c) are (λ a k am km. cond-false (same_asker a asker && (k == to)) c (cell_of f.lists.cells a k) (none a k am km)) in
     let now : Tied w f.locks g.lists held = same_cells w f.locks f.lists g.lists held tied cells (ap (λ (z : ListsState). z.statuses) lists) (ap (λ (z : ListsState). z.members) lists) in
-    by_cells m w f g held [] tt same (facts.stay w f.locks g.lists g.lists held held now (record { cells = refl; statuses = refl; members = refl; claims = λ k o c. refl }))
+    by_cells m w f g held [] tt tt same (facts.stay w f.locks g.lists g.lists held held now (record { cells = refl; statuses = refl; members = refl; claims = λ k o c. refl }))
 
 -- ---- a page whose lock the restart has
 is_itself : (p : PageId) → is_same p p ≡ true
@@ -206,13 +247,13 @@ pub record Stands (w : World) (f : Facility) (held : Claims) (m : ℕ) (s : Mark
 module _ (facts : Facts) (w : World) (f g : Facility) (held : Claims) (m : ℕ) (s : MarksState) (x : Option RestartHeld) (asker : Asker) (n : Name) (mode : Mode) (event : ℕ) where
   conflicts : (said : CellAnswer) → Stands w f held m s x → said ≢ cell.Clean → IsMember asker.member → asker.slot ≤ 16
       → AreCells g.lists.cells (with_cell f.lists.cells asker m (answered_cell f n mode said event)) → g ≡ record f { lists = record f.lists { cells = g.lists.cells } } → FacilityGoes m w f g held
-  conflicts said st other is few are same = by_cells m w f g held (AnswerConflict m asker.member asker.slot (number n) mode ∷ []) (refl, tt) same
+  conflicts said st other is few are same = by_cells m w f g held (AnswerConflict m asker.member asker.slot (number n) mode ∷ []) (refl, tt) (tt, tt) same
       (facts.conflict w f.locks f.lists g.lists held m asker.member asker.slot (entry_for f.locks n).version event n mode said st.tied is few st.member other are (ap (λ (z : Facility). z.lists) same))
 
   answered : Stands w f held m s x → is_held x n ≡ false → IsMember asker.member → asker.slot ≤ 16
       → AreCells g.lists.cells (with_cell f.lists.cells asker m (answered_cell f n mode (cell_for s (answer_of s.locks n mode)) event)) → g ≡ record f { lists = record f.lists { cells = g.lists.cells } }
       → (a : LockAnswer) → answer_of s.locks n mode ≡ a → FacilityGoes m w f g held
-  answered st free is few are same answer.Clean e = by_cells m w f g held (AnswerClean m asker.member asker.slot (number n) mode ∷ []) (refl, tt) same
+  answered st free is few are same answer.Clean e = by_cells m w f g held (AnswerClean m asker.member asker.slot (number n) mode ∷ []) (refl, tt) (tt, tt) same
       (facts.clean w f.locks f.lists g.lists held m asker.member asker.slot event n mode st.tied is few st.member st.live st.among
       (λ q. subst (λ (z : Option Mode). is_in_way z mode ≡ false) (sym (st.knows q (number n))) (or_way (claim_in s.locks q (number n)) (restart_claim x q (number n)) mode (facts.tells s.locks n mode e q) (restart_free facts.numbers x n free q)))
       (subst (λ z. AreCells g.lists.cells (with_cell f.lists.cells asker m (answered_cell f n mode (cell_for s z) event))) e are) (ap (λ (z : Facility). z.lists) same))
@@ -369,7 +410,7 @@ module _ (facts : Facts) (w : World) (u v : Resources) (held : Claims) (m : ℕ)
       let only = r.0.gives.executed.executes.0.1.1 in
       let are = subst (λ z. AreCells v.facility.lists.cells (with_cell u.facility.lists.cells (slot_of z (cell_slot o n)) to (Asked n mode))) own r.0.gives.executed.executes.0.1.0 in
       elim (member_or to) [
-        | inl is ↦ by_cells m w u.facility v.facility held (Ask m (cell_slot o n) to (number n) mode ∷ []) (refl, tt) only
+        | inl is ↦ by_cells m w u.facility v.facility held (Ask m (cell_slot o n) to (number n) mode ∷ []) (refl, tt) (tt, tt) only
             (facts.ask w u.facility.locks u.facility.lists v.facility.lists held m (cell_slot o n) to n mode st.tied st.member r.0.gives.can is are (ap (λ (z : Facility). z.lists) only))
         | inr other ↦ strangers facts m w u.facility v.facility held (slot_of m (cell_slot o n)) to (Asked n mode) st.tied (none_to (slot_of m (cell_slot o n)) to other) are only
       ]

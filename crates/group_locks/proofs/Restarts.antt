@@ -289,6 +289,7 @@ record Leaves (w : World) (f : Facility) (held : Claims) (id : ℕ) (m : MarksSt
   pub own : (o c : ℕ) → o ≤ 16 → claim_in h.marks.locks o c ≡ claim_in m.locks o c
   pub order : IsInOrder s
   pub left : ClaimsNothing h.marks.locks ⊎ HasHandedOver s
+  pub still : (moved.world ≡ w) ⊎ HasHandedOver s
 
 -- all that it has in hand is in order
 record Stands (w : World) (f : Facility) (held : Claims) (id : ℕ) (h : Held) (s : RestartState) : Type 0 where
@@ -304,8 +305,7 @@ keeps_all : Facts → (w : World) (f : Facility) (held : Claims) (id : ℕ) (h k
 keeps_all facts w f held id h k s st e = subst (λ (z : Held). Leaves w f held id h.marks z s) (sym e) (record {
   moves = [];
   by = tt;
-  moved = facts.stay w f.locks f.lists f.lists (with_own held id (known_with (λ o c. claim_in h.marks.locks o c) s.claim)) (with_own held id (known_with (λ o c. claim_in h.marks.locks o c) s.claim)) st.tied
-      (record { cells = refl; statuses = refl; members = refl; claims = λ k o c. refl });
+  moved = moved;
   stands = st.may;
   member = refl;
   entries = refl;
@@ -314,7 +314,12 @@ keeps_all facts w f held id h k s st e = subst (λ (z : Held). Leaves w f held i
   own = λ o c le. refl;
   order = st.order;
   left = st.left;
+  still = inl moved.run;
 })
+  where
+    moved : Moved w [] f.locks f.locks f.lists (with_own held id (known_with (λ o c. claim_in h.marks.locks o c) s.claim))
+    moved = facts.stay w f.locks f.lists f.lists (with_own held id (known_with (λ o c. claim_in h.marks.locks o c) s.claim)) (with_own held id (known_with (λ o c. claim_in h.marks.locks o c) s.claim)) st.tied
+        (record { cells = refl; statuses = refl; members = refl; claims = λ k o c. refl })
 
 -- all is handed over
 hands_all : Facts → (w : World) (f : Facility) (held : Claims) (id : ℕ) (h k : Held) (s : RestartState) (handed : Handed s) → Stands w f held id h s → AdoptsAll h handed.by (opened_among s.trans.list) k → Leaves w f held id h.marks k (with_trans s no_trans)
@@ -329,9 +334,13 @@ hands_all facts w f held id h k s handed st adopts = record {
   trans = takes.took.trans;
   own = takes.took.own;
   order = record { reader = st.order.reader; listed = st.order.listed; kept = st.order.kept };
-  left = inr (record { read = st.order.kept handed.kept; unclaimed = handed.unclaimed; none_open = refl });
+  left = inr over;
+  still = inr over;
 }
   where
+    over : HasHandedOver (with_trans s no_trans)
+    over = record { read = st.order.kept handed.kept; unclaimed = handed.unclaimed; none_open = refl }
+
     before : Claims
     before = with_own held id (known_with (λ o c. claim_in h.marks.locks o c) s.claim)
 
@@ -413,7 +422,7 @@ slot_lends s free none c = elim (cases_Bool (nat_lt 1 (s.locks.agents + 1))) [
     there agents lt = le-leb 1 agents (omega (arith, lt))
 
 -- ---- one after the other
-moved_on : (w : World) (xs ys : List Move) (before locks : Locks) (lists : ListsState) (mid left : Claims) (a : Moved w xs before locks lists mid) → Moved a.world ys locks locks lists left → Moved w (xs ++ ys) before locks lists left
+abbrev moved_on : (w : World) (xs ys : List Move) (before locks : Locks) (lists : ListsState) (mid left : Claims) (a : Moved w xs before locks lists mid) → Moved a.world ys locks locks lists left → Moved w (xs ++ ys) before locks lists left
 moved_on w xs ys before locks lists mid left a b = record {
   same = a.same;
   world = b.world;
@@ -430,23 +439,27 @@ record Landed (w : World) (new : CrewState) (at id : ℕ) (n : Member) : Type 0 
   pub by : AreOf id moves
   pub moved : Moved w moves new.facility.locks new.facility.locks new.facility.lists (known new.members)
   pub here : MemberStands new.facility (at + 1) n
+  pub still : IfSome n.restart (λ q. (moved.world ≡ w) ⊎ HasHandedOver q.resources.marks)
 
 pub restart_steps : Facts → RestartStepsMove
 restart_steps facts old new at m n w t e = record {
-  entries = moved.same;
-  moves = event.moves ++ landed.moves;
-  are = both_are_of m.id event.moves landed.moves (subst (λ z. AreOf z event.moves) own_member event.own) landed.by;
-  world = moved.world;
-  run = moved.run;
-  tied = record {
-    sound = still_sound facts.run w (event.moves ++ landed.moves) old.facility.locks new.facility.locks new.facility.lists (known new.members) t.sound moved;
-    tied = moved.tied;
-    count = e.count ∙ t.count ∙ sym sets.members;
-    few = few;
-    agents = subst (λ (z : Sizes). z.agents ≤ 16) (sym e.sizes) t.agents;
-    entries = event.moved.same ∙ t.entries ∙ ap (λ (z : Sizes). z.locks) (sym e.sizes);
-    stands = stands_at;
+  moves = record {
+    entries = moved.same;
+    moves = event.moves ++ landed.moves;
+    are = both_are_of m.id event.moves landed.moves (subst (λ z. AreOf z event.moves) own_member event.own) landed.by;
+    world = moved.world;
+    run = moved.run;
+    tied = record {
+      sound = still_sound facts.run w (event.moves ++ landed.moves) old.facility.locks new.facility.locks new.facility.lists (known new.members) t.sound moved;
+      tied = moved.tied;
+      count = e.count ∙ t.count ∙ sym sets.members;
+      few = few;
+      agents = subst (λ (z : Sizes). z.agents ≤ 16) (sym e.sizes) t.agents;
+      entries = event.moved.same ∙ t.entries ∙ ap (λ (z : Sizes). z.locks) (sym e.sizes);
+      stands = stands_at;
+    };
   };
+  spares = spared n.restart landed.still;
 }
   where
     u : resources.World
@@ -605,6 +618,7 @@ restart_steps facts old new at m n w t e = record {
         restart = subst (λ (z : Option RestartHeld). RestartInHand (at + 1) n z) (sym no_restart) tt;
         down = λ z. absurd (live_status (status_of new.facility.lists.statuses (at + 1)) Up now_up refl z);
       };
+      still = subst (λ (z : Option RestartHeld). IfSome z (λ y. (goes.moved.world ≡ event.moved.world) ⊎ HasHandedOver y.resources.marks)) (sym no_restart) tt;
     }
       where
         facts_up : (now.claim ≡ None) × (new.facility.lists.statuses ≡ slice_set old.facility.lists.statuses (s.member - 1) Up)
@@ -681,6 +695,7 @@ restart_steps facts old new at m n w t e = record {
         });
         down = λ z. absurd (live_status (status_of new.facility.lists.statuses (at + 1)) Restarting still_restarts refl z);
       };
+      still = subst (λ (z : Option RestartHeld). IfSome z (λ y. (handed.leaves.moved.world ≡ event.moved.world) ⊎ HasHandedOver y.resources.marks)) (sym some_restart) handed.leaves.still;
     }
       where
         some_restart : n.restart ≡ Some over.rest
@@ -751,6 +766,16 @@ restart_steps facts old new at m n w t e = record {
 
     moved : Moved w (event.moves ++ landed.moves) old.facility.locks new.facility.locks new.facility.lists (known new.members)
     moved = moved_on w event.moves landed.moves old.facility.locks new.facility.locks new.facility.lists left (known new.members) event.moved landed.moved
+
+    -- ---- the claims of its rollbacks
+    spares : Spares w event.moved.world m.id (λ c. gone_by e.sent c)
+    spares = subst (λ (z : ℕ). Spares w event.moved.world z (λ c. gone_by e.sent c)) own_member event.spares
+
+    spared : (x : Option RestartHeld) → IfSome x (λ y. (landed.moved.world ≡ event.moved.world) ⊎ HasHandedOver y.resources.marks)
+        → IfSome x (λ y. Spares w moved.world m.id (λ c. gone_by e.sent c) ⊎ HasHandedOver y.resources.marks)
+    spared None h = tt
+    spared (Some y) (inl same) = inl (subst (λ (z : World). Spares w z m.id (λ c. gone_by e.sent c)) (sym same) spares)
+    spared (Some y) (inr over) = inr over
 
     -- ---- the other members
     index : (k : ℕ) → k + 1 - 1 ≡ k

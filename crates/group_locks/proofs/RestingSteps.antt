@@ -53,7 +53,7 @@ use Rattle.lock_members.specs.Given.{CommandsStay, Quiet, is_quiet}
 use Rattle.lock_members.specs.Known.{known_of, or_else, restart_claim}
 use Rattle.lock_members.specs.Members.{StepsKeepFree}
 use Rattle.group_locks.specs.Events.{Moves, OfMember}
-use Rattle.group_locks.specs.Resting.{RestingStepsAt, RestingStepsMove, is_restart}
+use Rattle.group_locks.specs.Resting.{RestingMoves, RestingStepsAt, RestingStepsMove, is_restart}
 use Rattle.group_locks.specs.Stands.{LocksTied, MemberStands, RestartInHand, known, known_by}
 use Rattle.group_locks.proofs.Answering.{FacilityGoes, OwnGoes, Stands, by_quiet, own_goes}
 use Rattle.group_locks.proofs.Answering as answering
@@ -271,22 +271,27 @@ module _ (facts : Facts) (old new : CrewState) (at : ℕ) (m n : Member) (w : Wo
     knows = λ o c. ap (λ z. known old.members z o c) (sym (next at refl)) ∙ ap (λ (z : Option Member). known_by z o c) e.had;
   }
 
-  moves_by : FacilityGoes m.id w old.facility new.facility (known old.members) → Left m n → Moves (OfMember m.id) old new w
+  moves_by : FacilityGoes m.id w old.facility new.facility (known old.members) → Left m n → RestingMoves old new w m n
   moves_by goes left = record {
-    entries = goes.moved.same;
-    moves = goes.moves;
-    are = goes.by;
-    world = goes.moved.world;
-    run = goes.moved.run;
-    tied = record {
-      sound = still_sound facts.run w goes.moves old.facility.locks new.facility.locks new.facility.lists (known old.members) t.sound goes.moved;
-      tied = subst (λ (z : World). Tied z new.facility.locks new.facility.lists (known new.members)) still.run still.tied;
-      count = e.count ∙ t.count ∙ sym goes.members;
-      few = subst (λ z. z ≤ 32) (sym goes.members) t.few;
-      agents = subst (λ (z : Sizes). z.agents ≤ 16) (sym e.sizes) t.agents;
-      entries = goes.moved.same ∙ t.entries ∙ ap (λ (z : Sizes). z.locks) (sym e.sizes);
-      stands = stands_at;
+    moves = record {
+      entries = goes.moved.same;
+      moves = goes.moves;
+      are = goes.by;
+      world = goes.moved.world;
+      run = goes.moved.run;
+      tied = record {
+        sound = still_sound facts.run w goes.moves old.facility.locks new.facility.locks new.facility.lists (known old.members) t.sound goes.moved;
+        tied = subst (λ (z : World). Tied z new.facility.locks new.facility.lists (known new.members)) still.run still.tied;
+        count = e.count ∙ t.count ∙ sym goes.members;
+        few = subst (λ z. z ≤ 32) (sym goes.members) t.few;
+        agents = subst (λ (z : Sizes). z.agents ≤ 16) (sym e.sizes) t.agents;
+        entries = goes.moved.same ∙ t.entries ∙ ap (λ (z : Sizes). z.locks) (sym e.sizes);
+        stands = stands_at;
+      };
     };
+    claims = goes.claims;
+    statuses = goes.statuses;
+    restart = left.restart;
   }
     where
       same_known : (o c : ℕ) → known_of n o c ≡ known_of m o c
@@ -344,7 +349,7 @@ module _ (facts : Facts) (old new : CrewState) (at : ℕ) (m n : Member) (w : Wo
   some_restart = stood.restarts is_restarting
 
   -- its own event
-  acts : (mid : Member) (s : Sent) (a : Answered) → Acts m u e.place s a v mid → RestsIdle mid → Enters mid old.fates n new.fates → Moves (OfMember m.id) old new w
+  acts : (mid : Member) (s : Sent) (a : Answered) → Acts m u e.place s a v mid → RestsIdle mid → Enters mid old.fates n new.fates → RestingMoves old new w m n
   acts mid s a made idle enters = moves_by own.goes
       (entered m mid n made.after old.fates new.fates enters holds (ap (λ (z : Member). z.id) made.member) restart (own_on m.holds.marks made.happens.after.marks made.after.marks first rests) slots none)
     where
@@ -370,7 +375,7 @@ module _ (facts : Facts) (old new : CrewState) (at : ℕ) (m n : Member) (w : Wo
       rests = reached_rest facts made.happens.after.marks made.after.marks made.happens.ends.0 first.book slots none
 
   -- that of its rebuild
-  rebuilds : (mid : Member) (s : RebuildSent) (a : Answered) → Rebuilds m u e.place s a v mid → RestsIdle mid → Enters mid old.fates n new.fates → Moves (OfMember m.id) old new w
+  rebuilds : (mid : Member) (s : RebuildSent) (a : Answered) → Rebuilds m u e.place s a v mid → RestsIdle mid → Enters mid old.fates n new.fates → RestingMoves old new w m n
   rebuilds mid s a made idle enters = moves_by (by_quiet facts.answer m.id w old.facility new.facility (known old.members) t.tied (quiet_rebuild facts m mid u v e.place s a made))
       (entered m mid n back.after old.fates new.fates enters back.holds back.id back.restart own slots none)
     where
@@ -396,7 +401,7 @@ module _ (facts : Facts) (old new : CrewState) (at : ℕ) (m n : Member) (w : Wo
       own : SameOwn m.holds.marks back.after.marks
       own = own_by back.tells
 
-  by_step : (stepped : Stepped) → stepped ≡ e.stepped → Moves (OfMember m.id) old new w
+  by_step : (stepped : Stepped) → stepped ≡ e.stepped → RestingMoves old new w m n
   by_step (steps.Sent s a) is = let made = subst (λ (z : Stepped). Steps m u old.fates e.place z n v new.fates) (sym is) e.made in acts made.mid s a made.makes made.idle made.enters
   by_step (steps.Rebuild s a) is = let made = subst (λ (z : Stepped). Steps m u old.fates e.place z n v new.fates) (sym is) e.made in rebuilds made.mid s a made.makes made.idle made.enters
   by_step (steps.Restart s a) is = absurd (never (ap (λ (z : Stepped). is_restart z) is ∙ e.other))

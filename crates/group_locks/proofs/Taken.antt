@@ -140,7 +140,7 @@ record At (old new : CrewState) (at : ℕ) (m n : Member) : Type 0 where
 module _ (facts : Facts) (old new : CrewState) (w : World) (t : LocksTied old w) (adopted : AdoptedClaim old new w) (at : ℕ) (m n : Member) (here : At old new at m n) (u v : Resources) (place : ℕ) where
   restarting : (stepped : Stepped) → u.facility ≡ old.facility → v.facility ≡ new.facility → status_of old.facility.lists.statuses m.id ≡ status.Restarting → is_over stepped ≡ false
       → Steps m (record { facility = old.facility; drive = u.drive }) old.fates place stepped n (record { facility = new.facility; drive = v.drive }) new.fates → Moves (OfMember m.id) old new w
-  restarting (steps.Restart sent answered) f g standing over made = facts.restarts old new at m n w t (record {
+  restarting (steps.Restart sent answered) f g standing over made = (facts.restarts old new at m n w t (record {
     had = here.had;
     has = here.has;
     count = here.count;
@@ -155,8 +155,8 @@ module _ (facts : Facts) (old new : CrewState) (w : World) (t : LocksTied old w)
     unfailed = unfailed (is_failure answered) over;
     made = made;
     opened = adopted at m n u.drive v.drive place sent answered here.had made;
-  })
-  restarting (steps.Sent sent answered) f g standing over made = facts.resting old new at m n w t (record {
+  })).moves
+  restarting (steps.Sent sent answered) f g standing over made = (facts.resting old new at m n w t (record {
     had = here.had;
     has = here.has;
     count = here.count;
@@ -169,8 +169,8 @@ module _ (facts : Facts) (old new : CrewState) (w : World) (t : LocksTied old w)
     stepped = steps.Sent sent answered;
     other = refl;
     made = made;
-  })
-  restarting (steps.Rebuild sent answered) f g standing over made = facts.resting old new at m n w t (record {
+  })).moves
+  restarting (steps.Rebuild sent answered) f g standing over made = (facts.resting old new at m n w t (record {
     had = here.had;
     has = here.has;
     count = here.count;
@@ -183,7 +183,7 @@ module _ (facts : Facts) (old new : CrewState) (w : World) (t : LocksTied old w)
     stepped = steps.Rebuild sent answered;
     other = refl;
     made = made;
-  })
+  })).moves
   restarting steps.Failed f g standing over made = absurd (never over)
 
   -- by its standing

@@ -1,5 +1,5 @@
 -- The events of a restart, in its group.
-use Rattle.std.specs.Prelude.{◌≡◌, ◌≢◌, ℕ, true, false, Some, is_some, length, slice_get}
+use Rattle.std.specs.Prelude.{◌≡◌, ◌≢◌, ◌⊎◌, ℕ, true, false, Some, IfSome, is_some, length, slice_get}
 use Rattle.list_structure.specs.declared.standing.MemberStatus.TheVariants.{Restarting}
 use Rattle.list_structure.specs.Standings.{status_of}
 use Rattle.member_intents.specs.declared.outcome.Answered.{Answered}
@@ -14,6 +14,8 @@ use Rattle.group_member.specs.Stepping.{is_failure}
 use Rattle.group_core.specs.Given.{CrewState}
 use Rattle.lock_protocol.specs.Machine.{World, given_up}
 use Rattle.lock_restarts.specs.Changes.{gone_by}
+use Rattle.lock_restarts.specs.Courses.{HasHandedOver}
+use Rattle.lock_restarts.specs.Stands.{Spares}
 use Rattle.group_locks.specs.Adopting.{HaveClaimed}
 use Rattle.group_locks.specs.Events.{Moves, OfMember}
 use Rattle.group_locks.specs.Stands.{LocksTied}
@@ -42,5 +44,11 @@ pub record RestartStepsAt (old new : CrewState) (at : ℕ) (m n : Member) (w : W
   pub opened : made.makes.reached.resources.marks.is_up ≡ false → is_some (adopted_told made.makes.reached.resources.marks) ≡ true
       → HaveClaimed (freed_world w m.id sent) m.id (opened_among made.makes.reached.resources.marks.trans.list)
 
+-- As long as its restart goes on, and has handed nothing over, the moves leave the claims of the member's rollbacks, but for those on the name whose
+-- record the event has freed.
+pub record RestartMoves (old new : CrewState) (w : World) (m n : Member) (x : RestartSent) : Type 0 where
+  pub moves : Moves (OfMember m.id) old new w
+  pub spares : IfSome n.restart (λ q. Spares w moves.world m.id (gone_by x) ⊎ HasHandedOver q.resources.marks)
+
 abbrev pub RestartStepsMove : Type 0
-RestartStepsMove = (old new : CrewState) (at : ℕ) (m n : Member) (w : World) → LocksTied old w → RestartStepsAt old new at m n w → Moves (OfMember m.id) old new w
+RestartStepsMove = (old new : CrewState) (at : ℕ) (m n : Member) (w : World) → LocksTied old w → (e : RestartStepsAt old new at m n w) → RestartMoves old new w m n e.sent

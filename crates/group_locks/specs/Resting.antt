@@ -34,5 +34,12 @@ pub record RestingStepsAt (old new : CrewState) (at : ℕ) (m n : Member) : Type
   pub other : is_restart stepped ≡ false
   pub made : Steps m (record { facility = old.facility; drive = drive }) old.fates place stepped n (record { facility = new.facility; drive = left }) new.fates
 
+-- moves of the member, which change no claim; nor does the event change a standing, or the restart
+pub record RestingMoves (old new : CrewState) (w : World) (m n : Member) : Type 0 where
+  pub moves : Moves (OfMember m.id) old new w
+  pub claims : (k o c : ℕ) → moves.world.claims k o c ≡ w.claims k o c
+  pub statuses : new.facility.lists.statuses ≡ old.facility.lists.statuses
+  pub restart : n.restart ≡ m.restart
+
 abbrev pub RestingStepsMove : Type 0
-RestingStepsMove = (old new : CrewState) (at : ℕ) (m n : Member) (w : World) → LocksTied old w → RestingStepsAt old new at m n → Moves (OfMember m.id) old new w
+RestingStepsMove = (old new : CrewState) (at : ℕ) (m n : Member) (w : World) → LocksTied old w → RestingStepsAt old new at m n → RestingMoves old new w m n

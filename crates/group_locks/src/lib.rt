@@ -100,7 +100,9 @@ pub fn adoptions_go()
     groups_begin();
 }
 
-/// An event of a restart, with what it hands over to its member, is moves, behind which the group still stands beside a sound world.
+/// An event of a restart, with what it hands over to its member, is moves, behind which the group still stands beside a sound world. As long as
+/// the restart goes on, and has handed nothing over, they leave the claims of the member's rollbacks, but for those on the name whose record
+/// the event has freed.
 pub fn member_restarts_go()
     ensures { RestartStepsMove }
 {
@@ -117,7 +119,7 @@ pub fn member_restarts_go()
     members_keep_free();
 }
 
-/// Its other events while it restarts, in which it answers queries, asks and rebuilds the cache, are moves too.
+/// Its other events while it restarts, in which it answers queries, asks and rebuilds the cache, are moves too, which change no claim.
 pub fn resting_members_go()
     ensures { RestingStepsMove }
 {
