@@ -1,6 +1,7 @@
 -- The logs of a group behind an event of a member, in which no call of the disk has failed.
 use Rattle.std.proofs.Common.{◌≡◌, ℕ, zero, suc, ◌+◌, ◌≤◌, ◌<◌, refl, sym, ◌∙◌, ap, subst, arith, Bool, true, false, inl, inr, List, [], ◌∷◌, length, Option, Some, None}
 use Rattle.std.specs.Prelude.{◌≢◌, ◌⊎◌, ◌-◌, ◌==◌, not, IfSome, nat_lt, slice_get, slice_index_or, slice_set}
+use Rattle.std.specs.List.{AllByRecursion}
 use Rattle.std.proofs.lemmas.Bool.{eqb-true, lt-ltb}
 use Rattle.std.proofs.lemmas.Option.{slice_get_within}
 use Rattle.ds_base.specs.Ids.{IsMember}
@@ -13,10 +14,14 @@ use Rattle.log_numbers.specs.Numbers.{CommandsCount}
 use Rattle.member_intents.specs.declared.outcome.Answered.{Answered}
 use Rattle.member_intents.specs.declared.outcome.Answered.TheVariants as answered
 use Rattle.member_resources.specs.Events.{Drive, World as Resources}
+use Rattle.restart_marks.specs.declared.adopt.Adopted.{Adopted}
 use Rattle.restart_marks.specs.declared.intent.RestartIntent.{RestartIntent}
 use Rattle.restart_marks.specs.declared.intent.RestartSent.{RestartSent}
 use Rattle.restart_marks.specs.declared.intent.RestartSent.TheVariants as sent
 use Rattle.restart_marks.specs.declared.told.RestartTold.{RestartTold}
+use Rattle.restart_marks.specs.State.{RestartState}
+use Rattle.restart_records.specs.Trans.{TransState}
+use Rattle.restart_claims.specs.Claims.{LeftHas}
 use Rattle.restart_law.specs.Reads.{TellsLog as TellsRead}
 use Rattle.restart_resources.specs.Events as event
 use Rattle.restart_resources.specs.Held.{Held}
@@ -25,22 +30,24 @@ use Rattle.lock_protocol.specs.Machine.{World}
 use Rattle.failed_logs.specs.Given.{KnowsOwn, LeadsTo}
 use Rattle.failed_logs.specs.Given.{MemberIsUp, StepsGo}
 use Rattle.lock_restarts.specs.Changes.{gone_by}
-use Rattle.lock_restarts.specs.Courses.{Follows, IsInOrder, RestartsFollow, Sets, StandingsFollow}
+use Rattle.lock_restarts.specs.Courses.{Follows, HasHandedOver, IsInOrder, RestartsFollow, Sets, StandingsFollow}
 use Rattle.lock_restarts.specs.Stands.{Spares}
 use Rattle.failed_logs.specs.Given.{LogLocked, TellsLog}
 use Rattle.failed_logs.specs.Given.{Restarting as RestartHeld}
 use Rattle.failed_logs.specs.Given.stepped_variants as steps
-use Rattle.failed_logs.specs.Given.{GoesOn, RestartEnds, RestartGoesOn, as_restarting}
+use Rattle.failed_logs.specs.Given.{GoesOn, RestartEnds, RestartGoesOn, Takes, as_restarting}
 use Rattle.failed_logs.specs.Given.{Member}
 use Rattle.failed_logs.specs.Given.{is_failure}
 use Rattle.group_core.specs.Given.{CrewState}
 use Rattle.group_logs.specs.Changes.{MadeGo}
 use Rattle.group_logs.specs.Logs.{IsNumbered, LogGoes, OneGoes}
 use Rattle.failed_logs.specs.Given.{Moves, MovesSpare, OfMember}
+use Rattle.failed_logs.specs.Given.{freed_world}
 use Rattle.failed_logs.specs.Given.{LocksTied, MemberStands, RestartInHand, RestartStands, known, known_by}
 use Rattle.claimed_logs.specs.Events.{RestartEventsLogged, UpEventsLogged}
 use Rattle.claimed_logs.specs.Logs.{MemberLogged, OneLogged, RestartLogged, UpLogged}
 use Rattle.claimed_logs.specs.Steps.{HandedLogged, RestartStepsLogged, StillLogged, UpStepsLogged}
+use Rattle.claimed_logs.proofs.Found.{freed_spares}
 
 pub record Facts : Type 0 where
   pub one : OneLogged
@@ -74,7 +81,7 @@ apart k n ne = by (k == n) refl
     by true e = absurd (ne (eqb-true k n e))
     by false e = refl
 
-within : (ms : List Member) (at : ℕ) (m : Member) (logs : List (List ℕ)) → slice_get ms at ≡ Some m → length ms ≤ length logs → nat_lt (at + 1 - 1) (length logs) ≡ true
+pub within : (ms : List Member) (at : ℕ) (m : Member) (logs : List (List ℕ)) → slice_get ms at ≡ Some m → length ms ≤ length logs → nat_lt (at + 1 - 1) (length logs) ≡ true
 within ms at m logs had few = let a : at < length ms = slice_get_within ms at m had in lt-ltb (at + 1 - 1) (length logs) (omega (arith, a, few))
 
 -- ---- what a disk tells of a log is one thing
@@ -83,7 +90,7 @@ one_told log drive member d tells is =
     let same : d ≡ tells.contents = let both : Some d ≡ Some tells.contents = sym is ∙ tells.told in cc in
     ap (λ (z : Contents). log_of z.logs member) same ∙ tells.bytes
 
-goes_told : (before after : Option Contents) (c d : Contents) (P : Contents → Contents → Type 0) → before ≡ Some c → after ≡ Some d → Becomes before after P → P c d
+pub goes_told : (before after : Option Contents) (c d : Contents) (P : Contents → Contents → Type 0) → before ≡ Some c → after ≡ Some d → Becomes before after P → P c d
 goes_told before after c d P told left h = subst (λ (z : Option Contents). Becomes (Some c) z P) left (subst (λ (z : Option Contents). Becomes z after P) told h)
 
 -- ---- standings
@@ -215,8 +222,23 @@ restart_rises law w v h k i (sent.ReadPage page) a said e = at_most w.facility.c
 not_failed : (a : Answered) → is_failure a ≡ false → a ≢ answered.Failed
 not_failed a ok e = never (sym (ap is_failure e) ∙ ok)
 
+-- what has handed over all that it had left open has nothing that is to be claimed
+in_any : (log : List ℕ) (w z : World) (s : RestartState) → HasHandedOver s → RestartLogged log w s → RestartLogged log z s
+in_any log w z s over l = record {
+  bytes = l.bytes;
+  are = l.are;
+  few = l.few;
+  stands = l.stands;
+  reads = l.reads;
+  claimed = record {
+    unread = λ unread. absurd (never (sym over.read ∙ unread));
+    left = λ read on. subst (λ (t : TransState). AllByRecursion (LeftHas z s.member) t.list) (sym over.none_open) tt;
+  };
+  unread = l.unread;
+}
+
 pub restart_events : Facts → RestartEventsLogged
-restart_events facts c d old new at m n w t e told left moves spares up l = facts.one c d old new w moves.world at n t l
+restart_events facts c d old new at m n w t e told left moves up l = facts.one c d old new w z at n t l
     (record {
       has = e.has;
       members = e.count;
@@ -225,14 +247,17 @@ restart_events facts c d old new at m n w t e told left moves spares up l = fact
       left = λ k ne. goes.others (k + 1) (from_one k) (other k at ne);
       counter = restart_rises facts.commands (as_restarting u) (as_restarting v) before.resources e.made.makes.makes.happens.after e.made.makes.makes.happens.intent e.sent e.answered e.made.makes.makes.happens.said e.made.makes.makes.happens.runs;
       statuses = apart_status;
-      claims = λ k o q ne. facts.spare (OfMember m.id) old new w moves (k + 1) o q (apart (k + 1) m.id (λ z. other k at ne (z ∙ stood.id)));
+      claims = λ k o q ne. facts.spare (OfMember m.id) old new w moves.moves (k + 1) o q (apart (k + 1) m.id (λ z. other k at ne (z ∙ stood.id)));
     })
     (record {
       up = up;
-      restarts = subst (λ (z : Option RestartHeld). IfSome z (λ q. RestartLogged (log_of d.logs (at + 1)) moves.world q.resources.marks)) (sym n_restart) (goes_on reached.resources.marks.is_up ends.goes_on);
+      restarts = subst (λ (x : Option RestartHeld). IfSome x (λ q. RestartLogged (log_of d.logs (at + 1)) z q.resources.marks)) (sym n_restart) (goes_on reached.resources.marks.is_up ends.goes_on);
       down = λ dead. absurd (never (sym still_live ∙ dead));
     })
   where
+    z : World
+    z = moves.moves.world
+
     u : Resources
     u = record { facility = old.facility; drive = e.drive }
 
@@ -240,7 +265,7 @@ restart_events facts c d old new at m n w t e told left moves spares up l = fact
     v = record { facility = new.facility; drive = e.left }
 
     stood : MemberStands old.facility (at + 1) m
-    stood = subst (λ (z : Option Member). IfSome z (MemberStands old.facility (at + 1))) e.had (t.stands at)
+    stood = subst (λ (x : Option Member). IfSome x (MemberStands old.facility (at + 1))) e.had (t.stands at)
 
     reached : RestartHeld
     reached = e.made.makes.reached
@@ -260,9 +285,9 @@ restart_events facts c d old new at m n w t e told left moves spares up l = fact
     follows : Follows before.resources.marks reached.resources.marks
     follows = facts.follow (as_restarting u) (as_restarting v) before.resources reached.resources e.sent e.answered e.made.makes.makes.happens
 
-    now : RestartLogged (log_of d.logs (at + 1)) moves.world reached.resources.marks
-    now = facts.restart (log_of c.logs (at + 1)) (log_of d.logs (at + 1)) w moves.world (as_restarting u) (as_restarting v) before.resources reached.resources e.sent e.answered e.made.makes.makes.happens
-        (not_failed e.answered e.unfailed) standing.order (subst (λ (k : ℕ). Spares w moves.world k (gone_by e.sent)) (stood.id ∙ sym standing.member) spares)
+    now : (x : World) → Spares w x m.id (gone_by e.sent) → RestartLogged (log_of d.logs (at + 1)) x reached.resources.marks
+    now x spares = facts.restart (log_of c.logs (at + 1)) (log_of d.logs (at + 1)) w x (as_restarting u) (as_restarting v) before.resources reached.resources e.sent e.answered e.made.makes.makes.happens
+        (not_failed e.answered e.unfailed) standing.order (subst (λ (k : ℕ). Spares w x k (gone_by e.sent)) (stood.id ∙ sym standing.member) spares)
         (record { contents = c; told = told; log = ap (λ (k : ℕ). log_of c.logs k) standing.member })
         (record { contents = d; told = left; log = ap (λ (k : ℕ). log_of d.logs k) (follows.member ∙ standing.member) })
         restart_logged
@@ -274,12 +299,20 @@ restart_events facts c d old new at m n w t e told left moves spares up l = fact
     n_restart : n.restart ≡ e.made.mid.restart
     n_restart = ap (λ (z : Member). z.restart) e.made.enters.member
 
-    goes_on : (b : Bool) → GoesOn b reached m.holds e.made.mid.restart ends.left → IfSome e.made.mid.restart (λ q. RestartLogged (log_of d.logs (at + 1)) moves.world q.resources.marks)
-    goes_on true over = subst (λ (z : Option RestartHeld). IfSome z (λ q. RestartLogged (log_of d.logs (at + 1)) moves.world q.resources.marks)) (sym over.0) tt
-    goes_on false over = subst (λ (z : Option RestartHeld). IfSome z (λ q. RestartLogged (log_of d.logs (at + 1)) moves.world q.resources.marks)) (sym over.restart) (elim over.takes [
-      | inl x ↦ subst (λ (q : RestartHeld). RestartLogged (log_of d.logs (at + 1)) moves.world q.resources.marks) (sym x.1) now
-      | inr x ↦ subst (λ (q : RestartHeld). RestartLogged (log_of d.logs (at + 1)) moves.world q.resources.marks) (sym x.1) (facts.handed (log_of d.logs (at + 1)) moves.world reached.resources.marks (follows.order standing.order) now)
-    ])
+    -- so it is of what the restart keeps, beside each world that leaves the claims of its rollbacks
+    keeps : (x : World) → Spares w x m.id (gone_by e.sent) → (adopted : Option Adopted) (rest : RestartHeld) → Takes reached adopted rest → RestartLogged (log_of d.logs (at + 1)) x rest.resources.marks
+    keeps x spares adopted rest (inl takes) = subst (λ (q : RestartHeld). RestartLogged (log_of d.logs (at + 1)) x q.resources.marks) (sym takes.1) (now x spares)
+    keeps x spares adopted rest (inr takes) = subst (λ (q : RestartHeld). RestartLogged (log_of d.logs (at + 1)) x q.resources.marks) (sym takes.1)
+        (facts.handed (log_of d.logs (at + 1)) x reached.resources.marks (follows.order standing.order) (now x spares))
+
+    rests_as : (adopted : Option Adopted) (rest : RestartHeld) → Takes reached adopted rest → Spares w z m.id (gone_by e.sent) ⊎ HasHandedOver rest.resources.marks → RestartLogged (log_of d.logs (at + 1)) z rest.resources.marks
+    rests_as adopted rest takes (inl spares) = keeps z spares adopted rest takes
+    rests_as adopted rest takes (inr over) = in_any (log_of d.logs (at + 1)) (freed_world w m.id e.sent) z rest.resources.marks over (keeps (freed_world w m.id e.sent) (freed_spares w m.id e.sent) adopted rest takes)
+
+    goes_on : (b : Bool) → GoesOn b reached m.holds e.made.mid.restart ends.left → IfSome e.made.mid.restart (λ q. RestartLogged (log_of d.logs (at + 1)) z q.resources.marks)
+    goes_on true over = subst (λ (x : Option RestartHeld). IfSome x (λ q. RestartLogged (log_of d.logs (at + 1)) z q.resources.marks)) (sym over.0) tt
+    goes_on false over = subst (λ (x : Option RestartHeld). IfSome x (λ q. RestartLogged (log_of d.logs (at + 1)) z q.resources.marks)) (sym over.restart)
+        (rests_as over.left over.rest over.takes (subst (λ (x : Option RestartHeld). IfSome x (λ q. Spares w z m.id (gone_by e.sent) ⊎ HasHandedOver q.resources.marks)) (n_restart ∙ over.restart) moves.spares))
 
     -- ---- the standings
     sets : Sets old.facility.lists new.facility.lists before.resources.marks reached.resources.marks

@@ -48,7 +48,7 @@ gone_or_not true true x e = absurd (never e)
 gone_or_not true false x e = refl
 gone_or_not false c x e = refl
 
-freed_spares : (w : World) (m : ℕ) (x : RestartSent) → Spares w (freed_world w m x) m (gone_by x)
+pub freed_spares : (w : World) (m : ℕ) (x : RestartSent) → Spares w (freed_world w m x) m (gone_by x)
 freed_spares w m x o c some own still = gone_or_not (m == m) (gone_by x c) (w.claims m o c) still
 
 -- ---- as its member needs them

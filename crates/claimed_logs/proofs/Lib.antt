@@ -8,3 +8,5 @@ pub mod Restarts
 pub mod Runs
 pub mod Events
 pub mod Leaving
+pub mod Resting
+pub mod Taken

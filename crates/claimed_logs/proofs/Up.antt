@@ -137,7 +137,7 @@ own_still facts log m mid u v place s a e ok tells l = subst (λ (z : Member). S
 at_most : (n k : ℕ) → k ≡ n → n ≤ k
 at_most n k e = omega (arith, e)
 
-rebuild_rises : CommandsCount → (w v : rebuilding.World) (h k : RebuildState) (i : RebuildIntent) (s : RebuildSent) (a : Answered) (said : RebuildTold) → rebuilding.Runs w h i s a said v k → w.facility.counter ≤ v.facility.counter
+pub rebuild_rises : CommandsCount → (w v : rebuilding.World) (h k : RebuildState) (i : RebuildIntent) (s : RebuildSent) (a : Answered) (said : RebuildTold) → rebuilding.Runs w h i s a said v k → w.facility.counter ≤ v.facility.counter
 rebuild_rises law w v h k i rebuild.None a said e = at_most w.facility.counter v.facility.counter (ap (λ (z : rebuilding.World). z.facility.counter) e.world)
 rebuild_rises law w v h k i (rebuild.Command c) a said e = law w.facility v.facility h.member c h.page e.0.after.page e.0.answer e.0.gives.executes
 rebuild_rises law w v h k i (rebuild.LogLength member) a said e = at_most w.facility.counter v.facility.counter (ap (λ (z : Facility). z.counter) e.1)

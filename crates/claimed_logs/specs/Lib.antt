@@ -6,3 +6,4 @@ pub mod Steps
 pub mod Runs
 pub mod Events
 pub mod Leaving
+pub mod Taken

@@ -5,20 +5,21 @@
 #![tactic(auto)]
 
 ghost use Rattle.claimed_logs.specs.Beginning.{PhasesLogged};
-ghost use Rattle.claimed_logs.specs.Events.{RestartEventsLogged, UpEventsLogged};
+ghost use Rattle.claimed_logs.specs.Events.{RestartEventsLogged, RestingEventsLogged, UpEventsLogged};
 ghost use Rattle.claimed_logs.specs.Failing.{RestartFailsLogged, UpFailsLogged};
 ghost use Rattle.claimed_logs.specs.Found.{AdoptionsFound};
 ghost use Rattle.claimed_logs.specs.Leaving.{ReadLeaves, UnreadLeaves};
 ghost use Rattle.claimed_logs.specs.Logs.{FreshLogged, GroupFailsLogged, LogsKnow, OneLogged};
 ghost use Rattle.claimed_logs.specs.Runs.{KnowingRunsStand};
 ghost use Rattle.claimed_logs.specs.Steps.{HandedLogged, RestartStepsLogged, UpStepsLogged};
+ghost use Rattle.claimed_logs.specs.Taken.{EventsKeep};
 
 use adopted_claims::adopted_have_claims;
 use cache_structure::CacheFace;
 use ds_disk::Disk;
 use failed_logs::{
-    claims_stay as logs_stay_claimed, failures_claim, groups_run, logs_stay_locked, members_go,
-    moves_spare,
+    claims_stay as logs_stay_claimed, failures_claim, groups_go, groups_run, logs_stay_locked,
+    member_restarts_go, member_steps_go, members_go, moves_spare, phases_go, resting_members_go,
 };
 use group_logs::members_log;
 use lock_restarts::restarts_follow;
@@ -108,12 +109,13 @@ pub fn steps_logged()
     claims_tell();
 }
 
-/// So the logs of all members stay claimed behind an event of one that is up, and behind one of a restart, in which no call of the disk fails:
-/// of the restart given that its moves leave the claims of its member's rollbacks, and, where the member is up by it, that the rows of its
-/// log are locked.
+/// So the logs of all members stay claimed behind an event of one that is up, and behind one of a member that restarts, in which no call of the
+/// disk fails: of the restart given that the rows of its member's log are locked, where the member is up by it, and of the others given that
+/// nothing waits in the member's own log buffer as long as its restart hasn't read the log.
 pub fn events_logged()
     ensures up { UpEventsLogged }
     ensures restart { RestartEventsLogged }
+    ensures resting { RestingEventsLogged }
 {
     logs_claimed();
     steps_logged();
@@ -122,4 +124,24 @@ pub fn events_logged()
     members_go();
     restarts_follow();
     commands_count();
+    claims_stay();
+    numbers_stay();
+}
+
+/// So it stays behind any event of a group that isn't refused, while no group restart is in hand, given what no contract says yet.
+pub fn events_keep<D: Disk, C: CacheFace, P>()
+    ensures { EventsKeep P C.directory D.alive D.contents D.faults }
+{
+    groups_go();
+    phases_go();
+    member_steps_go();
+    member_restarts_go();
+    resting_members_go();
+    members_log();
+    adoptions_found();
+    logs_claimed();
+    phases_logged();
+    events_logged();
+    failures_logged();
+    restarts_leave();
 }

@@ -16,7 +16,10 @@ ghost use Rattle.failed_logs.specs.Logs.{
 
 use adopted_rows::rows_taken_over;
 use failed_claims::{claims_handed_over, failures_leave};
-pub use group_locks::{groups_run, members_go, moves_spare};
+pub use group_locks::{
+    groups_go, groups_run, member_restarts_go, member_steps_go, members_go, moves_spare, phases_go,
+    resting_members_go,
+};
 use group_locks::{member_failures_go, members_fail};
 use left_open::left_is_locked;
 pub use left_open::logs_stay_locked;

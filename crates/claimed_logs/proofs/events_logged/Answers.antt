@@ -1,5 +1,6 @@
 use Rattle.claimed_logs.proofs.events_logged.Goals as goal
 use Rattle.claimed_logs.proofs.Events.{Facts, restart_events, up_events}
+use Rattle.claimed_logs.proofs.Resting.{resting_events}
 
 pub returns : goal.returns
 returns c =
@@ -15,4 +16,13 @@ returns c =
       standings = c.restarts_follow.ensures.standings;
       commands = c.commands_count.ensures;
     } in
-    record { up = up_events facts; restart = restart_events facts }
+    record {
+      up = up_events facts;
+      restart = restart_events facts;
+      resting = resting_events (record {
+        one = facts.one;
+        made = facts.made;
+        left = record { left = c.claims_stay.ensures.other; more = c.numbers_stay.ensures.more };
+        commands = facts.commands;
+      });
+    }

@@ -1,0 +1,23 @@
+use Rattle.claimed_logs.proofs.events_keep.Goals as goal
+use Rattle.claimed_logs.proofs.Taken.{events_keep}
+
+pub returns : goal.returns
+returns g c = events_keep _ g.C.CacheFace.directory g.D.Disk.alive g.D.Disk.contents g.D.Disk.faults (record {
+  fails = c.groups_go.ensures.fails;
+  phases = c.phases_go.ensures;
+  steps = c.member_steps_go.ensures;
+  restarts = c.member_restarts_go.ensures;
+  rests = c.resting_members_go.ensures;
+  logs = c.members_log.ensures.comes;
+  found = c.adoptions_found.ensures;
+  know = c.logs_claimed.ensures.know;
+  group_fails = c.logs_claimed.ensures.fails;
+  phases_logged = c.phases_logged.ensures;
+  up = c.events_logged.ensures.up;
+  restart = c.events_logged.ensures.restart;
+  resting = c.events_logged.ensures.resting;
+  up_fails = c.failures_logged.ensures.up;
+  restart_fails = c.failures_logged.ensures.restart;
+  unread = c.restarts_leave.ensures.unread;
+  read = c.restarts_leave.ensures.read;
+})

@@ -1,0 +1,41 @@
+-- The logs of a group behind any event of it.
+use Rattle.std.specs.Prelude.{◌≡◌, ◌≢◌, ℕ, ◌+◌, Bool, true, false, Option, Some, IfSome, is_some, slice_get}
+use Rattle.ds_disk.specs.Contents.{Contents, log_of}
+use Rattle.ds_model.specs.declared.script.Phase.{Phase}
+use Rattle.cache_structure.specs.Directory.{Directory}
+use Rattle.list_structure.specs.declared.standing.MemberStatus.TheVariants.{Up}
+use Rattle.list_structure.specs.Standings.{status_of}
+use Rattle.lock_protocol.specs.Machine.{World}
+use Rattle.failed_logs.specs.Given.{Member}
+use Rattle.group_core.specs.Given.{CrewState, crew_state}
+use Rattle.group_core.specs.declared.fault.RunFault.TheVariants as fault
+use Rattle.group_core.specs.declared.group.Group.{Group}
+use Rattle.group_core.specs.Takes.{Takes}
+use Rattle.failed_logs.specs.Given.{IsFor, Moves, Whose}
+use Rattle.failed_logs.specs.Given.{RestartStepsAt}
+use Rattle.failed_logs.specs.Given.{LocksTied}
+use Rattle.failed_logs.specs.Given.{FailsAt}
+use Rattle.claimed_logs.specs.Beginning.{BeginKnowing, IsLog}
+use Rattle.claimed_logs.specs.Events.{IsIdle}
+use Rattle.claimed_logs.specs.Leaving.{LeavesLeft}
+use Rattle.claimed_logs.specs.Logs.{LogsClaimed, UpLogged}
+
+-- What an event takes from elsewhere, where the disk holds these before it, and those behind it. No contract says it yet.
+pub record Supplied (c d : Contents) (old new : CrewState) (w : World) : Type 0 where
+  -- logs are bytes, of few records; and restarts that begin were told of whole records alone
+  pub are : (at : ℕ) → IsLog (log_of c.logs (at + 1))
+  pub knows : (phase : Phase) → BeginKnowing c phase old new
+  -- of the log of a member that is up by its restart
+  pub ups : (at : ℕ) (m n : Member) → RestartStepsAt old new at m n w → status_of new.facility.lists.statuses (at + 1) ≡ Up → UpLogged (log_of d.logs (at + 1)) new.facility.counter n.holds.marks
+  -- nothing waits in the own log buffer of a member that restarts, as long as its restart hasn't read its log
+  pub idle : (at : ℕ) → IfSome (slice_get old.members at) IsIdle
+  -- the log where one fails that restarts, once it is read: it leaves open what isn't over
+  pub leaves : (at : ℕ) (m n : Member) → FailsAt old new at m n → IfSome m.restart (λ q. q.resources.marks.own.is_read ≡ true → LeavesLeft (log_of d.logs (at + 1)) q.resources.marks)
+
+-- an event that isn't refused, while no group restart is in hand
+abbrev pub EventsKeep : {C D : Type 0} → (P : Type 0) → (C → Directory) → (D → Bool) → (D → Option Contents) → (D → ℕ) → Type 0
+EventsKeep {C} {D} P directory alive contents count = (old new : Group D C P) (event : ℕ) (w : World) (c d : Contents)
+    → Takes directory alive contents count old event new → ((at : ℕ) → new.fault ≢ Some (fault.Unlawful at)) → is_some old.crew.restart ≡ false
+    → contents old.disk ≡ Some c → contents new.disk ≡ Some d → LocksTied (crew_state directory old.crew) w → Supplied c d (crew_state directory old.crew) (crew_state directory new.crew) w
+    → LogsClaimed c (crew_state directory old.crew) w
+    → (by : Whose) × IsFor event by × (moves : Moves by (crew_state directory old.crew) (crew_state directory new.crew) w) × LogsClaimed d (crew_state directory new.crew) moves.world
