@@ -29,7 +29,8 @@ pub record Supplied (c d : Contents) (old new : CrewState) (w : World) : Type 0 
   pub ups : (at : ℕ) (m n : Member) → RestartStepsAt old new at m n w → status_of new.facility.lists.statuses (at + 1) ≡ Up → UpLogged (log_of d.logs (at + 1)) new.facility.counter n.holds.marks
   -- nothing waits in the own log buffer of a member that restarts, as long as its restart hasn't read its log
   pub idle : (at : ℕ) → IfSome (slice_get old.members at) IsIdle
-  -- the log where one fails that restarts, once it is read: it leaves open what isn't over
+  -- the log where one fails that restarts, once it is read: it leaves open what isn't over. Behind what it has handed over it isn't so, since the restart's
+  -- list is empty then and the log not closed yet: nothing is said of a member that fails there
   pub leaves : (at : ℕ) (m n : Member) → FailsAt old new at m n → IfSome m.restart (λ q. q.resources.marks.own.is_read ≡ true → LeavesLeft (log_of d.logs (at + 1)) q.resources.marks)
 
 -- an event that isn't refused, while no group restart is in hand
