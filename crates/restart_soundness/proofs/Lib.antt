@@ -4,3 +4,5 @@ pub mod Steps
 pub mod Rows
 pub mod Numbered
 pub mod Runs
+pub mod Disks
+pub mod Ended

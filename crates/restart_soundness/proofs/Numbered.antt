@@ -10,7 +10,7 @@ use Rattle.ds_disk.specs.Pages.{page_at}
 use Rattle.page_format.specs.Fields.{version_at, width_in, lrsn_of, is_old}
 use Rattle.log_reader.specs.Keeping.{AreBytes}
 use Rattle.restart_plan.specs.Renewal.{must_renew}
-use Rattle.restart_soundness.specs.Runs.{BytesAreNumbered, RenewedAreNumbered, SoundDisksBegin, LeftDisksAreSound}
+use Rattle.restart_soundness.specs.Runs.{BytesAreNumbered, RenewedAreNumbered, SoundDisksBegin, UnaskedDisksBegin, LeftDisksAreSound}
 
 -- ---- six bytes
 
@@ -42,6 +42,9 @@ renewed_are_numbered c logs sound none = λ id old. absurd (both_ways (must_rene
 
 pub sound_disks_begin : SoundDisksBegin
 sound_disks_begin c are is = record { logs = is.logs; now = record { sound = is.sound; numbered = bytes_are_numbered c are } }
+
+pub unasked_disks_begin : UnaskedDisksBegin
+unasked_disks_begin c logs sound none = record { logs = logs; now = record { sound = sound; numbered = renewed_are_numbered c logs sound none } }
 
 pub left_disks_are_sound : LeftDisksAreSound
 left_disks_are_sound c is = record { logs = is.logs; sound = is.now.sound }

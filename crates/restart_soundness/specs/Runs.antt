@@ -1,9 +1,11 @@
 -- A whole run of a group restart over a sound disk: what it leaves, wherever it ends.
-use Rattle.std.specs.Prelude.{◌≡◌, ℕ, true, false, List, length, Some, Result, IfOk}
+use Rattle.std.specs.Prelude.{◌≡◌, ℕ, Bool, true, false, List, length, Option, Some, Result, IfOk}
+use Rattle.std.specs.List.{AllByRecursion}
 use Rattle.ds_base.specs.declared.fault.NoMemory.{NoMemory}
 use Rattle.ds_base.specs.declared.names.PageId.{PageId}
 use Rattle.ds_disk.specs.Contents.{Contents, Becomes}
 use Rattle.ds_disk.specs.Pages.{page_at}
+use Rattle.ds_model.specs.declared.log.LogRecord.{LogRecord}
 use Rattle.ds_model.specs.Logs.{StandFor}
 use Rattle.ds_model.specs.Rows.{Rows}
 use Rattle.log_record.specs.declared.log.Log.{Log}
@@ -17,7 +19,7 @@ use Rattle.group_restart.specs.Disk.{Drive}
 use Rattle.group_restart.specs.Machine.{Restart}
 use Rattle.group_restart.specs.Course.{IsBegun}
 use Rattle.disk_restart.specs.Runs.{IsRun, RestartsDisk}
-use Rattle.sound_disk.specs.Settled.{has_ended}
+use Rattle.sound_disk.specs.Settled.{is_row_change, is_settled, has_ended}
 use Rattle.sound_disk.specs.Sound.{IsSoundWith, IsSoundDisk}
 use Rattle.sound_disk.specs.Versions.{last_images}
 use Rattle.sound_appends.specs.Laws.{HaveNoTails}
@@ -88,3 +90,33 @@ SoundDisksBegin = (c : Contents) → PagesAreBytes c → IsSoundDisk c → IsLef
 
 abbrev pub LeftDisksAreSound : Type 0
 LeftDisksAreSound = (c : Contents) → IsLeftSound c → IsSoundDisk c
+
+-- and so it may with each sound disk no log of which asks for pages of version 1 to be renewed
+abbrev pub UnaskedDisksBegin : Type 0
+UnaskedDisksBegin = (c : Contents) (logs : List Log) → IsSoundWith c logs → must_renew logs ≡ false → IsLeftSound c
+
+-- ---- disks of any kind
+
+-- what a disk shows of itself, as the contract of a group restart has it
+abbrev pub drive_of : {D : Type 0} → (D → Bool) → (D → Option Contents) → D → Drive
+drive_of alive contents disk = record { alive = alive disk; contents = contents disk }
+
+-- a group restart that has only begun leaves the disk sound, whatever it ends with
+abbrev pub RunsLeaveDisksSound : {D : Type 0} → (D → Bool) → (D → Option Contents) → Type 0
+RunsLeaveDisksSound {D} alive contents = (old new : D) (h k : Restart) (result : Result State NoMemory) → IsBegun h → IsRun (drive_of alive contents old) h result (drive_of alive contents new) k
+    → Becomes (contents old) (contents new) (λ c d. IsLeftSound c → IsLeft result c d)
+
+-- and one that is made for the disk
+abbrev pub RestartsLeaveDisksSound : {D : Type 0} → (D → Bool) → (D → Option Contents) → Type 0
+RestartsLeaveDisksSound {D} alive contents = (old new : D) (result : Result State NoMemory) → RestartsDisk (drive_of alive contents old) result (drive_of alive contents new)
+    → Becomes (contents old) (contents new) (λ c d. IsLeftSound c → IsLeft result c d)
+
+-- ---- what has ended
+
+-- each row change is of a transaction that has committed, or was taken back
+abbrev pub AreSettled : List LogRecord → Type 0
+AreSettled records = AllByRecursion (λ (r : LogRecord). is_row_change r.body ≡ true → is_settled records r ≡ true) records
+
+-- so it is where no row change of any transaction is open
+abbrev pub EndedAreSettled : Type 0
+EndedAreSettled = (records : List LogRecord) → ((tran : ℕ) → has_ended records tran ≡ true) → AreSettled records

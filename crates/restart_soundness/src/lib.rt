@@ -3,8 +3,10 @@
 //! The crate has definitions and proofs alone. Its function does nothing: its contract is the law.
 #![tactic(auto)]
 
-ghost use Rattle.restart_soundness.specs.Runs.{BytesAreNumbered, LeftDisksAreSound, RenewedAreNumbered, RestartsLeaveSound, RunsLeaveSound, SoundDisksBegin};
+ghost use Rattle.restart_soundness.specs.Runs.{BytesAreNumbered, EndedAreSettled, LeftDisksAreSound, RenewedAreNumbered, RestartsLeaveDisksSound, RestartsLeaveSound, RunsLeaveDisksSound, RunsLeaveSound, SoundDisksBegin, UnaskedDisksBegin};
 ghost use Rattle.restart_soundness.specs.Soundness.{RestartBegins, RunLeavesSound, StepLeavesSound};
+
+use ds_disk::Disk;
 
 /// Each step of a group restart over a sound disk with the logs of all members, from its first to its last, leaves a sound disk,
 /// whatever the call of the disk comes to, also where the disk dies in it or memory is wanting. It names no damage; and where all is
@@ -39,10 +41,30 @@ pub fn run_laws()
 }
 
 /// Such a run may begin with each sound disk whose pages are bytes, and with each of which no log asks for pages of version 1
-/// to be renewed: the numbers of its pages of version 1 are of the format. What it leaves is a sound disk.
+/// to be renewed: the numbers of its pages of version 1 are of the format. What it leaves is a sound disk, with which another may
+/// begin.
 pub fn disk_laws()
     ensures bytes { BytesAreNumbered }
     ensures renewed { RenewedAreNumbered }
     ensures begin { SoundDisksBegin }
+    ensures unasked { UnaskedDisksBegin }
     ensures left { LeftDisksAreSound }
 {}
+
+/// In records where no row change of any transaction is open, each has the Commit of its transaction, or a Compensation that takes
+/// it back.
+pub fn ended_laws()
+    ensures { EndedAreSettled }
+{}
+
+/// The whole runs again, word for word as the contracts of `disk_restart::run_restart` and `disk_restart::restart_disk` tell of
+/// them over a disk of any kind, which has the logs of all members. So each of these contracts with this law says: a group
+/// restart over a sound disk with which one may begin leaves a sound disk whose logs stand for the same rows, also where it is
+/// stopped inside a call of the disk; it names no damage; and where it is done, no row change is open, no log has a tail, each page
+/// is as all records leave it, and none is of version 1.
+pub fn group_restart_laws<D: Disk>()
+    ensures run { RunsLeaveDisksSound D.alive D.contents }
+    ensures restart { RestartsLeaveDisksSound D.alive D.contents }
+{
+    run_laws();
+}
