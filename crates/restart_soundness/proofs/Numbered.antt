@@ -49,7 +49,7 @@ pub unasked_disks_begin : UnaskedDisksBegin
 unasked_disks_begin c logs sound none = record { logs = logs; now = record { sound = sound; numbered = renewed_are_numbered c logs sound none } }
 
 pub new_disks_begin : NewDisksBegin
-new_disks_begin c none is = record { logs = is.logs; now = record { sound = is.sound; numbered = λ id old. absurd (both_ways (is_old (page_at c.pages id)) old (none id)) } }
+new_disks_begin c none is = record { logs = is.logs; now = record { sound = is.sound; numbered = λ id old. absurd (both_ways (is_old (page_at c.pages id)) (none id) old) } }
 
 pub left_disks_are_sound : LeftDisksAreSound
 left_disks_are_sound c is = record { logs = is.logs; sound = is.now.sound }
