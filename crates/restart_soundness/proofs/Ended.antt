@@ -19,10 +19,10 @@ settled_if false change false h o c = absurd cc
 
 each_settled : (records some : List LogRecord) → ((tran : ℕ) → list_all (is_no_open records tran) some ≡ true) → AllByRecursion (λ (r : LogRecord). is_row_change r.body ≡ true → is_settled records r ≡ true) some
 each_settled records [] h = tt
-each_settled records (r ∷ rs) h = (
-  λ change. settled_if (r.tran == r.tran) (is_row_change r.body) (is_settled records r) (and_parts (is_no_open records r.tran r) (list_all (is_no_open records r.tran) rs) (h r.tran)).0 (eq-eqb r.tran r.tran refl) change,
-  each_settled records rs (λ tran. (and_parts (is_no_open records tran r) (list_all (is_no_open records tran) rs) (h tran)).1),
-)
+each_settled records (r ∷ rs) h =
+    let first : is_row_change r.body ≡ true → is_settled records r ≡ true =
+    λ change. settled_if (r.tran == r.tran) (is_row_change r.body) (is_settled records r) (and_parts (is_no_open records r.tran r) (list_all (is_no_open records r.tran) rs) (h r.tran)).0 (eq-eqb r.tran r.tran refl) change in
+    (first, each_settled records rs (λ tran. (and_parts (is_no_open records tran r) (list_all (is_no_open records tran) rs) (h tran)).1))
 
 pub ended_are_settled : EndedAreSettled
 ended_are_settled records h = each_settled records records h

@@ -6,11 +6,13 @@ use Rattle.std.proofs.lemmas.List.{get_or-drop}
 use Rattle.byteorder.specs.Endian.{big_number}
 use Rattle.byteorder.specs.Numbers.{big_from-lt}
 use Rattle.ds_base.specs.Ids.{IsLrsn}
+use Rattle.ds_base.specs.declared.names.PageId.{PageId}
 use Rattle.ds_disk.specs.Pages.{page_at}
 use Rattle.page_format.specs.Fields.{version_at, width_in, lrsn_of, is_old}
 use Rattle.log_reader.specs.Keeping.{AreBytes}
 use Rattle.restart_plan.specs.Renewal.{must_renew}
-use Rattle.restart_soundness.specs.Runs.{BytesAreNumbered, RenewedAreNumbered, SoundDisksBegin, UnaskedDisksBegin, LeftDisksAreSound}
+use Rattle.sound_restarts.proofs.Page_writes.{put_has}
+use Rattle.restart_soundness.specs.Runs.{BytesAreNumbered, RenewedAreNumbered, SoundDisksBegin, UnaskedDisksBegin, NewDisksBegin, WritesStayNumbered, LeftDisksAreSound}
 
 -- ---- six bytes
 
@@ -46,5 +48,16 @@ sound_disks_begin c are is = record { logs = is.logs; now = record { sound = is.
 pub unasked_disks_begin : UnaskedDisksBegin
 unasked_disks_begin c logs sound none = record { logs = logs; now = record { sound = sound; numbered = renewed_are_numbered c logs sound none } }
 
+pub new_disks_begin : NewDisksBegin
+new_disks_begin c none is = record { logs = is.logs; now = record { sound = is.sound; numbered = λ id old. absurd (both_ways (is_old (page_at c.pages id)) (none id) old) } }
+
 pub left_disks_are_sound : LeftDisksAreSound
 left_disks_are_sound c is = record { logs = is.logs; sound = is.now.sound }
+
+-- ---- writes
+
+abbrev IsNumbered : PageId → List ℕ → Type 0
+IsNumbered id page = is_old page ≡ true → IsLrsn (lrsn_of page)
+
+pub writes_stay_numbered : WritesStayNumbered
+writes_stay_numbered c id page are numbered = λ q. put_has IsNumbered c id q page (old_number page are) (λ other. numbered q)

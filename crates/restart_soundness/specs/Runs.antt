@@ -24,7 +24,7 @@ use Rattle.sound_disk.specs.Sound.{IsSoundWith, IsSoundDisk}
 use Rattle.sound_disk.specs.Versions.{last_images}
 use Rattle.sound_appends.specs.Laws.{HaveNoTails}
 use Rattle.sound_plans.specs.Queues.{records_for}
-use Rattle.sound_restarts.specs.Redo.{OldAreNumbered}
+use Rattle.sound_restarts.specs.Redo.{OldAreNumbered, with_page}
 use Rattle.sound_steps.specs.Given.{NoneIsOld, IsLeftSound}
 
 -- ---- what a run leaves
@@ -94,6 +94,14 @@ LeftDisksAreSound = (c : Contents) → IsLeftSound c → IsSoundDisk c
 -- and so it may with each sound disk no log of which asks for pages of version 1 to be renewed
 abbrev pub UnaskedDisksBegin : Type 0
 UnaskedDisksBegin = (c : Contents) (logs : List Log) → IsSoundWith c logs → must_renew logs ≡ false → IsLeftSound c
+
+-- or that has no page of version 1, as behind a restart that was done
+abbrev pub NewDisksBegin : Type 0
+NewDisksBegin = (c : Contents) → NoneIsOld c → IsSoundDisk c → IsLeftSound c
+
+-- the numbers are of the format still where a page of bytes is written
+abbrev pub WritesStayNumbered : Type 0
+WritesStayNumbered = (c : Contents) (id : PageId) (page : List ℕ) → AreBytes page → OldAreNumbered c → OldAreNumbered (with_page c id page)
 
 -- ---- disks of any kind
 

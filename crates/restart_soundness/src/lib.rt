@@ -3,7 +3,7 @@
 //! The crate has definitions and proofs alone. Its function does nothing: its contract is the law.
 #![tactic(auto)]
 
-ghost use Rattle.restart_soundness.specs.Runs.{BytesAreNumbered, EndedAreSettled, LeftDisksAreSound, RenewedAreNumbered, RestartsLeaveDisksSound, RestartsLeaveSound, RunsLeaveDisksSound, RunsLeaveSound, SoundDisksBegin, UnaskedDisksBegin};
+ghost use Rattle.restart_soundness.specs.Runs.{BytesAreNumbered, EndedAreSettled, LeftDisksAreSound, NewDisksBegin, RenewedAreNumbered, RestartsLeaveDisksSound, RestartsLeaveSound, RunsLeaveDisksSound, RunsLeaveSound, SoundDisksBegin, UnaskedDisksBegin, WritesStayNumbered};
 ghost use Rattle.restart_soundness.specs.Soundness.{RestartBegins, RunLeavesSound, StepLeavesSound};
 
 use ds_disk::Disk;
@@ -40,15 +40,17 @@ pub fn run_laws()
     sound_plans::open_laws();
 }
 
-/// Such a run may begin with each sound disk whose pages are bytes, and with each of which no log asks for pages of version 1
-/// to be renewed: the numbers of its pages of version 1 are of the format. What it leaves is a sound disk, with which another may
-/// begin.
+/// Such a run may begin with each sound disk the numbers of whose pages of version 1 are of the format. They are where all pages
+/// are bytes, where no log asks for pages of version 1 to be renewed, and where there are none; and they stay so where a page of bytes
+/// is written. What a run leaves is a sound disk with which another may begin.
 pub fn disk_laws()
     ensures bytes { BytesAreNumbered }
     ensures renewed { RenewedAreNumbered }
     ensures begin { SoundDisksBegin }
     ensures unasked { UnaskedDisksBegin }
+    ensures new { NewDisksBegin }
     ensures left { LeftDisksAreSound }
+    ensures written { WritesStayNumbered }
 {}
 
 /// In records where no row change of any transaction is open, each has the Commit of its transaction, or a Compensation that takes
