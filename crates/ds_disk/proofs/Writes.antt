@@ -1,5 +1,5 @@
 -- What a page write leaves on a disk in memory: pages of bytes.
-use Rattle.std.specs.Prelude.{◌≡◌, ◌⊎◌, ℕ, List, length, Bool, true, false, cond, eqb, Option, Some, None, Result, Ok, Err, IfOk, IsErrOf}
+use Rattle.std.specs.Prelude.{◌≡◌, ◌⊎◌, ℕ, List, length, Bool, true, false, cond, eqb, Some, None, Result, Ok, Err, IfOk, IsErrOf}
 use Rattle.std.specs.FinMap as map
 use Rattle.std.proofs.Common.{inl, inr, refl, sym, ap, subst, ◌∙◌, arith}
 use Rattle.std.proofs.lemmas.Bool.{and_parts, and_from}

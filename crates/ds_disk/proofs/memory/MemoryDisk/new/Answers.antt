@@ -1,4 +1,4 @@
-use Rattle.std.proofs.Common.{◌∙◌, ap, length, rules}
+use Rattle.std.proofs.Common.{◌∙◌, ap, length}
 use Rattle.ds_disk.specs.Written.{have_bytes, none_have}
 use Rattle.ds_disk.proofs.Writes.{nothing_told}
 use Rattle.ds_disk.proofs.memory.MemoryDisk.new.Goals as goal
