@@ -1,2 +1,3 @@
 pub mod FoundPages
 pub mod Appends
+pub mod Writes

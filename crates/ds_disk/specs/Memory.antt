@@ -1,10 +1,12 @@
 -- A disk in memory, as contracts see it, and how its calls end.
-use Rattle.std.specs.Prelude.{◌≡◌, ◌⊎◌, ℕ, Bool, true, false, cond, eqb, nat_lt, List, [], ◌++◌, length, take, replicate, Option, Some, None, Result, Err}
-use Rattle.std.proofs.Common.{refl, arith}
+use Rattle.std.specs.Prelude.{◌≡◌, ◌⊎◌, ℕ, Bool, true, false, ◌&&◌, cond, eqb, nat_lt, List, [], ◌++◌, length, take, replicate, Option, Some, None, Result, Err}
+use Rattle.std.proofs.Common.{refl, ap, ◌∙◌}
+use Rattle.std.proofs.lemmas.Bool.{and_parts, eqb-true}
 use Rattle.std.specs.Coded.{Coded, code_by, coded×, coded_ℕ, coded_list}
 use Rattle.std.specs.FinMap as map
 use Rattle.ds_base.specs.declared.names.PageId.{PageId}
-use Rattle.ds_disk.specs.Pages.{Pages, coded_page, put_pages}
+use Rattle.ds_disk.specs.Pages.{Pages, PagesAreBytes, coded_page, put_pages}
+use Rattle.ds_disk.specs.Written.{have_bytes, pages_are}
 use Rattle.ds_disk.specs.Contents.{Contents, log_of, with_log, put_logs}
 use Rattle.ds_disk.specs.Conditions.{Condition, course, counted, after, Answered}
 use Rattle.ds_disk.specs.declared.disk.DiskError.{DiskError}
@@ -32,16 +34,26 @@ contents_code = code_by (Pages × List (List ℕ)) (coded× (map.code coded_page
 abbrev pub memory_code : Coded Condition → Coded Memory
 memory_code condition = code_by (Contents × Condition) (coded× contents_code condition) (λ m. (m.contents, m.condition)) (λ q. record { contents = q.0; condition = q.1 }) (λ _. refl)
 
--- each disk in memory has the 32 logs, and tells what it holds
-abbrev pub told : Memory → Option Contents
-told m = cond (eqb (length m.contents.logs) 32) (Some m.contents) None
+-- each disk in memory has the 32 logs, and pages of bytes
+abbrev pub is_whole : Contents → Bool
+is_whole c = eqb (length c.logs) 32 && have_bytes c.pages
 
-logs_when : (b : Bool) (held c : Contents) → eqb (length held.logs) 32 ≡ b → cond b (Some held) None ≡ Some c → length c.logs ≡ 32
-logs_when true held c is e = grind arith
-logs_when false held c is e = grind arith
+-- so it tells what it holds
+abbrev pub told : Memory → Option Contents
+told m = cond (is_whole m.contents) (Some m.contents) None
+
+whole_when : (b : Bool) (held c : Contents) → is_whole held ≡ b → cond b (Some held) None ≡ Some c → is_whole c ≡ true
+whole_when true held c is e = ap is_whole (let same : c ≡ held = cc in same) ∙ is
+whole_when false held c is e = absurd cc
+
+told_whole : (m : Memory) (c : Contents) → told m ≡ Some c → (eqb (length c.logs) 32 ≡ true) × (have_bytes c.pages ≡ true)
+told_whole m c e = and_parts (eqb (length c.logs) 32) (have_bytes c.pages) (whole_when (is_whole m.contents) m.contents c refl e)
 
 pub told_logs : (m : Memory) (c : Contents) → told m ≡ Some c → length c.logs ≡ 32
-told_logs m c e = logs_when (eqb (length m.contents.logs) 32) m.contents c refl e
+told_logs m c e = eqb-true (length c.logs) 32 (told_whole m c e).0
+
+pub told_pages : (m : Memory) (c : Contents) → told m ≡ Some c → PagesAreBytes c.pages
+told_pages m c e = pages_are c.pages (told_whole m c e).1
 
 -- whether a page write or a cut is done, and whether an append keeps anything
 abbrev pub is_done : Course → Bool

@@ -1,5 +1,5 @@
 -- The pages that a disk has, by their names.
-use Rattle.std.specs.Prelude.{ℕ, List, [], ◌∷◌, unwrap_or, replicate}
+use Rattle.std.specs.Prelude.{ℕ, ◌<◌, List, [], ◌∷◌, unwrap_or, replicate, slice_index}
 use Rattle.std.proofs.Common.{refl}
 use Rattle.std.specs.Ordering.{nat_cmp, on, then_cmp}
 use Rattle.std.specs.declared.cmp.Ordering.{Ordering}
@@ -22,6 +22,14 @@ Pages = map.FinMap page_cmp (List ℕ)
 -- a page that was never written reads as zeros
 abbrev pub page_at : Pages → PageId → List ℕ
 page_at pages id = unwrap_or (map.get pages id) (replicate 4096 0)
+
+-- each is a byte
+abbrev pub AreBytes : List ℕ → Type 0
+AreBytes bytes = (i : ℕ) → slice_index bytes i < 256
+
+-- each page is of bytes, as one that was never written is
+abbrev pub PagesAreBytes : Pages → Type 0
+PagesAreBytes pages = (id : PageId) → AreBytes (page_at pages id)
 
 -- these pages are written in turn, so that the last with a name stands
 abbrev pub put_pages : Pages → List (PageId × List ℕ) → Pages

@@ -53,7 +53,7 @@ pub struct DiskFailure {
 ///
 /// A page that was never written reads as zeros. An append that answered `Ok` is stable.
 pub trait Disk {
-    ghost use Rattle.ds_disk.specs.Pages.{page_at};
+    ghost use Rattle.ds_disk.specs.Pages.{PagesAreBytes, page_at};
     ghost use Rattle.ds_disk.specs.Contents.{Contents, Same, log_of, with_log};
     ghost use Rattle.ds_disk.specs.Answers.{Answers, HasCause, Appended};
 
@@ -68,6 +68,9 @@ pub trait Disk {
 
     /// There is a log for each of the 32 members.
     ghost has_logs: { (disk : Self) (c : Contents) → contents disk ≡ Some c → length c.logs ≡ 32 };
+
+    /// Each page is of bytes.
+    ghost pages_are_bytes: { (disk : Self) (c : Contents) → contents disk ≡ Some c → PagesAreBytes c.pages };
 
     fn read_page(&mut self, id: PageId, into: &mut [u8; 4096]) -> Result<(), DiskError>
         ensures answers { Answers (alive self.old) (alive self.new) (contents self.old) (contents self.new) result

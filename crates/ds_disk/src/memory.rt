@@ -1,10 +1,10 @@
 ghost use Rattle.std.specs.Prelude.{◌≡◌, ◌⊎◌, ◌-◌, ◌≤◌, List, All, length, take, drop, min, replicate, Some, IfOk};
 ghost use Rattle.std.specs.FinMap as map;
 ghost use Rattle.ds_base.specs.Causes.{Rose};
-ghost use Rattle.ds_disk.specs.Pages.{page_at};
+ghost use Rattle.ds_disk.specs.Pages.{AreBytes, page_at};
 ghost use Rattle.ds_disk.specs.Contents.{log_of};
 ghost use Rattle.ds_disk.specs.Conditions.{healthy, course};
-ghost use Rattle.ds_disk.specs.Memory.{Ends, EndsOrWants, holding, nothing, append_left, cut_left, page_left, told, told_logs};
+ghost use Rattle.ds_disk.specs.Memory.{Ends, EndsOrWants, holding, nothing, append_left, cut_left, page_left, told, told_logs, told_pages};
 ghost use Rattle.ds_disk.specs.declared.disk.DiskOp.TheVariants.{ReadPage, WritePage, AppendLog, LogLength, ReadLog, CutLog};
 
 use crate::health::Health;
@@ -26,8 +26,9 @@ pub struct MemoryDisk {
 }
 
 impl Model for MemoryDisk {
-    ghost use Rattle.std.specs.Prelude.{◌≡◌, length};
+    ghost use Rattle.std.specs.Prelude.{◌≡◌, length, true};
     ghost use Rattle.ds_disk.specs.Conditions.{condition_code};
+    ghost use Rattle.ds_disk.specs.Written.{have_bytes};
     ghost use Rattle.ds_disk.specs.Memory.{Memory, memory_code};
     ghost use Rattle.ds_disk.specs.contracts.disk.DiskFailure as failure;
     ghost use Rattle.ds_disk.specs.contracts.plan.Calls as calls;
@@ -38,7 +39,7 @@ impl Model for MemoryDisk {
 
     ghost view = { λ d. record { contents = record { pages = d.pages; logs = d.logs }; condition = d.health } };
 
-    ghost invariant = { λ d. length d.logs ≡ 32 };
+    ghost invariant = { λ d. (length d.logs ≡ 32) × (have_bytes d.pages ≡ true) };
 }
 
 impl MemoryDisk {
@@ -105,6 +106,8 @@ impl Disk for MemoryDisk {
 
     ghost has_logs = { told_logs };
 
+    ghost pages_are_bytes = { told_pages };
+
     fn read_page(&mut self, id: PageId, into: &mut [u8; 4096]) -> Result<(), DiskError>
         ensures ends { Ends ReadPage self.old self.new result (λ _. into.new ≡ page_at self.old.contents.pages id) self.old.contents }
     {
@@ -115,6 +118,7 @@ impl Disk for MemoryDisk {
 
     fn write_page(&mut self, id: PageId, from: &[u8; 4096]) -> Result<(), DiskError>
         ensures ends { EndsOrWants WritePage self.old self.new result (λ way. page_left way self.old.contents id from.now) }
+        ensures bytes { AreBytes from.now }
     {
         let course = self.health.begin(DiskOp::WritePage);
         if course.is_done() {

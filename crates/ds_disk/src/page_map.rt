@@ -1,7 +1,8 @@
 //! The pages of a disk in memory, in the order of their names.
-ghost use Rattle.std.specs.Prelude.{◌≡◌, length, All, IfOk, OnOk, OnErr};
+ghost use Rattle.std.specs.Prelude.{◌≡◌, length, true, All, IfOk, OnOk, OnErr};
 ghost use Rattle.std.specs.FinMap as map;
-ghost use Rattle.ds_disk.specs.Pages.{page_at, put_pages};
+ghost use Rattle.ds_disk.specs.Pages.{AreBytes, page_at, put_pages};
+ghost use Rattle.ds_disk.specs.Written.{have_bytes};
 
 use ds_base::{Bytes, NoMemory, PageId};
 use std::alloc::Global;
@@ -79,6 +80,7 @@ impl PageMap {
     pub fn write(&mut self, id: PageId, from: &[u8; 4096]) -> Result<(), NoMemory>
         ensures ok { OnOk result (self.new ≡ map.insert self.old id from.now) }
         ensures err { OnErr result (self.new ≡ self.old) }
+        ensures bytes { AreBytes from.now }
     {
         let page = Page::new(self.alloc, from)?;
         self.written.insert(id, page)?;
@@ -87,7 +89,8 @@ impl PageMap {
 
     pub fn write_all(&mut self, pages: &[(PageId, Bytes)]) -> Result<(), NoMemory>
         requires { All (λ page. length page.1 ≡ 4096) pages.now }
-        ensures { OnOk result (self.new ≡ put_pages self.old pages.now) }
+        ensures put { OnOk result (self.new ≡ put_pages self.old pages.now) }
+        ensures bytes { OnOk result (have_bytes self.old ≡ true → have_bytes self.new ≡ true) }
     {
         for (id, bytes) in pages {
             let mut page = [0; 4096];

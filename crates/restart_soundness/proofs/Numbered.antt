@@ -7,9 +7,8 @@ use Rattle.byteorder.specs.Endian.{big_number}
 use Rattle.byteorder.specs.Numbers.{big_from-lt}
 use Rattle.ds_base.specs.Ids.{IsLrsn}
 use Rattle.ds_base.specs.declared.names.PageId.{PageId}
-use Rattle.ds_disk.specs.Pages.{page_at}
+use Rattle.ds_disk.specs.Pages.{AreBytes, page_at}
 use Rattle.page_format.specs.Fields.{version_at, width_in, lrsn_of, is_old}
-use Rattle.log_reader.specs.Keeping.{AreBytes}
 use Rattle.restart_plan.specs.Renewal.{must_renew}
 use Rattle.sound_restarts.proofs.Page_writes.{put_has}
 use Rattle.restart_soundness.specs.Runs.{BytesAreNumbered, RenewedAreNumbered, SoundDisksBegin, UnaskedDisksBegin, NewDisksBegin, WritesStayNumbered, LeftDisksAreSound}

@@ -4,12 +4,11 @@ use Rattle.std.specs.List.{AllByRecursion}
 use Rattle.ds_base.specs.declared.fault.NoMemory.{NoMemory}
 use Rattle.ds_base.specs.declared.names.PageId.{PageId}
 use Rattle.ds_disk.specs.Contents.{Contents, Becomes}
-use Rattle.ds_disk.specs.Pages.{page_at}
+use Rattle.ds_disk.specs.Pages.{AreBytes, PagesAreBytes, page_at}
 use Rattle.ds_model.specs.declared.log.LogRecord.{LogRecord}
 use Rattle.ds_model.specs.Logs.{StandFor}
 use Rattle.ds_model.specs.Rows.{Rows}
 use Rattle.log_record.specs.declared.log.Log.{Log}
-use Rattle.log_reader.specs.Keeping.{AreBytes}
 use Rattle.log_trans.specs.Numbers.{greatest}
 use Rattle.log_merge.specs.Merging.{all_records}
 use Rattle.restart_plan.specs.Renewal.{must_renew}
@@ -73,12 +72,9 @@ RestartsLeaveSound = (w v : Drive) (result : Result State NoMemory) → HasLogs 
 
 -- ---- where such a run may begin
 
-abbrev pub PagesAreBytes : Contents → Type 0
-PagesAreBytes c = (id : PageId) → AreBytes (page_at c.pages id)
-
 -- the numbers of pages of version 1 are numbers of the format where the pages are bytes
 abbrev pub BytesAreNumbered : Type 0
-BytesAreNumbered = (c : Contents) → PagesAreBytes c → OldAreNumbered c
+BytesAreNumbered = (c : Contents) → PagesAreBytes c.pages → OldAreNumbered c
 
 -- and there are none where no log asks for their renewal
 abbrev pub RenewedAreNumbered : Type 0
@@ -86,7 +82,7 @@ RenewedAreNumbered = (c : Contents) (logs : List Log) → IsSoundWith c logs →
 
 -- so a run may begin with each sound disk whose pages are bytes, and what it leaves is a sound disk
 abbrev pub SoundDisksBegin : Type 0
-SoundDisksBegin = (c : Contents) → PagesAreBytes c → IsSoundDisk c → IsLeftSound c
+SoundDisksBegin = (c : Contents) → PagesAreBytes c.pages → IsSoundDisk c → IsLeftSound c
 
 abbrev pub LeftDisksAreSound : Type 0
 LeftDisksAreSound = (c : Contents) → IsLeftSound c → IsSoundDisk c
@@ -109,15 +105,15 @@ WritesStayNumbered = (c : Contents) (id : PageId) (page : List ℕ) → AreBytes
 abbrev pub drive_of : {D : Type 0} → (D → Bool) → (D → Option Contents) → D → Drive
 drive_of alive contents disk = record { alive = alive disk; contents = contents disk }
 
--- a group restart that has only begun leaves the disk sound, whatever it ends with
+-- a group restart that has only begun leaves a sound disk sound, whatever it ends with
 abbrev pub RunsLeaveDisksSound : {D : Type 0} → (D → Bool) → (D → Option Contents) → Type 0
 RunsLeaveDisksSound {D} alive contents = (old new : D) (h k : Restart) (result : Result State NoMemory) → IsBegun h → IsRun (drive_of alive contents old) h result (drive_of alive contents new) k
-    → Becomes (contents old) (contents new) (λ c d. IsLeftSound c → IsLeft result c d)
+    → Becomes (contents old) (contents new) (λ c d. IsSoundDisk c → IsLeft result c d)
 
 -- and one that is made for the disk
 abbrev pub RestartsLeaveDisksSound : {D : Type 0} → (D → Bool) → (D → Option Contents) → Type 0
 RestartsLeaveDisksSound {D} alive contents = (old new : D) (result : Result State NoMemory) → RestartsDisk (drive_of alive contents old) result (drive_of alive contents new)
-    → Becomes (contents old) (contents new) (λ c d. IsLeftSound c → IsLeft result c d)
+    → Becomes (contents old) (contents new) (λ c d. IsSoundDisk c → IsLeft result c d)
 
 -- ---- what has ended
 

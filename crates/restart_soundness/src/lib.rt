@@ -60,13 +60,14 @@ pub fn ended_laws()
 {}
 
 /// The whole runs again, word for word as the contracts of `disk_restart::run_restart` and `disk_restart::restart_disk` tell of
-/// them over a disk of any kind, which has the logs of all members. So each of these contracts with this law says: a group
-/// restart over a sound disk with which one may begin leaves a sound disk whose logs stand for the same rows, also where it is
-/// stopped inside a call of the disk; it names no damage; and where it is done, no row change is open, no log has a tail, each page
-/// is as all records leave it, and none is of version 1.
+/// them over a disk of any kind, which has the logs of all members and pages of bytes. So each of these contracts with this law says: a
+/// group restart over a sound disk leaves a sound disk whose logs stand for the same rows, also where it is stopped inside a call
+/// of the disk; it names no damage; and where it is done, no row change is open, no log has a tail, each page is as all records
+/// leave it, and none is of version 1.
 pub fn group_restart_laws<D: Disk>()
     ensures run { RunsLeaveDisksSound D.alive D.contents }
     ensures restart { RestartsLeaveDisksSound D.alive D.contents }
 {
+    disk_laws();
     run_laws();
 }

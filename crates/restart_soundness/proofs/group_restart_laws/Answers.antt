@@ -3,6 +3,6 @@ use Rattle.restart_soundness.proofs.group_restart_laws.Goals as goal
 
 pub returns : goal.returns
 returns g c = record {
-  run = runs_leave_disks g.D.Disk.alive g.D.Disk.contents g.D.Disk.has_logs c.run_laws.ensures.run;
-  restart = restarts_leave_disks g.D.Disk.alive g.D.Disk.contents g.D.Disk.has_logs c.run_laws.ensures.restart;
+  run = runs_leave_disks g.D.Disk.alive g.D.Disk.contents g.D.Disk.has_logs g.D.Disk.pages_are_bytes c.disk_laws.ensures.begin c.run_laws.ensures.run;
+  restart = restarts_leave_disks g.D.Disk.alive g.D.Disk.contents g.D.Disk.has_logs g.D.Disk.pages_are_bytes c.disk_laws.ensures.begin c.run_laws.ensures.restart;
 }
