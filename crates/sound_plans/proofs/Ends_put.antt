@@ -1,0 +1,141 @@
+-- Each transaction of which something is closed or undone has an Ended record then, and keeps it.
+use Rattle.std.proofs.Common.{◌≡◌, ℕ, Bool, true, false, cond, List, [], ◌∷◌, ◌++◌, reverse, inl, inr, refl, sym, ap, subst, ◌∙◌}
+use Rattle.std.specs.Prelude.{◌⊎◌, ◌==◌, ◌&&◌, ◌||◌, filter}
+use Rattle.std.specs.List.{list_any, AllByRecursion}
+use Rattle.std.proofs.lemmas.Bool.{cond_both, cases_Bool, both_ways, and_parts, or_cases, or_left, or_right, or_parts, eqb-true}
+use Rattle.std.proofs.lemmas.List.{reverse-reverse}
+use Rattle.ds_model.specs.declared.log.LogRecord.{LogRecord}
+use Rattle.ds_model.specs.declared.log.Body.{Body}
+use Rattle.ds_model.specs.declared.log.Body.TheVariants as body
+use Rattle.log_record.specs.declared.log.Log.{Log}
+use Rattle.log_trans.specs.declared.course.Course.{Course}
+use Rattle.log_trans.specs.Courses.{new_course, is_next, undone_one, after_body}
+use Rattle.restart_plan.specs.declared.opened.Closing.{Closing}
+use Rattle.restart_plan.specs.declared.opened.Undo.{Undo}
+use Rattle.group_restart.specs.Records.{ended, compensation}
+use Rattle.sound_appends.proofs.Left.{course_last}
+use Rattle.sound_plans.specs.Ends.{is_closing, takes, has_end, Trans, EndAll}
+use Rattle.sound_plans.specs.Opens.{course_of}
+use Rattle.sound_plans.specs.Queues.{has_log, records_for, undos, is_of, QueueFits}
+use Rattle.sound_plans.proofs.Logs.{put_record, has_still, records_own, records_other, course_own}
+use Rattle.sound_plans.proofs.Queues.{last_flag, head_of, head_none, first_queue}
+
+-- ---- an Ended record stays
+
+body_ends : (c : Course) (r : LogRecord) (b : Body) → c.is_ended ≡ true → (after_body c r b).is_ended ≡ true
+body_ends c r (body.RowChange change) h = h
+body_ends c r (body.Compensation change undone) h = cond_both (is_next undone c.undo) (undone_one c) c (λ (d : Course). d.is_ended ≡ true) (λ is. h) (λ is. h)
+body_ends c r (body.System patches) h = h
+body_ends c r body.Commit h = h
+body_ends c r body.Ended h = refl
+body_ends c r (body.Checkpoint offset) h = h
+body_ends c r body.RestartEnd h = h
+
+own_stays : (logs : List Log) (m : ℕ) (r : LogRecord) (t : ℕ) → has_log logs m ≡ true → has_end logs m t ≡ true → has_end (put_record logs m r) m t ≡ true
+own_stays logs m r t has h =
+    let c = course_of (records_for logs m) t in
+    let more : course_of (records_for (put_record logs m r) m) t ≡ cond (r.tran == t) (after_body c r r.body) c = ap (λ (rs : List LogRecord). course_of rs t) (records_own logs m r has) ∙ course_last new_course t (records_for logs m) r in
+    subst (λ (d : Course). d.is_ended ≡ true) (sym more) (cond_both (r.tran == t) (after_body c r r.body) c (λ (d : Course). d.is_ended ≡ true) (λ own. body_ends c r r.body h) (λ other. h))
+
+pub end_stays : (logs : List Log) (m : ℕ) (r : LogRecord) (k t : ℕ) → has_log logs m ≡ true → has_end logs k t ≡ true → has_end (put_record logs m r) k t ≡ true
+end_stays logs m r k t has h = elim (cases_Bool (m == k)) [
+  | inl e ↦ (let same : m ≡ k = eqb-true m k e in subst (λ (n : ℕ). has_end (put_record logs m r) n t ≡ true) same (own_stays logs m r t has (subst (λ (n : ℕ). has_end logs n t ≡ true) (sym same) h)))
+  | inr e ↦ ap (λ (rs : List LogRecord). (course_of rs t).is_ended) (records_other logs m r k e) ∙ h
+]
+
+-- so it does for all
+pub all_stay : (ts : Trans) (cs : List Closing) (us : List Undo) (logs : List Log) (m : ℕ) (r : LogRecord) → has_log logs m ≡ true → EndAll ts cs us logs → EndAll ts cs us (put_record logs m r)
+all_stay ts cs us logs m r has h = record {
+  each = λ k t is. elim (h.each k t is) [
+    | inl e ↦ inl (end_stays logs m r k t has e)
+    | inr e ↦ inr e
+  ];
+}
+
+-- ---- an Ended record is put
+
+end_put : (logs : List Log) (m lrsn t : ℕ) → has_log logs m ≡ true → has_end (put_record logs m (ended lrsn t)) m t ≡ true
+end_put logs m lrsn t has = ap (λ (c : Course). c.is_ended) (course_own logs m (ended lrsn t) has)
+
+end_put_as : (logs : List Log) (m lrsn t k n : ℕ) → has_log logs m ≡ true → m ≡ k → t ≡ n → has_end (put_record logs m (ended lrsn t)) k n ≡ true
+end_put_as logs m lrsn t k n has member tran =
+    subst (λ (x : ℕ). has_end (put_record logs m (ended lrsn t)) x n ≡ true) member
+    (subst (λ (x : ℕ). has_end (put_record logs m (ended lrsn t)) m x ≡ true) tran (end_put logs m lrsn t has))
+
+-- of the first transaction that is to be closed
+pub closed_put : (ts : Trans) (c : Closing) (cs : List Closing) (us : List Undo) (logs : List Log) → has_log logs c.member ≡ true → EndAll ts (c ∷ cs) us logs → EndAll ts cs us (put_record logs c.member (ended c.lrsn c.tran))
+closed_put ts c cs us logs has h = record {
+  each = λ m t is. elim (h.each m t is) [
+    | inl e ↦ inl (end_stays logs c.member (ended c.lrsn c.tran) m t has e)
+    | inr e ↦ elim (or_cases (is_closing m t c || list_any (is_closing m t) cs) (list_any (is_of m t) us) e) [
+      | inl f ↦ elim (or_cases (is_closing m t c) (list_any (is_closing m t) cs) f) [
+        | inl own ↦ (
+            let p = and_parts (c.member == m) (c.tran == t) own in
+            inl (end_put_as logs c.member c.lrsn c.tran m t has (eqb-true c.member m p.0) (eqb-true c.tran t p.1)))
+        | inr rest ↦ inr (or_left (list_any (is_closing m t) cs) (list_any (is_of m t) us) rest)
+      ]
+      | inr f ↦ inr (or_right (list_any (is_closing m t) cs) (list_any (is_of m t) us) f)
+    ]
+  ];
+}
+
+-- ---- a change is undone
+
+pub none_any : (p : Undo → Bool) (us : List Undo) → list_any p us ≡ false → filter p us ≡ []
+none_any p [] h = refl
+none_any p (u ∷ us) h =
+    let k = or_parts (p u) (list_any p us) h in
+    ap (λ (b : Bool). cond b (u ∷ filter p us) (filter p us)) k.0 ∙ none_any p us k.1
+
+flag_some : (xs : List LogRecord) → last_flag true xs ≡ false → xs ≡ [] → ⊥
+unfolding last_flag
+flag_some [] h e = cc
+flag_some (x ∷ xs) h e = cc
+
+-- behind one that isn't the last of its transaction there is another
+more_left : (logs : List Log) (u : Undo) (us : List Undo) → QueueFits logs (u ∷ us) → u.is_last ≡ false → list_any (is_of u.member u.tran) us ≡ true
+more_left logs u us fits more =
+    let q = first_queue logs u us fits in
+    let rest = filter (is_of u.member u.tran) us in
+    let h = head_of u.member u.tran u rest (course_of (records_for logs u.member) u.tran) q.own q.is in
+    elim (cases_Bool (list_any (is_of u.member u.tran) us)) as (λ _. list_any (is_of u.member u.tran) us ≡ true) [
+      | inl e ↦ e
+      | inr e ↦ (
+          let left = undos u.member u.tran true h.init in
+          let nothing : reverse left ≡ [] = sym h.rest ∙ none_any (is_of u.member u.tran) us e in
+          let none : left ≡ [] = sym (reverse-reverse left) ∙ ap reverse nothing in
+          absurd (flag_some h.init (sym (ap (λ (v : Undo). v.is_last) h.is) ∙ more) (head_none u.member u.tran true h.init h.rest_own none)))
+    ]
+
+-- the compensation is put, and there is more to be undone of the transaction
+pub undone_put : (ts : Trans) (u : Undo) (us : List Undo) (n : ℕ) (logs : List Log) → has_log logs u.member ≡ true → QueueFits logs (u ∷ us) → u.is_last ≡ false → EndAll ts [] (u ∷ us) logs → EndAll ts [] us (put_record logs u.member (compensation u n))
+undone_put ts u us n logs has fits more h = record {
+  each = λ m t is. elim (h.each m t is) [
+    | inl e ↦ inl (end_stays logs u.member (compensation u n) m t has e)
+    | inr e ↦ elim (or_cases (is_of m t u) (list_any (is_of m t) us) e) [
+      | inl own ↦ (
+          let p = and_parts (u.member == m) (u.tran == t) own in
+          let member : u.member ≡ m = eqb-true u.member m p.0 in
+          let tran : u.tran ≡ t = eqb-true u.tran t p.1 in
+          inr (subst (λ (x : ℕ). list_any (is_of x t) us ≡ true) member (subst (λ (x : ℕ). list_any (is_of u.member x) us ≡ true) tran (more_left logs u us fits more))))
+      | inr rest ↦ inr rest
+    ]
+  ];
+}
+
+-- or it was the last one, and its Ended is put behind it
+pub last_put : (ts : Trans) (u : Undo) (us : List Undo) (n : ℕ) (logs : List Log) → has_log logs u.member ≡ true → EndAll ts [] (u ∷ us) logs → EndAll ts [] us (put_record (put_record logs u.member (compensation u n)) u.member (ended n u.tran))
+last_put ts u us n logs has h =
+    let mid = put_record logs u.member (compensation u n) in
+    let has_mid : has_log mid u.member ≡ true = has_still logs u.member (compensation u n) u.member ∙ has in
+    record {
+      each = λ m t is. elim (h.each m t is) [
+        | inl e ↦ inl (end_stays mid u.member (ended n u.tran) m t has_mid (end_stays logs u.member (compensation u n) m t has e))
+        | inr e ↦ elim (or_cases (is_of m t u) (list_any (is_of m t) us) e) [
+          | inl own ↦ (
+              let p = and_parts (u.member == m) (u.tran == t) own in
+              inl (end_put_as mid u.member n u.tran m t has_mid (eqb-true u.member m p.0) (eqb-true u.tran t p.1)))
+          | inr rest ↦ inr rest
+        ]
+      ];
+    }
