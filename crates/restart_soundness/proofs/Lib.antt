@@ -3,6 +3,7 @@ pub mod Planned
 pub mod Steps
 pub mod Rows
 pub mod Numbered
+pub mod Closed
 pub mod Runs
 pub mod Disks
 pub mod Ended

@@ -38,6 +38,7 @@ pub fn run_laws()
     sound_disk::page_laws();
     sound_plans::queue_laws();
     sound_plans::open_laws();
+    read_plans::fit_laws();
 }
 
 /// Such a run may begin with each sound disk the numbers of whose pages of version 1 are of the format. They are where all pages

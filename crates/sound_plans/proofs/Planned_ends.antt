@@ -125,11 +125,11 @@ logs_close tell (log ∷ logs) o m t none is = elim (cases_Bool (log.member == m
 -- ---- the queue has the others
 
 queue_takes : (logs : List Log) (us : List Undo) (m t : ℕ) → QueueFits logs us → (course_of (records_for logs m) t).is_committed ≡ false → ((course_of (records_for logs m) t).undo ≡ [] → ⊥) → list_any (is_of m t) us ≡ true
-queue_takes logs us m t fits open some = elim (cases_Bool (list_any (is_of m t) us)) as (λ _. list_any (is_of m t) us ≡ true) [
+queue_takes logs us m t fits active some = elim (cases_Bool (list_any (is_of m t) us)) as (λ _. list_any (is_of m t) us ≡ true) [
   | inl e ↦ e
   | inr e ↦ absurd (elim (fits m t) as (λ _. ⊥) [
     | inl settled ↦ elim settled.1 as (λ _. ⊥) [
-      | inl k ↦ both_ways (course_of (records_for logs m) t).is_committed open k
+      | inl k ↦ both_ways (course_of (records_for logs m) t).is_committed active k
       | inr k ↦ some k
     ]
     | inr q ↦
@@ -143,9 +143,9 @@ queue_takes logs us m t fits open some = elim (cases_Bool (list_any (is_of m t) 
 -- ---- both
 
 is_listed : (rs : List LogRecord) (t : ℕ) → t ≢ 0 → course_of rs t ≢ new_course → (course_of rs t).is_committed ≡ false → (course_of rs t).is_ended ≡ false → is_among t (ids (open_trans rs)) ≡ true
-is_listed rs t numbered some open unended = elim (some_course rs (courses_of rs) t (get (courses_of rs) t) (tells_all rs) (ne_eqb t 0 numbered) refl) [
+is_listed rs t numbered some active unended = elim (some_course rs (courses_of rs) t (get (courses_of rs) t) (tells_all rs) (ne_eqb t 0 numbered) refl) [
   | inl n ↦ absurd (some n)
-  | inr s ↦ listed (entries (courses_of rs)) t (course_of rs t) (sym (get-entries (courses_of rs) t) ∙ s) (open_is (course_of rs t) open unended)
+  | inr s ↦ listed (entries (courses_of rs)) t (course_of rs t) (sym (get-entries (courses_of rs) t) ∙ s) (open_is (course_of rs t) active unended)
 ]
 
 pub plan_takes_opens : OpensTell → QueueOfPlanFits → PlanTakesOpens

@@ -11,5 +11,6 @@ returns c =
       stand = c.page_laws.ensures.rows;
       settles = c.queue_laws.ensures.empty;
       ended = c.open_laws.ensures.ended;
+      opens = c.fit_laws.ensures.opens;
     } in
     record { run = runs_leave_sound l; restart = restarts_leave_sound l }
