@@ -7,3 +7,4 @@ pub mod Closed
 pub mod Runs
 pub mod Disks
 pub mod Ended
+pub mod Closes

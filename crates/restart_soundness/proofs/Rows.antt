@@ -34,7 +34,7 @@ tells r = tells_body r.body
 abbrev pub telling : List LogRecord → List LogRecord
 telling rs = filter tells rs
 
-no_commit : (b : Body) → tells_body b ≡ false → is_commit b ≡ false
+pub no_commit : (b : Body) → tells_body b ≡ false → is_commit b ≡ false
 no_commit (body.RowChange change) e = refl
 no_commit (body.Compensation change undone) e = refl
 no_commit (body.System patches) e = refl

@@ -3,6 +3,7 @@
 //! The crate has definitions and proofs alone. Its function does nothing: its contract is the law.
 #![tactic(auto)]
 
+ghost use Rattle.restart_soundness.specs.Closing.{RestsClose};
 ghost use Rattle.restart_soundness.specs.Runs.{BytesAreNumbered, EndedAreSettled, LeftDisksAreSound, NewDisksBegin, RenewedAreNumbered, RestartsLeaveDisksSound, RestartsLeaveSound, RunsLeaveDisksSound, RunsLeaveSound, SoundDisksBegin, UnaskedDisksBegin, WritesStayNumbered};
 ghost use Rattle.restart_soundness.specs.Soundness.{RestartBegins, RunLeavesSound, StepLeavesSound};
 
@@ -71,4 +72,17 @@ pub fn group_restart_laws<D: Disk>()
 {
     disk_laws();
     run_laws();
+}
+
+/// On a disk on which a group restart was done each log is whole records, and wherever it may be read from, from its first byte or
+/// from a Checkpoint that names its own place, each transaction that has changed a row there has a Commit or an Ended there. So it is
+/// where no log of the disk that was restarted could be read from behind a transaction that was rolled back and had no Ended, and no
+/// transaction changed a row behind its Commit; and that is so of what the restart leaves, too.
+pub fn rest_laws()
+    ensures { RestsClose }
+{
+    log_record::log_laws();
+    log_rows::both_tell();
+    log_appends::appends_tell();
+    log_appends::rests_tell();
 }

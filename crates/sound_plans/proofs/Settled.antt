@@ -31,10 +31,10 @@ use Rattle.sound_plans.proofs.Queues.{own_some, head_none}
 -- ---- a transaction that has ended
 
 -- it has a Commit, or it was rolled back whole
-abbrev IsOver : Course → Type 0
+abbrev pub IsOver : Course → Type 0
 IsOver c = (c.is_committed ≡ true) ⊎ ((c.undo ≡ []) × ((length c.undone == 0) ≡ false))
 
-abbrev OverIfEnded : Course → Type 0
+abbrev pub OverIfEnded : Course → Type 0
 OverIfEnded c = c.is_ended ≡ true → IsOver c
 
 unless_none : (b : Bool) (at : ℕ) → unless b at ≡ None → b ≡ true
@@ -90,7 +90,7 @@ over_more c r body.Ended h fits = λ is. ended_over c r fits
 over_more c r (body.Checkpoint offset) h fits = h
 over_more c r body.RestartEnd h fits = h
 
-abbrev AllOver : List LogRecord → Type 0
+abbrev pub AllOver : List LogRecord → Type 0
 AllOver rs = (t : ℕ) → OverIfEnded (course_in new_course t rs)
 
 over_last : (rs : List LogRecord) (r : LogRecord) → MayFollow rs r → AllOver rs → AllOver (rs ++ r ∷ [])
@@ -107,7 +107,7 @@ over_from earlier (r ∷ rs) f h = subst AllOver (append_assoc earlier (r ∷ []
 over_none : AllOver []
 over_none = λ t is. absurd cc
 
-all_over : (rs : List LogRecord) → EachFollows [] rs → AllOver rs
+pub all_over : (rs : List LogRecord) → EachFollows [] rs → AllOver rs
 all_over rs f = over_from [] rs f over_none
 
 -- ---- each open transaction is listed
