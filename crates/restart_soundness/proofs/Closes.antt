@@ -291,7 +291,7 @@ same_members sound k (b ∷ bs) (l ∷ ls) (x ∷ xs) w v m =
 
 pub rests_close : LogLaws → RestsClose
 rests_close l c d counter as_many before left =
-    let rest = left.ends in
+    let rest : IsAtRest c counter d = left.ends in
     let whole = rest.sound.whole_logs in
     let told : (m : ℕ) → telling (records_for rest.logs m) ≡ telling (records_for before.logs m) = told_of l.reads c d before.logs rest.logs before.whole whole as_many left.keeps in
     let last : (m : ℕ) → commits_last (records_for rest.logs m) ≡ true =

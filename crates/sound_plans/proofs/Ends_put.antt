@@ -18,7 +18,7 @@ use Rattle.sound_plans.specs.Ends.{is_closing, takes, has_end, Trans, EndAll}
 use Rattle.sound_plans.specs.Opens.{course_of}
 use Rattle.sound_plans.specs.Queues.{has_log, records_for, undos, is_of, QueueFits}
 use Rattle.sound_plans.proofs.Logs.{put_record, has_still, records_own, records_other, course_own}
-use Rattle.sound_plans.proofs.Queues.{last_flag, head_of, head_none, first_queue}
+use Rattle.sound_plans.proofs.Queues.{flag_some, head_of, head_none, first_queue}
 
 -- ---- an Ended record stays
 
@@ -86,11 +86,6 @@ none_any p [] h = refl
 none_any p (u ∷ us) h =
     let k = or_parts (p u) (list_any p us) h in
     ap (λ (b : Bool). cond b (u ∷ filter p us) (filter p us)) k.0 ∙ none_any p us k.1
-
-flag_some : (xs : List LogRecord) → last_flag true xs ≡ false → xs ≡ [] → ⊥
-unfolding last_flag
-flag_some [] h e = cc
-flag_some (x ∷ xs) h e = cc
 
 -- behind one that isn't the last of its transaction there is another
 more_left : (logs : List Log) (u : Undo) (us : List Undo) → QueueFits logs (u ∷ us) → u.is_last ≡ false → list_any (is_of u.member u.tran) us ≡ true
