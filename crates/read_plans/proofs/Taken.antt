@@ -1,8 +1,7 @@
 -- A transaction that a log leaves open is taken by the plan of what was read, or no record of it was.
-use Rattle.std.proofs.Common.{◌≡◌, ◌≢◌, ℕ, Bool, true, false, cond, List, [], ◌∷◌, ◌++◌, map, inl, inr, refl, sym, ap, subst, ◌∙◌}
+use Rattle.std.proofs.Common.{◌≡◌, ℕ, Bool, true, false, cond, List, [], ◌∷◌, ◌++◌, map, inl, inr, refl, sym, ap, subst, ◌∙◌}
 use Rattle.std.specs.Prelude.{◌⊎◌, ◌==◌}
 use Rattle.std.proofs.lemmas.Bool.{cases_Bool, ne_eqb}
-use Rattle.ds_disk.specs.Contents.{Contents}
 use Rattle.ds_model.specs.declared.log.LogRecord.{LogRecord}
 use Rattle.log_record.specs.declared.log.Log.{Log}
 use Rattle.log_trans.specs.declared.course.Course.{Course}
@@ -12,13 +11,11 @@ use Rattle.restart_plan.specs.Opened.{nothing_open}
 use Rattle.restart_plan.specs.Plans.{plan_of}
 use Rattle.restart_plan.specs.Values.{falling}
 use Rattle.std.specs.FinMap.{entries}
-use Rattle.sound_disk.specs.Sound.{IsSoundWith}
 use Rattle.sound_disk.specs.Transactions.{speak_of, course_in}
 use Rattle.sound_plans.specs.Ends.{takes, IsLeftOpen, PlanTakesOpens}
 use Rattle.sound_plans.specs.Opens.{course_of}
 use Rattle.sound_plans.specs.Queues.{records_for}
 use Rattle.sound_reads.specs.Laws.{ReadsStandApart}
-use Rattle.sound_reads.specs.Reads.{AreReadOf}
 use Rattle.sound_reads.proofs.Apart.{same_course}
 use Rattle.sound_reads.proofs.Fewer.{IsSoundRead, AreSoundReads, all_sound}
 use Rattle.read_plans.specs.Courses.{CoursesAreRead}

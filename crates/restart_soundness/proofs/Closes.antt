@@ -1,23 +1,22 @@
 -- The logs of a disk on which a group restart was done close all transactions, wherever they may be read from.
 use Rattle.std.proofs.Common.{◌≡◌, ◌≢◌, ℕ, zero, suc, ◌+◌, ◌-◌, ◌<◌, Bool, true, false, cond, List, [], ◌∷◌, ◌++◌, length, drop, get_or, None, Ok, inl, inr, refl, sym, ap, subst, ◌∙◌, arith, append_assoc, length-append}
-use Rattle.std.specs.Prelude.{◌⊎◌, ◌==◌, ◌&&◌, ◌||◌, not}
-use Rattle.std.specs.List.{list_any, AllByRecursion}
+use Rattle.std.specs.Prelude.{◌==◌, ◌&&◌, ◌||◌, not}
+use Rattle.std.specs.List.{AllByRecursion}
 use Rattle.std.proofs.lemmas.Bool.{cond_both, cases_Bool, both_ways, and_parts, or_cases, or_left, or_right, or_from, or_parts, eqb-true, eq-eqb, ne_eqb}
 use Rattle.std.proofs.lemmas.Grind.{flat_map-append}
 use Rattle.std.proofs.lemmas.List.{append-nil, nil_from_length}
 use Rattle.std.proofs.lemmas.List.Folds.{list_any-append}
-use Rattle.ds_disk.specs.Contents.{Contents, log_of}
+use Rattle.ds_disk.specs.Contents.{log_of}
 use Rattle.ds_model.specs.Logs.{IsLog, is_commit, has_commit}
 use Rattle.ds_model.specs.RecordBytes.{IsAllowed, record_bytes, log_bytes}
 use Rattle.ds_model.specs.Rows.{Spot}
 use Rattle.ds_model.specs.declared.log.LogRecord.{LogRecord}
 use Rattle.ds_model.specs.declared.log.Body.{Body}
 use Rattle.ds_model.specs.declared.log.Body.TheVariants as body
-use Rattle.log_record.specs.Logs.{Parts}
 use Rattle.log_record.specs.declared.log.Log.{Log}
 use Rattle.log_rows.specs.Rows.{is_change_of, has_changed, is_closed, BothTell}
 use Rattle.log_reader.specs.Keeping.{AreWhole}
-use Rattle.log_appends.specs.Appends.{AreLastFrom, LastSpell}
+use Rattle.log_appends.specs.Appends.{LastSpell}
 use Rattle.log_appends.specs.Rests.{LastAreAllowed}
 use Rattle.log_trans.specs.declared.course.Course.{Course}
 use Rattle.log_trans.specs.Courses.{new_course, is_next, undone_one, after_body}
@@ -26,14 +25,14 @@ use Rattle.disk_restart.proofs.Whole.{ReadsSound}
 use Rattle.sound_appends.specs.Laws.{HaveNoTails}
 use Rattle.sound_appends.proofs.Left.{commits, course_last}
 use Rattle.sound_disk.specs.Settled.{is_row_change}
-use Rattle.sound_disk.specs.Transactions.{course_in, MayFollow, EachFollows}
+use Rattle.sound_disk.specs.Transactions.{EachFollows}
 use Rattle.sound_disk.specs.Whole_logs.{IsWholeLog, AreWholeLogs}
 use Rattle.sound_plans.specs.Opens.{course_of}
 use Rattle.sound_plans.specs.Queues.{records_for}
-use Rattle.sound_plans.proofs.Settled.{IsOver, all_over}
+use Rattle.sound_plans.proofs.Settled.{all_over}
 use Rattle.read_plans.specs.Ends.{IsLeftOut}
-use Rattle.restart_soundness.specs.Closing.{changes_for, commits_last, LeavesOutClosed, ClosesAll, RestsClosed, RestsClose}
-use Rattle.restart_soundness.specs.Runs.{IsUnread, IsAtRest}
+use Rattle.restart_soundness.specs.Closing.{changes_for, commits_last, ClosesAll, RestsClose}
+use Rattle.restart_soundness.specs.Runs.{IsAtRest}
 use Rattle.restart_soundness.proofs.Closed.{closed_is, changes_told, told_of}
 use Rattle.restart_soundness.proofs.Rows.{tells_body, telling, no_commit}
 
@@ -220,16 +219,16 @@ closes_all l bytes rs spelled allowed follow last closed =
     record {
       whole = whole;
       closed = λ start back from t s numbered changed.
-      let front = from.whole.records in
-      let split : bytes ≡ log_bytes (front ++ back) = l.spell bytes start back whole from ∙ ap (λ (b : List ℕ). b ++ log_bytes back) from.whole.spelled ∙ sym (flat_map-append record_bytes front back) in
-      let are : rs ≡ front ++ back =
-      same_read l.reads bytes rs (front ++ back) (is_log bytes rs spelled allowed) (is_log bytes (front ++ back) split (all_join IsAllowed front back from.whole.allowed (l.allowed bytes start back whole from))) in
-      let there : has_changed (front ++ back) t s ≡ true = l.both.changed front back t s ∙ or_right (has_changed front t s) (has_changed back t s) changed in
-      let done : (is_closed front t || is_closed back t) ≡ true = sym (l.both.closed front back t) ∙ subst (λ (xs : List LogRecord). is_closed xs t ≡ true) are (closed t s numbered (subst (λ (xs : List LogRecord). has_changed xs t s ≡ true) (sym are) there)) in
-      elim (or_cases (is_closed front t) (is_closed back t) done) as (λ _. is_closed back t ≡ true) [
-        | inl e ↦ absurd (both_ways (has_changed back t s) (closed_stays front back t s (subst (EachFollows []) are follow) (subst (λ (xs : List LogRecord). commits_last xs ≡ true) are last) e) changed)
-        | inr e ↦ e
-      ];
+          let front = from.whole.records in
+          let split : bytes ≡ log_bytes (front ++ back) = l.spell bytes start back whole from ∙ ap (λ (b : List ℕ). b ++ log_bytes back) from.whole.spelled ∙ sym (flat_map-append record_bytes front back) in
+          let are : rs ≡ front ++ back =
+          same_read l.reads bytes rs (front ++ back) (is_log bytes rs spelled allowed) (is_log bytes (front ++ back) split (all_join IsAllowed front back from.whole.allowed (l.allowed bytes start back whole from))) in
+          let there : has_changed (front ++ back) t s ≡ true = l.both.changed front back t s ∙ or_right (has_changed front t s) (has_changed back t s) changed in
+          let done : (is_closed front t || is_closed back t) ≡ true = sym (l.both.closed front back t) ∙ subst (λ (xs : List LogRecord). is_closed xs t ≡ true) are (closed t s numbered (subst (λ (xs : List LogRecord). has_changed xs t s ≡ true) (sym are) there)) in
+          elim (or_cases (is_closed front t) (is_closed back t) done) as (λ _. is_closed back t ≡ true) [
+            | inl e ↦ absurd (both_ways (has_changed back t s) (closed_stays front back t s (subst (EachFollows []) are follow) (subst (λ (xs : List LogRecord). commits_last xs ≡ true) are last) e) changed)
+            | inr e ↦ e
+          ];
     }
 
 -- ---- the log of a member
@@ -309,7 +308,7 @@ rests_close l c d counter as_many before left =
     record {
       before = record { logs = rest.logs; whole = whole; commits = last; closed = λ m t s numbered changed out. closed m t s numbered changed };
       logs = λ i low.
-      let at : LogAt (get_or d.logs i []) rest.logs (i + 1) = log_at 1 (i + 1) d.logs rest.logs whole rest.no_tails i (omega arith) low in
-      let here : log_of d.logs (i + 1) ≡ get_or d.logs i [] = ap (λ (k : ℕ). get_or d.logs k []) (let one : i + 1 - 1 ≡ i = omega arith in one) in
-      subst ClosesAll (sym here) (closes_all l (get_or d.logs i []) (records_for rest.logs (i + 1)) at.spelled at.allowed (follows_for rest.logs (i + 1) rest.sound.transactions.follow) (last (i + 1)) (closed (i + 1)));
+          let at : LogAt (get_or d.logs i []) rest.logs (i + 1) = log_at 1 (i + 1) d.logs rest.logs whole rest.no_tails i (omega arith) low in
+          let here : log_of d.logs (i + 1) ≡ get_or d.logs i [] = ap (λ (k : ℕ). get_or d.logs k []) (let one : i + 1 - 1 ≡ i = omega arith in one) in
+          subst ClosesAll (sym here) (closes_all l (get_or d.logs i []) (records_for rest.logs (i + 1)) at.spelled at.allowed (follows_for rest.logs (i + 1) rest.sound.transactions.follow) (last (i + 1)) (closed (i + 1)));
     }

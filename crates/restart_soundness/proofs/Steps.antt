@@ -1,5 +1,5 @@
 -- Each step of a group restart over a sound disk leaves a sound disk.
-use Rattle.std.proofs.Common.{◌≡◌, ℕ, zero, suc, List, length, Option, Some, None, Result, Ok, Err, inl, inr, refl, sym, subst}
+use Rattle.std.proofs.Common.{◌≡◌, zero, suc, List, length, Option, Some, None, Result, Ok, Err, inl, inr, refl, sym, subst}
 use Rattle.std.specs.Prelude.{◌≢◌, IfOk}
 use Rattle.ds_base.specs.declared.fault.NoMemory.{NoMemory}
 use Rattle.ds_disk.specs.Contents.{Contents, Becomes}

@@ -1,8 +1,8 @@
 -- Each transaction of which something is closed or undone has an Ended record then, and keeps it.
-use Rattle.std.proofs.Common.{◌≡◌, ℕ, Bool, true, false, cond, List, [], ◌∷◌, ◌++◌, reverse, inl, inr, refl, sym, ap, subst, ◌∙◌}
-use Rattle.std.specs.Prelude.{◌⊎◌, ◌==◌, ◌&&◌, ◌||◌, filter}
-use Rattle.std.specs.List.{list_any, AllByRecursion}
-use Rattle.std.proofs.lemmas.Bool.{cond_both, cases_Bool, both_ways, and_parts, or_cases, or_left, or_right, or_parts, eqb-true}
+use Rattle.std.proofs.Common.{◌≡◌, ℕ, Bool, true, false, cond, List, [], ◌∷◌, reverse, inl, inr, refl, sym, ap, subst, ◌∙◌}
+use Rattle.std.specs.Prelude.{◌==◌, ◌||◌, filter}
+use Rattle.std.specs.List.{list_any}
+use Rattle.std.proofs.lemmas.Bool.{cond_both, cases_Bool, and_parts, or_cases, or_left, or_right, or_parts, eqb-true}
 use Rattle.std.proofs.lemmas.List.{reverse-reverse}
 use Rattle.ds_model.specs.declared.log.LogRecord.{LogRecord}
 use Rattle.ds_model.specs.declared.log.Body.{Body}
@@ -14,7 +14,7 @@ use Rattle.restart_plan.specs.declared.opened.Closing.{Closing}
 use Rattle.restart_plan.specs.declared.opened.Undo.{Undo}
 use Rattle.group_restart.specs.Records.{ended, compensation}
 use Rattle.sound_appends.proofs.Left.{course_last}
-use Rattle.sound_plans.specs.Ends.{is_closing, takes, has_end, Trans, EndAll}
+use Rattle.sound_plans.specs.Ends.{is_closing, has_end, Trans, EndAll}
 use Rattle.sound_plans.specs.Opens.{course_of}
 use Rattle.sound_plans.specs.Queues.{has_log, records_for, undos, is_of, QueueFits}
 use Rattle.sound_plans.proofs.Logs.{put_record, has_still, records_own, records_other, course_own}

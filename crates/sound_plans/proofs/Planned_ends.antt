@@ -1,6 +1,6 @@
 -- A plan closes each transaction that a log leaves open, or undoes a change of it.
 use Rattle.std.proofs.Common.{◌≡◌, ◌≢◌, ℕ, ◌-◌, Bool, true, false, cond, List, [], ◌∷◌, ◌++◌, length, reverse, Option, Some, None, inl, inr, refl, sym, ap, subst, ◌∙◌}
-use Rattle.std.specs.Prelude.{◌⊎◌, ◌==◌, ◌&&◌, ◌||◌, filter, slice_get}
+use Rattle.std.specs.Prelude.{◌==◌, ◌&&◌, slice_get}
 use Rattle.std.specs.List.{list_any, AllByRecursion}
 use Rattle.std.specs.FinMap.{entries, get, get-entries}
 use Rattle.std.proofs.lemmas.Bool.{cond_both, cases_Bool, both_ways, or_cases, or_left, or_right, eqb-true, eq-eqb, ne_eqb}
@@ -8,7 +8,6 @@ use Rattle.std.proofs.lemmas.List.{nil_from_length, reverse-reverse}
 use Rattle.std.proofs.lemmas.List.Folds.{list_any-append}
 use Rattle.ds_model.specs.declared.log.LogRecord.{LogRecord}
 use Rattle.log_record.specs.declared.log.Log.{Log}
-use Rattle.log_trans.specs.declared.course.Course.{Course}
 use Rattle.log_trans.specs.declared.opened.OpenTran.{OpenTran}
 use Rattle.log_trans.specs.Courses.{new_course, courses_of, open_trans}
 use Rattle.restart_plan.specs.declared.opened.Closing.{Closing}
@@ -17,8 +16,7 @@ use Rattle.restart_plan.specs.declared.opened.Undo.{Undo}
 use Rattle.restart_plan.specs.Opened.{nothing_open, closing, closed, with_undo, with_changes, with_tran, with_trans, with_ending, needs_end, with_last, with_log, with_logs}
 use Rattle.restart_plan.specs.Plans.{opened_of, plan_of}
 use Rattle.sound_disk.specs.Transactions.{is_among}
-use Rattle.sound_disk.specs.Whole_logs.{AreWholeLogs}
-use Rattle.sound_plans.specs.Ends.{is_closing, takes, IsLeftOpen, PlanTakesOpens}
+use Rattle.sound_plans.specs.Ends.{is_closing, PlanTakesOpens}
 use Rattle.sound_plans.specs.Opens.{course_of, IsOpenTran, OpensTell}
 use Rattle.sound_plans.specs.Plans.{QueueOfPlanFits}
 use Rattle.sound_plans.specs.Queues.{records_for, undos, is_of, QueueFits}
