@@ -1,5 +1,5 @@
 -- The logs of a disk on which a group restart was done close all transactions, wherever they may be read from.
-use Rattle.std.proofs.Common.{◌≡◌, ◌≢◌, ℕ, zero, suc, ◌+◌, ◌-◌, ◌<◌, Bool, true, false, cond, List, [], ◌∷◌, ◌++◌, length, drop, get_or, None, Ok, inl, inr, refl, sym, ap, subst, ◌∙◌, arith, append_assoc, length-append}
+use Rattle.std.proofs.Common.{◌≡◌, ◌≢◌, ℕ, zero, suc, ◌+◌, ◌-◌, ◌<◌, Bool, true, false, cond, List, [], ◌∷◌, ◌++◌, length, drop, get_or, None, Result, Ok, Err, inl, inr, refl, sym, ap, subst, ◌∙◌, arith, append_assoc, length-append}
 use Rattle.std.specs.Prelude.{◌==◌, ◌&&◌, ◌||◌, not}
 use Rattle.std.specs.List.{AllByRecursion}
 use Rattle.std.proofs.lemmas.Bool.{cond_both, cases_Bool, both_ways, and_parts, or_cases, or_left, or_right, or_from, or_parts, eqb-true, eq-eqb, ne_eqb}
@@ -13,6 +13,7 @@ use Rattle.ds_model.specs.Rows.{Spot}
 use Rattle.ds_model.specs.declared.log.LogRecord.{LogRecord}
 use Rattle.ds_model.specs.declared.log.Body.{Body}
 use Rattle.ds_model.specs.declared.log.Body.TheVariants as body
+use Rattle.log_record.specs.Logs.{Parts}
 use Rattle.log_record.specs.declared.log.Log.{Log}
 use Rattle.log_rows.specs.Rows.{is_change_of, has_changed, is_closed, BothTell}
 use Rattle.log_reader.specs.Keeping.{AreWhole}
@@ -141,7 +142,7 @@ row_refused c r body.RestartEnd s fits some = refl
 
 more_undone : (xs ys : List LogRecord) → (length xs == 0) ≡ false → (length (xs ++ ys) == 0) ≡ false
 more_undone [] ys h = absurd cc
-more_undone (x ∷ xs) ys h = refl
+more_undone (x ∷ xs) ys h = ne_eqb (suc (length (xs ++ ys))) 0 (λ z. omega (arith, z))
 
 body_undone : (c : Course) (r : LogRecord) (b : Body) → (length c.undone == 0) ≡ false → (length (after_body c r b).undone == 0) ≡ false
 body_undone c r (body.RowChange change) h = h
@@ -205,12 +206,12 @@ all_join P (x ∷ xs) ys h k = (h.0, all_join P xs ys h.1 k)
 is_log : (bytes : List ℕ) (rs : List LogRecord) → bytes ≡ log_bytes rs → AllByRecursion IsAllowed rs → IsLog bytes rs
 is_log bytes rs e a = record { tail = []; whole = e ∙ sym (append-nil (log_bytes rs)); allowed = a; torn = inl refl }
 
+abbrev records_by : Result Parts ℕ → List LogRecord
+records_by (Ok p) = p.records
+records_by (Err at) = []
+
 same_read : ReadsSound → (bytes : List ℕ) (xs ys : List LogRecord) → IsLog bytes xs → IsLog bytes ys → xs ≡ ys
-same_read sound bytes xs ys p q =
-    let one = sound bytes xs p in
-    let two = sound bytes ys q in
-    let both : Ok {E = ℕ} (record { records = xs; size = length (log_bytes xs); tail = length bytes - length (log_bytes xs) }) ≡ Ok (record { records = ys; size = length (log_bytes ys); tail = length bytes - length (log_bytes ys) }) = sym one ∙ two in
-    cc
+same_read sound bytes xs ys p q = sym (ap records_by (sound bytes xs p)) ∙ ap records_by (sound bytes ys q)
 
 -- what is closed among all its records
 closes_all : LogLaws → (bytes : List ℕ) (rs : List LogRecord) → bytes ≡ log_bytes rs → AllByRecursion IsAllowed rs → EachFollows [] rs → commits_last rs ≡ true → ((t : ℕ) (s : Spot) → t ≢ 0 → has_changed rs t s ≡ true → is_closed rs t ≡ true) → ClosesAll bytes
