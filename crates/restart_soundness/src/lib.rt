@@ -27,8 +27,9 @@ pub fn soundness_laws()
 
 /// A whole run of a group restart over a sound disk leaves a sound disk with the same rows, wherever it ends: done, failed, in any
 /// of its calls, or for want of memory. It names no damage; and where it is done, no row change is open, no log has a tail, each
-/// page is as all records leave it, and none is of version 1. Such a run is what the contract of `disk_restart::run_restart`
-/// tells of it, and of `disk_restart::restart_disk`.
+/// page is as all records leave it, and none is of version 1. Each transaction that has changed a row has a Commit or an Ended then,
+/// but for one that was rolled back whole, and had no Ended, before the Checkpoint from which its log was read. Such a run is what
+/// the contract of `disk_restart::run_restart` tells of it, and of `disk_restart::restart_disk`.
 pub fn run_laws()
     ensures run { RunsLeaveSound }
     ensures restart { RestartsLeaveSound }
@@ -64,8 +65,8 @@ pub fn ended_laws()
 /// The whole runs again, word for word as the contracts of `disk_restart::run_restart` and `disk_restart::restart_disk` tell of
 /// them over a disk of any kind, which has the logs of all members and pages of bytes. So each of these contracts with this law says: a
 /// group restart over a sound disk leaves a sound disk whose logs stand for the same rows, also where it is stopped inside a call
-/// of the disk; it names no damage; and where it is done, no row change is open, no log has a tail, each page is as all records
-/// leave it, and none is of version 1.
+/// of the disk; it names no damage; and where it is done, no row change is open, each transaction that it found open has an Ended,
+/// no log has a tail, each page is as all records leave it, and none is of version 1.
 pub fn group_restart_laws<D: Disk>()
     ensures run { RunsLeaveDisksSound D.alive D.contents }
     ensures restart { RestartsLeaveDisksSound D.alive D.contents }
