@@ -20,12 +20,13 @@ use Rattle.sound_disk.specs.Sound.{IsSoundWith}
 use Rattle.sound_disk.specs.Transactions.{course_in}
 use Rattle.sound_disk.specs.Whole_logs.{AreWholeLogs}
 use Rattle.sound_appends.proofs.Left.{commits}
-use Rattle.sound_plans.specs.Ends.{takes, has_end, IsLeftOpen, EndAll}
+use Rattle.sound_plans.specs.Ends.{takes, has_end, IsLeftOpen}
 use Rattle.sound_plans.specs.Opens.{course_of}
 use Rattle.sound_plans.specs.Queues.{records_for}
 use Rattle.sound_reads.specs.Reads.{AreReadOf}
+use Rattle.sound_steps.specs.Grown.{HaveEnded}
 use Rattle.read_plans.specs.Ends.{OpensAreTaken}
-use Rattle.restart_soundness.specs.Soundness.{to_end}
+use Rattle.restart_soundness.specs.Soundness.{asks_end, to_end}
 use Rattle.restart_soundness.specs.Runs.{IsUnread}
 use Rattle.restart_soundness.proofs.Rows.{tells_body, telling, commits_told, told_first, Keep, by_place}
 
@@ -166,25 +167,19 @@ told_of sound c d first logs are now as_many keeps m = told_members sound 1 c.lo
 
 -- ---- a transaction that isn't closed
 
-never : false ≡ true → ⊥
-never e = cc
-
 -- it isn't one of those that have an Ended then
-not_to_end : (first logs reads : List Log) (m t : ℕ) → EndAll (to_end first reads) [] [] logs → has_end logs m t ≡ false → to_end first reads m t ≡ false
-not_to_end first logs reads m t ends none = elim (cases_Bool (to_end first reads m t)) as (λ _. to_end first reads m t ≡ false) [
-  | inl e ↦ absurd (elim (ends.each m t e) as (λ _. ⊥) [
-    | inl k ↦ both_ways (has_end logs m t) none k
-    | inr k ↦ never k
-  ])
+not_to_end : (first logs reads : List Log) (m t : ℕ) → HaveEnded (to_end first reads) logs → has_end logs m t ≡ false → asks_end first reads m t ≡ false
+not_to_end first logs reads m t ends none = elim (cases_Bool (asks_end first reads m t)) as (λ _. asks_end first reads m t ≡ false) [
+  | inl e ↦ absurd (both_ways (has_end logs m t) none (ends m t e))
   | inr e ↦ e
 ]
 
-unread : ReadsSound → OpensAreTaken → (c d : Contents) (first logs reads : List Log) → IsSoundWith c first → IsSoundWith d logs → AreReadOf first reads → length c.logs ≡ length d.logs → KeepsRecords c d → EndAll (to_end first reads) [] [] logs
+unread : ReadsSound → OpensAreTaken → (c d : Contents) (first logs reads : List Log) → IsSoundWith c first → AreWholeLogs 1 d.logs logs → AreReadOf first reads → length c.logs ≡ length d.logs → KeepsRecords c d → HaveEnded (to_end first reads) logs
     → (m t : ℕ) (spot : Spot) → t ≢ 0 → has_changed (records_for logs m) t spot ≡ true → is_closed (records_for logs m) t ≡ false → IsUnread c m t
 unread sound opens c d first logs reads s now are as_many keeps ends m t spot numbered changed unclosed =
     let old = records_for first m in
     let new = records_for logs m in
-    let same : telling new ≡ telling old = told_of sound c d first logs s.whole_logs now.whole_logs as_many keeps m in
+    let same : telling new ≡ telling old = told_of sound c d first logs s.whole_logs now as_many keeps m in
     let parts = or_parts (course_of new t).is_committed (course_of new t).is_ended (sym (closed_is t new) ∙ unclosed) in
     let commit : has_commit old t ≡ has_commit new t = sym (commits_told old t) ∙ ap (λ (rs : List LogRecord). has_commit rs t) (sym same) ∙ commits_told new t in
     let uncommitted : (course_of old t).is_committed ≡ false = commits t old ∙ commit ∙ sym (commits t new) ∙ parts.0 in
@@ -196,7 +191,7 @@ unread sound opens c d first logs reads s now are as_many keeps ends m t spot nu
       | inr out ↦ record { logs = first; whole = s.whole_logs; unclosed = closed_is t old ∙ ap (λ (b : Bool). b || (course_of old t).is_ended) uncommitted ∙ asked.0; out = out }
     ]
 
-pub closed_behind : ReadsSound → OpensAreTaken → (c d : Contents) (first logs reads : List Log) → IsSoundWith c first → IsSoundWith d logs → AreReadOf first reads → length c.logs ≡ length d.logs → KeepsRecords c d → EndAll (to_end first reads) [] [] logs
+pub closed_behind : ReadsSound → OpensAreTaken → (c d : Contents) (first logs reads : List Log) → IsSoundWith c first → AreWholeLogs 1 d.logs logs → AreReadOf first reads → length c.logs ≡ length d.logs → KeepsRecords c d → HaveEnded (to_end first reads) logs
     → (m t : ℕ) (spot : Spot) → t ≢ 0 → has_changed (records_for logs m) t spot ≡ true → (is_closed (records_for logs m) t ≡ true) ⊎ IsUnread c m t
 closed_behind sound opens c d first logs reads s now are as_many keeps ends m t spot numbered changed = elim (cases_Bool (is_closed (records_for logs m) t)) as (λ _. (is_closed (records_for logs m) t ≡ true) ⊎ IsUnread c m t) [
   | inl e ↦ inl e

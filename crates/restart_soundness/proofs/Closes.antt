@@ -1,19 +1,18 @@
 -- The logs of a disk on which a group restart was done close all transactions, wherever they may be read from.
-use Rattle.std.proofs.Common.{◌≡◌, ◌≢◌, ℕ, zero, suc, ◌+◌, ◌-◌, ◌<◌, Bool, true, false, cond, List, [], ◌∷◌, ◌++◌, length, drop, get_or, None, Result, Ok, Err, inl, inr, refl, sym, ap, subst, ◌∙◌, arith, append_assoc, length-append}
-use Rattle.std.specs.Prelude.{◌==◌, ◌&&◌, ◌||◌, not}
+use Rattle.std.proofs.Common.{◌≡◌, ◌≢◌, ℕ, zero, suc, ◌+◌, ◌-◌, ◌<◌, Bool, true, false, cond, List, [], ◌∷◌, ◌++◌, length, drop, get_or, None, inl, inr, refl, sym, ap, subst, ◌∙◌, arith, append_assoc}
+use Rattle.std.specs.Prelude.{◌⊎◌, ◌==◌, ◌&&◌, ◌||◌, not}
 use Rattle.std.specs.List.{AllByRecursion}
 use Rattle.std.proofs.lemmas.Bool.{cond_both, cases_Bool, both_ways, and_parts, or_cases, or_left, or_right, or_from, or_parts, eqb-true, eq-eqb, ne_eqb}
 use Rattle.std.proofs.lemmas.Grind.{flat_map-append}
-use Rattle.std.proofs.lemmas.List.{append-nil, nil_from_length}
+use Rattle.std.proofs.lemmas.List.{append-nil}
 use Rattle.std.proofs.lemmas.List.Folds.{list_any-append}
-use Rattle.ds_disk.specs.Contents.{log_of}
+use Rattle.ds_disk.specs.Contents.{Contents, log_of}
 use Rattle.ds_model.specs.Logs.{IsLog, is_commit, has_commit}
 use Rattle.ds_model.specs.RecordBytes.{IsAllowed, record_bytes, log_bytes}
 use Rattle.ds_model.specs.Rows.{Spot}
 use Rattle.ds_model.specs.declared.log.LogRecord.{LogRecord}
 use Rattle.ds_model.specs.declared.log.Body.{Body}
 use Rattle.ds_model.specs.declared.log.Body.TheVariants as body
-use Rattle.log_record.specs.Logs.{Parts}
 use Rattle.log_record.specs.declared.log.Log.{Log}
 use Rattle.log_rows.specs.Rows.{is_change_of, has_changed, is_closed, BothTell}
 use Rattle.log_reader.specs.Keeping.{AreWhole}
@@ -22,18 +21,21 @@ use Rattle.log_appends.specs.Rests.{LastAreAllowed}
 use Rattle.log_trans.specs.declared.course.Course.{Course}
 use Rattle.log_trans.specs.Courses.{new_course, is_next, undone_one, after_body}
 use Rattle.log_trans.specs.Damage.{body_fault, nothing_undone, unless, tran_at}
+use Rattle.disk_restart.specs.Keeping.{KeepsRecords}
 use Rattle.disk_restart.proofs.Whole.{ReadsSound}
 use Rattle.sound_appends.specs.Laws.{HaveNoTails}
 use Rattle.sound_appends.proofs.Left.{commits, course_last}
 use Rattle.sound_disk.specs.Settled.{is_row_change}
 use Rattle.sound_disk.specs.Transactions.{EachFollows}
-use Rattle.sound_disk.specs.Whole_logs.{IsWholeLog, AreWholeLogs}
+use Rattle.sound_disk.specs.Whole_logs.{AreWholeLogs}
 use Rattle.sound_plans.specs.Opens.{course_of}
 use Rattle.sound_plans.specs.Queues.{records_for}
 use Rattle.sound_plans.proofs.Settled.{all_over}
 use Rattle.read_plans.specs.Ends.{IsLeftOut}
-use Rattle.restart_soundness.specs.Closing.{changes_for, commits_last, ClosesAll, RestsClose}
-use Rattle.restart_soundness.specs.Runs.{IsAtRest}
+use Rattle.restart_soundness.specs.Closing.{ClosesAll, RestsClose}
+use Rattle.restart_soundness.specs.Left_out.{changes_for, commits_last, LeavesOutClosed}
+use Rattle.restart_soundness.specs.Runs.{IsUnread, IsAtRest}
+use Rattle.sound_steps.proofs.Grown.{all_join, no_tail, same_read}
 use Rattle.restart_soundness.proofs.Closed.{closed_is, changes_told, told_of}
 use Rattle.restart_soundness.proofs.Rows.{tells_body, telling, no_commit}
 
@@ -117,7 +119,7 @@ last_if : (b : Bool) (r : LogRecord) (us : List LogRecord) → tells_body r.body
 last_if true r us e = refl
 last_if false r us e = ap (λ (b : Bool). not (b && changes_for r.tran us) && commits_last us) (sym (no_commit r.body e))
 
-last_told : (rs : List LogRecord) → commits_last (telling rs) ≡ commits_last rs
+pub last_told : (rs : List LogRecord) → commits_last (telling rs) ≡ commits_last rs
 last_told [] = refl
 last_told (r ∷ rs) =
     last_if (tells_body r.body) r (telling rs) refl
@@ -199,19 +201,8 @@ closed_stays front back t s f last closed =
 
 -- ---- one log
 
-all_join : (P : LogRecord → Type 0) (xs ys : List LogRecord) → AllByRecursion P xs → AllByRecursion P ys → AllByRecursion P (xs ++ ys)
-all_join P [] ys h k = k
-all_join P (x ∷ xs) ys h k = (h.0, all_join P xs ys h.1 k)
-
 is_log : (bytes : List ℕ) (rs : List LogRecord) → bytes ≡ log_bytes rs → AllByRecursion IsAllowed rs → IsLog bytes rs
 is_log bytes rs e a = record { tail = []; whole = e ∙ sym (append-nil (log_bytes rs)); allowed = a; torn = inl refl }
-
-abbrev records_by : Result Parts ℕ → List LogRecord
-records_by (Ok p) = p.records
-records_by (Err at) = []
-
-same_read : ReadsSound → (bytes : List ℕ) (xs ys : List LogRecord) → IsLog bytes xs → IsLog bytes ys → xs ≡ ys
-same_read sound bytes xs ys p q = sym (ap records_by (sound bytes xs p)) ∙ ap records_by (sound bytes ys q)
 
 -- what is closed among all its records
 closes_all : LogLaws → (bytes : List ℕ) (rs : List LogRecord) → bytes ≡ log_bytes rs → AllByRecursion IsAllowed rs → EachFollows [] rs → commits_last rs ≡ true → ((t : ℕ) (s : Spot) → t ≢ 0 → has_changed rs t s ≡ true → is_closed rs t ≡ true) → ClosesAll bytes
@@ -237,15 +228,6 @@ closes_all l bytes rs spelled allowed follow last closed =
 record LogAt (bytes : List ℕ) (logs : List Log) (member : ℕ) : Type 0 where
   spelled : bytes ≡ log_bytes (records_for logs member)
   allowed : AllByRecursion IsAllowed (records_for logs member)
-
-no_tail : (member : ℕ) (bytes : List ℕ) (log : Log) → IsWholeLog member bytes log → log.tail ≡ 0 → bytes ≡ log_bytes log.records
-no_tail member bytes log w none =
-    let long = length-append (log_bytes log.records) w.records_are.tail in
-    let all : length bytes ≡ length (log_bytes log.records ++ w.records_are.tail) = ap (λ (b : List ℕ). length b) w.records_are.whole in
-    let size = w.length_is in
-    let ends = w.tail_is in
-    let rest : length w.records_are.tail ≡ 0 = omega (arith, long, all, size, ends, none) in
-    w.records_are.whole ∙ ap (λ (b : List ℕ). log_bytes log.records ++ b) (nil_from_length w.records_are.tail rest) ∙ append-nil (log_bytes log.records)
 
 log_at : (k m : ℕ) (ds : List (List ℕ)) (logs : List Log) → AreWholeLogs k ds logs → HaveNoTails logs → (i : ℕ) → m ≡ k + i → i < length ds → LogAt (get_or ds i []) logs m
 log_at k m [] logs w none i e low = absurd (omega arith)
@@ -276,7 +258,7 @@ same_if : (b : Bool) (xs ys us vs : List LogRecord) → xs ≡ ys → us ≡ vs 
 same_if true xs ys us vs h k = h
 same_if false xs ys us vs h k = k
 
-same_members : ReadsSound → (k : ℕ) (bs : List (List ℕ)) (logs others : List Log) → AreWholeLogs k bs logs → AreWholeLogs k bs others → (m : ℕ) → records_for logs m ≡ records_for others m
+pub same_members : ReadsSound → (k : ℕ) (bs : List (List ℕ)) (logs others : List Log) → AreWholeLogs k bs logs → AreWholeLogs k bs others → (m : ℕ) → records_for logs m ≡ records_for others m
 same_members sound k [] [] [] w v m = refl
 same_members sound k [] [] (x ∷ xs) w v m = absurd v
 same_members sound k [] (l ∷ ls) others w v m = absurd w
@@ -289,27 +271,37 @@ same_members sound k (b ∷ bs) (l ∷ ls) (x ∷ xs) w v m =
 
 -- ---- the disk
 
+module _ (l : LogLaws) (c d : Contents) (as_many : length c.logs ≡ length d.logs) (keeps : KeepsRecords c d) (before : LeavesOutClosed c) (logs : List Log) (whole : AreWholeLogs 1 d.logs logs) where
+  told_again : (m : ℕ) → telling (records_for logs m) ≡ telling (records_for before.logs m)
+  told_again m = told_of l.reads c d before.logs logs before.whole whole as_many keeps m
+
+  pub last_again : (m : ℕ) → commits_last (records_for logs m) ≡ true
+  last_again m = sym (last_told (records_for logs m)) ∙ ap commits_last (told_again m) ∙ last_told (records_for before.logs m) ∙ before.commits m
+
+  pub changed_before : (m t : ℕ) (s : Spot) → has_changed (records_for logs m) t s ≡ true → has_changed (records_for before.logs m) t s ≡ true
+  changed_before m t s changed =
+      sym (changes_told (records_for before.logs m) t s) ∙ ap (λ (rs : List LogRecord). has_changed rs t s) (sym (told_again m)) ∙ changes_told (records_for logs m) t s ∙ changed
+
+  -- none is unread
+  pub closed_again : (m t : ℕ) (s : Spot) → t ≢ 0 → has_changed (records_for logs m) t s ≡ true → (is_closed (records_for logs m) t ≡ true) ⊎ IsUnread c m t → is_closed (records_for logs m) t ≡ true
+  closed_again m t s numbered changed (inl e) = e
+  closed_again m t s numbered changed (inr u) =
+      let same : records_for u.logs m ≡ records_for before.logs m = same_members l.reads 1 c.logs u.logs before.logs u.whole before.whole m in
+      let shut = before.closed m t s numbered (changed_before m t s changed) (subst (λ (rs : List LogRecord). IsLeftOut rs t) same u.out) in
+      absurd (both_ways (is_closed (records_for before.logs m) t) (ap (λ (rs : List LogRecord). is_closed rs t) (sym same) ∙ u.unclosed) shut)
+
 pub rests_close : LogLaws → RestsClose
 rests_close l c d counter as_many before left =
     let rest : IsAtRest c counter d = left.ends in
     let whole = rest.sound.whole_logs in
-    let told : (m : ℕ) → telling (records_for rest.logs m) ≡ telling (records_for before.logs m) = told_of l.reads c d before.logs rest.logs before.whole whole as_many left.keeps in
-    let last : (m : ℕ) → commits_last (records_for rest.logs m) ≡ true =
-    λ m. sym (last_told (records_for rest.logs m)) ∙ ap commits_last (told m) ∙ last_told (records_for before.logs m) ∙ before.commits m in
     let closed : (m t : ℕ) (s : Spot) → t ≢ 0 → has_changed (records_for rest.logs m) t s ≡ true → is_closed (records_for rest.logs m) t ≡ true =
-    λ m t s numbered changed. elim (rest.closed m t s numbered changed) as (λ _. is_closed (records_for rest.logs m) t ≡ true) [
-      | inl e ↦ e
-      | inr u ↦
-          let same : records_for u.logs m ≡ records_for before.logs m = same_members l.reads 1 c.logs u.logs before.logs u.whole before.whole m in
-          let there : has_changed (records_for before.logs m) t s ≡ true =
-          sym (changes_told (records_for before.logs m) t s) ∙ ap (λ (rs : List LogRecord). has_changed rs t s) (sym (told m)) ∙ changes_told (records_for rest.logs m) t s ∙ changed in
-          let shut = before.closed m t s numbered there (subst (λ (rs : List LogRecord). IsLeftOut rs t) same u.out) in
-          absurd (both_ways (is_closed (records_for before.logs m) t) (ap (λ (rs : List LogRecord). is_closed rs t) (sym same) ∙ u.unclosed) shut)
-    ] in
+    λ m t s numbered changed. closed_again l c d as_many left.keeps before rest.logs whole m t s numbered changed (rest.closed m t s numbered changed) in
     record {
-      before = record { logs = rest.logs; whole = whole; commits = last; closed = λ m t s numbered changed out. closed m t s numbered changed };
+      before = left.closed before;
       logs = λ i low.
-          let at : LogAt (get_or d.logs i []) rest.logs (i + 1) = log_at 1 (i + 1) d.logs rest.logs whole rest.no_tails i (omega arith) low in
-          let here : log_of d.logs (i + 1) ≡ get_or d.logs i [] = ap (λ (k : ℕ). get_or d.logs k []) (let one : i + 1 - 1 ≡ i = omega arith in one) in
-          subst ClosesAll (sym here) (closes_all l (get_or d.logs i []) (records_for rest.logs (i + 1)) at.spelled at.allowed (follows_for rest.logs (i + 1) rest.sound.transactions.follow) (last (i + 1)) (closed (i + 1)));
+      let at : LogAt (get_or d.logs i []) rest.logs (i + 1) = log_at 1 (i + 1) d.logs rest.logs whole rest.no_tails i (omega arith) low in
+      let here : log_of d.logs (i + 1) ≡ get_or d.logs i [] = ap (λ (k : ℕ). get_or d.logs k []) (let one : i + 1 - 1 ≡ i = omega arith in one) in
+      subst ClosesAll (sym here)
+      (closes_all l (get_or d.logs i []) (records_for rest.logs (i + 1)) at.spelled at.allowed (follows_for rest.logs (i + 1) rest.sound.transactions.follow)
+      (last_again l c d as_many left.keeps before rest.logs whole (i + 1)) (closed (i + 1)));
     }

@@ -8,7 +8,6 @@ use Rattle.ds_model.specs.declared.log.LogRecord.{LogRecord}
 use Rattle.ds_model.specs.Logs.{rows_of_logs}
 use Rattle.page_format.specs.Fields.{renewed}
 use Rattle.log_record.specs.declared.log.Log.{Log}
-use Rattle.restart_plan.specs.declared.opened.Undo.{Undo}
 use Rattle.group_restart.specs.declared.calls.State.{State}
 use Rattle.group_restart.specs.declared.calls.State.TheVariants as state
 use Rattle.group_restart.specs.Disk.{Drive}
@@ -23,15 +22,19 @@ use Rattle.disk_restart.proofs.Whole.{ReadsSound}
 use Rattle.sound_disk.specs.Laws.{records_of, LogsStand}
 use Rattle.sound_disk.specs.Settled.{has_ended}
 use Rattle.sound_disk.specs.Sound.{IsSoundWith}
-use Rattle.sound_plans.specs.Ends.{EndAll}
 use Rattle.sound_plans.specs.Opens.{EndsWhereNothingIsLeft}
 use Rattle.sound_plans.specs.Queues.{records_for, IsSettled, QueueFits, EmptyQueueSettles}
 use Rattle.sound_steps.specs.Given.{IsLeftSound}
+use Rattle.sound_steps.specs.Grown.{HaveEnded, HasGrownBefore}
+use Rattle.sound_steps.proofs.Grown.{all_ended}
 use Rattle.read_plans.specs.Ends.{OpensAreTaken}
 use Rattle.restart_soundness.specs.Soundness.{to_end, Runs, IsDone, Tells, LeavesSound, RestartBegins, StepLeavesSound}
 use Rattle.restart_soundness.specs.Runs.{KeepsRows, IsAtRest, EndsWith, IsLeft, RunsLeaveSound, RestartsLeaveSound}
 use Rattle.restart_soundness.proofs.Closed.{closed_behind}
+use Rattle.restart_soundness.proofs.Closes.{LogLaws}
+use Rattle.restart_soundness.proofs.Kept.{kept_closed}
 use Rattle.restart_soundness.proofs.Rows.{rows_stay}
+use Rattle.restart_soundness.proofs.Steps.{runs_kept}
 
 -- what is proved of steps
 pub record StepLaws : Type 0 where
@@ -43,6 +46,8 @@ pub record StepLaws : Type 0 where
   pub settles : EmptyQueueSettles
   pub ended : EndsWhereNothingIsLeft
   pub opens : OpensAreTaken
+  pub before : HasGrownBefore
+  pub logs : LogLaws
 
 -- ---- the records that last
 
@@ -88,7 +93,7 @@ run_leaves l first w v h k result c is stands (inl e) =
     run_on c e.mid.contents v.contents (Between first e.between) (LeavesSound first result k) (all_between l first e.gone.count w e.mid h e.between c is stands e.gone.go)
     (λ d told left. l.step first e.mid v e.between k result d told left.1 e.last)
 run_leaves l first w v h k result c is stands (inr g) =
-    told_as c v.contents (Between first k) (LeavesSound first result k) (λ d left. record { left = left.0; tells = wants_ends first result k d g.1 }) (all_between l first g.0.count w v h k c is stands g.0.go)
+    told_as c v.contents (Between first k) (LeavesSound first result k) (λ d left. record { left = left.0; kept = runs_kept l.before first k d left.1; tells = wants_ends first result k d g.1 }) (all_between l first g.0.count w v h k c is stands g.0.go)
 
 -- ---- where all is done
 
@@ -102,12 +107,12 @@ at_rest l c first sound k counter d as_many keeps t =
     let same : state.Done counter ≡ state.Done k.counter = e.tells in
     let number : counter ≡ k.counter = cc in
     let none : QueueFits t.logs [] = subst (QueueFits t.logs) e.nothing.none e.nothing.owes.queue in
-    let ends : EndAll (to_end first t.reads) [] [] t.logs = subst (λ (us : List Undo). EndAll (to_end first t.reads) [] us t.logs) e.nothing.none e.nothing.owes.ends in
+    let ends : HaveEnded (to_end first t.reads) t.logs = all_ended (to_end first t.reads) [] k.plan.undo t.logs e.nothing.owes.ends (refl, e.nothing.none) in
     record {
       logs = t.logs;
       sound = e.rests.stands.sound.now.sound;
       ended = λ member tran. settled_ended l t.logs member tran (l.settles t.logs none member tran);
-      closed = closed_behind l.reads l.opens c d first t.logs t.reads sound e.rests.stands.sound.now.sound t.are_read as_many keeps ends;
+      closed = closed_behind l.reads l.opens c d first t.logs t.reads sound e.rests.stands.sound.now.sound.whole_logs t.are_read as_many keeps ends;
       no_tails = e.rests.stands.sound.tails;
       pages = λ id. sym (ap (λ (b : Bool). if b then renewed (page_at d.pages id) else page_at d.pages id) (e.new id)) ∙ e.rests.last id;
       none_old = e.new;
@@ -136,6 +141,7 @@ left_so l result k c d first sound all left keeps s = record {
   keeps = keeps;
   rows = keeps_rows l c d all left keeps s.left;
   ends = ends_so l c first sound result k d (all ∙ sym left) keeps s.tells;
+  closed = λ before. kept_closed l.logs l.opens c d first sound (all ∙ sym left) keeps before s.kept;
 }
 
 -- ---- a run
@@ -161,7 +167,7 @@ runs_leave_sound l w v h k result before behind is run =
 stays : StepLaws → (result : Result State NoMemory) (a b : Option Contents) → WantsMemory result → b ≡ a → Becomes a b (λ c d. IsLeftSound c → IsLeft result c d)
 stays l (Ok s) a b wants same = absurd wants
 stays l (Err e) None b wants same = tt
-stays l (Err e) (Some c) b wants same = subst (λ (z : Option Contents). Becomes (Some c) z (λ c d. IsLeftSound c → IsLeft (Err e) c d)) (sym same) (λ sound. record { sound = sound; keeps = λ member. refl; rows = λ rows were. were; ends = tt })
+stays l (Err e) (Some c) b wants same = subst (λ (z : Option Contents). Becomes (Some c) z (λ c d. IsLeftSound c → IsLeft (Err e) c d)) (sym same) (λ sound. record { sound = sound; keeps = λ member. refl; rows = λ rows were. were; ends = tt; closed = λ before. before })
 
 pub restarts_leave_sound : StepLaws → RestartsLeaveSound
 restarts_leave_sound l w v result before behind (inl r) = runs_leave_sound l w v r.begun r.left result before behind r.begins r.run

@@ -29,6 +29,7 @@ use Rattle.sound_plans.specs.Queues.{records_for}
 use Rattle.sound_restarts.specs.Redo.{OldAreNumbered, with_page}
 use Rattle.read_plans.specs.Ends.{IsLeftOut}
 use Rattle.sound_steps.specs.Given.{NoneIsOld, IsLeftSound}
+use Rattle.restart_soundness.specs.Left_out.{LeavesOutClosed}
 
 -- ---- what a run leaves
 
@@ -64,12 +65,13 @@ EndsWith c (state.Done counter) d = IsAtRest c counter d
 EndsWith c (state.Damaged volume at) d = ⊥
 EndsWith c state.Failed d = Unit {0}
 
--- whatever the end, the disk is sound, with the same lasting records and the same rows
+-- whatever the end, the disk is sound, with the same lasting records and the same rows; and what is left out of its logs is closed, if it was
 pub record IsLeft (result : Result State NoMemory) (c d : Contents) : Type 0 where
   pub sound : IsLeftSound d
   pub keeps : KeepsRecords c d
   pub rows : KeepsRows c d
   pub ends : IfOk result (λ s. EndsWith c s d)
+  pub closed : LeavesOutClosed c → LeavesOutClosed d
 
 -- ---- laws
 

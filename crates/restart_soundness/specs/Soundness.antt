@@ -1,5 +1,5 @@
 -- A group restart over a sound disk, from its first call to its last.
-use Rattle.std.specs.Prelude.{◌≡◌, ◌⊎◌, ◌||◌, ℕ, List, length, Some, Result, IfOk}
+use Rattle.std.specs.Prelude.{◌≡◌, ◌⊎◌, ◌||◌, ℕ, Bool, List, length, Some, Result, IfOk}
 use Rattle.ds_base.specs.declared.fault.NoMemory.{NoMemory}
 use Rattle.ds_disk.specs.Contents.{Contents, Becomes}
 use Rattle.log_record.specs.declared.log.Log.{Log}
@@ -11,11 +11,13 @@ use Rattle.group_restart.specs.Course.{IsBegun, plan_read}
 use Rattle.group_restart.specs.Steps.{Steps}
 use Rattle.disk_restart.specs.Runs.{AllGo}
 use Rattle.restart_reads.specs.Reading.{ReadsNext}
-use Rattle.sound_plans.specs.Ends.{takes, has_end, Trans}
+use Rattle.sound_disk.specs.Whole_logs.{AreWholeLogs}
+use Rattle.sound_plans.specs.Ends.{takes, has_end, ToEnd}
 use Rattle.sound_reads.specs.Reads.{AreReadOf}
 use Rattle.sound_restarts.specs.Redo.{IsSoundNow}
 use Rattle.sound_steps.specs.Given.{IsLeftSound}
 use Rattle.sound_steps.specs.Given.{HasEnded}
+use Rattle.sound_steps.specs.Grown.{IsGrown}
 use Rattle.sound_steps.specs.Whole.{SoundIn}
 
 -- ---- between two calls
@@ -28,8 +30,11 @@ pub record IsReading (first : List Log) (h : Restart) (c : Contents) : Type 0 wh
 
 -- transactions that have an Ended record once all is done: those that have one in the logs as they were first, and all that the plan of what was read
 -- of them closes or undoes
-abbrev pub to_end : List Log → List Log → Trans
-to_end first reads member tran = has_end first member tran || takes (plan_read reads).closings (plan_read reads).undo member tran
+abbrev pub asks_end : List Log → List Log → ℕ → ℕ → Bool
+asks_end first reads member tran = has_end first member tran || takes (plan_read reads).closings (plan_read reads).undo member tran
+
+abbrev pub to_end : List Log → List Log → ToEnd
+to_end first reads = record { logs = first; trans = asks_end first reads }
 
 -- they were, and the restart follows the plan of what was read; now these are the logs
 pub record IsFollowing (first : List Log) (h : Restart) (c : Contents) : Type 0 where
@@ -57,9 +62,20 @@ Tells first (state.Done counter) k d = IsDone first k counter d
 Tells first (state.Damaged volume at) k d = ⊥
 Tells first state.Failed k d = Unit {0}
 
+-- its logs have grown by the plan of what was read of them
+pub record GrownByPlan (first : List Log) (d : Contents) : Type 0 where
+  pub reads : List Log
+  pub are_read : AreReadOf first reads
+  pub grown : IsGrown (to_end first reads) d
+
+-- the logs are those that the disk had first, or they have grown so
+abbrev pub HasKept : List Log → Contents → Type 0
+HasKept first d = AreWholeLogs 1 d.logs first ⊎ GrownByPlan first d
+
 -- the disk is left sound, whatever came of the call
 pub record LeavesSound (first : List Log) (result : Result State NoMemory) (k : Restart) (d : Contents) : Type 0 where
   pub left : IsLeftSound d
+  pub kept : HasKept first d
   pub tells : IfOk result (λ s. Tells first s k d)
 
 -- ---- laws

@@ -40,7 +40,11 @@ pub fn run_laws()
     sound_disk::page_laws();
     sound_plans::queue_laws();
     sound_plans::open_laws();
+    sound_steps::step_laws();
     read_plans::fit_laws();
+    log_rows::both_tell();
+    log_appends::appends_tell();
+    log_appends::rests_tell();
 }
 
 /// Such a run may begin with each sound disk the numbers of whose pages of version 1 are of the format. They are where all pages

@@ -24,7 +24,7 @@ use Rattle.group_restart.specs.Machine.{Restart}
 use Rattle.group_restart.specs.Disk.{with_page as with_hand}
 use Rattle.group_restart.specs.Course.{Next, next_redo, tail_or, next_tail, take_done}
 use Rattle.sound_disk.specs.Laws.{with_tail}
-use Rattle.sound_plans.specs.Ends.{Trans, EndAll}
+use Rattle.sound_plans.specs.Ends.{ToEnd, EndAll}
 use Rattle.sound_plans.specs.Queues.{has_log, ClosingsFit, QueueFits}
 use Rattle.sound_restarts.specs.Cuts.{CutKeepsSound}
 use Rattle.sound_restarts.specs.Redo.{IsSoundNow, with_page, IsBrought, PlanSuits, HasRestOf, RedoIn, RedoLeads, HasRedone, RedoBegins, RedoReads, RedoWrites}
@@ -50,7 +50,7 @@ none_old h c logs now asks none id = elim (cases_Bool (is_old (page_at c.pages i
   | inr new ↦ new
 ]
 
-begins_undo : (ts : Trans) (n : Next) (p : Plan) (c : Contents) (logs : List Log) (r : HasRedone n p c logs) → Cut ts p logs → p.greatest.lrsn ≡ greatest (all_records logs) → BeginsUndo ts r.behind c logs
+begins_undo : (ts : ToEnd) (n : Next) (p : Plan) (c : Contents) (logs : List Log) (r : HasRedone n p c logs) → Cut ts p logs → p.greatest.lrsn ≡ greatest (all_records logs) → BeginsUndo ts r.behind c logs
 begins_undo ts n p c logs r cut number =
     let rest = r.brought.rest in
     record {
@@ -70,7 +70,7 @@ begins_undo ts n p c logs r cut number =
       ends = subst (λ (us : List Undo). EndAll ts r.behind.plan.closings us logs) (sym rest.undo) (subst (λ (cs : List Closing). EndAll ts cs p.undo logs) (sym rest.closings) cut.fits.takes);
     }
 
-stage_in : (ts : Trans) (st : Stage) (p : Plan) (h : Restart) (c : Contents) (logs : List Log) → RedoIn st p h c logs → Cut ts p logs → BringIn ts st p h c logs
+stage_in : (ts : ToEnd) (st : Stage) (p : Plan) (h : Restart) (c : Contents) (logs : List Log) → RedoIn st p h c logs → Cut ts p logs → BringIn ts st p h c logs
 stage_in ts stage.ReadLog p h c logs i cut = absurd i
 stage_in ts (stage.CutTail tail) p h c logs i cut = absurd i
 stage_in ts (stage.RedoRead page) p h c logs i cut = (i, cut)
@@ -84,7 +84,7 @@ stage_in ts (stage.RenewWrite page) p h c logs i cut = absurd i
 stage_in ts (stage.EndAppend member) p h c logs i cut = absurd i
 stage_in ts stage.End p h c logs i cut = absurd i
 
-redo_leads : (ts : Trans) (n : Next) (p : Plan) (c : Contents) (logs : List Log) → RedoLeads n p c logs → Cut ts p logs → p.greatest.lrsn ≡ greatest (all_records logs) → BringLeads ts n p c logs
+redo_leads : (ts : ToEnd) (n : Next) (p : Plan) (c : Contents) (logs : List Log) → RedoLeads n p c logs → Cut ts p logs → p.greatest.lrsn ≡ greatest (all_records logs) → BringLeads ts n p c logs
 redo_leads ts n p c logs (inl goes) cut number = inl (goes.0, stage_in ts n.0.stage p n.0 c logs goes.1 cut)
 redo_leads ts n p c logs (inr r) cut number = inr (record { behind = r.behind; goes = r.goes; begins = begins_undo ts n p c logs r cut number })
 
@@ -112,7 +112,7 @@ next_is h tails e = ap (λ (ts : List Tail). next_of ts h) e
 rest_of : (p q : Plan) (tails : List Tail) → HasRestOf p q → HasRestOf p (record q { tails = tails })
 rest_of p q tails h = record { ends = h.ends; closings = h.closings; undo = h.undo; endings = h.endings; renews = h.renews; greatest = h.greatest }
 
-leads_of : BringLaws → (ts : Trans) (tails : List Tail) (p : Plan) (h : Restart) (c : Contents) (logs : List Log) → Cuts ts tails p h c logs → BringLeads ts (next_of tails h) p c logs
+leads_of : BringLaws → (ts : ToEnd) (tails : List Tail) (p : Plan) (h : Restart) (c : Contents) (logs : List Log) → Cuts ts tails p h c logs → BringLeads ts (next_of tails h) p c logs
 leads_of l ts [] p h c logs d =
     redo_leads ts (next_redo (with_tails h [])) p c logs
     (l.begins p (with_tails h []) c logs (record { now = d.now; suits = d.suits; rest = rest_of p h.plan [] d.rest; merged_is = d.merged_is; pages_are = d.pages_are; asks = d.asks }))
@@ -131,7 +131,7 @@ leads_of l ts (t ∷ more) p h c logs d = inl (
   },
 )
 
-leads : BringLaws → (ts : Trans) (tails : List Tail) (p : Plan) (h : Restart) (c : Contents) (logs : List Log) → h.plan.tails ≡ tails → Cuts ts tails p h c logs → BringLeads ts (next_tail h) p c logs
+leads : BringLaws → (ts : ToEnd) (tails : List Tail) (p : Plan) (h : Restart) (c : Contents) (logs : List Log) → h.plan.tails ≡ tails → Cuts ts tails p h c logs → BringLeads ts (next_tail h) p c logs
 leads l ts tails p h c logs e d = subst (λ (n : Next). BringLeads ts n p c logs) (sym (next_is h tails e)) (leads_of l ts tails p h c logs d)
 
 pub cuts_begin : BringLaws → CutsBegin
@@ -144,7 +144,7 @@ suits_still p c tail logs others a s = record {
   number = s.number ∙ ap greatest a.records;
 }
 
-fits_still : (ts : Trans) (p : Plan) (logs others : List Log) → AreAlike logs others → PlanFits ts p logs → PlanFits ts p others
+fits_still : (ts : ToEnd) (p : Plan) (logs others : List Log) → AreAlike logs others → PlanFits ts p logs → PlanFits ts p others
 fits_still ts p logs others a f = record {
   closings = closings_still logs others p.closings a f.closings;
   queue = queue_still logs others p.undo a f.queue;

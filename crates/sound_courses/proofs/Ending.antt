@@ -21,7 +21,7 @@ use Rattle.sound_disk.specs.Laws.{AreMerged}
 use Rattle.sound_disk.specs.Versions.{merged, last_images}
 use Rattle.sound_disk.specs.Whole_logs.{AreWholeLogs}
 use Rattle.sound_plans.specs.Courses.{OwesNothing, EndsNext, IsDue, writes_of, EndingGoes as EndingFits}
-use Rattle.sound_plans.specs.Ends.{Trans}
+use Rattle.sound_plans.specs.Ends.{ToEnd}
 use Rattle.sound_plans.specs.Queues.{has_log, records_for, length_for, IsSettled, EmptyQueueSettles, SettledIsDone, QueueFits}
 use Rattle.sound_plans.proofs.Members.{IsHome, each_home}
 use Rattle.sound_restarts.specs.Undo.{OthersLeavePages}
@@ -55,7 +55,7 @@ first_has : (P : ℕ → Type 0) (ms : List ℕ) (m : ℕ) → AllByRecursion P 
 first_has P [] m h e = absurd cc
 first_has P (x ∷ ms) m h e = let same : x ≡ m = cc in subst P same h.0
 
-ending_leads : (ts : Trans) (c : Contents) (logs : List Log) (h : Restart) (next : Option ℕ) → ((m : ℕ) → next ≡ Some m → has_log logs m ≡ true) → BeginsEnding ts h c logs → EndLeads ts (ending_or h next) c logs
+ending_leads : (ts : ToEnd) (c : Contents) (logs : List Log) (h : Restart) (next : Option ℕ) → ((m : ℕ) → next ≡ Some m → has_log logs m ≡ true) → BeginsEnding ts h c logs → EndLeads ts (ending_or h next) c logs
 ending_leads ts c logs h None first b = inr (record { tells = refl; stage_is = refl; rests = rests_as h (record h { stage = stage.End }) c logs refl refl refl b.rests; nothing = b.nothing; new = b.new })
 ending_leads ts c logs h (Some m) first b = inl (
   refl,
@@ -100,7 +100,7 @@ no_lower h c logs r new id =
     omega (arith, same)
 
 -- all that stands in the log is in the pages of the disk, and no transaction of it is open
-done_at : EndLaws → (ts : Trans) (h : Restart) (c : Contents) (logs after : List Log) (r : LogRecord) (a : Appends logs r after) → Rests h c logs → OwesNothing ts h.plan.undo h.counter logs → NoneIsOld c
+done_at : EndLaws → (ts : ToEnd) (h : Restart) (c : Contents) (logs after : List Log) (r : LogRecord) (a : Appends logs r after) → Rests h c logs → OwesNothing ts h.plan.undo h.counter logs → NoneIsOld c
     → list_all (is_done (page_at c.pages) a.log.records) a.log.records ≡ true
 done_at l ts h c logs after r a rests none new =
     let sound = rests.stands.sound.now.sound in
@@ -109,14 +109,14 @@ done_at l ts h c logs after r a rests none new =
     let settled : (tran : ℕ) → IsSettled logs a.log.member tran = λ tran. l.empty logs (subst (QueueFits logs) none.none none.owes.queue) a.log.member tran in
     subst (λ (rs : List LogRecord). list_all (is_done (page_at c.pages) rs) rs ≡ true) (own_records c.logs logs after r a sound.whole_logs) (l.done (page_at c.pages) logs a.log.member settled pages)
 
-both_settled : EndLaws → (ts : Trans) (h : Restart) (c : Contents) (logs after : List Log) (member lrsn at : ℕ) → Rests h c logs → OwesNothing ts h.plan.undo h.counter logs → NoneIsOld c
+both_settled : EndLaws → (ts : ToEnd) (h : Restart) (c : Contents) (logs after : List Log) (member lrsn at : ℕ) → Rests h c logs → OwesNothing ts h.plan.undo h.counter logs → NoneIsOld c
     → (all : AppendsAll logs (writes_of member (ending lrsn at)) after) → AreSettledBefore (page_at c.pages) logs (writes_of member (ending lrsn at)) after all
 both_settled l ts h c logs after member lrsn at rests none new all = ((done_at l ts h c logs all.0 (checkpoint lrsn at) all.1 rests none new, tt), ((tt, new), tt))
 
 -- ---- the records are appended
 
 -- what the course of a plan with one more log to be ended says
-nothing_of : (ts : Trans) (k : Restart) (m : ℕ) (logs : List Log) → slice_get k.plan.endings 0 ≡ Some m → IsDue ts (next_ending k) logs → OwesNothing ts k.plan.undo k.counter logs
+nothing_of : (ts : ToEnd) (k : Restart) (m : ℕ) (logs : List Log) → slice_get k.plan.endings 0 ≡ Some m → IsDue ts (next_ending k) logs → OwesNothing ts k.plan.undo k.counter logs
 unfolding next_ending
 nothing_of ts k m logs e due =
     let d : IsDue ts (ending_or (with_plan k (rest_endings k.plan)) (Some m)) logs = subst (λ (o : Option ℕ). IsDue ts (ending_or (with_plan k (rest_endings k.plan)) o) logs) e due in

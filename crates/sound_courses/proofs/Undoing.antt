@@ -25,7 +25,7 @@ use Rattle.sound_appends.specs.Appends.{Appends, AppendsAll}
 use Rattle.sound_disk.specs.Rows_there.{Stood}
 use Rattle.sound_disk.specs.Versions.{merged, last_images}
 use Rattle.sound_plans.specs.Courses.{Owes, writes_of, UndoGoes as UndoFits}
-use Rattle.sound_plans.specs.Ends.{Trans, EndAll}
+use Rattle.sound_plans.specs.Ends.{ToEnd, EndAll}
 use Rattle.sound_plans.specs.Opens.{course_of}
 use Rattle.sound_plans.specs.Queues.{records_for, CanClose, ClosingsFit, is_of, QueueFits}
 use Rattle.sound_plans.proofs.Logs.{put_record, PutIs}
@@ -61,7 +61,7 @@ some_undos : (us : List Undo) (u : Undo) → slice_get us 0 ≡ Some u → us �
 some_undos [] u e = absurd cc
 some_undos (x ∷ us) u e = let same : x ≡ u = cc in ap (λ (v : Undo). v ∷ us) same
 
-undo_leads : (ts : Trans) (c : Contents) (logs : List Log) (h : Restart) (next : Option Undo) → slice_get h.plan.undo 0 ≡ next → Rests h c logs → Owes ts [] h.plan.undo h.counter logs → HasNumbers h → UndoLeads ts (undo_or h next) c logs
+undo_leads : (ts : ToEnd) (c : Contents) (logs : List Log) (h : Restart) (next : Option Undo) → slice_get h.plan.undo 0 ≡ next → Rests h c logs → Owes ts [] h.plan.undo h.counter logs → HasNumbers h → UndoLeads ts (undo_or h next) c logs
 undo_leads ts c logs h None e r o n = inr (record { behind = h; goes = refl; rests = r; nothing = record { owes = o; none = none_first h.plan.undo e } })
 undo_leads ts c logs h (Some u) e r o n = inl (
   refl,
@@ -76,7 +76,7 @@ undo_leads ts c logs h (Some u) e r o n = inl (
   },
 )
 
-pub next_undo_leads : (ts : Trans) (c : Contents) (logs : List Log) (h : Restart) → Rests h c logs → Owes ts [] h.plan.undo h.counter logs → HasNumbers h → UndoLeads ts (next_undo h) c logs
+pub next_undo_leads : (ts : ToEnd) (c : Contents) (logs : List Log) (h : Restart) → Rests h c logs → Owes ts [] h.plan.undo h.counter logs → HasNumbers h → UndoLeads ts (next_undo h) c logs
 unfolding next_undo
 next_undo_leads ts c logs h r o n = undo_leads ts c logs h (slice_get h.plan.undo 0) refl r o n
 
@@ -91,7 +91,7 @@ rest_close logs [] h = tt
 rest_close logs (x ∷ cs) h = h.1
 
 -- the first of these is taken out of the list
-closing_leads : (ts : Trans) (c : Contents) (logs : List Log) (h : Restart) (all : List Closing) (next : Option Closing) → slice_get all 0 ≡ next → h.plan.closings ≡ drop 1 all → ((cl : Closing) → next ≡ Some cl → CanClose logs cl) → ClosingsFit logs h.plan.closings → Rests h c logs → Owes ts all h.plan.undo h.counter logs → HasNumbers h
+closing_leads : (ts : ToEnd) (c : Contents) (logs : List Log) (h : Restart) (all : List Closing) (next : Option Closing) → slice_get all 0 ≡ next → h.plan.closings ≡ drop 1 all → ((cl : Closing) → next ≡ Some cl → CanClose logs cl) → ClosingsFit logs h.plan.closings → Rests h c logs → Owes ts all h.plan.undo h.counter logs → HasNumbers h
     → UndoLeads ts (closing_or h next) c logs
 closing_leads ts c logs h all None is left first rest r o n = next_undo_leads ts c logs h r (subst (λ (cs : List Closing). Owes ts cs h.plan.undo h.counter logs) (none_to_close all is) o) n
 closing_leads ts c logs h all (Some cl) is left first rest r o n = inl (
@@ -103,13 +103,13 @@ closing_leads ts c logs h all (Some cl) is left first rest r o n = inl (
   },
 )
 
-next_closing_leads : (ts : Trans) (c : Contents) (logs : List Log) (h : Restart) → ClosingsFit logs h.plan.closings → Rests h c logs → Owes ts h.plan.closings h.plan.undo h.counter logs → HasNumbers h → UndoLeads ts (next_closing h) c logs
+next_closing_leads : (ts : ToEnd) (c : Contents) (logs : List Log) (h : Restart) → ClosingsFit logs h.plan.closings → Rests h c logs → Owes ts h.plan.closings h.plan.undo h.counter logs → HasNumbers h → UndoLeads ts (next_closing h) c logs
 unfolding next_closing
 next_closing_leads ts c logs h fits r o n =
     closing_leads ts c logs (with_plan h (rest_closings h.plan)) h.plan.closings (slice_get h.plan.closings 0) refl refl (λ cl e. first_closing logs h.plan.closings cl fits e) (rest_close logs h.plan.closings fits)
     (rests_as h (with_plan h (rest_closings h.plan)) c logs refl refl refl r) o n
 
-numbered_leads : (ts : Trans) (c : Contents) (logs : List Log) (h : Restart) → HasNumbers h → UndoLeads ts (next_closing h) c logs → UndoLeads ts (numbered h) c logs
+numbered_leads : (ts : ToEnd) (c : Contents) (logs : List Log) (h : Restart) → HasNumbers h → UndoLeads ts (next_closing h) c logs → UndoLeads ts (numbered h) c logs
 numbered_leads ts c logs h few next = subst (λ (b : Bool). UndoLeads ts (cond b (next_closing h) (too_few_numbers h)) c logs) (sym (lt-ltb (h.counter + length h.plan.undo) (2 ^ 80) few)) next
 
 pub undo_begins : UndoBegins
@@ -170,7 +170,7 @@ can_undo meets c logs mid u n s last a =
 abbrev hand_of : Restart → Contents → Undo → Restart
 hand_of h c u = with_plan (with_hand h (page_for c u)) (rest_undo h.plan)
 
-done_leads : (ts : Trans) (h : Restart) (c : Contents) (logs : List Log) (u : Undo) (us : List Undo) (n : ℕ) → n ≡ h.counter + 1 → h.plan.undo ≡ u ∷ us → Rests h c logs → QueueFits logs (u ∷ us) → n ≡ greatest (all_records logs) + 1 → HasNumbers h → CanUndo c logs u → EndAll ts [] (u ∷ us) logs
+done_leads : (ts : ToEnd) (h : Restart) (c : Contents) (logs : List Log) (u : Undo) (us : List Undo) (n : ℕ) → n ≡ h.counter + 1 → h.plan.undo ≡ u ∷ us → Rests h c logs → QueueFits logs (u ∷ us) → n ≡ greatest (all_records logs) + 1 → HasNumbers h → CanUndo c logs u → EndAll ts [] (u ∷ us) logs
     → UndoLeads ts (undone (hand_of h c u) u n) c logs
 unfolding undone
 done_leads ts h c logs u us n next is r fits number few can ends =
@@ -190,7 +190,7 @@ done_leads ts h c logs u us n next is r fits number few can ends =
       },
     )
 
-reads_at : UndoLaws → (ts : Trans) (h : Restart) (page : PageId) (c : Contents) (logs : List Log) (n : ℕ) → n ≡ h.counter + 1 → (d : ReadsNext ts page h c logs) → UndoLeads ts (undo_at (hand_of h c d.first) d.first n) c logs × CanUndo c logs d.first
+reads_at : UndoLaws → (ts : ToEnd) (h : Restart) (page : PageId) (c : Contents) (logs : List Log) (n : ℕ) → n ≡ h.counter + 1 → (d : ReadsNext ts page h c logs) → UndoLeads ts (undo_at (hand_of h c d.first) d.first n) c logs × CanUndo c logs d.first
 reads_at l ts h page c logs n next d =
     let u = d.first in
     let us = d.rest in

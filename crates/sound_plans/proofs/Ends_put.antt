@@ -1,9 +1,10 @@
 -- Each transaction of which something is closed or undone has an Ended record then, and keeps it.
-use Rattle.std.proofs.Common.{◌≡◌, ℕ, Bool, true, false, cond, List, [], ◌∷◌, reverse, inl, inr, refl, sym, ap, subst, ◌∙◌}
-use Rattle.std.specs.Prelude.{◌==◌, ◌||◌, filter}
+use Rattle.std.proofs.Common.{◌≡◌, ℕ, Bool, true, false, cond, List, [], ◌∷◌, ◌++◌, reverse, inl, inr, refl, sym, ap, subst, ◌∙◌, append_assoc}
+use Rattle.std.specs.Prelude.{◌⊎◌, ◌==◌, ◌||◌, filter}
 use Rattle.std.specs.List.{list_any}
-use Rattle.std.proofs.lemmas.Bool.{cond_both, cases_Bool, and_parts, or_cases, or_left, or_right, or_parts, eqb-true}
+use Rattle.std.proofs.lemmas.Bool.{cond_both, cases_Bool, and_parts, or_cases, or_left, or_right, or_from, or_parts, eqb-true}
 use Rattle.std.proofs.lemmas.List.{reverse-reverse}
+use Rattle.std.proofs.lemmas.List.Folds.{list_any-append}
 use Rattle.ds_model.specs.declared.log.LogRecord.{LogRecord}
 use Rattle.ds_model.specs.declared.log.Body.{Body}
 use Rattle.ds_model.specs.declared.log.Body.TheVariants as body
@@ -14,7 +15,7 @@ use Rattle.restart_plan.specs.declared.opened.Closing.{Closing}
 use Rattle.restart_plan.specs.declared.opened.Undo.{Undo}
 use Rattle.group_restart.specs.Records.{ended, compensation}
 use Rattle.sound_appends.proofs.Left.{course_last}
-use Rattle.sound_plans.specs.Ends.{is_closing, has_end, Trans, EndAll}
+use Rattle.sound_plans.specs.Ends.{is_closing, has_end, ToEnd, is_checkpoint, has_checkpoint, IsNothing, HasGrown, EndAll}
 use Rattle.sound_plans.specs.Opens.{course_of}
 use Rattle.sound_plans.specs.Queues.{has_log, records_for, undos, is_of, QueueFits}
 use Rattle.sound_plans.proofs.Logs.{put_record, has_still, records_own, records_other, course_own}
@@ -22,7 +23,7 @@ use Rattle.sound_plans.proofs.Queues.{flag_some, head_of, head_none, first_queue
 
 -- ---- an Ended record stays
 
-body_ends : (c : Course) (r : LogRecord) (b : Body) → c.is_ended ≡ true → (after_body c r b).is_ended ≡ true
+pub body_ends : (c : Course) (r : LogRecord) (b : Body) → c.is_ended ≡ true → (after_body c r b).is_ended ≡ true
 body_ends c r (body.RowChange change) h = h
 body_ends c r (body.Compensation change undone) h = cond_both (is_next undone c.undo) (undone_one c) c (λ (d : Course). d.is_ended ≡ true) (λ is. h) (λ is. h)
 body_ends c r (body.System patches) h = h
@@ -43,13 +44,41 @@ end_stays logs m r k t has h = elim (cases_Bool (m == k)) [
   | inr e ↦ ap (λ (rs : List LogRecord). (course_of rs t).is_ended) (records_other logs m r k e) ∙ h
 ]
 
--- so it does for all
-pub all_stay : (ts : Trans) (cs : List Closing) (us : List Undo) (logs : List Log) (m : ℕ) (r : LogRecord) → has_log logs m ≡ true → EndAll ts cs us logs → EndAll ts cs us (put_record logs m r)
-all_stay ts cs us logs m r has h = record {
+-- ---- the logs grow
+
+until_put : (cs ds : List Closing) (us vs : List Undo) (more : List LogRecord) (r : LogRecord) → (is_checkpoint r.body ≡ false) ⊎ IsNothing ds vs → (IsNothing cs us → IsNothing ds vs) → (has_checkpoint more ≡ false) ⊎ IsNothing cs us
+    → (has_checkpoint (more ++ r ∷ []) ≡ false) ⊎ IsNothing ds vs
+until_put cs ds us vs more r plain on (inr n) = inr (on n)
+until_put cs ds us vs more r (inr n) on (inl e) = inr n
+until_put cs ds us vs more r (inl p) on (inl e) =
+    inl (list_any-append (λ (x : LogRecord). is_checkpoint x.body) more (r ∷ []) ∙ or_from (has_checkpoint more) (is_checkpoint r.body || false) e (or_from (is_checkpoint r.body) false p refl))
+
+until_on : (cs ds : List Closing) (us vs : List Undo) (more : List LogRecord) → (IsNothing cs us → IsNothing ds vs) → (has_checkpoint more ≡ false) ⊎ IsNothing cs us → (has_checkpoint more ≡ false) ⊎ IsNothing ds vs
+until_on cs ds us vs more on (inl e) = inl e
+until_on cs ds us vs more on (inr n) = inr (on n)
+
+grown_put : (cs ds : List Closing) (us vs : List Undo) (old : List LogRecord) (logs : List Log) (m : ℕ) (r : LogRecord) (k : ℕ) → has_log logs m ≡ true → (is_checkpoint r.body ≡ false) ⊎ IsNothing ds vs → (IsNothing cs us → IsNothing ds vs)
+    → HasGrown cs us old (records_for logs k) → HasGrown ds vs old (records_for (put_record logs m r) k)
+grown_put cs ds us vs old logs m r k has plain on g = elim (cases_Bool (m == k)) [
+  | inl e ↦ (
+      let same : m ≡ k = eqb-true m k e in
+      let own : records_for (put_record logs m r) k ≡ records_for logs k ++ r ∷ [] = subst (λ (n : ℕ). records_for (put_record logs m r) n ≡ records_for logs n ++ r ∷ []) same (records_own logs m r has) in
+      record {
+        more = g.more ++ r ∷ [];
+        are = own ∙ ap (λ (rs : List LogRecord). rs ++ r ∷ []) g.are ∙ append_assoc old g.more (r ∷ []);
+        until = until_put cs ds us vs g.more r plain on g.until;
+      })
+  | inr e ↦ record { more = g.more; are = records_other logs m r k e ∙ g.are; until = until_on cs ds us vs g.more on g.until }
+]
+
+-- so it is of all
+pub all_stay : (ts : ToEnd) (cs : List Closing) (us : List Undo) (logs : List Log) (m : ℕ) (r : LogRecord) → has_log logs m ≡ true → (is_checkpoint r.body ≡ false) ⊎ IsNothing cs us → EndAll ts cs us logs → EndAll ts cs us (put_record logs m r)
+all_stay ts cs us logs m r has plain h = record {
   each = λ k t is. elim (h.each k t is) [
     | inl e ↦ inl (end_stays logs m r k t has e)
     | inr e ↦ inr e
   ];
+  grown = λ k. grown_put cs cs us us (records_for ts.logs k) logs m r k has plain (λ n. n) (h.grown k);
 }
 
 -- ---- an Ended record is put
@@ -62,8 +91,14 @@ end_put_as logs m lrsn t k n has member tran =
     subst (λ (x : ℕ). has_end (put_record logs m (ended lrsn t)) x n ≡ true) member
     (subst (λ (x : ℕ). has_end (put_record logs m (ended lrsn t)) m x ≡ true) tran (end_put logs m lrsn t has))
 
+some_closings : (c : Closing) (cs : List Closing) (us : List Undo) (ds : List Closing) (vs : List Undo) → IsNothing (c ∷ cs) us → IsNothing ds vs
+some_closings c cs us ds vs n = absurd (let e = n.0 in cc)
+
+some_undos : (u : Undo) (cs : List Closing) (us : List Undo) (ds : List Closing) (vs : List Undo) → IsNothing cs (u ∷ us) → IsNothing ds vs
+some_undos u cs us ds vs n = absurd (let e = n.1 in cc)
+
 -- of the first transaction that is to be closed
-pub closed_put : (ts : Trans) (c : Closing) (cs : List Closing) (us : List Undo) (logs : List Log) → has_log logs c.member ≡ true → EndAll ts (c ∷ cs) us logs → EndAll ts cs us (put_record logs c.member (ended c.lrsn c.tran))
+pub closed_put : (ts : ToEnd) (c : Closing) (cs : List Closing) (us : List Undo) (logs : List Log) → has_log logs c.member ≡ true → EndAll ts (c ∷ cs) us logs → EndAll ts cs us (put_record logs c.member (ended c.lrsn c.tran))
 closed_put ts c cs us logs has h = record {
   each = λ m t is. elim (h.each m t is) [
     | inl e ↦ inl (end_stays logs c.member (ended c.lrsn c.tran) m t has e)
@@ -77,6 +112,7 @@ closed_put ts c cs us logs has h = record {
       | inr f ↦ inr (or_right (list_any (is_closing m t) cs) (list_any (is_of m t) us) f)
     ]
   ];
+  grown = λ k. grown_put (c ∷ cs) cs us us (records_for ts.logs k) logs c.member (ended c.lrsn c.tran) k has (inl refl) (some_closings c cs us cs us) (h.grown k);
 }
 
 -- ---- a change is undone
@@ -103,7 +139,7 @@ more_left logs u us fits more =
     ]
 
 -- the compensation is put, and there is more to be undone of the transaction
-pub undone_put : (ts : Trans) (u : Undo) (us : List Undo) (n : ℕ) (logs : List Log) → has_log logs u.member ≡ true → QueueFits logs (u ∷ us) → u.is_last ≡ false → EndAll ts [] (u ∷ us) logs → EndAll ts [] us (put_record logs u.member (compensation u n))
+pub undone_put : (ts : ToEnd) (u : Undo) (us : List Undo) (n : ℕ) (logs : List Log) → has_log logs u.member ≡ true → QueueFits logs (u ∷ us) → u.is_last ≡ false → EndAll ts [] (u ∷ us) logs → EndAll ts [] us (put_record logs u.member (compensation u n))
 undone_put ts u us n logs has fits more h = record {
   each = λ m t is. elim (h.each m t is) [
     | inl e ↦ inl (end_stays logs u.member (compensation u n) m t has e)
@@ -116,10 +152,11 @@ undone_put ts u us n logs has fits more h = record {
       | inr rest ↦ inr rest
     ]
   ];
+  grown = λ k. grown_put [] [] (u ∷ us) us (records_for ts.logs k) logs u.member (compensation u n) k has (inl refl) (some_undos u [] us [] us) (h.grown k);
 }
 
 -- or it was the last one, and its Ended is put behind it
-pub last_put : (ts : Trans) (u : Undo) (us : List Undo) (n : ℕ) (logs : List Log) → has_log logs u.member ≡ true → EndAll ts [] (u ∷ us) logs → EndAll ts [] us (put_record (put_record logs u.member (compensation u n)) u.member (ended n u.tran))
+pub last_put : (ts : ToEnd) (u : Undo) (us : List Undo) (n : ℕ) (logs : List Log) → has_log logs u.member ≡ true → EndAll ts [] (u ∷ us) logs → EndAll ts [] us (put_record (put_record logs u.member (compensation u n)) u.member (ended n u.tran))
 last_put ts u us n logs has h =
     let mid = put_record logs u.member (compensation u n) in
     let has_mid : has_log mid u.member ≡ true = has_still logs u.member (compensation u n) u.member ∙ has in
@@ -133,4 +170,7 @@ last_put ts u us n logs has h =
           | inr rest ↦ inr rest
         ]
       ];
+      grown = λ k.
+      grown_put [] [] us us (records_for ts.logs k) mid u.member (ended n u.tran) k has_mid (inl refl) (λ x. x)
+      (grown_put [] [] (u ∷ us) us (records_for ts.logs k) logs u.member (compensation u n) k has (inl refl) (some_undos u [] us [] us) (h.grown k));
     }

@@ -1,6 +1,9 @@
 -- Which transactions get an Ended record by what a group restart still closes and undoes.
-use Rattle.std.specs.Prelude.{◌≡◌, ◌≢◌, ◌⊎◌, ℕ, ◌==◌, Bool, true, false, ◌&&◌, ◌||◌, List}
+use Rattle.std.specs.Prelude.{◌≡◌, ◌≢◌, ◌⊎◌, ℕ, ◌==◌, Bool, true, false, ◌&&◌, ◌||◌, List, [], ◌++◌}
 use Rattle.std.specs.List.{list_any}
+use Rattle.ds_model.specs.declared.log.Body.{Body}
+use Rattle.ds_model.specs.declared.log.Body.TheVariants as body
+use Rattle.ds_model.specs.declared.log.LogRecord.{LogRecord}
 use Rattle.log_record.specs.declared.log.Log.{Log}
 use Rattle.log_trans.specs.Courses.{new_course}
 use Rattle.restart_plan.specs.declared.opened.Closing.{Closing}
@@ -26,13 +29,36 @@ takes cs us member tran = list_any (is_closing member tran) cs || list_any (is_o
 abbrev pub has_end : List Log → ℕ → ℕ → Bool
 has_end logs member tran = (course_of (records_for logs member) tran).is_ended
 
--- transactions, by the member of their log and their number
-abbrev pub Trans : Type 0
-Trans = ℕ → ℕ → Bool
+-- the logs as they were when a restart began, and the transactions that are to have an Ended in the end, by the member of their log and their number
+pub record ToEnd : Type 0 where
+  pub logs : List Log
+  pub trans : ℕ → ℕ → Bool
 
--- each of these has an Ended record, or it is still to be closed or undone
-pub record EndAll (ts : Trans) (cs : List Closing) (us : List Undo) (logs : List Log) : Type 0 where
-  pub each : (member tran : ℕ) → ts member tran ≡ true → (has_end logs member tran ≡ true) ⊎ (takes cs us member tran ≡ true)
+abbrev pub is_checkpoint : Body → Bool
+is_checkpoint (body.RowChange change) = false
+is_checkpoint (body.Compensation change undone) = false
+is_checkpoint (body.System patches) = false
+is_checkpoint body.Commit = false
+is_checkpoint body.Ended = false
+is_checkpoint (body.Checkpoint offset) = true
+is_checkpoint body.RestartEnd = false
+
+abbrev pub has_checkpoint : List LogRecord → Bool
+has_checkpoint records = list_any (λ (r : LogRecord). is_checkpoint r.body) records
+
+abbrev pub IsNothing : List Closing → List Undo → Type 0
+IsNothing cs us = (cs ≡ []) × (us ≡ [])
+
+-- the log had the first of these records, and has the others; a Checkpoint is behind the first ones only where nothing is to be closed or undone any more
+pub record HasGrown (cs : List Closing) (us : List Undo) (old new : List LogRecord) : Type 0 where
+  pub more : List LogRecord
+  pub are : new ≡ old ++ more
+  pub until : (has_checkpoint more ≡ false) ⊎ IsNothing cs us
+
+-- each of these transactions has an Ended record, or it is still to be closed or undone, in logs that have grown so
+pub record EndAll (ts : ToEnd) (cs : List Closing) (us : List Undo) (logs : List Log) : Type 0 where
+  pub each : (member tran : ℕ) → ts.trans member tran ≡ true → (has_end logs member tran ≡ true) ⊎ (takes cs us member tran ≡ true)
+  pub grown : (member : ℕ) → HasGrown cs us (records_for ts.logs member) (records_for logs member)
 
 -- ---- what the plan takes
 

@@ -19,7 +19,7 @@ use Rattle.group_restart.specs.Machine.{Restart}
 use Rattle.group_restart.specs.Calls.{call_in}
 use Rattle.group_restart.specs.Disk.{Drive, Calls, Cuts as CutsLog, Appends, ReadsPage, WritesPage, with_page as with_hand}
 use Rattle.group_restart.specs.Course.{Next, TakesReply, take_done}
-use Rattle.sound_plans.specs.Ends.{Trans}
+use Rattle.sound_plans.specs.Ends.{ToEnd}
 use Rattle.sound_restarts.specs.Redo.{IsSoundNow, with_page}
 use Rattle.sound_courses.specs.Standing.{with_appended, IsLeftSound, StopsSound}
 use Rattle.sound_courses.specs.Undoing.{ClosingGoes, UndoReads, UndoAppends, UndoWrites}
@@ -68,7 +68,7 @@ page_sound c logs id page now = record { logs = logs; now = now }
 sound_here : (c : Contents) (logs : List Log) → IsSoundNow c logs → IsLeftSound c
 sound_here c logs now = record { logs = logs; now = now }
 
-left_in : StepLaws → (ts : Trans) (w v : Drive) (h x : Restart) (made : Result Reply DiskError) (p : Plan) (c : Contents) (logs : List Log) → w.contents ≡ Some c → (st : Stage) → SoundIn ts st p h c logs → Calls h (call_in st h) w made v x → Becomes (Some c) v.contents (λ _ d. IsLeftSound d)
+left_in : StepLaws → (ts : ToEnd) (w v : Drive) (h x : Restart) (made : Result Reply DiskError) (p : Plan) (c : Contents) (logs : List Log) → w.contents ≡ Some c → (st : Stage) → SoundIn ts st p h c logs → Calls h (call_in st h) w made v x → Becomes (Some c) v.contents (λ _ d. IsLeftSound d)
 left_in l ts w v h x made p c logs is stage.ReadLog i calls = absurd i
 left_in l ts w v h x made p c logs is (stage.CutTail tail) i calls =
     cut_left w v made c is (sound_here c logs i.now) tail calls.0 (l.cut ts p h tail c logs i).0
@@ -105,7 +105,7 @@ taken st y x k r s same is takes done =
     let t : TakesReply y reply.Done s k = subst (λ (q : Reply). TakesReply y q s k) done a in
     subst (λ (z : Stage). take_done y z ≡ (k, s)) is t
 
-module _ (ts : Trans) (w v : Drive) (h k x : Restart) (r : Reply) (s : State) (p : Plan) (c : Contents) (is : w.contents ≡ Some c) (takes : TakesReply x r s k) where
+module _ (ts : ToEnd) (w v : Drive) (h k x : Restart) (r : Reply) (s : State) (p : Plan) (c : Contents) (is : w.contents ≡ Some c) (takes : TakesReply x r s k) where
   abbrev Goes : Type 0
   Goes = Becomes (Some c) v.contents (λ _ d. GoesOnWith ts (k, s) p d)
 
