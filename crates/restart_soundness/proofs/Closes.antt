@@ -299,9 +299,9 @@ rests_close l c d counter as_many before left =
     record {
       before = left.closed before;
       logs = λ i low.
-      let at : LogAt (get_or d.logs i []) rest.logs (i + 1) = log_at 1 (i + 1) d.logs rest.logs whole rest.no_tails i (omega arith) low in
-      let here : log_of d.logs (i + 1) ≡ get_or d.logs i [] = ap (λ (k : ℕ). get_or d.logs k []) (let one : i + 1 - 1 ≡ i = omega arith in one) in
-      subst ClosesAll (sym here)
-      (closes_all l (get_or d.logs i []) (records_for rest.logs (i + 1)) at.spelled at.allowed (follows_for rest.logs (i + 1) rest.sound.transactions.follow)
-      (last_again l c d as_many left.keeps before rest.logs whole (i + 1)) (closed (i + 1)));
+          let at : LogAt (get_or d.logs i []) rest.logs (i + 1) = log_at 1 (i + 1) d.logs rest.logs whole rest.no_tails i (omega arith) low in
+          let here : log_of d.logs (i + 1) ≡ get_or d.logs i [] = ap (λ (k : ℕ). get_or d.logs k []) (let one : i + 1 - 1 ≡ i = omega arith in one) in
+          subst ClosesAll (sym here)
+          (closes_all l (get_or d.logs i []) (records_for rest.logs (i + 1)) at.spelled at.allowed (follows_for rest.logs (i + 1) rest.sound.transactions.follow)
+          (last_again l c d as_many left.keeps before rest.logs whole (i + 1)) (closed (i + 1)));
     }

@@ -108,7 +108,7 @@ module _ (l : LogLaws) (opens : OpensAreTaken) (c d : Contents) (first : List Lo
         whole = whole;
         commits = last_again l c d as_many keeps before first whole;
         closed = λ m t s numbered changed out.
-        ap (λ (rs : List LogRecord). is_closed rs t) (sym (same m)) ∙ before.closed m t s numbered (changed_before l c d as_many keeps before first whole m t s changed) (subst (λ (rs : List LogRecord). IsLeftOut rs t) (sym (same m)) out);
+            ap (λ (rs : List LogRecord). is_closed rs t) (sym (same m)) ∙ before.closed m t s numbered (changed_before l c d as_many keeps before first whole m t s changed) (subst (λ (rs : List LogRecord). IsLeftOut rs t) (sym (same m)) out);
       }
 
   -- where no Checkpoint was

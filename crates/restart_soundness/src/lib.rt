@@ -28,8 +28,9 @@ pub fn soundness_laws()
 /// A whole run of a group restart over a sound disk leaves a sound disk with the same rows, wherever it ends: done, failed, in any
 /// of its calls, or for want of memory. It names no damage; and where it is done, no row change is open, no log has a tail, each
 /// page is as all records leave it, and none is of version 1. Each transaction that has changed a row has a Commit or an Ended then,
-/// but for one that was rolled back whole, and had no Ended, before the Checkpoint from which its log was read. Such a run is what
-/// the contract of `disk_restart::run_restart` tells of it, and of `disk_restart::restart_disk`.
+/// but for one that was rolled back whole, and had no Ended, before the Checkpoint from which its log was read. Where the disk had none
+/// such, what is left has none, wherever the run ends. Such a run is what the contract of `disk_restart::run_restart` tells of it, and
+/// of `disk_restart::restart_disk`.
 pub fn run_laws()
     ensures run { RunsLeaveSound }
     ensures restart { RestartsLeaveSound }
@@ -82,7 +83,7 @@ pub fn group_restart_laws<D: Disk>()
 /// On a disk on which a group restart was done each log is whole records, and wherever it may be read from, from its first byte or
 /// from a Checkpoint that names its own place, each transaction that has changed a row there has a Commit or an Ended there. So it is
 /// where no log of the disk that was restarted could be read from behind a transaction that was rolled back and had no Ended, and no
-/// transaction changed a row behind its Commit; and that is so of what the restart leaves, too.
+/// transaction changed a row behind its Commit.
 pub fn rest_laws()
     ensures { RestsClose }
 {

@@ -171,6 +171,6 @@ last_put ts u us n logs has h =
         ]
       ];
       grown = λ k.
-      grown_put [] [] us us (records_for ts.logs k) mid u.member (ended n u.tran) k has_mid (inl refl) (λ x. x)
-      (grown_put [] [] (u ∷ us) us (records_for ts.logs k) logs u.member (compensation u n) k has (inl refl) (some_undos u [] us [] us) (h.grown k));
+          grown_put [] [] us us (records_for ts.logs k) mid u.member (ended n u.tran) k has_mid (inl refl) (λ x. x)
+          (grown_put [] [] (u ∷ us) us (records_for ts.logs k) logs u.member (compensation u n) k has (inl refl) (some_undos u [] us [] us) (h.grown k));
     }

@@ -335,6 +335,7 @@ pub record GrowLaws : Type 0 where
 
 grows_in : GrowLaws → (ts : ToEnd) (w v : Drive) (h x : Restart) (made : Result Reply DiskError) (p : Plan) (c : Contents) (logs : List Log) → w.contents ≡ Some c → (st : Stage) → SoundIn ts st p h c logs → Calls h (call_in st h) w made v x
     → Becomes (Some c) v.contents (λ _ d. IsLeftSound d → IsGrown ts d)
+unfolding grown_in grown_as
 grows_in l ts w v h x made p c logs is stage.ReadLog i calls = absurd i
 grows_in l ts w v h x made p c logs is (stage.CutTail tail) i calls =
     cut_left w v made c is (λ d. IsLeftSound d → IsGrown ts d) (λ _. grown_in ts (stage.CutTail tail) p h c logs i) tail calls.0 (λ _. grown_cut l.cuts ts tail p h c logs i)
