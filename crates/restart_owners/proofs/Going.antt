@@ -256,7 +256,7 @@ module _ (facts : Known) (w : World) (l : LockWorld) (u v : Outside) (g : Holdin
       let there : paged.left.facility ≡ v.facility = facility_in paged.world v paged.left paged.versions paged.force k paged.pages in
       let was : g.facility ≡ u.facility = facility_in w u g content forced h b.pages in
       record {
-        member = subst IsMember (sym same) b.restarts.member;
+        member = subst (λ z. IsMember z) (sym same) b.restarts.member;
         among = subst (λ (f : Facility). k.marks.member ≤ f.lists.members) there r.among;
         few = subst (λ (z : ℕ). z ≤ 32) (sym (ap (λ (f : Facility). f.lists.members) (sym there) ∙ paged.others.members ∙ ap (λ (f : Facility). f.lists.members) was)) b.restarts.few;
         restarts = ap (λ (f : Facility). status_of f.lists.statuses k.marks.member) (sym there) ∙ r.restarts;
