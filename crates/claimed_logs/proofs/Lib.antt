@@ -1,12 +1,16 @@
 pub mod Unread
 pub mod Found
+pub mod Alike
+pub mod Idle
 pub mod Logs
 pub mod Failing
+pub mod Stopping
 pub mod Phases
 pub mod Up
+pub mod Own
 pub mod Restarts
+pub mod Courses
 pub mod Runs
 pub mod Events
-pub mod Leaving
 pub mod Resting
 pub mod Taken
