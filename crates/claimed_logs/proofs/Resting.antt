@@ -1,6 +1,6 @@
 -- The logs of a group behind an event of a member whose restart is in hand, in which it answers, asks or rebuilds the cache.
-use Rattle.std.proofs.Common.{◌≡◌, ℕ, zero, suc, ◌+◌, ◌≤◌, refl, sym, ◌∙◌, ap, subst, arith, Bool, true, false, inl, inr, List, [], ◌∷◌, ◌++◌, take, Option, Some, None}
-use Rattle.std.specs.Prelude.{◌≢◌, ◌⊎◌, IfSome, is_some}
+use Rattle.std.proofs.Common.{◌≡◌, ℕ, zero, suc, ◌+◌, ◌≤◌, refl, sym, ◌∙◌, ap, subst, arith, Bool, true, false, List, [], ◌∷◌, ◌++◌, take, Option, Some, None}
+use Rattle.std.specs.Prelude.{◌≢◌, IfSome, is_some}
 use Rattle.std.proofs.lemmas.List.{append-nil}
 use Rattle.ds_disk.specs.Contents.{Contents, log_of}
 use Rattle.list_structure.specs.declared.standing.MemberStatus.{MemberStatus}
@@ -10,7 +10,6 @@ use Rattle.member_intents.specs.declared.outcome.Sent.{Sent}
 use Rattle.member_intents.specs.declared.outcome.Sent.TheVariants as sent
 use Rattle.member_marks.specs.State.{MarksState}
 use Rattle.member_resources.specs.Events.{World as Resources}
-use Rattle.restart_marks.specs.State.{RestartState}
 use Rattle.lock_protocol.specs.Machine.{World}
 use Rattle.failed_logs.specs.Given.{Restarting as RestartHeld}
 use Rattle.failed_logs.specs.Given.{Stepped}
@@ -23,7 +22,7 @@ use Rattle.group_logs.specs.Logs.{IsNumbered, LogGoes, OneGoes, OwnGoes}
 use Rattle.failed_logs.specs.Given.{is_restart}
 use Rattle.failed_logs.specs.Given.{LocksTied, MemberStands, RestartInHand}
 use Rattle.failed_logs.specs.Given.{LogLocked}
-use Rattle.claimed_logs.specs.Courses.{RestartCourse, RestartHanded, RestartOpen}
+use Rattle.claimed_logs.specs.Courses.{RestartCourse}
 use Rattle.claimed_logs.specs.Events.{RestingEventsLogged}
 use Rattle.claimed_logs.specs.Logs.{MemberLogged, OneLogged, RestartLogged}
 use Rattle.claimed_logs.specs.Steps.{RestingStays, StillRests}
@@ -74,23 +73,16 @@ restart_numbered k m None h = tt
 restart_numbered k m (Some q) h = h.member
 
 -- nothing waits in its own log buffer
-pub own_empty : (log : List ℕ) (s : RestartState) (own : MarksState) → RestartCourse log s own → own.log.pending ≡ []
-own_empty log s own c = by c.goes
-  where
-    by : RestartOpen c.whole c.rest s own ⊎ RestartHanded c.whole c.rest s own → own.log.pending ≡ []
-    by (inl o) = o.idle.spelled
-    by (inr o) = o.locked.spelled
-
-pub empty_of : (log : List ℕ) (own : MarksState) (x : Option RestartHeld) → is_some x ≡ true → IfSome x (λ q. RestartCourse log q.resources.marks own) → own.log.pending ≡ []
-empty_of log own None e h = absurd (never (sym e))
-empty_of log own (Some q) e h = own_empty log q.resources.marks own h
+idle_of : (k : ℕ) (m : Member) (x : Option RestartHeld) → is_some x ≡ true → RestartInHand k m x → m.holds.marks.log.pending ≡ []
+idle_of k m None some hand = absurd (never (sym some))
+idle_of k m (Some q) some hand = hand.idle
 
 courses_as : (log : List ℕ) (h k : MarksState) (x : Option RestartHeld) → ((l : List ℕ) → LogLocked l [] h → LogLocked l [] k) → IfSome x (λ q. RestartCourse log q.resources.marks h) → IfSome x (λ q. RestartCourse log q.resources.marks k)
 courses_as log h k None still c = tt
 courses_as log h k (Some q) still c = own_course log q.resources.marks h k still c
 
 pub resting_events : Facts → RestingEventsLogged
-resting_events facts c d old new at m n w t e ok empty told left moves l = facts.one c d old new w z at n t l
+resting_events facts c d old new at m n w t e ok told left moves l = facts.one c d old new w z at n t l
     (record {
       has = e.has;
       members = e.count;
@@ -126,8 +118,20 @@ resting_events facts c d old new at m n w t e ok empty told left moves l = facts
     logged : MemberLogged old.facility w (at + 1) (log_of c.logs (at + 1)) m
     logged = subst (λ (x : Option Member). IfSome x (MemberLogged old.facility w (at + 1) (log_of c.logs (at + 1)))) e.had (l.each at)
 
+    in_hand : is_some m.restart ≡ true
+    in_hand = stood.restarts was_restarting
+
+    tied : LocksTied new z
+    tied = moves.moves.tied
+
+    stood_now : MemberStands new.facility (at + 1) n
+    stood_now = subst (λ (x : Option Member). IfSome x (MemberStands new.facility (at + 1))) e.has (tied.stands at)
+
+    now_idle : n.holds.marks.log.pending ≡ []
+    now_idle = idle_of (at + 1) n n.restart (ap (λ (x : Option RestartHeld). is_some x) moves.restart ∙ in_hand) stood_now.restart
+
     still : StillRests old.facility.counter new.facility.counter m.holds.marks n.holds.marks
-    still = facts.stays c d m n u v old.fates new.fates e.place e.stepped e.made e.other ok told left empty logged.counted
+    still = facts.stays c d m n u v old.fates new.fates e.place e.stepped e.made e.other ok told left now_idle logged.counted
 
     status : (k : ℕ) → status_of new.facility.lists.statuses k ≡ status_of old.facility.lists.statuses k
     status k = ap (λ (x : List MemberStatus). status_of x k) moves.statuses
@@ -145,7 +149,7 @@ resting_events facts c d old new at m n w t e ok empty told left moves l = facts
     goes = goes_told e.drive.contents e.left.contents c d (OneGoes (at + 1) (LogGoes m e.stepped)) told left (facts.made (at + 1) m e.made.mid u v e.place e.stepped e.made.makes (from_one at) numbered)
 
     same : log_of d.logs (at + 1) ≡ log_of c.logs (at + 1)
-    same = same_log m e.stepped (log_of c.logs (at + 1)) (log_of d.logs (at + 1)) e.other (empty_of (log_of c.logs (at + 1)) m.holds.marks m.restart (stood.restarts was_restarting) logged.course) (goes.own (within old.members at m c.logs e.had l.there))
+    same = same_log m e.stepped (log_of c.logs (at + 1)) (log_of d.logs (at + 1)) e.other (idle_of (at + 1) m m.restart in_hand stood.restart) (goes.own (within old.members at m c.logs e.had l.there))
 
     kept : MemberLogged new.facility z (at + 1) (log_of c.logs (at + 1)) m
     kept = member_left facts.left old.facility new.facility w z (at + 1) (log_of c.logs (at + 1)) m still.rises (status (at + 1)) (λ o q. moves.claims (at + 1) o q) stood.restart logged

@@ -71,7 +71,7 @@ use Rattle.claimed_logs.specs.Found.{AdoptionsFound}
 use Rattle.claimed_logs.specs.Logs.{GroupFailsLogged, LogsClaimed, LogsKnow, MemberLogged, RestartLogged}
 use Rattle.claimed_logs.specs.Taken.{EventsKeep, Supplied}
 use Rattle.claimed_logs.proofs.Events.{within}
-use Rattle.claimed_logs.proofs.Resting.{empty_of, own_log}
+use Rattle.claimed_logs.proofs.Resting.{own_log}
 
 pub record Facts : Type 0 where
   pub fails : GroupFailsTied
@@ -274,10 +274,6 @@ module _ (facts : Facts) (old new : CrewState) (w : World) (c d : Contents) (t :
   logged : MemberLogged old.facility w (at + 1) (log_of c.logs (at + 1)) m
   logged = subst (λ (z : Option Member). IfSome z (MemberLogged old.facility w (at + 1) (log_of c.logs (at + 1)))) here.had (l.each at)
 
-  -- nothing waits in its own log buffer while its restart is in hand
-  empty : is_some m.restart ≡ true → m.holds.marks.log.pending ≡ []
-  empty some = empty_of (log_of c.logs (at + 1)) m.holds.marks m.restart some logged.course
-
   -- ---- it goes on
   made_as : (stepped : Stepped) → Steps m u old.fates place stepped n v new.fates
       → Steps m (record { facility = old.facility; drive = u.drive }) old.fates place stepped n (record { facility = new.facility; drive = v.drive }) new.fates
@@ -307,7 +303,7 @@ module _ (facts : Facts) (old new : CrewState) (w : World) (c d : Contents) (t :
   rests_at : (stepped : Stepped) → status_of old.facility.lists.statuses m.id ≡ status.Restarting → is_over stepped ≡ false → is_restart stepped ≡ false → Steps m u old.fates place stepped n v new.fates → MovesLogged d old new w m
   rests_at stepped standing over other made = record {
     moves = moves.moves;
-    logs = facts.resting c d old new at m n w t steps_at (unfailed_of stepped over) (given.idle at m n steps_at (empty (stood.restarts (sym there ∙ standing)))) told left moves l;
+    logs = facts.resting c d old new at m n w t steps_at (unfailed_of stepped over) told left moves l;
   }
     where
       steps_at : RestingStepsAt old new at m n

@@ -1,5 +1,5 @@
 -- The logs of a group behind an event of a member in which no call of the disk has failed.
-use Rattle.std.specs.Prelude.{◌≡◌, ℕ, ◌+◌, true, false, [], Some}
+use Rattle.std.specs.Prelude.{◌≡◌, ℕ, ◌+◌, true, false, Some}
 use Rattle.ds_disk.specs.Contents.{Contents, log_of}
 use Rattle.lock_protocol.specs.Machine.{World}
 use Rattle.log_numbers.specs.Numbers.{AreCounted}
@@ -31,8 +31,8 @@ RestartEventsLogged = (c d : Contents) (old new : CrewState) (at : ℕ) (m n : M
     → LocksTied old w → (e : RestartStepsAt old new at m n w) → e.drive.contents ≡ Some c → e.left.contents ≡ Some d
     → (moves : RestartMoves old new w m n e.sent) → EndsWhole old new at m n w e → AreCounted new.facility.counter n.holds.marks → LogsClaimed c old w → LogsClaimed d new moves.moves.world
 
--- any other event of one that restarts, where it puts no record
+-- any other event of one that restarts
 abbrev pub RestingEventsLogged : Type 0
 RestingEventsLogged = (c d : Contents) (old new : CrewState) (at : ℕ) (m n : Member) (w : World)
-    → LocksTied old w → (e : RestingStepsAt old new at m n) → has_failed e.stepped ≡ false → n.holds.marks.log.pending ≡ [] → e.drive.contents ≡ Some c → e.left.contents ≡ Some d
+    → LocksTied old w → (e : RestingStepsAt old new at m n) → has_failed e.stepped ≡ false → e.drive.contents ≡ Some c → e.left.contents ≡ Some d
     → (moves : RestingMoves old new w m n) → LogsClaimed c old w → LogsClaimed d new moves.moves.world

@@ -1,5 +1,5 @@
 -- The logs of a group behind any event of it.
-use Rattle.std.specs.Prelude.{◌≡◌, ◌≢◌, ℕ, ◌+◌, Bool, false, [], Option, Some, is_some}
+use Rattle.std.specs.Prelude.{◌≡◌, ◌≢◌, ℕ, ◌+◌, Bool, false, Option, Some, is_some}
 use Rattle.ds_disk.specs.Contents.{Contents, log_of}
 use Rattle.ds_model.specs.declared.script.Phase.{Phase}
 use Rattle.cache_structure.specs.Directory.{Directory}
@@ -13,7 +13,6 @@ use Rattle.group_core.specs.Takes.{Takes}
 use Rattle.failed_logs.specs.Given.{IsFor, Moves, Whose}
 use Rattle.failed_logs.specs.Given.{StepsAt}
 use Rattle.failed_logs.specs.Given.{RestartStepsAt}
-use Rattle.failed_logs.specs.Given.{RestingStepsAt}
 use Rattle.failed_logs.specs.Given.{LocksTied}
 use Rattle.claimed_logs.specs.Beginning.{BeginKnowing, IsLog}
 use Rattle.claimed_logs.specs.Events.{EndsWhole}
@@ -27,8 +26,6 @@ pub record Supplied (c d : Contents) (old new : CrewState) (w : World) : Type 0 
   pub knows : (phase : Phase) → BeginKnowing c phase old new
   -- a member that is up changes no row for a transaction which its log closes
   pub unclosed : (at : ℕ) (m n : Member) → StepsAt old new at m n → PutsUnclosed (log_of c.logs (at + 1)) m.holds.marks.log.pending n.holds.marks.log.pending
-  -- a member that restarts puts no record itself
-  pub idle : (at : ℕ) (m n : Member) → RestingStepsAt old new at m n → m.holds.marks.log.pending ≡ [] → n.holds.marks.log.pending ≡ []
   -- nothing is left of a restart that has made its member live
   pub ends : (at : ℕ) (m n : Member) → (e : RestartStepsAt old new at m n w) → EndsWhole old new at m n w e
   -- no number of what a restart hands over is above the counter, or names another transaction of its member

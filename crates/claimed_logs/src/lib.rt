@@ -161,7 +161,7 @@ pub fn courses_go()
 
 /// So the logs of all members stay claimed behind an event of one that is up, if it changes no row for a transaction which its log closes; and
 /// behind one of a member that restarts, in which no call of the disk fails: of the restart if nothing is left of it where the member is up by
-/// it, and the numbers stay counted of what it hands over, and of the others if they put no record.
+/// it, and the numbers stay counted of what it hands over.
 pub fn events_logged()
     ensures up { UpEventsLogged }
     ensures restart { RestartEventsLogged }
