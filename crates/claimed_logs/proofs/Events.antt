@@ -21,7 +21,10 @@ use Rattle.restart_marks.specs.declared.intent.RestartSent.{RestartSent}
 use Rattle.restart_marks.specs.declared.intent.RestartSent.TheVariants as sent
 use Rattle.restart_marks.specs.declared.told.RestartTold.{RestartTold}
 use Rattle.restart_marks.specs.State.{RestartState}
+use Rattle.restart_records.specs.declared.trans.RestartStage.TheVariants as stage
+use Rattle.restart_records.specs.declared.trans.RestartTran.{RestartTran}
 use Rattle.restart_records.specs.Trans.{TransState}
+use Rattle.restart_law.specs.Opens.{ListsGo}
 use Rattle.restart_claims.specs.Claims.{LeftHas}
 use Rattle.restart_law.specs.Reads.{TellsLog as TellsRead}
 use Rattle.restart_resources.specs.Events as event
@@ -48,11 +51,12 @@ use Rattle.failed_logs.specs.Given.{Moves, MovesSpare, OfMember}
 use Rattle.failed_logs.specs.Given.{freed_world}
 use Rattle.failed_logs.specs.Given.{LocksTied, MemberStands, RestartInHand, RestartStands, known, known_by}
 use Rattle.claimed_logs.specs.Events.{RestartEventsLogged, UpEventsLogged}
-use Rattle.claimed_logs.specs.Courses.{RestartCourse}
+use Rattle.claimed_logs.specs.Courses.{LeavesNothing, RestartCourse}
 use Rattle.claimed_logs.specs.Logs.{FrontsAlike, MemberLogged, OneLogged, RestartLogged, UpLogged}
-use Rattle.claimed_logs.specs.Steps.{CourseEnds, CourseHands, CourseSteps, HandedLogged, LockedAlike, RestartStepsLogged, StillLogged, UpStepsLogged}
+use Rattle.claimed_logs.specs.Steps.{CourseEnds, CourseHands, CourseSteps, EndsSo, EndsTell, HandedLogged, LockedAlike, RestartStepsLogged, StillLogged, UpStepsLogged}
 use Rattle.claimed_logs.proofs.Alike.{Facts as AlikeFacts, fronts_begin}
 use Rattle.claimed_logs.proofs.Courses.{own_course}
+use Rattle.claimed_logs.proofs.Ends.{all_over}
 use Rattle.claimed_logs.proofs.Found.{freed_spares}
 use Rattle.claimed_logs.proofs.Own.{begun_locked, told_locked}
 
@@ -66,6 +70,8 @@ pub record Facts : Type 0 where
   pub alike : AlikeFacts
   pub courses : CourseFacts
   pub locked : LockedReaches
+  pub tell : EndsTell
+  pub lists : ListsGo
   pub one : OneLogged
   pub spare : MovesSpare
   pub made : MadeGo
@@ -259,7 +265,7 @@ in_any log w z s over l = record {
 }
 
 pub restart_events : Facts → RestartEventsLogged
-restart_events facts c d old new at m n w t e told left moves ended counted l = facts.one c d old new w z at n t l
+restart_events facts c d old new at m n w t e told left moves counts counted l = facts.one c d old new w z at n t l
     (record {
       has = e.has;
       members = e.count;
@@ -368,9 +374,21 @@ restart_events facts c d old new at m n w t e told left moves ended counted l = 
     left_so true is over = over.1
     left_so false is over = absurd (never (sym is))
 
-    up_by : reached.resources.marks.is_up ≡ true → UpLogged (log_of d.logs (at + 1)) new.facility.counter n.holds.marks
-    up_by is =
-        let whole : LockedAlike (log_of d.logs (at + 1)) m.holds.marks = facts.courses.ends (log_of d.logs (at + 1)) reached.resources.marks m.holds stood.free none (ended is) course in
+    -- nothing is left of it where it has made its member live
+    ended : v.facility.lists.statuses ≢ u.facility.lists.statuses → LeavesNothing reached.resources.marks
+    ended changed =
+        let so : EndsSo before.resources.marks reached.resources.marks = facts.tell (as_restarting u) (as_restarting v) before.resources reached.resources e.sent e.answered e.made.makes.makes.happens standing.order changed in
+        let over = subst (λ (z : Option RestartHeld). IfSome z (λ q. q.resources.marks.trans.left ≡ 0 → AllByRecursion (λ (x : RestartTran). x.stage ≡ stage.Over) q.resources.marks.trans.list)) e.made.makes.makes.had counts so.left in
+        record {
+          read = so.read;
+          tail = so.tail;
+          over = all_over before.resources.marks.trans.list reached.resources.marks.trans.list
+              ((facts.lists (as_restarting u) (as_restarting v) before.resources reached.resources e.sent e.answered e.made.makes.makes.happens restart_logged.stands).read so.was) over;
+        }
+
+    up_by : reached.resources.marks.is_up ≡ true → v.facility.lists.statuses ≢ u.facility.lists.statuses → UpLogged (log_of d.logs (at + 1)) new.facility.counter n.holds.marks
+    up_by is changed =
+        let whole : LockedAlike (log_of d.logs (at + 1)) m.holds.marks = facts.courses.ends (log_of d.logs (at + 1)) reached.resources.marks m.holds stood.free none (ended changed) course in
         record {
           pend = [];
           locked = told_through (log_of d.logs (at + 1)) (subst (λ (z : MemberHeld). LogLocked (log_of d.logs (at + 1)) [] z.marks) (sym (left_so reached.resources.marks.is_up is ends.goes_on)) whole.locked);
@@ -381,7 +399,7 @@ restart_events facts c d old new at m n w t e told left moves ended counted l = 
     up : status_of new.facility.lists.statuses (at + 1) ≡ Up → UpLogged (log_of d.logs (at + 1)) new.facility.counter n.holds.marks
     up is = elim sets.statuses [
       | inl x ↦ absurd (restarting_up (status_of old.facility.lists.statuses (at + 1)) restarting (sym (ap (λ (z : List MemberStatus). status_of z (at + 1)) x.1) ∙ is))
-      | inr x ↦ up_by x.0
+      | inr x ↦ up_by x.0 (λ same. restarting_up (status_of old.facility.lists.statuses (at + 1)) restarting (sym (ap (λ (z : List MemberStatus). status_of z (at + 1)) same) ∙ is))
     ]
 
     -- ---- the standings

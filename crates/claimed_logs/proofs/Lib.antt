@@ -10,6 +10,7 @@ pub mod Up
 pub mod Own
 pub mod Restarts
 pub mod Courses
+pub mod Ends
 pub mod Runs
 pub mod Events
 pub mod Resting

@@ -65,7 +65,7 @@ use Rattle.failed_logs.specs.Given.{LocksTied, MemberStands, RestartInHand, Rest
 use Rattle.failed_logs.specs.Given.{FailsAt, GroupFailsTied}
 use Rattle.claimed_logs.specs.Beginning.{PhasesLogged}
 use Rattle.claimed_logs.specs.Courses.{RestartCourse, RestartHanded, RestartOpen}
-use Rattle.claimed_logs.specs.Events.{RestartEventsLogged, RestingEventsLogged, UpEventsLogged}
+use Rattle.claimed_logs.specs.Events.{CountsLeft, RestartEventsLogged, RestingEventsLogged, UpEventsLogged}
 use Rattle.claimed_logs.specs.Failing.{AnyBytes, HandedFailsLogged, HasFront, LeftClaimed, MovesLogged, RestartFailsLogged, RestartsStop, UpFailsLogged}
 use Rattle.claimed_logs.specs.Found.{AdoptionsFound}
 use Rattle.claimed_logs.specs.Logs.{GroupFailsLogged, LogsClaimed, LogsKnow, MemberLogged, RestartLogged}
@@ -326,7 +326,7 @@ module _ (facts : Facts) (old new : CrewState) (w : World) (c d : Contents) (t :
       moves = facts.rests old new at m n w t steps_at
 
   restart_goes : (stepped : Stepped) → status_of old.facility.lists.statuses m.id ≡ status.Restarting → is_over stepped ≡ false → Steps m u old.fates place stepped n v new.fates → MovesLogged d old new w m
-  restart_goes (steps.Restart s a) standing over made = record { moves = moves.moves; logs = facts.restart c d old new at m n w t steps_at told left moves (given.ends at m n steps_at) (given.counted at m n steps_at logged.counted) l }
+  restart_goes (steps.Restart s a) standing over made = record { moves = moves.moves; logs = facts.restart c d old new at m n w t steps_at told left moves (subst (λ (z : Option Member). IfSome z CountsLeft) here.had (given.left at)) (given.counted at m n steps_at logged.counted) l }
     where
       whole : Steps m (record { facility = old.facility; drive = u.drive }) old.fates place (steps.Restart s a) n (record { facility = new.facility; drive = v.drive }) new.fates
       whole = made_as (steps.Restart s a) made

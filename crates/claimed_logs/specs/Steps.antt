@@ -91,6 +91,18 @@ pub record LockedAlike (log : List ℕ) (s : MarksState) : Type 0 where
 abbrev pub CourseEnds : Type 0
 CourseEnds = (log : List ℕ) (s : RestartState) (h : Held) → FreeHoldNothing h.marks → NoneInSlots h.marks → LeavesNothing s → RestartCourse log s h.marks → LockedAlike log h.marks
 
+-- What it was before it has made its member live, and is then: its log is read, no transaction was counted as left, and no rest follows the whole
+-- records.
+pub record EndsSo (s t : RestartState) : Type 0 where
+  pub was : s.own.is_read ≡ true
+  pub read : t.own.is_read ≡ true
+  pub tail : t.own.tail ≡ 0
+  pub left : s.trans.left ≡ 0
+
+-- where it has set a standing
+abbrev pub EndsTell : Type 0
+EndsTell = (u v : event.World) (h k : restart.Held) (x : RestartSent) (a : Answered) → event.Happens u h x a v k → IsInOrder h.marks → v.facility.lists.statuses ≢ u.facility.lists.statuses → EndsSo h.marks k.marks
+
 -- ---- what the member holds itself
 
 -- its rows stay locked, if it puts no record, whatever log it is that stands beside them; and its numbers stay counted

@@ -1,5 +1,5 @@
 -- The logs of a group behind any event of it.
-use Rattle.std.specs.Prelude.{◌≡◌, ◌≢◌, ℕ, ◌+◌, Bool, false, Option, Some, is_some}
+use Rattle.std.specs.Prelude.{◌≡◌, ◌≢◌, ℕ, ◌+◌, Bool, false, Option, Some, IfSome, is_some, slice_get}
 use Rattle.ds_disk.specs.Contents.{Contents, log_of}
 use Rattle.ds_model.specs.declared.script.Phase.{Phase}
 use Rattle.cache_structure.specs.Directory.{Directory}
@@ -15,7 +15,7 @@ use Rattle.failed_logs.specs.Given.{StepsAt}
 use Rattle.failed_logs.specs.Given.{RestartStepsAt}
 use Rattle.failed_logs.specs.Given.{LocksTied}
 use Rattle.claimed_logs.specs.Beginning.{BeginKnowing, IsLog}
-use Rattle.claimed_logs.specs.Events.{EndsWhole}
+use Rattle.claimed_logs.specs.Events.{CountsLeft}
 use Rattle.claimed_logs.specs.Logs.{LogsClaimed}
 use Rattle.claimed_logs.specs.Steps.{PutsUnclosed}
 
@@ -26,8 +26,8 @@ pub record Supplied (c d : Contents) (old new : CrewState) (w : World) : Type 0 
   pub knows : (phase : Phase) → BeginKnowing c phase old new
   -- a member that is up changes no row for a transaction which its log closes
   pub unclosed : (at : ℕ) (m n : Member) → StepsAt old new at m n → PutsUnclosed (log_of c.logs (at + 1)) m.holds.marks.log.pending n.holds.marks.log.pending
-  -- nothing is left of a restart that has made its member live
-  pub ends : (at : ℕ) (m n : Member) → (e : RestartStepsAt old new at m n w) → EndsWhole old new at m n w e
+  -- a restart that counts no transaction as left has none that isn't over
+  pub left : (at : ℕ) → IfSome (slice_get old.members at) CountsLeft
   -- no number of what a restart hands over is above the counter, or names another transaction of its member
   pub counted : (at : ℕ) (m n : Member) → RestartStepsAt old new at m n w → AreCounted old.facility.counter m.holds.marks → AreCounted new.facility.counter n.holds.marks
 

@@ -10,7 +10,7 @@ ghost use Rattle.claimed_logs.specs.Failing.{HandedFailsLogged, RestartFailsLogg
 ghost use Rattle.claimed_logs.specs.Found.{AdoptionsFound};
 ghost use Rattle.claimed_logs.specs.Logs.{FreshLogged, GroupFailsLogged, LogsKnow, OneLogged};
 ghost use Rattle.claimed_logs.specs.Runs.{KnowingRunsStand};
-ghost use Rattle.claimed_logs.specs.Steps.{CourseEnds, CourseHands, CourseSteps, HandedLogged, RestartStepsLogged, RestingStays, UpStepsLogged};
+ghost use Rattle.claimed_logs.specs.Steps.{CourseEnds, CourseHands, CourseSteps, EndsTell, HandedLogged, RestartStepsLogged, RestingStays, UpStepsLogged};
 ghost use Rattle.claimed_logs.specs.Taken.{EventsKeep};
 
 use adopted_claims::adopted_have_claims;
@@ -22,7 +22,7 @@ use failed_logs::{
     resting_members_go,
 };
 use group_logs::members_log;
-use lock_restarts::restarts_follow;
+use lock_restarts::{restarts_follow, sends_lawfully};
 use log_appends::{appends_tell, rests_tell};
 use log_numbers::{commands_count, numbers_stay};
 use log_opens::opens_are_all;
@@ -144,6 +144,7 @@ pub fn courses_go()
     ensures steps { CourseSteps }
     ensures hands { CourseHands }
     ensures ends { CourseEnds }
+    ensures tell { EndsTell }
     ensures rests { RestingStays }
 {
     appends_tell();
@@ -151,6 +152,7 @@ pub fn courses_go()
     both_tell();
     open_trans_tell();
     opens_are_all();
+    sends_lawfully();
     restarts_close_truly();
     restarts_rest();
     logs_taken_over();
@@ -160,8 +162,8 @@ pub fn courses_go()
 }
 
 /// So the logs of all members stay claimed behind an event of one that is up, if it changes no row for a transaction which its log closes; and
-/// behind one of a member that restarts, in which no call of the disk fails: of the restart if nothing is left of it where the member is up by
-/// it, and the numbers stay counted of what it hands over.
+/// behind one of a member that restarts, in which no call of the disk fails: of the restart if it counts no transaction as left where each is
+/// over, and the numbers stay counted of what it hands over.
 pub fn events_logged()
     ensures up { UpEventsLogged }
     ensures restart { RestartEventsLogged }
@@ -173,6 +175,7 @@ pub fn events_logged()
     open_trans_tell();
     opens_are_all();
     logs_stay_locked();
+    lists_go();
     courses_go();
     logs_claimed();
     steps_logged();

@@ -1,6 +1,7 @@
 use Rattle.claimed_logs.proofs.courses_go.Goals as goal
 use Rattle.claimed_logs.proofs.Alike.{Facts as AlikeFacts}
 use Rattle.claimed_logs.proofs.Courses.{Facts, course_ends, course_hands, course_steps}
+use Rattle.claimed_logs.proofs.Ends.{ends_tell}
 use Rattle.claimed_logs.proofs.Own.{resting_stays}
 
 pub returns : goal.returns
@@ -25,6 +26,7 @@ returns c =
       steps = course_steps facts;
       hands = course_hands facts;
       ends = course_ends facts;
+      tell = ends_tell (record { both = c.both_tell.ensures; lawful = c.sends_lawfully.ensures });
       rests = resting_stays (record {
         event = c.numbers_stay.ensures.event;
         reach = c.numbers_stay.ensures.local;

@@ -15,6 +15,8 @@ returns c =
       };
       courses = record { steps = c.courses_go.ensures.steps; hands = c.courses_go.ensures.hands; ends = c.courses_go.ensures.ends };
       locked = c.logs_stay_locked.ensures.local;
+      tell = c.courses_go.ensures.tell;
+      lists = c.lists_go.ensures;
       one = c.logs_claimed.ensures.one;
       spare = c.moves_spare.ensures;
       made = c.members_log.ensures.made;
