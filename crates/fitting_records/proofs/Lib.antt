@@ -2,3 +2,5 @@ pub mod Taking
 pub mod Knowing
 pub mod Fronts
 pub mod Firsts
+mod Going
+mod Passes

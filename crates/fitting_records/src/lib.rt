@@ -3,8 +3,12 @@
 #![tactic(auto)]
 
 mod inverses;
+mod laws;
+mod passing;
 mod search;
 mod seen;
 mod standing;
 
+pub use laws::passing_laws;
+pub use passing::Passing;
 pub use search::find_unfit;
