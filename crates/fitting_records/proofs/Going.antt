@@ -72,6 +72,14 @@ not_both : (a b : Bool) → b ≡ false → not (a && b) ≡ true
 not_both true b h = ap not h
 not_both false b h = refl
 
+neither_left : (a b : Bool) → (a || b) ≡ false → a ≡ false
+neither_left true b h = absurd cc
+neither_left false b h = refl
+
+neither_right : (a b : Bool) → (a || b) ≡ false → b ≡ false
+neither_right true b h = absurd cc
+neither_right false b h = h
+
 no_one : (a b : Bool) → a ≡ false → not (a && b) ≡ true
 no_one true b h = absurd cc
 no_one false b h = refl
@@ -164,21 +172,18 @@ course_here ls k r lt =
 
 other_by : (t i k : ℕ) (before now own : List LogRecord) (r : LogRecord) → ((i ≡ k) × (now ≡ own ++ r ∷ [])) ⊎ ((i ≢ k) × (now ≡ before)) → (i ≡ k → before ≡ own) → (r.tran == t) ≡ false
     → course_in new_course t now ≡ course_in new_course t before
-other_by t i k before now own r (inl p) same no =
-    ap (course_in new_course t) p.1 ∙ course_last new_course t own r ∙ course_unless (r.tran == t) (course_in new_course t own) (courses.after_body (course_in new_course t own) r r.body) no
+other_by t i k before now own r (inl p) same differs =
+    ap (course_in new_course t) p.1 ∙ course_last new_course t own r ∙ course_unless (r.tran == t) (course_in new_course t own) (courses.after_body (course_in new_course t own) r r.body) differs
     ∙ ap (course_in new_course t) (sym (same p.0))
-other_by t i k before now own r (inr p) same no = ap (course_in new_course t) p.1
+other_by t i k before now own r (inr p) same differs = ap (course_in new_course t) p.1
 
 course_other : (ls : List (List LogRecord)) (k : ℕ) (r : LogRecord) (t i : ℕ) → k < length ls → (r.tran == t) ≡ false → course_in new_course t (list_at (with_record ls k r) i) ≡ course_in new_course t (list_at ls i)
-course_other ls k r t i lt no = other_by t i k (list_at ls i) (list_at (with_record ls k r) i) (list_at ls k) r (at_each ls k r i lt) (λ e. ap (list_at ls) e) no
+course_other ls k r t i lt differs = other_by t i k (list_at ls i) (list_at (with_record ls k r) i) (list_at ls k) r (at_each ls k r i lt) (λ e. ap (list_at ls) e) differs
 
 course_none : (c : Course) (t : ℕ) (rs : List LogRecord) → speak_of t rs ≡ false → course_in c t rs ≡ c
 course_none c t [] h = refl
-course_none c t (r ∷ rs) h = silent (r.tran == t) refl
-  where
-    silent : (b : Bool) → (r.tran == t) ≡ b → course_in (cond b (courses.after_body c r r.body) c) t rs ≡ c
-    silent true e = absurd (let yes : speak_of t (r ∷ rs) ≡ true = or_left (r.tran == t) (speak_of t rs) e in cc)
-    silent false e = course_none c t rs (false_unless (speak_of t rs) (λ q. let yes : speak_of t (r ∷ rs) ≡ true = or_right (r.tran == t) (speak_of t rs) q in cc))
+course_none c t (r ∷ rs) h =
+    ap (λ (d : Course). course_in d t rs) (course_unless (r.tran == t) c (courses.after_body c r r.body) (neither_left (r.tran == t) (speak_of t rs) h)) ∙ course_none c t rs (neither_right (r.tran == t) (speak_of t rs) h)
 
 -- all records, with one more among them
 record Split (ls : List (List LogRecord)) (k : ℕ) (r : LogRecord) : Type 0 where
@@ -202,8 +207,8 @@ split_at (l ∷ ls) (suc k) r h =
 -- ---- numbers that differ
 
 not_among : (x n : ℕ) (xs ys : List ℕ) → not (is_among x (xs ++ ys)) ≡ true → (x == n) ≡ false → not (is_among x (xs ++ n ∷ ys)) ≡ true
-not_among x n xs ys h no =
-    ap not (list_any-append (λ (m : ℕ). m == x) xs (n ∷ ys)) ∙ between (is_among x xs) (n == x) (is_among x ys) (turned x n no) (ap not (sym (list_any-append (λ (m : ℕ). m == x) xs ys)) ∙ h)
+not_among x n xs ys h differs =
+    ap not (list_any-append (λ (m : ℕ). m == x) xs (n ∷ ys)) ∙ between (is_among x xs) (n == x) (is_among x ys) (turned x n differs) (ap not (sym (list_any-append (λ (m : ℕ). m == x) xs ys)) ∙ h)
   where
     between : (a b c : Bool) → b ≡ false → not (a || c) ≡ true → not (a || (b || c)) ≡ true
     between true b c e h = h
@@ -211,23 +216,23 @@ not_among x n xs ys h no =
     between false false c e h = h
 
 differ_in : (xs ys : List ℕ) (n : ℕ) → all_differ (xs ++ ys) ≡ true → is_among n (xs ++ ys) ≡ false → all_differ (xs ++ n ∷ ys) ≡ true
-differ_in [] ys n h no = and_both (not (is_among n ys)) (all_differ ys) (ap not no) h
-differ_in (x ∷ xs) ys n h no =
+differ_in [] ys n h differs = and_both (not (is_among n ys)) (all_differ ys) (ap not differs) h
+differ_in (x ∷ xs) ys n h differs =
     and_both (not (is_among x (xs ++ n ∷ ys))) (all_differ (xs ++ n ∷ ys))
     (not_among x n xs ys (and_left (not (is_among x (xs ++ ys))) (all_differ (xs ++ ys)) h) (false_unless (x == n) (λ e. let yes : is_among n (x ∷ (xs ++ ys)) ≡ true = or_left (x == n) (is_among n (xs ++ ys)) e in cc)))
     (differ_in xs ys n (and_right (not (is_among x (xs ++ ys))) (all_differ (xs ++ ys)) h)
     (false_unless (is_among n (xs ++ ys)) (λ e. let yes : is_among n (x ∷ (xs ++ ys)) ≡ true = or_right (x == n) (is_among n (xs ++ ys)) e in cc)))
 
 differ_when : (d : Bool) (xs ys : List ℕ) (n : ℕ) → all_differ (xs ++ ys) ≡ true → (d ≡ true → is_among n (xs ++ ys) ≡ false) → all_differ (xs ++ cond d (n ∷ ys) ys) ≡ true
-differ_when true xs ys n h no = differ_in xs ys n h (no refl)
-differ_when false xs ys n h no = h
+differ_when true xs ys n h differs = differ_in xs ys n h (differs refl)
+differ_when false xs ys n h differs = h
 
 differ_with : (xs ys : List LogRecord) (r : LogRecord) → all_differ (0 ∷ drawn_numbers (xs ++ ys)) ≡ true → (is_drawn r.body ≡ true → is_among r.lrsn (0 ∷ drawn_numbers (xs ++ ys)) ≡ false)
     → all_differ (0 ∷ drawn_numbers (xs ++ r ∷ ys)) ≡ true
-differ_with xs ys r h no =
+differ_with xs ys r h differs =
     let e : drawn_numbers (xs ++ ys) ≡ drawn_numbers xs ++ drawn_numbers ys = drawn_more xs ys in
     ap (λ (l : List ℕ). all_differ (0 ∷ l)) (drawn_more xs (r ∷ ys))
-    ∙ differ_when (is_drawn r.body) (0 ∷ drawn_numbers xs) (drawn_numbers ys) r.lrsn (ap (λ (l : List ℕ). all_differ (0 ∷ l)) (sym e) ∙ h) (λ d. ap (λ (l : List ℕ). is_among r.lrsn (0 ∷ l)) (sym e) ∙ no d)
+    ∙ differ_when (is_drawn r.body) (0 ∷ drawn_numbers xs) (drawn_numbers ys) r.lrsn (ap (λ (l : List ℕ). all_differ (0 ∷ l)) (sym e) ∙ h) (λ d. ap (λ (l : List ℕ). is_among r.lrsn (0 ∷ l)) (sym e) ∙ differs d)
 
 among_when : (d : Bool) (n m : ℕ) (xs ys : List ℕ) → is_among n (xs ++ cond d (m ∷ ys) ys) ≡ true → (is_among n (xs ++ ys) ≡ true) ⊎ ((d ≡ true) × (m ≡ n))
 among_when true n m xs ys h = one (or_cases (is_among n xs) ((m == n) || is_among n ys) (sym (list_any-append (λ (k : ℕ). k == n) xs (m ∷ ys)) ∙ h))
@@ -365,17 +370,17 @@ trans_when true trans k v t = get-remove nat_cmp_total trans k t ∙ ap (λ (b :
 trans_when false trans k v t = put_at trans k v t
 
 carried : (lists : List (List LogRecord)) (k : ℕ) (r : LogRecord) (t : ℕ) (o : OpenTran) → k < length lists → (r.tran == t) ≡ false → IsOpen lists t o → IsOpen (with_record lists k r) t o
-carried lists k r t o lt no is = record {
+carried lists k r t o lt differs is = record {
   some = is.some;
   home = is.home;
   speaks = still_spoken lists k r t (o.home - 1) lt is.speaks;
-  standing_is = is.standing_is ∙ ap standing (sym (course_other lists k r t (o.home - 1) lt no));
+  standing_is = is.standing_is ∙ ap standing (sym (course_other lists k r t (o.home - 1) lt differs));
 }
 
 opened_one : (lists : List (List LogRecord)) (member : ℕ) (r : LogRecord) (o : Option OpenTran) → 1 ≤ member → member - 1 < length lists → (r.tran == 0) ≡ false
     → after_body (standing_in o) r r.body ≡ standing (courses.after_body (course_in new_course r.tran (list_at lists (member - 1))) r r.body) → IsOpen (with_record lists (member - 1) r) r.tran (gone_on o member r)
-opened_one lists member r o some lt no e = record {
-  some = some_number r.tran no;
+opened_one lists member r o some lt differs e = record {
+  some = some_number r.tran differs;
   home = some;
   speaks = spoken_here lists (member - 1) r lt;
   standing_is = e ∙ ap standing (sym (course_here lists (member - 1) r lt));
@@ -464,7 +469,7 @@ apart_leaves s walked lists k now r p lt on is = record {
 }
   where
     commits : (t : ℕ) → (has_commit walked t ≡ true) ⊎ ((is_commit r.body ≡ true) × (r.tran ≡ t)) → (1 ≤ t) × (t ≤ now) × (get s.trans t ≡ None)
-    commits t (inl h) = let old = p.commits t h in let le = old.1.0 in (old.0, (omega (arith, le, on), old.1.1))
+    commits t (inl h) = let old = p.commits t h in let le = old.1 in (old.0, omega (arith, le, on), old.2)
     commits t (inr h) = absurd (no_commit r.body is.apart h.0)
 
 none_closed : (b c : Bool) (v : OpenTran) (before : Option OpenTran) → b ≡ true → c ≡ true → cond b (cond c None (Some v)) before ≡ None
@@ -492,13 +497,11 @@ goes_leaves s walked lists member now r p some lt on is = record {
     commits : (t : ℕ) → (has_commit walked t ≡ true) ⊎ ((is_commit r.body ≡ true) × (r.tran ≡ t)) → (1 ≤ t) × (t ≤ now) × (get (trans_with s.trans member r) t ≡ None)
     commits t (inl h) =
         let old = p.commits t h in
-        let le = old.1.0 in
+        let le = old.1 in
         let other : (r.tran == t) ≡ false = false_unless (r.tran == t) (λ e. is.early (subst (λ (k : ℕ). has_commit walked k ≡ true) (sym (equal r.tran t e)) h)) in (
           old.0,
-          (
-            omega (arith, le, on),
-            trans_when (closes r.body) s.trans r.tran (gone_on (get s.trans r.tran) member r) t ∙ none_other (r.tran == t) (closes r.body) (gone_on (get s.trans r.tran) member r) (get s.trans t) other old.1.1,
-          ),
+          omega (arith, le, on),
+          trans_when (closes r.body) s.trans r.tran (gone_on (get s.trans r.tran) member r) t ∙ none_other (r.tran == t) (closes r.body) (gone_on (get s.trans r.tran) member r) (get s.trans t) other old.2,
         )
     commits t (inr h) =
         let it : (r.tran == t) ≡ true = subst (λ (k : ℕ). (r.tran == k) ≡ true) h.1 (itself r.tran) in
@@ -506,11 +509,9 @@ goes_leaves s walked lists member now r p some lt on is = record {
         let le = is.known in
         let same = h.1 in (
           omega (arith, one, same),
-          (
-            omega (arith, le, same),
-            trans_when (closes r.body) s.trans r.tran (gone_on (get s.trans r.tran) member r) t
-            ∙ none_closed (r.tran == t) (closes r.body) (gone_on (get s.trans r.tran) member r) (get s.trans t) it (commit_closes r.body h.0),
-          ),
+          omega (arith, le, same),
+          trans_when (closes r.body) s.trans r.tran (gone_on (get s.trans r.tran) member r) t
+          ∙ none_closed (r.tran == t) (closes r.body) (gone_on (get s.trans r.tran) member r) (get s.trans t) it (commit_closes r.body h.0),
         )
 
 leaves_by : (z : Bool) (s : Passing) (walked : List LogRecord) (lists : List (List LogRecord)) (member now : ℕ) (r : LogRecord) → (r.tran == 0) ≡ z → now ≡ cond (is_drawn r.body) r.lrsn s.last → ArePassed s walked lists → 1 ≤ member

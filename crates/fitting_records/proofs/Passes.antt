@@ -76,13 +76,13 @@ record Where (t : ℕ) (logs : List Log) : Type 0 where
   place : ℕ
   speaks : speak_of t (list_at (records_in logs) place) ≡ true
 
+found_by : (t : ℕ) (l : Log) (ls : List Log) → (speak_of t l.records ≡ true) ⊎ (speak_of t (all_records ls) ≡ true) → (speak_of t (all_records ls) ≡ true → Where t ls) → Where t (l ∷ ls)
+found_by t l ls (inl p) more = record { place = zero; speaks = p }
+found_by t l ls (inr p) more = let found = more p in record { place = suc found.place; speaks = found.speaks }
+
 found_in : (t : ℕ) (logs : List Log) → speak_of t (all_records logs) ≡ true → Where t logs
 found_in t [] h = absurd cc
-found_in t (l ∷ ls) h = by_one (or_cases (speak_of t l.records) (speak_of t (all_records ls)) (sym (speak_more t l.records (all_records ls)) ∙ h))
-  where
-    by_one : (speak_of t l.records ≡ true) ⊎ (speak_of t (all_records ls) ≡ true) → Where t (l ∷ ls)
-    by_one (inl p) = record { place = zero; speaks = p }
-    by_one (inr p) = let more = found_in t ls p in record { place = suc more.place; speaks = more.speaks }
+found_in t (l ∷ ls) h = found_by t l ls (or_cases (speak_of t l.records) (speak_of t (all_records ls)) (sym (speak_more t l.records (all_records ls)) ∙ h)) (found_in t ls)
 
 apart_by : (rs others : List LogRecord) → ((t : ℕ) → 1 ≤ t → speak_of t rs ≡ true → speak_of t others ≡ false) → stands_apart rs others ≡ true
 apart_by [] others h = refl
