@@ -218,7 +218,7 @@ adds_from keeps (r ∷ rs) a rows spots agree h = adds_when keeps rows spots r r
 abbrev no_spots : ℕ → Spots
 no_spots t = empty
 
-abbrev no_rows : Rows
+abbrev pub no_rows : Rows
 no_rows = empty
 
 none_agree : Agree no_rows no_spots

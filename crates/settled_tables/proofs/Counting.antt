@@ -202,7 +202,7 @@ one_if p r = cond (p r) 1 0
 
 count_when : (b : Bool) (r : LogRecord) (l : List LogRecord) → length (cond b (r ∷ l) l) ≡ cond b 1 0 + length l
 count_when true r l = omega arith
-count_when false r l = refl
+count_when false r l = omega arith
 
 counted : (p : LogRecord → Bool) (rs : List LogRecord) → length (filter p rs) ≡ sum_by (one_if p) rs
 counted p [] = refl
@@ -210,7 +210,7 @@ counted p (r ∷ rs) = count_when (p r) r (filter p rs) ∙ ap (λ (n : ℕ). on
 
 sum_when : (p : LogRecord → Bool) (b : Bool) (r : LogRecord) (l : List LogRecord) (n : ℕ) → sum_by (one_if p) l ≡ n → (b ≡ false → p r ≡ false) → sum_by (one_if p) (cond b (r ∷ l) l) ≡ one_if p r + n
 sum_when p true r l n h k = ap (λ (m : ℕ). one_if p r + m) h
-sum_when p false r l n h k = h ∙ ap (λ (b : Bool). cond b 1 0 + n) (sym (k refl))
+sum_when p false r l n h k = let zero_more : n ≡ 0 + n = omega arith in h ∙ zero_more ∙ ap (λ (b : Bool). cond b 1 0 + n) (sym (k refl))
 
 sum_kept : (p : LogRecord → Bool) → IsOfMerged p → (rs : List LogRecord) → sum_by (one_if p) (kept rs) ≡ sum_by (one_if p) rs
 sum_kept p h [] = refl

@@ -1,5 +1,5 @@
 -- The records of one table, against all records.
-use Rattle.std.proofs.Common.{◌≡◌, ℕ, Bool, true, false, cond, List, [], ◌∷◌, ◌++◌, refl, sym, ap, subst, ◌∙◌, append_assoc, arith}
+use Rattle.std.proofs.Common.{◌≡◌, ℕ, Bool, true, false, cond, List, [], ◌∷◌, ◌++◌, refl, sym, ap, subst, ◌∙◌, arith}
 use Rattle.std.specs.Prelude.{◌==◌, ◌||◌, ◌&&◌}
 use Rattle.std.specs.List.{list_any, list_all}
 use Rattle.std.proofs.lemmas.Bool.Decides.{nat_tests}
@@ -73,12 +73,16 @@ no_more : (xs : List LogRecord) → xs ≡ xs ++ []
 no_more [] = refl
 no_more (x ∷ xs) = ap (λ (l : List LogRecord). x ∷ l) (no_more xs)
 
+pub joined : (e : List LogRecord) (r : LogRecord) (rs : List LogRecord) → (e ++ r ∷ []) ++ rs ≡ e ++ r ∷ rs
+joined [] r rs = refl
+joined (x ∷ e) r rs = ap (λ (l : List LogRecord). x ∷ l) (joined e r rs)
+
 pub own_append : (t : ℕ) (e xs ys : List LogRecord) → own_from t e (xs ++ ys) ≡ own_from t e xs ++ own_from t (e ++ xs) ys
 own_append t e [] ys = ap (λ (l : List LogRecord). own_from t l ys) (no_more e)
 own_append t e (x ∷ xs) ys =
     ap (λ (l : List LogRecord). own_with (is_own t e x) x l) (own_append t (e ++ x ∷ []) xs ys)
     ∙ with_more (is_own t e x) x (own_from t (e ++ x ∷ []) xs) (own_from t ((e ++ x ∷ []) ++ xs) ys)
-    ∙ ap (λ (l : List LogRecord). own_with (is_own t e x) x (own_from t (e ++ x ∷ []) xs) ++ own_from t l ys) (append_assoc {xs = e})
+    ∙ ap (λ (l : List LogRecord). own_with (is_own t e x) x (own_from t (e ++ x ∷ []) xs) ++ own_from t l ys) (joined e x xs)
 
 -- ---- what holds of all records, or of one
 

@@ -1,10 +1,11 @@
 -- What the tables tell together.
-use Rattle.std.proofs.Common.{◌≡◌, ℕ, ◌+◌, ◌-◌, ◌*◌, ◌^◌, ◌<◌, ◌≤◌, Bool, true, false, cond, List, [], ◌∷◌, ◌++◌, length, map, Result, Ok, Err, IfOk, OnOk, refl, sym, ap, subst, ◌∙◌, append_assoc, arith, length-map}
+use Rattle.std.proofs.Common.{◌≡◌, ℕ, ◌+◌, ◌-◌, ◌*◌, ◌^◌, ◌<◌, ◌≤◌, Bool, true, false, cond, List, [], ◌∷◌, ◌++◌, length, map, Result, Ok, Err, IfOk, OnOk, refl, sym, ap, subst, ◌∙◌, arith}
 use Rattle.std.specs.Prelude.{◌==◌, not, ◌||◌, ◌&&◌, filter, is_none}
 use Rattle.std.specs.List.{list_any, flat_map, AllByRecursion}
 use Rattle.std.specs.FinMap as finite
 use Rattle.std.specs.FinMap.{len-entries}
 use Rattle.std.proofs.lemmas.Bool.Decides.{nat_tests}
+use Rattle.std.proofs.lemmas.List.{length-map}
 use Rattle.std.proofs.lemmas.List.Elements.{filter_agree}
 use Rattle.std.proofs.lemmas.List.Folds.{list_any-append}
 use Rattle.ds_base.specs.Ids.{IsTable, IsLrsn}
@@ -31,7 +32,7 @@ use Rattle.settled_tables.specs.declared.sums.Sums.{Sums}
 use Rattle.settled_tables.specs.Ending.{is_early, are_early}
 use Rattle.settled_tables.specs.Sums.{total, open_of, rows_of, AreTold}
 use Rattle.settled_tables.specs.Laws.{AreAsked, TurnsHold, NumbersHold, RowsAdd}
-use Rattle.settled_tables.proofs.Keeping.{and_left, and_right, and_both, row_is_own, other_is_no_row, own_append, any_own}
+use Rattle.settled_tables.proofs.Keeping.{and_left, and_right, and_both, joined, row_is_own, other_is_no_row, own_append, any_own}
 use Rattle.settled_tables.proofs.Turning.{turns_from}
 use Rattle.settled_tables.proofs.Counting.{KeepsAll, commits_in_order, open_within, open_same}
 use Rattle.settled_tables.proofs.Adding.{no_rows, total_same, spots_with, table_spots, rows_add}
@@ -136,7 +137,7 @@ same_from t all e [] is h = tt
 same_from t all e (r ∷ rs) is h =
     ((λ row. subst (λ (l : List LogRecord). has_commit l r.tran ≡ has_commit (own t l) r.tran) is
     (same_commit t e r rs row (not_both (is_row_change r.body) (has_commit e r.tran) (row_is_change t r.body row).0 (and_left (is_early e r) _ h)))),
-    same_from t all (e ++ r ∷ []) rs (append_assoc {xs = e} ∙ is) (and_right (is_early e r) _ h))
+    same_from t all (e ++ r ∷ []) rs (joined e r rs ∙ is) (and_right (is_early e r) _ h))
 
 -- ---- the rows of a table
 

@@ -33,10 +33,7 @@ settled_more t e xs r h =
 
 lets_more : (t : ℕ) (e : List LogRecord) (tran : ℕ) (c : RowChange) (s : LogRecord) → lets (own t e) tran c s ≡ true → lets e tran c s ≡ true
 lets_more t e tran c s h =
-    or_both (not (changes_row c s.body)) ((s.tran == tran) || is_settled (own t e) s) (not (changes_row c s.body)) ((s.tran == tran) || is_settled e s)
-    (λ k. k)
-    (or_both (s.tran == tran) (is_settled (own t e) s) (s.tran == tran) (is_settled e s) (λ k. k) (settled_more t [] e s))
-    h
+    or_both (not (changes_row c s.body) || (s.tran == tran)) (is_settled (own t e) s) (not (changes_row c s.body) || (s.tran == tran)) (is_settled e s) (λ k. k) (settled_more t [] e s) h
 
 all_more : (f g : LogRecord → Bool) → ((r : LogRecord) → f r ≡ true → g r ≡ true) → (xs : List LogRecord) → list_all f xs ≡ true → list_all g xs ≡ true
 all_more f g h [] e = refl
