@@ -11,7 +11,7 @@ use Rattle.ds_model.specs.RecordBytes.{record_bytes, log_bytes, IsAllowed}
 use Rattle.log_record.specs.declared.log.Log.{Log}
 use Rattle.log_merge.specs.Merging.{RisesFrom}
 use Rattle.log_head.specs.Heads.{HeadState, IsOf, left_bytes}
-use Rattle.disk_heads.specs.Records.{IsPast, IsNext}
+use Rattle.disk_heads.specs.Records.{IsSound, IsPast, IsNext}
 use Rattle.sound_disk.specs.Laws.{last_number}
 use Rattle.sound_disk.specs.Whole_logs.{IsWholeLog, AreWholeLogs}
 use Rattle.disk_logs.specs.declared.ends.Step.{Step}
@@ -105,6 +105,20 @@ goes_when step.Over h g next r e over past = tt
 goes_when step.Broken h g next r e over past = tt
 
 -- ---- the whole log
+
+-- what is in hand is sound as long as reading goes on
+abbrev pub SoundWhile : Step → HeadState → Type 0
+SoundWhile step.On h = IsSound h
+SoundWhile step.Over h = Unit {0}
+SoundWhile step.Broken h = Unit {0}
+
+pub sound_on : (s : Step) (h g : HeadState) → GoesOn h g s → SoundWhile s g
+sound_on step.On h g f = f.sound
+sound_on step.Over h g f = tt
+sound_on step.Broken h g f = tt
+
+pub sound_start : (n : ℕ) (h : HeadState) → h ≡ record { at = 0; hand = []; end = n } → IsSound h
+sound_start n h e = subst IsSound (sym e) (record { within = omega arith; bytes = λ i. omega arith })
 
 abbrev pub rank : Step → ℕ → ℕ
 rank step.On n = n + 1

@@ -41,7 +41,7 @@ not_equal : (field : ℕ) → err_read NotWhole ≡ err_read (Bad field) → ⊥
 not_equal field e = cc
 
 -- a spelling is read, whatever follows it
-abbrev Again : Type 0
+abbrev pub Again : Type 0
 Again = (r : LogRecord) (rest : List ℕ) → IsAllowed r → record_in (record_bytes r ++ rest) ≡ Ok (r, length (record_bytes r))
 
 -- ---- whole records stay whole records

@@ -1,5 +1,5 @@
 -- What comes next of logs that are read by blocks, each up to where its whole records end.
-use Rattle.std.specs.Prelude.{◌≡◌, ℕ, List, [], ◌∷◌}
+use Rattle.std.specs.Prelude.{◌≡◌, ℕ, ◌≤◌, List, [], ◌∷◌, length, take}
 use Rattle.std.specs.List.{AllByRecursion}
 use Rattle.ds_model.specs.declared.log.LogRecord.{LogRecord}
 use Rattle.ds_model.specs.RecordBytes.{log_bytes, IsAllowed}
@@ -23,6 +23,29 @@ AreWhole (log ∷ logs) (h ∷ hs) = IsWhole log h × AreWhole logs hs
 pub record Stand (logs : List (List ℕ)) (heads : List HeadState) : Type 0 where
   pub of : AreOf logs heads
   pub whole : AreWhole logs heads
+
+-- ---- where reading begins
+
+-- the whole records of the log are these, and end there
+pub record IsUpTo (log : List ℕ) (end : ℕ) (records : List LogRecord) : Type 0 where
+  pub within : end ≤ length log
+  pub spelled : take end log ≡ log_bytes records
+  pub allowed : AllByRecursion IsAllowed records
+
+abbrev pub AreUpTo : List (List ℕ) → List ℕ → List (List LogRecord) → Type 0
+AreUpTo [] [] [] = Unit {0}
+AreUpTo [] [] (rs ∷ lists) = ⊥
+AreUpTo [] (e ∷ ends) lists = ⊥
+AreUpTo (log ∷ logs) [] lists = ⊥
+AreUpTo (log ∷ logs) (e ∷ ends) [] = ⊥
+AreUpTo (log ∷ logs) (e ∷ ends) (rs ∷ lists) = IsUpTo log e rs × AreUpTo logs ends lists
+
+-- all of them are left
+pub record Begins (logs : List (List ℕ)) (heads : List HeadState) (lists : List (List LogRecord)) : Type 0 where
+  pub stand : Stand logs heads
+  pub left_is : left logs heads ≡ lists
+
+-- ---- reading on
 
 -- bytes that are read on leave the same records
 abbrev pub AreKept : List (List ℕ) → List HeadState → List HeadState → Type 0

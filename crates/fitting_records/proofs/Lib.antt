@@ -4,3 +4,5 @@ pub mod Fronts
 pub mod Firsts
 mod Going
 mod Passes
+pub mod Noting
+mod Walking

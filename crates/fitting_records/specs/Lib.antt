@@ -3,3 +3,4 @@ pub mod Standings
 pub mod Fitting
 pub mod Passings
 pub mod Passed
+pub mod Walked

@@ -8,7 +8,9 @@ mod passing;
 mod search;
 mod seen;
 mod standing;
+mod walked;
 
 pub use laws::passing_laws;
 pub use passing::Passing;
 pub use search::find_unfit;
+pub use walked::{Walked, pass_logs};
