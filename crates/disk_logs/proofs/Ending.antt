@@ -1,10 +1,10 @@
 -- A log that is passed record by record, up to where its whole records end.
-use Rattle.std.proofs.Common.{◌≡◌, ℕ, ◌+◌, ◌-◌, ◌<◌, ◌≤◌, List, [], ◌∷◌, ◌++◌, length, take, drop, Option, Some, None, refl, sym, ap, subst, ◌∙◌, append_assoc, arith}
-use Rattle.std.specs.Prelude.{IfSome, map}
+use Rattle.std.proofs.Common.{◌≡◌, ℕ, ◌+◌, ◌-◌, ◌<◌, ◌≤◌, Bool, true, List, [], ◌∷◌, ◌++◌, length, take, drop, Option, Some, None, refl, sym, ap, subst, ◌∙◌, append_assoc, arith}
+use Rattle.std.specs.Prelude.{IfSome, IsTrue, map}
 use Rattle.std.specs.List.{AllByRecursion}
 use Rattle.std.proofs.lemmas.List.{append-nil, length-append, length-drop, take_all, take_more, map_push, length-take-le}
 use Rattle.std.proofs.lemmas.List.Concat.{flat_map-append}
-use Rattle.ds_disk.specs.Contents.{Contents, log_of, WhenTold}
+use Rattle.ds_disk.specs.Contents.{Contents, log_of, WhenTold, Becomes, Same}
 use Rattle.ds_model.specs.declared.log.LogRecord.{LogRecord}
 use Rattle.ds_model.specs.Logs.{IsTorn}
 use Rattle.ds_model.specs.RecordBytes.{record_bytes, log_bytes, IsAllowed}
@@ -17,7 +17,7 @@ use Rattle.sound_disk.specs.Whole_logs.{IsWholeLog, AreWholeLogs}
 use Rattle.disk_logs.specs.declared.ends.Step.{Step}
 use Rattle.disk_logs.specs.declared.ends.Step.TheVariants as step
 use Rattle.disk_logs.specs.Ends.{IsPassed, Passes, IsFurther, GoesOn, ArePassedTo, IsWholeTo, lengths_of, AreWholeTo}
-use Rattle.disk_logs.proofs.Members.{Has32, more_in}
+use Rattle.disk_logs.proofs.Members.{Has32, more_in, on_start}
 
 -- ---- what is told
 
@@ -183,11 +183,6 @@ whole_to member log at p torn =
       end_is = refl;
     }
 
-pub whole_told : (a : Option Contents) (member at : ℕ) → WhenTold a (λ (c : Contents). ArePassedTo (log_of c.logs member) at) → WhenTold a (λ (c : Contents). IsTorn (drop at (log_of c.logs member))) → WhenTold a (λ (c : Contents). IsWholeTo member (log_of c.logs member) at)
-whole_told a member at p q =
-    told_by_both a (λ (c : Contents). ArePassedTo (log_of c.logs member) at) (λ (c : Contents). IsTorn (drop at (log_of c.logs member))) (λ (c : Contents). IsWholeTo member (log_of c.logs member) at)
-    (λ c passed torn. whole_to member (log_of c.logs member) at passed torn) p q
-
 -- ---- one log more
 
 -- the logs of the first members are whole
@@ -213,3 +208,22 @@ more_ended (Some c) i member end ends now has lt its is h k = one_ended c.logs i
 pub all_ended : (a : Option Contents) (i : ℕ) (ends : List ℕ) → Has32 a → 32 ≤ i → WhenTold a (AreFirst i ends) → WhenTold a (λ (c : Contents). AreWholeTo c.logs ends)
 all_ended None i ends has le h = tt
 all_ended (Some c) i ends has le h = subst (λ (l : List (List ℕ)). AreWholeTo l ends) (take_all i c.logs (let long = has c refl in omega (arith, long, le))) h
+
+-- ---- from what was found
+
+if_some : {A : Type 0} (o : Option A) (x : A) (P : A → Type 0) → o ≡ Some x → IfSome o P → P x
+if_some o x P e h = subst (λ (v : Option _). IfSome v P) e h
+
+pub end_told : (a b : Option Contents) (member at : ℕ) (found : Option ℕ) (torn : Bool) → found ≡ Some at → torn ≡ true → WhenTold a (λ (c : Contents). IfSome found (ArePassedTo (log_of c.logs member))) → Becomes a b Same
+    → WhenTold b (λ (c : Contents). IsTrue torn → IsTorn (drop at (log_of c.logs member))) → WhenTold a (λ (c : Contents). IsWholeTo member (log_of c.logs member) at)
+end_told a b member at found torn is yes p same q =
+    told_by_both a (λ (c : Contents). IfSome found (ArePassedTo (log_of c.logs member))) (λ (c : Contents). IsTrue torn → IsTorn (drop at (log_of c.logs member))) (λ (c : Contents). IsWholeTo member (log_of c.logs member) at)
+    (λ c passed tail. whole_to member (log_of c.logs member) at (if_some found at (ArePassedTo (log_of c.logs member)) is passed) (tail yes)) p
+    (on_start a b (λ (c : Contents). IsTrue torn → IsTorn (drop at (log_of c.logs member))) same q)
+
+pub found_ended : (a b : Option Contents) (i member end : ℕ) (found : Option ℕ) (ends now : List ℕ) → Has32 a → i < 32 → member ≡ i + 1 → found ≡ Some end → now ≡ ends ++ end ∷ [] → WhenTold a (AreFirst i ends) → Becomes a b Same
+    → WhenTold b (λ (c : Contents). IfSome found (IsWholeTo member (log_of c.logs member))) → WhenTold a (AreFirst (i + 1) now)
+found_ended a b i member end found ends now has lt its is put h same k =
+    more_ended a i member end ends now has lt its put h
+    (told_by a (λ (c : Contents). IfSome found (IsWholeTo member (log_of c.logs member))) (λ (c : Contents). IsWholeTo member (log_of c.logs member) end) (λ c q. if_some found end (IsWholeTo member (log_of c.logs member)) is q)
+    (on_start a b (λ (c : Contents). IfSome found (IsWholeTo member (log_of c.logs member))) same k))

@@ -1,5 +1,6 @@
 -- Where reading logs begins.
-use Rattle.std.proofs.Common.{◌≡◌, ℕ, ◌-◌, List, [], ◌∷◌, ◌++◌, length, take, drop, Ok, Err, refl, sym, ap, subst, ◌∙◌, arith}
+use Rattle.std.proofs.Common.{◌≡◌, ℕ, ◌-◌, List, [], ◌∷◌, ◌++◌, length, take, drop, Result, Ok, Err, refl, sym, ap, subst, ◌∙◌, arith}
+use Rattle.std.specs.Prelude.{IfOk}
 use Rattle.std.specs.List.{AllByRecursion}
 use Rattle.std.proofs.lemmas.List.{drop_at}
 use Rattle.ds_model.specs.declared.log.LogRecord.{LogRecord}
@@ -8,7 +9,7 @@ use Rattle.log_record.specs.declared.fault.RecordFault.TheVariants.{NotWhole}
 use Rattle.log_head.specs.Whole.{whole_records}
 use Rattle.log_head.specs.Heads.{HeadState, IsOf, left_bytes, left_of}
 use Rattle.log_head.specs.Laws.{NothingIsShort, NoneIsWhole, FirstIsWhole}
-use Rattle.log_heads.specs.Heads.{heads_of, AreStarts}
+use Rattle.log_heads.specs.Heads.{HeadsState, heads_of, AreStarts}
 use Rattle.log_heads.specs.Logs.{AreOf, left}
 use Rattle.disk_walk.specs.Walks.{IsWhole, AreWhole, IsUpTo, AreUpTo, Begins}
 use Rattle.disk_walk.proofs.Standing.{Again}
@@ -85,3 +86,8 @@ pub begin : Again → NothingIsShort → NoneIsWhole → FirstIsWhole → (logs 
 begin again empty none first logs ends lists heads long is are =
     let a = all_at again empty none first logs starts_32 ends lists zeros_32 (count_32 ∙ sym long) are in
     subst (λ (hs : List HeadState). Begins logs hs lists) (sym is) (record { stand = record { of = a.of; whole = a.whole }; left_is = a.left_is })
+
+pub begin_if : {E : Type 0} → Again → NothingIsShort → NoneIsWhole → FirstIsWhole → (ends : List ℕ) (block : ℕ) (result : Result HeadsState E) → length ends ≡ 32 → IfOk result (λ h. h ≡ record { block = block; heads = heads_of starts_32 ends })
+    → IfOk result (λ heads. (logs : List (List ℕ)) (lists : List (List LogRecord)) → AreUpTo logs ends lists → Begins logs heads.heads lists)
+begin_if again empty none first ends block (Ok h) long e = λ logs lists are. begin again empty none first logs ends lists h.heads long (ap (λ (x : HeadsState). x.heads) e) are
+begin_if again empty none first ends block (Err f) long e = tt

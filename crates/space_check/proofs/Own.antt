@@ -11,7 +11,7 @@ use Rattle.log_heads.specs.Logs.{left, together, NoneFalls, IsTaken}
 use Rattle.disk_walk.specs.declared.walk.Next.{Next}
 use Rattle.disk_walk.specs.declared.walk.Next.TheVariants as next
 use Rattle.disk_walk.specs.Walks.{AreUpTo, Begins, Stand, AreRead, IsNextOfAll}
-use Rattle.disk_walk.proofs.Reading.{told_before, told_all, told_by, told_by_both}
+use Rattle.disk_walk.proofs.Reading.{told_before, told_all, told_by_both}
 use Rattle.table_records.specs.declared.taken.TableRecords.{TableRecords}
 use Rattle.table_records.specs.Own.{concerns, own, HaveBeenTaken}
 use Rattle.table_records.specs.Laws.{OwnAreAllowed, NoneAreOwn}
@@ -98,11 +98,8 @@ pub none_noted : NoneAreOwn → (a : Option Contents) (ends : List ℕ) (table :
 none_noted law a ends table noted records not_noted are =
     told_all a (IsOwnOf table noted ends records) (λ c lists all is. are ∙ sym (law table (walked_of lists) (sym is ∙ not_noted)))
 
-pub own_of : (a : Option Contents) (ends : List ℕ) (table : ℕ) (noted : Bool) (start : List HeadState) (records : List LogRecord) → ((logs : List (List ℕ)) (lists : List (List LogRecord)) → AreUpTo logs ends lists → Begins logs start lists)
-    → WhenTold a (λ (c : Contents). Stand c.logs start → NoneFalls (left c.logs start) → records ≡ own table (by_lrsn (together (left c.logs start)))) → WhenTold a (IsOwnOf table noted ends records)
-own_of a ends table noted start records begin told =
-    told_by a (λ (c : Contents). Stand c.logs start → NoneFalls (left c.logs start) → records ≡ own table (by_lrsn (together (left c.logs start)))) (IsOwnOf table noted ends records)
-    (λ c is lists all noted_is.
+pub own_of : (c : Contents) (ends : List ℕ) (table : ℕ) (noted : Bool) (start : List HeadState) (records : List LogRecord) → ((logs : List (List ℕ)) (lists : List (List LogRecord)) → AreUpTo logs ends lists → Begins logs start lists)
+    → (Stand c.logs start → NoneFalls (left c.logs start) → records ≡ own table (by_lrsn (together (left c.logs start)))) → IsOwnOf table noted ends records c
+own_of c ends table noted start records begin is = λ lists all noted_is.
     let b = begin c.logs lists all.up_to in
-    is b.stand (subst NoneFalls (sym b.left_is) all.none) ∙ ap (λ (ls : List (List LogRecord)). own table (by_lrsn (together ls))) b.left_is)
-    told
+    is b.stand (subst NoneFalls (sym b.left_is) all.none) ∙ ap (λ (ls : List (List LogRecord)). own table (by_lrsn (together ls))) b.left_is

@@ -1,11 +1,11 @@
 -- A disk that is sound by what is told of it table by table.
 use Rattle.std.proofs.Common.{◌≡◌, ℕ, ◌+◌, ◌-◌, ◌<◌, ◌≤◌, Bool, true, false, cond, List, [], ◌∷◌, ◌++◌, length, take, Option, Some, None, refl, sym, ap, subst, ◌∙◌, arith}
-use Rattle.std.specs.Prelude.{◌||◌, ◌&&◌, not, nat_le, map, slice_get}
+use Rattle.std.specs.Prelude.{◌↔◌, ◌||◌, ◌&&◌, not, nat_le, slice_get, IfSome, IsTrue}
 use Rattle.std.specs.List.{list_any, AllByRecursion}
 use Rattle.std.proofs.lemmas.List.{take_at}
 use Rattle.std.proofs.lemmas.List.Folds.{list_any-append}
 use Rattle.ds_base.specs.Ids.{IsLrsn}
-use Rattle.ds_disk.specs.Contents.{Contents, WhenTold}
+use Rattle.ds_disk.specs.Contents.{Contents, WhenTold, Becomes, Same}
 use Rattle.ds_disk.specs.Pages.{page_at}
 use Rattle.ds_model.specs.declared.log.LogRecord.{LogRecord}
 use Rattle.ds_model.specs.Logs.{put_by_lrsn, by_lrsn}
@@ -23,7 +23,7 @@ use Rattle.sound_disk.specs.Whole_logs.{IsWholeLog, AreWholeLogs}
 use Rattle.sound_disk.specs.Versions.{merged}
 use Rattle.disk_logs.specs.Ends.{lengths_of, AreWholeTo}
 use Rattle.disk_walk.specs.Walks.{IsUpTo, AreUpTo, Begins, Stand}
-use Rattle.disk_walk.proofs.Reading.{told_by}
+use Rattle.disk_walk.proofs.Reading.{told_before, told_by_both, if_some_is}
 use Rattle.fitting_records.specs.declared.walked.Walked.{Walked}
 use Rattle.fitting_records.specs.Passed as passing
 use Rattle.fitting_records.specs.Passed.{all_of, PassedAreTransactions}
@@ -43,14 +43,11 @@ use Rattle.space_check.proofs.Steps.{told_right}
 
 -- ---- the walk
 
-pub walked_told : (a : Option Contents) (ends : List ℕ) (start : List HeadState) (w : Walked) → ((logs : List (List ℕ)) (lists : List (List LogRecord)) → AreUpTo logs ends lists → Begins logs start lists)
-    → WhenTold a (λ (c : Contents). Stand c.logs start → NoneFalls (left c.logs start) → IsWalked w (by_lrsn (together (left c.logs start))) (left c.logs start)) → WhenTold a (AreWalkedTo ends w)
-walked_told a ends start w begin told =
-    told_by a (λ (c : Contents). Stand c.logs start → NoneFalls (left c.logs start) → IsWalked w (by_lrsn (together (left c.logs start))) (left c.logs start)) (AreWalkedTo ends w)
-    (λ c is lists all.
+pub walked_to : (c : Contents) (ends : List ℕ) (start : List HeadState) (w : Walked) → ((logs : List (List ℕ)) (lists : List (List LogRecord)) → AreUpTo logs ends lists → Begins logs start lists)
+    → (Stand c.logs start → NoneFalls (left c.logs start) → IsWalked w (by_lrsn (together (left c.logs start))) (left c.logs start)) → AreWalkedTo ends w c
+walked_to c ends start w begin is = λ lists all.
     let b = begin c.logs lists all.up_to in
-    subst (λ (ls : List (List LogRecord)). IsWalked w (by_lrsn (together ls)) ls) b.left_is (is b.stand (subst NoneFalls (sym b.left_is) all.none)))
-    told
+    subst (λ (ls : List (List LogRecord)). IsWalked w (by_lrsn (together ls)) ls) b.left_is (is b.stand (subst NoneFalls (sym b.left_is) all.none))
 
 -- ---- tables
 
@@ -176,3 +173,27 @@ sound_by fit merge tell turn number row merged_is own_is c ends behind w s h wal
       checkpoints = kept_so logs h.are h.ends_are;
       rows_are = row logs s.sums asked early;
     })
+
+-- what the readings tell one after the other
+pub sound_told : PassedAreTransactions → AreMerged → TablesTell → TurnsHold → NumbersHold → RowsAdd → MergedIsKept → OwnOfAll → (a b d : Option Contents) (ends : List ℕ) (behind : ℕ) (w : Walked) (s : TableSums) (walked : Option Walked) (tables : Option TableSums)
+    (left_over kept_so : Bool) → walked ≡ Some w → tables ≡ Some s → left_over ≡ true → kept_so ≡ true → WhenTold a (λ (c : Contents). IfSome walked (λ x. AreWalkedTo ends x c)) → Becomes a b Same
+    → WhenTold b (λ (c : Contents). IfSome tables (λ x. TellsAll ends w.tables.items behind x c)) → Becomes b d Same → WhenTold d (λ (c : Contents). kept_so ≡ true → AreAllKept c ends) → (IsTrue left_over ↔ IsLrsn (w.passing.greatest + s.sums.open))
+    → WhenTold a (λ (c : Contents). AreWholeTo c.logs ends → IsFoundSound c behind s.pages s.sums.rows)
+sound_told fit merge tell turn number row merged_is own_is a b d ends behind w s walked tables left_over kept_so w_is s_is over so p ab q bd k numbers =
+    let W : Contents → Type 0 = λ c. IfSome walked (λ x. AreWalkedTo ends x c) in
+    let S : Contents → Type 0 = λ c. IfSome tables (λ x. TellsAll ends w.tables.items behind x c) in
+    let K : Contents → Type 0 = λ c. kept_so ≡ true → AreAllKept c ends in
+    let R : Contents → Type 0 = λ c. AreWholeTo c.logs ends → IsFoundSound c behind s.pages s.sums.rows in
+    let both : Contents → Type 0 = λ c. K c → R c in
+    told_by_both a both K R (λ c f x. f x)
+    (told_by_both a W S both
+    (λ c walk all kept whole.
+    sound_by fit merge tell turn number row merged_is own_is c ends behind w s whole (if_some_is walked w (λ x. AreWalkedTo ends x c) w_is walk) (if_some_is tables s (λ x. TellsAll ends w.tables.items behind x c) s_is all)
+    (numbers.0 over) (kept so)) p (told_before a b S ab q))
+    (told_before a b K ab (told_before b d K bd k))
+
+pub found_told : (a b : Option Contents) (behind : ℕ) (ends : List ℕ) (found : Option (List ℕ)) (IsR : Contents → Type 0) → found ≡ Some ends → WhenTold a (λ (c : Contents). IfSome found (λ es. AreWholeTo c.logs es)) → Becomes a b Same
+    → WhenTold b (λ (c : Contents). AreWholeTo c.logs ends → IsR c) → WhenTold a IsR
+found_told a b behind ends found IsR is p same q =
+    told_by_both a (λ (c : Contents). IfSome found (λ es. AreWholeTo c.logs es)) (λ (c : Contents). AreWholeTo c.logs ends → IsR c) IsR (λ c whole f. f (if_some_is found ends (λ es. AreWholeTo c.logs es) is whole)) p
+    (told_before a b (λ (c : Contents). AreWholeTo c.logs ends → IsR c) same q)

@@ -1,16 +1,10 @@
-<<<<<<< HEAD
 use Rattle.std.proofs.Common.{◌≡◌, List, [], ◌∷◌, ◌++◌, true, false, sym, ap, ◌∙◌}
 use Rattle.std.proofs.lemmas.List.{append-nil}
 use Rattle.ds_model.specs.declared.log.LogRecord.{LogRecord}
-=======
-use Rattle.std.proofs.Common.{◌≡◌, List, [], ◌∷◌, ◌++◌, sym, ap, ◌∙◌}
-use Rattle.std.proofs.lemmas.List.{append-nil}
->>>>>>> 72ccc755a0f4a55f4edf6d3a88b2695cb1f3f737
 use Rattle.table_records.proofs.Taking.{taken}
 use Rattle.table_records.proofs.taken.TableRecords.take.Goals as goal
 
 pub returns-in_ok-push-clause-taken : goal.returns-in_ok-push-clause-taken
-<<<<<<< HEAD
 returns-in_ok-push-clause-taken c = λ all h.
     taken all c.args.self.now _ c.args.it true h c.if-is_own.ensures c.in_ok-touch.ensures.table c.in_ok-touch.ensures.touched
     (c.in_ok-push.ensures.items ∙ ap (λ (l : List LogRecord). l ++ c.args.it ∷ []) c.in_ok-touch.ensures.records)
@@ -19,9 +13,3 @@ pub returns-else-is_own-clause-taken : goal.returns-else-is_own-clause-taken
 returns-else-is_own-clause-taken c = λ all h.
     taken all c.args.self.now c.touch.new.self c.args.it false h c.if-is_own.ensures c.in_ok-touch.ensures.table c.in_ok-touch.ensures.touched
     (c.in_ok-touch.ensures.records ∙ sym (append-nil c.args.self.now.records.items))
-=======
-returns-in_ok-push-clause-taken c = ?
-
-pub returns-else-is_own-clause-taken : goal.returns-else-is_own-clause-taken
-returns-else-is_own-clause-taken c = ?
->>>>>>> 72ccc755a0f4a55f4edf6d3a88b2695cb1f3f737
