@@ -216,9 +216,9 @@ if_some o x P e h = subst (λ (v : Option _). IfSome v P) e h
 
 pub end_told : (a b : Option Contents) (member at : ℕ) (found : Option ℕ) (torn : Bool) → found ≡ Some at → torn ≡ true → WhenTold a (λ (c : Contents). IfSome found (ArePassedTo (log_of c.logs member))) → Becomes a b Same
     → WhenTold b (λ (c : Contents). IsTrue torn → IsTorn (drop at (log_of c.logs member))) → WhenTold a (λ (c : Contents). IsWholeTo member (log_of c.logs member) at)
-end_told a b member at found torn is yes p same q =
+end_told a b member at found torn is all p same q =
     told_by_both a (λ (c : Contents). IfSome found (ArePassedTo (log_of c.logs member))) (λ (c : Contents). IsTrue torn → IsTorn (drop at (log_of c.logs member))) (λ (c : Contents). IsWholeTo member (log_of c.logs member) at)
-    (λ c passed tail. whole_to member (log_of c.logs member) at (if_some found at (ArePassedTo (log_of c.logs member)) is passed) (tail yes)) p
+    (λ c passed tail. whole_to member (log_of c.logs member) at (if_some found at (ArePassedTo (log_of c.logs member)) is passed) (tail all)) p
     (on_start a b (λ (c : Contents). IsTrue torn → IsTorn (drop at (log_of c.logs member))) same q)
 
 pub found_ended : (a b : Option Contents) (i member end : ℕ) (found : Option ℕ) (ends now : List ℕ) → Has32 a → i < 32 → member ≡ i + 1 → found ≡ Some end → now ≡ ends ++ end ∷ [] → WhenTold a (AreFirst i ends) → Becomes a b Same

@@ -168,6 +168,29 @@ fn put(ends: &mut Vec<u64>, end: u64) -> Result<(), NoMemory>
     Ok(())
 }
 
+// Where the whole records of all logs end, by the order of the members.
+fn all_ends<D: Disk>(
+    alloc: Global,
+    disk: &mut D,
+    block: &mut [u8],
+) -> Result<Option<Vec<u64>>, DiskError>
+    requires { length block.old ≡ 65536 }
+    ensures ends { Reads (D.contents disk.old) (D.contents disk.new) (D.faults disk.old) (D.faults disk.new) (λ found c. IfSome found (λ ends. AreWholeTo c.logs ends.items)) result }
+    ensures count { IfOk result (λ found. IfSome found (λ ends. length ends.items ≡ 32)) }
+{
+    let mut ends = Vec::new(alloc);
+    for index in 0..32u64 {
+        let Some(member) = MemberId::new(index + 1) else {
+            unreachable!()
+        };
+        match end_of_log(alloc, disk, member, block)? {
+            Some(end) => put(&mut ends, end)?,
+            None => return Ok(None),
+        }
+    }
+    Ok(Some(ends))
+}
+
 /// Where the whole records of all logs end, by the order of the members; or nothing, where a log isn't known to be whole: one that
 /// is whole is known to be. No log is held in memory.
 pub fn find_ends<D: Disk>(alloc: Global, disk: &mut D) -> Result<Option<Vec<u64>>, DiskError>
@@ -175,15 +198,5 @@ pub fn find_ends<D: Disk>(alloc: Global, disk: &mut D) -> Result<Option<Vec<u64>
     ensures count { IfOk result (λ found. IfSome found (λ ends. length ends.items ≡ 32)) }
 {
     let mut block = block_of(alloc)?;
-    let mut ends = Vec::new(alloc);
-    for index in 0..32u64 {
-        let Some(member) = MemberId::new(index + 1) else {
-            unreachable!()
-        };
-        match end_of_log(alloc, disk, member, &mut block)? {
-            Some(end) => put(&mut ends, end)?,
-            None => return Ok(None),
-        }
-    }
-    Ok(Some(ends))
+    all_ends(alloc, disk, &mut block)
 }

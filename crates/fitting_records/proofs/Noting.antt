@@ -1,5 +1,5 @@
 -- Tables that are noted one after the other.
-use Rattle.std.proofs.Common.{◌≡◌, ◌≢◌, ◌⊎◌, inl, inr, ℕ, ◌+◌, ◌<◌, ◌≤◌, Bool, true, false, List, length, refl, sym, ap, subst, ◌∙◌, arith}
+use Rattle.std.proofs.Common.{◌≡◌, ◌≢◌, ◌⊎◌, inl, inr, ℕ, zero, suc, ◌+◌, ◌<◌, ◌≤◌, Bool, true, false, List, length, replicate, refl, sym, ap, subst, ◌∙◌, arith}
 use Rattle.std.specs.Prelude.{◌||◌, slice_set}
 use Rattle.std.proofs.lemmas.Bool.{cases_eq}
 use Rattle.std.proofs.lemmas.List.{length-set, get_or-set_same, get_or-set_other}
@@ -28,3 +28,12 @@ notes_more count old mid new r lt h e = subst (λ (l : List Bool). NotesUpTo (co
         subst (λ (k : ℕ). is_noted (slice_set mid count value) k ≡ (is_noted old k || concerns (k + 1) r)) (sym same)
         (get_or-set_same mid count value false (let long = h.long in omega (arith, long, lt)) ∙ ap (λ (b : Bool). b || concerns (count + 1) r) (h.others count (omega arith)))
     noted n below (inr less) = get_or-set_other mid count n value false (λ same. absurd (omega (arith, same, less))) ∙ h.noted n less
+
+-- no table is noted at first
+pub none_noted : (k n : ℕ) → is_noted (replicate k false) n ≡ false
+none_noted zero n = refl
+none_noted (suc k) zero = refl
+none_noted (suc k) (suc n) = none_noted k n
+
+pub count_64 : length (replicate 64 false) ≡ 64
+count_64 = refl

@@ -9,6 +9,7 @@ ghost use Rattle.disk_walk.specs.Walks.{Stand};
 ghost use Rattle.table_records.specs.Own.{concerns};
 ghost use Rattle.fitting_records.specs.Walked.{IsStart, NotesUpTo, IsPassedOn, IsWalked};
 
+use crate::laws::passing_laws;
 use crate::passing::Passing;
 use disk_walk::{Next, next_of_all};
 use ds_base::{MemberId, NoMemory, TableId};
@@ -103,6 +104,7 @@ pub fn pass_logs<D: Disk>(
     ensures walked { Reads (D.contents disk.old) (D.contents disk.new) (D.faults disk.old) (D.faults disk.new)
         (λ found c. IfSome found (λ walked. Stand c.logs heads.old.heads → NoneFalls (left c.logs heads.old.heads) → IsWalked walked (by_lrsn (together (left c.logs heads.old.heads))) (left c.logs heads.old.heads))) result }
 {
+    passing_laws();
     let mut walked = Walked::new(alloc)?;
     for _ in 0..u64::MAX {
         match next_of_all(alloc, disk, heads, block)? {
