@@ -27,7 +27,7 @@ written_same at rs behind table =
     ∙ ap (λ (n : ℕ). written_of at rs behind (heap_set table) + written_in at (index_set table) n) (index_read at rs behind table)
 
 -- two page sets for each table
-twice : ℕ → ℕ
+abbrev twice : ℕ → ℕ
 twice zero = zero
 twice (suc n) = suc (suc (twice n))
 

@@ -1,8 +1,7 @@
 -- What one reading after another says of a table.
 use Rattle.std.proofs.Common.{◌≡◌, ◌↔◌, ℕ, ◌+◌, ◌≤◌, ◌^◌, Bool, true, false, cond, List, [], Option, Some, None, Result, Ok, Err, IfOk, IsTrue, refl, sym, ap, subst, ◌∙◌, arith}
-use Rattle.std.specs.Prelude.{IfSome, is_none}
+use Rattle.std.specs.Prelude.{not, is_some}
 use Rattle.ds_base.specs.Pages.{heap_set, index_set}
-use Rattle.ds_base.specs.Causes.{Rose}
 use Rattle.ds_base.specs.declared.names.PageId.{PageId}
 use Rattle.ds_disk.specs.Contents.{Contents, WhenTold, Becomes, Same}
 use Rattle.ds_disk.specs.Pages.{page_at}
@@ -44,24 +43,17 @@ told_by_both (Some c) P Q R f p q = f c p q
 -- ---- answers
 
 -- by one reading
-pub one_read : {T U : Type 0} (start end : Option Contents) (f0 f1 : ℕ) (P : T → Contents → Type 0) (t : T) (result : Result T DiskError) (R : U → Contents → Type 0) (u : U) → result ≡ Ok t → Reads start end f0 f1 P result
-    → ((c : Contents) → P t c → R u c) → Reads start end f0 f1 R (Ok u)
-one_read start end f0 f1 P t (Ok x) R u e h f = record {
-  ok = told_by start (P t) (R u) f (subst (λ y. WhenTold start (P y)) (cc) h.ok);
-  failed = λ is. absurd cc;
-  same = h.same;
-  later = h.later;
-}
-one_read start end f0 f1 P t (Err x) R u e h f = absurd cc
+pub one_read : {T U : Type 0} (start end : Option Contents) (f0 f1 : ℕ) (P : T → Contents → Type 0) (R : U → Contents → Type 0) (t : T) (u : U) → Reads start end f0 f1 P (Ok t) → ((c : Contents) → P t c → R u c) → Reads start end f0 f1 R (Ok u)
+one_read start end f0 f1 P R t u h f = record { ok = told_by start (P t) (R u) f h.ok; failed = λ is. absurd cc; same = h.same; later = h.later }
 
 -- by two
 pub two_reads : {T U V : Type 0} (start now end : Option Contents) (f0 f1 f2 : ℕ) (P : T → Contents → Type 0) (Q : V → Contents → Type 0) (R : U → Contents → Type 0) (t : T) (v : V) (u : U)
-    → WhenTold start (P t) → Becomes start now Same → f0 ≤ f1 → WhenTold now (Q v) → Becomes now end Same → f1 ≤ f2 → ((c : Contents) → P t c → Q v c → R u c) → Reads start end f0 f2 R (Ok u)
-two_reads start now end f0 f1 f2 P Q R t v u p s le q same more f = record {
-  ok = told_by_both start (P t) (Q v) (R u) f p (told_before start now (Q v) s q);
+    → Reads start now f0 f1 P (Ok t) → Reads now end f1 f2 Q (Ok v) → ((c : Contents) → P t c → Q v c → R u c) → Reads start end f0 f2 R (Ok u)
+two_reads start now end f0 f1 f2 P Q R t v u h k f = record {
+  ok = told_by_both start (P t) (Q v) (R u) f h.ok (told_before start now (Q v) h.same k.ok);
   failed = λ is. absurd cc;
-  same = same_on start now end s same;
-  later = omega (arith, le, more);
+  same = same_on start now end h.same k.same;
+  later = (let more = k.later in let less = h.later in omega (arith, less, more));
 }
 
 -- ---- a page set
@@ -92,21 +84,29 @@ sets_found at records renews behind table (Some m) None h k = λ right. k right.
 sets_found at records renews behind table (Some m) (Some n) h k =
     (record { heap = h.each; index = k.each }, ap (λ (x : ℕ). x + n) h.count ∙ ap (λ (x : ℕ). written_of at records behind (heap_set table) + x) k.count)
 
+pub sets_told : (records : List LogRecord) (renews : Bool) (behind table heap index : ℕ) (a b both : Option ℕ) → heap ≡ heap_set table → index ≡ index_set table → both ≡ sum_of a b → (c : Contents)
+    → SetAt records renews behind heap a c → SetAt records renews behind index b c → AreSetsFound (page_at c.pages) records renews behind table both
+sets_told records renews behind table heap index a b both e f is c h k =
+    subst (λ (o : Option ℕ). AreSetsFound (page_at c.pages) records renews behind table o) (sym is)
+    (sets_found (page_at c.pages) records renews behind table a b (subst (λ (s : ℕ). SetAt records renews behind s a c) e h) (subst (λ (s : ℕ). SetAt records renews behind s b c) f k))
+
 -- ---- a table
 
-pub whole_when : (at : Images) (records : List LogRecord) (table : ℕ) (found : Option PageId) → IsTableTold at records table found → IsTrue (is_none found) ↔ IsWholeTable at records table
-whole_when at records table None h = (λ t. h, λ w. refl)
-whole_when at records table (Some id) h = (λ t. absurd cc, λ w. absurd (h.0 w))
+was_none : (b : Bool) → false ≡ not b → b ≡ true
+was_none true e = refl
+was_none false e = absurd cc
 
-pub agree_when : (records : List LogRecord) (found : Option PageId) → AreTold records found → IsTrue (is_none found) ↔ BeforesAgree [] records
-agree_when records None h = (λ t. h, λ w. refl)
-agree_when records (Some id) h = (λ t. absurd cc, λ w. absurd (h.lacking w))
+was_some : (b : Bool) → true ≡ not b → b ≡ false
+was_some true e = absurd cc
+was_some false e = refl
 
-pub stands_when : (records : List LogRecord) (table : ℕ) (whole agree : Bool) → whole ≡ true → IsTrue whole ↔ IsWholeTable (images_of records) records table → IsTrue agree ↔ BeforesAgree [] records → IsTrue agree ↔ StandsBy records table
-stands_when records table whole agree e h k = (λ t. record { whole = h.0 e; befores = k.0 t }, λ s. k.1 s.befores)
+pub whole_when : (at : Images) (records : List LogRecord) (table : ℕ) (found : Option PageId) (b : Bool) → is_some found ≡ not b → IsTableTold at records table found → IsTrue b ↔ IsWholeTable at records table
+whole_when at records table None b e h = (λ t. h, λ w. was_none b e)
+whole_when at records table (Some id) b e h = (λ t. absurd (cc (was_some b e, t)), λ w. absurd (h.0 w))
 
-pub stands_not : (records : List LogRecord) (table : ℕ) (whole : Bool) → whole ≡ false → IsTrue whole ↔ IsWholeTable (images_of records) records table → IsTrue false ↔ StandsBy records table
-stands_not records table whole e h = (λ t. absurd cc, λ s. absurd (let t : whole ≡ true = h.1 s.whole in cc))
+pub agree_when : (records : List LogRecord) (found : Option PageId) (b : Bool) → is_some found ≡ not b → AreTold records found → IsTrue b ↔ BeforesAgree [] records
+agree_when records None b e h = (λ t. h, λ w. was_none b e)
+agree_when records (Some id) b e h = (λ t. absurd (cc (was_some b e, t)), λ w. absurd (h.lacking w))
 
 table_found : (at : Images) (records : List LogRecord) (renews : Bool) (behind table : ℕ) (stands : Bool) (pages : Option ℕ) → IsTrue stands ↔ StandsBy records table → AreSetsFound at records renews behind table pages
     → IsTableFound at records renews behind table (cond stands pages None)
