@@ -103,6 +103,7 @@ further append table earlier r rs h =
 
 pub agree_by_all : LeavesOthers → OwnAppend → (earlier rs : List LogRecord) → AllByRecursion IsAllowed rs → ((table : ℕ) → IsTable table → BeforesAgree (own table earlier) (own_from table earlier rs)) → BeforesAgree earlier rs
 agree_by_all others append earlier [] allowed h = tt
-agree_by_all others append earlier (r ∷ rs) allowed h =
-    (body_by_all others earlier r.version r.lrsn r.tran r.body allowed.0.body_is (λ table is con. here table earlier r rs con (h table is)),
-    agree_by_all others append (earlier ++ r ∷ []) rs allowed.1 (λ table is. further append table earlier r rs (h table is)))
+agree_by_all others append earlier (r ∷ rs) allowed h = (
+  body_by_all others earlier r.version r.lrsn r.tran r.body allowed.0.body_is (λ table is con. here table earlier r rs con (h table is)),
+  agree_by_all others append (earlier ++ r ∷ []) rs allowed.1 (λ table is. further append table earlier r rs (h table is)),
+)
