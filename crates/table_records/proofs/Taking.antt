@@ -59,7 +59,7 @@ one_or : (a b : Bool) → a || (b || false) ≡ (a || b)
 one_or true b = refl
 one_or false b = or_none b
 
-changed_more : (table : ℕ) (all : List LogRecord) (r : LogRecord) (tran : ℕ)
+pub changed_more : (table : ℕ) (all : List LogRecord) (r : LogRecord) (tran : ℕ)
     → has_changed table (all ++ r ∷ []) tran ≡ (has_changed table all tran || (changes_row_of table r.body && (r.tran == tran)))
 changed_more table all r tran =
     list_any-append (λ (s : LogRecord). changes_row_of table s.body && (s.tran == tran)) all (r ∷ [])
@@ -70,7 +70,7 @@ changed_more table all r tran =
 pub none_taken : (it : TableRecords) → it.records.items ≡ [] → it.touched ≡ empty → HaveBeenTaken [] it
 none_taken it e f = record {
   records_are = e;
-  touched_are = λ tran. ap (λ (m : FinMap nat_cmp Bool). is_some (get m tran)) f ∙ ap (λ (o : Option Bool). is_some o) (get-empty tran);
+  touched_are = λ tran. ap (λ (m : FinMap nat_cmp Bool). is_some (get m tran)) f ∙ ap (λ (o : Option Bool). is_some o) (get-empty {X = Bool} nat_cmp tran);
 }
 
 own_by : (all : List LogRecord) (before : TableRecords) (r : LogRecord) (b : Bool) → HaveBeenTaken all before → b ≡ (concerns before.table r || (is_commit r.body && is_some (get before.touched r.tran)))

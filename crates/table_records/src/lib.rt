@@ -2,7 +2,9 @@
 #![tactic(auto)]
 
 mod changes;
+mod laws;
 mod taken;
 
 pub use changes::concerns;
+pub use laws::own_laws;
 pub use taken::TableRecords;

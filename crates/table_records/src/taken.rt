@@ -54,7 +54,7 @@ impl TableRecords {
 
     fn touch(&mut self, it: &LogRecord) -> Result<(), NoMemory>
         ensures table { self.new.table ≡ self.old.table }
-        ensures records { self.new.records ≡ self.old.records }
+        ensures records { self.new.records.items ≡ self.old.records.items }
         ensures touched { OnOk result (self.new.touched ≡ touched_with self.old.table self.old.touched it.now) }
     {
         if changes_row_of(self.table, &it.body) {
