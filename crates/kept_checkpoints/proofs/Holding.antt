@@ -101,8 +101,8 @@ same_number q k = grind (arith, nat_tests)
 abbrev pub is_among : ℕ → List ℕ → Bool
 is_among n ns = list_any (λ (m : ℕ). m == n) ns
 
-one_less : (ns : List ℕ) {m : ℕ} → length (m ∷ ns) - 1 ≡ length ns
-one_less ns = omega arith
+one_less : (ns : List ℕ) (m : ℕ) → length (m ∷ ns) - 1 ≡ length ns
+one_less ns m = omega arith
 
 last_or : (q n m : ℕ) (ns : List ℕ) → is_number n (slice_get (m ∷ ns) (length ns)) ≡ true → is_among q (m ∷ ns) ≡ true → (is_among q (take (length ns) (m ∷ ns)) || (n == q)) ≡ true
 last_or q n m [] h k = grind (arith, nat_tests)
@@ -113,8 +113,8 @@ taken_or q n [] k = absurd cc
 taken_or q n (m ∷ ns) k =
     decide (is_last n (m ∷ ns)) _
     (λ h. ap (λ (b : Bool). is_among q (cond b (take (length (m ∷ ns) - 1) (m ∷ ns)) (m ∷ ns)) || (n == q)) h
-    ∙ ap (λ (j : ℕ). is_among q (take j (m ∷ ns)) || (n == q)) (one_less ns)
-    ∙ last_or q n m ns (ap (λ (j : ℕ). is_number n (slice_get (m ∷ ns) j)) (sym (one_less ns)) ∙ h) k)
+    ∙ ap (λ (j : ℕ). is_among q (take j (m ∷ ns)) || (n == q)) (one_less ns m)
+    ∙ last_or q n m ns (ap (λ (j : ℕ). is_number n (slice_get (m ∷ ns) j)) (sym (one_less ns m)) ∙ h) k)
     (λ h. ap (λ (b : Bool). is_among q (cond b (take (length (m ∷ ns) - 1) (m ∷ ns)) (m ∷ ns)) || (n == q)) h ∙ or_left (is_among q (m ∷ ns)) (n == q) k)
 
 -- ---- the numbers of a transaction

@@ -271,8 +271,10 @@ before : (at : Images) (records : List LogRecord) (start place : ℕ) (rs : List
 before at records start place [] h = refl
 before at records start place (r ∷ rs) h =
     before_when at records r (nat_lt place start) (records_before start (next_place place r) rs)
-    (λ e. (done_of at records r (before_one (nat_lt place start) _ (and_left (may_be_left at (scan_from nothing_scanned 0 records).changes start place r) _ h) e),
-    before at records start (next_place place r) rs (and_right (may_be_left at (scan_from nothing_scanned 0 records).changes start place r) _ h)))
+    (λ e. (
+      done_of at records r (before_one (nat_lt place start) _ (and_left (may_be_left at (scan_from nothing_scanned 0 records).changes start place r) _ h) e),
+      before at records start (next_place place r) rs (and_right (may_be_left at (scan_from nothing_scanned 0 records).changes start place r) _ h),
+    ))
 
 -- ---- both
 

@@ -77,6 +77,7 @@ err_on {Y = Y} {Z = Z} a b e n k j P x Q f g R p q is = record {
   where
     rose : (n k j : ℕ) → n ≤ k → Rose k j → Rose n j
     rose n k j le r = omega (arith, le, r)
+
     moved : IsErrOf {T = Z} (Err g) Failed → IsErrOf {T = Y} (Err f) Failed
     moved w = cc
 
@@ -200,12 +201,13 @@ scan_starts a k member end head s e is = reads_none a k (ScansOn member end head
 scans_next : (member end : ℕ) (old new : HeadState) (s t : LogScan) (at n : ℕ) (r : LogRecord) (c : Contents) → at ≡ old.at → t ≡ scanned s at r → ScansOn member end old s n c → ComesIs member old new (Some r) c → ScansOn member end new t n c
 scans_next member end old new s t at n r c e is on comes le =
     let held = on le in
-    let next = comes held.0 in
-    (next.of,
-    ap (λ (x : LogScan). scan_from x new.at (left_of (log_of c.logs member) new)) (is ∙ ap (λ (m : ℕ). scanned s m r) e)
-    ∙ ap (λ (m : ℕ). scan_from (scanned s old.at r) m (left_of (log_of c.logs member) new)) next.at_is
-    ∙ sym (ap (λ (l : List LogRecord). scan_from s old.at l) next.left_is)
-    ∙ held.1)
+    let next = comes held.0 in (
+      next.of,
+      ap (λ (x : LogScan). scan_from x new.at (left_of (log_of c.logs member) new)) (is ∙ ap (λ (m : ℕ). scanned s m r) e)
+          ∙ ap (λ (m : ℕ). scan_from (scanned s old.at r) m (left_of (log_of c.logs member) new)) next.at_is
+          ∙ sym (ap (λ (l : List LogRecord). scan_from s old.at l) next.left_is)
+          ∙ held.1,
+    )
 
 pub scan_more : (a b e : Option Contents) (n k j member end : ℕ) (old new : HeadState) (s t : LogScan) (at : ℕ) (next : Option LogRecord) (r : LogRecord) → next ≡ Some r → at ≡ old.at → t ≡ scanned s at r
     → Reads a b n k (ScansOn member end old s) (Ok 0) → Reads b e k j (ComesIs member old new) (Ok next) → Reads a e n j (ScansOn member end new t) (Ok 0)
@@ -430,9 +432,10 @@ all_from : PartsAreWhole → AreRead → (images : Images) (member : ℕ) (bytes
 all_from parts read images member bytes [] h kept = tt
 all_from parts read images member [] (log ∷ logs) h kept = absurd h
 all_from parts read images member (b ∷ bytes) (log ∷ logs) h kept =
-    let are = records_are parts read member b log h.0 in
-    (subst (λ (rs : List LogRecord). IsCheckpointed images rs) are.1 (kept 0 (omega arith) are.0),
-    all_from parts read images (member + 1) bytes logs h.1 (λ k lt. kept (suc k) (omega (arith, lt))))
+    let are = records_are parts read member b log h.0 in (
+      subst (λ (rs : List LogRecord). IsCheckpointed images rs) are.1 (kept 0 (omega arith) are.0),
+      all_from parts read images (member + 1) bytes logs h.1 (λ k lt. kept (suc k) (omega (arith, lt))),
+    )
 
 length_map : {X Y : Type 0} (f : X → Y) (xs : List X) → length (map f xs) ≡ length xs
 length_map f [] = refl

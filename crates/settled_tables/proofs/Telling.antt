@@ -134,10 +134,11 @@ Same t p q rs = AllByRecursion (λ (r : LogRecord). changes_row_of t r.body ≡ 
 
 same_from : (t : ℕ) (all e rs : List LogRecord) → e ++ rs ≡ all → are_early e rs ≡ true → Same t (has_commit all) (has_commit (own t all)) rs
 same_from t all e [] is h = tt
-same_from t all e (r ∷ rs) is h =
-    ((λ row. subst (λ (l : List LogRecord). has_commit l r.tran ≡ has_commit (own t l) r.tran) is
-    (same_commit t e r rs row (not_both (is_row_change r.body) (has_commit e r.tran) (row_is_change t r.body row).0 (and_left (is_early e r) _ h)))),
-    same_from t all (e ++ r ∷ []) rs (joined e r rs ∙ is) (and_right (is_early e r) _ h))
+same_from t all e (r ∷ rs) is h = (
+  (λ row. subst (λ (l : List LogRecord). has_commit l r.tran ≡ has_commit (own t l) r.tran) is
+      (same_commit t e r rs row (not_both (is_row_change r.body) (has_commit e r.tran) (row_is_change t r.body row).0 (and_left (is_early e r) _ h)))),
+  same_from t all (e ++ r ∷ []) rs (joined e r rs ∙ is) (and_right (is_early e r) _ h),
+)
 
 -- ---- the rows of a table
 
