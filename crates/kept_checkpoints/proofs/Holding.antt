@@ -101,8 +101,8 @@ same_number q k = grind (arith, nat_tests)
 abbrev pub is_among : ℕ → List ℕ → Bool
 is_among n ns = list_any (λ (m : ℕ). m == n) ns
 
-one_less : (ns : List ℕ) {m : ℕ} → length (m ∷ ns) - 1 ≡ length ns
-one_less ns = omega arith
+one_less : (ns : List ℕ) (m : ℕ) → length (m ∷ ns) - 1 ≡ length ns
+one_less ns m = omega arith
 
 last_or : (q n m : ℕ) (ns : List ℕ) → is_number n (slice_get (m ∷ ns) (length ns)) ≡ true → is_among q (m ∷ ns) ≡ true → (is_among q (take (length ns) (m ∷ ns)) || (n == q)) ≡ true
 last_or q n m [] h k = grind (arith, nat_tests)
@@ -113,14 +113,14 @@ taken_or q n [] k = absurd cc
 taken_or q n (m ∷ ns) k =
     decide (is_last n (m ∷ ns)) _
     (λ h. ap (λ (b : Bool). is_among q (cond b (take (length (m ∷ ns) - 1) (m ∷ ns)) (m ∷ ns)) || (n == q)) h
-    ∙ ap (λ (j : ℕ). is_among q (take j (m ∷ ns)) || (n == q)) (one_less ns)
-    ∙ last_or q n m ns (ap (λ (j : ℕ). is_number n (slice_get (m ∷ ns) j)) (sym (one_less ns)) ∙ h) k)
+    ∙ ap (λ (j : ℕ). is_among q (take j (m ∷ ns)) || (n == q)) (one_less ns m)
+    ∙ last_or q n m ns (ap (λ (j : ℕ). is_number n (slice_get (m ∷ ns) j)) (sym (one_less ns m)) ∙ h) k)
     (λ h. ap (λ (b : Bool). is_among q (cond b (take (length (m ∷ ns) - 1) (m ∷ ns)) (m ∷ ns)) || (n == q)) h ∙ or_left (is_among q (m ∷ ns)) (n == q) k)
 
 -- ---- the numbers of a transaction
 
 abbrev pub held : Open → ℕ → List ℕ
-held open tran = numbers_of (get open tran)
+held changes tran = numbers_of (get changes tran)
 
 put_if : (b : Bool) (ns : List ℕ) (o : Option (List ℕ)) → numbers_of (cond b (Some ns) o) ≡ cond b ns (numbers_of o)
 put_if true ns o = refl
@@ -130,30 +130,30 @@ gone_if : (b : Bool) (o : Option (List ℕ)) → numbers_of (cond b None o) ≡ 
 gone_if true o = refl
 gone_if false o = refl
 
-held_removed : (open : Open) (tran t : ℕ) → held (remove open tran) t ≡ cond (t == tran) [] (held open t)
-held_removed open tran t =
-    ap (λ (o : Option (List ℕ)). numbers_of o) (get-remove nat_cmp_total open tran t)
-    ∙ gone_if (eq_by_cmp nat_cmp t tran) (get open t)
-    ∙ ap (λ (b : Bool). cond b [] (held open t)) (same_number t tran)
+held_removed : (changes : Open) (tran t : ℕ) → held (remove changes tran) t ≡ cond (t == tran) [] (held changes t)
+held_removed changes tran t =
+    ap (λ (o : Option (List ℕ)). numbers_of o) (get-remove nat_cmp_total changes tran t)
+    ∙ gone_if (eq_by_cmp nat_cmp t tran) (get changes t)
+    ∙ ap (λ (b : Bool). cond b [] (held changes t)) (same_number t tran)
 
 twice : (b : Bool) (ns : List ℕ) (o : Open) (tran t : ℕ) → cond b ns (cond b [] (held o t)) ≡ cond b ns (held o t)
 twice true ns o tran t = refl
 twice false ns o tran t = refl
 
-held_with : (open : Open) (tran : ℕ) (ns : List ℕ) (t : ℕ) → held (with_numbers (remove open tran) tran ns) t ≡ cond (t == tran) ns (held open t)
-held_with open tran [] t = held_removed open tran t
-held_with open tran (n ∷ ns) t =
-    ap (λ (o : Option (List ℕ)). numbers_of o) (get-insert nat_cmp_total (remove open tran) tran (n ∷ ns) t)
-    ∙ put_if (eq_by_cmp nat_cmp t tran) (n ∷ ns) (get (remove open tran) t)
-    ∙ ap (λ (b : Bool). cond b (n ∷ ns) (held (remove open tran) t)) (same_number t tran)
-    ∙ ap (λ (l : List ℕ). cond (t == tran) (n ∷ ns) l) (held_removed open tran t)
-    ∙ twice (t == tran) (n ∷ ns) open tran t
+held_with : (changes : Open) (tran : ℕ) (ns : List ℕ) (t : ℕ) → held (with_numbers (remove changes tran) tran ns) t ≡ cond (t == tran) ns (held changes t)
+held_with changes tran [] t = held_removed changes tran t
+held_with changes tran (n ∷ ns) t =
+    ap (λ (o : Option (List ℕ)). numbers_of o) (get-insert nat_cmp_total (remove changes tran) tran (n ∷ ns) t)
+    ∙ put_if (eq_by_cmp nat_cmp t tran) (n ∷ ns) (get (remove changes tran) t)
+    ∙ ap (λ (b : Bool). cond b (n ∷ ns) (held (remove changes tran) t)) (same_number t tran)
+    ∙ ap (λ (l : List ℕ). cond (t == tran) (n ∷ ns) l) (held_removed changes tran t)
+    ∙ twice (t == tran) (n ∷ ns) changes tran t
 
 -- ---- one record more
 
 -- the record of this number and transaction is no row change, or is settled among these, or is held
 abbrev pub is_told : List LogRecord → Open → LogRecord → Bool
-is_told done open r = not (is_row_change r.body) || (is_settled done r || is_among r.lrsn (held open r.tran))
+is_told done changes r = not (is_row_change r.body) || (is_settled done r || is_among r.lrsn (held changes r.tran))
 
 settled_on : (done : List LogRecord) (x r : LogRecord) → is_settled done r ≡ true → is_settled (done ++ x ∷ []) r ≡ true
 settled_on done x r h =
@@ -174,64 +174,64 @@ by_undo done x r h =
 
 -- what was held is held still, or the record settles it
 abbrev StaysOr : Open → ℕ → ℕ → Body → LogRecord → Type 0
-StaysOr open tran lrsn b r = ((is_among r.lrsn (held (with_body open tran lrsn b) r.tran) || takes_back r.lrsn b) || (is_commit b && (tran == r.tran))) ≡ true
+StaysOr changes tran lrsn b r = ((is_among r.lrsn (held (with_body changes tran lrsn b) r.tran) || takes_back r.lrsn b) || (is_commit b && (tran == r.tran))) ≡ true
 
-stays : (open next : Open) (lrsn tran : ℕ) (x y : Bool) → held next tran ≡ held open tran → is_among lrsn (held open tran) ≡ true → ((is_among lrsn (held next tran) || x) || y) ≡ true
-stays open next lrsn tran x y e h = or_left _ y (or_left (is_among lrsn (held next tran)) x (ap (λ (l : List ℕ). is_among lrsn l) e ∙ h))
+stays : (changes next : Open) (lrsn tran : ℕ) (x y : Bool) → held next tran ≡ held changes tran → is_among lrsn (held changes tran) ≡ true → ((is_among lrsn (held next tran) || x) || y) ≡ true
+stays changes next lrsn tran x y e h = or_left _ y (or_left (is_among lrsn (held next tran)) x (ap (λ (l : List ℕ). is_among lrsn l) e ∙ h))
 
-changed_on : (open : Open) (tran lrsn : ℕ) (r : LogRecord) (b : Bool) → (r.tran == tran) ≡ b → is_among r.lrsn (held open r.tran) ≡ true
-    → is_among r.lrsn (cond b (held open tran ++ lrsn ∷ []) (held open r.tran)) ≡ true
-changed_on open tran lrsn r true e h =
-    list_any-append (λ (m : ℕ). m == r.lrsn) (held open tran) (lrsn ∷ [])
-    ∙ or_left (is_among r.lrsn (held open tran)) _ (ap (λ (n : ℕ). is_among r.lrsn (held open n)) (sym (same r.tran tran e)) ∙ h)
-changed_on open tran lrsn r false e h = h
+changed_on : (changes : Open) (tran lrsn : ℕ) (r : LogRecord) (b : Bool) → (r.tran == tran) ≡ b → is_among r.lrsn (held changes r.tran) ≡ true
+    → is_among r.lrsn (cond b (held changes tran ++ lrsn ∷ []) (held changes r.tran)) ≡ true
+changed_on changes tran lrsn r true e h =
+    list_any-append (λ (m : ℕ). m == r.lrsn) (held changes tran) (lrsn ∷ [])
+    ∙ or_left (is_among r.lrsn (held changes tran)) _ (ap (λ (n : ℕ). is_among r.lrsn (held changes n)) (sym (same r.tran tran e)) ∙ h)
+changed_on changes tran lrsn r false e h = h
 
-undone_on : (open : Open) (tran undone : ℕ) (r : LogRecord) (b : Bool) → (r.tran == tran) ≡ b → is_among r.lrsn (held open r.tran) ≡ true
-    → (is_among r.lrsn (cond b (taken_back undone (held open tran)) (held open r.tran)) || (undone == r.lrsn)) ≡ true
-undone_on open tran undone r true e h = taken_or r.lrsn undone (held open tran) (ap (λ (n : ℕ). is_among r.lrsn (held open n)) (sym (same r.tran tran e)) ∙ h)
-undone_on open tran undone r false e h = or_left (is_among r.lrsn (held open r.tran)) _ h
+undone_on : (changes : Open) (tran undone : ℕ) (r : LogRecord) (b : Bool) → (r.tran == tran) ≡ b → is_among r.lrsn (held changes r.tran) ≡ true
+    → (is_among r.lrsn (cond b (taken_back undone (held changes tran)) (held changes r.tran)) || (undone == r.lrsn)) ≡ true
+undone_on changes tran undone r true e h = taken_or r.lrsn undone (held changes tran) (ap (λ (n : ℕ). is_among r.lrsn (held changes n)) (sym (same r.tran tran e)) ∙ h)
+undone_on changes tran undone r false e h = or_left (is_among r.lrsn (held changes r.tran)) _ h
 
-gone_on : (open : Open) (tran : ℕ) (r : LogRecord) (b : Bool) → (r.tran == tran) ≡ b → is_among r.lrsn (held open r.tran) ≡ true
-    → ((is_among r.lrsn (cond b [] (held open r.tran)) || false) || (tran == r.tran)) ≡ true
-gone_on open tran r true e h = ap (λ (n : ℕ). n == r.tran) (sym (same r.tran tran e)) ∙ itself r.tran
-gone_on open tran r false e h = or_left _ (tran == r.tran) (or_left (is_among r.lrsn (held open r.tran)) false h)
+gone_on : (changes : Open) (tran : ℕ) (r : LogRecord) (b : Bool) → (r.tran == tran) ≡ b → is_among r.lrsn (held changes r.tran) ≡ true
+    → ((is_among r.lrsn (cond b [] (held changes r.tran)) || false) || (tran == r.tran)) ≡ true
+gone_on changes tran r true e h = ap (λ (n : ℕ). n == r.tran) (sym (same r.tran tran e)) ∙ itself r.tran
+gone_on changes tran r false e h = or_left _ (tran == r.tran) (or_left (is_among r.lrsn (held changes r.tran)) false h)
 
-held_on : (open : Open) (tran lrsn : ℕ) (b : Body) (r : LogRecord) → is_among r.lrsn (held open r.tran) ≡ true → StaysOr open tran lrsn b r
-held_on open tran lrsn (body.RowChange c) r h =
-    or_left _ false (or_left _ false (ap (λ (l : List ℕ). is_among r.lrsn l) (held_with open tran (held open tran ++ lrsn ∷ []) r.tran) ∙ changed_on open tran lrsn r (r.tran == tran) refl h))
-held_on open tran lrsn (body.Compensation c undone) r h =
-    or_left _ false (ap (λ (l : List ℕ). is_among r.lrsn l || (undone == r.lrsn)) (held_with open tran (taken_back undone (held open tran)) r.tran) ∙ undone_on open tran undone r (r.tran == tran) refl h)
-held_on open tran lrsn (body.System patches) r h = stays open open r.lrsn r.tran false false refl h
-held_on open tran lrsn body.Commit r h =
-    ap (λ (l : List ℕ). (is_among r.lrsn l || false) || (tran == r.tran)) (held_removed open tran r.tran) ∙ gone_on open tran r (r.tran == tran) refl h
-held_on open tran lrsn body.Ended r h = stays open open r.lrsn r.tran false false refl h
-held_on open tran lrsn (body.Checkpoint offset) r h = stays open open r.lrsn r.tran false false refl h
-held_on open tran lrsn body.RestartEnd r h = stays open open r.lrsn r.tran false false refl h
+held_on : (changes : Open) (tran lrsn : ℕ) (b : Body) (r : LogRecord) → is_among r.lrsn (held changes r.tran) ≡ true → StaysOr changes tran lrsn b r
+held_on changes tran lrsn (body.RowChange c) r h =
+    or_left _ false (or_left _ false (ap (λ (l : List ℕ). is_among r.lrsn l) (held_with changes tran (held changes tran ++ lrsn ∷ []) r.tran) ∙ changed_on changes tran lrsn r (r.tran == tran) refl h))
+held_on changes tran lrsn (body.Compensation c undone) r h =
+    or_left _ false (ap (λ (l : List ℕ). is_among r.lrsn l || (undone == r.lrsn)) (held_with changes tran (taken_back undone (held changes tran)) r.tran) ∙ undone_on changes tran undone r (r.tran == tran) refl h)
+held_on changes tran lrsn (body.System patches) r h = stays changes changes r.lrsn r.tran false false refl h
+held_on changes tran lrsn body.Commit r h =
+    ap (λ (l : List ℕ). (is_among r.lrsn l || false) || (tran == r.tran)) (held_removed changes tran r.tran) ∙ gone_on changes tran r (r.tran == tran) refl h
+held_on changes tran lrsn body.Ended r h = stays changes changes r.lrsn r.tran false false refl h
+held_on changes tran lrsn (body.Checkpoint offset) r h = stays changes changes r.lrsn r.tran false false refl h
+held_on changes tran lrsn body.RestartEnd r h = stays changes changes r.lrsn r.tran false false refl h
 
-told_on : (done : List LogRecord) (open : Open) (x r : LogRecord) → is_told done open r ≡ true → is_told (done ++ x ∷ []) (with_body open x.tran x.lrsn x.body) r ≡ true
-told_on done open x r h =
-    three (not (is_row_change r.body)) (is_settled done r) (is_among r.lrsn (held open r.tran)) (not (is_row_change r.body)) (is_settled (done ++ x ∷ []) r) (is_among r.lrsn (held (with_body open x.tran x.lrsn x.body) r.tran))
+told_on : (done : List LogRecord) (changes : Open) (x r : LogRecord) → is_told done changes r ≡ true → is_told (done ++ x ∷ []) (with_body changes x.tran x.lrsn x.body) r ≡ true
+told_on done changes x r h =
+    three (not (is_row_change r.body)) (is_settled done r) (is_among r.lrsn (held changes r.tran)) (not (is_row_change r.body)) (is_settled (done ++ x ∷ []) r) (is_among r.lrsn (held (with_body changes x.tran x.lrsn x.body) r.tran))
     (λ k. k)
     (λ k. second _ (is_settled (done ++ x ∷ []) r) _ (settled_on done x r k))
-    (λ k. one_of (not (is_row_change r.body)) (is_settled (done ++ x ∷ []) r) (is_among r.lrsn (held (with_body open x.tran x.lrsn x.body) r.tran)) (takes_back r.lrsn x.body) (is_commit x.body && (x.tran == r.tran))
-    (by_undo done x r) (by_commit done x r) (held_on open x.tran x.lrsn x.body r k))
+    (λ k. one_of (not (is_row_change r.body)) (is_settled (done ++ x ∷ []) r) (is_among r.lrsn (held (with_body changes x.tran x.lrsn x.body) r.tran)) (takes_back r.lrsn x.body) (is_commit x.body && (x.tran == r.tran))
+    (by_undo done x r) (by_commit done x r) (held_on changes x.tran x.lrsn x.body r k))
     h
 
 -- the record itself
-itself_held : (open : Open) (tran lrsn : ℕ) (b : Body) → (not (is_row_change b) || is_among lrsn (held (with_body open tran lrsn b) tran)) ≡ true
-itself_held open tran lrsn (body.RowChange c) =
-    ap (λ (l : List ℕ). is_among lrsn l) (held_with open tran (held open tran ++ lrsn ∷ []) tran ∙ ap (λ (b : Bool). cond b (held open tran ++ lrsn ∷ []) (held open tran)) (itself tran))
-    ∙ list_any-append (λ (m : ℕ). m == lrsn) (held open tran) (lrsn ∷ [])
-    ∙ or_right (is_among lrsn (held open tran)) _ (or_left (lrsn == lrsn) false (itself lrsn))
-itself_held open tran lrsn (body.Compensation c undone) = refl
-itself_held open tran lrsn (body.System patches) = refl
-itself_held open tran lrsn body.Commit = refl
-itself_held open tran lrsn body.Ended = refl
-itself_held open tran lrsn (body.Checkpoint offset) = refl
-itself_held open tran lrsn body.RestartEnd = refl
+itself_held : (changes : Open) (tran lrsn : ℕ) (b : Body) → (not (is_row_change b) || is_among lrsn (held (with_body changes tran lrsn b) tran)) ≡ true
+itself_held changes tran lrsn (body.RowChange c) =
+    ap (λ (l : List ℕ). is_among lrsn l) (held_with changes tran (held changes tran ++ lrsn ∷ []) tran ∙ ap (λ (b : Bool). cond b (held changes tran ++ lrsn ∷ []) (held changes tran)) (itself tran))
+    ∙ list_any-append (λ (m : ℕ). m == lrsn) (held changes tran) (lrsn ∷ [])
+    ∙ or_right (is_among lrsn (held changes tran)) _ (or_left (lrsn == lrsn) false (itself lrsn))
+itself_held changes tran lrsn (body.Compensation c undone) = refl
+itself_held changes tran lrsn (body.System patches) = refl
+itself_held changes tran lrsn body.Commit = refl
+itself_held changes tran lrsn body.Ended = refl
+itself_held changes tran lrsn (body.Checkpoint offset) = refl
+itself_held changes tran lrsn body.RestartEnd = refl
 
-last_told : (done : List LogRecord) (open : Open) (x : LogRecord) → is_told (done ++ x ∷ []) (with_body open x.tran x.lrsn x.body) x ≡ true
-last_told done open x = middle (not (is_row_change x.body)) (is_settled (done ++ x ∷ []) x) _ (itself_held open x.tran x.lrsn x.body)
+last_told : (done : List LogRecord) (changes : Open) (x : LogRecord) → is_told (done ++ x ∷ []) (with_body changes x.tran x.lrsn x.body) x ≡ true
+last_told done changes x = middle (not (is_row_change x.body)) (is_settled (done ++ x ∷ []) x) _ (itself_held changes x.tran x.lrsn x.body)
 
 all_on : (p q : LogRecord → Bool) → ((r : LogRecord) → p r ≡ true → q r ≡ true) → (rs : List LogRecord) → list_all p rs ≡ true → list_all q rs ≡ true
 all_on p q h [] k = refl
@@ -239,13 +239,13 @@ all_on p q h (r ∷ rs) k = and_both (q r) _ (h r (and_left (p r) _ k)) (all_on 
 
 -- ---- all records
 
-told_more : (done : List LogRecord) (open : Open) (x : LogRecord) → list_all (is_told done open) done ≡ true
-    → list_all (is_told (done ++ x ∷ []) (with_body open x.tran x.lrsn x.body)) (done ++ x ∷ []) ≡ true
-told_more done open x h =
-    list_all-append (is_told (done ++ x ∷ []) (with_body open x.tran x.lrsn x.body)) done (x ∷ [])
-    ∙ and_both (list_all (is_told (done ++ x ∷ []) (with_body open x.tran x.lrsn x.body)) done) _
-    (all_on (is_told done open) (is_told (done ++ x ∷ []) (with_body open x.tran x.lrsn x.body)) (told_on done open x) done h)
-    (and_both (is_told (done ++ x ∷ []) (with_body open x.tran x.lrsn x.body) x) true (last_told done open x) refl)
+told_more : (done : List LogRecord) (changes : Open) (x : LogRecord) → list_all (is_told done changes) done ≡ true
+    → list_all (is_told (done ++ x ∷ []) (with_body changes x.tran x.lrsn x.body)) (done ++ x ∷ []) ≡ true
+told_more done changes x h =
+    list_all-append (is_told (done ++ x ∷ []) (with_body changes x.tran x.lrsn x.body)) done (x ∷ [])
+    ∙ and_both (list_all (is_told (done ++ x ∷ []) (with_body changes x.tran x.lrsn x.body)) done) _
+    (all_on (is_told done changes) (is_told (done ++ x ∷ []) (with_body changes x.tran x.lrsn x.body)) (told_on done changes x) done h)
+    (and_both (is_told (done ++ x ∷ []) (with_body changes x.tran x.lrsn x.body) x) true (last_told done changes x) refl)
 
 no_more : (xs : List LogRecord) → xs ≡ xs ++ []
 no_more [] = refl
@@ -255,25 +255,25 @@ joined : (e : List LogRecord) (r : LogRecord) (rs : List LogRecord) → (e ++ r 
 joined [] r rs = refl
 joined (x ∷ e) r rs = ap (λ (l : List LogRecord). x ∷ l) (joined e r rs)
 
-told_all : (s : LogScan) (at : ℕ) (done rs : List LogRecord) → list_all (is_told done s.open) done ≡ true → list_all (is_told (done ++ rs) (scan_from s at rs).open) (done ++ rs) ≡ true
-told_all s at done [] h = subst (λ (l : List LogRecord). list_all (is_told l s.open) l ≡ true) (no_more done) h
+told_all : (s : LogScan) (at : ℕ) (done rs : List LogRecord) → list_all (is_told done s.changes) done ≡ true → list_all (is_told (done ++ rs) (scan_from s at rs).changes) (done ++ rs) ≡ true
+told_all s at done [] h = subst (λ (l : List LogRecord). list_all (is_told l s.changes) l ≡ true) (no_more done) h
 told_all s at done (r ∷ rs) h =
-    subst (λ (l : List LogRecord). list_all (is_told l (scan_from (scanned s at r) (next_place at r) rs).open) l ≡ true) (joined done r rs)
-    (told_all (scanned s at r) (next_place at r) (done ++ r ∷ []) rs (told_more done s.open r h))
+    subst (λ (l : List LogRecord). list_all (is_told l (scan_from (scanned s at r) (next_place at r) rs).changes) l ≡ true) (joined done r rs)
+    (told_all (scanned s at r) (next_place at r) (done ++ r ∷ []) rs (told_more done s.changes r h))
 
 nothing : (o : Option (List ℕ)) → is_some o ≡ false → numbers_of o ≡ []
 nothing None h = refl
 nothing (Some ns) h = absurd cc
 
-nothing_held : (open : Open) (tran : ℕ) → is_some (get open tran) ≡ false → (r : LogRecord) → (r.tran == tran) ≡ true → is_among r.lrsn (held open r.tran) ≡ false
-nothing_held open tran none r e =
-    ap (λ (n : ℕ). is_among r.lrsn (held open n)) (same r.tran tran e) ∙ ap (λ (l : List ℕ). is_among r.lrsn l) (nothing (get open tran) none)
+nothing_held : (changes : Open) (tran : ℕ) → is_some (get changes tran) ≡ false → (r : LogRecord) → (r.tran == tran) ≡ true → is_among r.lrsn (held changes r.tran) ≡ false
+nothing_held changes tran none r e =
+    ap (λ (n : ℕ). is_among r.lrsn (held changes n)) (same r.tran tran e) ∙ ap (λ (l : List ℕ). is_among r.lrsn l) (nothing (get changes tran) none)
 
 -- no row change of a transaction is open of which none is held
-none_open : (records : List LogRecord) (open : Open) (tran : ℕ) → is_some (get open tran) ≡ false → (r : LogRecord) → is_told records open r ≡ true → not ((r.tran == tran) && is_open records r) ≡ true
-none_open records open tran none r h = decide (r.tran == tran) _ (λ e. none_if (r.tran == tran) (is_row_change r.body) (is_settled records r) (is_among r.lrsn (held open r.tran)) h (nothing_held open tran none r e)) (λ e. other_if (r.tran == tran) (is_open records r) e)
+none_open : (records : List LogRecord) (changes : Open) (tran : ℕ) → is_some (get changes tran) ≡ false → (r : LogRecord) → is_told records changes r ≡ true → not ((r.tran == tran) && is_open records r) ≡ true
+none_open records changes tran none r h = decide (r.tran == tran) _ (λ e. none_if (r.tran == tran) (is_row_change r.body) (is_settled records r) (is_among r.lrsn (held changes r.tran)) h (nothing_held changes tran none r e)) (λ e. other_if (r.tran == tran) (is_open records r) e)
 
-pub ended : (records : List LogRecord) (tran : ℕ) → is_some (get (scan_from nothing_scanned 0 records).open tran) ≡ false → has_ended records tran ≡ true
+pub ended : (records : List LogRecord) (tran : ℕ) → is_some (get (scan_from nothing_scanned 0 records).changes tran) ≡ false → has_ended records tran ≡ true
 ended records tran none =
-    all_on (is_told records (scan_from nothing_scanned 0 records).open) (λ (r : LogRecord). not ((r.tran == tran) && is_open records r))
-    (none_open records (scan_from nothing_scanned 0 records).open tran none) records (told_all nothing_scanned 0 [] records refl)
+    all_on (is_told records (scan_from nothing_scanned 0 records).changes) (λ (r : LogRecord). not ((r.tran == tran) && is_open records r))
+    (none_open records (scan_from nothing_scanned 0 records).changes tran none) records (told_all nothing_scanned 0 [] records refl)

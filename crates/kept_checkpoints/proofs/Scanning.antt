@@ -253,10 +253,10 @@ not_unended : (a b : Bool) → b ≡ true → not (a || b) ≡ false
 not_unended true b h = refl
 not_unended false b h = ap (λ (x : Bool). not x) h
 
-done_of : (at : Images) (records : List LogRecord) (r : LogRecord) → list_all (is_met at) (needs_open (scan_from nothing_scanned 0 records).open r) ≡ true → is_done at records r ≡ true
+done_of : (at : Images) (records : List LogRecord) (r : LogRecord) → list_all (is_met at) (needs_open (scan_from nothing_scanned 0 records).changes r) ≡ true → is_done at records r ≡ true
 done_of at records r h =
     sym (met_by at records r)
-    ∙ less_open at (is_some (get (scan_from nothing_scanned 0 records).open r.tran)) (is_unended records r) r.lrsn (pages_of r)
+    ∙ less_open at (is_some (get (scan_from nothing_scanned 0 records).changes r.tran)) (is_unended records r) r.lrsn (pages_of r)
     (λ none. not_unended (r.tran == 0) (has_ended records r.tran) (ended records r.tran none)) h
 
 before_one : (b x : Bool) → (not b || x) ≡ true → b ≡ true → x ≡ true
@@ -267,12 +267,14 @@ before_when : (at : Images) (records : List LogRecord) (r : LogRecord) (b : Bool
 before_when at records r true more h = and_both (is_done at records r) _ (h refl).0 (h refl).1
 before_when at records r false more h = refl
 
-before : (at : Images) (records : List LogRecord) (start place : ℕ) (rs : List LogRecord) → may_all_be_left at (scan_from nothing_scanned 0 records).open start place rs ≡ true → list_all (is_done at records) (records_before start place rs) ≡ true
+before : (at : Images) (records : List LogRecord) (start place : ℕ) (rs : List LogRecord) → may_all_be_left at (scan_from nothing_scanned 0 records).changes start place rs ≡ true → list_all (is_done at records) (records_before start place rs) ≡ true
 before at records start place [] h = refl
 before at records start place (r ∷ rs) h =
     before_when at records r (nat_lt place start) (records_before start (next_place place r) rs)
-    (λ e. (done_of at records r (before_one (nat_lt place start) _ (and_left (may_be_left at (scan_from nothing_scanned 0 records).open start place r) _ h) e),
-    before at records start (next_place place r) rs (and_right (may_be_left at (scan_from nothing_scanned 0 records).open start place r) _ h)))
+    (λ e. (
+      done_of at records r (before_one (nat_lt place start) _ (and_left (may_be_left at (scan_from nothing_scanned 0 records).changes start place r) _ h) e),
+      before at records start (next_place place r) rs (and_right (may_be_left at (scan_from nothing_scanned 0 records).changes start place r) _ h),
+    ))
 
 -- ---- both
 
@@ -287,5 +289,5 @@ scan_tells at s left records h =
           fits_from [] 0 records fits
           (all_pass_more (λ q. is_some (get whole.offsets q)) (known [] 0 records) (placed whole.offsets records found) records (offsets_there nothing_scanned 0 records));
       before = before at records (start_of records) 0 records
-          (ap (λ (x : LogScan). may_all_be_left at x.open (start_of records) 0 records) (sym h.scan_is) ∙ ap (λ (n : ℕ). may_all_be_left at s.open n 0 records) (sym start) ∙ h.met);
+          (ap (λ (x : LogScan). may_all_be_left at x.changes (start_of records) 0 records) (sym h.scan_is) ∙ ap (λ (n : ℕ). may_all_be_left at s.changes n 0 records) (sym start) ∙ h.met);
     }

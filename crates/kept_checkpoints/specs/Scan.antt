@@ -57,23 +57,23 @@ abbrev pub taken_back : ℕ → List ℕ → List ℕ
 taken_back n ns = if is_last n ns then take (length ns - 1) ns else ns
 
 abbrev pub with_numbers : Open → ℕ → List ℕ → Open
-with_numbers open tran [] = open
-with_numbers open tran (n ∷ ns) = finite.insert open tran (n ∷ ns)
+with_numbers changes tran [] = changes
+with_numbers changes tran (n ∷ ns) = finite.insert changes tran (n ∷ ns)
 
 -- after a record of the transaction
 abbrev pub with_body : Open → ℕ → ℕ → Body → Open
-with_body open tran lrsn (body.RowChange change) = with_numbers (finite.remove open tran) tran (numbers_of (finite.get open tran) ++ lrsn ∷ [])
-with_body open tran lrsn (body.Compensation change undone) = with_numbers (finite.remove open tran) tran (taken_back undone (numbers_of (finite.get open tran)))
-with_body open tran lrsn (body.System patches) = open
-with_body open tran lrsn body.Commit = finite.remove open tran
-with_body open tran lrsn body.Ended = open
-with_body open tran lrsn (body.Checkpoint offset) = open
-with_body open tran lrsn body.RestartEnd = open
+with_body changes tran lrsn (body.RowChange change) = with_numbers (finite.remove changes tran) tran (numbers_of (finite.get changes tran) ++ lrsn ∷ [])
+with_body changes tran lrsn (body.Compensation change undone) = with_numbers (finite.remove changes tran) tran (taken_back undone (numbers_of (finite.get changes tran)))
+with_body changes tran lrsn (body.System patches) = changes
+with_body changes tran lrsn body.Commit = finite.remove changes tran
+with_body changes tran lrsn body.Ended = changes
+with_body changes tran lrsn (body.Checkpoint offset) = changes
+with_body changes tran lrsn body.RestartEnd = changes
 
 -- ---- a log
 
 abbrev pub nothing_scanned : LogScan
-nothing_scanned = record { start = 0; fits = true; offsets = finite.empty; open = finite.empty }
+nothing_scanned = record { start = 0; fits = true; offsets = finite.empty; changes = finite.empty }
 
 -- with a record more, which begins at this place
 abbrev pub scanned : LogScan → ℕ → LogRecord → LogScan
@@ -81,7 +81,7 @@ scanned s at r = record {
   start = offset_or s.start r.body;
   fits = s.fits && is_behind at r.body;
   offsets = with_offset s.offsets r.body;
-  open = with_body s.open r.tran r.lrsn r.body;
+  changes = with_body s.changes r.tran r.lrsn r.body;
 }
 
 -- with these, of which the first begins there
@@ -91,6 +91,10 @@ scan_from s at (r ∷ rs) = scan_from (scanned s at r) (next_place at r) rs
 
 -- ---- the second time
 
+-- a record begins at this place
+abbrev pub met_at : LogScan → ℕ → LogScan
+met_at s at = record { start = s.start; fits = s.fits; offsets = finite.remove s.offsets at; changes = s.changes }
+
 -- the offsets at which none of the records begins
 abbrev pub left_over : Places → ℕ → List LogRecord → Places
 left_over offsets at [] = offsets
@@ -98,15 +102,15 @@ left_over offsets at (r ∷ rs) = left_over (finite.remove offsets at) (next_pla
 
 -- what the record needs of the pages that it changes, among those of its log that leave these row changes open
 abbrev pub needs_open : Open → LogRecord → List Need
-needs_open open r = map (need_of (is_some (finite.get open r.tran)) r.lrsn) (pages_of r)
+needs_open changes r = map (need_of (is_some (finite.get changes r.tran)) r.lrsn) (pages_of r)
 
 -- the record, which begins at this place, is read again or its needs are met
 abbrev pub may_be_left : Images → Open → ℕ → ℕ → LogRecord → Bool
-may_be_left at open start place r = not (nat_lt place start) || list_all (is_met at) (needs_open open r)
+may_be_left at changes start place r = not (nat_lt place start) || list_all (is_met at) (needs_open changes r)
 
 abbrev pub may_all_be_left : Images → Open → ℕ → ℕ → List LogRecord → Bool
-may_all_be_left at open start place [] = true
-may_all_be_left at open start place (r ∷ rs) = may_be_left at open start place r && may_all_be_left at open start (next_place place r) rs
+may_all_be_left at changes start place [] = true
+may_all_be_left at changes start place (r ∷ rs) = may_be_left at changes start place r && may_all_be_left at changes start (next_place place r) rs
 
 -- what both times find of the records of a log
 pub record IsKeptBy (at : Images) (s : LogScan) (left : Places) (records : List LogRecord) : Type 0 where
@@ -114,7 +118,7 @@ pub record IsKeptBy (at : Images) (s : LogScan) (left : Places) (records : List 
   pub fits : s.fits ≡ true
   pub left_is : left ≡ left_over s.offsets 0 records
   pub none : left ≡ finite.empty
-  pub met : may_all_be_left at s.open s.start 0 records ≡ true
+  pub met : may_all_be_left at s.changes s.start 0 records ≡ true
 
 -- ---- law
 

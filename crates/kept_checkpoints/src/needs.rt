@@ -51,11 +51,7 @@ fn is_unended(trans: &NumberMap<bool>, it: &LogRecord) -> bool
 }
 
 /// What the record needs of the pages that it changes, where a row change of its transaction is open or none is.
-pub fn needs_with(
-    alloc: Global,
-    it: &LogRecord,
-    is_open: bool,
-) -> Result<Sequence<Need>, NoMemory>
+pub fn needs_with(alloc: Global, it: &LogRecord, is_open: bool) -> Result<Sequence<Need>, NoMemory>
     ensures { IfOk result (λ needs. needs ≡ map (need_of is_open it.now.lrsn) (pages_of it.now)) }
 {
     let mut needs = Sequence::new(alloc);

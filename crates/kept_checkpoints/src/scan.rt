@@ -1,7 +1,7 @@
 ghost use Rattle.std.specs.Prelude.{◌≡◌, ◌-◌, ◌++◌, ◌∷◌, [], if◌then◌else◌, length, take, OnOk, IfOk};
 ghost use Rattle.std.specs.FinMap as finite;
 ghost use Rattle.sound_disk.specs.Checkpoints.{offset_or};
-ghost use Rattle.kept_checkpoints.specs.Scan.{is_behind, with_offset, numbers_of, is_last, taken_back, with_numbers, with_body, nothing_scanned, scanned, needs_open, ScanTells};
+ghost use Rattle.kept_checkpoints.specs.Scan.{is_behind, with_offset, numbers_of, is_last, taken_back, with_numbers, with_body, nothing_scanned, scanned, met_at, needs_open, ScanTells};
 
 use crate::needs::{Need, needs_with};
 use crate::offsets::place_number;
@@ -21,7 +21,7 @@ pub struct LogScan {
     /// The offsets of the Checkpoints, or those of them at which no record was seen to begin.
     pub offsets: NumberMap<bool>,
     /// The row changes of each transaction that are neither committed nor taken back.
-    pub open: NumberMap<Sequence<Lrsn>>,
+    pub changes: NumberMap<Sequence<Lrsn>>,
 }
 
 fn is_behind(at: u64, body: &Body) -> bool
@@ -72,75 +72,75 @@ fn take_back(number: Lrsn, numbers: Sequence<Lrsn>) -> Sequence<Lrsn>
 
 fn take_numbers(
     alloc: Global,
-    open: &mut NumberMap<Sequence<Lrsn>>,
+    changes: &mut NumberMap<Sequence<Lrsn>>,
     tran: Lrsn,
 ) -> Sequence<Lrsn>
-    ensures numbers { result ≡ numbers_of (finite.get open.old tran) }
-    ensures gone { open.new ≡ finite.remove open.old tran }
+    ensures numbers { result ≡ numbers_of (finite.get changes.old tran) }
+    ensures gone { changes.new ≡ finite.remove changes.old tran }
 {
-    match open.take(tran) {
+    match changes.take(tran) {
         None => Sequence::new(alloc),
         Some(numbers) => numbers,
     }
 }
 
 fn put_numbers(
-    open: &mut NumberMap<Sequence<Lrsn>>,
+    changes: &mut NumberMap<Sequence<Lrsn>>,
     tran: Lrsn,
     numbers: Sequence<Lrsn>,
 ) -> Result<(), NoMemory>
-    ensures { OnOk result (open.new ≡ with_numbers open.old tran numbers) }
+    ensures { OnOk result (changes.new ≡ with_numbers changes.old tran numbers) }
 {
     if numbers.is_empty() {
         Ok(())
     } else {
-        open.put(tran, numbers)
+        changes.put(tran, numbers)
     }
 }
 
 fn change(
     alloc: Global,
-    open: &mut NumberMap<Sequence<Lrsn>>,
+    changes: &mut NumberMap<Sequence<Lrsn>>,
     tran: Lrsn,
     lrsn: Lrsn,
 ) -> Result<(), NoMemory>
-    ensures { OnOk result (open.new ≡ with_numbers (finite.remove open.old tran) tran (numbers_of (finite.get open.old tran) ++ lrsn ∷ [])) }
+    ensures { OnOk result (changes.new ≡ with_numbers (finite.remove changes.old tran) tran (numbers_of (finite.get changes.old tran) ++ lrsn ∷ [])) }
 {
-    let mut numbers = take_numbers(alloc, open, tran);
+    let mut numbers = take_numbers(alloc, changes, tran);
     numbers.push(lrsn)?;
-    put_numbers(open, tran, numbers)
+    put_numbers(changes, tran, numbers)
 }
 
 fn compensate(
     alloc: Global,
-    open: &mut NumberMap<Sequence<Lrsn>>,
+    changes: &mut NumberMap<Sequence<Lrsn>>,
     tran: Lrsn,
     undone: Lrsn,
 ) -> Result<(), NoMemory>
-    ensures { OnOk result (open.new ≡ with_numbers (finite.remove open.old tran) tran (taken_back undone (numbers_of (finite.get open.old tran)))) }
+    ensures { OnOk result (changes.new ≡ with_numbers (finite.remove changes.old tran) tran (taken_back undone (numbers_of (finite.get changes.old tran)))) }
 {
-    let numbers = take_numbers(alloc, open, tran);
-    put_numbers(open, tran, take_back(undone, numbers))
+    let numbers = take_numbers(alloc, changes, tran);
+    put_numbers(changes, tran, take_back(undone, numbers))
 }
 
-fn settle(open: &mut NumberMap<Sequence<Lrsn>>, tran: Lrsn)
-    ensures { open.new ≡ finite.remove open.old tran }
+fn settle(changes: &mut NumberMap<Sequence<Lrsn>>, tran: Lrsn)
+    ensures { changes.new ≡ finite.remove changes.old tran }
 {
-    open.take(tran);
+    changes.take(tran);
 }
 
 fn enter_body(
     alloc: Global,
-    open: &mut NumberMap<Sequence<Lrsn>>,
+    changes: &mut NumberMap<Sequence<Lrsn>>,
     it: &LogRecord,
 ) -> Result<(), NoMemory>
-    ensures { OnOk result (open.new ≡ with_body open.old it.now.tran it.now.lrsn it.now.body) }
+    ensures { OnOk result (changes.new ≡ with_body changes.old it.now.tran it.now.lrsn it.now.body) }
 {
     match &it.body {
-        Body::RowChange { .. } => change(alloc, open, it.tran, it.lrsn),
-        Body::Compensation { undone, .. } => compensate(alloc, open, it.tran, *undone),
+        Body::RowChange { .. } => change(alloc, changes, it.tran, it.lrsn),
+        Body::Compensation { undone, .. } => compensate(alloc, changes, it.tran, *undone),
         Body::Commit => {
-            settle(open, it.tran);
+            settle(changes, it.tran);
             Ok(())
         }
         Body::System { .. } | Body::Ended | Body::Checkpoint { .. } | Body::RestartEnd => Ok(()),
@@ -156,7 +156,7 @@ impl LogScan {
             start: 0,
             fits: true,
             offsets: NumberMap::new(alloc),
-            open: NumberMap::new(alloc),
+            changes: NumberMap::new(alloc),
         }
     }
 
@@ -167,21 +167,21 @@ impl LogScan {
         self.start = offset_or(self.start, &it.body);
         self.fits = self.fits && is_behind(at, &it.body);
         add_offset(&mut self.offsets, &it.body)?;
-        enter_body(alloc, &mut self.open, it)
+        enter_body(alloc, &mut self.changes, it)
     }
 
     /// A record begins at this place.
     pub fn meet(&mut self, at: u64)
-        ensures { self.new ≡ record { start = self.old.start; fits = self.old.fits; offsets = finite.remove self.old.offsets at; open = self.old.open } }
+        ensures { self.new ≡ met_at self.old at }
     {
         self.offsets.take(place_number(at));
     }
 
     /// What the record needs of pages, where it isn't read again.
     pub fn needs(&self, alloc: Global, it: &LogRecord) -> Result<Sequence<Need>, NoMemory>
-        ensures { IfOk result (λ needs. needs ≡ needs_open self.now.open it.now) }
+        ensures { IfOk result (λ needs. needs ≡ needs_open self.now.changes it.now) }
     {
-        needs_with(alloc, it, self.open.get(it.tran).is_some())
+        needs_with(alloc, it, self.changes.get(it.tran).is_some())
     }
 }
 

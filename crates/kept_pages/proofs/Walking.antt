@@ -1,8 +1,10 @@
 -- The records of a log, one after the other, and what is made of them.
 use Rattle.std.proofs.Common.{◌≡◌, ℕ, zero, suc, ◌+◌, ◌-◌, ◌<◌, ◌≤◌, Bool, true, false, List, [], ◌∷◌, ◌++◌, length, map, take, drop, get_or, Option, Some, None, Result, Ok, Err, IfOk, refl, sym, ap, subst, ◌∙◌, arith, length-append}
-use Rattle.std.specs.Prelude.{IsErrOf, IfSome, slice_index, slice_index_or, nat_lt, ◌&&◌}
+use Rattle.std.specs.Prelude.{IsErrOf, IfSome, slice_index, slice_index_or, nat_lt, not, is_none, ◌==◌, ◌||◌, ◌&&◌}
+use Rattle.std.specs.List.{list_all}
+use Rattle.ds_base.specs.declared.names.PageId.{PageId}
 use Rattle.std.proofs.lemmas.Bool.Decides.{nat_tests}
-use Rattle.std.specs.FinMap.{empty, remove}
+use Rattle.std.specs.FinMap.{empty, remove, entries, len-entries, empty_of_len}
 use Rattle.ds_base.specs.Causes.{Rose}
 use Rattle.ds_disk.specs.Contents.{Contents, log_of, WhenTold, Becomes, Same}
 use Rattle.ds_disk.specs.Pages.{page_at}
@@ -26,10 +28,13 @@ use Rattle.page_images.specs.Images.{Images}
 use Rattle.sound_disk.specs.Checkpoints.{next_place, IsCheckpointed, AreCheckpointed}
 use Rattle.sound_disk.specs.Whole_logs.{IsWholeLog, AreWholeLogs}
 use Rattle.sound_disk.specs.Laws.{AreRead}
+use Rattle.kept_checkpoints.specs.declared.needs.Need.{Need}
+use Rattle.kept_checkpoints.specs.Needs.{is_met}
 use Rattle.kept_checkpoints.specs.declared.scan.LogScan.{LogScan}
 use Rattle.kept_checkpoints.specs.Offsets.{Places}
-use Rattle.kept_checkpoints.specs.Scan.{Open, nothing_scanned, scanned, scan_from, left_over, may_be_left, may_all_be_left, IsKeptBy, ScanTells}
+use Rattle.kept_checkpoints.specs.Scan.{Open, needs_open, nothing_scanned, scanned, scan_from, met_at, left_over, may_be_left, may_all_be_left, IsKeptBy, ScanTells}
 use Rattle.kept_pages.specs.Reading.{Reads}
+use Rattle.kept_pages.specs.Unmet.{AreJudged}
 use Rattle.kept_pages.specs.Walking.{left_by, records_to, IsFollowed, Comes, IsScanned, AreMet, Fits, IsLogKept, AreLogsKept, AreAllKept}
 use Rattle.kept_pages.proofs.Told.{same_on}
 
@@ -72,6 +77,7 @@ err_on {Y = Y} {Z = Z} a b e n k j P x Q f g R p q is = record {
   where
     rose : (n k j : ℕ) → n ≤ k → Rose k j → Rose n j
     rose n k j le r = omega (arith, le, r)
+
     moved : IsErrOf {T = Z} (Err g) Failed → IsErrOf {T = Y} (Err f) Failed
     moved w = cc
 
@@ -162,6 +168,10 @@ sound_read old new (Err fault.NoMemory) h = tt
 pub sound_told : (old new : HeadState) (r : Result (Option LogRecord) LogFault) (s : Result (Option LogRecord) DiskError) → s ≡ left_by r → IfOk r (λ next. IsPast old new next) → IfOk s (λ next. IfSome next (λ (it : LogRecord). IsSound new))
 sound_told old new r s is h = subst (λ (x : Result (Option LogRecord) DiskError). IfOk x (λ next. IfSome next (λ (it : LogRecord). IsSound new))) (sym is) (sound_read old new r h)
 
+pub sound_some : (new : HeadState) (next : Option LogRecord) (r : LogRecord) → next ≡ Some r → IfSome next (λ (it : LogRecord). IsSound new) → IsSound new
+sound_some new None r is h = absurd cc
+sound_some new (Some it) r is h = h
+
 -- ---- the first time
 
 -- the records that are left of the log come to what all do
@@ -191,12 +201,13 @@ scan_starts a k member end head s e is = reads_none a k (ScansOn member end head
 scans_next : (member end : ℕ) (old new : HeadState) (s t : LogScan) (at n : ℕ) (r : LogRecord) (c : Contents) → at ≡ old.at → t ≡ scanned s at r → ScansOn member end old s n c → ComesIs member old new (Some r) c → ScansOn member end new t n c
 scans_next member end old new s t at n r c e is on comes le =
     let held = on le in
-    let next = comes held.0 in
-    (next.of,
-    ap (λ (x : LogScan). scan_from x new.at (left_of (log_of c.logs member) new)) (is ∙ ap (λ (m : ℕ). scanned s m r) e)
-    ∙ ap (λ (m : ℕ). scan_from (scanned s old.at r) m (left_of (log_of c.logs member) new)) next.at_is
-    ∙ sym (ap (λ (l : List LogRecord). scan_from s old.at l) next.left_is)
-    ∙ held.1)
+    let next = comes held.0 in (
+      next.of,
+      ap (λ (x : LogScan). scan_from x new.at (left_of (log_of c.logs member) new)) (is ∙ ap (λ (m : ℕ). scanned s m r) e)
+          ∙ ap (λ (m : ℕ). scan_from (scanned s old.at r) m (left_of (log_of c.logs member) new)) next.at_is
+          ∙ sym (ap (λ (l : List LogRecord). scan_from s old.at l) next.left_is)
+          ∙ held.1,
+    )
 
 pub scan_more : (a b e : Option Contents) (n k j member end : ℕ) (old new : HeadState) (s t : LogScan) (at : ℕ) (next : Option LogRecord) (r : LogRecord) → next ≡ Some r → at ≡ old.at → t ≡ scanned s at r
     → Reads a b n k (ScansOn member end old s) (Ok 0) → Reads b e k j (ComesIs member old new) (Ok next) → Reads a e n j (ScansOn member end new t) (Ok 0)
@@ -224,15 +235,15 @@ scan_ends a b e n k j member end old new s next none p q =
 pub record MeetsOn (member end : ℕ) (start : LogScan) (head : HeadState) (s : LogScan) (c : Contents) : Type 0 where
   pub of : IsOf (log_of c.logs member) head
   pub offsets : left_over s.offsets head.at (left_of (log_of c.logs member) head) ≡ left_over start.offsets 0 (records_to end (log_of c.logs member))
-  pub may_be : may_all_be_left (page_at c.pages) start.open start.start head.at (left_of (log_of c.logs member) head) ≡ true
-      → may_all_be_left (page_at c.pages) start.open start.start 0 (records_to end (log_of c.logs member)) ≡ true
+  pub may_be : may_all_be_left (page_at c.pages) start.changes start.start head.at (left_of (log_of c.logs member) head) ≡ true
+      → may_all_be_left (page_at c.pages) start.changes start.start 0 (records_to end (log_of c.logs member)) ≡ true
 
 abbrev pub Meets : ℕ → ℕ → LogScan → HeadState → LogScan → ℕ → Contents → Type 0
 Meets member end start head s n c = end ≤ length (log_of c.logs member) → MeetsOn member end start head s c
 
 -- what a meeting leaves as it was
 pub record StaysAs (start s : LogScan) : Type 0 where
-  pub open_is : s.open ≡ start.open
+  pub open_is : s.changes ≡ start.changes
   pub start_is : s.start ≡ start.start
   pub fits_is : s.fits ≡ start.fits
 
@@ -248,13 +259,19 @@ and_both true b h k = k
 and_both false b h k = h
 
 abbrev MayBe : LogScan → ℕ → LogRecord → Bool → Contents → Type 0
-MayBe s at r b c = b ≡ true → may_be_left (page_at c.pages) s.open s.start at r ≡ true
+MayBe s at r b c = b ≡ true → may_be_left (page_at c.pages) s.changes s.start at r ≡ true
 
-abbrev pub finite_remove : LogScan → ℕ → Places
+abbrev finite_remove : LogScan → ℕ → Places
 finite_remove s at = remove s.offsets at
 
+pub stays_more : (start s t : LogScan) (at : ℕ) → t ≡ met_at s at → StaysAs start s → StaysAs start t
+stays_more start s t at is h = subst (λ (x : LogScan). StaysAs start x) (sym is) (record { open_is = h.open_is; start_is = h.start_is; fits_is = h.fits_is })
+
+pub stays_first : (start : LogScan) → StaysAs start start
+stays_first start = record { open_is = refl; start_is = refl; fits_is = refl }
+
 meets_next : (member end : ℕ) (start : LogScan) (old new : HeadState) (s t : LogScan) (at : ℕ) (r : LogRecord) (c : Contents) → StaysAs start s → at ≡ old.at → t.offsets ≡ finite_remove s at
-    → MeetsOn member end start old s c → IsFollowed (log_of c.logs member) old new r → may_be_left (page_at c.pages) s.open s.start at r ≡ true → MeetsOn member end start new t c
+    → MeetsOn member end start old s c → IsFollowed (log_of c.logs member) old new r → may_be_left (page_at c.pages) s.changes s.start at r ≡ true → MeetsOn member end start new t c
 meets_next member end start old new s t at r c stays e step on next may =
     let log = log_of c.logs member in
     let images = page_at c.pages in
@@ -267,21 +284,43 @@ meets_next member end start old new s t at r c stays e step on next may =
           ∙ on.offsets;
       may_be = λ rest.
           on.may_be
-          (ap (λ (l : List LogRecord). may_all_be_left images start.open start.start old.at l) next.left_is
-          ∙ and_both (may_be_left images start.open start.start old.at r) _
-          (ap (λ (o : Open). may_be_left images o start.start old.at r) (sym stays.open_is) ∙ ap (λ (n : ℕ). may_be_left images s.open n old.at r) (sym stays.start_is) ∙ ap (λ (m : ℕ). may_be_left images s.open s.start m r) (sym e) ∙ may)
-          (ap (λ (m : ℕ). may_all_be_left images start.open start.start m (left_of log new)) (sym next.at_is) ∙ rest));
+          (ap (λ (l : List LogRecord). may_all_be_left images start.changes start.start old.at l) next.left_is
+          ∙ and_both (may_be_left images start.changes start.start old.at r) _
+          (ap (λ (o : Open). may_be_left images o start.start old.at r) (sym stays.open_is) ∙ ap (λ (n : ℕ). may_be_left images s.changes n old.at r) (sym stays.start_is) ∙ ap (λ (m : ℕ). may_be_left images s.changes s.start m r) (sym e) ∙ may)
+          (ap (λ (m : ℕ). may_all_be_left images start.changes start.start m (left_of log new)) (sym next.at_is) ∙ rest));
     }
 
 pub meet_more : (a b e f : Option Contents) (n k j i member end : ℕ) (start : LogScan) (old new : HeadState) (s t : LogScan) (at : ℕ) (next : Option LogRecord) (r : LogRecord) (may : Bool) → next ≡ Some r → may ≡ true
-    → StaysAs start s → at ≡ old.at → t.offsets ≡ finite_remove s at
+    → StaysAs start s → at ≡ old.at → t ≡ met_at s at
     → Reads a b n k (Meets member end start old s) (Ok 0) → Reads b e k j (ComesIs member old new) (Ok next) → Reads e f j i (MayBe s at r) (Ok may) → Reads a f n i (Meets member end start new t) (Ok 0)
 meet_more a b e f n k j i member end start old new s t at next r may some true_is stays is step p q w =
     let both : Reads a e n j (λ (m : ℕ) c. end ≤ length (log_of c.logs member) → MeetsOn member end start old s c × IsFollowed (log_of c.logs member) old new r) (Ok 0) =
     reads_on a b e n k j (Meets member end start old s) 0 (ComesIs member old new) next (λ (m : ℕ) c. end ≤ length (log_of c.logs member) → MeetsOn member end start old s c × IsFollowed (log_of c.logs member) old new r) 0 p q
     (λ c on comes le. (on le, subst (λ (o : Option LogRecord). Comes (log_of c.logs member) old new o) some (comes (on le).of))) in
     reads_on a e f n j i (λ (m : ℕ) c. end ≤ length (log_of c.logs member) → MeetsOn member end start old s c × IsFollowed (log_of c.logs member) old new r) 0 (MayBe s at r) may (Meets member end start new t) 0 both w
-    (λ c on may_be le. meets_next member end start old new s t at r c stays is step (on le).0 (on le).1 (may_be true_is))
+    (λ c on may_be le. meets_next member end start old new s t at r c stays is (ap (λ (x : LogScan). x.offsets) step) (on le).0 (on le).1 (may_be true_is))
+
+-- ---- one record
+
+read_again : (start at : ℕ) → start ≤ at → nat_lt at start ≡ false
+read_again start at le = grind (arith, nat_tests)
+
+pub left_again : (a : Option Contents) (n : ℕ) (s : LogScan) (at : ℕ) (r : LogRecord) → s.start ≤ at → Reads a a n n (MayBe s at r) (Ok true)
+left_again a n s at r le = reads_none a n (MayBe s at r) true (λ c kept. ap (λ (b : Bool). not b || list_all (is_met (page_at c.pages)) (needs_open s.changes r)) (read_again s.start at le))
+
+or_left : (a b : Bool) → b ≡ true → (not a || b) ≡ true
+or_left true b h = h
+or_left false b h = refl
+
+met_by : (images : Images) (needs : List Need) (found : Option PageId) → is_none found ≡ true → AreJudged images needs found → list_all (is_met images) needs ≡ true
+met_by images needs None e h = h
+met_by images needs (Some id) e h = absurd cc
+
+pub left_met : (a b : Option Contents) (n k : ℕ) (s : LogScan) (at : ℕ) (r : LogRecord) (needs : List Need) (found : Option PageId) (may : Bool) → needs ≡ needs_open s.changes r → may ≡ is_none found
+    → Reads a b n k (λ (found : Option PageId) c. AreJudged (page_at c.pages) needs found) (Ok found) → Reads a b n k (MayBe s at r) (Ok may)
+left_met a b n k s at r needs found may are is p =
+    reads_to a b n k (λ (found : Option PageId) c. AreJudged (page_at c.pages) needs found) found (MayBe s at r) may p
+    (λ c judged kept. or_left (nat_lt at s.start) _ (ap (λ (ns : List Need). list_all (is_met (page_at c.pages)) ns) (sym are) ∙ met_by (page_at c.pages) needs found (sym is ∙ kept) judged))
 
 abbrev pub MetIs : ℕ → ℕ → LogScan → LogScan → Bool → Contents → Type 0
 MetIs member end start s b c = b ≡ true → end ≤ length (log_of c.logs member) → AreMet (page_at c.pages) (log_of c.logs member) end start s
@@ -292,7 +331,7 @@ meets_last member end start old new s b c on comes kept le =
     let none = comes held.of in
     record {
       offsets_are = sym (ap (λ (l : List LogRecord). left_over s.offsets old.at l) none) ∙ held.offsets;
-      may_be = held.may_be (ap (λ (l : List LogRecord). may_all_be_left (page_at c.pages) start.open start.start old.at l) none);
+      may_be = held.may_be (ap (λ (l : List LogRecord). may_all_be_left (page_at c.pages) start.changes start.start old.at l) none);
     }
 
 pub meet_ends : (a b e : Option Contents) (n k j member end : ℕ) (start : LogScan) (old new : HeadState) (s : LogScan) (next : Option LogRecord) → next ≡ None
@@ -325,6 +364,25 @@ kept_of tells images log end old new scan met fits same le =
 
 abbrev pub KeptIs : ℕ → ℕ → Bool → Contents → Type 0
 KeptIs member end b c = b ≡ true → IsLogKept (page_at c.pages) (log_of c.logs member) end
+
+and_left : (a b : Bool) → (a && b) ≡ true → a ≡ true
+and_left true b h = refl
+and_left false b h = h
+
+and_right : (a b : Bool) → (a && b) ≡ true → b ≡ true
+and_right true b h = h
+and_right false b h = absurd cc
+
+no_length : (n : ℕ) → (n == 0) ≡ true → n ≡ 0
+no_length n h = grind (arith, nat_tests)
+
+pub fits_told : (s : LogScan) (left : List (ℕ × Bool)) (b : Bool) → left ≡ entries s.offsets → b ≡ (s.fits && (length left == 0)) → b ≡ true → Fits s
+fits_told s left b are is kept =
+    let both = sym is ∙ kept in
+    record {
+      behind = and_left s.fits _ both;
+      none = empty_of_len s.offsets (len-entries s.offsets ∙ ap length (sym are) ∙ no_length (length left) (and_right s.fits _ both));
+    }
 
 pub kept_told : ScanTells → (a b e : Option Contents) (n k j member end : ℕ) (old new : LogScan) (met kept : Bool) → met ≡ true → (kept ≡ true → Fits new) → new.fits ≡ old.fits
     → Reads a b n k (ScannedIs member end) (Ok old) → Reads b e k j (MetIs member end old new) (Ok met) → Reads a e n j (KeptIs member end) (Ok kept)
@@ -374,9 +432,10 @@ all_from : PartsAreWhole → AreRead → (images : Images) (member : ℕ) (bytes
 all_from parts read images member bytes [] h kept = tt
 all_from parts read images member [] (log ∷ logs) h kept = absurd h
 all_from parts read images member (b ∷ bytes) (log ∷ logs) h kept =
-    let are = records_are parts read member b log h.0 in
-    (subst (λ (rs : List LogRecord). IsCheckpointed images rs) are.1 (kept 0 (omega arith) are.0),
-    all_from parts read images (member + 1) bytes logs h.1 (λ k lt. kept (suc k) (omega (arith, lt))))
+    let are = records_are parts read member b log h.0 in (
+      subst (λ (rs : List LogRecord). IsCheckpointed images rs) are.1 (kept 0 (omega arith) are.0),
+      all_from parts read images (member + 1) bytes logs h.1 (λ k lt. kept (suc k) (omega (arith, lt))),
+    )
 
 length_map : {X Y : Type 0} (f : X → Y) (xs : List X) → length (map f xs) ≡ length xs
 length_map f [] = refl

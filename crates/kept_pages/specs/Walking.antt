@@ -51,7 +51,7 @@ IsScanned log end s = end ≤ length log → s ≡ scan_from nothing_scanned 0 (
 -- it began where the first scan ended, and met the places of the records; those that aren't read again may be left
 pub record AreMet (at : Images) (log : List ℕ) (end : ℕ) (old new : LogScan) : Type 0 where
   pub offsets_are : new.offsets ≡ left_over old.offsets 0 (records_to end log)
-  pub may_be : may_all_be_left at old.open old.start 0 (records_to end log) ≡ true
+  pub may_be : may_all_be_left at old.changes old.start 0 (records_to end log) ≡ true
 
 -- ---- both
 

@@ -84,7 +84,7 @@ fn may_be_left<D: Disk>(
     at: u64,
     it: &LogRecord,
 ) -> Result<bool, DiskError>
-    ensures { Reads (D.contents disk.old) (D.contents disk.new) (D.faults disk.old) (D.faults disk.new) (λ b c. b ≡ true → may_be_left (page_at c.pages) scan.now.open scan.now.start at it.now ≡ true) result }
+    ensures { Reads (D.contents disk.old) (D.contents disk.new) (D.faults disk.old) (D.faults disk.new) (λ b c. b ≡ true → may_be_left (page_at c.pages) scan.now.changes scan.now.start at it.now ≡ true) result }
 {
     if at >= scan.start {
         return Ok(true);

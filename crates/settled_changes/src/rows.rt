@@ -29,11 +29,7 @@ fn put_body(spots: &mut SpotMap<bool>, body: &Body) -> Result<(), NoMemory>
 }
 
 // Takes in a record, where its transaction has a Commit.
-fn put_record(
-    marks: &Marks,
-    spots: &mut SpotMap<bool>,
-    it: &LogRecord,
-) -> Result<(), NoMemory>
+fn put_record(marks: &Marks, spots: &mut SpotMap<bool>, it: &LogRecord) -> Result<(), NoMemory>
     ensures { OnOk result (spots.new ≡ (if is_committed_by marks.now it.now.tran then with_body spots.old it.now.body else spots.old)) }
 {
     if marks.is_committed(it.tran) {
@@ -43,11 +39,7 @@ fn put_record(
     }
 }
 
-fn spots_of(
-    alloc: Global,
-    marks: &Marks,
-    records: &[LogRecord],
-) -> Result<SpotMap<bool>, NoMemory>
+fn spots_of(alloc: Global, marks: &Marks, records: &[LogRecord]) -> Result<SpotMap<bool>, NoMemory>
     ensures { IfOk result (λ spots. spots ≡ spots_from (is_committed_by marks.now) finite.empty records.now) }
 {
     let mut spots = SpotMap::new(alloc);

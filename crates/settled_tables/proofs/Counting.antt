@@ -5,6 +5,7 @@ use Rattle.std.specs.List.{list_any, AllByRecursion, sum_by}
 use Rattle.std.specs.List.Sorted.{IsPermutation}
 use Rattle.std.proofs.lemmas.Bool.Decides.{nat_tests}
 use Rattle.std.proofs.lemmas.List.Elements.{filter_agree}
+use Rattle.std.proofs.lemmas.List.Sums.{sum_by-cons}
 use Rattle.std.proofs.lemmas.List.Sorted.{list_any-IsPermutation, sum_by-IsPermutation}
 use Rattle.ds_base.specs.Ids.{IsTable}
 use Rattle.ds_model.specs.declared.log.LogRecord.{LogRecord}
@@ -206,15 +207,15 @@ count_when false r l = omega arith
 
 counted : (p : LogRecord → Bool) (rs : List LogRecord) → length (filter p rs) ≡ sum_by (one_if p) rs
 counted p [] = refl
-counted p (r ∷ rs) = count_when (p r) r (filter p rs) ∙ ap (λ (n : ℕ). one_if p r + n) (counted p rs)
+counted p (r ∷ rs) = count_when (p r) r (filter p rs) ∙ ap (λ (n : ℕ). one_if p r + n) (counted p rs) ∙ sym (sum_by-cons (one_if p) r rs)
 
 sum_when : (p : LogRecord → Bool) (b : Bool) (r : LogRecord) (l : List LogRecord) (n : ℕ) → sum_by (one_if p) l ≡ n → (b ≡ false → p r ≡ false) → sum_by (one_if p) (cond b (r ∷ l) l) ≡ one_if p r + n
-sum_when p true r l n h k = ap (λ (m : ℕ). one_if p r + m) h
+sum_when p true r l n h k = sum_by-cons (one_if p) r l ∙ ap (λ (m : ℕ). one_if p r + m) h
 sum_when p false r l n h k = let zero_more : n ≡ 0 + n = omega arith in h ∙ zero_more ∙ ap (λ (b : Bool). cond b 1 0 + n) (sym (k refl))
 
 sum_kept : (p : LogRecord → Bool) → IsOfMerged p → (rs : List LogRecord) → sum_by (one_if p) (kept rs) ≡ sum_by (one_if p) rs
 sum_kept p h [] = refl
-sum_kept p h (r ∷ rs) = sum_when p (is_merged r.body) r (kept rs) (sum_by (one_if p) rs) (sum_kept p h rs) (h r)
+sum_kept p h (r ∷ rs) = sum_when p (is_merged r.body) r (kept rs) (sum_by (one_if p) rs) (sum_kept p h rs) (h r) ∙ sym (sum_by-cons (one_if p) r rs)
 
 count_in_order : KeepsAll → (p : LogRecord → Bool) → IsOfMerged p → (rs : List LogRecord) → length (filter p rs) ≡ length (filter p (in_order rs))
 count_in_order keeps p h rs =

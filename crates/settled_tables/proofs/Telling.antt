@@ -1,20 +1,20 @@
 -- What the tables tell together.
-use Rattle.std.proofs.Common.{◌≡◌, ℕ, ◌+◌, ◌-◌, ◌*◌, ◌^◌, ◌<◌, ◌≤◌, Bool, true, false, cond, List, [], ◌∷◌, ◌++◌, length, map, Result, Ok, Err, IfOk, OnOk, refl, sym, ap, subst, ◌∙◌, arith}
+use Rattle.std.proofs.Common.{◌≡◌, ℕ, suc, ◌+◌, ◌-◌, ◌*◌, ◌^◌, ◌<◌, ◌≤◌, Bool, true, false, cond, List, [], ◌∷◌, ◌++◌, length, map, Result, Ok, Err, IfOk, OnOk, refl, sym, ap, subst, ◌∙◌, arith}
 use Rattle.std.specs.Prelude.{◌==◌, not, ◌||◌, ◌&&◌, filter, is_none}
 use Rattle.std.specs.List.{list_any, flat_map, AllByRecursion}
 use Rattle.std.specs.FinMap as finite
 use Rattle.std.specs.FinMap.{len-entries}
 use Rattle.std.proofs.lemmas.Bool.Decides.{nat_tests}
-use Rattle.std.proofs.lemmas.List.{length-map}
 use Rattle.std.proofs.lemmas.List.Elements.{filter_agree}
 use Rattle.std.proofs.lemmas.List.Folds.{list_any-append}
 use Rattle.ds_base.specs.Ids.{IsTable, IsLrsn}
+use Rattle.ds_base.specs.declared.row.Row.{Row}
 use Rattle.ds_base.specs.Pages.{heap_set, index_set}
 use Rattle.ds_model.specs.declared.log.LogRecord.{LogRecord}
 use Rattle.ds_model.specs.declared.log.Version.{Version}
 use Rattle.ds_model.specs.declared.log.Body.{Body}
 use Rattle.ds_model.specs.declared.log.Body.TheVariants as body
-use Rattle.ds_model.specs.Rows.{Rows, listed}
+use Rattle.ds_model.specs.Rows.{Spot, Rows, listed}
 use Rattle.ds_model.specs.Logs.{is_commit, has_commit, by_lrsn, after_body, after_records, rows_of_records, rows_of_logs}
 use Rattle.ds_model.specs.RecordBytes.{IsAllowed, BodyIsAllowed}
 use Rattle.log_record.specs.declared.log.Log.{Log}
@@ -134,10 +134,11 @@ Same t p q rs = AllByRecursion (λ (r : LogRecord). changes_row_of t r.body ≡ 
 
 same_from : (t : ℕ) (all e rs : List LogRecord) → e ++ rs ≡ all → are_early e rs ≡ true → Same t (has_commit all) (has_commit (own t all)) rs
 same_from t all e [] is h = tt
-same_from t all e (r ∷ rs) is h =
-    ((λ row. subst (λ (l : List LogRecord). has_commit l r.tran ≡ has_commit (own t l) r.tran) is
-    (same_commit t e r rs row (not_both (is_row_change r.body) (has_commit e r.tran) (row_is_change t r.body row).0 (and_left (is_early e r) _ h)))),
-    same_from t all (e ++ r ∷ []) rs (joined e r rs ∙ is) (and_right (is_early e r) _ h))
+same_from t all e (r ∷ rs) is h = (
+  (λ row. subst (λ (l : List LogRecord). has_commit l r.tran ≡ has_commit (own t l) r.tran) is
+      (same_commit t e r rs row (not_both (is_row_change r.body) (has_commit e r.tran) (row_is_change t r.body row).0 (and_left (is_early e r) _ h)))),
+  same_from t all (e ++ r ∷ []) rs (joined e r rs ∙ is) (and_right (is_early e r) _ h),
+)
 
 -- ---- the rows of a table
 
@@ -234,8 +235,15 @@ rows_merged keeps rs =
     ∙ sym (rows_kept (has_commit (in_order rs)) no_rows (by_lrsn rs))
     ∙ ap (λ (l : List LogRecord). after_records no_rows (chosen (has_commit (in_order rs)) l)) (sym (merged_is rs))
 
+mapped : {X Y : Type 0} (f : X → Y) (xs : List X) → length (map f xs) ≡ length xs
+mapped f [] = refl
+mapped f (x ∷ xs) = ap (λ (n : ℕ). suc n) (mapped f xs)
+
+abbrev row_of_entry : Spot × List ℕ → Row
+row_of_entry e = record { table = e.0.0; key = e.0.1; value = e.1 }
+
 listed_len : (rows : Rows) → length (listed rows) ≡ finite.len rows
-listed_len rows = length-map _ (finite.entries rows) ∙ sym (len-entries rows)
+listed_len rows = mapped (λ (e : Spot × List ℕ). row_of_entry e) (finite.entries rows) ∙ sym (len-entries rows)
 
 -- ---- laws
 
