@@ -511,7 +511,7 @@ goes_leaves s walked lists member now r p some lt on is = record {
           omega (arith, one, same),
           omega (arith, le, same),
           trans_when (closes r.body) s.trans r.tran (gone_on (get s.trans r.tran) member r) t
-          ∙ none_closed (r.tran == t) (closes r.body) (gone_on (get s.trans r.tran) member r) (get s.trans t) it (commit_closes r.body h.0),
+              ∙ none_closed (r.tran == t) (closes r.body) (gone_on (get s.trans r.tran) member r) (get s.trans t) it (commit_closes r.body h.0),
         )
 
 leaves_by : (z : Bool) (s : Passing) (walked : List LogRecord) (lists : List (List LogRecord)) (member now : ℕ) (r : LogRecord) → (r.tran == 0) ≡ z → now ≡ cond (is_drawn r.body) r.lrsn s.last → ArePassed s walked lists → 1 ≤ member
