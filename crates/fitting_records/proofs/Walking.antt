@@ -1,6 +1,6 @@
 -- Records of all logs that are passed one after the other.
 use Rattle.std.proofs.Common.{◌≡◌, ℕ, zero, suc, ◌+◌, ◌-◌, ◌<◌, ◌≤◌, Bool, true, false, List, [], ◌∷◌, ◌++◌, length, get_or, set, Option, Some, None, refl, sym, ap, subst, ◌∙◌, arith, append_assoc}
-use Rattle.std.specs.Prelude.{◌||◌, not}
+use Rattle.std.specs.Prelude.{◌||◌}
 use Rattle.std.specs.List.{list_any, AllByRecursion}
 use Rattle.std.proofs.lemmas.List.{append-nil}
 use Rattle.std.proofs.lemmas.List.Folds.{list_any-append}
@@ -167,7 +167,3 @@ walk_ends a b start old now w n far same came is =
     let next_is = goes so_far.stand in
     far_end c.logs start old w so_far (subst (λ (m : Next). IsNextOfAll (left c.logs old) m (left c.logs now)) is next_is.1))
     far (told_before a b (NextOf old now n) same came)
-
-pub not_false : (b : Bool) → not b ≡ false → b ≡ true
-not_false true h = refl
-not_false false h = absurd cc

@@ -23,11 +23,11 @@ use Rattle.sound_disk.specs.Whole_logs.{IsWholeLog, AreWholeLogs}
 use Rattle.sound_disk.specs.Versions.{merged}
 use Rattle.disk_logs.specs.Ends.{lengths_of, AreWholeTo}
 use Rattle.disk_walk.specs.Walks.{IsUpTo, AreUpTo, Begins, Stand}
-use Rattle.disk_walk.proofs.Reading.{told_before, told_by_both, if_some_is}
+use Rattle.disk_walk.proofs.Reading.{told_before, told_all, told_by_both, if_some_is}
 use Rattle.fitting_records.specs.declared.walked.Walked.{Walked}
 use Rattle.fitting_records.specs.Passed as passing
 use Rattle.fitting_records.specs.Passed.{all_of, PassedAreTransactions}
-use Rattle.fitting_records.specs.Walked.{IsWalked}
+use Rattle.fitting_records.specs.Walked.{is_noted, IsWalked}
 use Rattle.kept_pages.specs.Walking.{AreAllKept}
 use Rattle.table_records.specs.Own.{concerns, own}
 use Rattle.table_check.specs.Right.{IsTableFound, AreRightTables}
@@ -51,9 +51,12 @@ walked_to c ends start w begin is = λ lists all.
 
 -- ---- tables
 
-pub tells_none : NoneAreRight → (a : Option Contents) (ends : List ℕ) (tables : List Bool) (behind : ℕ) (all : TableSums) → ((c : Contents) → TellsUpTo ends tables behind 0 all c) → WhenTold a (TellsUpTo ends tables behind 0 all)
-tells_none law None ends tables behind all h = tt
-tells_none law (Some c) ends tables behind all h = h c
+pub tells_none : NoneAreRight → (a : Option Contents) (ends : List ℕ) (tables : List Bool) (behind : ℕ) (all : TableSums) → all.pages ≡ 0 → ((records : List LogRecord) → AreTold 0 records all.sums) → WhenTold a (TellsUpTo ends tables behind 0 all)
+tells_none law a ends tables behind all none told =
+    told_all a (TellsUpTo ends tables behind 0 all) (λ c lists records are same noted. record {
+      right = subst (λ (p : ℕ). AreRightTables (page_at c.pages) records false behind 0 p) (sym none) (law (page_at c.pages) records false behind);
+      told = told records;
+    })
 
 -- one table more
 pub tells_one : OneMoreIsRight → (c : Contents) (ends : List ℕ) (table : ℕ) (noted : Bool) (behind pages : ℕ) (old new : TableSums) (own_records : List LogRecord) → IsOwnOf table noted ends own_records c → IsTableFound (page_at c.pages) own_records false behind table (Some pages)
@@ -67,6 +70,29 @@ tells_one law c ends table noted behind pages old new own_records its found sum 
       right = subst (λ (p : ℕ). AreRightTables (page_at c.pages) records false behind (n + 1) p) (sym sum) (law (page_at c.pages) records false behind n old.pages pages before.right here);
       told = adds n records before.told own_is;
     }
+
+pub next_told : {V : Type 0} (items : V → List LogRecord) → OneMoreIsRight → (a b : Option Contents) (ends : List ℕ) (table : ℕ) (noted : Bool) (behind pages : ℕ) (old new : TableSums) (found : Option V) (v : V) (own_records : List LogRecord)
+    (counted : Option ℕ) (held : Bool) → found ≡ Some v → own_records ≡ items v → counted ≡ Some pages → new.pages ≡ old.pages + pages
+    → (held ≡ true → (tables : ℕ) (all : List LogRecord) → AreTold tables all old.sums → own_records ≡ own (tables + 1) all → AreTold (tables + 1) all new.sums) → WhenTold a (λ (c : Contents). IfSome found (λ x. IsOwnOf table noted ends (items x) c))
+    → Becomes a b Same → WhenTold b (λ (c : Contents). IsTableFound (page_at c.pages) own_records false behind table counted) → WhenTold a (λ (c : Contents). held ≡ true → TellsNext ends table noted behind old new c)
+next_told {V = V} items law a b ends table noted behind pages old new found v own_records counted held found_is items_are counted_is sum adds p same q =
+    told_by_both a (λ (c : Contents). IfSome found (λ (x : V). IsOwnOf table noted ends (items x) c)) (λ (c : Contents). IsTableFound (page_at c.pages) own_records false behind table counted)
+    (λ (c : Contents). held ≡ true → TellsNext ends table noted behind old new c)
+    (λ c its whole holds.
+    tells_one law c ends table noted behind pages old new own_records
+    (subst (λ (rs : List LogRecord). IsOwnOf table noted ends rs c) (sym items_are) (if_some_is found v (λ (x : V). IsOwnOf table noted ends (items x) c) found_is its))
+    (subst (λ (n : Option ℕ). IsTableFound (page_at c.pages) own_records false behind table n) counted_is whole) sum (adds holds))
+    p (told_before a b (λ (c : Contents). IsTableFound (page_at c.pages) own_records false behind table counted) same q)
+
+pub tells_more : (a b : Option Contents) (ends : List ℕ) (tables : List Bool) (behind n table : ℕ) (noted held : Bool) (old new : TableSums) → n < 64 → table ≡ n + 1 → noted ≡ is_noted tables n → held ≡ true → WhenTold a (TellsUpTo ends tables behind n old)
+    → Becomes a b Same → WhenTold b (λ (c : Contents). held ≡ true → TellsNext ends table noted behind old new c) → WhenTold a (TellsUpTo ends tables behind (n + 1) new)
+tells_more a b ends tables behind n table noted held old new lt is noted_is holds before same next =
+    told_by_both a (TellsUpTo ends tables behind n old) (λ (c : Contents). held ≡ true → TellsNext ends table noted behind old new c) (TellsUpTo ends tables behind (n + 1) new)
+    (λ c first one lists records all alike notes. one holds lists records n all alike is (noted_is ∙ notes n lt) (first lists records all alike notes)) before
+    (told_before a b (λ (c : Contents). held ≡ true → TellsNext ends table noted behind old new c) same next)
+
+pub tells_all : (a : Option Contents) (ends : List ℕ) (tables : List Bool) (behind n : ℕ) (all : TableSums) → n ≡ 64 → WhenTold a (TellsUpTo ends tables behind n all) → WhenTold a (TellsAll ends tables behind all)
+tells_all a ends tables behind n all is told = subst (λ (k : ℕ). WhenTold a (TellsUpTo ends tables behind k all)) is told
 
 -- ---- the logs
 
@@ -192,8 +218,9 @@ sound_told fit merge tell turn number row merged_is own_is a b d ends behind w s
     (numbers.0 over) (kept so)) p (told_before a b S ab q))
     (told_before a b K ab (told_before b d K bd k))
 
-pub found_told : (a b : Option Contents) (behind : ℕ) (ends : List ℕ) (found : Option (List ℕ)) (IsR : Contents → Type 0) → found ≡ Some ends → WhenTold a (λ (c : Contents). IfSome found (λ es. AreWholeTo c.logs es)) → Becomes a b Same
-    → WhenTold b (λ (c : Contents). AreWholeTo c.logs ends → IsR c) → WhenTold a IsR
-found_told a b behind ends found IsR is p same q =
-    told_by_both a (λ (c : Contents). IfSome found (λ es. AreWholeTo c.logs es)) (λ (c : Contents). AreWholeTo c.logs ends → IsR c) IsR (λ c whole f. f (if_some_is found ends (λ es. AreWholeTo c.logs es) is whole)) p
+pub found_told : {V : Type 0} (items : V → List ℕ) → (a b : Option Contents) (ends : List ℕ) (found : Option V) (v : V) (IsR : Contents → Type 0) → found ≡ Some v → ends ≡ items v → WhenTold a (λ (c : Contents). IfSome found (λ es. AreWholeTo c.logs (items es)))
+    → Becomes a b Same → WhenTold b (λ (c : Contents). AreWholeTo c.logs ends → IsR c) → WhenTold a IsR
+found_told {V = V} items a b ends found v IsR is are p same q =
+    told_by_both a (λ (c : Contents). IfSome found (λ (es : V). AreWholeTo c.logs (items es))) (λ (c : Contents). AreWholeTo c.logs ends → IsR c) IsR
+    (λ c whole f. f (subst (AreWholeTo c.logs) (sym are) (if_some_is found v (λ (es : V). AreWholeTo c.logs (items es)) is whole))) p
     (told_before a b (λ (c : Contents). AreWholeTo c.logs ends → IsR c) same q)

@@ -1,6 +1,6 @@
-use Rattle.std.proofs.Common.{◌≡◌, ◌≤◌, Bool, true, ◌∙◌, refl, arith}
+use Rattle.std.proofs.Common.{◌≡◌, ◌≤◌, ◌∙◌, refl, arith}
 use Rattle.disk_walk.proofs.Reading.{same_self, same_on}
-use Rattle.fitting_records.proofs.Walking.{walk_starts, walk_goes, walk_ends, not_false}
+use Rattle.fitting_records.proofs.Walking.{walk_starts, walk_goes, walk_ends}
 use Rattle.fitting_records.proofs.walked.pass_logs.Goals as goal
 
 pub loop-init : goal.loop-init
@@ -33,8 +33,7 @@ loop-preserved g c =
     let read = c.in_ok-member.ensures.next in
     let first = held.later in
     let second = read.later in
-    let taken : c.in_ok-take-in-Record.field-0 ≡ true = not_false c.in_ok-take-in-Record.field-0 c.if-not-branch.false in
-    let on = c.in_ok-take-in-Record.ensures taken in
+    let on = c.in_ok-take-in-Record.ensures c.if-not-branch.false in
     record {
       told =
           walk_goes c.passing_laws.ensures.one (g.D.Disk.contents c.args.disk.now) (g.D.Disk.contents c.loop.disk) c.args.heads.now.heads c.loop.heads.heads c.next_of_all.new.heads.heads c.loop.walked c.take.new.self c.in_ok-member.field-0
