@@ -181,6 +181,9 @@ ScansOn member end head s n c = end ≤ length (log_of c.logs member) → IsOf (
 abbrev pub head_from : ℕ → HeadState
 head_from end = record { at = 0; hand = []; end = end }
 
+start_left : (log : List ℕ) (end : ℕ) → left_of log (head_from end) ≡ records_to end log
+start_left log end = let same : end - 0 ≡ end = omega arith in ap (λ (n : ℕ). whole_records (take n log)) same
+
 of_start : (log : List ℕ) (end : ℕ) → end ≤ length log → IsOf log (head_from end)
 of_start log end le = record { within = le; fits = omega arith; told = refl }
 
@@ -193,7 +196,8 @@ sound_start end head e = subst IsSound (sym e) (record { within = omega arith; b
 scans_first : (member end : ℕ) (head : HeadState) (s : LogScan) (n : ℕ) (c : Contents) → head ≡ head_from end → s ≡ nothing_scanned → ScansOn member end head s n c
 scans_first member end head s n c e is le =
     subst (λ (h : HeadState). IsOf (log_of c.logs member) h × (scan_from s h.at (left_of (log_of c.logs member) h) ≡ scan_from nothing_scanned 0 (records_to end (log_of c.logs member)))) (sym e)
-    (of_start (log_of c.logs member) end le, ap (λ (x : LogScan). scan_from x 0 (records_to end (log_of c.logs member))) is)
+    (of_start (log_of c.logs member) end le,
+    ap (λ (x : LogScan). scan_from x 0 (left_of (log_of c.logs member) (head_from end))) is ∙ ap (λ (l : List LogRecord). scan_from nothing_scanned 0 l) (start_left (log_of c.logs member) end))
 
 pub scan_starts : (a : Option Contents) (k member end : ℕ) (head : HeadState) (s : LogScan) → head ≡ head_from end → s ≡ nothing_scanned → Reads a a k k (ScansOn member end head s) (Ok 0)
 scan_starts a k member end head s e is = reads_none a k (ScansOn member end head s) 0 (λ c. scans_first member end head s 0 c e is)
@@ -249,7 +253,12 @@ pub record StaysAs (start s : LogScan) : Type 0 where
 
 meets_first : (member end : ℕ) (start : LogScan) (head : HeadState) (c : Contents) → head ≡ head_from end → Meets member end start head start 0 c
 meets_first member end start head c e le =
-    subst (λ (h : HeadState). MeetsOn member end start h start c) (sym e) (record { of = of_start (log_of c.logs member) end le; offsets = refl; may_be = λ h. h })
+    let log = log_of c.logs member in
+    subst (λ (h : HeadState). MeetsOn member end start h start c) (sym e) (record {
+      of = of_start log end le;
+      offsets = ap (λ (l : List LogRecord). left_over start.offsets 0 l) (start_left log end);
+      may_be = λ h. ap (λ (l : List LogRecord). may_all_be_left (page_at c.pages) start.changes start.start 0 l) (sym (start_left log end)) ∙ h;
+    })
 
 pub meet_starts : (a : Option Contents) (k member end : ℕ) (start : LogScan) (head : HeadState) → head ≡ head_from end → Reads a a k k (Meets member end start head start) (Ok 0)
 meet_starts a k member end start head e = reads_none a k (Meets member end start head start) 0 (λ c. meets_first member end start head c e)
@@ -365,24 +374,15 @@ kept_of tells images log end old new scan met fits same le =
 abbrev pub KeptIs : ℕ → ℕ → Bool → Contents → Type 0
 KeptIs member end b c = b ≡ true → IsLogKept (page_at c.pages) (log_of c.logs member) end
 
-and_left : (a b : Bool) → (a && b) ≡ true → a ≡ true
-and_left true b h = refl
-and_left false b h = h
-
-and_right : (a b : Bool) → (a && b) ≡ true → b ≡ true
-and_right true b h = h
-and_right false b h = absurd cc
-
 no_length : (n : ℕ) → (n == 0) ≡ true → n ≡ 0
 no_length n h = grind (arith, nat_tests)
 
-pub fits_told : (s : LogScan) (left : List (ℕ × Bool)) (b : Bool) → left ≡ entries s.offsets → b ≡ (s.fits && (length left == 0)) → b ≡ true → Fits s
-fits_told s left b are is kept =
-    let both = sym is ∙ kept in
-    record {
-      behind = and_left s.fits _ both;
-      none = empty_of_len s.offsets (len-entries s.offsets ∙ ap length (sym are) ∙ no_length (length left) (and_right s.fits _ both));
-    }
+pub none_told : (offsets : Places) (left : List (ℕ × Bool)) (b : Bool) → left ≡ entries offsets → b ≡ (length left == 0) → b ≡ true → offsets ≡ empty
+none_told offsets left b are is kept = empty_of_len offsets (len-entries offsets ∙ ap length (sym are) ∙ no_length (length left) (sym is ∙ kept))
+
+pub fits_told : {E : Type 0} (s : LogScan) (result : Result Bool E) → s.fits ≡ true → IfOk result (λ b. b ≡ true → s.offsets ≡ empty) → IfOk result (λ b. b ≡ true → Fits s)
+fits_told s (Ok b) fits h = λ kept. record { behind = fits; none = h kept }
+fits_told s (Err e) fits h = tt
 
 pub kept_told : ScanTells → (a b e : Option Contents) (n k j member end : ℕ) (old new : LogScan) (met kept : Bool) → met ≡ true → (kept ≡ true → Fits new) → new.fits ≡ old.fits
     → Reads a b n k (ScannedIs member end) (Ok old) → Reads b e k j (MetIs member end old new) (Ok met) → Reads a e n j (KeptIs member end) (Ok kept)

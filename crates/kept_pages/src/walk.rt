@@ -1,6 +1,7 @@
 //! Whether a disk keeps what its logs aren't read for again, by reading each log twice and record by record.
 
 ghost use Rattle.std.specs.Prelude.{◌≡◌, ◌<◌, ◌≤◌, ◌^◌, ℕ, true, length, IfOk, IfSome};
+ghost use Rattle.std.specs.FinMap as finite;
 ghost use Rattle.ds_disk.specs.Contents.{log_of};
 ghost use Rattle.ds_disk.specs.Pages.{page_at};
 ghost use Rattle.log_head.specs.Heads.{IsOf};
@@ -16,6 +17,7 @@ use ds_disk::{Disk, DiskError};
 use ds_model::LogRecord;
 use kept_checkpoints::{LogScan, scan_laws};
 use log_head::{Head, whole_laws};
+use number_map::NumberMap;
 use page_format::Page;
 use sound_disk::log_laws;
 use std::alloc::Global;
@@ -115,7 +117,8 @@ fn meet_log<D: Disk>(
         match next_in(alloc, disk, member, &mut head, block)? {
             None => return Ok(true),
             Some(it) => {
-                if !may_be_left(alloc, disk, &mut page, scan, at, &it)? {
+                let may = may_be_left(alloc, disk, &mut page, scan, at, &it)?;
+                if !may {
                     return Ok(false);
                 }
                 scan.meet(at);
@@ -126,13 +129,23 @@ fn meet_log<D: Disk>(
     Err(DiskError::NoMemory)
 }
 
+// Whether nothing is left.
+fn is_none(alloc: Global, offsets: NumberMap<bool>) -> Result<bool, NoMemory>
+    ensures { IfOk result (λ b. b ≡ true → offsets ≡ finite.empty) }
+{
+    let left = offsets.into_list(alloc)?;
+    Ok(left.is_empty())
+}
+
 // Whether a log was found so: no offset is behind its Checkpoint, and at each a record was met.
 fn fits(alloc: Global, scan: LogScan) -> Result<bool, NoMemory>
     ensures { IfOk result (λ b. b ≡ true → Fits scan) }
 {
     let LogScan { fits, offsets, .. } = scan;
-    let left = offsets.into_list(alloc)?;
-    Ok(fits && left.is_empty())
+    if !fits {
+        return Ok(false);
+    }
+    is_none(alloc, offsets)
 }
 
 // Whether the seventh clause of a sound disk holds for the member's log, whose whole records end at this byte.
@@ -149,10 +162,19 @@ fn is_kept<D: Disk>(
 {
     scan_laws();
     let mut scan = scan_log(alloc, disk, member, end, block)?;
-    if !meet_log(alloc, disk, member, end, &mut scan, block)? {
+    let met = meet_log(alloc, disk, member, end, &mut scan, block)?;
+    if !met {
         return Ok(false);
     }
-    Ok(fits(alloc, scan)?)
+    let kept = fits(alloc, scan)?;
+    Ok(kept)
+}
+
+fn block_of(alloc: Global) -> Result<Vec<u8>, NoMemory>
+    ensures some { IfOk result (λ block. 1 ≤ length block.items) }
+    ensures fits { IfOk result (λ block. length block.items < 2 ^ 32) }
+{
+    Ok(vec![in alloc; 0u8; BLOCK]?)
 }
 
 /// Whether the seventh clause of a sound disk holds, whose logs' whole records end at these bytes. Each log is read twice by
@@ -166,12 +188,13 @@ pub fn are_kept<D: Disk>(alloc: Global, disk: &mut D, ends: &[u64]) -> Result<bo
 {
     whole_laws();
     log_laws();
-    let mut block = vec![in alloc; 0u8; BLOCK]?;
+    let mut block = block_of(alloc)?;
     for index in 0..32usize {
         let Some(member) = MemberId::new(index as u64 + 1) else {
             unreachable!()
         };
-        if !is_kept(alloc, disk, member, ends[index], &mut block)? {
+        let kept = is_kept(alloc, disk, member, ends[index], &mut block)?;
+        if !kept {
             return Ok(false);
         }
     }

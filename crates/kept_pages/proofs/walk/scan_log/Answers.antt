@@ -6,7 +6,7 @@ loop-init g c = (scan_starts _ _ c.args.member c.args.end c.new-head.result c.ne
 
 pub loop-preserved : goal.loop-preserved
 loop-preserved g c = (
-  scan_more _ _ _ _ _ _ c.args.member c.args.end c.loop.head c.next_in.new.head c.loop.scan c.enter.new.self c.at.result c.in_ok-next_in.field-0 c.in-Some.it c.in-Some.is c.at.ensures c.in_ok-enter.ensures c.loop.invariant.0 c.in_ok-next_in.ensures.next,
+  scan_more _ _ _ _ _ _ c.args.member c.args.end c.loop.head c.next_in.new.head c.loop.scan c.enter.new.self c.at-at.result c.in_ok-next_in.field-0 c.in-Some.it c.in-Some.is c.at-at.ensures c.in_ok-enter-in-Some.ensures c.loop.invariant.0 c.in_ok-next_in.ensures.next,
   sound_some c.next_in.new.head c.in_ok-next_in.field-0 c.in-Some.it c.in-Some.is c.in_ok-next_in.ensures.sound,
 )
 
