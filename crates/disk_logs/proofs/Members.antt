@@ -43,7 +43,7 @@ whole_more m (b ∷ front) (l ∷ whole) bytes log h k =
     let e : m + suc (length front) ≡ m + 1 + length front = omega arith in
     (h.0, whole_more (m + 1) front whole bytes log h.1 (subst (λ (n : ℕ). IsWholeLog n bytes log) e k))
 
-more_in : (logs : List (List ℕ)) (i : ℕ) (whole : List Log) (log : Log) → length logs ≡ 32 → i < 32 → AreWholeLogs 1 (take i logs) whole → IsWholeLog (i + 1) (log_of logs (i + 1)) log
+pub more_in : (logs : List (List ℕ)) (i : ℕ) (whole : List Log) (log : Log) → length logs ≡ 32 → i < 32 → AreWholeLogs 1 (take i logs) whole → IsWholeLog (i + 1) (log_of logs (i + 1)) log
     → AreWholeLogs 1 (take (i + 1) logs) (whole ++ log ∷ [])
 more_in logs i whole log long lt h k =
     let count : length (take i logs) ≡ i = length-take-le i logs (omega (arith, long, lt)) in
@@ -65,7 +65,7 @@ broken_in logs i at whole long lt h off = record {
 
 -- ---- of a disk that tells what it holds
 
-abbrev Has32 : Option Contents → Type 0
+abbrev pub Has32 : Option Contents → Type 0
 Has32 start = (c : Contents) → start ≡ Some c → length c.logs ≡ 32
 
 pub none_read : (start : Option Contents) → WhenTold start (λ (c : Contents). AreWholeLogs 1 (take 0 c.logs) [])

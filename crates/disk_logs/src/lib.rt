@@ -2,11 +2,13 @@
 //! one; and their records as one list.
 #![tactic(auto)]
 
+mod ends;
 mod laws;
 mod log;
 mod logs;
 mod merged;
 
+pub use ends::find_ends;
 pub use laws::broken_laws;
 pub use log::{Looked, whole_log};
 pub use logs::{Found, LogList, read_logs};

@@ -20,7 +20,8 @@ pub enum Found {
     Broken { member: MemberId, at: u64 },
 }
 
-fn zeros(alloc: Global, count: usize) -> Result<Vec<u8>, NoMemory>
+// So many zeros.
+pub fn zeros(alloc: Global, count: usize) -> Result<Vec<u8>, NoMemory>
     ensures { IfOk result (λ zeros. length zeros.items ≡ count) }
 {
     Ok(vec![in alloc; 0u8; count]?)

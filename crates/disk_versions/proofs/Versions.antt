@@ -66,7 +66,7 @@ by_reading at records behind sets id P f g =
 
 -- ---- what is told
 
-all_told : IsKnown → (at : Images) (logs : List Log) (behind pages : ℕ) → AreInSets at (merged logs) (must_renew logs) behind page_sets pages → AreAllPlaced at logs behind pages
+pub all_told : IsKnown → (at : Images) (logs : List Log) (behind pages : ℕ) → AreInSets at (merged logs) (must_renew logs) behind page_sets pages → AreAllPlaced at logs behind pages
 all_told k at logs behind pages h = record {
   versions = λ rest id.
       by_reading at (merged logs) behind page_sets id (MayStand logs id (at id))

@@ -7,7 +7,7 @@ use Rattle.page_images.specs.Images.{Images, zeros}
 use Rattle.restart_plan.specs.Renewal.{must_renew}
 use Rattle.sound_disk.specs.Versions.{merged, MayStand, AreVersions}
 use Rattle.disk_versions.specs.Ends.{IsRead}
-use Rattle.disk_versions.specs.Placing.{written_through}
+use Rattle.disk_versions.specs.Placing.{written_through, AreInSets}
 use Rattle.disk_versions.specs.declared.set.Placing.{Placing}
 use Rattle.disk_versions.specs.declared.set.Placing.TheVariants as placing
 
@@ -45,3 +45,7 @@ IsTold at logs behind (placing.Unplaced id) = IsFirstUnplaced at logs behind id
 -- the same of the logs of which these are the merged records, and whose pages are still to be renewed, or not
 abbrev pub AreToldBy : Images → List LogRecord → Bool → ℕ → Placing → Type 0
 AreToldBy at records renews behind found = (logs : List Log) → records ≡ merged logs → renews ≡ must_renew logs → IsTold at logs behind found
+
+-- where each page that is read may stand there by the merged records, so it is told of their logs
+abbrev pub SetsTell : Type 0
+SetsTell = (at : Images) (logs : List Log) (behind pages : ℕ) → AreInSets at (merged logs) (must_renew logs) behind page_sets pages → AreAllPlaced at logs behind pages

@@ -9,5 +9,5 @@ mod sets;
 
 pub use ends::{BEHIND, end_of, last_in_records};
 pub use renewal::must_renew;
-pub use set::Placing;
-pub use sets::find_unplaced;
+pub use set::{Placing, check_set};
+pub use sets::{find_unplaced, sets_laws};

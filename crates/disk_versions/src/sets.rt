@@ -5,7 +5,7 @@ ghost use Rattle.ds_model.specs.RecordBytes.{IsAllowed};
 ghost use Rattle.page_records.specs.Places.{by_page};
 ghost use Rattle.disk_versions.specs.Reading.{Reads};
 ghost use Rattle.disk_versions.specs.Placing.{AreSetsTold};
-ghost use Rattle.disk_versions.specs.Told.{AreToldBy};
+ghost use Rattle.disk_versions.specs.Told.{AreToldBy, SetsTell};
 
 use crate::set::{Placing, check_set};
 use ds_disk::{Disk, DiskError};
@@ -61,4 +61,12 @@ pub fn find_unplaced<D: Disk>(
     version_laws();
     let changed = by_page(alloc, records)?;
     check_sets(alloc, disk, records, changed.as_slice(), renews, behind)
+}
+
+/// What is found of all page sets by the merged records is what is told of the third clause of a sound disk.
+pub fn sets_laws()
+    ensures { SetsTell }
+{
+    header_laws();
+    version_laws();
 }

@@ -130,7 +130,7 @@ each_at : {A : Type 0} (P : A → Type 0) (xs : List A) (x : A) (ys : List A) �
 each_at P [] x ys h = h.0
 each_at P (y ∷ xs) x ys h = each_at P xs x ys h.1
 
-follow_more : (earlier rs : List LogRecord) (r : LogRecord) → EachFollows earlier rs → MayFollow (earlier ++ rs) r → EachFollows earlier (rs ++ r ∷ [])
+pub follow_more : (earlier rs : List LogRecord) (r : LogRecord) → EachFollows earlier rs → MayFollow (earlier ++ rs) r → EachFollows earlier (rs ++ r ∷ [])
 follow_more earlier [] r h m = (subst (λ (l : List LogRecord). MayFollow l r) (append-nil earlier) m, tt)
 follow_more earlier (x ∷ xs) r h m =
     (h.0, follow_more (earlier ++ x ∷ []) xs r h.1 (subst (λ (l : List LogRecord). MayFollow l r) (sym (append_assoc earlier (x ∷ []) xs)) m))

@@ -15,13 +15,13 @@ use Rattle.log_trans.specs.Courses.{new_course}
 use Rattle.sound_disk.specs.Transactions.{drawn_numbers, is_among, speak_of, course_in, MayFollow}
 use Rattle.fitting_records.specs.declared.standing.Standing.{Standing}
 use Rattle.fitting_records.specs.declared.seen.Seen.{Seen}
-use Rattle.fitting_records.specs.Standings.{new_standing, may_take, after_body}
+use Rattle.fitting_records.specs.Standings.{new_standing, may_take, after_body, standing}
 use Rattle.fitting_records.specs.Fitting.{Numbers, nothing_seen, is_new, is_home, is_first, follows_on, follows, fits, standing_of, seen_with, trans_of, behind_log}
-use Rattle.fitting_records.proofs.Taking.{and_left, and_right, and_both, standing, MayTake, may_take_is, is_taken, stands_after}
+use Rattle.fitting_records.proofs.Taking.{and_left, and_right, and_both, MayTake, may_take_is, is_taken, stands_after}
 
 -- ---- tests
 
-same_key : (q k : ℕ) → eq_by_cmp nat_cmp q k ≡ (k == q)
+pub same_key : (q k : ℕ) → eq_by_cmp nat_cmp q k ≡ (k == q)
 same_key q k = grind (arith, nat_tests)
 
 eq_turn : (m n : ℕ) → (m == n) ≡ (n == m)
@@ -48,7 +48,7 @@ or_moved false false c = refl
 
 -- ---- maps
 
-put_at : {X : Type 0} (m : FinMap nat_cmp X) (k : ℕ) (v : X) (q : ℕ) → get (insert m k v) q ≡ cond (k == q) (Some v) (get m q)
+pub put_at : {X : Type 0} (m : FinMap nat_cmp X) (k : ℕ) (v : X) (q : ℕ) → get (insert m k v) q ≡ cond (k == q) (Some v) (get m q)
 put_at m k v q = get-insert nat_cmp_total m k v q ∙ ap (λ (b : Bool). cond b (Some v) (get m q)) (same_key q k)
 
 some_if : {X : Type 0} (b : Bool) (v : X) (o : Option X) → is_some (cond b (Some v) o) ≡ (b || is_some o)
@@ -71,7 +71,7 @@ drawn_more (x ∷ xs) ys = drawn_when (is_drawn x.body) x.lrsn (drawn_numbers (x
 pub speak_more : (t : ℕ) (xs ys : List LogRecord) → speak_of t (xs ++ ys) ≡ (speak_of t xs || speak_of t ys)
 speak_more t xs ys = list_any-append (λ (r : LogRecord). r.tran == t) xs ys
 
-course_last : (c : Course) (t : ℕ) (earlier : List LogRecord) (r : LogRecord) → course_in c t (earlier ++ r ∷ []) ≡ cond (r.tran == t) (courses.after_body (course_in c t earlier) r r.body) (course_in c t earlier)
+pub course_last : (c : Course) (t : ℕ) (earlier : List LogRecord) (r : LogRecord) → course_in c t (earlier ++ r ∷ []) ≡ cond (r.tran == t) (courses.after_body (course_in c t earlier) r r.body) (course_in c t earlier)
 course_last c t [] r = refl
 course_last c t (x ∷ xs) r = course_last (cond (x.tran == t) (courses.after_body c x x.body) c) t xs r
 

@@ -2,3 +2,7 @@ pub mod Taking
 pub mod Knowing
 pub mod Fronts
 pub mod Firsts
+mod Going
+mod Passes
+pub mod Noting
+mod Walking

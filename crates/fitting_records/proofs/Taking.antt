@@ -14,7 +14,7 @@ use Rattle.log_trans.specs.Courses.{is_next, undone_one, row_record}
 use Rattle.log_trans.specs.Damage.{tran_at, undone_at, unless, nothing_undone, body_fault}
 use Rattle.sound_disk.specs.Transactions.{InvertsBody, Inverts, TakesBack}
 use Rattle.fitting_records.specs.declared.standing.Standing.{Standing}
-use Rattle.fitting_records.specs.Standings.{same_row, inverts, inverts_body, takes_back, takes_last, may_take, after_body}
+use Rattle.fitting_records.specs.Standings.{same_row, inverts, inverts_body, takes_back, takes_last, may_take, after_body, undo_left, standing}
 
 -- ---- tests
 
@@ -106,14 +106,6 @@ inverted_back change None h = absurd h
 inverted_back change (Some r) h = inverted_body change r.body h
 
 -- ---- the next record
-
--- what may still be undone
-abbrev pub undo_left : Bool → List LogRecord → List LogRecord
-undo_left true undo = []
-undo_left false undo = undo
-
-abbrev pub standing : Course → Standing
-standing c = record { undo = undo_left c.is_committed c.undo; is_forward = nothing_undone c; is_committed = c.is_committed }
 
 all_left : (b : Bool) (undo : List LogRecord) → b ≡ false → undo_left b undo ≡ undo
 all_left true undo h = absurd cc

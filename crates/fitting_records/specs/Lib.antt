@@ -1,3 +1,6 @@
 pub mod Breaches
 pub mod Standings
 pub mod Fitting
+pub mod Passings
+pub mod Passed
+pub mod Walked

@@ -5,7 +5,9 @@ use Rattle.ds_model.specs.declared.log.LogRecord.{LogRecord}
 use Rattle.ds_model.specs.declared.log.RowChange.{RowChange}
 use Rattle.ds_model.specs.declared.log.Body.{Body}
 use Rattle.ds_model.specs.declared.log.Body.TheVariants as body
+use Rattle.log_trans.specs.declared.course.Course.{Course}
 use Rattle.log_trans.specs.Courses.{row_record, is_next}
+use Rattle.log_trans.specs.Damage.{nothing_undone}
 use Rattle.fitting_records.specs.declared.standing.Standing.{Standing}
 
 -- ---- inverses
@@ -69,3 +71,13 @@ after_body s r body.Commit = record { undo = []; is_forward = s.is_forward; is_c
 after_body s r body.Ended = s
 after_body s r (body.Checkpoint offset) = s
 after_body s r body.RestartEnd = s
+
+-- ---- what a course comes to
+
+-- what may still be undone
+abbrev pub undo_left : Bool → List LogRecord → List LogRecord
+undo_left true undo = []
+undo_left false undo = undo
+
+abbrev pub standing : Course → Standing
+standing c = record { undo = undo_left c.is_committed c.undo; is_forward = nothing_undone c; is_committed = c.is_committed }

@@ -3,8 +3,14 @@
 #![tactic(auto)]
 
 mod inverses;
+mod laws;
+mod passing;
 mod search;
 mod seen;
 mod standing;
+mod walked;
 
+pub use laws::passing_laws;
+pub use passing::Passing;
 pub use search::find_unfit;
+pub use walked::{Walked, pass_logs};

@@ -118,7 +118,7 @@ each_done : (f : Patch → Bool) (c : Bool) (ps : List Patch) → list_all (λ (
 each_done f c [] = refl
 each_done f c (p ∷ ps) = all_and f c p ps ∙ ap (λ (b : Bool). not (not b) || (list_all f (p ∷ ps) && c)) (sym (some_there p ps))
 
-met_by : (at : Images) (records : List LogRecord) (r : LogRecord) → list_all (is_met at) (needs_by records r) ≡ is_done at records r
+pub met_by : (at : Images) (records : List LogRecord) (r : LogRecord) → list_all (is_met at) (needs_by records r) ≡ is_done at records r
 met_by at records r =
     list_all-map (is_met at) (need_of (is_unended records r) r.lrsn) (pages_of r)
     ∙ all_pages (λ (id : PageId). is_met at (need_of (is_unended records r) r.lrsn id)) [] (changes_of r.body)

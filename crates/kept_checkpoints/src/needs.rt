@@ -2,6 +2,7 @@ ghost use Rattle.std.specs.Prelude.{◌≡◌, ◌++◌, map, OnOk, IfOk};
 ghost use Rattle.std.specs.List.{AllByRecursion, flat_map};
 ghost use Rattle.ds_model.specs.RecordBytes.{IsAllowed};
 ghost use Rattle.log_trans.specs.Damage.{AreAllowed};
+ghost use Rattle.page_redo.specs.Pages.{pages_of};
 ghost use Rattle.sound_disk.specs.Checkpoints.{records_before};
 ghost use Rattle.kept_checkpoints.specs.Needs.{need_of, unended_among, needs_among, needs_in, needs_of, NeedsAreMet, NeedsTell};
 
@@ -47,6 +48,16 @@ fn is_unended(trans: &NumberMap<bool>, it: &LogRecord) -> bool
     ensures { result ≡ unended_among trans.now it.now }
 {
     it.tran.number() != 0 && trans.get(it.tran).is_some()
+}
+
+/// What the record needs of the pages that it changes, where a row change of its transaction is open or none is.
+pub fn needs_with(alloc: Global, it: &LogRecord, is_open: bool) -> Result<Sequence<Need>, NoMemory>
+    ensures { IfOk result (λ needs. needs ≡ map (need_of is_open it.now.lrsn) (pages_of it.now)) }
+{
+    let mut needs = Sequence::new(alloc);
+    let pages = pages_of(alloc, it)?;
+    add_pages(&mut needs, pages.as_slice(), it.lrsn, is_open)?;
+    Ok(needs)
 }
 
 fn add_record(

@@ -12,8 +12,8 @@ use log_record::Log;
 use number_map::NumberMap;
 use std::alloc::Global;
 
-// A place of a log as a number of the map.
-fn place_number(at: u64) -> Lrsn
+/// A place of a log as a number of a map.
+pub fn place_number(at: u64) -> Lrsn
     ensures { result ≡ at }
 {
     match Lrsn::new(u128::from(at)) {

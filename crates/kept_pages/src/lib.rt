@@ -4,6 +4,8 @@
 mod first;
 mod unkept;
 mod unmet;
+mod walk;
 
 pub use unkept::find_unkept;
 pub use unmet::find_unmet;
+pub use walk::are_kept;

@@ -48,7 +48,9 @@ fn is_met<D: Disk>(
     Ok(meets(page, need))
 }
 
-fn judge<D: Disk>(
+/// The first page that doesn't meet one of these needs, which are looked at in their order; a page that comes again at once is
+/// read once.
+pub fn judge<D: Disk>(
     disk: &mut D,
     page: &mut Page,
     needs: &[Need],

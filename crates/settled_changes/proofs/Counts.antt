@@ -91,15 +91,21 @@ marked_once : (m : Marks) (logs : List Log) → marked_by_logs m logs ≡ marked
 marked_once m [] = refl
 marked_once m (log ∷ logs) = marked_once (marked_by m log.records) logs ∙ marked_more m log.records (all_records logs)
 
+pub commits_are : (rs : List LogRecord) (tran : ℕ) → is_some (get (marked_by no_marks rs).committed tran) ≡ has_commit rs tran
+commits_are rs tran = commits no_marks rs tran ∙ ap (λ (b : Bool). b || has_commit rs tran) (has_none tran)
+
 pub settled_is : (rs : List LogRecord) (tran lrsn : ℕ) → is_settled_by (marked_by no_marks rs) tran lrsn ≡ (has_commit rs tran || list_any (λ (s : LogRecord). takes_back lrsn s.body) rs)
 settled_is rs tran lrsn =
     ap (λ (b : Bool). b || is_some (get (marked_by no_marks rs).undone lrsn))
-    (commits no_marks rs tran ∙ ap (λ (b : Bool). b || has_commit rs tran) (has_none tran))
+    (commits_are rs tran)
     ∙ ap (λ (b : Bool). has_commit rs tran || b)
     (undone no_marks rs lrsn ∙ ap (λ (b : Bool). b || list_any (λ (s : LogRecord). takes_back lrsn s.body) rs) (has_none lrsn))
 
 pub settles : (rs : List LogRecord) (r : LogRecord) → is_open_by (marked_by no_marks rs) r ≡ is_open rs r
 settles rs r = ap (λ (b : Bool). is_row_change r.body && not b) (settled_is rs r.tran r.lrsn)
+
+pub counts_among : (rs : List LogRecord) → count_by (marked_by no_marks rs) rs ≡ length (open_changes rs)
+counts_among rs = ap length (filter_agree (is_open_by (marked_by no_marks rs)) (is_open rs) (settles rs) rs)
 
 pub counts_open : (logs : List Log) → count_by (marked_by_logs no_marks logs) (all_records logs) ≡ length (open_changes (all_records logs))
 counts_open logs =

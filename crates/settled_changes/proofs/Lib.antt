@@ -1,3 +1,4 @@
 pub mod Counts
 pub mod Lasts
 pub mod Open
+pub mod Remaining

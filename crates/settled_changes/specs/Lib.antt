@@ -1,3 +1,4 @@
+pub mod Left
 pub mod Marks
 pub mod Spots
 pub mod Trans

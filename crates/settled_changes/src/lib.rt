@@ -1,11 +1,13 @@
-//! Which row changes of logs are open, which is neither committed nor compensated, and whether numbers are left for their
-//! compensations.
+//! Which row changes of logs are open, which is neither committed nor compensated, whether numbers are left for their
+//! compensations, and how many rows the committed ones leave.
 #![tactic(auto)]
 
 mod marks;
 mod numbers;
+mod rows;
 mod trans;
 
 pub use marks::Marks;
-pub use numbers::{count_open, find_last_number};
+pub use numbers::{are_left, count_open, count_open_among, find_last_number};
+pub use rows::count_rows;
 pub use trans::unsettled_trans;

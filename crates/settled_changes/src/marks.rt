@@ -1,5 +1,6 @@
 ghost use Rattle.std.specs.Prelude.{◌≡◌, OnOk, IfOk};
 ghost use Rattle.sound_disk.specs.Settled.{is_row_change};
+ghost use Rattle.settled_changes.specs.Left.{is_committed_by};
 ghost use Rattle.settled_changes.specs.Marks.{no_marks, marked, marked_by, marked_by_logs, is_settled_by, is_open_by, count_by};
 
 use ds_base::{Lrsn, NoMemory};
@@ -73,6 +74,13 @@ impl Marks {
         let mut marks = Marks::new(alloc);
         marks.mark_all(records)?;
         Ok(marks)
+    }
+
+    /// Whether the transaction has a Commit.
+    pub fn is_committed(&self, tran: Lrsn) -> bool
+        ensures { result ≡ is_committed_by self.now tran }
+    {
+        self.committed.get(tran).is_some()
     }
 
     /// Whether a row change of this transaction and number has a Commit or is taken back.

@@ -10,6 +10,7 @@ ghost use Rattle.settled_changes.specs.Spots.{LackNumbers};
 use crate::marks::Marks;
 use disk_spots::{Spot, spot_of};
 use ds_base::{LRSN_END, NoMemory};
+use ds_model::LogRecord;
 use log_record::Log;
 use log_trans::greatest_number;
 use std::alloc::Global;
@@ -38,6 +39,17 @@ pub fn count_open(alloc: Global, logs: &[Log]) -> Result<u64, NoMemory>
     count_in_logs(&marks, logs)
 }
 
+/// How many of these records are row changes that are neither committed nor compensated among them.
+///
+/// It takes time in the number of records times its logarithm.
+#[tactic(auto, using(crate::proofs::Counts::counts_among))]
+pub fn count_open_among(alloc: Global, records: &[LogRecord]) -> Result<u64, NoMemory>
+    ensures { IfOk result (λ n. n ≡ length (open_changes records.now)) }
+{
+    let marks = Marks::of_records(alloc, records)?;
+    Ok(marks.count_open(records) as u64)
+}
+
 fn greatest_in(logs: &[Log]) -> u128
     ensures { result ≡ greatest (all_records logs.now) }
 {
@@ -48,7 +60,8 @@ fn greatest_in(logs: &[Log]) -> u128
     last
 }
 
-fn are_left(greatest: u128, changes: u64) -> bool
+/// Whether so many numbers above this one are numbers still.
+pub fn are_left(greatest: u128, changes: u64) -> bool
     ensures { IsTrue result ↔ IsLrsn (greatest + changes) }
 {
     match LRSN_END.checked_sub(greatest) {

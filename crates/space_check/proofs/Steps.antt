@@ -129,7 +129,7 @@ Rows logs rows = rows ≡ length (listed (rows_of_logs (records_of logs)))
 pub told_breach : (c : Contents) (logs : List Log) (behind : ℕ) (b : Breach) → AreWholeLogs 1 c.logs logs → IsBreach (page_at c.pages) logs behind b → IsTold c behind (verdict.Unsound b)
 told_breach c logs behind b whole breach = inr (record { logs = logs; whole = whole; breach = breach })
 
-told_right : (c : Contents) (logs : List Log) (behind pages rows : ℕ) → AreWholeLogs 1 c.logs logs → AreRight (page_at c.pages) logs behind pages rows → IsTold c behind (verdict.Sound pages rows)
+pub told_right : (c : Contents) (logs : List Log) (behind pages rows : ℕ) → AreWholeLogs 1 c.logs logs → AreRight (page_at c.pages) logs behind pages rows → IsTold c behind (verdict.Sound pages rows)
 told_right c logs behind pages rows whole right = record {
   logs = logs;
   whole = whole;

@@ -3,3 +3,4 @@ pub mod Judging
 pub mod Verdicts
 pub mod Telling
 pub mod Laws
+pub mod Quick

@@ -6,6 +6,7 @@ ghost use Rattle.space_check.specs.Verdicts.{IsTold};
 
 use crate::logs::{count_rows, find_last};
 use crate::pages::check_pages;
+use crate::quick::{Counts, find_sound};
 use crate::said::Said;
 use crate::verdict::{Breach, Clause, Verdict};
 use disk_logs::{Found, LogList, into_merged, read_logs};
@@ -58,8 +59,8 @@ fn check_logs<D: Disk>(
     }
 }
 
-/// Whether the disk is sound, where so many pages are read behind the last one of each page set.
-pub fn check_behind<D: Disk>(alloc: Global, disk: &mut D, behind: u32) -> Result<Verdict, DiskError>
+// The same by the records of all logs in memory, which tells of each disk which clause fails first, and where.
+fn check_whole<D: Disk>(alloc: Global, disk: &mut D, behind: u32) -> Result<Verdict, DiskError>
     ensures { Reads (D.contents disk.old) (D.contents disk.new) (D.faults disk.old) (D.faults disk.new) (λ v c. IsTold c behind v) result }
 {
     let found = read_logs(alloc, disk)?;
@@ -74,8 +75,20 @@ pub fn check_behind<D: Disk>(alloc: Global, disk: &mut D, behind: u32) -> Result
     }
 }
 
-/// Whether the disk is sound. It reads the logs one at a time and keeps their records, each once, and the pages one at a time;
-/// nothing is written.
+/// Whether the disk is sound, where so many pages are read behind the last one of each page set.
+pub fn check_behind<D: Disk>(alloc: Global, disk: &mut D, behind: u32) -> Result<Verdict, DiskError>
+    ensures { Reads (D.contents disk.old) (D.contents disk.new) (D.faults disk.old) (D.faults disk.new) (λ v c. IsTold c behind v) result }
+{
+    let sound = find_sound(alloc, disk, behind)?;
+    match sound {
+        Some(Counts { pages, rows }) => Ok(Verdict::Sound { pages, rows }),
+        None => check_whole(alloc, disk, behind),
+    }
+}
+
+/// Whether the disk is sound; nothing is written. Of one that is known to be sound by its tables, one at a time, the records of one
+/// table alone are in memory. Any other is read once more: the logs one at a time, whose records are kept, each once, and the
+/// pages one at a time.
 pub fn check_disk<D: Disk>(alloc: Global, disk: &mut D) -> Result<Verdict, DiskError>
     ensures { Reads (D.contents disk.old) (D.contents disk.new) (D.faults disk.old) (D.faults disk.new) (λ v c. IsTold c 1024 v) result }
 {

@@ -4,8 +4,11 @@
 mod check;
 mod laws;
 mod logs;
+mod own;
 mod pages;
+mod quick;
 mod said;
+mod tables;
 mod verdict;
 
 pub use check::check_disk;

@@ -6,7 +6,7 @@ use Rattle.space_check.specs.declared.verdict.Verdict.{Verdict}
 use Rattle.space_check.specs.Verdicts.{IsTold}
 use Rattle.space_check.proofs.Reading.{one_read, then_read}
 use Rattle.space_check.proofs.Steps.{logs_at, some_at, broken_of}
-use Rattle.space_check.proofs.check.check_behind.Goals as goal
+use Rattle.space_check.proofs.check.check_whole.Goals as goal
 
 pub check_logs-requires : goal.check_logs-requires
 check_logs-requires g c = some_at c.in_ok-found.found (found.Whole c.in-Whole.logs) c.in-Whole.is c.in_ok-found.ensures.some

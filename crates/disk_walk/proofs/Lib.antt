@@ -1,0 +1,4 @@
+pub mod Reading
+mod Standing
+mod Walking
+mod Begins

@@ -1,0 +1,11 @@
+use Rattle.std.proofs.Common.{ℕ, Ok}
+use Rattle.disk_heads.specs.Records.{IsSound}
+use Rattle.kept_pages.specs.Reading.{Reads}
+use Rattle.kept_pages.proofs.Walking.{ScansOn}
+use Rattle.kept_pages.proofs.walk.scan_log.Given as goal
+
+-- what is left gives what all gives
+abbrev pub invariant-loop : goal.invariant-loop
+invariant-loop g l =
+    Reads (g.D.Disk.contents l.fn.disk) (g.D.Disk.contents l.disk) (g.D.Disk.faults l.fn.disk) (g.D.Disk.faults l.disk) (ScansOn l.member l.end l.head l.scan) (Ok 0)
+    × IsSound l.head
