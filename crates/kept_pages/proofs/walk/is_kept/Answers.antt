@@ -1,4 +1,4 @@
-use Rattle.kept_pages.proofs.Walking.{kept_told, unkept_told}
+use Rattle.kept_pages.proofs.Walking.{kept_told}
 use Rattle.kept_pages.proofs.walk.is_kept.Goals as goal
 
 pub returns : goal.returns

@@ -1,4 +1,4 @@
-use Rattle.kept_pages.proofs.Walking.{meet_starts, meet_more, meet_ends, meet_stops, stays_first, stays_more, sound_start, sound_some}
+use Rattle.kept_pages.proofs.Walking.{meet_starts, meet_more, meet_ends, stays_first, stays_more, sound_start, sound_some}
 use Rattle.kept_pages.proofs.walk.meet_log.Goals as goal
 
 pub loop-init : goal.loop-init
