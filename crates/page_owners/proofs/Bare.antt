@@ -2,7 +2,6 @@
 use Rattle.std.proofs.Common.{◌≡◌, ℕ, zero, suc, refl, sym, ◌∙◌, ap, subst, Bool, true, false, List, [], ◌∷◌, Option, Some, None, Result, Ok, Err, replicate, slice_set}
 use Rattle.std.specs.Prelude.{◌+◌, ◌-◌, if◌then◌else◌, is_none, is_some}
 use Rattle.ds_base.specs.declared.names.PageId.{PageId}
-use Rattle.ds_base.specs.declared.names.Sizes.{Sizes}
 use Rattle.ds_base.specs.declared.names.TranId.{TranId}
 use Rattle.ds_disk.specs.declared.disk.DiskError.{DiskError}
 use Rattle.ds_disk.specs.declared.disk.DiskError.TheVariants.{Failed, NoMemory}
@@ -15,7 +14,6 @@ use Rattle.list_structure.specs.declared.query.Cell.{Cell}
 use Rattle.list_structure.specs.declared.query.CellAnswer.{CellAnswer}
 use Rattle.list_structure.specs.declared.query.CellAnswer.TheVariants as answer
 use Rattle.list_structure.specs.declared.wait.Wait.{Wait}
-use Rattle.facility.specs.declared.command.Command.{Command}
 use Rattle.facility.specs.declared.command.Reply.{Reply}
 use Rattle.facility.specs.declared.command.Reply.TheVariants as reply
 use Rattle.log_trans.specs.declared.opened.OpenTran.{OpenTran}
@@ -32,8 +30,8 @@ use Rattle.member_trans.specs.declared.fate.Owner.TheVariants as owner
 use Rattle.member_trans.specs.Trans.{may_begin}
 use Rattle.member_marks.specs.State.{MarksState, with_heads, with_trans}
 use Rattle.member_marks.specs.Claims.{may_claim}
-use Rattle.member_marks.specs.Frames.{after_pin, after_place, after_unpin, frame_in, may_pin, may_unpin, placed_at}
-use Rattle.member_marks.specs.Local.{Local, Claim as TryClaim, Begin, Refuse, Abort, RefuseForMemory, Place, Pin, Unpin, Postpone, WaitFor, Reaches, after_begin, after_claim, all_moved, begun_with, entered_at_home, moved, tried_as, with_lock_room}
+use Rattle.member_marks.specs.Frames.{after_pin, after_unpin, frame_in, may_pin, may_unpin, placed_at}
+use Rattle.member_marks.specs.Local.{Local, Claim as TryClaim, Begin, Refuse, Abort, RefuseForMemory, Place, Pin, Unpin, Postpone, WaitFor, Reaches, after_begin, after_claim, all_moved, begun_with, moved, tried_as, with_lock_room}
 use Rattle.member_marks.specs.Rollbacks.{after_adopt, after_postpone, after_wait, can_postpone, may_adopt, postponed_for_member, retainer, waiting_for, with_rollback}
 use Rattle.member_needs.specs.declared.plans.Plan.{Plan}
 use Rattle.member_effects.specs.declared.told.Told.{Told}
@@ -43,9 +41,9 @@ use Rattle.member_effects.specs.Answers.{found_after, in_the_way_after, nothing,
 use Rattle.member_effects.specs.Cycles.{cycle_after}
 use Rattle.member_resources.specs.declared.lending.Lent.{Lent}
 use Rattle.member_resources.specs.declared.lending.Lent.TheVariants as lent
-use Rattle.member_resources.specs.Held.{Held, IsNew, begun}
+use Rattle.member_resources.specs.Held.{Held, begun}
 use Rattle.member_resources.specs.Events as event
-use Rattle.member_resources.specs.Events.{Calls, Ends, Reads, ReadsAs, Runs, RunsCall, SettlesAs, Stores, frame_read, waits_in}
+use Rattle.member_resources.specs.Events.{Calls, ReadsAs, Runs, RunsCall, SettlesAs, Stores, frame_read, waits_in}
 use Rattle.member_resources.specs.Lending.{lent_bytes, lent_of, with_bytes}
 use Rattle.member_resources.specs.Prepared.{Reserves}
 use Rattle.member_resources.specs.Settled.{cast_read, stored, unsent}
@@ -56,7 +54,7 @@ use Rattle.group_member.specs.declared.stepped.Stepped.{Stepped}
 use Rattle.group_member.specs.declared.stepped.Stepped.TheVariants as steps
 use Rattle.group_member.specs.Adopting.{Adopts, AdoptsAll, changes_left, rows_left}
 use Rattle.group_member.specs.Happening.{Acts, AdoptsLeft, GoesOn, Makes, RebuildEnds, RestartEnds, Tells}
-use Rattle.group_member.specs.Members.{IsDown, Member}
+use Rattle.group_member.specs.Members.{Member}
 use Rattle.group_member.specs.Resting.{changes_locks, touches_pages}
 use Rattle.group_member.specs.Stepping.{is_failure}
 use Rattle.page_owners.specs.Resting.{DownIsBare, IsBare, IsEmpty, RestsBare}

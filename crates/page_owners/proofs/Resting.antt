@@ -12,13 +12,12 @@ use Rattle.member_intents.specs.declared.outcome.Sent.TheVariants as sent
 use Rattle.member_intents.specs.Cells.{cell_slot}
 use Rattle.member_marks.specs.Claims.{answer_to}
 use Rattle.member_marks.specs.State.{id_of, slot_id}
-use Rattle.member_needs.specs.declared.castout.Cast.{Cast}
 use Rattle.member_needs.specs.declared.plans.Plan.{Plan}
 use Rattle.member_effects.specs.declared.told.Told.{Told}
 use Rattle.needs_law.specs.Lawful.{Lawful, SendsLawfully}
 use Rattle.member_resources.specs.Held.{Held, begun}
 use Rattle.member_resources.specs.Events as event
-use Rattle.member_resources.specs.Events.{Happens, Runs, holder_in}
+use Rattle.member_resources.specs.Events.{Runs, holder_in}
 use Rattle.member_resources.specs.Lending.{lent_bytes, lent_of}
 use Rattle.member_resources.specs.Prepared.{setting_of}
 use Rattle.page_world.specs.Holdings.{KeepsPages}

@@ -1,5 +1,5 @@
 -- What a member does itself while its restart is in hand, whatever its policy.
-use Rattle.std.specs.Prelude.{◌≡◌, ℕ, Bool, true, false, List, [], is_some}
+use Rattle.std.specs.Prelude.{◌≡◌, ℕ, Bool, true, false, [], is_some}
 use Rattle.ds_base.specs.declared.names.Sizes.{Sizes}
 use Rattle.member_pool.specs.declared.frame.Frame.{Frame}
 use Rattle.member_marks.specs.Frames.{frame_in}

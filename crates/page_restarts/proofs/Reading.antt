@@ -1,13 +1,12 @@
 -- A restart while it reads its log.
 use Rattle.std.proofs.Common.{◌≡◌, ◌≢◌, ◌⊎◌, ℕ, ◌≤◌, refl, sym, ◌∙◌, ap, subst, arith, Bool, true, false, inl, inr, List, [], ◌∷◌, Option, Some, None, Result, Ok, Err}
-use Rattle.std.specs.Prelude.{◌==◌, ◌&&◌, not, if◌then◌else◌, is_none, length, slice_get}
-use Rattle.std.proofs.lemmas.Bool.{both_ways, cond-false, cond-true, eq-eqb, ne_eqb}
+use Rattle.std.specs.Prelude.{◌==◌, ◌&&◌, not, if◌then◌else◌}
+use Rattle.std.proofs.lemmas.Bool.{both_ways, cond-false, cond-true, eq-eqb}
 use Rattle.ds_base.specs.declared.names.PageId.{PageId}
 use Rattle.ds_model.specs.declared.lock.Name.TheVariants as name
 use Rattle.lock_names.specs.declared.mode.Mode.TheVariants.{X}
 use Rattle.ds_disk.specs.Contents.{Contents}
 use Rattle.ds_disk.specs.Pages as disk
-use Rattle.ds_disk.specs.Pages.{Pages}
 use Rattle.cache_structure.specs.Directory.{Directory, after_unregister}
 use Rattle.cache_structure.specs.Sound.{IsSound}
 use Rattle.list_structure.specs.Standings.{status_of}
@@ -18,7 +17,6 @@ use Rattle.facility.specs.CacheCommands.{UnregistersFrame}
 use Rattle.facility.specs.States.{Held as Facility}
 use Rattle.member_intents.specs.declared.outcome.Answered.{Answered}
 use Rattle.member_intents.specs.declared.outcome.Answered.TheVariants as answered
-use Rattle.member_log.specs.Buffers.{LogBuffer}
 use Rattle.log_record.specs.declared.log.Log.{Log}
 use Rattle.log_record.specs.Logs.{Parts}
 use Rattle.log_reader.specs.declared.calls.LogCall.{LogCall}
@@ -44,16 +42,16 @@ use Rattle.restart_marks.specs.declared.intent.RestartTest.{RestartTest}
 use Rattle.restart_marks.specs.declared.intent.RestartTest.TheVariants as test
 use Rattle.restart_marks.specs.declared.told.RestartTold.{RestartTold}
 use Rattle.restart_marks.specs.LockNeeds.{commands, locks_in, undo_with}
-use Rattle.restart_marks.specs.Moves.{Local, TakeUpRetained, TakeUpUndone, PutDown, Close, Reaches, all_moved, closed, closing_record, fits_in, may_close, moved}
+use Rattle.restart_marks.specs.Moves.{Local, TakeUpRetained, TakeUpUndone, PutDown, Close, Reaches, all_moved, closing_record, fits_in, may_close, moved}
 use Rattle.restart_marks.specs.Needs.{need_of}
-use Rattle.restart_marks.specs.OwnNeeds.{call_sent, is_end_listed, recovered_test, rest_test, over_test}
-use Rattle.restart_marks.specs.Reading.{entered, judged_after, log_from, read_after, read_on_after, reader_after, whole_after}
+use Rattle.restart_marks.specs.OwnNeeds.{call_sent, is_end_listed}
+use Rattle.restart_marks.specs.Reading.{entered, judged_after, log_from, read_on_after, reader_after, whole_after}
 use Rattle.restart_marks.specs.State.{RestartState, with_own}
 use Rattle.restart_marks.specs.Tested.{Tested, after, passed, when}
 use Rattle.restart_resources.specs.declared.calls.Got.{Got}
 use Rattle.restart_resources.specs.declared.calls.Got.TheVariants as got
 use Rattle.restart_resources.specs.Calls as calls
-use Rattle.restart_resources.specs.Calls.{Calls, ReadsBy, done_after, RunsCall, Stores, got_after, with_reader}
+use Rattle.restart_resources.specs.Calls.{Calls, ReadsBy, done_after, RunsCall, Stores, got_after}
 use Rattle.restart_resources.specs.Events as restarting
 use Rattle.restart_resources.specs.Events.{Ends, Runs, RunsCommand}
 use Rattle.restart_resources.specs.Held.{Held, with_marks}
@@ -63,20 +61,19 @@ use Rattle.page_protocol.specs.Page.{put}
 use Rattle.page_protocol.specs.Moves.{World}
 use Rattle.page_protocol.specs.Always.{AlwaysGood}
 use Rattle.page_intents.specs.Numbers.{AreNumbered}
-use Rattle.page_intents.specs.Stands.{AreBehind}
 use Rattle.page_world.specs.Frames.{PlacesStays, UnregistersMoves}
-use Rattle.page_world.specs.Holdings.{Holdings, KeepsPages, no_copy, with_facility}
+use Rattle.page_world.specs.Holdings.{Holdings, KeepsPages, with_facility}
 use Rattle.page_world.specs.Numbers.{page_at, set_of}
-use Rattle.page_members.specs.Members.{CommandsLeave, Group, SameOthers, Shows, leaves_pages}
-use Rattle.page_restarts.specs.Beside.{Beside, as_restarting}
+use Rattle.page_members.specs.Members.{CommandsLeave, SameOthers, Shows, leaves_pages}
+use Rattle.page_restarts.specs.Beside.{as_restarting}
 use Rattle.page_restarts.specs.Events.{Owns, asks_page, frees_page}
 use Rattle.page_restarts.specs.Locals.{CastsNone, ReachesGo}
 use Rattle.page_restarts.specs.Locks.{StayGoes}
-use Rattle.page_restarts.specs.Reading.{IsLeft, IsReading, LogIsWhole, ReadingBegins, ReadingGoes, ReadingLeads, ReadingOwns, reading}
-use Rattle.page_restarts.specs.Stands.{Begins, Goes, IsRestarting, SameHand, behind, copy_of, hand_copy}
+use Rattle.page_restarts.specs.Reading.{IsReading, LogIsWhole, ReadingBegins, ReadingGoes, ReadingLeads, ReadingOwns, reading}
+use Rattle.page_restarts.specs.Stands.{Begins, Goes, IsRestarting, SameHand, behind, hand_copy}
 use Rattle.page_restarts.proofs.Events.{own_reaches, owns_same, unasked, was_done}
 use Rattle.page_restarts.proofs.Leading.{KeepsStandings, directory_standings, others_behind, others_facility, put_other, standings_of, standings_same, still_none, unregister_goes, went_on}
-use Rattle.page_restarts.proofs.Needs.{after_first, after_tests, asks_page as asks_page_of, err_ok, just_as, sent_as}
+use Rattle.page_restarts.proofs.Needs.{asks_page as asks_page_of, err_ok, just_as, sent_as}
 use Rattle.page_restarts.proofs.Owning.{still}
 use Rattle.page_restarts.proofs.Standing.{copy_none}
 

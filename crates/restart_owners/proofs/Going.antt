@@ -279,6 +279,7 @@ pub record Facts : Type 0 where
   pub supply : BothSupply
 
 pub events_go : Facts → EventsGo
+unfolding staged
 events_go facts w l u v g content forced held left own h k s a b happens up tells frees leads =
     let paged = facts.page w u v g content forced h k s a b.pages happens up (facts.supply w l u v g content forced held own h k s a b happens tells) in
     let locked = facts.known.locks l (as_restarting u) (as_restarting v) held left own h k s a b.tied b.restarts b.knows frees happens leads in

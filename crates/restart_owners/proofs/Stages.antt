@@ -1,5 +1,5 @@
 -- Any event of a restart, whether it reads its log yet or has read it.
-use Rattle.std.proofs.Common.{◌≡◌, ◌≢◌, ℕ, refl, sym, subst, true, false, inl, inr, List, Ok, Err}
+use Rattle.std.proofs.Common.{◌≡◌, ◌≢◌, ℕ, refl, sym, subst, inl, inr, List, Ok, Err}
 use Rattle.member_intents.specs.declared.outcome.Answered.{Answered}
 use Rattle.member_resources.specs.Events.{World as Outside}
 use Rattle.restart_records.specs.Own.{OwnState}
