@@ -543,9 +543,9 @@ module _ (facts : Facts) (old new : CrewState) (w : World) (c d : Contents) (t :
 
   few : at < 32
   few = let there : at < length old.members = slice_get_within old.members at m here.had in
-        let count = t.count in
-        let most = t.few in
-        omega (arith, there, count, most)
+      let count = t.count in
+      let most = t.few in
+      omega (arith, there, count, most)
 
   restart_spares : (s : RestartSent) (before : RestartHeld) → m.restart ≡ Some before → FitsSent before.resources.marks s → IsSparedBy (end_at old at) s
   restart_spares s before is fits = spared_by facts.unknown (end_at old at) (log_of c.logs (at + 1)) s before.resources.marks m.holds.marks fits (ends at few)
