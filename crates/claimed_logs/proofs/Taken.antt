@@ -631,15 +631,15 @@ events_keep {C} {D} P directory alive contents count facts old new event w c d t
         (subst (λ z. ready_for (is_some old.crew.restart) (own_choice (is_some old.crew.restart) old.crew.progress old.crew.script) (map (λ (p : MemberPart P). p.ready) old.crew.parts.items) z (event / 64) ≡ true) own
         (and_parts (not (is_some old.fault)) (is_ready_in old.crew event) is).1)
 
+    few_members : length before.members ≤ 32
+    few_members = let count = t.count in let most = t.few in omega (arith, count, most)
+
     -- ---- the group's own
     phase_goes : event % 64 ≡ 0 → d ≡ c → (x : Option Phase) → IsSomeAnd x (λ phase. PhaseBegins phase before after) → Keeps event before after w d
     phase_goes own same None h = absurd h
     phase_goes own same (Some phase) h =
         let moves : Moves OfPhase before after w = facts.phases phase before after w t h in
         kept event OfPhase before after w d own (record { moves = moves; logs = subst (λ (z : Contents). LogsClaimed z after moves.world) (sym same) (facts.phases_logged c phase before after w t h given.are (facts.begins c phase before after h stand.ends (dead_rest before w t) few_members) moves l) }) (same_ends same)
-
-    few_members : length before.members ≤ 32
-    few_members = let count = t.count in let most = t.few in omega (arith, count, most)
 
     begins : event % 64 ≡ 0 → d ≡ c → (why : Option RunFault) → new.fault ≡ why → BeginsOrNot directory why old.crew event (length new.journal.items) new.crew → Keeps event before after w d
     begins own same None is e = phase_goes own same (slice_get before.script.phases before.begun) e
