@@ -41,14 +41,14 @@ record OpenedIn (records : List LogRecord) (id : ℕ) (spot : Spot) : Type 0 whe
 
 opened_in : (records : List LogRecord) (id : ℕ) (spot : Spot) (ts : List OpenTran) → AllByRecursion (IsOpenIn records) ts → has_opened ts id spot ≡ true → OpenedIn records id spot
 opened_in records id spot [] h e = absurd (never e)
-opened_in records id spot (t ∷ ts) h e = by (or_cases ((t.id == id) && touches t spot) (has_opened ts id spot) e)
+opened_in records id spot (t ∷ ts) h e = by (opened_in records id spot ts h.1) (or_cases ((t.id == id) && touches t spot) (has_opened ts id spot) e)
   where
-    by : (((t.id == id) && touches t spot) ≡ true) ⊎ (has_opened ts id spot ≡ true) → OpenedIn records id spot
-    by (inl m) =
+    by : (has_opened ts id spot ≡ true → OpenedIn records id spot) → (((t.id == id) && touches t spot) ≡ true) ⊎ (has_opened ts id spot ≡ true) → OpenedIn records id spot
+    by rest (inl m) =
         let p = and_parts (t.id == id) (touches t spot) m in
         let same : t.id ≡ id = eqb-true t.id id p.0 in
         record { unclosed = subst (λ (z : ℕ). is_closed records z ≡ false) same h.0.unclosed; changed = subst (λ (z : ℕ). has_changed records z spot ≡ true) same (h.0.changed spot p.1) }
-    by (inr x) = opened_in records id spot ts h.1 x
+    by rest (inr x) = rest x
 
 neither : (a b : Bool) → a ≡ false → b ≡ false → (a || b) ≡ false
 neither true b p q = absurd (never (sym p))

@@ -177,11 +177,11 @@ course_hands facts log q rest adopted h k order free none (inr takes) adopts c =
 over_closed : (whole : List ℕ) (pend : List LogRecord) (id : ℕ) (spot : Spot) (xs : List RestartTran) → AllByRecursion (TranCloses whole pend) xs → AllByRecursion (λ (x : RestartTran). x.stage ≡ stage.Over) xs
     → has_opened (trans_of xs) id spot ≡ true → IsClosedIn whole id
 over_closed whole pend id spot [] closes over e = absurd (never e)
-over_closed whole pend id spot (x ∷ xs) closes over e = by (or_cases ((x.tran.id == id) && touches x.tran spot) (has_opened (trans_of xs) id spot) e)
+over_closed whole pend id spot (x ∷ xs) closes over e = by (over_closed whole pend id spot xs closes.1 over.1) (or_cases ((x.tran.id == id) && touches x.tran spot) (has_opened (trans_of xs) id spot) e)
   where
-    by : (((x.tran.id == id) && touches x.tran spot) ≡ true) ⊎ (has_opened (trans_of xs) id spot ≡ true) → IsClosedIn whole id
-    by (inl m) = subst (IsClosedIn whole) (eqb-true x.tran.id id (and_parts (x.tran.id == id) (touches x.tran spot) m).0) (closes.0.over over.0)
-    by (inr more) = over_closed whole pend id spot xs closes.1 over.1 more
+    by : (has_opened (trans_of xs) id spot ≡ true → IsClosedIn whole id) → (((x.tran.id == id) && touches x.tran spot) ≡ true) ⊎ (has_opened (trans_of xs) id spot ≡ true) → IsClosedIn whole id
+    by rest (inl m) = subst (IsClosedIn whole) (eqb-true x.tran.id id (and_parts (x.tran.id == id) (touches x.tran spot) m).0) (closes.0.over over.0)
+    by rest (inr more) = rest more
 
 pub course_ends : Facts → CourseEnds
 course_ends facts log s h free none ends c = by c.goes

@@ -343,6 +343,40 @@ restart_events facts c d old new at m n w t e told left moves counts counted l =
     goes_on false over = subst (λ (x : Option RestartHeld). IfSome x (λ q. RestartLogged (log_of d.logs (at + 1)) z q.resources.marks)) (sym over.restart)
         (rests_as over.left over.rest over.takes (subst (λ (x : Option RestartHeld). IfSome x (λ q. Spares w z m.id (gone_by e.sent) ⊎ HasHandedOver q.resources.marks)) (n_restart ∙ over.restart) moves.spares))
 
+    -- ---- the standings
+    sets : Sets old.facility.lists new.facility.lists before.resources.marks reached.resources.marks
+    sets = facts.standings (as_restarting u) (as_restarting v) before.resources reached.resources e.sent e.answered e.made.makes.makes.happens
+
+    own_index : before.resources.marks.member - 1 ≡ at
+    own_index = ap (λ (z : ℕ). z - 1) standing.member ∙ index at
+
+    restarting : status_of old.facility.lists.statuses (at + 1) ≡ Restarting
+    restarting = ap (λ (z : ℕ). status_of old.facility.lists.statuses z) (sym stood.id) ∙ e.restarting
+
+    restarting_there : is_live (slice_index_or old.facility.lists.statuses (before.resources.marks.member - 1) Down) ≡ true
+    restarting_there = ap is_live (ap (λ (z : ℕ). status_of old.facility.lists.statuses z) standing.member ∙ restarting)
+
+    still_live : is_live (status_of new.facility.lists.statuses (at + 1)) ≡ true
+    still_live = elim sets.statuses [
+      | inl x ↦ ap is_live (ap (λ (z : List MemberStatus). status_of z (at + 1)) x.1 ∙ restarting)
+      | inr x ↦ ap is_live (ap (λ (z : List MemberStatus). status_of z (at + 1)) x.2 ∙ ap (λ (k : ℕ). status_of (slice_set old.facility.lists.statuses (before.resources.marks.member - 1) Up) k) (sym standing.member)
+          ∙ set_live old.facility.lists.statuses (before.resources.marks.member - 1) Up restarting_there)
+    ]
+
+    apart_status : (k : ℕ) → k ≢ at → status_of new.facility.lists.statuses (k + 1) ≡ status_of old.facility.lists.statuses (k + 1)
+    apart_status k ne = elim sets.statuses [
+      | inl x ↦ ap (λ (z : List MemberStatus). status_of z (k + 1)) x.1
+      | inr x ↦ ap (λ (z : List MemberStatus). status_of z (k + 1)) x.2 ∙ set_apart old.facility.lists.statuses (before.resources.marks.member - 1) (k + 1 - 1) Up (λ same. ne (sym (index k) ∙ same ∙ own_index))
+    ]
+
+    -- ---- the logs
+    numbered : IsNumbered (at + 1) m
+    numbered = record { own = stood.member; restart = subst (λ (z : Option RestartHeld). IfSome z (λ q. q.resources.marks.member ≡ at + 1)) (sym e.made.makes.makes.had) standing.member }
+
+    goes : OneGoes (at + 1) (LogGoes m (steps.Restart e.sent e.answered)) c d
+    goes = goes_told e.drive.contents e.left.contents c d (OneGoes (at + 1) (LogGoes m (steps.Restart e.sent e.answered))) told left
+        (facts.made (at + 1) m e.made.mid u v e.place (steps.Restart e.sent e.answered) e.made.makes (from_one at) numbered)
+
     -- ---- its log on disk
     there : nat_lt (at + 1 - 1) (length c.logs) ≡ true
     there = within old.members at m c.logs e.had l.there
@@ -401,37 +435,3 @@ restart_events facts c d old new at m n w t e told left moves counts counted l =
       | inl x ↦ absurd (restarting_up (status_of old.facility.lists.statuses (at + 1)) restarting (sym (ap (λ (z : List MemberStatus). status_of z (at + 1)) x.1) ∙ is))
       | inr x ↦ up_by x.0 (λ same. restarting_up (status_of old.facility.lists.statuses (at + 1)) restarting (sym (ap (λ (z : List MemberStatus). status_of z (at + 1)) same) ∙ is))
     ]
-
-    -- ---- the standings
-    sets : Sets old.facility.lists new.facility.lists before.resources.marks reached.resources.marks
-    sets = facts.standings (as_restarting u) (as_restarting v) before.resources reached.resources e.sent e.answered e.made.makes.makes.happens
-
-    own_index : before.resources.marks.member - 1 ≡ at
-    own_index = ap (λ (z : ℕ). z - 1) standing.member ∙ index at
-
-    restarting : status_of old.facility.lists.statuses (at + 1) ≡ Restarting
-    restarting = ap (λ (z : ℕ). status_of old.facility.lists.statuses z) (sym stood.id) ∙ e.restarting
-
-    restarting_there : is_live (slice_index_or old.facility.lists.statuses (before.resources.marks.member - 1) Down) ≡ true
-    restarting_there = ap is_live (ap (λ (z : ℕ). status_of old.facility.lists.statuses z) standing.member ∙ restarting)
-
-    still_live : is_live (status_of new.facility.lists.statuses (at + 1)) ≡ true
-    still_live = elim sets.statuses [
-      | inl x ↦ ap is_live (ap (λ (z : List MemberStatus). status_of z (at + 1)) x.1 ∙ restarting)
-      | inr x ↦ ap is_live (ap (λ (z : List MemberStatus). status_of z (at + 1)) x.2 ∙ ap (λ (k : ℕ). status_of (slice_set old.facility.lists.statuses (before.resources.marks.member - 1) Up) k) (sym standing.member)
-          ∙ set_live old.facility.lists.statuses (before.resources.marks.member - 1) Up restarting_there)
-    ]
-
-    apart_status : (k : ℕ) → k ≢ at → status_of new.facility.lists.statuses (k + 1) ≡ status_of old.facility.lists.statuses (k + 1)
-    apart_status k ne = elim sets.statuses [
-      | inl x ↦ ap (λ (z : List MemberStatus). status_of z (k + 1)) x.1
-      | inr x ↦ ap (λ (z : List MemberStatus). status_of z (k + 1)) x.2 ∙ set_apart old.facility.lists.statuses (before.resources.marks.member - 1) (k + 1 - 1) Up (λ same. ne (sym (index k) ∙ same ∙ own_index))
-    ]
-
-    -- ---- the logs
-    numbered : IsNumbered (at + 1) m
-    numbered = record { own = stood.member; restart = subst (λ (z : Option RestartHeld). IfSome z (λ q. q.resources.marks.member ≡ at + 1)) (sym e.made.makes.makes.had) standing.member }
-
-    goes : OneGoes (at + 1) (LogGoes m (steps.Restart e.sent e.answered)) c d
-    goes = goes_told e.drive.contents e.left.contents c d (OneGoes (at + 1) (LogGoes m (steps.Restart e.sent e.answered))) told left
-        (facts.made (at + 1) m e.made.mid u v e.place (steps.Restart e.sent e.answered) e.made.makes (from_one at) numbered)

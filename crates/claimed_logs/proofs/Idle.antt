@@ -40,7 +40,7 @@ none_closed law start back last = closed back (none_spelled back (rest_none (tak
   where
     closed : (xs : List LogRecord) → xs ≡ [] → AllClosed xs
     closed [] e id spot some changed = absurd cc
-    closed (x ∷ xs) e = absurd cc
+    closed (x ∷ xs) e id spot some changed = absurd cc
 
 pub idle_begins : LockedBegins → LastSpell → (member : ℕ) (sizes : Sizes) (h : Held) → IsBook h.marks.locks → IsNew member sizes h → LogLocked [] [] h.marks
 idle_begins begin law member sizes h book fresh = begin [] member sizes h none_whole book fresh (none_closed law)

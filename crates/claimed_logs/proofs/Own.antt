@@ -50,7 +50,7 @@ goes_told : (before after : Option Contents) (c d : Contents) (P : Contents → 
 goes_told before after c d P told left h = subst (λ (z : Option Contents). Becomes (Some c) z P) left (subst (λ (z : Option Contents). Becomes z after P) told h)
 
 -- ---- logs of which that of one member is this one
-logs_with : ℕ → List ℕ → List (List ℕ)
+abbrev logs_with : ℕ → List ℕ → List (List ℕ)
 logs_with zero log = log ∷ []
 logs_with (suc i) log = [] ∷ logs_with i log
 
@@ -77,6 +77,12 @@ record CallsBeside (w : Drive) (h : Held) (i : Intent) (s : Sent) (a : Answered)
   now : Drive
   runs : RunsCall w h i s a said now k
 
+abbrev was_done : Unit {0} → Result (Unit {0}) DiskError
+was_done x = Ok x
+
+ok_err : (x : Unit {0}) (e : DiskError) → was_done x ≡ Err e → ⊥
+ok_err x e is = cc
+
 failed_not : (a : Answered) → IsUnfailed a → a ≡ answered.Failed → ⊥
 failed_not a unfailed e = subst IsUnfailed e unfailed
 
@@ -84,7 +90,7 @@ module _ (w v : Drive) (c d : Contents) (logs : List (List ℕ)) (h after k : He
   appends : (done : Result (Unit {0}) DiskError) → Appends w h done v after → Stores after i done a said k → CallsBeside (holding w (over c logs)) h i sent.AppendLog a said k
   appends (Ok x) calls stores = record {
     now = holding v (with_log (over c logs) h.marks.member (log_of logs h.marks.member ++ h.marks.log.pending));
-    runs = record { done = Ok x; after = after; calls = (record { ok = (calls.0.ok.0, calls.0.ok.1, refl); failed = λ e. absurd e; no_memory = λ e. absurd e }, calls.1); stores = stores };
+    runs = record { done = Ok x; after = after; calls = (record { ok = (calls.0.ok.0, calls.0.ok.1, refl); failed = λ e. absurd (ok_err x error.Failed e); no_memory = λ e. absurd (ok_err x error.NoMemory e) }, calls.1); stores = stores };
   }
   appends (Err error.Failed) calls stores = absurd (failed_not a unfailed stores.0)
   appends (Err error.NoMemory) calls stores = absurd stores
@@ -92,7 +98,7 @@ module _ (w v : Drive) (c d : Contents) (logs : List (List ℕ)) (h after k : He
   writes : (page : PageId) (done : Result (Unit {0}) DiskError) → WritesPage w h page done v after → Stores after i done a said k → CallsBeside (holding w (over c logs)) h i (sent.WritePage page) a said k
   writes page (Ok x) calls stores = record {
     now = holding v (record { pages = map.insert c.pages page h.buffer; logs = logs });
-    runs = record { done = Ok x; after = after; calls = (record { ok = (calls.0.ok.0, calls.0.ok.1, refl); failed = λ e. absurd e; no_memory = λ e. absurd e }, calls.1); stores = stores };
+    runs = record { done = Ok x; after = after; calls = (record { ok = (calls.0.ok.0, calls.0.ok.1, refl); failed = λ e. absurd (ok_err x error.Failed e); no_memory = λ e. absurd (ok_err x error.NoMemory e) }, calls.1); stores = stores };
   }
   writes page (Err error.Failed) calls stores = absurd (failed_not a unfailed stores.0)
   writes page (Err error.NoMemory) calls stores = absurd stores
@@ -101,7 +107,7 @@ module _ (w v : Drive) (c d : Contents) (logs : List (List ℕ)) (h after k : He
   reads_frame : (b : Bool) (at : ℕ) (page : PageId) (x : Unit {0}) → ReadsFrame b w h at page (Ok x) v after → (now : Drive) × ReadsFrame b (holding w (over c logs)) h at page (Ok x) now after
   reads_frame true at page x calls =
       let is = goes_told w.contents v.contents c d (λ c d. (d ≡ c) × (page_at after at ≡ disk.page_at c.pages page)) told left calls.0.ok.2 in
-      (holding v (over c logs), (record { ok = (calls.0.ok.0, calls.0.ok.1, (refl, is.1)); failed = λ e. absurd e; no_memory = λ e. absurd e }, calls.1))
+      (holding v (over c logs), (record { ok = (calls.0.ok.0, calls.0.ok.1, (refl, is.1)); failed = λ e. absurd (ok_err x error.Failed e); no_memory = λ e. absurd (ok_err x error.NoMemory e) }, calls.1))
   reads_frame false at page x calls = (holding w (over c logs), (calls.0, refl, calls.2))
 
   reads_as : (o : Option ℕ) (page : PageId) (x : Unit {0}) → ReadsAs o w h page (Ok x) v after → (now : Drive) × ReadsAs o (holding w (over c logs)) h page (Ok x) now after
@@ -133,13 +139,13 @@ runs_beside u v c d logs h k i sent.None p place a said ok told left e = record 
 runs_beside u v c d logs h k i (sent.Command x) p place a said ok told left e = record { now = record { facility = v.facility; drive = holding u.drive (over c logs) }; runs = (e.0, refl) }
 runs_beside u v c d logs h k i sent.AppendLog p place a said ok told left e =
     let r = called u v c logs h k i sent.AppendLog a said e.1 (appends u.drive v.drive c d logs h e.0.after k i a said ok told left e.0.done e.0.calls e.0.stores) in
-    record { now = r.0; runs = r.1 }
+    record { now = r.0; runs = (r.1, r.2) }
 runs_beside u v c d logs h k i (sent.ReadPage page) p place a said ok told left e =
     let r = called u v c logs h k i (sent.ReadPage page) a said e.1 (reads u.drive v.drive c d logs h e.0.after k i a said ok told left page e.0.done e.0.calls e.0.stores) in
-    record { now = r.0; runs = r.1 }
+    record { now = r.0; runs = (r.1, r.2) }
 runs_beside u v c d logs h k i (sent.WritePage page) p place a said ok told left e =
     let r = called u v c logs h k i (sent.WritePage page) a said e.1 (writes u.drive v.drive c d logs h e.0.after k i a said ok told left page e.0.done e.0.calls e.0.stores) in
-    record { now = r.0; runs = r.1 }
+    record { now = r.0; runs = (r.1, r.2) }
 
 -- ---- its own event
 idle_still : (b : Bool) (log : List ℕ) (new : List LogRecord) (s : MarksState) → s.log.pending ≡ [] → LogLocked (log_after b log []) (pend_after b [] new) s → LogLocked log [] s

@@ -15,6 +15,7 @@ use Rattle.member_marks.specs.State.{MarksState}
 use Rattle.restart_marks.specs.State.{RestartState}
 use Rattle.restart_records.specs.Own.{OwnState}
 use Rattle.restart_resources.specs.Held.{IsNew}
+use Rattle.restart_law.specs.Few.{ShortLogsNeedFew}
 use Rattle.restart_law.specs.Opens.{OpensBegin}
 use Rattle.restart_law.specs.Reads.{KnowsWhole, ReadsBegin}
 use Rattle.restart_claims.specs.Claims.{ClaimsLeft}
@@ -151,6 +152,7 @@ pub record Facts : Type 0 where
   pub left : ClaimsLeft
   pub more : CountedMore
   pub closes : ClosesBegin
+  pub short : ShortLogsNeedFew
 
 dead_by : (s : MemberStatus) → is_failed s ≡ true → is_live s ≡ false
 dead_by Down e = absurd (never (sym e))
@@ -171,7 +173,7 @@ begun_logged facts log w k None is claimed fresh knows = absurd fresh
 begun_logged facts log w k (Some q) is claimed fresh knows = record {
   bytes = log;
   are = is.are;
-  few = is.few;
+  few = facts.short log is.short;
   stands = facts.opens k q.resources.marks fresh.marks;
   reads = facts.reads k log q.resources.marks fresh.marks knows;
   claimed = facts.begins log w k q.resources.marks fresh.marks claimed;

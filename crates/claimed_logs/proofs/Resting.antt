@@ -118,6 +118,9 @@ resting_events facts c d old new at m n w t e ok told left moves l = facts.one c
     logged : MemberLogged old.facility w (at + 1) (log_of c.logs (at + 1)) m
     logged = subst (λ (x : Option Member). IfSome x (MemberLogged old.facility w (at + 1) (log_of c.logs (at + 1)))) e.had (l.each at)
 
+    was_restarting : status_of old.facility.lists.statuses (at + 1) ≡ Restarting
+    was_restarting = ap (λ (k : ℕ). status_of old.facility.lists.statuses k) (sym stood.id) ∙ e.restarting
+
     in_hand : is_some m.restart ≡ true
     in_hand = stood.restarts was_restarting
 
@@ -135,9 +138,6 @@ resting_events facts c d old new at m n w t e ok told left moves l = facts.one c
 
     status : (k : ℕ) → status_of new.facility.lists.statuses k ≡ status_of old.facility.lists.statuses k
     status k = ap (λ (x : List MemberStatus). status_of x k) moves.statuses
-
-    was_restarting : status_of old.facility.lists.statuses (at + 1) ≡ Restarting
-    was_restarting = ap (λ (k : ℕ). status_of old.facility.lists.statuses k) (sym stood.id) ∙ e.restarting
 
     now_restarting : status_of new.facility.lists.statuses (at + 1) ≡ Restarting
     now_restarting = status (at + 1) ∙ was_restarting

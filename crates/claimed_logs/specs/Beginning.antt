@@ -1,11 +1,9 @@
 -- A phase begins, and with it restarts of members that have failed.
-use Rattle.std.specs.Prelude.{◌≡◌, ℕ, ◌+◌, true, List, IfSome, slice_get}
+use Rattle.std.specs.Prelude.{◌≡◌, ℕ, ◌+◌, ◌^◌, ◌<◌, true, List, length, IfSome, slice_get}
 use Rattle.ds_disk.specs.Contents.{Contents, log_of}
-use Rattle.ds_model.specs.declared.log.LogRecord.{LogRecord}
 use Rattle.ds_model.specs.declared.script.Phase.{Phase}
 use Rattle.log_reader.specs.Keeping.{AreBytes}
-use Rattle.restart_law.specs.Opens.{FewNeeds}
-use Rattle.restart_law.specs.Reads.{AreLast, KnowsWhole}
+use Rattle.restart_law.specs.Reads.{KnowsWhole}
 use Rattle.lock_protocol.specs.Machine.{World}
 use Rattle.group_core.specs.Given.{PhaseBegins, begins_restart}
 use Rattle.group_core.specs.Given.{CrewState}
@@ -13,10 +11,10 @@ use Rattle.failed_logs.specs.Given.{Moves, OfPhase}
 use Rattle.failed_logs.specs.Given.{LocksTied}
 use Rattle.claimed_logs.specs.Logs.{LogsClaimed}
 
--- the log is bytes, of fewer records than 64 bits count
+-- the log is bytes, fewer than 2^60
 pub record IsLog (log : List ℕ) : Type 0 where
   pub are : AreBytes log
-  pub few : (records : List LogRecord) → AreLast log records → FewNeeds records
+  pub short : length log < 2 ^ 60
 
 -- each restart that begins was told of whole records alone
 abbrev pub BeginKnowing : Contents → Phase → CrewState → CrewState → Type 0

@@ -21,7 +21,7 @@ use failed_logs::{
     logs_taken_over, member_restarts_go, member_steps_go, members_go, moves_spare, phases_go,
     resting_members_go,
 };
-use group_logs::members_log;
+use group_logs::{known_ends, members_log, rests_are_unknown};
 use lock_restarts::{restarts_follow, sends_lawfully};
 use log_appends::{appends_tell, rests_tell};
 use log_numbers::{commands_count, numbers_stay};
@@ -29,7 +29,7 @@ use log_opens::opens_are_all;
 use log_rows::{both_tell, open_trans_tell};
 use restart_claims::{claims_stay, claims_tell, restarts_close_truly, stops_are_claimed};
 use restart_closing::{failures_leave, restarts_close, restarts_rest};
-use restart_law::{lists_go, opens_stay, reads_true};
+use restart_law::{lists_go, needs_are_few, opens_stay, reads_true};
 
 /// Where each restart in hand that has read its log knows that what it has left open has its claims, the claims are there that its member
 /// needs for what it hands over.
@@ -69,7 +69,8 @@ pub fn logs_claimed()
     claims_stay();
 }
 
-/// So it is behind the begin of a phase, if the restarts that begin were told of whole records alone.
+/// So it is behind the begin of a phase, if the restarts that begin were told of whole records alone, and each log is bytes, fewer than
+/// 2^60.
 pub fn phases_logged()
     ensures { PhasesLogged }
 {
@@ -80,6 +81,7 @@ pub fn phases_logged()
     claims_stay();
     numbers_stay();
     restarts_close();
+    needs_are_few();
 }
 
 /// Where a member fails that was up, moves of it lead to a world in which it is so again, whatever of the log buffer is on disk then; and so
@@ -188,7 +190,8 @@ pub fn events_logged()
     numbers_stay();
 }
 
-/// So it stays behind any event of a group that isn't refused, while no group restart is in hand, given what no contract says yet.
+/// So it stays behind any event of a group that isn't refused, while no group restart is in hand, given what no contract says yet; and each log
+/// is whole records up to where its member knows it to be.
 pub fn events_keep<D: Disk, C: CacheFace, P>()
     ensures { EventsKeep P C.directory D.alive D.contents D.faults }
 {
@@ -206,4 +209,6 @@ pub fn events_keep<D: Disk, C: CacheFace, P>()
     restarts_stop();
     failures_leave();
     rests_tell();
+    known_ends();
+    rests_are_unknown();
 }

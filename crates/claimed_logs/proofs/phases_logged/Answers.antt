@@ -10,4 +10,5 @@ returns c = phases_logged (record {
   left = c.claims_stay-2.ensures.other;
   more = c.numbers_stay.ensures.more;
   closes = c.restarts_close.ensures.begin;
+  short = c.needs_are_few.ensures.short;
 })
