@@ -1,27 +1,25 @@
 -- What is found of a log that is read twice is what the seventh clause of a sound disk says of it.
-use Rattle.std.proofs.Common.{◌≡◌, ℕ, ◌+◌, ◌≤◌, Bool, true, false, cond, List, [], ◌∷◌, ◌++◌, length, map, Option, Some, None, is_some, refl, sym, ap, subst, ◌∙◌, arith}
+use Rattle.std.proofs.Common.{◌≡◌, ℕ, ◌+◌, ◌≤◌, Bool, true, false, cond, List, [], ◌∷◌, ◌++◌, map, Option, Some, None, is_some, refl, sym, ap, ◌∙◌, arith}
 use Rattle.std.specs.Prelude.{◌==◌, nat_le, nat_lt, not, ◌||◌, ◌&&◌}
 use Rattle.std.specs.List.{list_any, list_all}
 use Rattle.std.specs.Ordering.{nat_cmp, eq_by_cmp}
 use Rattle.std.specs.Cmp.{nat_cmp_total}
-use Rattle.std.specs.FinMap.{get, insert, remove, empty, get-insert, get-remove, get-empty}
+use Rattle.std.specs.FinMap.{get, remove, empty, get-insert, get-remove, get-empty}
 use Rattle.std.proofs.lemmas.Bool.Decides.{nat_tests}
 use Rattle.std.proofs.lemmas.List.Folds.{list_any-append}
 use Rattle.ds_base.specs.declared.names.PageId.{PageId}
 use Rattle.ds_model.specs.declared.log.LogRecord.{LogRecord}
 use Rattle.ds_model.specs.declared.log.Body.{Body}
 use Rattle.ds_model.specs.declared.log.Body.TheVariants as body
-use Rattle.ds_model.specs.RecordBytes.{record_bytes}
 use Rattle.page_format.specs.Fields.{lrsn_of}
 use Rattle.page_images.specs.Images.{Images}
 use Rattle.page_redo.specs.Pages.{pages_of}
 use Rattle.sound_disk.specs.Settled.{has_ended}
-use Rattle.sound_disk.specs.Checkpoints.{next_place, offset_fits, offsets_fit, start_from, start_of, records_before, is_done, IsCheckpointed}
+use Rattle.sound_disk.specs.Checkpoints.{next_place, offset_fits, offsets_fit, start_from, start_of, records_before, is_done}
 use Rattle.kept_checkpoints.specs.Offsets.{Places}
-use Rattle.kept_checkpoints.specs.declared.needs.Need.{Need}
 use Rattle.kept_checkpoints.specs.declared.scan.LogScan.{LogScan}
-use Rattle.kept_checkpoints.specs.Needs.{need_of, is_unended, needs_by, is_met}
-use Rattle.kept_checkpoints.specs.Scan.{is_behind, with_offset, nothing_scanned, scanned, scan_from, left_over, needs_open, may_be_left, may_all_be_left, IsKeptBy, ScanTells}
+use Rattle.kept_checkpoints.specs.Needs.{need_of, is_unended, is_met}
+use Rattle.kept_checkpoints.specs.Scan.{is_behind, with_offset, nothing_scanned, scanned, scan_from, left_over, needs_open, may_be_left, may_all_be_left, ScanTells}
 use Rattle.kept_checkpoints.proofs.Meets.{met_by}
 use Rattle.kept_checkpoints.proofs.Holding.{ended}
 

@@ -1,11 +1,8 @@
 -- The records of a log, one after the other, and what is made of them.
-use Rattle.std.proofs.Common.{◌≡◌, ℕ, zero, suc, ◌+◌, ◌-◌, ◌<◌, ◌≤◌, Bool, true, false, List, [], ◌∷◌, ◌++◌, length, map, take, drop, get_or, Option, Some, None, Result, Ok, Err, IfOk, refl, sym, ap, subst, ◌∙◌, arith, length-append}
-use Rattle.std.specs.Prelude.{IsErrOf, IfSome, slice_index, slice_index_or, nat_lt, not, is_none, ◌==◌, ◌||◌, ◌&&◌}
-use Rattle.std.specs.List.{list_all}
-use Rattle.ds_base.specs.declared.names.PageId.{PageId}
+use Rattle.std.proofs.Common.{◌≡◌, ℕ, suc, ◌+◌, ◌-◌, ◌<◌, ◌≤◌, Bool, true, false, List, [], ◌∷◌, ◌++◌, length, map, take, drop, Option, Some, None, Result, Ok, Err, IfOk, refl, sym, ap, subst, ◌∙◌, arith}
+use Rattle.std.specs.Prelude.{IsErrOf, IfSome, slice_index, slice_index_or, ◌==◌, ◌&&◌}
 use Rattle.std.proofs.lemmas.Bool.Decides.{nat_tests}
 use Rattle.std.specs.FinMap.{empty, remove, entries, len-entries, empty_of_len}
-use Rattle.ds_base.specs.Causes.{Rose}
 use Rattle.ds_disk.specs.Contents.{Contents, log_of, WhenTold, Becomes, Same}
 use Rattle.ds_disk.specs.Pages.{page_at}
 use Rattle.ds_disk.specs.declared.disk.DiskError.{DiskError}
@@ -15,26 +12,23 @@ use Rattle.ds_model.specs.RecordBytes.{record_bytes}
 use Rattle.log_record.specs.declared.log.Log.{Log}
 use Rattle.log_record.specs.Reading.{record_in}
 use Rattle.log_record.specs.declared.fault.RecordFault.{RecordFault}
-use Rattle.log_record.specs.declared.fault.RecordFault.TheVariants.{NotWhole, Bad, NoMemory}
-use Rattle.log_record.specs.Logs.{parts_in, parts_of}
+use Rattle.log_record.specs.declared.fault.RecordFault.TheVariants.{Bad}
+use Rattle.log_record.specs.Logs.{parts_of}
 use Rattle.log_volume.specs.declared.fault.LogFault.{LogFault}
 use Rattle.log_volume.specs.declared.fault.LogFault.TheVariants as fault
 use Rattle.log_head.specs.Heads.{HeadState, IsShort, IsOf, left_bytes, left_of}
 use Rattle.log_head.specs.Whole.{whole_records}
 use Rattle.log_head.specs.Laws.{FirstIsWhole, NoneIsWhole, PartsAreWhole}
 use Rattle.disk_heads.specs.Reading as heads
-use Rattle.disk_heads.specs.Records.{IsSound, IsPast, IsNext, IsNextOf, IsBadAt}
+use Rattle.disk_heads.specs.Records.{IsSound, IsPast, IsNext, IsBadAt}
 use Rattle.page_images.specs.Images.{Images}
-use Rattle.sound_disk.specs.Checkpoints.{next_place, IsCheckpointed, AreCheckpointed}
+use Rattle.sound_disk.specs.Checkpoints.{IsCheckpointed, AreCheckpointed}
 use Rattle.sound_disk.specs.Whole_logs.{IsWholeLog, AreWholeLogs}
 use Rattle.sound_disk.specs.Laws.{AreRead}
-use Rattle.kept_checkpoints.specs.declared.needs.Need.{Need}
-use Rattle.kept_checkpoints.specs.Needs.{is_met}
 use Rattle.kept_checkpoints.specs.declared.scan.LogScan.{LogScan}
 use Rattle.kept_checkpoints.specs.Offsets.{Places}
-use Rattle.kept_checkpoints.specs.Scan.{Open, needs_open, nothing_scanned, scanned, scan_from, met_at, left_over, may_be_left, may_all_be_left, IsKeptBy, ScanTells}
+use Rattle.kept_checkpoints.specs.Scan.{Open, nothing_scanned, scanned, scan_from, met_at, left_over, may_be_left, may_all_be_left, ScanTells}
 use Rattle.kept_pages.specs.Reading.{Reads}
-use Rattle.kept_pages.specs.Unmet.{AreJudged}
 use Rattle.kept_pages.specs.Walking.{left_by, records_to, IsFollowed, Comes, IsScanned, AreMet, Fits, IsLogKept, AreLogsKept, AreAllKept}
 use Rattle.kept_pages.proofs.Told.{same_on}
 
@@ -65,21 +59,6 @@ reads_on a b e n k j P x Q y R z p q h = record {
   where
     no_error : {Z : Type 0} (z : Z) → IsErrOf {T = Z} {E = DiskError} (Ok z) Failed → ⊥
     no_error z w = cc
-
-pub err_on : {X Y Z : Type 0} (a b e : Option Contents) (n k j : ℕ) (P : X → Contents → Type 0) (x : X) (Q : Y → Contents → Type 0) (f g : DiskError) (R : Z → Contents → Type 0)
-    → Reads a b n k P (Ok x) → Reads b e k j Q (Err f) → g ≡ f → Reads a e n j R (Err g)
-err_on {Y = Y} {Z = Z} a b e n k j P x Q f g R p q is = record {
-  ok = tt;
-  failed = λ w. rose n k j p.later (q.failed (moved w));
-  same = same_on a b e p.same q.same;
-  later = omega (arith, p.later, q.later);
-}
-  where
-    rose : (n k j : ℕ) → n ≤ k → Rose k j → Rose n j
-    rose n k j le r = omega (arith, le, r)
-
-    moved : IsErrOf {T = Z} (Err g) Failed → IsErrOf {T = Y} (Err f) Failed
-    moved w = cc
 
 -- a call that went well says less
 pub reads_to : {X Z : Type 0} (a b : Option Contents) (n k : ℕ) (P : X → Contents → Type 0) (x : X) (R : Z → Contents → Type 0) (z : Z) → Reads a b n k P (Ok x) → ((c : Contents) → P x c → R z c) → Reads a b n k R (Ok z)
@@ -195,9 +174,10 @@ sound_start end head e = subst IsSound (sym e) (record { within = omega arith; b
 
 scans_first : (member end : ℕ) (head : HeadState) (s : LogScan) (n : ℕ) (c : Contents) → head ≡ head_from end → s ≡ nothing_scanned → ScansOn member end head s n c
 scans_first member end head s n c e is le =
-    subst (λ (h : HeadState). IsOf (log_of c.logs member) h × (scan_from s h.at (left_of (log_of c.logs member) h) ≡ scan_from nothing_scanned 0 (records_to end (log_of c.logs member)))) (sym e)
-    (of_start (log_of c.logs member) end le,
-    ap (λ (x : LogScan). scan_from x 0 (left_of (log_of c.logs member) (head_from end))) is ∙ ap (λ (l : List LogRecord). scan_from nothing_scanned 0 l) (start_left (log_of c.logs member) end))
+    subst (λ (h : HeadState). IsOf (log_of c.logs member) h × (scan_from s h.at (left_of (log_of c.logs member) h) ≡ scan_from nothing_scanned 0 (records_to end (log_of c.logs member)))) (sym e) (
+      of_start (log_of c.logs member) end le,
+      ap (λ (x : LogScan). scan_from x 0 (left_of (log_of c.logs member) (head_from end))) is ∙ ap (λ (l : List LogRecord). scan_from nothing_scanned 0 l) (start_left (log_of c.logs member) end),
+    )
 
 pub scan_starts : (a : Option Contents) (k member end : ℕ) (head : HeadState) (s : LogScan) → head ≡ head_from end → s ≡ nothing_scanned → Reads a a k k (ScansOn member end head s) (Ok 0)
 scan_starts a k member end head s e is = reads_none a k (ScansOn member end head s) 0 (λ c. scans_first member end head s 0 c e is)
@@ -311,26 +291,6 @@ meet_more a b e f n k j i member end start old new s t at next r may some true_i
 
 -- ---- one record
 
-read_again : (start at : ℕ) → start ≤ at → nat_lt at start ≡ false
-read_again start at le = grind (arith, nat_tests)
-
-pub left_again : (a : Option Contents) (n : ℕ) (s : LogScan) (at : ℕ) (r : LogRecord) → s.start ≤ at → Reads a a n n (MayBe s at r) (Ok true)
-left_again a n s at r le = reads_none a n (MayBe s at r) true (λ c kept. ap (λ (b : Bool). not b || list_all (is_met (page_at c.pages)) (needs_open s.changes r)) (read_again s.start at le))
-
-or_left : (a b : Bool) → b ≡ true → (not a || b) ≡ true
-or_left true b h = h
-or_left false b h = refl
-
-met_by : (images : Images) (needs : List Need) (found : Option PageId) → is_none found ≡ true → AreJudged images needs found → list_all (is_met images) needs ≡ true
-met_by images needs None e h = h
-met_by images needs (Some id) e h = absurd cc
-
-pub left_met : (a b : Option Contents) (n k : ℕ) (s : LogScan) (at : ℕ) (r : LogRecord) (needs : List Need) (found : Option PageId) (may : Bool) → needs ≡ needs_open s.changes r → may ≡ is_none found
-    → Reads a b n k (λ (found : Option PageId) c. AreJudged (page_at c.pages) needs found) (Ok found) → Reads a b n k (MayBe s at r) (Ok may)
-left_met a b n k s at r needs found may are is p =
-    reads_to a b n k (λ (found : Option PageId) c. AreJudged (page_at c.pages) needs found) found (MayBe s at r) may p
-    (λ c judged kept. or_left (nat_lt at s.start) _ (ap (λ (ns : List Need). list_all (is_met (page_at c.pages)) ns) (sym are) ∙ met_by (page_at c.pages) needs found (sym is ∙ kept) judged))
-
 abbrev pub MetIs : ℕ → ℕ → LogScan → LogScan → Bool → Contents → Type 0
 MetIs member end start s b c = b ≡ true → end ≤ length (log_of c.logs member) → AreMet (page_at c.pages) (log_of c.logs member) end start s
 
@@ -348,15 +308,6 @@ pub meet_ends : (a b e : Option Contents) (n k j member end : ℕ) (start : LogS
 meet_ends a b e n k j member end start old new s next none p q =
     reads_on a b e n k j (Meets member end start old s) 0 (ComesIs member old new) next (MetIs member end start s) true p q
     (λ c on comes. meets_last member end start old new s true c on (λ of. subst (λ (o : Option LogRecord). Comes (log_of c.logs member) old new o) none (comes of)))
-
-not_true : false ≡ true → ⊥
-not_true e = cc
-
--- where one may not be left nothing is said
-pub meet_stops : {X Y : Type 0} (a b e f : Option Contents) (n k j i member end : ℕ) (start s : LogScan) (P : ℕ → Contents → Type 0) (T : X → Contents → Type 0) (U : Y → Contents → Type 0) (x : X) (y : Y)
-    → Reads a b n k P (Ok 0) → Reads b e k j T (Ok x) → Reads e f j i U (Ok y) → Reads a f n i (MetIs member end start s) (Ok false)
-meet_stops a b e f n k j i member end start s P T U x y p q w =
-    reads_on a e f n j i P 0 U y (MetIs member end start s) false (reads_on a b e n k j P 0 T x P 0 p q (λ c on _. on)) w (λ c on _ kept le. absurd (not_true kept))
 
 -- ---- both
 
@@ -390,39 +341,10 @@ kept_told tells a b e n k j member end old new met kept is fits same p q =
     reads_on a b e n k j (ScannedIs member end) old (MetIs member end old new) met (KeptIs member end) kept p q
     (λ c scan may kept_is. kept_of tells (page_at c.pages) (log_of c.logs member) end old new scan (may is) (fits kept_is) same)
 
-pub unkept_told : (a b e : Option Contents) (n k j member end : ℕ) (old new : LogScan) (met : Bool)
-    → Reads a b n k (ScannedIs member end) (Ok old) → Reads b e k j (MetIs member end old new) (Ok met) → Reads a e n j (KeptIs member end) (Ok false)
-unkept_told a b e n k j member end old new met p q =
-    reads_on a b e n k j (ScannedIs member end) old (MetIs member end old new) met (KeptIs member end) false p q (λ c scan may kept. absurd (not_true kept))
-
 -- ---- all logs
 
 abbrev pub SoFar : List ℕ → ℕ → ℕ → Contents → Type 0
 SoFar ends count n c = AreLogsKept (page_at c.pages) c.logs ends count
-
-pub none_yet : (a : Option Contents) (k : ℕ) (ends : List ℕ) → Reads a a k k (SoFar ends 0) (Ok 0)
-none_yet a k ends = reads_none a k (SoFar ends 0) 0 (λ c i lt. absurd (omega (arith, lt)))
-
-log_at : (logs : List (List ℕ)) (i member : ℕ) → member ≡ i + 1 → log_of logs member ≡ slice_index_or logs i []
-log_at logs i member e = let less : member - 1 ≡ i = omega (arith, e) in ap (λ (k : ℕ). slice_index_or logs k []) less
-
-below_or : (k i : ℕ) → k < i + 1 → (P : Type 0) → (k < i → P) → (k ≡ i → P) → P
-below_or k i lt P f g = by_test (nat_lt k i) refl
-  where
-    by_test : (b : Bool) → nat_lt k i ≡ b → P
-    by_test true e = f (grind (arith, nat_tests))
-    by_test false e = g (grind (arith, nat_tests))
-
-one_more : (images : Images) (logs : List (List ℕ)) (ends : List ℕ) (i member end : ℕ) → member ≡ i + 1 → end ≡ slice_index ends i → AreLogsKept images logs ends i → IsLogKept images (log_of logs member) end → AreLogsKept images logs ends (i + 1)
-one_more images logs ends i member end is e h this k lt =
-    below_or k i lt (IsLogKept images (slice_index_or logs k []) (slice_index ends k)) (h k)
-    (λ here. subst (λ (m : ℕ). IsLogKept images (slice_index_or logs m []) (slice_index ends m)) (sym here)
-    (subst (λ (l : List ℕ). IsLogKept images l (slice_index ends i)) (log_at logs i member is) (subst (λ (n : ℕ). IsLogKept images (log_of logs member) n) e this)))
-
-pub kept_more : (a b e : Option Contents) (n k j : ℕ) (ends : List ℕ) (i member end : ℕ) (kept : Bool) → kept ≡ true → member ≡ i + 1 → end ≡ slice_index ends i
-    → Reads a b n k (SoFar ends i) (Ok 0) → Reads b e k j (KeptIs member end) (Ok kept) → Reads a e n j (SoFar ends (i + 1)) (Ok 0)
-kept_more a b e n k j ends i member end kept is member_is end_is p q =
-    reads_on a b e n k j (SoFar ends i) 0 (KeptIs member end) kept (SoFar ends (i + 1)) 0 p q (λ c so this. one_more (page_at c.pages) c.logs ends i member end member_is end_is so (this is))
 
 records_are : PartsAreWhole → AreRead → (member : ℕ) (bytes : List ℕ) (log : Log) → IsWholeLog member bytes log → (log.length ≤ length bytes) × (records_to log.length bytes ≡ log.records)
 records_are parts read member bytes log h = parts bytes (parts_of log) (read member bytes log h)
@@ -453,7 +375,3 @@ AllIs ends b c = b ≡ true → AreAllKept c ends
 pub all_told : PartsAreWhole → AreRead → (a b : Option Contents) (n k : ℕ) (ends : List ℕ) (count : ℕ) → length ends ≡ 32 → 32 ≤ count → Reads a b n k (SoFar ends count) (Ok 0) → Reads a b n k (AllIs ends) (Ok true)
 all_told parts read a b n k ends count long all p =
     reads_to a b n k (SoFar ends count) 0 (AllIs ends) true p (λ c so kept. all_kept parts read ends c long (λ i lt. so i (omega (arith, lt, all))))
-
-pub one_unkept : (a b e : Option Contents) (n k j : ℕ) (ends : List ℕ) (count member end : ℕ) (kept : Bool) → Reads a b n k (SoFar ends count) (Ok 0) → Reads b e k j (KeptIs member end) (Ok kept) → Reads a e n j (AllIs ends) (Ok false)
-one_unkept a b e n k j ends count member end kept p q =
-    reads_on a b e n k j (SoFar ends count) 0 (KeptIs member end) kept (AllIs ends) false p q (λ c so this all. absurd (not_true all))

@@ -1,9 +1,8 @@
 -- The rows of all records are those of the tables together.
-use Rattle.std.proofs.Common.{◌≡◌, ℕ, zero, suc, ◌+◌, ◌-◌, ◌*◌, ◌≤◌, Bool, true, false, cond, List, [], ◌∷◌, ◌++◌, length, Option, Some, None, is_some, refl, sym, ap, subst, ◌∙◌, arith}
-use Rattle.std.specs.Prelude.{◌==◌, ◌<◌, not, ◌||◌, ◌&&◌, filter}
-use Rattle.std.specs.List.{list_any, AllByRecursion}
-use Rattle.std.specs.FinMap as finite
-use Rattle.std.specs.FinMap.{FinMap, get, insert, remove, empty, len, get-insert, get-remove, get-empty, len-insert, len-remove, len-empty, empty_of_len}
+use Rattle.std.proofs.Common.{◌≡◌, ℕ, zero, suc, ◌+◌, ◌-◌, ◌≤◌, Bool, true, false, cond, List, [], ◌∷◌, Option, Some, None, is_some, refl, sym, ap, ◌∙◌, arith}
+use Rattle.std.specs.Prelude.{◌==◌, ◌<◌, ◌&&◌, filter}
+use Rattle.std.specs.List.{AllByRecursion}
+use Rattle.std.specs.FinMap.{FinMap, get, empty, len, get-insert, get-remove, get-empty, len-insert, len-remove, len-empty, empty_of_len}
 use Rattle.std.specs.Ordering.{nat_cmp, eq_by_cmp, is_eq, ordering_then}
 use Rattle.std.specs.declared.cmp.Ordering.{Ordering}
 use Rattle.std.specs.declared.cmp.Ordering.TheVariants.{Less, Equal, Greater}
@@ -19,7 +18,6 @@ use Rattle.ds_model.specs.RecordBytes.{IsAllowed, BodyIsAllowed}
 use Rattle.settled_changes.specs.Left.{Spots, with_row, with_body}
 use Rattle.table_records.specs.Own.{changes_row_of}
 use Rattle.settled_tables.specs.Sums.{total}
-use Rattle.settled_tables.proofs.Counting.{total_next, total_none}
 
 -- ---- sums of which one changes
 

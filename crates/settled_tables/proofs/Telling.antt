@@ -1,15 +1,13 @@
 -- What the tables tell together.
-use Rattle.std.proofs.Common.{◌≡◌, ℕ, suc, ◌+◌, ◌-◌, ◌*◌, ◌^◌, ◌<◌, ◌≤◌, Bool, true, false, cond, List, [], ◌∷◌, ◌++◌, length, map, Result, Ok, Err, IfOk, OnOk, refl, sym, ap, subst, ◌∙◌, arith}
-use Rattle.std.specs.Prelude.{◌==◌, not, ◌||◌, ◌&&◌, filter, is_none}
+use Rattle.std.proofs.Common.{◌≡◌, ℕ, suc, ◌+◌, ◌-◌, ◌*◌, ◌≤◌, Bool, true, false, cond, List, [], ◌∷◌, ◌++◌, length, map, refl, sym, ap, subst, ◌∙◌, arith}
+use Rattle.std.specs.Prelude.{◌==◌, not, ◌||◌, ◌&&◌, filter}
 use Rattle.std.specs.List.{list_any, flat_map, AllByRecursion}
 use Rattle.std.specs.FinMap as finite
 use Rattle.std.specs.FinMap.{len-entries}
 use Rattle.std.proofs.lemmas.Bool.Decides.{nat_tests}
 use Rattle.std.proofs.lemmas.List.Elements.{filter_agree}
 use Rattle.std.proofs.lemmas.List.Folds.{list_any-append}
-use Rattle.ds_base.specs.Ids.{IsTable, IsLrsn}
 use Rattle.ds_base.specs.declared.row.Row.{Row}
-use Rattle.ds_base.specs.Pages.{heap_set, index_set}
 use Rattle.ds_model.specs.declared.log.LogRecord.{LogRecord}
 use Rattle.ds_model.specs.declared.log.Version.{Version}
 use Rattle.ds_model.specs.declared.log.Body.{Body}
@@ -19,19 +17,16 @@ use Rattle.ds_model.specs.Logs.{is_commit, has_commit, by_lrsn, after_body, afte
 use Rattle.ds_model.specs.RecordBytes.{IsAllowed, BodyIsAllowed}
 use Rattle.log_record.specs.declared.log.Log.{Log}
 use Rattle.log_merge.specs.Merging.{is_merged, kept, all_records, in_order}
-use Rattle.log_trans.specs.Numbers.{greatest}
 use Rattle.page_format.specs.declared.patch.Patch.{Patch}
 use Rattle.page_chain.specs.Chains.{changes_of}
 use Rattle.sound_disk.specs.Settled.{is_row_change}
-use Rattle.sound_disk.specs.Turns.{are_in_turn, ChangeInTurn}
-use Rattle.sound_disk.specs.Numbers_left.{open_changes, NumbersAreLeft}
+use Rattle.sound_disk.specs.Numbers_left.{open_changes}
 use Rattle.sound_disk.specs.Versions.{merged}
-use Rattle.settled_changes.specs.Left.{Spots, with_body, spots_from, rows_left}
+use Rattle.settled_changes.specs.Left.{Spots, with_body, spots_from}
 use Rattle.table_records.specs.Own.{is_of, changes_row_of, has_changed, is_own, own_with, own_from, own}
-use Rattle.settled_tables.specs.declared.sums.Sums.{Sums}
 use Rattle.settled_tables.specs.Ending.{is_early, are_early}
-use Rattle.settled_tables.specs.Sums.{total, open_of, rows_of, AreTold}
-use Rattle.settled_tables.specs.Laws.{AreAsked, TurnsHold, NumbersHold, RowsAdd}
+use Rattle.settled_tables.specs.Sums.{total, open_of, rows_of}
+use Rattle.settled_tables.specs.Laws.{TurnsHold, NumbersHold, RowsAdd}
 use Rattle.settled_tables.proofs.Keeping.{and_left, and_right, and_both, joined, row_is_own, other_is_no_row, own_append, any_own}
 use Rattle.settled_tables.proofs.Turning.{turns_from}
 use Rattle.settled_tables.proofs.Counting.{KeepsAll, commits_in_order, open_within, open_same}

@@ -1,5 +1,5 @@
 use Rattle.std.proofs.Common.{arith}
-use Rattle.kept_pages.proofs.Walking.{none_yet, all_told}
+use Rattle.kept_pages.proofs.Walking.{all_told}
 use Rattle.kept_pages.proofs.walk.are_kept.Goals as goal
 
 pub returns : goal.returns

@@ -1,4 +1,4 @@
-use Rattle.std.proofs.Common.{ℕ, Ok}
+use Rattle.std.proofs.Common.{Ok}
 use Rattle.disk_heads.specs.Records.{IsSound}
 use Rattle.kept_pages.specs.Reading.{Reads}
 use Rattle.kept_pages.proofs.Walking.{ScansOn}
