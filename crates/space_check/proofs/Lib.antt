@@ -1,5 +1,5 @@
 pub mod Reading
 pub mod Steps
 pub mod Verdicts
-mod Own
-mod Quick
+mod Taken
+mod Known
