@@ -1,6 +1,6 @@
 -- Up to where the members of a group know their logs to be whole records.
 use Rattle.std.proofs.Common.{◌≡◌, ℕ, zero, suc, ◌+◌, ◌<◌, ◌≤◌, refl, sym, ◌∙◌, ap, subst, arith, Bool, true, false, inl, inr, List, [], ◌∷◌, ◌++◌, append_assoc, length, length-append, take, drop, All, map, Option, Some, None, Result, Ok, Err}
-use Rattle.std.specs.Prelude.{◌≢◌, ◌⊎◌, ◌-◌, ◌&&◌, IfSome, IsSomeAnd, nat_lt, replicate, slice_get, slice_index_or}
+use Rattle.std.specs.Prelude.{◌≢◌, ◌⊎◌, ◌-◌, ◌&&◌, min, IfSome, IsSomeAnd, nat_lt, replicate, slice_get, slice_index_or}
 use Rattle.std.specs.List.{AllByRecursion}
 use Rattle.std.proofs.lemmas.Bool.{and_parts, cases_Bool, cases_eq, cases_lt, lt-ltb}
 use Rattle.std.proofs.lemmas.List.{append_cancel_left, length-take, length-take-le, take-append-drop, take-append-le, take-take, take_all}
@@ -42,6 +42,40 @@ use Rattle.group_member.specs.Stepping.{is_failure}
 never : true ≡ false → ⊥
 never e = cc
 
+-- ---- numbers
+zero_within : (n : ℕ) → 0 ≤ n
+zero_within n = omega arith
+
+all_within : (n end : ℕ) → n ≡ end → end ≤ n
+all_within n end e = omega (arith, e)
+
+all_taken : (n end : ℕ) → n ≡ end → n ≤ end
+all_taken n end e = omega (arith, e)
+
+within_more : (n k all end : ℕ) → all ≡ n + k → end ≤ n → end ≤ all
+within_more n k all end e le = omega (arith, e, le)
+
+within_least : (n k all end : ℕ) → all ≡ min k n → end ≤ n → end ≤ k → end ≤ all
+within_least n k all end e le less = omega (arith, e, le, less)
+
+one_within : (k : ℕ) → 1 ≤ k + 1
+one_within k = omega arith
+
+next_apart : (k at : ℕ) → k ≢ at → k + 1 ≢ at + 1
+next_apart k at ne e = ne (omega (arith, e))
+
+next_within : (at : ℕ) → at < 32 → at + 1 ≤ 32
+next_within at less = omega (arith, less)
+
+few_within : (at n : ℕ) → at < n → n ≤ 32 → at < 32
+few_within at n less few = omega (arith, less, few)
+
+first_within : (n : ℕ) → 0 < suc n
+first_within n = omega arith
+
+more_within : (k n : ℕ) → k < n → suc k < suc n
+more_within k n less = omega (arith, less)
+
 -- ---- one log
 holds_as : (end : ℕ) (old new : List ℕ) → new ≡ old → EndHolds end old → EndHolds end new
 holds_as end old new e h = subst (λ (z : List ℕ). EndHolds end z) (sym e) h
@@ -50,23 +84,23 @@ ends_as : (x y : ℕ) (bytes : List ℕ) → x ≡ y → EndHolds x bytes → En
 ends_as x y bytes e h = subst (λ (z : ℕ). EndHolds z bytes) e h
 
 nothing_holds : (bytes : List ℕ) → EndHolds 0 bytes
-nothing_holds bytes = record { within = omega arith; whole = record { records = []; spelled = refl; allowed = tt } }
+nothing_holds bytes = record { within = zero_within (length bytes); whole = record { records = []; spelled = refl; allowed = tt } }
 
 all_holds : (end : ℕ) (bytes : List ℕ) → EndsAt end bytes → EndHolds end bytes
 all_holds end bytes h = record {
-  within = omega (arith, h.long);
-  whole = subst (λ (z : List ℕ). AreWhole z) (sym (take_all end bytes (omega (arith, h.long)))) h.whole;
+  within = all_within (length bytes) end h.long;
+  whole = subst (λ (z : List ℕ). AreWhole z) (sym (take_all end bytes (all_taken (length bytes) end h.long))) h.whole;
 }
 
 more_holds : (end : ℕ) (old more : List ℕ) → EndHolds end old → EndHolds end (old ++ more)
 more_holds end old more h = record {
-  within = (let long = length-append old more in let fits = h.within in omega (arith, long, fits));
+  within = within_more (length old) (length more) (length (old ++ more)) end (length-append old more) h.within;
   whole = subst (λ (z : List ℕ). AreWhole z) (sym (take-append-le end old more h.within)) h.whole;
 }
 
 cut_holds : (end long : ℕ) (old : List ℕ) → end ≤ long → EndHolds end old → EndHolds end (take long old)
 cut_holds end long old spared h = record {
-  within = (let count = length-take long old in let fits = h.within in omega (arith, count, fits, spared));
+  within = within_least (length old) long (length (take long old)) end (length-take long old) h.within spared;
   whole = subst (λ (z : List ℕ). AreWhole z) (sym (take-take end long old spared)) h.whole;
 }
 
@@ -115,7 +149,7 @@ pub members_know : MembersKnow
 members_know c d old new at m stepped h same goes spared k within = elim (cases_eq k at) [
   | inl e ↦ subst (λ (z : ℕ). EndHolds (end_at new z) (log_of d.logs (z + 1))) (sym e) (own (subst (λ (z : ℕ). z < 32) e within))
   | inr ne ↦ ends_as (end_at old k) (end_at new k) (log_of d.logs (k + 1)) (same_end old new k same)
-      (holds_as (end_at old k) (log_of c.logs (k + 1)) (log_of d.logs (k + 1)) (goes.others (k + 1) (omega arith) (λ both. ne (omega (arith, both)))) (h k within))
+      (holds_as (end_at old k) (log_of c.logs (k + 1)) (log_of d.logs (k + 1)) (goes.others (k + 1) (one_within k) (next_apart k at ne)) (h k within))
 ]
   where
     by : (b : Bool) → nat_lt (at + 1 - 1) (length c.logs) ≡ b → EndHolds (end_at old at) (log_of c.logs (at + 1)) → EndHolds (end_at old at) (log_of d.logs (at + 1))
@@ -140,18 +174,18 @@ none_holds member bytes = ends_as 0 (end_of nothing_known member) bytes (sym (ze
 
 in_all : (Q : List ℕ → Type 0) (xs : List (List ℕ)) (d : List ℕ) (i : ℕ) → All Q xs → Q d → Q (slice_index_or xs i d)
 in_all Q [] d i all none = none
-in_all Q (x ∷ xs) d zero all none = all 0 d (omega arith)
-in_all Q (x ∷ xs) d (suc i) all none = in_all Q xs d i (λ k z within. all (suc k) z (omega arith)) none
+in_all Q (x ∷ xs) d zero all none = all 0 d (first_within (length xs))
+in_all Q (x ∷ xs) d (suc i) all none = in_all Q xs d i (λ k z within. all (suc k) z (more_within k (length xs) within)) none
 
 of_parts : {P : Type 0} (Q : List ℕ → Type 0) (parts : List (MemberPart P)) (d : List ℕ) (i : ℕ) → All (λ (p : MemberPart P). Q p.known) parts → Q d → Q (slice_index_or (map (λ (p : MemberPart P). p.known) parts) i d)
 of_parts Q [] d i all none = none
-of_parts Q (p ∷ ps) d zero all none = all 0 p (omega arith)
-of_parts Q (p ∷ ps) d (suc i) all none = of_parts Q ps d i (λ k z within. all (suc k) z (omega arith)) none
+of_parts Q (p ∷ ps) d zero all none = all 0 p (first_within (length ps))
+of_parts Q (p ∷ ps) d (suc i) all none = of_parts Q ps d i (λ k z within. all (suc k) z (more_within k (length ps) within)) none
 
 pub starts_know : {C : Type 0} → (P : Type 0) (directory : C → Directory) → StartsKnow P directory
 starts_know {C} P directory crew b c all at within =
     of_parts (λ (known : List ℕ). EndHolds (end_of known (at + 1)) (log_of c.logs (at + 1))) crew.parts.items nothing_known at
-    (λ i d less. all_holds (end_of (slice_index_or crew.parts.items i d).known (at + 1)) (log_of c.logs (at + 1)) (all i d less (at + 1) (omega arith) (omega (arith, within))))
+    (λ i d less. all_holds (end_of (slice_index_or crew.parts.items i d).known (at + 1)) (log_of c.logs (at + 1)) (all i d less (at + 1) (one_within at) (next_within at within)))
     (none_holds (at + 1) (log_of c.logs (at + 1)))
 
 abbrev Ends : Option Restart → List ℕ → Type 0
@@ -162,7 +196,7 @@ pub anew_know : AnewKnow
 anew_know c counter restart old new b is behind at within =
     let known : All (Ends (Some restart)) new.known = subst (λ (z : Option Restart). All (Ends z) new.known) is b.known in
     in_all (λ (known : List ℕ). EndHolds (end_of known (at + 1)) (log_of c.logs (at + 1))) new.known nothing_known at
-    (λ i d less. ends_as (log_end restart (at + 1)) (end_of (slice_index_or new.known i d) (at + 1)) (log_of c.logs (at + 1)) (sym (known i d less (at + 1) (omega arith) (omega (arith, within))))
+    (λ i d less. ends_as (log_end restart (at + 1)) (end_of (slice_index_or new.known i d) (at + 1)) (log_of c.logs (at + 1)) (sym (known i d less (at + 1) (one_within at) (next_within at within)))
     (all_holds (log_end restart (at + 1)) (log_of c.logs (at + 1)) (behind (at + 1))))
     (none_holds (at + 1) (log_of c.logs (at + 1)))
 
@@ -227,7 +261,7 @@ begins_know c phase old new p h dead few at = on (slice_get old.members at) (sli
         and_parts (is_failed (status_of old.facility.lists.statuses (at + 1))) (restarts_in phase (at + 1)) (subst (λ (z : ℕ). begins_restart phase old.facility.lists.statuses z ≡ true) id begins).0 in
         let there : at < length old.members = slice_get_within old.members at m is in
         begun (end_of known m.id) (log_of c.logs (at + 1)) m n (rests.1 (dead_by (status_of old.facility.lists.statuses (at + 1)) failed)) knows
-        (ends_as (end_of known (at + 1)) (end_of known m.id) (log_of c.logs (at + 1)) (ap (λ (z : ℕ). end_of known z) (sym rests.0)) (h at (omega (arith, there, few))))
+        (ends_as (end_of known (at + 1)) (end_of known m.id) (log_of c.logs (at + 1)) (ap (λ (z : ℕ). end_of known z) (sym rests.0)) (h at (few_within at (length old.members) there few)))
 
 -- ---- what stands behind whole records
 abbrev pub ReadAgain : Type 0
