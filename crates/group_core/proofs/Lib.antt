@@ -6,3 +6,4 @@ mod Owning
 mod Taken
 pub mod Crossing
 mod Known
+mod Opening

@@ -1,7 +1,7 @@
 ghost use Rattle.std.specs.Prelude.{◌≡◌, ◌≤◌, true, false};
 ghost use Rattle.ds_base.specs.Causes.{Rose};
 ghost use Rattle.group_core.specs.declared.closed.Closed.TheVariants as closed;
-ghost use Rattle.group_core.specs.Closing.{is_closed, is_run};
+ghost use Rattle.group_core.specs.Closing.{is_closed, is_run, IsClosed};
 
 use crate::closed::Closed;
 use crate::fault::RunFault;
@@ -44,6 +44,7 @@ fn close_disk<D: Disk>(alloc: Global, disk: &mut D) -> Closed
     ensures later { D.faults disk.old ≤ D.faults disk.new }
     ensures failed { result ≡ closed.Failed → Rose (D.faults disk.old) (D.faults disk.new) }
     ensures run { is_run result ≡ true }
+    ensures closes { IsClosed D.alive D.contents disk.old result disk.new }
 {
     match restart_disk(alloc, disk) {
         Ok(State::Done { .. }) => Closed::Done,
@@ -58,6 +59,7 @@ fn close_after<D: Disk>(alloc: Global, disk: &mut D, fault: Option<RunFault>) ->
     ensures failed { result ≡ closed.Failed → Rose (D.faults disk.old) (D.faults disk.new) }
     ensures run { is_run result ≡ is_closed fault }
     ensures unrun { is_closed fault ≡ false → disk.new ≡ disk.old }
+    ensures closes { is_closed fault ≡ true → IsClosed D.alive D.contents disk.old result disk.new }
 {
     if is_closed(fault) {
         close_disk(alloc, disk)
@@ -106,6 +108,7 @@ impl<D: Disk, C: Drop, P: Drop> Group<D, C, P> {
         ensures failed { result.2 ≡ closed.Failed → Rose (D.faults self.disk) (D.faults result.0) }
         ensures run { is_run result.2 ≡ is_closed self.fault }
         ensures unrun { is_closed self.fault ≡ false → result.0 ≡ self.disk }
+        ensures closes { is_closed self.fault ≡ true → IsClosed D.alive D.contents self.disk result.2 result.0 }
         ensures fault { result.1.fault ≡ self.fault }
         ensures faults { result.1.faults ≡ self.faults }
         ensures journal { result.1.journal ≡ self.journal }

@@ -1,11 +1,13 @@
-ghost use Rattle.std.specs.Prelude.{◌≡◌, ◌≢◌, ◌≤◌, ℕ, [], None, IfOk, IfErr};
+ghost use Rattle.std.specs.Prelude.{◌≡◌, ◌≢◌, ◌≤◌, ℕ, [], None, Ok, IfOk, IfErr};
 ghost use Rattle.ds_base.specs.Causes.{Rose};
 ghost use Rattle.cache_structure.specs.Directory.{empty_directory};
 ghost use Rattle.ds_disk.specs.Contents.{Becomes};
 ghost use Rattle.disk_restart.specs.Keeping.{KeepsRecords};
+ghost use Rattle.disk_restart.specs.Runs.{RestartsDisk};
 ghost use Rattle.group_core.specs.declared.fault.RunFault.TheVariants as fault;
 ghost use Rattle.group_crew.specs.Ends.{AreEndsOf};
-ghost use Rattle.group_core.specs.Starts.{AllKnowDisk, EndsKnown, IsFresh};
+ghost use Rattle.group_crew.specs.Failing.{drive_of};
+ghost use Rattle.group_core.specs.Starts.{AllKnowDisk, EndsKnown, IsFresh, IsOpened, IsUnopened, StopsBy};
 ghost use Rattle.group_restart.specs.declared.calls.State.TheVariants as state;
 
 use crate::fault::{RunFault, StartFault};
@@ -31,6 +33,7 @@ pub struct Opened {
 fn opened_by(restart: &GroupRestart, ended: &State) -> Result<Opened, RunFault>
     ensures done { IfOk result (λ opened. ended.now ≡ state.Done opened.counter) }
     ensures ends { IfOk result (λ opened. AreEndsOf restart.now opened.known) }
+    ensures stops { IfErr result (λ why. StopsBy why (Ok ended.now)) }
     ensures failed { IfErr result (λ why. why ≡ fault.Failed → ended.now ≡ state.Failed) }
     ensures lawful { IfErr result (λ why. (at : ℕ) → why ≢ fault.Unlawful at) }
 {
@@ -48,6 +51,8 @@ fn opened_by(restart: &GroupRestart, ended: &State) -> Result<Opened, RunFault>
 // Runs the group restart that opens the disk.
 fn open_disk<D: Disk>(alloc: Global, disk: &mut D) -> Result<Opened, RunFault>
     ensures keeps { Becomes (D.contents disk.old) (D.contents disk.new) KeepsRecords }
+    ensures opens { IfOk result (λ opened. RestartsDisk (drive_of D.alive D.contents disk.old) (Ok (state.Done opened.counter)) (drive_of D.alive D.contents disk.new)) }
+    ensures unopened { IfErr result (λ why. IsUnopened D.alive D.contents disk.old why disk.new) }
     ensures ends { IfOk result (λ opened. Becomes (D.contents disk.old) (D.contents disk.new) (λ _ c. EndsKnown opened.known c)) }
     ensures later { D.faults disk.old ≤ D.faults disk.new }
     ensures failed { IfErr result (λ why. why ≡ fault.Failed → Rose (D.faults disk.old) (D.faults disk.new)) }
@@ -78,6 +83,7 @@ impl<D: Disk, C: CacheFace + Drop, P: Policy + Drop> Group<D, C, P> {
         requires cache { C.directory cache ≡ empty_directory sizes.now.cache sizes.now.pool }
         ensures disk { IfOk result (λ group. D.faults disk ≤ D.faults group.disk) }
         ensures keeps { IfOk result (λ group. Becomes (D.contents disk) (D.contents group.disk) KeepsRecords) }
+        ensures opens { IfOk result (λ group. IsOpened D.alive D.contents disk group.disk) }
         ensures known { IfOk result (λ group. AllKnowDisk (D.contents disk) (D.contents group.disk) group.crew.parts.items) }
         ensures fault { IfOk result (λ group. group.fault ≡ None) }
         ensures faults { IfOk result (λ group. group.faults.items ≡ []) }
@@ -86,6 +92,7 @@ impl<D: Disk, C: CacheFace + Drop, P: Policy + Drop> Group<D, C, P> {
         ensures fresh { IfOk result (λ group. IsFresh C.directory group) }
         ensures err { IfErr result (λ why. D.faults disk ≤ D.faults why.disk) }
         ensures left { IfErr result (λ why. Becomes (D.contents disk) (D.contents why.disk) KeepsRecords) }
+        ensures unopened { IfErr result (λ why. IsUnopened D.alive D.contents disk why.why why.disk) }
         ensures failed { IfErr result (λ why. why.why ≡ fault.Failed → Rose (D.faults disk) (D.faults why.disk)) }
         ensures lawful { IfErr result (λ why. (at : ℕ) → why.why ≢ fault.Unlawful at) }
     {
