@@ -10,6 +10,7 @@ use Rattle.group_member.specs.Happening.{Comes, World}
 use Rattle.group_member.specs.Members.{Member, member_of}
 use Rattle.group_member.specs.Refusing.{IsRefused}
 use Rattle.group_crew.specs.Beginning.{Kept, kept_by}
+use Rattle.group_crew.specs.States.{known_by}
 use Rattle.group_crew.specs.Crews.{stale, unlooked}
 use Rattle.group_crew.specs.Happening.{ComesAt, IsRefusedAt, member_at}
 
@@ -25,16 +26,6 @@ kept_stale (part ∷ parts) = ap (λ its. kept_by part ∷ its) (kept_stale part
 
 -- ---- what members are and hold
 
-abbrev kept_in : Member → Kept
-kept_in m = record { id = m.id; holds = m.holds }
-
-kept_members : {P : Type 0} (parts : List (MemberPart P)) → map kept_by parts ≡ map kept_in (map member_of parts)
-kept_members [] = refl
-kept_members (part ∷ parts) = ap (λ its. kept_by part ∷ its) (kept_members parts)
-
-pub kept_same : {P : Type 0} (xs ys : List (MemberPart P)) → map member_of xs ≡ map member_of ys → map kept_by xs ≡ map kept_by ys
-kept_same xs ys same = kept_members xs ∙ (ap (map kept_in) same ∙ sym (kept_members ys))
-
 pub members_stale : {P : Type 0} (parts : List (MemberPart P)) → map member_of (map stale parts) ≡ map member_of parts
 members_stale [] = refl
 members_stale (part ∷ parts) = ap (λ its. member_of part ∷ its) (members_stale parts)
@@ -46,6 +37,30 @@ members_unlooked (part ∷ parts) = ap (λ its. member_of part ∷ its) (members
 -- a look for ready choices leaves them as they are
 pub members_looked : {P : Type 0} (xs ys : List (MemberPart P)) → map unlooked xs ≡ map unlooked ys → map member_of xs ≡ map member_of ys
 members_looked xs ys same = members_unlooked xs ∙ (ap (map member_of) same ∙ sym (members_unlooked ys))
+
+-- ---- what members know
+
+abbrev known_in : Kept → List ℕ
+known_in k = k.known
+
+known_kept : {P : Type 0} (parts : List (MemberPart P)) → map known_by parts ≡ map known_in (map kept_by parts)
+known_kept [] = refl
+known_kept (part ∷ parts) = ap (λ its. known_by part ∷ its) (known_kept parts)
+
+pub known_same : {P : Type 0} (xs ys : List (MemberPart P)) → map kept_by xs ≡ map kept_by ys → map known_by xs ≡ map known_by ys
+known_same xs ys same = known_kept xs ∙ (ap (map known_in) same ∙ sym (known_kept ys))
+
+pub known_stale : {P : Type 0} (parts : List (MemberPart P)) → map known_by (map stale parts) ≡ map known_by parts
+known_stale [] = refl
+known_stale (part ∷ parts) = ap (λ its. known_by part ∷ its) (known_stale parts)
+
+known_unlooked : {P : Type 0} (parts : List (MemberPart P)) → map known_by parts ≡ map known_by (map unlooked parts)
+known_unlooked [] = refl
+known_unlooked (part ∷ parts) = ap (λ its. known_by part ∷ its) (known_unlooked parts)
+
+-- a look for ready choices leaves it as it is
+pub known_looked : {P : Type 0} (xs ys : List (MemberPart P)) → map unlooked xs ≡ map unlooked ys → map known_by xs ≡ map known_by ys
+known_looked xs ys same = known_unlooked xs ∙ (ap (map known_by) same ∙ sym (known_unlooked ys))
 
 -- ---- a list that is written back whole
 

@@ -1,12 +1,16 @@
 -- The restarts of members begin one by one.
-use Rattle.std.proofs.Common.{◌≡◌, ℕ, suc, ◌+◌, ◌<◌, ◌≤◌, Bool, true, false, Option, None, Some, List, [], ◌∷◌, ◌++◌, length, map, take, slice_set, slice_index_or, refl, sym, ap, subst, ◌∙◌, if◌then◌else◌, arith}
-use Rattle.std.proofs.lemmas.List.{get_or-set_other, map_more, map_push, take_more_set}
+use Rattle.std.proofs.Common.{◌≡◌, inl, inr, ℕ, zero, suc, ◌+◌, ◌<◌, ◌≤◌, Bool, true, false, Option, None, Some, IfSome, slice_get, List, [], ◌∷◌, ◌++◌, length, map, take, slice_set, slice_index_or, refl, sym, ap, subst, ◌∙◌, if◌then◌else◌, arith}
+use Rattle.std.specs.List.{AllZip}
+use Rattle.std.proofs.lemmas.List.{get_or-set_other, map_more, map_push, take_more, take_more_set}
+use Rattle.std.proofs.lemmas.List.Elements.{AllZip-push}
 use Rattle.ds_model.specs.declared.script.Phase.{Phase}
 use Rattle.list_structure.specs.Bells.{CanRing, rung}
 use Rattle.list_structure.specs.States.{ListsState}
 use Rattle.group_member.specs.declared.part.MemberPart.{MemberPart}
 use Rattle.group_member.specs.Members.{Member, member_of}
-use Rattle.group_crew.specs.Beginning.{AllRestart, CannotBegin, CannotRing, Rang, RestartBegins, Restarts, begins_restart, lists_begun, restarting}
+use Rattle.group_crew.specs.Beginning.{AllRestart, CannotBegin, CannotRing, PartStaysOrKnows, Rang, RestartBegins, RestartKnows, Restarts, StaysOrKnows, begins_restart, lists_begun, restarting}
+use Rattle.group_crew.specs.Ends.{known_at}
+use Rattle.group_crew.specs.States.{known_by}
 
 -- the lists are alike from a place on
 abbrev pub SameFrom : {A : Type 0} → ℕ → List A → List A → Type 0
@@ -51,6 +55,32 @@ restarts_more {P} phase l m n parts items i d new within there same all its list
     subst (λ (xs : List Member). AllRestart phase l xs (map member_of (take (i + 1) (slice_set items i new))) n) olds
     (subst (λ (ys : List Member). AllRestart phase l (before ++ member_of old ∷ []) ys n) news
     (subst (λ (k : ListsState). AllRestart phase l (before ++ member_of old ∷ []) (after ++ member_of new ∷ []) k) (sym lists) next))
+
+-- ---- what they know
+
+pub part_knows : {P : Type 0} (b : Bool) (old new : MemberPart P) → (b ≡ false → new ≡ old) → (b ≡ true → RestartKnows old new) → PartStaysOrKnows old new
+part_knows true old new same knows = inr (knows refl)
+part_knows {P} false old new same knows = inl (ap (member_of {P = P}) (same refl))
+
+-- one more
+pub knows_more : {P : Type 0} (parts items : List (MemberPart P)) (i : ℕ) (d new : MemberPart P)
+    → i < length parts → i < length items → SameFrom i items parts → AllZip PartStaysOrKnows (take i parts) (take i items) → PartStaysOrKnows (slice_index_or items i d) new
+    → AllZip PartStaysOrKnows (take (i + 1) parts) (take (i + 1) (slice_set items i new))
+knows_more {P} parts items i d new within there same all its =
+    let old : MemberPart P = slice_index_or items i d in
+    let next : AllZip PartStaysOrKnows (take i parts ++ old ∷ []) (take i items ++ new ∷ []) = AllZip-push (PartStaysOrKnows {P = P}) (take i parts) (take i items) old new all its in
+    let olds : take i parts ++ old ∷ [] ≡ take (i + 1) parts = ap (λ (x : MemberPart P). take i parts ++ x ∷ []) (same i d (omega arith)) ∙ sym (take_more parts i d within) in
+    subst (λ (xs : List (MemberPart P)). AllZip PartStaysOrKnows xs (take (i + 1) (slice_set items i new))) olds
+    (subst (λ (ys : List (MemberPart P)). AllZip PartStaysOrKnows (take i parts ++ old ∷ []) ys) (sym (take_more_set items i new there)) next)
+
+-- so it is of the member at each place
+pub stay_or_know : {P : Type 0} (olds news : List (MemberPart P)) → AllZip PartStaysOrKnows olds news
+    → (at : ℕ) → IfSome (slice_get (map member_of olds) at) (λ (m : Member). IfSome (slice_get (map member_of news) at) (StaysOrKnows (known_at (map known_by olds) at) m))
+stay_or_know [] [] all at = tt
+stay_or_know [] (y ∷ ys) all at = absurd all
+stay_or_know (x ∷ xs) [] all at = absurd all
+stay_or_know (x ∷ xs) (y ∷ ys) all zero = all.0
+stay_or_know (x ∷ xs) (y ∷ ys) all (suc at) = stay_or_know xs ys all.1 at
 
 -- ---- the bells
 

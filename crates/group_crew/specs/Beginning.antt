@@ -1,5 +1,5 @@
 -- What the begin of a phase does to the members.
-use Rattle.std.specs.Prelude.{◌≡◌, ℕ, zero, suc, ◌+◌, ◌-◌, ◌<◌, ◌≤◌, ◌&&◌, Bool, true, false, List, [], ◌∷◌, length, Option, Some, None, IsSomeAnd, slice_get, slice_index_or, slice_set, if◌then◌else◌}
+use Rattle.std.specs.Prelude.{◌≡◌, ◌⊎◌, ℕ, zero, suc, ◌+◌, ◌-◌, ◌<◌, ◌≤◌, ◌&&◌, Bool, true, false, List, [], ◌∷◌, length, Option, Some, None, IfSome, IsSomeAnd, slice_get, slice_index_or, slice_set, if◌then◌else◌}
 use Rattle.std.specs.List.{list_any}
 use Rattle.ds_base.specs.declared.names.TranId.{TranId}
 use Rattle.ds_model.specs.declared.script.Part.{Part}
@@ -14,22 +14,24 @@ use Rattle.facility.specs.States.{PhaseBegun}
 use Rattle.script_fates.specs.Fated.{StopsOnly, has_tran}
 use Rattle.group_member.specs.declared.part.MemberPart.{MemberPart}
 use Rattle.group_member.specs.Happening.{Held}
-use Rattle.group_member.specs.Members.{Member}
+use Rattle.group_member.specs.Members.{Member, member_of}
 use Rattle.group_member.specs.Restarting.{IsNew, KnowsTo}
 use Rattle.script_phases.specs.Phases.{is_failed, is_left_out, last_raiser, raises_in, restarts_in}
+use Rattle.group_crew.specs.Ends.{known_at}
 use Rattle.group_crew.specs.States.{CrewState}
 
 -- a member that has failed begins its restart with the phase
 abbrev pub begins_restart : Phase → List MemberStatus → ℕ → Bool
 begins_restart phase statuses member = is_failed (status_of statuses member) && restarts_in phase member
 
--- what a member is and holds, but for its policy and its restart
+-- what a member is, holds and knows, but for its policy and its restart
 pub record Kept : Type 0 where
   pub id : ℕ
   pub holds : Held
+  pub known : List ℕ
 
 abbrev pub kept_by : {P : Type 0} → MemberPart P → Kept
-kept_by {P} part = record { id = part.id; holds = part.resources }
+kept_by {P} part = record { id = part.id; holds = part.resources; known = part.known }
 
 -- The member is restarting, and nothing of its restart is done. The bells ring.
 pub record RestartBegins {P : Type 0} (old : MemberPart P) (lists : ListsState) (new : MemberPart P) (now : ListsState) : Type 0 where
@@ -39,6 +41,14 @@ pub record RestartBegins {P : Type 0} (old : MemberPart P) (lists : ListsState) 
 -- its restart knows up to where the member's log is whole records, as the member does
 abbrev pub RestartKnows : {P : Type 0} → MemberPart P → MemberPart P → Type 0
 RestartKnows {P} old new = IsSomeAnd new.restart (λ r. KnowsTo (end_of old.known old.id) r.resources)
+
+-- The member is as it was; or its restart knows up to where the member's log is whole records, as these ends say.
+abbrev pub StaysOrKnows : List ℕ → Member → Member → Type 0
+StaysOrKnows known old new = (new ≡ old) ⊎ IsSomeAnd new.restart (λ r. KnowsTo (end_of known old.id) r.resources)
+
+-- as those say that the member knows itself
+abbrev pub PartStaysOrKnows : {P : Type 0} → MemberPart P → MemberPart P → Type 0
+PartStaysOrKnows {P} old new = StaysOrKnows old.known (member_of old) (member_of new)
 
 -- ---- the bells
 
@@ -96,11 +106,13 @@ pub record AreRaisers (phase : Phase) (statuses : List MemberStatus) (raisers : 
   pub many : length raisers ≡ 64
   pub each : (k : ℕ) → k < 64 → slice_index_or raisers k None ≡ last_raiser (k + 1) (raises_in phase statuses)
 
--- A phase has begun: so have the restarts of members that it brings back. Each flag has who is to raise it, no member is done, and all bells
--- have rung. Of the transactions those alone are stopped that members have which are left out.
+-- A phase has begun: so have the restarts of members that it brings back, each of which knows up to where the log is whole records as its member
+-- does. Each flag has who is to raise it, no member is done, and all bells have rung. Of the transactions those alone are stopped that members
+-- have which are left out.
 pub record PhaseBegins (phase : Phase) (old new : CrewState) : Type 0 where
   pub lists : ListsState
   pub restarts : AllRestart phase old.facility.lists old.members new.members lists
+  pub knows : (at : ℕ) → IfSome (slice_get old.members at) (λ (m : Member). IfSome (slice_get new.members at) (StaysOrKnows (known_at old.known at) m))
   pub raisers : List (Option TranId)
   pub raised : AreRaisers phase old.facility.lists.statuses raisers
   pub facility : PhaseBegun (record old.facility { lists = lists }) raisers new.facility

@@ -1,5 +1,5 @@
 -- Up to where members know the logs to be whole records.
-use Rattle.std.specs.Prelude.{◌≡◌, ℕ, ◌≤◌, All, List, Option, Some, None}
+use Rattle.std.specs.Prelude.{◌≡◌, ℕ, ◌≤◌, All, List, Option, Some, None, slice_index_or}
 use Rattle.checkpoint_reader.specs.Ends.{end_of, nothing_known}
 use Rattle.group_member.specs.declared.part.MemberPart.{MemberPart}
 use Rattle.group_restart.specs.Ends.{log_end}
@@ -13,6 +13,10 @@ AreEndsOf restart known = (member : ℕ) → 1 ≤ member → member ≤ 32 → 
 abbrev pub AreEndsIn : Option Restart → List ℕ → Type 0
 AreEndsIn None known = known ≡ nothing_known
 AreEndsIn (Some restart) known = AreEndsOf restart known
+
+-- what is known by the member at a place; where none is, nothing is
+abbrev pub known_at : List (List ℕ) → ℕ → List ℕ
+known_at known at = slice_index_or known at nothing_known
 
 -- each of them knows these
 abbrev pub AllKnow : {P : Type 0} → List ℕ → List (MemberPart P) → Type 0

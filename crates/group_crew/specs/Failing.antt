@@ -8,6 +8,7 @@ use Rattle.script_fates.specs.Fated.{FatesState, StopsOnly, is_in_phase}
 use Rattle.group_restart.specs.Course.{IsBegun}
 use Rattle.group_restart.specs.Disk.{Drive}
 use Rattle.group_member.specs.Members.{IsDown, Member}
+use Rattle.group_crew.specs.Ends.{AreEndsIn}
 use Rattle.group_crew.specs.States.{CrewState}
 
 -- ---- the failure
@@ -41,9 +42,11 @@ drive_of alive contents disk = record { alive = alive disk; contents = contents 
 abbrev pub id_of : Member → ℕ
 id_of m = m.id
 
--- The group restart is done, with this counter. The facility is as it was made, and no member holds anything.
+-- The group restart is done, with this counter. The facility is as it was made, no member holds anything, and each knows where the logs end
+-- behind it.
 pub record BeginsAnew (counter : ℕ) (old new : CrewState) : Type 0 where
   pub facility : IsReset old.facility counter new.facility
   pub members : All (IsDown old.sizes) new.members
   pub same : map id_of new.members ≡ map id_of old.members
-  pub rest : new ≡ record old { facility = new.facility; members = new.members; restart = None }
+  pub known : All (AreEndsIn old.restart) new.known
+  pub rest : new ≡ record old { facility = new.facility; members = new.members; known = new.known; restart = None }

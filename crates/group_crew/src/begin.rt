@@ -1,10 +1,11 @@
 //! The begin of a phase.
 
 ghost use Rattle.std.specs.Prelude.{◌≡◌, ◌+◌, true, false, length, map, slice_get, Ok, IfOk, IfSome};
+ghost use Rattle.std.specs.List.{AllZip};
 ghost use Rattle.list_structure.specs.Bells.{CanRing};
 ghost use Rattle.script_fates.specs.Fated.{StopsOnly};
 ghost use Rattle.group_member.specs.Members.{member_of};
-ghost use Rattle.group_crew.specs.Beginning.{AllRestart, BeginsNext, CannotBegin, CannotRing, Rang, RestartBegins, RestartKnows, begins_restart, is_left_out_in, kept_by};
+ghost use Rattle.group_crew.specs.Beginning.{AllRestart, BeginsNext, CannotBegin, CannotRing, PartStaysOrKnows, Rang, RestartBegins, RestartKnows, begins_restart, is_left_out_in, kept_by};
 ghost use Rattle.group_crew.specs.States.{crew_state};
 
 use crate::crew::Crew;
@@ -61,6 +62,7 @@ fn begin_restarts<P>(
 ) -> Result<bool, NoMemory>
     ensures kept { map kept_by parts.new ≡ map kept_by parts.old }
     ensures each { IfOk result (λ begun. begun ≡ true → AllRestart phase.now lists.old (map member_of parts.old) (map member_of parts.new) lists.new) }
+    ensures knows { IfOk result (λ begun. begun ≡ true → AllZip PartStaysOrKnows parts.old parts.new) }
     ensures rang { IfOk result (λ begun. begun ≡ true → Rang lists.old.bells (length parts.old) lists.new.bells) }
     ensures refused { result ≡ Ok false → CannotRing lists.old.bells (length parts.old) }
 {
@@ -79,7 +81,8 @@ fn begin_in_all<P: Policy>(
     phase: &Phase,
     raisers: &[Option<TranId>],
 ) -> Result<(), NoMemory>
-    ensures { map member_of parts.new ≡ map member_of parts.old }
+    ensures members { map member_of parts.new ≡ map member_of parts.old }
+    ensures kept { map kept_by parts.new ≡ map kept_by parts.old }
 {
     for part in parts {
         let (trans, fail) = part_of(alloc, phase, part.id)?;

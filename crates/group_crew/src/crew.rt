@@ -6,7 +6,7 @@ ghost use Rattle.script_phases.specs.Progresses.{is_at_end, own_choice};
 ghost use Rattle.group_crew.specs.Ready.{is_own, ready_at};
 ghost use Rattle.group_crew.specs.Crews.{Looks, is_half, is_ready_in, stale, unlooked};
 ghost use Rattle.group_crew.specs.Happening.{member_at};
-ghost use Rattle.group_crew.specs.States.{crew_state};
+ghost use Rattle.group_crew.specs.States.{crew_state, known_by};
 
 use cache_structure::CacheFace;
 use ds_base::Volume;
@@ -172,6 +172,7 @@ impl<C: CacheFace, P> Crew<C, P> {
         ensures rest { self.new ≡ record self.old { parts = self.new.parts; is_own_stale = true; was_half = self.new.was_half } }
         ensures parts { self.new.parts.items ≡ map stale self.old.parts.items }
         ensures members { (k : ℕ) → member_at self.new.parts.items k ≡ member_at self.old.parts.items k }
+        ensures known { map known_by self.new.parts.items ≡ map known_by self.old.parts.items }
         ensures half { self.new.was_half ≡ is_half self.old.sizes.sizes (C.directory self.old.facility.cache) }
     {
         self.was_half = self.is_half();

@@ -8,7 +8,7 @@ ghost use Rattle.group_restart.specs.declared.calls.State.TheVariants as state;
 ghost use Rattle.group_member.specs.Members.{IsDown, member_of};
 ghost use Rattle.group_crew.specs.Ends.{AllKnow, AllKnowEnds, AreEndsIn};
 ghost use Rattle.group_crew.specs.Failing.{BeginsAnew, GroupFails, StopsLast, drive_of, last_begun};
-ghost use Rattle.group_crew.specs.States.{crew_state};
+ghost use Rattle.group_crew.specs.States.{crew_state, known_by};
 
 use crate::crew::Crew;
 use crate::ends::ends_behind;
@@ -22,7 +22,8 @@ use std::alloc::Global;
 
 // No member has anything ready.
 fn rest<P>(parts: &mut [MemberPart<P>])
-    ensures { map member_of parts.new ≡ map member_of parts.old }
+    ensures members { map member_of parts.new ≡ map member_of parts.old }
+    ensures known { map known_by parts.new ≡ map known_by parts.old }
 {
     for part in parts {
         part.ready = 0;

@@ -1,11 +1,12 @@
 //! One event of a member of the group.
 
-ghost use Rattle.std.specs.Prelude.{◌≡◌, ◌≢◌, ◌≤◌, ℕ, true, Err, IfOk, option_copied};
+ghost use Rattle.std.specs.Prelude.{◌≡◌, ◌≢◌, ◌≤◌, ℕ, true, map, Err, IfOk, option_copied};
 ghost use Rattle.ds_base.specs.Causes.{Rose};
 ghost use Rattle.group_member.specs.Happening.{world_of};
 ghost use Rattle.group_crew.specs.Crews.{Keeps};
 ghost use Rattle.group_crew.specs.Sendings.{command_of};
 ghost use Rattle.group_crew.specs.Happening.{ComesAt, IsRefusedAt, member_at};
+ghost use Rattle.group_crew.specs.States.{known_by};
 ghost use Rattle.group_member.specs.declared.fault.EventFault.TheVariants as faults;
 ghost use Rattle.group_member.specs.Stepping.{has_failed};
 
@@ -39,6 +40,7 @@ fn step_at<C: CacheFace, D: Disk, P: Policy>(
     ensures comes { IfOk result (λ stepped. ComesAt script.now begun sizes.now.sizes choice (member_at parts.old at) (world_of C.directory D.alive D.contents facility.old disk.old) fates.old place stepped (member_at parts.new at) (world_of C.directory D.alive D.contents facility.new disk.new) fates.new) }
     ensures unlawful { result ≡ Err faults.Unlawful → IsRefusedAt (member_at parts.old at) (world_of C.directory D.alive D.contents facility.old disk.old) place (world_of C.directory D.alive D.contents facility.new disk.new) }
     ensures others { (k : ℕ) → k ≢ at → member_at parts.new k ≡ member_at parts.old k }
+    ensures known { map known_by parts.new ≡ map known_by parts.old }
     ensures later { D.faults disk.old ≤ D.faults disk.new }
     ensures failed { IfOk result (λ stepped. has_failed stepped ≡ true → Rose (D.faults disk.old) (D.faults disk.new)) }
 {
@@ -52,7 +54,8 @@ fn step_at<C: CacheFace, D: Disk, P: Policy>(
 }
 
 fn make_stale_at<P>(parts: &mut [MemberPart<P>], member: MemberId)
-    ensures { (k : ℕ) → member_at parts.new k ≡ member_at parts.old k }
+    ensures members { (k : ℕ) → member_at parts.new k ≡ member_at parts.old k }
+    ensures known { map known_by parts.new ≡ map known_by parts.old }
 {
     let at = member.number() as usize - 1;
     if at < parts.len() {
@@ -89,6 +92,7 @@ impl<C: CacheFace, P: Policy> Crew<C, P> {
 
     fn make_asked_stale(&mut self, member: MemberId)
         ensures members { (k : ℕ) → member_at self.new.parts.items k ≡ member_at self.old.parts.items k }
+        ensures known { map known_by self.new.parts.items ≡ map known_by self.old.parts.items }
         ensures rest { self.new ≡ record self.old { parts = self.new.parts } }
     {
         make_stale_at(&mut self.parts, member);
@@ -97,6 +101,7 @@ impl<C: CacheFace, P: Policy> Crew<C, P> {
     // Whom the event concerns is to be looked at again.
     fn make_others_stale(&mut self, stepped: &Stepped, bell: u64, was_lost: bool, member: MemberId)
         ensures members { (k : ℕ) → member_at self.new.parts.items k ≡ member_at self.old.parts.items k }
+        ensures known { map known_by self.new.parts.items ≡ map known_by self.old.parts.items }
         ensures rest { self.new ≡ record self.old { parts = self.new.parts; is_own_stale = self.new.is_own_stale; was_half = self.new.was_half } }
     {
         let command = command_of(stepped);
@@ -120,6 +125,7 @@ impl<C: CacheFace, P: Policy> Crew<C, P> {
         ensures comes { IfOk result (λ stepped. ComesAt self.old.script self.old.progress.begun self.old.sizes.sizes choice (member_at self.old.parts.items at) (world_of C.directory D.alive D.contents self.old.facility disk.old) self.old.fates place stepped (member_at self.new.parts.items at) (world_of C.directory D.alive D.contents self.new.facility disk.new) self.new.fates) }
         ensures unlawful { result ≡ Err faults.Unlawful → IsRefusedAt (member_at self.old.parts.items at) (world_of C.directory D.alive D.contents self.old.facility disk.old) place (world_of C.directory D.alive D.contents self.new.facility disk.new) }
         ensures others { (k : ℕ) → k ≢ at → member_at self.new.parts.items k ≡ member_at self.old.parts.items k }
+        ensures known { map known_by self.new.parts.items ≡ map known_by self.old.parts.items }
         ensures later { D.faults disk.old ≤ D.faults disk.new }
         ensures failed { IfOk result (λ stepped. has_failed stepped ≡ true → Rose (D.faults disk.old) (D.faults disk.new)) }
         ensures keeps { Keeps self.old self.new }

@@ -32,7 +32,7 @@ use Rattle.group_member.specs.Entering.{Enters}
 use Rattle.group_member.specs.Failing.{is_in_hand}
 use Rattle.group_member.specs.Members.{Member, IsDown}
 use Rattle.group_member.specs.Queries.{answers_held}
-use Rattle.group_member.specs.Resting.{RestsIdle, changes_locks, frees_claimed}
+use Rattle.group_member.specs.Resting.{RestsIdle, changes_locks, frees_claimed, touches_pages}
 use Rattle.group_member.specs.Stepping.{has_failed, is_fail, is_failure, is_of, is_over, kind_for}
 
 -- the facility and the disk, as a restart and a rebuild see them
@@ -44,13 +44,14 @@ as_rebuilding w = record { facility = w.facility; drive = record { alive = w.dri
 
 -- ---- the member's own event
 
--- an intent of the member was lawful, went out and was settled; it answers no query about a page whose lock its restart has, and changes no locks
--- while that is in hand
+-- an intent of the member was lawful, went out and was settled; it answers no query about a page whose lock its restart has, and while that is in
+-- hand it changes no locks and leaves pages in frames, the log and the cache
 pub record Acts (m : Member) (w : World) (place : ℕ) (sent : Sent) (answered : Answered) (v : World) (n : Member) : Type 0 where
   pub intent : Intent
   pub after : Held
   pub keeps : answers_held m.restart intent ≡ false
   pub rests : is_some m.restart ≡ true → changes_locks intent ≡ false
+  pub leaves : is_some m.restart ≡ true → touches_pages intent ≡ false
   pub happens : Happens w m.holds intent place sent answered v after
   pub member : n ≡ record m { holds = after }
 

@@ -22,6 +22,21 @@ changes_locks (intent.Purge n) = true
 changes_locks (intent.End o) = true
 changes_locks _ = false
 
+-- the intent reads or writes a page in a frame, draws a number or writes a log record, or loses the cache. What a castout wants isn't meant: a restart that waits for room in the cache may have it by a
+-- castout of its own member
+abbrev pub touches_pages : Intent → Bool
+touches_pages intent.LoseCache = true
+touches_pages (intent.Read at) = true
+touches_pages (intent.ReadPage at) = true
+touches_pages (intent.Test at slot gives) = true
+touches_pages (intent.WritePage at) = true
+touches_pages (intent.Unregister at) = true
+touches_pages (intent.Change slot action frames) = true
+touches_pages (intent.Undo o at) = true
+touches_pages (intent.Commit slot) = true
+touches_pages intent.Append = true
+touches_pages _ = false
+
 -- ---- transactions
 
 -- no slot of the member has a transaction

@@ -1,12 +1,12 @@
 ghost use Rattle.std.specs.Prelude.{◌≡◌, ◌<◌, ◌^◌, None, true, false, is_some, OnOk};
 ghost use Rattle.group_member.specs.Members.{IsDown, member_of};
 ghost use Rattle.group_member.specs.Queries.{answers_held, asker_in, is_held, query_in};
-ghost use Rattle.group_member.specs.Resting.{RestsIdle, changes_locks, frees_claimed};
+ghost use Rattle.group_member.specs.Resting.{RestsIdle, changes_locks, frees_claimed, touches_pages};
 
 use crate::ready::{all_choices, ready_choices};
 use crate::rebuilding::Rebuilding;
 use crate::restarting::Restarting;
-use crate::resting::{changes_locks, frees_claimed, has_tran};
+use crate::resting::{changes_locks, frees_claimed, has_tran, touches_pages};
 use crate::sizes::GroupSizes;
 use checkpoint_reader::KnownEnds;
 use ds_base::{MemberId, NoMemory, TranId, Volume};
@@ -163,13 +163,14 @@ impl<P: Policy> MemberPart<P> {
     }
 
     /// What a choice wants. A query about a page whose lock the member's restart has isn't answered, and while that restart
-    /// is in hand no locks are changed.
+    /// is in hand no locks are changed, and no page, log record or cache is touched but by a castout.
     pub fn intent(&self, choice: u64) -> Intent
         ensures keeps { answers_held self.now.restart result ≡ false }
         ensures rests { is_some self.now.restart ≡ true → changes_locks result ≡ false }
+        ensures leaves { is_some self.now.restart ≡ true → touches_pages result ≡ false }
     {
         let intent = self.intent_passing(choice);
-        if self.restart.is_some() && changes_locks(&intent) {
+        if self.restart.is_some() && (changes_locks(&intent) || touches_pages(&intent)) {
             Intent::Step
         } else {
             intent

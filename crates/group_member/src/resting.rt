@@ -3,7 +3,7 @@
 ghost use Rattle.std.specs.Prelude.{◌≡◌, ◌≤◌, true, false};
 ghost use Rattle.member_trans.specs.Trans.{is_free};
 ghost use Rattle.member_marks.specs.State.{slot_tran};
-ghost use Rattle.group_member.specs.Resting.{NoneInSlots, changes_locks, claims_name, frees_claimed, purged_by, purged_in};
+ghost use Rattle.group_member.specs.Resting.{NoneInSlots, changes_locks, claims_name, frees_claimed, purged_by, purged_in, touches_pages};
 
 use facility::Command;
 use lock_names::Name;
@@ -23,6 +23,26 @@ pub fn changes_locks(intent: &Intent) -> bool
             | Intent::ReleasePage { .. }
             | Intent::Purge { .. }
             | Intent::End { .. }
+    )
+}
+
+/// Whether the intent reads or writes a page in a frame, draws a number or writes a log record, or loses the cache. What a castout wants isn't meant:
+/// a restart that waits for room in the cache may have it by a castout of its own member.
+pub fn touches_pages(intent: &Intent) -> bool
+    ensures { result ≡ touches_pages intent.now }
+{
+    matches!(
+        intent,
+        Intent::LoseCache
+            | Intent::Read { .. }
+            | Intent::ReadPage { .. }
+            | Intent::Test { .. }
+            | Intent::WritePage { .. }
+            | Intent::Unregister { .. }
+            | Intent::Change { .. }
+            | Intent::Undo { .. }
+            | Intent::Commit { .. }
+            | Intent::Append
     )
 }
 

@@ -1,29 +1,21 @@
--- What a member does itself while its restart is in hand: it has no frame, nothing to write and no transaction that goes forward.
-use Rattle.std.specs.Prelude.{◌≡◌, ℕ, ◌==◌, Bool, true, false, length, None}
+-- What a member does itself while its restart is in hand, whatever its policy.
+use Rattle.std.specs.Prelude.{◌≡◌, ℕ, Bool, true, false, is_some}
 use Rattle.member_intents.specs.declared.intent.Intent.{Intent}
 use Rattle.member_intents.specs.declared.intent.Intent.TheVariants as intent
 use Rattle.member_intents.specs.declared.outcome.Answered.{Answered}
 use Rattle.member_intents.specs.declared.outcome.Sent.{Sent}
-use Rattle.member_trans.specs.Trans.{is_forward}
-use Rattle.member_marks.specs.Frames.{frame_in}
-use Rattle.member_marks.specs.State.{slot_tran}
 use Rattle.member_resources.specs.Events as event
-use Rattle.member_resources.specs.Events.{Happens}
-use Rattle.member_resources.specs.Held.{Held}
 use Rattle.page_world.specs.Holdings.{KeepsPages}
+use Rattle.group_member.specs.Happening.{Acts}
+use Rattle.group_member.specs.Members.{Member}
 
-pub record Rests (h : Held) : Type 0 where
-  pub unplaced : (at : ℕ) → (frame_in h.marks.heads at).page ≡ None
-  pub forced : (length h.marks.log.pending == 0) ≡ true
-  pub idle : (slot : ℕ) → is_forward (slot_tran h.marks slot).stage ≡ false
-  pub uncast : h.cast ≡ None
+-- it reads a page to be cast out, writes it, or ends its castout
+abbrev pub casts_out : Intent → Bool
+casts_out (intent.CastoutRead page) = true
+casts_out intent.CastoutWrite = true
+casts_out intent.CastoutDone = true
+casts_out _ = false
 
--- it neither loses the cache nor begins to cast a page out
-abbrev pub leaves_cache : Intent → Bool
-leaves_cache intent.LoseCache = false
-leaves_cache (intent.CastoutRead page) = false
-leaves_cache _ = true
-
--- no such event changes anything that pages know of the facility, nor the disk
+-- no other event of its own changes anything that pages know of the facility, nor the disk
 abbrev pub RestsLeave : Type 0
-RestsLeave = (u v : event.World) (h k : Held) (i : Intent) (place : ℕ) (s : Sent) (a : Answered) → Rests h → leaves_cache i ≡ true → Happens u h i place s a v k → KeepsPages u.facility v.facility × (v.drive ≡ u.drive)
+RestsLeave = (m n : Member) (u v : event.World) (place : ℕ) (s : Sent) (a : Answered) → is_some m.restart ≡ true → (acts : Acts m u place s a v n) → casts_out acts.intent ≡ false → KeepsPages u.facility v.facility × (v.drive ≡ u.drive)

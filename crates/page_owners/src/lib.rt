@@ -94,8 +94,8 @@ pub fn groups_run()
     members_fail();
 }
 
-/// A member with no frame, nothing to write, no transaction that goes forward and nothing to cast out, as one whose restart is in hand, leaves all
-/// that pages know of the facility, and the disk, in each event of its own but the loss of the cache and the begin of a castout.
+/// While its restart is in hand a member leaves all that pages know of the facility, and the disk, in each event of its own but those of a castout,
+/// whatever its policy.
 pub fn resting_members_leave()
     ensures { RestsLeave }
 {

@@ -232,7 +232,7 @@ no_page s (name.Row t k) j e = refl
 no_page s (name.Page p) j e = absurd (both_ways false refl e)
 no_page s (name.Set n) j e = refl
 
-owns_same : (before : ℕ → Option ℕ) (m : ℕ) (s : RestartSent) (a : Answered) → ((n : ℕ) → takes_page s a n ≡ false) → ((n : ℕ) → gives_page s n ≡ false) → Owns before before m s a
+pub owns_same : (before : ℕ → Option ℕ) (m : ℕ) (s : RestartSent) (a : Answered) → ((n : ℕ) → takes_page s a n ≡ false) → ((n : ℕ) → gives_page s n ≡ false) → Owns before before m s a
 owns_same before m s a takes gives = record { takes = λ n e. absurd (both_ways (takes_page s a n) (takes n) e); keeps = λ n e o. o; only = λ n o. inr (gives n, o) }
 
 -- a page is given up that was the member's, or wasn't

@@ -69,13 +69,14 @@ use Rattle.page_world.specs.Holdings.{Holdings, KeepsPages, no_copy, with_facili
 use Rattle.page_world.specs.Numbers.{page_at, set_of}
 use Rattle.page_members.specs.Members.{CommandsLeave, Group, SameOthers, Shows, leaves_pages}
 use Rattle.page_restarts.specs.Beside.{Beside, as_restarting}
+use Rattle.page_restarts.specs.Events.{Owns, asks_page, frees_page}
 use Rattle.page_restarts.specs.Locals.{CastsNone, ReachesGo}
 use Rattle.page_restarts.specs.Locks.{StayGoes}
-use Rattle.page_restarts.specs.Reading.{IsLeft, IsReading, LogIsWhole, ReadingBegins, ReadingGoes, ReadingLeads, reading}
+use Rattle.page_restarts.specs.Reading.{IsLeft, IsReading, LogIsWhole, ReadingBegins, ReadingGoes, ReadingLeads, ReadingOwns, reading}
 use Rattle.page_restarts.specs.Stands.{Begins, Goes, IsRestarting, SameHand, behind, copy_of, hand_copy}
-use Rattle.page_restarts.proofs.Events.{own_reaches, was_done}
+use Rattle.page_restarts.proofs.Events.{own_reaches, owns_same, unasked, was_done}
 use Rattle.page_restarts.proofs.Leading.{KeepsStandings, directory_standings, others_behind, others_facility, put_other, standings_of, standings_same, still_none, unregister_goes, went_on}
-use Rattle.page_restarts.proofs.Needs.{after_first, after_tests, asks_page, err_ok, just_as, sent_as}
+use Rattle.page_restarts.proofs.Needs.{after_first, after_tests, asks_page as asks_page_of, err_ok, just_as, sent_as}
 use Rattle.page_restarts.proofs.Owning.{still}
 use Rattle.page_restarts.proofs.Standing.{copy_none}
 
@@ -144,7 +145,7 @@ data Lawful (i : RestartIntent) (s : RestartSent) : Type 0 where
   AsksLength : s ≡ sent.LogLength → Lawful i s
   AsksLog : (at count : ℕ) → s ≡ sent.ReadLog at count → Lawful i s
   Drops : ((x : Held) (answer : Reply) → settled x i answer ≡ x) → s ≡ sent.Command (command.Unregister 0) → Lawful i s
-  Quietly : (c : Command) → leaves_pages c ≡ true → ((x : Held) → is_hand x c ≡ false) → ((x : Held) (answer : Reply) → settled x i answer ≡ x) → s ≡ sent.Command c → Lawful i s
+  Quietly : (c : Command) → leaves_pages c ≡ true → ((n : ℕ) → asks_page c n ≡ false) → ((n : ℕ) → frees_page c n ≡ false) → ((x : Held) → is_hand x c ≡ false) → ((x : Held) (answer : Reply) → settled x i answer ≡ x) → s ≡ sent.Command c → Lawful i s
 
 never : {A : Type 0} → false ≡ true → A
 never e = absurd (cc e)
@@ -190,14 +191,27 @@ lawful m own unread (intent.Purge n) s e =
     absurd (fails_then marked (Err test.NotListed) test.NotListed (sent.Command (command.Purge n)) s refl e)
 lawful m own unread intent.Append s e = absurd (err_ok test.NonePending s (Err test.NonePending) refl e)
 lawful m own unread (intent.Obtain id) s e = absurd (locks_none m own (λ page. command.Obtain (name.Page page) X) s (page_undone no_trans id) e)
-lawful m own unread (intent.Ask id to) s e = let x = asks_page (λ page. command.Ask 0 to (name.Page page) X) s (page_undone no_trans id) e in Quietly (command.Ask 0 to (name.Page x.0) X) refl (λ y. refl) (λ y answer. refl) x.1
-lawful m own unread (intent.Answers id asked) s e = let x = asks_page (λ page. command.Answers 0) s (page_undone no_trans id) e in Quietly (command.Answers 0) refl (λ y. refl) (λ y answer. refl) x.1
+lawful m own unread (intent.Ask id to) s e = let x = asks_page_of (λ page. command.Ask 0 to (name.Page page) X) s (page_undone no_trans id) e in Quietly (command.Ask 0 to (name.Page x.0) X) refl (λ n. refl) (λ n. refl) (λ y. refl) (λ y answer. refl) x.1
+lawful m own unread (intent.Answers id asked) s e = let x = asks_page_of (λ page. command.Answers 0) s (page_undone no_trans id) e in Quietly (command.Answers 0) refl (λ n. refl) (λ n. refl) (λ y. refl) (λ y answer. refl) x.1
 lawful m own unread (intent.Grant id) s e = absurd (locks_none m own (λ page. command.Grant 0 (name.Page page) X) s (page_undone no_trans id) e)
-lawful m own unread (intent.Status k) s e = Quietly (command.Status k) refl (λ y. refl) (λ y answer. refl) (just_as (sent.Command (command.Status k)) s e)
+lawful m own unread (intent.Status k) s e = Quietly (command.Status k) refl (λ n. refl) (λ n. refl) (λ y. refl) (λ y answer. refl) (just_as (sent.Command (command.Status k)) s e)
 lawful m own unread (intent.Undo id) s e = absurd (undoes_none m own s (newest no_trans id) e)
 lawful m own unread intent.ReleasePage s e = absurd (err_ok test.NotClaimed s (Err test.NotClaimed) refl e)
 lawful m own unread intent.Unregister s e = Drops (λ y answer. refl) (sent_as passed (sent.Command (command.Unregister 0)) s e)
 lawful m own unread intent.Up s e = absurd (err_ok test.NotListed s (Err test.NotListed) refl e)
+
+-- ---- page locks
+owns_by : (before : ℕ → Option ℕ) (m : ℕ) (a : Answered) (i : RestartIntent) (s : RestartSent) → Lawful i s → Owns before before m s a
+owns_by before m a i s (Nothing e) = subst (λ z. Owns before before m z a) (sym e) (owns_same before m sent.None a (λ n. refl) (λ n. refl))
+owns_by before m a i s (AsksLength e) = subst (λ z. Owns before before m z a) (sym e) (owns_same before m sent.LogLength a (λ n. refl) (λ n. refl))
+owns_by before m a i s (AsksLog at count e) = subst (λ z. Owns before before m z a) (sym e) (owns_same before m (sent.ReadLog at count) a (λ n. refl) (λ n. refl))
+owns_by before m a i s (Drops none e) = let c = command.Unregister 0 in subst (λ z. Owns before before m z a) (sym e) (owns_same before m (sent.Command c) a (λ n. unasked c a n refl) (λ n. refl))
+owns_by before m a i s (Quietly c leaves asks frees unlent none e) = subst (λ z. Owns before before m z a) (sym e) (owns_same before m (sent.Command c) a (λ n. unasked c a n (asks n)) frees)
+
+pub reading_owns : ReadingOwns
+reading_owns u v h k s a before rest unread happens =
+    let e : need_of (reading h.marks.member h.marks.own) happens.intent ≡ Ok s = subst (λ (z : RestartState). need_of z happens.intent ≡ Ok s) rest happens.lawful in
+    owns_by before h.marks.member a happens.intent s (lawful h.marks.member h.marks.own unread happens.intent s e)
 
 -- ---- the pages
 pub record Facts : Type 0 where
@@ -463,7 +477,7 @@ module _ (facts : Facts) (w : World) (u v : Outside) (g : Holdings) (content : �
   by_lawful i s (AsksLength e) r = let q = ran i s sent.LogLength e r in asks_length q.0 q.1
   by_lawful i s (AsksLog at count e) r = let q = ran i s (sent.ReadLog at count) e r in asks_log at count q.0 q.1
   by_lawful i s (Drops none e) r = let q = ran i s (sent.Command (command.Unregister 0)) e r in dropped i none q.0 q.1
-  by_lawful i s (Quietly c leaves unlent none e) r = let q = ran i s (sent.Command c) e r in quietly i c leaves (unlent h) none q.0 q.1
+  by_lawful i s (Quietly c leaves asks frees unlent none e) r = let q = ran i s (sent.Command c) e r in quietly i c leaves (unlent h) none q.0 q.1
 
 pub reading_goes : Facts → ReadingGoes
 reading_goes facts w u v g content forced h k s a b happens works tells =

@@ -1,5 +1,5 @@
 -- A restart that reads its member's log yet: it has no page in hand, no page lock and no record to write, and its events leave the pages.
-use Rattle.std.specs.Prelude.{◌≡◌, ◌≢◌, ◌⊎◌, ℕ, ◌≤◌, true, false, List, [], None}
+use Rattle.std.specs.Prelude.{◌≡◌, ◌≢◌, ◌⊎◌, ℕ, ◌≤◌, true, false, List, [], Option, None}
 use Rattle.list_structure.specs.declared.standing.MemberStatus.TheVariants.{Restarting}
 use Rattle.list_structure.specs.Standings.{status_of}
 use Rattle.member_intents.specs.declared.outcome.Answered.{Answered}
@@ -11,6 +11,7 @@ use Rattle.restart_marks.specs.State.{RestartState, log_size, no_hand}
 use Rattle.restart_records.specs.Names.{no_names}
 use Rattle.restart_records.specs.Own.{OwnState}
 use Rattle.restart_records.specs.Trans.{no_trans}
+use Rattle.restart_resources.specs.Events as restarting
 use Rattle.restart_resources.specs.Events.{Happens}
 use Rattle.restart_resources.specs.Held.{Held, IsNew}
 use Rattle.page_protocol.specs.Page.{put}
@@ -18,8 +19,11 @@ use Rattle.page_protocol.specs.Moves.{World, Move, Run}
 use Rattle.page_intents.specs.Numbers.{AreNumbered}
 use Rattle.page_world.specs.Holdings.{Holdings, no_copy}
 use Rattle.page_world.specs.Numbers.{set_of}
-use Rattle.page_members.specs.Members.{Group, SameOthers, Shows}
+use Rattle.page_members.specs.Members.{SameOthers, Shows}
+-- given out again: a group beside its good world of pages
+pub use Rattle.page_members.specs.Members.{Group}
 use Rattle.page_restarts.specs.Beside.{Beside, as_restarting}
+use Rattle.page_restarts.specs.Events.{Owns}
 use Rattle.page_restarts.specs.Locals.{CastsNone}
 use Rattle.page_restarts.specs.Stands.{Begins}
 
@@ -85,3 +89,8 @@ pub record ReadingLeads (w : World) (v : Outside) (g : Holdings) (content : ℕ 
 abbrev pub ReadingGoes : Type 0
 ReadingGoes = (w : World) (u v : Outside) (g : Holdings) (content : ℕ → ℕ → List ℕ) (forced : ℕ → ℕ) (h k : Held) (s : RestartSent) (a : Answered)
     → IsReading w u g content forced h → (happens : Happens (as_restarting u) h s a (as_restarting v) k) → a ≢ answered.Failed → LogIsWhole w content forced happens.after → ReadingLeads w v g content forced h k
+
+-- it asks for no page's lock, and gives none up
+abbrev pub ReadingOwns : Type 0
+ReadingOwns = (u v : restarting.World) (h k : Held) (s : RestartSent) (a : Answered) (owner : ℕ → Option ℕ)
+    → h.marks ≡ reading h.marks.member h.marks.own → h.marks.own.is_read ≡ false → Happens u h s a v k → Owns owner owner h.marks.member s a

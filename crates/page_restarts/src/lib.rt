@@ -10,7 +10,7 @@ ghost use Rattle.page_restarts.specs.Events.{EndGoes, EventsGo};
 ghost use Rattle.page_restarts.specs.Hands.{FillGoes, ForwardGoes, PutsDown, ReadGoes, TakesUp, TestGoes, WriteGoes};
 ghost use Rattle.page_restarts.specs.Locals.{PutsAside, ReachesGo};
 ghost use Rattle.page_restarts.specs.Locks.{AppendGoes, GiveUpGoes, LockGoes, StayGoes};
-ghost use Rattle.page_restarts.specs.Reading.{ReadingBegins, ReadingGoes};
+ghost use Rattle.page_restarts.specs.Reading.{ReadingBegins, ReadingGoes, ReadingOwns};
 ghost use Rattle.page_restarts.specs.Undoes.{UndoGoes};
 
 use cache_structure::keeps_entries_apart;
@@ -126,11 +126,12 @@ pub fn others_still_restart()
     ensures { OthersRestart }
 {}
 
-/// While a restart reads its log, from its begin on, its events leave the pages, but that they may drop a registration. Where the log is whole,
-/// the restart goes on as one that has read it.
+/// While a restart reads its log, from its begin on, its events leave the pages and their locks, but that they may drop a registration. Where the
+/// log is whole, the restart goes on as one that has read it.
 pub fn readings_go()
     ensures begin { ReadingBegins }
     ensures event { ReadingGoes }
+    ensures owns { ReadingOwns }
 {
     pages_have_numbers();
     frames_are_moves();

@@ -4,3 +4,4 @@ pub mod Effects
 pub mod Locals
 pub mod Events
 pub mod Allowed
+pub mod Resting

@@ -81,6 +81,7 @@ module _ (law : SendsLawfully) (K : Claim) (m : Member) (w : World) (place : ℕ
           after = with_marks a.happens.after u;
           keeps = a.keeps;
           rests = a.rests;
+          leaves = a.leaves;
           happens = record {
             plan = a.happens.plan;
             ready = a.happens.ready;

@@ -1,4 +1,4 @@
--- Any event of a restart that has read its log, in both worlds.
+-- Any event of a restart, in both worlds.
 use Rattle.std.proofs.Common.{◌≡◌, ◌≢◌, ◌⊎◌, ℕ, ◌≤◌, refl, sym, ◌∙◌, ap, subst, true, false, inl, inr, List, Option, Some}
 use Rattle.std.specs.Prelude.{◌==◌, ◌&&◌}
 use Rattle.std.proofs.lemmas.Bool.{and_parts, both_ways, cases_eq, eq-eqb, eqb-true, false_from_ne_true}
@@ -25,24 +25,26 @@ use Rattle.restart_resources.specs.Held.{Held}
 use Rattle.restart_resources.specs.Lending.{is_hand, lent_bytes}
 use Rattle.lock_protocol.specs.Machine.{World as LockWorld}
 use Rattle.lock_protocol.specs.Own.{OthersKeep}
-use Rattle.lock_protocol.specs.Sound.{RunKeepsSound}
+use Rattle.lock_protocol.specs.Sound.{RunKeepsSound, Sound}
 use Rattle.lock_world.specs.Numbers.{number}
 use Rattle.lock_world.specs.Tied.{Claims}
 use Rattle.lock_world.specs.Views.{entry_in}
 use Rattle.lock_restarts.specs.Changes.{gone_by}
 use Rattle.lock_restarts.specs.Events.{EventsGo as LocksGo}
 use Rattle.lock_restarts.specs.Sent.{SendsLawfully}
-use Rattle.lock_restarts.specs.Stands.{Goes, Leads, OwnClaims}
+use Rattle.lock_restarts.specs.Stands.{Goes, Knows, Leads, OwnClaims, known_with}
 use Rattle.page_protocol.specs.Moves.{World}
 use Rattle.page_world.specs.Holdings.{Holdings}
 use Rattle.page_world.specs.Numbers.{page_at, page_number}
 use Rattle.page_world.specs.Numbers as pages
 use Rattle.page_restarts.specs.Beside.{as_restarting}
 use Rattle.page_restarts.specs.Events.{EventLeads, EventsGo as PagesGo, frees_page, gives_page, takes_page}
+use Rattle.page_restarts.specs.Stands.{Begins}
 use Rattle.retained_pages.specs.Retained.{CommandsRetain, CommandsSpare, Retains, purges}
-use Rattle.restart_owners.specs.Events.{BothGo, BothRestart, BothSupply, EventsGo}
+use Rattle.restart_owners.specs.Events.{BothRestart, BothSupply, EventsGo}
 use Rattle.restart_owners.specs.Listing.{ListingGoes, RestartsRetain, purges_by}
 use Rattle.restart_owners.specs.Owners.{OwnersStand, OwnsRestarting}
+use Rattle.restart_owners.specs.Stages.{InBoth, InPages, StageGoes, StageLeads}
 use Rattle.restart_owners.proofs.Courses.{ClaimGoes, Gives, Stays, Step, Takes, by_intent}
 use Rattle.restart_owners.proofs.Following.{reaches}
 use Rattle.restart_owners.proofs.Listing.{goes_near, spares_same}
@@ -135,7 +137,35 @@ unfreed_by numbered (sent.CutLog long) n e = refl
 unfreed_by numbered sent.AppendLog n e = refl
 unfreed_by numbered (sent.ReadPage page) n e = refl
 
-pub record Facts : Type 0 where
+-- ---- where it stands in its world of pages
+begins_in : (w : World) (u : Outside) (g : Holdings) (content : ℕ → ℕ → List ℕ) (forced : ℕ → ℕ) (h : Held) → InPages w u g content forced h → Begins w g content forced h
+begins_in w u g content forced h (inl reading) = reading.begins
+begins_in w u g content forced h (inr read) = read.begins
+
+facility_in : (w : World) (u : Outside) (g : Holdings) (content : ℕ → ℕ → List ℕ) (forced : ℕ → ℕ) (h : Held) → InPages w u g content forced h → g.facility ≡ u.facility
+facility_in w u g content forced h (inl reading) = reading.facility
+facility_in w u g content forced h (inr read) = read.facility
+
+in_both : (w : World) (l : LockWorld) (u : Outside) (g : Holdings) (content : ℕ → ℕ → List ℕ) (forced : ℕ → ℕ) (held : Claims) (own : OwnClaims) (h : Held) → BothRestart w l u g content forced held own h → InBoth w l u g content forced held own h
+in_both w l u g content forced held own h b = record { pages = inr b.pages; sound = b.sound; tied = b.tied; restarts = b.restarts; knows = b.knows; owners = b.owners; owns = b.owns }
+
+pub staged : (w : World) (v : Outside) (g : Holdings) (content : ℕ → ℕ → List ℕ) (forced : ℕ → ℕ) (h k : Held) (s : RestartSent) (a : Answered) → EventLeads w v g content forced h k s a → StageLeads w v g content forced h k s a
+staged w v g content forced h k s a e = record {
+  moves = e.leads.moves;
+  world = e.leads.world;
+  run = e.leads.run;
+  left = e.leads.left;
+  versions = e.leads.versions;
+  force = e.leads.force;
+  pages = inr e.leads.beside;
+  same = e.leads.same;
+  others = e.leads.others;
+  owns = e.owns;
+  kept = e.leads.kept;
+}
+
+-- ---- where page locks and claims go
+pub record Known : Type 0 where
   pub pages : pages.AreNumbered
   pub lawful : SendsLawfully
   pub spare : CommandsSpare
@@ -143,16 +173,14 @@ pub record Facts : Type 0 where
   pub run : RunKeepsSound
   pub others : OthersKeep
   pub locks : LocksGo
-  pub page : PagesGo
-  pub supply : BothSupply
 
-module _ (facts : Facts) (w : World) (l : LockWorld) (u v : Outside) (g : Holdings) (content : ℕ → ℕ → List ℕ) (forced : ℕ → ℕ) (held left : Claims) (own : OwnClaims) (h k : Held) (s : RestartSent) (a : Answered)
-    (b : BothRestart w l u g content forced held own h) (happens : Happens (as_restarting u) h s a (as_restarting v) k) (leads : Leads held left own h.marks k.marks) (paged : EventLeads w v g content forced h k s a) (locked : Goes l u.facility v.facility left h.marks.member (gone_by s)) where
+module _ (facts : Known) (w : World) (l : LockWorld) (u v : Outside) (g : Holdings) (content : ℕ → ℕ → List ℕ) (forced : ℕ → ℕ) (held left : Claims) (own : OwnClaims) (h k : Held) (s : RestartSent) (a : Answered)
+    (b : InBoth w l u g content forced held own h) (happens : Happens (as_restarting u) h s a (as_restarting v) k) (leads : Leads held left own h.marks k.marks) (paged : StageLeads w v g content forced h k s a) (locked : Goes l u.facility v.facility left h.marks.member (gone_by s)) where
   abbrev after : ℕ → Option ℕ
-  after = paged.leads.left.owner
+  after = paged.left.owner
 
   same : k.marks.member ≡ h.marks.member
-  same = paged.leads.same
+  same = paged.same
 
   claim : ClaimGoes h.marks k.marks s a
   claim = (stepped facts.pages.named facts.spare facts.lawful (as_restarting u) (as_restarting v) h k s a happens).claim
@@ -196,10 +224,11 @@ module _ (facts : Facts) (w : World) (l : LockWorld) (u v : Outside) (g : Holdin
   -- ---- in the world of locks
   live : locked.moved.world.live h.marks.member ≡ true
   live =
-      let r = paged.leads.beside.begins.restarts in
-      let among = subst (λ z. z ≤ paged.leads.left.facility.lists.members) same r.among in
-      locked.moved.tied.live h.marks.member b.restarts.member.0 (subst (λ (f : Facility). h.marks.member ≤ f.lists.members) paged.leads.beside.facility among)
-      ∙ ap is_live (ap (λ (f : Facility). status_of f.lists.statuses h.marks.member) (sym paged.leads.beside.facility) ∙ ap (status_of paged.leads.left.facility.lists.statuses) (sym same) ∙ r.restarts)
+      let r = (begins_in paged.world v paged.left paged.versions paged.force k paged.pages).restarts in
+      let there : paged.left.facility ≡ v.facility = facility_in paged.world v paged.left paged.versions paged.force k paged.pages in
+      let among = subst (λ z. z ≤ paged.left.facility.lists.members) same r.among in
+      locked.moved.tied.live h.marks.member b.restarts.member.0 (subst (λ (f : Facility). h.marks.member ≤ f.lists.members) there among)
+      ∙ ap is_live (ap (λ (f : Facility). status_of f.lists.statuses h.marks.member) (sym there) ∙ ap (status_of paged.left.facility.lists.statuses) (sym same) ∙ r.restarts)
 
   owners : OwnersStand locked.moved.world v.facility after
   owners n q owned = elim (cases_eq q h.marks.member) [
@@ -208,23 +237,42 @@ module _ (facts : Facts) (w : World) (l : LockWorld) (u v : Outside) (g : Holdin
           (claimed_there locked.moved.world v.facility left own h.marks.member k.marks.claim (page_at n) locked.moved.tied live b.restarts.pages leads.knows claimed))
       | inr retained ↦ inr (subst (λ z. Retains v.facility z (page_at n)) (sym is) retained)
     ]
-    | inr ne ↦ elim (b.owners n q (paged.leads.others.takes q n ne owned)) [
+    | inr ne ↦ elim (b.owners n q (paged.others.takes q n ne owned)) [
       | inl there ↦ inl (facts.others (entry_in u.facility.locks) h.marks.member locked.moves l locked.moved.world locked.own locked.moved.run q 0 (number (name.Page (page_at n))) ne ∙ there)
       | inr retained ↦ inr (facts.retain (as_restarting u) (as_restarting v) h k s a q (page_at n) happens (λ e. absurd (ne e)) retained)
     ]
   ]
 
-  both_go : BothGo w l u v g content forced left h k s a
-  both_go = record {
+  sound : Sound (entry_in v.facility.locks) locked.moved.world
+  sound = still_sound facts.run l locked.moves u.facility.locks v.facility.locks v.facility.lists left b.sound locked.moved
+
+  knows : Knows left own k.marks
+  knows o c = subst (λ z. left z o c ≡ known_with own k.marks.claim o c) (sym same) (leads.knows o c)
+
+  pub stage_goes : StageGoes w l u v g content forced left own h k s a
+  stage_goes = record {
     pages = paged;
     locks = locked;
-    sound = still_sound facts.run l locked.moves u.facility.locks v.facility.locks v.facility.lists left b.sound locked.moved;
     owners = owners;
-    owns = owns;
+    again = λ restarts. record { pages = paged.pages; sound = sound; tied = locked.moved.tied; restarts = restarts; knows = knows; owners = owners; owns = owns };
   }
+
+-- ---- one that has read its log
+pub record Facts : Type 0 where
+  pub known : Known
+  pub page : PagesGo
+  pub supply : BothSupply
 
 pub events_go : Facts → EventsGo
 events_go facts w l u v g content forced held left own h k s a b happens up tells frees leads =
-    both_go facts w l u v g content forced held left own h k s a b happens leads
-    (facts.page w u v g content forced h k s a b.pages happens up (facts.supply w l u v g content forced held own h k s a b happens tells))
-    (facts.locks l (as_restarting u) (as_restarting v) held left own h k s a b.tied b.restarts b.knows frees happens leads)
+    let paged = facts.page w u v g content forced h k s a b.pages happens up (facts.supply w l u v g content forced held own h k s a b happens tells) in
+    let locked = facts.known.locks l (as_restarting u) (as_restarting v) held left own h k s a b.tied b.restarts b.knows frees happens leads in
+    let both = in_both w l u g content forced held own h b in
+    let led = staged w v g content forced h k s a paged in
+    record {
+      pages = paged;
+      locks = locked;
+      sound = sound facts.known w l u v g content forced held left own h k s a both happens leads led locked;
+      owners = owners facts.known w l u v g content forced held left own h k s a both happens leads led locked;
+      owns = owns facts.known w l u v g content forced held left own h k s a both happens leads led locked;
+    }

@@ -6,3 +6,4 @@ pub mod Owners
 pub mod Supplying
 pub mod Going
 pub mod Ending
+pub mod Stages

@@ -2,3 +2,4 @@ pub mod Owners
 pub mod Listing
 pub mod Events
 pub mod Ends
+pub mod Stages

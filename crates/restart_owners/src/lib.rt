@@ -9,11 +9,12 @@ ghost use Rattle.restart_owners.specs.Ends.{EndsFree, EndsGo};
 ghost use Rattle.restart_owners.specs.Events.{BothSupply, EventsGo};
 ghost use Rattle.restart_owners.specs.Listing.{ListingBegins, ListingGoes, ListingStays, RestartsRetain};
 ghost use Rattle.restart_owners.specs.Owners.{OthersOwn, OwnersFail, RestartsBegin};
+ghost use Rattle.restart_owners.specs.Stages.{StageBegins, StageEnds, StagesGo};
 
 use lock_protocol::{claims_give, keeps_sound, moves_leave_others};
 use lock_restarts::{restarts_go, sends_lawfully};
 use lock_world::names_have_numbers;
-use page_restarts::{ends_go as pages_end, events_go as pages_go};
+use page_restarts::{ends_go as pages_end, events_go as pages_go, readings_go};
 use page_world::pages_have_numbers;
 use retained_pages::{commands_retain, retained_pages_keep_out};
 
@@ -79,4 +80,24 @@ pub fn ends_go()
     ensures over { EndsGo }
 {
     pages_end();
+}
+
+/// A restart begins beside both worlds as soon as its failed member restarts. Any event of it, whether it reads its log yet or has read it, keeps it beside
+/// both, but for its end, which is one move of pages.
+pub fn stages_go()
+    ensures begin { StageBegins }
+    ensures event { StagesGo }
+    ensures over { StageEnds }
+{
+    pages_have_numbers();
+    keeps_sound();
+    moves_leave_others();
+    sends_lawfully();
+    restarts_go();
+    commands_retain();
+    readings_go();
+    failures_retain();
+    restarts_list();
+    events_go();
+    ends_go();
 }

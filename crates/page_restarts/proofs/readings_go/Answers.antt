@@ -1,5 +1,5 @@
 use Rattle.page_restarts.proofs.readings_go.Goals as goal
-use Rattle.page_restarts.proofs.Reading.{Facts, reading_begins, reading_goes}
+use Rattle.page_restarts.proofs.Reading.{Facts, reading_begins, reading_goes, reading_owns}
 
 pub returns : goal.returns
 returns c =
@@ -13,4 +13,4 @@ returns c =
       stay = c.owners_go.ensures.stay;
       reaches = c.locals_go.ensures;
     } in
-    record { begin = reading_begins; event = reading_goes facts }
+    record { begin = reading_begins; event = reading_goes facts; owns = reading_owns }

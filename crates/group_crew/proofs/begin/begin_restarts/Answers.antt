@@ -2,7 +2,7 @@ use Rattle.std.proofs.Common.{◌≡◌, ℕ, ◌<◌, Bool, if◌then◌else◌
 use Rattle.group_member.specs.declared.part.MemberPart.{MemberPart}
 use Rattle.group_crew.specs.Beginning.{Rang, begins_restart, kept_by, restarting}
 use Rattle.group_crew.proofs.Parts.{map_set}
-use Rattle.group_crew.proofs.Restarts.{same_more, restart_made, lists_made, restarts_more, rang_more, none_rang, cannot_ring}
+use Rattle.group_crew.proofs.Restarts.{same_more, restart_made, lists_made, restarts_more, part_knows, knows_more, rang_more, none_rang, cannot_ring}
 use Rattle.group_crew.proofs.begin.begin_restarts.Goals as goal
 
 -- src/begin.rt:63:13
@@ -39,10 +39,12 @@ loop-part-preserved g c =
           (λ no. let same = c.in_ok-begin_restart.ensures.same no in (same.0, same.1)) (λ yes. c.in_ok-begin_restart.ensures.begun yes c.if-not-branch.false))
           lists,
       rang_more begins c.args.lists.now.bells c.loop-part.part-index old.id c.loop-part.lists c.begin_restart.new.lists lists c.loop-part.invariant.3,
+      knows_more c.args.parts.now c.loop-part.part-items c.loop-part.part-index c.part-item.result c.begin_restart.new.part within there c.loop-part.invariant.1 c.loop-part.invariant.4
+          (part_knows begins old c.begin_restart.new.part (λ no. (c.in_ok-begin_restart.ensures.same no).0) (λ yes. c.in_ok-begin_restart.ensures.known yes c.if-not-branch.false)),
     )
 
 pub loop-part-init : goal.loop-part-init
-loop-part-init g c = (search rules, (λ k d above. refl), search rules, none_rang c.args.lists.now.bells 0)
+loop-part-init g c = (search rules, (λ k d above. refl), search rules, none_rang c.args.lists.now.bells 0, search rules)
 
 pub returns-clause-rang : goal.returns-clause-rang
 returns-clause-rang g c = λ yes.

@@ -1,6 +1,7 @@
 use Rattle.std.proofs.Common.{◌≡◌, map}
 use Rattle.group_member.specs.Members.{member_of}
+use Rattle.group_crew.specs.States.{known_by}
 use Rattle.group_crew.proofs.failure.rest.Given as goal
 
 abbrev pub invariant-loop-part : goal.invariant-loop-part
-invariant-loop-part g l = map member_of l.part-items ≡ map member_of l.fn.parts
+invariant-loop-part g l = (map member_of l.part-items ≡ map member_of l.fn.parts) × (map known_by l.part-items ≡ map known_by l.fn.parts)

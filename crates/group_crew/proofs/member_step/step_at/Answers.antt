@@ -1,10 +1,11 @@
-use Rattle.std.proofs.Common.{◌<◌, length, slice_set, slice_index_or, arith}
+use Rattle.std.proofs.Common.{◌<◌, length, slice_set, slice_index_or, ap, arith}
 use Rattle.std.proofs.lemmas.Result.{IfOk-weaker}
 use Rattle.group_member.specs.declared.stepped.Stepped.{Stepped}
 use Rattle.group_member.specs.Happening.{Comes, World, world_of}
 use Rattle.group_member.specs.Members.{member_of}
 use Rattle.group_crew.specs.Happening.{ComesAt, member_at}
-use Rattle.group_crew.proofs.Parts.{at_other, comes_at, none_at, refused_at}
+use Rattle.group_crew.specs.States.{known_by}
+use Rattle.group_crew.proofs.Parts.{at_other, comes_at, map_set, none_at, refused_at}
 use Rattle.group_crew.proofs.member_step.step_at.Goals as goal
 
 pub returns-then-at-parts-clause-unlawful : goal.returns-then-at-parts-clause-unlawful
@@ -32,3 +33,8 @@ returns-clause-unlawful g c = λ so.
 
 pub returns-clause-others : goal.returns-clause-others
 returns-clause-others g c = λ k other. at_other c.args.parts.now c.args.at c.step_one.new.part k other
+
+pub returns-clause-known : goal.returns-clause-known
+returns-clause-known g c =
+    let within : c.args.at < length c.args.parts.now = omega arith in
+    map_set (known_by {P = g.row.P.Denot}) c.args.parts.now c.args.at c.index-parts-at.result c.step_one.new.part within (ap (known_by {P = g.row.P.Denot}) c.step_one.ensures.rest)

@@ -1,4 +1,5 @@
 use Rattle.std.proofs.Common.{◌≡◌, ℕ, ◌+◌, false, List, ◌∙◌, length, map, Some, slice_get, rules, refl, sym, ap, subst, arith}
+use Rattle.std.specs.List.{AllZip}
 use Rattle.std.proofs.lemmas.Bool.{iff_false}
 use Rattle.std.proofs.lemmas.Option.{slice_get_read}
 use Rattle.ds_model.specs.declared.script.Phase.{Phase}
@@ -8,11 +9,11 @@ use Rattle.facility.specs.States.{held}
 use Rattle.group_member.specs.declared.part.MemberPart.{MemberPart}
 use Rattle.group_member.specs.Members.{member_of}
 use Rattle.group_crew.specs.declared.crew.Crew.{Crew}
-use Rattle.group_crew.specs.Beginning.{AllRestart, AreRaisers, CannotRing, kept_by}
-use Rattle.group_crew.specs.States.{CrewState, crew_state}
+use Rattle.group_crew.specs.Beginning.{AllRestart, AreRaisers, CannotRing, PartStaysOrKnows, kept_by}
+use Rattle.group_crew.specs.States.{CrewState, crew_state, known_by}
 use Rattle.group_crew.proofs.Begun.{begun_members, begun_state, phase_begins, stopped_next}
-use Rattle.group_crew.proofs.Parts.{both, kept_same, kept_stale}
-use Rattle.group_crew.proofs.Restarts.{cannot_begin, cannot_ring}
+use Rattle.group_crew.proofs.Parts.{both, kept_stale, known_same}
+use Rattle.group_crew.proofs.Restarts.{cannot_begin, cannot_ring, stay_or_know}
 use Rattle.group_crew.proofs.crew.Crew.begin_phase.Given.{Over}
 use Rattle.group_crew.proofs.crew.Crew.begin_phase.Goals as goal
 
@@ -29,13 +30,13 @@ returns-clause-members g c =
     ∙ (kept_stale _
     ∙ both (kept_by {P = g.row.P.Denot}) c.args.self.now.parts.len c.args.self.now.parts.items c.begin_restarts.new.parts c.begin_in_all.new.parts
     (sym c.args.self.now.parts.ok.0) (c.begin_restarts.ensures.kept ∙ ap (map (kept_by {P = g.row.P.Denot})) c.deref_mut.ensures.value)
-    (kept_same c.begin_in_all.new.parts c.deref_mut-2.result.now c.begin_in_all.ensures ∙ ap (map (kept_by {P = g.row.P.Denot})) c.deref_mut-2.ensures.value))
+    (c.begin_in_all.ensures.kept ∙ ap (map (kept_by {P = g.row.P.Denot})) c.deref_mut-2.ensures.value))
 
 pub returns-in_err-begin_in_all-clause-members : goal.returns-in_err-begin_in_all-clause-members
 returns-in_err-begin_in_all-clause-members g c =
     both (kept_by {P = g.row.P.Denot}) c.args.self.now.parts.len c.args.self.now.parts.items c.begin_restarts.new.parts c.begin_in_all.new.parts
     (sym c.args.self.now.parts.ok.0) (c.begin_restarts.ensures.kept ∙ ap (map (kept_by {P = g.row.P.Denot})) c.deref_mut.ensures.value)
-    (kept_same c.begin_in_all.new.parts c.deref_mut-2.result.now c.begin_in_all.ensures ∙ ap (map (kept_by {P = g.row.P.Denot})) c.deref_mut-2.ensures.value)
+    (c.begin_in_all.ensures.kept ∙ ap (map (kept_by {P = g.row.P.Denot})) c.deref_mut-2.ensures.value)
 
 pub returns-clause-happens : goal.returns-clause-happens
 returns-clause-happens g c = λ yes.
@@ -47,14 +48,16 @@ returns-clause-happens g c = λ yes.
     let kept : map kept_by parts ≡ map kept_by items = c.begin_restarts.ensures.kept ∙ ap (map (kept_by {P = g.row.P.Denot})) c.deref_mut.ensures.value in
     let same : map member_of c.make_all_stale.new.self.parts.items ≡ map member_of parts =
     begun_members c.args.self.now.parts.len items parts c.begin_in_all.new.parts c.make_all_stale.new.self.parts.items (sym c.args.self.now.parts.ok.0) kept
-    (c.begin_in_all.ensures ∙ ap (map (member_of {P = g.row.P.Denot})) c.deref_mut-2.ensures.value) c.make_all_stale.ensures.parts in
+    (c.begin_in_all.ensures.members ∙ ap (map (member_of {P = g.row.P.Denot})) c.deref_mut-2.ensures.value) c.make_all_stale.ensures.parts in
+    let known : map known_by c.make_all_stale.new.self.parts.items ≡ map known_by items = known_same c.make_all_stale.new.self.parts.items items (returns-clause-members g c) in
     let raised : AreRaisers phase statuses c.raisers_of-raisers.result = record { many = search rules; each = c.raisers_of-raisers.ensures } in
     phase_begins phase old (crew_state g.C.CacheFace.directory c.make_all_stale.new.self) c.begin_restarts.new.lists (map member_of parts) c.raisers_of-raisers.result
     (held g.C.CacheFace.directory c.begin_phase.new.self) c.stop_left_out.new.fates (next g c)
     (begun_state g.C.CacheFace.directory (record c.args.self.now { facility = c.begin_phase.new.self; progress = c.begin_phase-2.new.self; fates = c.stop_left_out.new.fates }) c.make_all_stale.new.self
-    (map member_of parts) (c.args.self.now.progress.begun + 1) c.make_all_stale.ensures.rest same c.begin_phase-2.ensures)
+    (map member_of parts) (c.args.self.now.progress.begun + 1) c.make_all_stale.ensures.rest same known c.begin_phase-2.ensures)
     (subst (λ (its : List (MemberPart g.row.P.Denot)). AllRestart phase c.args.self.now.facility.lists (map member_of its) (map member_of parts) c.begin_restarts.new.lists) c.deref_mut.ensures.value
     (c.in_ok-begin_restarts.ensures.each c.if-not-branch.false))
+    (stay_or_know items parts (subst (λ (its : List (MemberPart g.row.P.Denot)). AllZip PartStaysOrKnows its parts) c.deref_mut.ensures.value (c.in_ok-begin_restarts.ensures.knows c.if-not-branch.false)))
     raised c.begin_phase.ensures c.stop_left_out.ensures
 
 pub returns-clause-stopped : goal.returns-clause-stopped

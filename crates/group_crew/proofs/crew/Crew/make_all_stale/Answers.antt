@@ -2,7 +2,8 @@ use Rattle.std.proofs.Common.{◌≡◌, ℕ, ◌∙◌, List, length, map, sym,
 use Rattle.group_member.specs.declared.part.MemberPart.{MemberPart}
 use Rattle.group_crew.specs.Crews.{stale}
 use Rattle.group_crew.specs.Happening.{member_at}
-use Rattle.group_crew.proofs.Parts.{at_all_stale, same_stale, whole}
+use Rattle.group_crew.specs.States.{known_by}
+use Rattle.group_crew.proofs.Parts.{at_all_stale, known_stale, same_stale, whole}
 use Rattle.group_crew.proofs.crew.Crew.make_all_stale.Goals as goal
 
 pub returns-clause-members : goal.returns-clause-members
@@ -13,3 +14,12 @@ returns-clause-members g c = λ k.
     let long : length items ≡ n = sym c.args.self.now.parts.ok.0 in
     let are : news ≡ map stale items = c.make_stale.ensures ∙ ap (map (stale {P = g.row.P.Denot})) c.deref_mut.ensures.value in
     ap (λ (its : List (MemberPart g.row.P.Denot)). member_at its k) (whole n items news long (same_stale news items are ∙ long)) ∙ at_all_stale items news k are
+
+pub returns-clause-known : goal.returns-clause-known
+returns-clause-known g c =
+    let items : List (MemberPart g.row.P.Denot) = c.args.self.now.parts.items in
+    let news : List (MemberPart g.row.P.Denot) = c.make_stale.new.parts in
+    let n : ℕ = c.args.self.now.parts.len in
+    let long : length items ≡ n = sym c.args.self.now.parts.ok.0 in
+    let are : news ≡ map stale items = c.make_stale.ensures ∙ ap (map (stale {P = g.row.P.Denot})) c.deref_mut.ensures.value in
+    ap (map (known_by {P = g.row.P.Denot})) (whole n items news long (same_stale news items are ∙ long)) ∙ (ap (map (known_by {P = g.row.P.Denot})) are ∙ known_stale items)

@@ -5,7 +5,7 @@ use Rattle.group_member.specs.declared.part.MemberPart.{MemberPart}
 use Rattle.group_member.specs.Members.{IsDown, member_of}
 use Rattle.group_crew.specs.declared.crew.Crew.{Crew}
 use Rattle.group_crew.specs.Ends.{AllKnowEnds}
-use Rattle.group_crew.proofs.Anew.{begins_anew}
+use Rattle.group_crew.proofs.Anew.{begins_anew, on_ok_both}
 use Rattle.group_crew.proofs.Known.{all_ends}
 use Rattle.group_crew.proofs.Parts.{same_length, whole}
 use Rattle.group_crew.proofs.crew.Crew.reset.Goals as goal
@@ -21,7 +21,9 @@ returns-clause-anew g c =
     let are : take n (news ++ drop (length news) items) ≡ news = whole n items news long (same_length (λ (part : MemberPart g.row.P.Denot). part.id) news items same ∙ long) in
     let new : Crew g.row.C.Denot g.row.P.Denot =
     record c.args.self.now { facility = c.reset.new.self; parts = with_items c.args.self.now.parts news; restart = None; is_own_stale = true; was_half = c.is_half-self.result } in
-    on_ok_weaker c.reset_all.result (λ down. begins_anew g.C.CacheFace.directory c.args.counter c.args.self.now new news c.reset.ensures are same refl down) c.reset_all.ensures.down
+    on_ok_both c.reset_all.result
+    (λ down known. begins_anew g.C.CacheFace.directory c.args.counter c.args.self.now new news c.reset.ensures (all_ends c.args.self.now.restart c.ends-known.result news c.ends-known.ensures known) are same refl down)
+    c.reset_all.ensures.down c.reset_all.ensures.known
 
 pub returns-clause-members : goal.returns-clause-members
 returns-clause-members g c =

@@ -1,8 +1,9 @@
-use Rattle.std.proofs.Common.{◌≡◌, ℕ, ◌∙◌, List, length, sym, ap, subst, arith}
+use Rattle.std.proofs.Common.{◌≡◌, ℕ, ◌∙◌, List, length, map, sym, ap, subst, arith}
 use Rattle.group_member.specs.Happening.{World, world_of}
 use Rattle.script_fates.specs.Fated.{FatesState}
 use Rattle.group_member.specs.declared.part.MemberPart.{MemberPart}
 use Rattle.group_crew.specs.Happening.{ComesAt, IsRefusedAt, member_at}
+use Rattle.group_crew.specs.States.{known_by}
 use Rattle.group_crew.proofs.Parts.{comes_then, whole}
 use Rattle.group_crew.proofs.crew.Crew.step_member.Goals as goal
 
@@ -52,3 +53,23 @@ returns-clause-others g c = λ k other.
     c.make_others_stale.ensures.members k
     ∙ (ap (λ (its : List (MemberPart g.row.P.Denot)). member_at its k) (whole n items news long also)
     ∙ (c.step_at.ensures.others k other ∙ ap (λ (its : List (MemberPart g.row.P.Denot)). member_at its k) c.deref_mut.ensures.value))
+
+pub returns-in_err-stepped-clause-known : goal.returns-in_err-stepped-clause-known
+returns-in_err-stepped-clause-known g c =
+    let items : List (MemberPart g.row.P.Denot) = c.args.self.now.parts.items in
+    let news : List (MemberPart g.row.P.Denot) = c.step_at.new.parts in
+    let n : ℕ = c.args.self.now.parts.len in
+    let long : length items ≡ n = sym c.args.self.now.parts.ok.0 in
+    let also : length news ≡ n = omega (arith, ap length c.deref_mut.ensures.value) in
+    ap (map (known_by {P = g.row.P.Denot})) (whole n items news long also) ∙ (c.step_at.ensures.known ∙ ap (map (known_by {P = g.row.P.Denot})) c.deref_mut.ensures.value)
+
+pub returns-clause-known : goal.returns-clause-known
+returns-clause-known g c =
+    let items : List (MemberPart g.row.P.Denot) = c.args.self.now.parts.items in
+    let news : List (MemberPart g.row.P.Denot) = c.step_at.new.parts in
+    let n : ℕ = c.args.self.now.parts.len in
+    let long : length items ≡ n = sym c.args.self.now.parts.ok.0 in
+    let also : length news ≡ n = omega (arith, ap length c.deref_mut.ensures.value) in
+    c.make_others_stale.ensures.known
+    ∙ (ap (map (known_by {P = g.row.P.Denot})) (whole n items news long also)
+    ∙ (c.step_at.ensures.known ∙ ap (map (known_by {P = g.row.P.Denot})) c.deref_mut.ensures.value))
