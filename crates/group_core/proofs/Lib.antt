@@ -6,4 +6,3 @@ mod Owning
 mod Taken
 pub mod Crossing
 mod Known
-mod Opening
