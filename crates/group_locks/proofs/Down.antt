@@ -96,5 +96,5 @@ down_stands begin free f k m sizes down id few entries other = record {
   restarts = λ s. absurd (other s);
   rests = λ s. absurd (never (ap (λ (z : Option RestartHeld). is_some z) (sym down.rests) ∙ s));
   restart = subst (λ (z : Option RestartHeld). RestartInHand k m z) (sym down.rests) tt;
-  down = λ _. (down.rests, new_claims m.id sizes m.holds down.holds, new_slots m.id sizes m.holds down.holds);
+  down = λ _. (down.rests, new_claims m.id sizes m.holds down.holds, new_slots m.id sizes m.holds down.holds, λ i. (down.holds.marks.log i).pending);
 }

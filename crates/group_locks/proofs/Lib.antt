@@ -1,5 +1,6 @@
 pub mod Down
 pub mod Moved
+pub mod Idle
 pub mod Whole
 pub mod Beginning
 pub mod Members

@@ -165,6 +165,7 @@ begun_as f g k m (Some q) s dead entries status fresh = record {
     order = fresh_order m.id q fresh;
     own = λ c. (s.down dead).1 0 c;
     left = inl (s.down dead).1;
+    idle = (s.down dead).3;
   };
   down = λ e. absurd (live_restarting (status_of g.lists.statuses k) status e);
 }

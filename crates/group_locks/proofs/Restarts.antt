@@ -58,6 +58,7 @@ use Rattle.marks_law.specs.Free.{FreeHoldNothing}
 use Rattle.marks_law.specs.Slots.{AreSlots, SlotsReach, SlotsStand, SlotsTell, has_own}
 use Rattle.lock_members.specs.Known.{known_of, or_else, page_claim, restart_claim}
 use Rattle.lock_members.specs.Members.{StepsKeepFree}
+use Rattle.put_records.specs.Resting.{LocalsLeave}
 use Rattle.lock_restarts.specs.Courses.{Follows, HasHandedOver, IsInOrder, RestartsFollow, Sets, StandingsFollow}
 use Rattle.lock_restarts.specs.Changes.{gone_by}
 use Rattle.lock_restarts.specs.Events.{EventsGo, FreesSent}
@@ -66,6 +67,7 @@ use Rattle.lock_restarts.specs.Stands.{IsRestarting, Leads, Spares, known_with}
 use Rattle.group_locks.specs.Adopting.{AdoptionsGo, HaveClaimed, MayTakeOver, TakesOver, rows_of}
 use Rattle.group_locks.specs.Restarts.{RestartStepsMove, freed_world}
 use Rattle.group_locks.specs.Stands.{ClaimsNothing, MemberStands, RestartInHand, RestartStands, known, known_by}
+use Rattle.group_locks.proofs.Idle.{left_log, pending_same}
 use Rattle.group_locks.proofs.Moved.{run_on, same_entries, stands_on, still_sound}
 use Rattle.group_locks.proofs.Resting.{SameOwn, all_free, locals_rest}
 use Rattle.group_locks.proofs.Whole.{within}
@@ -85,6 +87,7 @@ pub record Facts : Type 0 where
   pub standings : StandingsFollow
   pub adopt : AdoptionsGo
   pub keep : StepsKeepFree
+  pub leave : LocalsLeave
 
 never : true ≡ false → ⊥
 never e = cc
@@ -692,6 +695,7 @@ restart_steps facts old new at m n w t e = record {
             | inl nothing ↦ inl (λ o c. same_claims o c ∙ nothing o c)
             | inr h ↦ inr h
           ];
+          idle = pending_same m.holds.marks n.holds.marks left_same ∙ standing.idle;
         });
         down = λ z. absurd (live_status (status_of new.facility.lists.statuses (at + 1)) Restarting still_restarts refl z);
       };
@@ -737,6 +741,9 @@ restart_steps facts old new at m n w t e = record {
         rests = locals_rest facts.waits (begun ends.left e.place).marks ends.after.marks ends.tells.0 handed.leaves.stands.book
             (λ i. ap (λ (z : List TranState). is_free (slice_index_or z i free_tran).stage) handed.leaves.trans ∙ all_free facts.tell marks stood.slots none i)
             (all_free facts.tell ends.after.marks slots_after none_after)
+
+        left_same : n.holds.marks.log ≡ m.holds.marks.log
+        left_same = ap (λ (z : MarksState). z.log) n_marks ∙ facts.leave (begun ends.left e.place).marks ends.after.marks ends.tells.0 ∙ left_log over.left m.holds ends.left over.adopts
 
         same_claims : (o c : ℕ) → claim_in n.holds.marks.locks o c ≡ claim_in ends.left.marks.locks o c
         same_claims o c = ap (λ (z : Book). claim_in z o c) n_locks ∙ rests.claims o c

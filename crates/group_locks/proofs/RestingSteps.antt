@@ -43,6 +43,7 @@ use Rattle.group_member.specs.Resting.{NoneInSlots, RestsIdle}
 use Rattle.group_member.specs.Stepping.{is_failure}
 use Rattle.group_core.specs.Given.{CrewState}
 use Rattle.marks_law.specs.Slots.{AreSlots, SlotsReach, SlotsStand, SlotsStay, SlotsTell, has_own}
+use Rattle.put_records.specs.Resting.{HasNothing, LocalsLeave, NothingWaits}
 use Rattle.lock_protocol.specs.Machine.{World}
 use Rattle.lock_protocol.specs.Sound.{RunKeepsSound}
 use Rattle.lock_world.specs.Books.{IsBook, RollbackWaits}
@@ -57,6 +58,7 @@ use Rattle.group_locks.specs.Resting.{RestingMoves, RestingStepsAt, RestingSteps
 use Rattle.group_locks.specs.Stands.{LocksTied, MemberStands, RestartInHand, known, known_by}
 use Rattle.group_locks.proofs.Answering.{FacilityGoes, OwnGoes, Stands, by_quiet, own_goes}
 use Rattle.group_locks.proofs.Answering as answering
+use Rattle.group_locks.proofs.Idle.{no_page, none_own, pending_same}
 use Rattle.group_locks.proofs.Moved.{stands_on, still_sound}
 use Rattle.group_locks.proofs.Resting.{AreFree, IsBusy, SameOwn, all_free, locals_rest, not_both, own_same, reaches_busy}
 use Rattle.group_locks.proofs.Whole.{within}
@@ -71,6 +73,8 @@ pub record Facts : Type 0 where
   pub command : CommandsStay
   pub keep : StepsKeepFree
   pub answer : answering.Facts
+  pub nothing : NothingWaits
+  pub leave : LocalsLeave
 
 never : true ≡ false → ⊥
 never e = cc
@@ -202,6 +206,7 @@ record Left (m n : Member) : Type 0 where
   pub own : SameOwn m.holds.marks n.holds.marks
   pub slots : SlotsStand n.holds.marks
   pub none : NoneInSlots n.holds.marks
+  pub idle : m.holds.marks.log.pending ≡ [] → n.holds.marks.log.pending ≡ []
 
 own_on : (s t u : MarksState) → SameOwn s t → SameOwn t u → SameOwn s u
 own_on s t u a b = record {
@@ -213,8 +218,9 @@ own_on s t u a b = record {
 }
 
 -- the fates are entered
-entered : (m mid n : Member) (h : Held) (f g : FatesState) → Enters mid f n g → mid.holds ≡ h → mid.id ≡ m.id → mid.restart ≡ m.restart → SameOwn m.holds.marks h.marks → SlotsStand h.marks → NoneInSlots h.marks → Left m n
-entered m mid n h f g enters holds id restart own slots none =
+entered : (m mid n : Member) (h : Held) (f g : FatesState) → Enters mid f n g → mid.holds ≡ h → mid.id ≡ m.id → mid.restart ≡ m.restart → SameOwn m.holds.marks h.marks → SlotsStand h.marks → NoneInSlots h.marks
+    → (m.holds.marks.log.pending ≡ [] → h.marks.log.pending ≡ []) → Left m n
+entered m mid n h f g enters holds id restart own slots none idle =
     let marks : n.holds.marks ≡ (told_once h).marks = ap (λ (z : Member). z.holds.marks) enters.member ∙ ap (λ (z : Held). (told_once z).marks) holds in
     let locks : n.holds.marks.locks ≡ h.marks.locks = ap (λ (z : MarksState). z.locks) marks in
     record {
@@ -223,6 +229,7 @@ entered m mid n h f g enters holds id restart own slots none =
       own = own_on m.holds.marks h.marks n.holds.marks own (own_same h.marks n.holds.marks own.book locks (ap (λ (z : MarksState). z.member) marks));
       slots = told_slots n.holds.marks h marks slots;
       none = told_none n.holds.marks h marks none;
+      idle = λ e. ap (λ (z : MarksState). z.log.pending) marks ∙ idle e;
     }
 
 both_up : (s : MemberStatus) → s ≡ Up → s ≡ Restarting → ⊥
@@ -234,9 +241,10 @@ live_restarting s a = ap is_live a
 numbered : (ms : List Member) (k : ℕ) (x : Member) → slice_get ms k ≡ Some x → k + 1 ≤ length ms
 numbered ms k x h = let a : k < length ms = slice_get_within ms k x h in omega (arith, a)
 
-in_hand : (k : ℕ) (m n : Member) (x : Option RestartHeld) → ((o c : ℕ) → claim_in n.holds.marks.locks o c ≡ claim_in m.holds.marks.locks o c) → RestartInHand k m x → RestartInHand k n x
-in_hand k m n None same h = tt
-in_hand k m n (Some q) same h = record {
+in_hand : (k : ℕ) (m n : Member) (x : Option RestartHeld) → ((o c : ℕ) → claim_in n.holds.marks.locks o c ≡ claim_in m.holds.marks.locks o c) → (m.holds.marks.log.pending ≡ [] → n.holds.marks.log.pending ≡ [])
+    → RestartInHand k m x → RestartInHand k n x
+in_hand k m n None same idle h = tt
+in_hand k m n (Some q) same idle h = record {
   member = h.member;
   on = h.on;
   order = h.order;
@@ -245,6 +253,7 @@ in_hand k m n (Some q) same h = record {
     | inl nothing ↦ inl (λ o c. same o c ∙ nothing o c)
     | inr over ↦ inr over
   ];
+  idle = idle h.idle;
 }
 
 -- ---- the group
@@ -325,7 +334,7 @@ module _ (facts : Facts) (old new : CrewState) (at : ℕ) (m n : Member) (w : Wo
         up = λ z. absurd (both_up (status_of new.facility.lists.statuses (at + 1)) z now_restarting);
         restarts = λ _. ap (λ (z : Option RestartHeld). is_some z) left.restart ∙ stood.restarts is_restarting;
         rests = λ _. left.none;
-        restart = subst (λ (z : Option RestartHeld). RestartInHand (at + 1) n z) (sym left.restart) (in_hand (at + 1) m n m.restart left.own.claims stood.restart);
+        restart = subst (λ (z : Option RestartHeld). RestartInHand (at + 1) n z) (sym left.restart) (in_hand (at + 1) m n m.restart left.own.claims left.idle stood.restart);
         down = λ z. absurd (never (sym (live_restarting (status_of new.facility.lists.statuses (at + 1)) now_restarting) ∙ z));
       }
 
@@ -348,10 +357,16 @@ module _ (facts : Facts) (old new : CrewState) (at : ℕ) (m n : Member) (w : Wo
   some_restart : is_some m.restart ≡ true
   some_restart = stood.restarts is_restarting
 
+  has_nothing : HasNothing m.holds.marks
+  has_nothing = record {
+    free = λ slot. all_free facts.tell m.holds.marks stood.slots (stood.rests some_restart) slot;
+    unclaimed = no_page facts.answer.numbers m.holds.marks (none_own (at + 1) m m.restart some_restart stood.restart);
+  }
+
   -- its own event
   acts : (mid : Member) (s : Sent) (a : Answered) → Acts m u e.place s a v mid → RestsIdle mid → Enters mid old.fates n new.fates → RestingMoves old new w m n
   acts mid s a made idle enters = moves_by own.goes
-      (entered m mid n made.after old.fates new.fates enters holds (ap (λ (z : Member). z.id) made.member) restart (own_on m.holds.marks made.happens.after.marks made.after.marks first rests) slots none)
+      (entered m mid n made.after old.fates new.fates enters holds (ap (λ (z : Member). z.id) made.member) restart (own_on m.holds.marks made.happens.after.marks made.after.marks first rests) slots none idle_after)
     where
       own : OwnGoes m.id w old.facility new.facility (known old.members) m.holds.marks made.happens.after.marks
       own = own_goes facts.answer w u v (known old.members) m.id m.holds made.after m.restart made.intent e.place s a own_stands (made.rests some_restart) made.keeps made.happens
@@ -361,6 +376,9 @@ module _ (facts : Facts) (old new : CrewState) (at : ℕ) (m n : Member) (w : Wo
 
       restart : mid.restart ≡ m.restart
       restart = ap (λ (z : Member). z.restart) made.member
+
+      idle_after : m.holds.marks.log.pending ≡ [] → made.after.marks.log.pending ≡ []
+      idle_after z = facts.nothing u v m.holds made.after made.intent e.place s a made.happens has_nothing z
 
       slots : SlotsStand made.after.marks
       slots = facts.slots u v m.holds made.after made.intent e.place s a made.happens stood.slots
@@ -377,13 +395,17 @@ module _ (facts : Facts) (old new : CrewState) (at : ℕ) (m n : Member) (w : Wo
   -- that of its rebuild
   rebuilds : (mid : Member) (s : RebuildSent) (a : Answered) → Rebuilds m u e.place s a v mid → RestsIdle mid → Enters mid old.fates n new.fates → RestingMoves old new w m n
   rebuilds mid s a made idle enters = moves_by (by_quiet facts.answer m.id w old.facility new.facility (known old.members) t.tied (quiet_rebuild facts m mid u v e.place s a made))
-      (entered m mid n back.after old.fates new.fates enters back.holds back.id back.restart own slots none)
+      (entered m mid n back.after old.fates new.fates enters back.holds back.id back.restart own slots none (idle_by back.tells))
     where
       back : Behind m e.place mid
       back = behind m e.place mid made.reached (is_failure a) made.ends
 
       none : NoneInSlots back.after.marks
       none = subst (λ (z : Held). NoneInSlots z.marks) back.holds (idle (ap (λ (z : Option RestartHeld). is_some z) back.restart ∙ some_restart))
+
+      idle_by : (back.after ≡ m.holds) ⊎ Tells m.holds e.place back.after → m.holds.marks.log.pending ≡ [] → back.after.marks.log.pending ≡ []
+      idle_by (inl same) z = ap (λ (x : Held). x.marks.log.pending) same ∙ z
+      idle_by (inr tells) z = pending_same (begun m.holds e.place).marks back.after.marks (facts.leave (begun m.holds e.place).marks back.after.marks tells.0) ∙ z
 
       slots_by : (back.after ≡ m.holds) ⊎ Tells m.holds e.place back.after → SlotsStand back.after.marks
       slots_by (inl same) = subst (λ (z : Held). SlotsStand z.marks) (sym same) stood.slots

@@ -65,13 +65,19 @@ from_unlooked : {P : Type 0} → (parts : List (MemberPart P)) → map member_of
 from_unlooked [] = refl
 from_unlooked (p ∷ parts) = ap (λ (ms : List Member). member_of p ∷ ms) (from_unlooked parts)
 
+known_unlooked : {P : Type 0} → (parts : List (MemberPart P)) → map (λ (p : MemberPart P). p.known) (map unlooked parts) ≡ map (λ (p : MemberPart P). p.known) parts
+known_unlooked [] = refl
+known_unlooked (p ∷ parts) = ap (λ (ks : List (List ℕ)). p.known ∷ ks) (known_unlooked parts)
+
 module _ {C D P : Type 0} (directory : C → Directory) (alive : D → Bool) (contents : D → Option Contents) (count : D → ℕ) where
   -- it may have been found again, and nothing else has changed
   looked_state : (old new : Group D C P) → IsLooked old new → crew_state directory new.crew ≡ crew_state directory old.crew
   looked_state old new l =
       let members : map member_of new.crew.parts.items ≡ map member_of old.crew.parts.items =
       sym (from_unlooked new.crew.parts.items) ∙ ap (λ (ps : List (MemberPart P)). map member_of ps) l.crew.parts ∙ from_unlooked old.crew.parts.items in
-      ap (λ (z : Crew C P). crew_state directory z) l.crew.rest ∙ ap (λ (ms : List Member). record (crew_state directory old.crew) { members = ms }) members
+      let known : map (λ (p : MemberPart P). p.known) new.crew.parts.items ≡ map (λ (p : MemberPart P). p.known) old.crew.parts.items =
+      sym (known_unlooked new.crew.parts.items) ∙ ap (λ (ps : List (MemberPart P)). map (λ (p : MemberPart P). p.known) ps) l.crew.parts ∙ known_unlooked old.crew.parts.items in
+      ap (λ (z : Crew C P). crew_state directory z) l.crew.rest ∙ (λ i. record (crew_state directory old.crew) { members = members i; known = known i })
 
   -- ---- a fault is left from then on
   still_faulty : (old new : Group D C P) (event : ℕ) (why : RunFault) → Takes directory alive contents count old event new → old.fault ≡ Some why → new.fault ≡ Some why

@@ -1,5 +1,5 @@
 -- The locks of a group beside a sound world of locks: what holds after every event of every run.
-use Rattle.std.specs.Prelude.{◌≡◌, ◌⊎◌, ℕ, zero, suc, ◌+◌, ◌≤◌, true, false, List, length, Option, Some, None, IfSome, is_some, slice_get}
+use Rattle.std.specs.Prelude.{◌≡◌, ◌⊎◌, ℕ, zero, suc, ◌+◌, ◌≤◌, true, false, List, [], length, Option, Some, None, IfSome, is_some, slice_get}
 use Rattle.lock_names.specs.declared.mode.Mode.{Mode}
 use Rattle.list_structure.specs.declared.standing.MemberStatus.TheVariants.{Up, Restarting}
 use Rattle.list_structure.specs.Standings.{status_of, is_live}
@@ -35,20 +35,21 @@ abbrev pub ClaimsNothing : Book → Type 0
 ClaimsNothing b = (o c : ℕ) → claim_in b o c ≡ None
 
 -- The restart in hand isn't over. What it has taken out of itself is the member's rollbacks': then it has no open transaction left, and
--- needs no page. As long as it has, the member's lock manager has nothing.
+-- needs no page. As long as it has, the member's lock manager has nothing. Nothing waits in the member's own log buffer.
 pub record RestartStands (k : ℕ) (m : Member) (s : RestartState) : Type 0 where
   pub member : s.member ≡ k
   pub on : s.is_up ≡ false
   pub order : IsInOrder s
   pub own : (c : ℕ) → claim_in m.holds.marks.locks 0 c ≡ None
   pub left : ClaimsNothing m.holds.marks.locks ⊎ HasHandedOver s
+  pub idle : m.holds.marks.log.pending ≡ []
 
 abbrev pub RestartInHand : ℕ → Member → Option RestartHeld → Type 0
 RestartInHand k m None = Unit {0}
 RestartInHand k m (Some q) = RestartStands k m q.resources.marks
 
--- The member of this number. It has a restart as long as its standing says so. One that isn't live knows of no claims,
--- and its slots are free.
+-- The member of this number. It has a restart as long as its standing says so. One that isn't live knows of no claims, its slots are free,
+-- and nothing waits in its log buffer.
 pub record MemberStands (f : Held) (k : ℕ) (m : Member) : Type 0 where
   pub id : m.id ≡ k
   pub member : m.holds.marks.member ≡ k
@@ -60,7 +61,7 @@ pub record MemberStands (f : Held) (k : ℕ) (m : Member) : Type 0 where
   pub restarts : status_of f.lists.statuses k ≡ Restarting → is_some m.restart ≡ true
   pub rests : RestsIdle m
   pub restart : RestartInHand k m m.restart
-  pub down : is_live (status_of f.lists.statuses k) ≡ false → (m.restart ≡ None) × ClaimsNothing m.holds.marks.locks × NoneInSlots m.holds.marks
+  pub down : is_live (status_of f.lists.statuses k) ≡ false → (m.restart ≡ None) × ClaimsNothing m.holds.marks.locks × NoneInSlots m.holds.marks × (m.holds.marks.log.pending ≡ [])
 
 -- ---- the invariant
 
@@ -72,3 +73,12 @@ pub record LocksTied (s : CrewState) (w : World) : Type 0 where
   pub agents : s.sizes.agents ≤ 16
   pub entries : length s.facility.locks.entries ≡ s.sizes.locks
   pub stands : (at : ℕ) → IfSome (slice_get s.members at) (MemberStands s.facility (at + 1))
+
+-- ---- so it tells of the log buffers
+
+-- nothing waits in the own log buffer of a member whose restart is in hand
+abbrev pub WaitsNone : Member → Type 0
+WaitsNone m = IfSome m.restart (λ q. m.holds.marks.log.pending ≡ [])
+
+abbrev pub RestingsWaitNone : Type 0
+RestingsWaitNone = (s : CrewState) (w : World) → LocksTied s w → (at : ℕ) → IfSome (slice_get s.members at) WaitsNone

@@ -15,6 +15,7 @@ ghost use Rattle.group_locks.specs.Phases.{PhasesMove};
 ghost use Rattle.group_locks.specs.Resting.{RestingStepsMove};
 ghost use Rattle.group_locks.specs.Restarts.{RestartStepsMove};
 ghost use Rattle.group_locks.specs.Runs.{PlainRunsStand, PlainRunsStay, RunsStand};
+ghost use Rattle.group_locks.specs.Stands.{RestingsWaitNone};
 ghost use Rattle.group_locks.specs.Taken.{EventsMove};
 ghost use Rattle.group_locks.specs.Whole.{AnewMoves, GroupFailsTied, MemberFailsMoves};
 
@@ -30,6 +31,7 @@ use lock_world::{
 };
 use marks_law::{claims_stay, free_slots_stay, slots_stay};
 use needs_law::sends_lawfully;
+use put_records::resting_puts_none;
 
 /// A group that is as it was made stands beside the start of the world of locks.
 pub fn groups_start()
@@ -117,6 +119,7 @@ pub fn member_restarts_go()
     restarts_follow();
     adoptions_go();
     members_keep_free();
+    resting_puts_none();
 }
 
 /// Its other events while it restarts, in which it answers queries, asks and rebuilds the cache, are moves too, which change no claim.
@@ -134,7 +137,13 @@ pub fn resting_members_go()
     commands_stay();
     sends_lawfully();
     members_keep_free();
+    resting_puts_none();
 }
+
+/// As long as the restart of a member is in hand, nothing waits in the member's own log buffer.
+pub fn resting_members_wait()
+    ensures { RestingsWaitNone }
+{}
 
 /// Any event of a group, unless it is refused, is moves, behind which the group still stands beside a sound world, given the claims of the
 /// transactions that a restart hands over to its member.

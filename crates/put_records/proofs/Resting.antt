@@ -16,12 +16,13 @@ use Rattle.member_intents.specs.declared.test.Test.{Test}
 use Rattle.member_needs.specs.declared.needs.Setting.{Setting}
 use Rattle.member_needs.specs.declared.plans.Plan.{Plan}
 use Rattle.member_needs.specs.Needs.{need_of}
+use Rattle.member_needs.specs.Plans.{intent_plan}
 use Rattle.member_needs.specs.Records.{change_page}
 use Rattle.member_effects.specs.Puts.{event_records, reply_records}
 use Rattle.member_resources.specs.declared.prepared.Prepared.{Prepared}
 use Rattle.member_resources.specs.Events.{holder_in}
 use Rattle.member_resources.specs.Held.{Held, begun}
-use Rattle.member_resources.specs.Prepared.{intent_plan, needed, setting_of}
+use Rattle.member_resources.specs.Prepared.{needed, setting_of}
 use Rattle.needs_law.specs.Lawful.{Lawful, SendsLawfully}
 use Rattle.put_records.specs.Puts.{is_append, is_done, pending_after}
 use Rattle.put_records.specs.Resting.{HasNothing, LocalsLeave, NothingIsPut, NothingWaits}

@@ -16,4 +16,5 @@ returns c = restart_steps (record {
   standings = c.restarts_follow.ensures.standings;
   adopt = c.adoptions_go.ensures;
   keep = c.members_keep_free.ensures;
+  leave = c.resting_puts_none.ensures.local;
 })

@@ -22,4 +22,6 @@ returns c = resting_steps (record {
     claims = c.claims_stay.ensures;
     lawful = c.sends_lawfully.ensures;
   };
+  nothing = c.resting_puts_none.ensures.waits;
+  leave = c.resting_puts_none.ensures.local;
 })
