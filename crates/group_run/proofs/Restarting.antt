@@ -73,7 +73,14 @@ told_tells met ended text taken taken_now f g told v at e =
     let other : ended ≡ status.SinkFailed → ⊥ = λ s. let clash : status.Damaged v at ≡ status.SinkFailed = sym e ∙ s in cc in
     sym (told.whole other).0 ∙ e
 
+pub made_tells : (v : Volume) (at : ℕ) → TellsDamage status.Done v at → ⊥
+made_tells v at e = let f : status.Done ≡ status.Damaged v at = e in cc
+
 -- ---- what was written
+
+pub same_self : (a : Option Contents) → Becomes a a Same
+same_self None = tt
+same_self (Some c) = refl
 
 module _ {D : Type 0} (alive : D → Bool) (contents : D → Option Contents) where
   -- what is told of damage is no more than this
