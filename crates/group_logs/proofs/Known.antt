@@ -190,14 +190,14 @@ dead_by Up e = absurd (never (sym e))
 dead_by Failed e = refl
 dead_by Restarting e = absurd (never (sym e))
 
+abbrev Knows : ℕ → Option ReaderState → Type 0
+Knows end None = ⊥
+Knows end (Some r) = r.known ≡ end
+
 told : (end : ℕ) (bytes : List ℕ) (q : RestartHeld) → KnowsTo end q.resources → EndHolds end bytes → ReadsKnown bytes q.resources.marks.own.reader
 told end bytes q knows h = by q.resources.marks.own.reader knows
   where
-    abbrev Knows : Option ReaderState → Type 0
-    Knows None = ⊥
-    Knows (Some r) = r.known ≡ end
-
-    by : (x : Option ReaderState) → Knows x → ReadsKnown bytes x
+    by : (x : Option ReaderState) → Knows end x → ReadsKnown bytes x
     by None none = absurd none
     by (Some r) is = subst (λ (z : ℕ). AreWhole (take z bytes)) (sym is) h.whole
 

@@ -4,3 +4,4 @@ pub mod Steps
 pub mod Starting
 pub mod Runs
 pub mod Resting
+pub mod Bare

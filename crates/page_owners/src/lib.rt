@@ -6,7 +6,7 @@
 
 ghost use Rattle.page_owners.specs.Groups.{EventsGo, FailuresGo, GroupsBegin, GroupsStart, LocksSupply, ToldGo};
 ghost use Rattle.page_owners.specs.Owners.{BeginInX, StayInX, ToldInX};
-ghost use Rattle.page_owners.specs.Resting.{RestsLeave};
+ghost use Rattle.page_owners.specs.Resting.{DownIsBare, RestsBare, RestsLeave};
 ghost use Rattle.page_owners.specs.Runs.{RunsStand};
 
 use lock_events::events_go as locks_go;
@@ -102,3 +102,10 @@ pub fn resting_members_leave()
     sends_lawfully();
     commands_leave();
 }
+
+/// Behind its failure, and behind each event of it while its restart is in hand, up to the one in which it is up, a member has nothing in its frames,
+/// and no record to write, whatever its policy: that may place a page in a frame, but reads none.
+pub fn resting_members_are_bare()
+    ensures begin { DownIsBare }
+    ensures event { RestsBare }
+{}

@@ -8,3 +8,4 @@ pub mod Telling
 pub mod Readers
 pub mod Truth
 pub mod Going
+pub mod Few

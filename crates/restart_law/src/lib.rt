@@ -5,6 +5,7 @@
 //! The crate has definitions and proofs alone. Its functions do nothing: their contracts are the theorems.
 #![tactic(auto)]
 
+ghost use Rattle.restart_law.specs.Few.{NeedsAreCounted, ShortLogsNeedFew};
 ghost use Rattle.restart_law.specs.Opens.{
   ListsGo,
   OpensBegin,
@@ -70,3 +71,10 @@ pub fn lists_go()
 {
     open_trans_tell();
 }
+
+/// The names that a restart may free are needed of what a log leaves open no more often than the log has records: so of a log of fewer than 2^60
+/// bytes these can be counted with 64 bits.
+pub fn needs_are_few()
+    ensures counted { NeedsAreCounted }
+    ensures short { ShortLogsNeedFew }
+{}

@@ -3,6 +3,7 @@ use Rattle.std.proofs.Common.{◌≡◌, ◌≢◌, ◌⊎◌, ℕ, ◌≤◌, r
 use Rattle.std.specs.Prelude.{◌==◌, ◌&&◌}
 use Rattle.std.proofs.lemmas.Bool.{and_parts, both_ways, cases_eq, eq-eqb, eqb-true, false_from_ne_true}
 use Rattle.std.proofs.lemmas.Option.{none-some, same_Some}
+use Rattle.ds_base.specs.Ids.{IsMember}
 use Rattle.ds_base.specs.declared.names.PageId.{PageId}
 use Rattle.lock_names.specs.Given.{Name}
 use Rattle.lock_names.specs.Given.name_variants as name
@@ -32,7 +33,7 @@ use Rattle.lock_world.specs.Views.{entry_in}
 use Rattle.lock_restarts.specs.Changes.{gone_by}
 use Rattle.lock_restarts.specs.Events.{EventsGo as LocksGo}
 use Rattle.lock_restarts.specs.Sent.{SendsLawfully}
-use Rattle.lock_restarts.specs.Stands.{Goes, Knows, Leads, OwnClaims, known_with}
+use Rattle.lock_restarts.specs.Stands.{Goes, IsRestarting, Knows, Leads, OwnClaims, known_with}
 use Rattle.page_protocol.specs.Moves.{World}
 use Rattle.page_world.specs.Holdings.{Holdings}
 use Rattle.page_world.specs.Numbers.{page_at, page_number}
@@ -44,7 +45,7 @@ use Rattle.retained_pages.specs.Retained.{CommandsRetain, CommandsSpare, Retains
 use Rattle.restart_owners.specs.Events.{BothRestart, BothSupply, EventsGo}
 use Rattle.restart_owners.specs.Listing.{ListingGoes, RestartsRetain, purges_by}
 use Rattle.restart_owners.specs.Owners.{OwnersStand, OwnsRestarting}
-use Rattle.restart_owners.specs.Stages.{InBoth, InPages, StageGoes, StageLeads}
+use Rattle.restart_owners.specs.Stages.{HasLeft, InBoth, InPages, StageGoes, StageLeads}
 use Rattle.restart_owners.proofs.Courses.{ClaimGoes, Gives, Stays, Step, Takes, by_intent}
 use Rattle.restart_owners.proofs.Following.{reaches}
 use Rattle.restart_owners.proofs.Listing.{goes_near, spares_same}
@@ -249,12 +250,26 @@ module _ (facts : Known) (w : World) (l : LockWorld) (u v : Outside) (g : Holdin
   knows : Knows left own k.marks
   knows o c = subst (λ z. left z o c ≡ known_with own k.marks.claim o c) (sym same) (leads.knows o c)
 
+  restarts : HasLeft own k.marks → IsRestarting v.facility own k.marks
+  restarts handed =
+      let r = (begins_in paged.world v paged.left paged.versions paged.force k paged.pages).restarts in
+      let there : paged.left.facility ≡ v.facility = facility_in paged.world v paged.left paged.versions paged.force k paged.pages in
+      let was : g.facility ≡ u.facility = facility_in w u g content forced h b.pages in
+      record {
+        member = subst (λ z. IsMember z) (sym same) b.restarts.member;
+        among = subst (λ (f : Facility). k.marks.member ≤ f.lists.members) there r.among;
+        few = subst (λ (z : ℕ). z ≤ 32) (sym (ap (λ (f : Facility). f.lists.members) (sym there) ∙ paged.others.members ∙ ap (λ (f : Facility). f.lists.members) was)) b.restarts.few;
+        restarts = ap (λ (f : Facility). status_of f.lists.statuses k.marks.member) (sym there) ∙ r.restarts;
+        pages = b.restarts.pages;
+        left = handed;
+      }
+
   pub stage_goes : StageGoes w l u v g content forced left own h k s a
   stage_goes = record {
     pages = paged;
     locks = locked;
     owners = owners;
-    again = λ restarts. record { pages = paged.pages; sound = sound; tied = locked.moved.tied; restarts = restarts; knows = knows; owners = owners; owns = owns };
+    again = λ handed. record { pages = paged.pages; sound = sound; tied = locked.moved.tied; restarts = restarts handed; knows = knows; owners = owners; owns = owns };
   }
 
 -- ---- one that has read its log

@@ -3,7 +3,6 @@ use Rattle.std.proofs.Common.{◌≡◌, ◌≢◌, ℕ, refl, sym, subst, true,
 use Rattle.member_intents.specs.declared.outcome.Answered.{Answered}
 use Rattle.member_resources.specs.Events.{World as Outside}
 use Rattle.restart_records.specs.Own.{OwnState}
-use Rattle.restart_marks.specs.declared.intent.RestartIntent.{RestartIntent}
 use Rattle.restart_marks.specs.declared.intent.RestartIntent.TheVariants as intent
 use Rattle.restart_marks.specs.declared.intent.RestartSent.{RestartSent}
 use Rattle.restart_marks.specs.declared.intent.RestartTest.TheVariants as test
@@ -17,7 +16,7 @@ use Rattle.lock_restarts.specs.Stands.{Goes, Leads, OwnClaims}
 use Rattle.lock_restarts.specs.Changes.{gone_by}
 use Rattle.page_protocol.specs.Moves.{World}
 use Rattle.page_world.specs.Holdings.{Holdings}
-use Rattle.page_restarts.specs.Beside.{Beside, as_restarting}
+use Rattle.page_restarts.specs.Beside.{as_restarting}
 use Rattle.page_restarts.specs.Events.{IsOver, Owns}
 use Rattle.page_restarts.specs.Reading.{IsReading, ReadingBegins, ReadingGoes, ReadingLeads, ReadingOwns, reading}
 use Rattle.page_restarts.proofs.Needs.{err_ok}

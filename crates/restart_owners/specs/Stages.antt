@@ -1,10 +1,12 @@
 -- Any event of a restart, whether it reads its log yet or has read it, beside both worlds.
-use Rattle.std.specs.Prelude.{◌≡◌, ◌≢◌, ◌⊎◌, ℕ, ◌≤◌, true, false, List}
+use Rattle.std.specs.Prelude.{◌≡◌, ◌≢◌, ◌⊎◌, ℕ, ◌≤◌, true, false, List, None}
 use Rattle.member_intents.specs.declared.outcome.Answered.{Answered}
 use Rattle.member_intents.specs.declared.outcome.Answered.TheVariants as answered
 use Rattle.member_resources.specs.Events.{World as Outside}
 use Rattle.restart_marks.specs.declared.intent.RestartIntent.TheVariants as intent
 use Rattle.restart_marks.specs.declared.intent.RestartSent.{RestartSent}
+use Rattle.restart_marks.specs.State.{RestartState}
+use Rattle.restart_records.specs.Trans.{page_undone}
 use Rattle.restart_resources.specs.Events.{Happens}
 use Rattle.restart_resources.specs.Held.{Held, IsNew}
 use Rattle.lock_protocol.specs.Machine.{World as LockWorld}
@@ -59,6 +61,10 @@ pub record StageTells (w : World) (u v : Outside) (g : Holdings) (content : ℕ 
 
 -- ---- any event, but for the end, is moves of both worlds, behind which it stands beside both again
 
+-- where the member has taken over what the restart has left open, that has no page lock and no change to take back
+abbrev pub HasLeft : OwnClaims → RestartState → Type 0
+HasLeft own s = ((o c : ℕ) → own o c ≡ None) ⊎ ((s.claim ≡ None) × ((id : ℕ) → page_undone s.trans id ≡ None))
+
 -- with the page locks that it had and has not given up, and the one that it was granted
 pub record StageLeads (w : World) (v : Outside) (g : Holdings) (content : ℕ → ℕ → List ℕ) (forced : ℕ → ℕ) (h k : Held) (s : RestartSent) (a : Answered) : Type 0 where
   pub moves : List Move
@@ -77,7 +83,7 @@ pub record StageGoes (w : World) (l : LockWorld) (u v : Outside) (g : Holdings) 
   pub pages : StageLeads w v g content forced h k s a
   pub locks : Goes l u.facility v.facility left h.marks.member (gone_by s)
   pub owners : OwnersStand locks.moved.world v.facility pages.left.owner
-  pub again : IsRestarting v.facility own k.marks → InBoth pages.world locks.moved.world v pages.left pages.versions pages.force left own k
+  pub again : HasLeft own k.marks → InBoth pages.world locks.moved.world v pages.left pages.versions pages.force left own k
 
 abbrev pub StagesGo : Type 0
 StagesGo = (w : World) (l : LockWorld) (u v : Outside) (g : Holdings) (content : ℕ → ℕ → List ℕ) (forced : ℕ → ℕ) (held left : Claims) (own : OwnClaims) (h k : Held) (s : RestartSent) (a : Answered)
