@@ -1,8 +1,9 @@
 -- A disk to which nothing but group restarts has written.
-use Rattle.std.proofs.Common.{◌≡◌, inl, inr, ℕ, Bool, List, [], ◌∷◌, Option, Some, None, Result, Ok, refl, sym, subst, ◌∙◌}
+use Rattle.std.proofs.Common.{◌≡◌, inl, inr, ℕ, Bool, List, [], ◌∷◌, Option, Some, None, Result, Ok, Err, refl, subst, ◌∙◌}
 use Rattle.ds_base.specs.declared.fault.NoMemory.{NoMemory}
 use Rattle.ds_base.specs.declared.names.Volume.{Volume}
 use Rattle.ds_base.specs.declared.names.Volume.TheVariants as volume
+use Rattle.ds_base.specs.declared.row.Row.{Row}
 use Rattle.ds_disk.specs.Contents.{Contents, WhenTold, Becomes, Same}
 use Rattle.group_core.specs.declared.fault.RunFault.{RunFault}
 use Rattle.group_core.specs.declared.fault.RunFault.TheVariants as fault
@@ -16,7 +17,8 @@ use Rattle.checked_run.specs.declared.ended.Ended.TheVariants as ended
 use Rattle.checked_run.specs.declared.ended.Outcome.{Outcome}
 use Rattle.checked_run.specs.declared.ended.Outcome.TheVariants as outcome
 use Rattle.restarted_disks.specs.Restarted.{AreRun, IsLeftByRestarts, IsRestarted, IsUnwritten, LogBreaksAt, Restarts}
-use Rattle.checked_run.specs.Restarted.{fault_by, EndsBy, IfUnopened, TellsDamageOf}
+use Rattle.checked_run.specs.Outcomes.{IsShown}
+use Rattle.checked_run.specs.Restarted.{fault_by, IfUnopened, TellsDamageOf}
 
 -- ---- contents that don't change
 
@@ -33,6 +35,10 @@ same_on (Some x) (Some y) (Some z) p q = q ∙ p
 -- ---- one group restart, and one behind another
 
 module _ {D : Type 0} (alive : D → Bool) (contents : D → Option Contents) where
+  -- memory was wanting for it
+  pub wanting : (old : D) (e : NoMemory) → IsUnopened alive contents old fault.NoMemory old
+  wanting old e = record { came = Err e; run = inr (refl, tt); stops = tt }
+
   run_once : (old new : D) (came : Result State NoMemory) → Restarts alive contents old came new → AreRun alive contents old (came ∷ []) new
   run_once old new came run = (old, (new, (same_self (contents old), (run, same_self (contents new)))))
 
@@ -75,6 +81,10 @@ module _ {D : Type 0} (alive : D → Bool) (contents : D → Option Contents) wh
   pub left_from : (old read new : D) (o : Outcome) → Becomes (contents old) (contents read) Same → IfUnopened o (IsRestarted alive contents read (TellsDamageOf o) new) → IfUnopened o (IsLeftByRestarts alive contents old (TellsDamageOf o) new)
   left_from old read new (outcome.Unopened why) same it = inr (restarted_from old read new (TellsDamageOf (outcome.Unopened why)) same it)
   left_from old read new (outcome.Opened opening end) same it = tt
+
+-- what is shown tells of no damage
+pub shown_whole : (rows : List Row) (status : ℕ) (out : Ended) → IsShown rows status out → (v : Volume) (at : ℕ) → out ≡ ended.Damaged v at → ⊥
+shown_whole rows status out is v at e = subst (IsShown rows status) e is
 
 -- ---- logs that were not read
 

@@ -113,7 +113,7 @@ returns-in-Make-clause-restarts g c = λ o was left was_faults faults ready is.
     let told = c.or_wanting-in-Make.ensures (script_telling c.in-Make.n) c.script_telling-telling.ensures in
     subst (λ x. IsLeftByRestarts g.D.Disk.alive g.D.Disk.contents c.args.disk (TellsDamage x.telling.status) x.disk) (sym c.unopened-in-Make.ensures)
     (left_same g.D.Disk.alive g.D.Disk.contents c.args.disk c.args.disk (TellsDamage c.or_wanting-in-Make.result.status) (same_self (g.D.Disk.contents c.args.disk))
-        (λ v at e. made_tells v at (wanted_tells (script_telling c.in-Make.n) c.or_wanting-in-Make.result told v at e)))
+    (λ v at e. made_tells v at (wanted_tells (script_telling c.in-Make.n) c.or_wanting-in-Make.result told v at e)))
 
 pub returns-in-Show-clause-restarts : goal.returns-in-Show-clause-restarts
 returns-in-Show-clause-restarts g c = λ o was left was_faults faults ready is.

@@ -27,4 +27,4 @@ returns-clause-restarts g c =
     let told = c.or_wanting.ensures (short_telling (checked_status c.check-told.result)) made in
     subst (λ x. IsLeftByRestarts g.D.Disk.alive g.D.Disk.contents c.args.disk (TellsDamage x.telling.status) x.disk) (sym c.unopened.ensures)
     (left_same g.D.Disk.alive g.D.Disk.contents c.args.disk c.check-told.new.disk (TellsDamage c.or_wanting.result.status) c.check-told.ensures.same
-        (λ v at e. checked_tells c.check-told.result v at (wanted_tells (short_telling (checked_status c.check-told.result)) c.or_wanting.result told v at e)))
+    (λ v at e. checked_tells c.check-told.result v at (wanted_tells (short_telling (checked_status c.check-told.result)) c.or_wanting.result told v at e)))

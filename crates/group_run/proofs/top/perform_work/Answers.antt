@@ -58,7 +58,7 @@ returns-in-Err-clause-restarts g c =
     let told = c.or_wanting.ensures (short_telling status.NoMemory) tt in
     subst (λ x. x.opened ≡ false → IsLeftByRestarts g.D.Disk.alive g.D.Disk.contents c.args.disk (TellsDamage x.telling.status) x.disk) (sym c.unopened.ensures)
     (λ closed. left_same g.D.Disk.alive g.D.Disk.contents c.args.disk c.args.disk (TellsDamage c.or_wanting.result.status) (same_self (g.D.Disk.contents c.args.disk))
-        (λ v at e. wanting_tells v at (wanted_tells (short_telling status.NoMemory) c.or_wanting.result told v at e)))
+    (λ v at e. wanting_tells v at (wanted_tells (short_telling status.NoMemory) c.or_wanting.result told v at e)))
 
 pub returns-in-Ok-clause-restarts : goal.returns-in-Ok-clause-restarts
 returns-in-Ok-clause-restarts g c = λ closed.

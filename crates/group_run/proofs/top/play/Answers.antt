@@ -112,5 +112,5 @@ returns-in-None-table_to_recover-clause-restarts g c =
     let came = c.perform.result in
     subst (λ x. RestartsAlone (ordered c.args.words.now) x.opened → IsLeftByRestarts g.D.Disk.alive g.D.Disk.contents c.args.disk (TellsDamage c.finish.result.status) x.disk) (sym c.finish.ensures.rest)
     (λ is. left_as g.D.Disk.alive g.D.Disk.contents c.args.disk came.disk (TellsDamage came.telling.status) (TellsDamage c.finish.result.status)
-        (told_tells came.telling.status c.finish.result.status came.telling.text (g.K.Sink.taken c.args.sink.now) (g.K.Sink.taken c.finish.new.sink) (g.K.Sink.faults c.args.sink.now) (g.K.Sink.faults c.finish.new.sink) c.finish.ensures.told)
-        (c.perform.ensures.restarts (ordered c.args.words.now) (g.S.Source.left c.args.source.now) (g.S.Source.left c.prepare.new.source) (g.S.Source.faults c.args.source.now) (g.S.Source.faults c.prepare.new.source) c.in-Ok.ensures.prepared is))
+    (told_tells came.telling.status c.finish.result.status came.telling.text (g.K.Sink.taken c.args.sink.now) (g.K.Sink.taken c.finish.new.sink) (g.K.Sink.faults c.args.sink.now) (g.K.Sink.faults c.finish.new.sink) c.finish.ensures.told)
+    (c.perform.ensures.restarts (ordered c.args.words.now) (g.S.Source.left c.args.source.now) (g.S.Source.left c.prepare.new.source) (g.S.Source.faults c.args.source.now) (g.S.Source.faults c.prepare.new.source) c.in-Ok.ensures.prepared is))
