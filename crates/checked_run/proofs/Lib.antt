@@ -4,3 +4,4 @@ pub mod Going
 pub mod Led
 pub mod Opened
 pub mod Crossing
+pub mod Restarting

@@ -6,3 +6,4 @@ pub mod Told
 pub mod Settled
 pub mod Leading
 pub mod Outcomes
+pub mod Restarted

@@ -2,6 +2,7 @@ ghost use Rattle.std.specs.Prelude.{◌≡◌, ◌≢◌, ℕ, Some};
 ghost use Rattle.group_core.specs.Goes.{IsFailed};
 ghost use Rattle.group_core.specs.declared.fault.RunFault.TheVariants as fault;
 ghost use Rattle.opening_rows.specs.declared.fault.LogsFault.TheVariants as reading;
+ghost use Rattle.checked_run.specs.Restarted.{fault_by};
 
 use ds_base::Volume;
 use group_core::RunFault;
@@ -9,6 +10,7 @@ use opening_rows::LogsFault;
 
 /// Why a disk wasn't opened whose logs were not read.
 pub fn fault_of(why: LogsFault) -> RunFault
+    ensures is { result ≡ fault_by why }
     ensures failed { IsFailed (Some result) → why ≡ reading.Failed }
     ensures lawful { (place : ℕ) → result ≢ fault.Unlawful place }
 {

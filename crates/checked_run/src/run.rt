@@ -6,8 +6,10 @@ ghost use Rattle.disk_restart.specs.Keeping.{KeepsRecords};
 ghost use Rattle.group_core.specs.declared.fault.RunFault.TheVariants as fault;
 ghost use Rattle.group_core.specs.declared.schedule.RunEnd.TheVariants as ends;
 ghost use Rattle.group_core.specs.Ends.{Ends};
+ghost use Rattle.group_core.specs.Starts.{IsOpened, IsUnopened};
 ghost use Rattle.checked_run.specs.Leading.{Begins, ComesTo, Leads, LeadsFrom, RunsBy, kind_of};
 ghost use Rattle.checked_run.specs.Outcomes.{Comes, ComesFrom, HasCause, IsLeft, Plays};
+ghost use Rattle.checked_run.specs.Restarted.{IfUnopened, IsLeftByRestarts, IsRestarted, TellsDamageOf};
 ghost use Rattle.checked_run.specs.Settled.{Settles};
 ghost use Rattle.checked_run.specs.Told.{TellsAlways};
 
@@ -51,8 +53,10 @@ fn begin<D: Disk, P: Policy + Drop>(
     requires { (1 ≤ sizes.now.locks) × (1 ≤ sizes.now.pool) }
     ensures later { IfOk result (λ group. D.faults disk ≤ D.faults group.disk) }
     ensures begins { IfOk result (Begins directory_of script.now) }
+    ensures opens { IfOk result (λ group. IsOpened D.alive D.contents disk group.disk) }
     ensures left { IfErr result (λ f. D.faults disk ≤ D.faults f.disk) }
     ensures keeps { IfErr result (λ f. Becomes (D.contents disk) (D.contents f.disk) KeepsRecords) }
+    ensures unopened { IfErr result (λ f. IsUnopened D.alive D.contents disk f.why f.disk) }
     ensures cause { IfErr result (λ f. HasCause (D.faults disk) (D.faults f.disk) f.why) }
 {
     keeping_laws();
@@ -152,6 +156,7 @@ fn play_from<
         (Settles (TellsAlways D.contents) script.now is_traced opening (D.faults disk) (D.faults result.disk) (D.contents result.disk) result.account))
         result.outcome }
     ensures left { IsLeft result.outcome (D.contents disk) (D.contents result.disk) }
+    ensures restarts { IfUnopened result.outcome (IsRestarted D.alive D.contents disk (TellsDamageOf result.outcome) result.disk) }
     ensures later { D.faults disk ≤ D.faults result.disk }
 {
     match begin(alloc, disk, script, sizes, members, is_traced) {
@@ -205,6 +210,7 @@ pub fn run_script<
         (Plays (kind_of P D.alive D.contents D.faults) script.now seed is_traced (D.contents disk) (D.faults disk) (D.faults result.disk) (D.contents result.disk) result.account)
         result.outcome }
     ensures left { IsLeft result.outcome (D.contents disk) (D.contents result.disk) }
+    ensures restarts { IfUnopened result.outcome (IsLeftByRestarts D.alive D.contents disk (TellsDamageOf result.outcome) result.disk) }
     ensures later { D.faults disk ≤ D.faults result.disk }
 {
     keeping_laws();

@@ -4,8 +4,10 @@ ghost use Rattle.ds_disk.specs.Contents.{Becomes};
 ghost use Rattle.disk_restart.specs.Keeping.{KeepsRecords};
 ghost use Rattle.group_core.specs.Goes.{IsFailed};
 ghost use Rattle.group_core.specs.declared.fault.RunFault.TheVariants as fault;
+ghost use Rattle.checked_run.specs.declared.ended.Ended.TheVariants as ended;
 ghost use Rattle.checked_run.specs.Accounts.{no_account};
 ghost use Rattle.checked_run.specs.Outcomes.{Comes, ComesFrom, IsShown, Shows};
+ghost use Rattle.checked_run.specs.Restarted.{EndsBy, IsLeftByRestarts, IsRestarted, TellsDamageOf};
 
 use crate::account::no_account;
 use crate::copies::copy_rows;
@@ -23,6 +25,7 @@ use std::alloc::Global;
 fn restart<D: Disk>(alloc: Global, disk: &mut D) -> Option<RunFault>
     ensures failed { IsFailed result → Rose (D.faults disk.old) (D.faults disk.new) }
     ensures lawful { (place : ℕ) → result ≢ Some (fault.Unlawful place) }
+    ensures ends { EndsBy D.alive D.contents disk.old result disk.new }
     ensures keeps { Becomes (D.contents disk.old) (D.contents disk.new) KeepsRecords }
     ensures later { D.faults disk.old ≤ D.faults disk.new }
 {
@@ -47,6 +50,7 @@ fn told_rows(alloc: Global, rows: &RowList, status: u8) -> Ended
 // Closes a disk that is shown, and answers what it came to.
 fn close_shown<D: Disk>(alloc: Global, disk: &mut D, rows: &RowList) -> Ended
     ensures shown { Shows (D.faults disk.old) (D.faults disk.new) rows.now result }
+    ensures restarts { IsRestarted D.alive D.contents disk.old (λ v at. result ≡ ended.Damaged v at) disk.new }
     ensures keeps { Becomes (D.contents disk.old) (D.contents disk.new) KeepsRecords }
     ensures later { D.faults disk.old ≤ D.faults disk.new }
 {
@@ -63,6 +67,7 @@ fn close_shown<D: Disk>(alloc: Global, disk: &mut D, rows: &RowList) -> Ended
 fn show_from<D: Disk>(alloc: Global, mut disk: D, rows: RowList) -> Ran<D>
     ensures comes { ComesFrom rows (D.faults disk) (D.faults result.disk) result.account (Shows (D.faults disk) (D.faults result.disk)) result.outcome }
     ensures keeps { Becomes (D.contents disk) (D.contents result.disk) KeepsRecords }
+    ensures restarts { IsRestarted D.alive D.contents disk (TellsDamageOf result.outcome) result.disk }
     ensures account { result.account ≡ no_account }
     ensures later { D.faults disk ≤ D.faults result.disk }
 {
@@ -87,10 +92,12 @@ fn show_from<D: Disk>(alloc: Global, mut disk: D, rows: RowList) -> Ran<D>
 
 /// Shows the rows for which the logs of a disk stand: reads the logs, opens the disk by a group restart, and closes it by another.
 ///
-/// The logs keep their row changes, page changes for no transaction and commits, and get no others.
+/// The logs keep their row changes, page changes for no transaction and commits, and get no others. Nothing but the two group
+/// restarts writes to the disk.
 pub fn show_disk<D: Disk>(alloc: Global, mut disk: D) -> Ran<D>
     ensures comes { Comes (D.contents disk) (D.faults disk) (D.faults result.disk) result.account (Shows (D.faults disk) (D.faults result.disk)) result.outcome }
     ensures keeps { Becomes (D.contents disk) (D.contents result.disk) KeepsRecords }
+    ensures restarts { IsLeftByRestarts D.alive D.contents disk (TellsDamageOf result.outcome) result.disk }
     ensures account { result.account ≡ no_account }
     ensures later { D.faults disk ≤ D.faults result.disk }
 {

@@ -2,3 +2,4 @@ pub mod Called
 pub mod Recovering
 pub mod Copying
 pub mod Pieces
+pub mod Restarting

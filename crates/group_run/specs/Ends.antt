@@ -2,6 +2,7 @@
 use Rattle.std.specs.Prelude.{◌≡◌, ◌⊎◌, ℕ, ◌<◌, Bool, true, false, List, [], length, take, Option, Some, None, Result}
 use Rattle.std.specs.Io.KnownBytes.{Appends}
 use Rattle.ds_base.specs.Causes.{Rose}
+use Rattle.ds_base.specs.declared.names.Volume.{Volume}
 use Rattle.ds_base.specs.declared.row.Row.{Row}
 use Rattle.ds_disk.specs.Contents.{Contents, Becomes, Same}
 use Rattle.ds_model.specs.declared.script.Script.{Script}
@@ -35,7 +36,7 @@ use Rattle.group_run.specs.declared.telling.Telling.{Telling}
 
 -- ---- what holds where a call meets a status and opens no disk
 
--- the disk was touched, and not opened
+-- the disk was touched, and not opened; where the damage was met is told by `IsLeftByRestarts`
 abbrev pub MetByDisk : Status → Outside → Outside → Type 0
 MetByDisk status.Done before after = ⊥
 MetByDisk status.WordsRefused before after = ⊥
@@ -202,6 +203,21 @@ WritesNothing (Some (order.Work n sizes)) = ⊥
 WritesNothing (Some order.Check) = Unit {0}
 WritesNothing (Some (order.Copy table)) = ⊥
 WritesNothing (Some (order.Recover table)) = ⊥
+
+-- the order is one for which nothing but group restarts writes to the disk: where it plays a script, unless a run has opened
+abbrev pub RestartsAlone : Option Order → Bool → Type 0
+RestartsAlone None opened = Unit {0}
+RestartsAlone (Some (order.Play sizes seed trace)) opened = opened ≡ false
+RestartsAlone (Some order.Show) opened = Unit {0}
+RestartsAlone (Some (order.Make n)) opened = Unit {0}
+RestartsAlone (Some (order.Work n sizes)) opened = opened ≡ false
+RestartsAlone (Some order.Check) opened = Unit {0}
+RestartsAlone (Some (order.Copy table)) opened = ⊥
+RestartsAlone (Some (order.Recover table)) opened = ⊥
+
+-- the status tells of this damage
+abbrev pub TellsDamage : Status → Volume → ℕ → Type 0
+TellsDamage met v at = met ≡ status.Damaged v at
 
 -- the order is one for which nothing is played
 abbrev pub PlaysNothing : Option Order → Type 0

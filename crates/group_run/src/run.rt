@@ -4,6 +4,7 @@ ghost use Rattle.std.specs.Prelude.{◌≤◌};
 ghost use Rattle.member_core.specs.declared.member.Member.{Member as AnyMember};
 ghost use Rattle.checked_run.specs.Leading.{kind_of};
 ghost use Rattle.checked_run.specs.Outcomes.{Comes, IsLeft, Plays};
+ghost use Rattle.checked_run.specs.Restarted.{IfUnopened, IsLeftByRestarts, TellsDamageOf};
 ghost use Rattle.group_words.specs.Orders.{AreSizes};
 
 use crate::prepare::Setting;
@@ -40,6 +41,7 @@ pub fn run<R: Threads + Wait + Sync, D: Disk + Drop + Send, G: Gate + Sync>(
         (Plays (kind_of AnyMember D.alive D.contents D.faults) script.now setting.now.seed setting.now.trace (D.contents disk) (D.faults disk) (D.faults result.disk) (D.contents result.disk) result.account)
         result.outcome }
     ensures left { IsLeft result.outcome (D.contents disk) (D.contents result.disk) }
+    ensures restarts { IfUnopened result.outcome (IsLeftByRestarts D.alive D.contents disk (TellsDamageOf result.outcome) result.disk) }
 {
     keeping_laws();
     let Ok(members) = make_members(alloc, &setting.sizes) else {

@@ -5,12 +5,13 @@ ghost use Rattle.member_core.specs.declared.member.Member.{Member as AnyMember};
 ghost use Rattle.checked_run.specs.Accounts.{no_account};
 ghost use Rattle.checked_run.specs.Leading.{kind_of};
 ghost use Rattle.checked_run.specs.Outcomes.{IsLeft};
+ghost use Rattle.checked_run.specs.Restarted.{IsLeftByRestarts};
 ghost use Rattle.group_words.specs.Orders.{AreSizes};
 ghost use Rattle.group_words.specs.declared.order.Order.{Order};
 ghost use Rattle.group_run.specs.Outside.{outside};
 ghost use Rattle.group_run.specs.Prepares.{ordered, IsPrepared, ReadsNothing, IsAllowed, table_to_copy, table_to_recover};
 ghost use Rattle.group_run.specs.Tellings.{TellsOutcome};
-ghost use Rattle.group_run.specs.Ends.{Tells, Meets, Works, Checks, EndsBy};
+ghost use Rattle.group_run.specs.Ends.{Tells, Meets, Works, Checks, EndsBy, RestartsAlone, TellsDamage};
 
 use crate::copies::finish_copy;
 use crate::finish::{Finished, finish_unopened, tell};
@@ -106,6 +107,7 @@ fn perform_work<R: Threads + Wait + Sync, D: Disk + Drop + Send, G: Gate + Sync>
         (D.contents disk) (D.faults disk) (D.faults result.disk) (D.contents result.disk)
         result.opened result.opening result.account result.telling }
     ensures left { result.opened ≡ false → Becomes (D.contents disk) (D.contents result.disk) KeepsRecords }
+    ensures restarts { result.opened ≡ false → IsLeftByRestarts D.alive D.contents disk (TellsDamage result.telling.status) result.disk }
 {
     keeping_laws();
     match make_script(alloc, n) {
@@ -119,6 +121,7 @@ fn perform_check<D: Disk>(alloc: Global, mut disk: D) -> Came<D>
     ensures checks { Checks (D.contents disk) (D.contents result.disk) (D.faults disk) (D.faults result.disk) result.telling }
     ensures unopened { (result.opened ≡ false) × (result.opening ≡ []) × (result.account ≡ no_account) }
     ensures left { Becomes (D.contents disk) (D.contents result.disk) KeepsRecords }
+    ensures restarts { IsLeftByRestarts D.alive D.contents disk (TellsDamage result.telling.status) result.disk }
 {
     keeping_laws();
     let told = check(alloc, &mut disk);
@@ -143,6 +146,8 @@ fn perform<R: Threads + Wait + Sync, D: Disk + Drop + Send, G: Gate + Sync>(
         (outside left_now faults_now (D.contents result.disk) (D.alive result.disk) (D.faults result.disk))
         result.telling.status result.telling.text result.opened result.opening result.account result.telling.report }
     ensures left { result.opened ≡ false → Becomes (D.contents disk) (D.contents result.disk) KeepsRecords }
+    ensures restarts { (o : Option Order) (left left_now : Option (List ℕ)) (faults faults_now : ℕ) → IsPrepared o prepared left left_now faults faults_now → RestartsAlone o result.opened
+        → IsLeftByRestarts D.alive D.contents disk (TellsDamage result.telling.status) result.disk }
 {
     keeping_laws();
     match prepared {
@@ -229,6 +234,9 @@ pub fn play<R: Threads + Wait + Sync, S: Source, K: Sink, D: Disk + Drop + Send,
         (K.taken sink.old) (K.taken sink.new) (K.faults sink.old) (K.faults sink.new) }
     // What the logs of a disk say of rows isn't touched where no run began.
     ensures left { result.opened ≡ false → Becomes (D.contents disk) (D.contents result.disk) KeepsRecords }
+    // There, and where the rows are shown, nothing but group restarts writes to it; and damage that is told of was met in its logs, or
+    // by such a restart.
+    ensures restarts { RestartsAlone (ordered words.now) result.opened → IsLeftByRestarts D.alive D.contents disk (TellsDamage result.status) result.disk }
 {
     keeping_laws();
     match prepare(alloc, words, source) {

@@ -7,6 +7,7 @@ use Rattle.checked_run.specs.Leading.{Leads, LeadsFrom}
 use Rattle.checked_run.specs.Settled.{Settles}
 use Rattle.checked_run.specs.Told.{TellsAlways}
 use Rattle.checked_run.proofs.Opened.{came_as, settles_earlier}
+use Rattle.checked_run.proofs.Restarting.{unopened}
 use Rattle.checked_run.proofs.run.play_from.Goals as goal
 
 pub returns-in-Ok-clause-comes : goal.returns-in-Ok-clause-comes
@@ -32,3 +33,6 @@ returns-in-Ok-clause-comes g c =
           (λ end why entries. settles_earlier tells script traced opening begun started now after account c.in-Ok.ensures.later end why entries c.finish-disk.result.2)
           c.finish-disk.ensures.comes,
     )
+
+pub returns-in-Err-clause-restarts : goal.returns-in-Err-clause-restarts
+returns-in-Err-clause-restarts g c = unopened g.D.Disk.alive g.D.Disk.contents c.args.disk c.in-Err.field-0.disk c.in-Err.field-0.why c.in-Err.ensures.unopened

@@ -1,12 +1,15 @@
-use Rattle.std.proofs.Common.{List, refl}
+use Rattle.std.proofs.Common.{inl, List, Err, refl, sym, ap, subst}
 use Rattle.ds_base.specs.declared.row.Row.{Row}
 use Rattle.group_core.specs.declared.fault.RunFault.{RunFault}
 use Rattle.checked_run.specs.declared.ended.Ended.{Ended}
+use Rattle.checked_run.specs.declared.ended.Outcome.TheVariants as outcome
+use Rattle.checked_run.specs.Restarted.{IsLeftByRestarts, TellsDamageOf}
 use Rattle.checked_run.specs.Leading.{Leads, ComesTo, kind_of}
 use Rattle.checked_run.specs.Outcomes.{Plays}
 use Rattle.checked_run.specs.Settled.{Settles}
 use Rattle.checked_run.specs.Told.{TellsAlways}
 use Rattle.checked_run.proofs.Opened.{comes, came_as, left_on, settles_earlier}
+use Rattle.checked_run.proofs.Restarting.{left_from, unread}
 use Rattle.checked_run.proofs.run.run_script.Goals as goal
 
 pub returns-in-Ok-clause-comes : goal.returns-in-Ok-clause-comes
@@ -41,3 +44,13 @@ returns-in-Ok-clause-left g c =
     let was = g.D.Disk.contents c.args.disk in
     let read = g.D.Disk.contents c.read_opening.new.disk in
     left_on c.keeping_laws.ensures.on was read (g.D.Disk.contents c.play_from.result.disk) c.play_from.result.outcome (c.keeping_laws.ensures.same was read c.in-Ok.ensures.opening.same) c.play_from.ensures.left
+
+pub returns-in-Err-clause-restarts : goal.returns-in-Err-clause-restarts
+returns-in-Err-clause-restarts g c =
+    let reads = c.in-Err.ensures.opening in
+    subst (λ w. IsLeftByRestarts g.D.Disk.alive g.D.Disk.contents c.args.disk (TellsDamageOf (outcome.Unopened w)) c.read_opening.new.disk) (sym c.fault_of.ensures.is)
+    (inl (unread g.D.Disk.contents c.args.disk c.read_opening.new.disk c.in-Err.why (λ member at e. reads.damaged member at (ap Err e)) reads.same))
+
+pub returns-in-Ok-clause-restarts : goal.returns-in-Ok-clause-restarts
+returns-in-Ok-clause-restarts g c =
+    left_from g.D.Disk.alive g.D.Disk.contents c.args.disk c.read_opening.new.disk c.play_from.result.disk c.play_from.result.outcome c.in-Ok.ensures.opening.same c.play_from.ensures.restarts

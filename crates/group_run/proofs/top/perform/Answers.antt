@@ -1,4 +1,4 @@
-use Rattle.std.proofs.Common.{Bool, false, List, [], refl, sym, subst, ◌∙◌}
+use Rattle.std.proofs.Common.{Bool, false, List, [], None, refl, sym, subst, ◌∙◌}
 use Rattle.ds_base.specs.declared.row.Row.{Row}
 use Rattle.member_core.specs.declared.member.Member.{Member}
 use Rattle.checked_run.specs.Leading.{kind_of}
@@ -7,10 +7,13 @@ use Rattle.checked_run.specs.Outcomes.{Comes, Shows}
 use Rattle.group_run.specs.Outside.{outside}
 use Rattle.group_run.specs.Prepares.{IsAllowed}
 use Rattle.group_run.specs.Tellings.{short_telling, script_telling}
-use Rattle.group_run.specs.Ends.{Meets}
+use Rattle.group_run.specs.Ends.{Meets, RestartsAlone, TellsDamage}
 use Rattle.group_run.proofs.Called.{CameOf, ended, is_made, shows, plays, works, checks}
 use Rattle.ds_disk.specs.Contents.{Becomes}
 use Rattle.disk_restart.specs.Keeping.{KeepsRecords}
+use Rattle.checked_run.specs.Restarted.{IsLeftByRestarts}
+use Rattle.group_run.specs.declared.prepare.Prepared.TheVariants as step
+use Rattle.group_run.proofs.Restarting.{IsAlone, alone, left_by, left_same, left_unopened, made_tells, same_self, wanted_tells}
 use Rattle.group_run.proofs.top.perform.Goals as goal
 
 pub run-requires-clause-sizes : goal.run-requires-clause-sizes
@@ -96,3 +99,40 @@ pub returns-in-Play-clause-left : goal.returns-in-Play-clause-left
 returns-in-Play-clause-left g c = λ closed.
     subst (λ d. Becomes (g.D.Disk.contents c.args.disk) (g.D.Disk.contents d) KeepsRecords) (sym c.came_of-in-Play.ensures.disk)
     (c.came_of-in-Play.ensures.left (g.D.Disk.contents c.args.disk) (g.D.Disk.contents c.run.result.disk) c.run.ensures.left closed)
+
+pub returns-in-Ended-clause-restarts : goal.returns-in-Ended-clause-restarts
+returns-in-Ended-clause-restarts g c = λ o was left was_faults faults ready is.
+    let its = rw c.in-Ended.is at ready in
+    let none = alone o (step.Ended c.in-Ended.met) false was left was_faults faults its (subst (λ x. RestartsAlone o x.opened) c.unopened.ensures is) in
+    let told = c.or_wanting.ensures (short_telling c.in-Ended.met) c.short_telling-telling.ensures in
+    subst (λ x. IsLeftByRestarts g.D.Disk.alive g.D.Disk.contents c.args.disk (TellsDamage x.telling.status) x.disk) (sym c.unopened.ensures)
+    (left_same g.D.Disk.alive g.D.Disk.contents c.args.disk c.args.disk (TellsDamage c.or_wanting.result.status) (same_self (g.D.Disk.contents c.args.disk)) (λ v at e. none v at (wanted_tells (short_telling c.in-Ended.met) c.or_wanting.result told v at e)))
+
+pub returns-in-Make-clause-restarts : goal.returns-in-Make-clause-restarts
+returns-in-Make-clause-restarts g c = λ o was left was_faults faults ready is.
+    let told = c.or_wanting-in-Make.ensures (script_telling c.in-Make.n) c.script_telling-telling.ensures in
+    subst (λ x. IsLeftByRestarts g.D.Disk.alive g.D.Disk.contents c.args.disk (TellsDamage x.telling.status) x.disk) (sym c.unopened-in-Make.ensures)
+    (left_same g.D.Disk.alive g.D.Disk.contents c.args.disk c.args.disk (TellsDamage c.or_wanting-in-Make.result.status) (same_self (g.D.Disk.contents c.args.disk))
+    (λ v at e. made_tells v at (wanted_tells (script_telling c.in-Make.n) c.or_wanting-in-Make.result told v at e)))
+
+pub returns-in-Show-clause-restarts : goal.returns-in-Show-clause-restarts
+returns-in-Show-clause-restarts g c = λ o was left was_faults faults ready is.
+    let came = c.came_of.result in
+    subst (λ d. IsLeftByRestarts g.D.Disk.alive g.D.Disk.contents c.args.disk (TellsDamage came.telling.status) d) (sym c.came_of.ensures.disk)
+    (left_by g.D.Disk.alive g.D.Disk.contents None c.args.disk c.show_disk.result.disk c.show_disk.result.outcome came.opened came.opening came.telling c.came_of.ensures.tells c.show_disk.ensures.restarts)
+
+pub returns-in-Play-clause-restarts : goal.returns-in-Play-clause-restarts
+returns-in-Play-clause-restarts g c = λ o was left was_faults faults ready is.
+    let came = c.came_of-in-Play.result in
+    let its = rw c.in-Play.is at ready in
+    let closed = alone o (step.Play c.in-Play.script c.in-Play.setting) came.opened was left was_faults faults its is in
+    subst (λ d. IsLeftByRestarts g.D.Disk.alive g.D.Disk.contents c.args.disk (TellsDamage came.telling.status) d) (sym c.came_of-in-Play.ensures.disk)
+    (left_unopened g.D.Disk.alive g.D.Disk.contents None c.args.disk c.run.result.disk c.run.result.outcome came.opened came.opening came.telling c.came_of-in-Play.ensures.tells c.run.ensures.restarts closed)
+
+pub returns-in-Work-clause-restarts : goal.returns-in-Work-clause-restarts
+returns-in-Work-clause-restarts g c = λ o was left was_faults faults ready is.
+    let its = rw c.in-Work.is at ready in
+    c.perform_work.ensures.restarts (alone o (step.Work c.in-Work.n c.in-Work.setting) c.perform_work.result.opened was left was_faults faults its is)
+
+pub returns-in-Check-clause-restarts : goal.returns-in-Check-clause-restarts
+returns-in-Check-clause-restarts g c = λ o was left was_faults faults ready is. c.perform_check.ensures.restarts

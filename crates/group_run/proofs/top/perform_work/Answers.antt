@@ -8,9 +8,11 @@ use Rattle.checked_run.specs.Leading.{kind_of}
 use Rattle.checked_run.specs.Outcomes.{Comes, HasCause, Plays}
 use Rattle.group_run.specs.Tellings.{short_telling}
 use Rattle.group_run.specs.declared.status.Status.TheVariants as status
-use Rattle.group_run.specs.Ends.{Works}
+use Rattle.group_run.specs.Ends.{TellsDamage, Works}
 use Rattle.ds_disk.specs.Contents.{Becomes}
 use Rattle.disk_restart.specs.Keeping.{KeepsRecords}
+use Rattle.checked_run.specs.Restarted.{IsLeftByRestarts}
+use Rattle.group_run.proofs.Restarting.{left_same, left_unopened, same_self, wanted_tells, wanting_tells}
 use Rattle.group_run.proofs.top.perform_work.Goals as goal
 
 pub returns-in-Err-clause-works : goal.returns-in-Err-clause-works
@@ -50,3 +52,16 @@ pub returns-in-Ok-clause-left : goal.returns-in-Ok-clause-left
 returns-in-Ok-clause-left g c = λ closed.
     subst (λ d. Becomes (g.D.Disk.contents c.args.disk) (g.D.Disk.contents d) KeepsRecords) (sym c.came_of.ensures.disk)
     (c.came_of.ensures.left (g.D.Disk.contents c.args.disk) (g.D.Disk.contents c.run.result.disk) c.run.ensures.left closed)
+
+pub returns-in-Err-clause-restarts : goal.returns-in-Err-clause-restarts
+returns-in-Err-clause-restarts g c =
+    let told = c.or_wanting.ensures (short_telling status.NoMemory) tt in
+    subst (λ x. x.opened ≡ false → IsLeftByRestarts g.D.Disk.alive g.D.Disk.contents c.args.disk (TellsDamage x.telling.status) x.disk) (sym c.unopened.ensures)
+    (λ closed. left_same g.D.Disk.alive g.D.Disk.contents c.args.disk c.args.disk (TellsDamage c.or_wanting.result.status) (same_self (g.D.Disk.contents c.args.disk))
+    (λ v at e. wanting_tells v at (wanted_tells (short_telling status.NoMemory) c.or_wanting.result told v at e)))
+
+pub returns-in-Ok-clause-restarts : goal.returns-in-Ok-clause-restarts
+returns-in-Ok-clause-restarts g c = λ closed.
+    let came = c.came_of.result in
+    subst (λ d. IsLeftByRestarts g.D.Disk.alive g.D.Disk.contents c.args.disk (TellsDamage came.telling.status) d) (sym c.came_of.ensures.disk)
+    (left_unopened g.D.Disk.alive g.D.Disk.contents (Some c.args.n) c.args.disk c.run.result.disk c.run.result.outcome came.opened came.opening came.telling c.came_of.ensures.tells c.run.ensures.restarts closed)

@@ -3,11 +3,14 @@ use Rattle.ds_disk.specs.Contents.{Becomes}
 use Rattle.disk_restart.specs.Keeping.{KeepsRecords}
 use Rattle.member_core.specs.declared.member.Member.{Member}
 use Rattle.checked_run.specs.Leading.{kind_of}
+use Rattle.group_run.specs.declared.status.Status.TheVariants as status
 use Rattle.group_run.specs.Outside.{outside}
 use Rattle.group_run.specs.Prepares.{ordered}
-use Rattle.group_run.specs.Ends.{Ends, EndsBy}
+use Rattle.group_run.specs.Ends.{Ends, EndsBy, RestartsAlone, TellsDamage}
 use Rattle.group_run.proofs.Called.{no_sink, nothing_written}
 use Rattle.group_run.proofs.Copying.{wanting_ends, copies, recovers, otherwise}
+use Rattle.checked_run.specs.Restarted.{IsLeftByRestarts}
+use Rattle.group_run.proofs.Restarting.{alone, alone_copies, alone_recovers, left_as, left_same, same_self, told_tells, wanting_tells}
 use Rattle.group_run.proofs.top.play.Goals as goal
 
 pub finish-requires : goal.finish-requires
@@ -88,3 +91,26 @@ returns-in-Err-clause-left g c =
 pub returns-in-None-table_to_recover-clause-left : goal.returns-in-None-table_to_recover-clause-left
 returns-in-None-table_to_recover-clause-left g c =
     subst (λ x. x.opened ≡ false → Becomes (g.D.Disk.contents c.args.disk) (g.D.Disk.contents x.disk) KeepsRecords) (sym c.finish.ensures.rest) c.perform.ensures.left
+
+pub returns-in-Err-clause-restarts : goal.returns-in-Err-clause-restarts
+returns-in-Err-clause-restarts g c =
+    subst (λ x. RestartsAlone (ordered c.args.words.now) x.opened → IsLeftByRestarts g.D.Disk.alive g.D.Disk.contents c.args.disk (TellsDamage x.status) x.disk) (sym c.finish_unopened.ensures)
+    (λ is. left_same g.D.Disk.alive g.D.Disk.contents c.args.disk c.args.disk (TellsDamage status.NoMemory) (same_self (g.D.Disk.contents c.args.disk)) wanting_tells)
+
+pub returns-in-Some-clause-restarts : goal.returns-in-Some-clause-restarts
+returns-in-Some-clause-restarts g c = λ is.
+    absurd (alone_copies c.in-Ok.prepared c.finish_copy.result.opened c.in-Some.table (sym c.in-Some.ensures)
+    (alone (ordered c.args.words.now) c.in-Ok.prepared c.finish_copy.result.opened (g.S.Source.left c.args.source.now) (g.S.Source.left c.prepare.new.source) (g.S.Source.faults c.args.source.now) (g.S.Source.faults c.prepare.new.source) c.in-Ok.ensures.prepared is))
+
+pub returns-in-Some-table_to_recover-clause-restarts : goal.returns-in-Some-table_to_recover-clause-restarts
+returns-in-Some-table_to_recover-clause-restarts g c = λ is.
+    absurd (alone_recovers c.in-Ok.prepared c.finish_recovery.result.opened c.in-Some-table_to_recover.table (sym c.in-Some-table_to_recover.ensures)
+    (alone (ordered c.args.words.now) c.in-Ok.prepared c.finish_recovery.result.opened (g.S.Source.left c.args.source.now) (g.S.Source.left c.prepare.new.source) (g.S.Source.faults c.args.source.now) (g.S.Source.faults c.prepare.new.source) c.in-Ok.ensures.prepared is))
+
+pub returns-in-None-table_to_recover-clause-restarts : goal.returns-in-None-table_to_recover-clause-restarts
+returns-in-None-table_to_recover-clause-restarts g c =
+    let came = c.perform.result in
+    subst (λ x. RestartsAlone (ordered c.args.words.now) x.opened → IsLeftByRestarts g.D.Disk.alive g.D.Disk.contents c.args.disk (TellsDamage c.finish.result.status) x.disk) (sym c.finish.ensures.rest)
+    (λ is. left_as g.D.Disk.alive g.D.Disk.contents c.args.disk came.disk (TellsDamage came.telling.status) (TellsDamage c.finish.result.status)
+    (told_tells came.telling.status c.finish.result.status came.telling.text (g.K.Sink.taken c.args.sink.now) (g.K.Sink.taken c.finish.new.sink) (g.K.Sink.faults c.args.sink.now) (g.K.Sink.faults c.finish.new.sink) c.finish.ensures.told)
+    (c.perform.ensures.restarts (ordered c.args.words.now) (g.S.Source.left c.args.source.now) (g.S.Source.left c.prepare.new.source) (g.S.Source.faults c.args.source.now) (g.S.Source.faults c.prepare.new.source) c.in-Ok.ensures.prepared is))
