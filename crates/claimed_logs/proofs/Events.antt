@@ -14,13 +14,17 @@ use Rattle.log_numbers.specs.Numbers.{CommandsCount}
 use Rattle.member_intents.specs.declared.outcome.Answered.{Answered}
 use Rattle.member_intents.specs.declared.outcome.Answered.TheVariants as answered
 use Rattle.member_resources.specs.Events.{Drive, World as Resources}
+use Rattle.member_resources.specs.Held.{Held as MemberHeld, begun}
 use Rattle.restart_marks.specs.declared.adopt.Adopted.{Adopted}
 use Rattle.restart_marks.specs.declared.intent.RestartIntent.{RestartIntent}
 use Rattle.restart_marks.specs.declared.intent.RestartSent.{RestartSent}
 use Rattle.restart_marks.specs.declared.intent.RestartSent.TheVariants as sent
 use Rattle.restart_marks.specs.declared.told.RestartTold.{RestartTold}
 use Rattle.restart_marks.specs.State.{RestartState}
+use Rattle.restart_records.specs.declared.trans.RestartStage.TheVariants as stage
+use Rattle.restart_records.specs.declared.trans.RestartTran.{RestartTran}
 use Rattle.restart_records.specs.Trans.{TransState}
+use Rattle.restart_law.specs.Opens.{ListsGo}
 use Rattle.restart_claims.specs.Claims.{LeftHas}
 use Rattle.restart_law.specs.Reads.{TellsLog as TellsRead}
 use Rattle.restart_resources.specs.Events as event
@@ -32,7 +36,9 @@ use Rattle.failed_logs.specs.Given.{MemberIsUp, StepsGo}
 use Rattle.lock_restarts.specs.Changes.{gone_by}
 use Rattle.lock_restarts.specs.Courses.{Follows, HasHandedOver, IsInOrder, RestartsFollow, Sets, StandingsFollow}
 use Rattle.lock_restarts.specs.Stands.{Spares}
-use Rattle.failed_logs.specs.Given.{LogLocked, TellsLog}
+use Rattle.failed_logs.specs.Given.{LockedReaches, LogLocked, TellsLog}
+use Rattle.failed_logs.specs.Given.{NoneInSlots}
+use Rattle.restart_closing.specs.Closing.{HasLog}
 use Rattle.failed_logs.specs.Given.{Restarting as RestartHeld}
 use Rattle.failed_logs.specs.Given.stepped_variants as steps
 use Rattle.failed_logs.specs.Given.{GoesOn, RestartEnds, RestartGoesOn, Takes, as_restarting}
@@ -45,11 +51,27 @@ use Rattle.failed_logs.specs.Given.{Moves, MovesSpare, OfMember}
 use Rattle.failed_logs.specs.Given.{freed_world}
 use Rattle.failed_logs.specs.Given.{LocksTied, MemberStands, RestartInHand, RestartStands, known, known_by}
 use Rattle.claimed_logs.specs.Events.{RestartEventsLogged, UpEventsLogged}
-use Rattle.claimed_logs.specs.Logs.{MemberLogged, OneLogged, RestartLogged, UpLogged}
-use Rattle.claimed_logs.specs.Steps.{HandedLogged, RestartStepsLogged, StillLogged, UpStepsLogged}
+use Rattle.claimed_logs.specs.Courses.{LeavesNothing, RestartCourse}
+use Rattle.claimed_logs.specs.Logs.{FrontsAlike, MemberLogged, OneLogged, RestartLogged, UpLogged}
+use Rattle.claimed_logs.specs.Steps.{CourseEnds, CourseHands, CourseSteps, EndsSo, EndsTell, HandedLogged, LockedAlike, RestartStepsLogged, StillLogged, UpStepsLogged}
+use Rattle.claimed_logs.proofs.Alike.{Facts as AlikeFacts, fronts_begin}
+use Rattle.claimed_logs.proofs.Courses.{own_course}
+use Rattle.claimed_logs.proofs.Ends.{all_over}
 use Rattle.claimed_logs.proofs.Found.{freed_spares}
+use Rattle.claimed_logs.proofs.Own.{begun_locked, told_locked}
+
+-- of its log on disk
+pub record CourseFacts : Type 0 where
+  pub steps : CourseSteps
+  pub hands : CourseHands
+  pub ends : CourseEnds
 
 pub record Facts : Type 0 where
+  pub alike : AlikeFacts
+  pub courses : CourseFacts
+  pub locked : LockedReaches
+  pub tell : EndsTell
+  pub lists : ListsGo
   pub one : OneLogged
   pub spare : MovesSpare
   pub made : MadeGo
@@ -63,6 +85,9 @@ pub record Facts : Type 0 where
 
 never : true ≡ false → ⊥
 never e = cc
+
+restarting_up : (s : MemberStatus) → s ≡ Restarting → s ≡ Up → ⊥
+restarting_up s a b = cc
 
 -- ---- places and numbers
 index : (k : ℕ) → k + 1 - 1 ≡ k
@@ -108,7 +133,7 @@ set_live (x ∷ xs) (suc i) a e = set_live xs i a e
 
 -- ---- a member that is up
 pub up_events : Facts → UpEventsLogged
-up_events facts c d old new at m n w t e ok told left moves l = facts.one c d old new w moves.world at n t l
+up_events facts c d old new at m n w t e ok told left unclosed moves l = facts.one c d old new w moves.world at n t l
     (record {
       has = e.has;
       members = e.count;
@@ -120,9 +145,11 @@ up_events facts c d old new at m n w t e ok told left moves l = facts.one c d ol
       claims = λ k o q ne. facts.spare (OfMember m.id) old new w moves (k + 1) o q (apart (k + 1) m.id (λ z. other k at ne (z ∙ stood.id)));
     })
     (record {
-      up = λ _. record { pend = step.logged.pend; locked = subst (λ (z : List ℕ). LogLocked z step.logged.pend n.holds.marks) (sym log_is) step.logged.locked; counted = step.logged.counted };
+      up = λ _. record { pend = step.logged.pend; locked = subst (λ (z : List ℕ). LogLocked z step.logged.pend n.holds.marks) (sym log_is) step.logged.locked; counted = step.logged.counted; alike = subst (λ (z : List ℕ). FrontsAlike z step.logged.pend) (sym log_is) step.logged.alike };
       restarts = subst (λ (z : Option RestartHeld). IfSome z (λ q. RestartLogged (log_of d.logs (at + 1)) moves.world q.resources.marks)) (sym (stood_now.up now_up)) tt;
+      course = subst (λ (z : Option RestartHeld). IfSome z (λ q. RestartCourse (log_of d.logs (at + 1)) q.resources.marks n.holds.marks)) (sym (stood_now.up now_up)) tt;
       down = λ dead. absurd (never (sym (ap is_live now_up) ∙ dead));
+      counted = step.logged.counted;
     })
   where
     stood : MemberStands old.facility (at + 1) m
@@ -153,7 +180,7 @@ up_events facts c d old new at m n w t e ok told left moves l = facts.one c d ol
     tells = subst (λ (k : ℕ). TellsLog (log_of c.logs (at + 1)) e.drive k) (sym stood.member) (record { contents = c; told = told; there = within old.members at m c.logs e.had l.there; bytes = refl })
 
     step : StillLogged e.left old.facility.counter new.facility.counter n.holds.marks
-    step = facts.up (log_of c.logs (at + 1)) m n u v old.fates new.fates e.place e.stepped e.steps ok rests (subst (λ (k : ℕ). 1 ≤ k) (sym stood.member) (from_one at)) (stood_now.member ∙ sym stood.member) tells (before.up was_up)
+    step = facts.up (log_of c.logs (at + 1)) m n u v old.fates new.fates e.place e.stepped e.steps ok rests (subst (λ (k : ℕ). 1 ≤ k) (sym stood.member) (from_one at)) (stood_now.member ∙ sym stood.member) tells unclosed (before.up was_up)
 
     log_is : log_of d.logs (at + 1) ≡ step.log
     log_is = ap (λ (k : ℕ). log_of d.logs k) (sym stood_now.member) ∙ one_told step.log e.left n.holds.marks.member d step.tells left
@@ -238,7 +265,7 @@ in_any log w z s over l = record {
 }
 
 pub restart_events : Facts → RestartEventsLogged
-restart_events facts c d old new at m n w t e told left moves up l = facts.one c d old new w z at n t l
+restart_events facts c d old new at m n w t e told left moves counts counted l = facts.one c d old new w z at n t l
     (record {
       has = e.has;
       members = e.count;
@@ -252,7 +279,9 @@ restart_events facts c d old new at m n w t e told left moves up l = facts.one c
     (record {
       up = up;
       restarts = subst (λ (x : Option RestartHeld). IfSome x (λ q. RestartLogged (log_of d.logs (at + 1)) z q.resources.marks)) (sym n_restart) (goes_on reached.resources.marks.is_up ends.goes_on);
+      course = subst (λ (x : Option RestartHeld). IfSome x (λ q. RestartCourse (log_of d.logs (at + 1)) q.resources.marks n.holds.marks)) (sym n_restart) (course_on reached.resources.marks.is_up ends.goes_on);
       down = λ dead. absurd (never (sym still_live ∙ dead));
+      counted = counted;
     })
   where
     z : World
@@ -313,6 +342,65 @@ restart_events facts c d old new at m n w t e told left moves up l = facts.one c
     goes_on true over = subst (λ (x : Option RestartHeld). IfSome x (λ q. RestartLogged (log_of d.logs (at + 1)) z q.resources.marks)) (sym over.0) tt
     goes_on false over = subst (λ (x : Option RestartHeld). IfSome x (λ q. RestartLogged (log_of d.logs (at + 1)) z q.resources.marks)) (sym over.restart)
         (rests_as over.left over.rest over.takes (subst (λ (x : Option RestartHeld). IfSome x (λ q. Spares w z m.id (gone_by e.sent) ⊎ HasHandedOver q.resources.marks)) (n_restart ∙ over.restart) moves.spares))
+
+    -- ---- its log on disk
+    there : nat_lt (at + 1 - 1) (length c.logs) ≡ true
+    there = within old.members at m c.logs e.had l.there
+
+    before_course : RestartCourse (log_of c.logs (at + 1)) before.resources.marks m.holds.marks
+    before_course = subst (λ (z : Option RestartHeld). IfSome z (λ q. RestartCourse (log_of c.logs (at + 1)) q.resources.marks m.holds.marks)) e.made.makes.makes.had logged.course
+
+    course : RestartCourse (log_of d.logs (at + 1)) reached.resources.marks m.holds.marks
+    course = facts.courses.steps (log_of c.logs (at + 1)) (log_of d.logs (at + 1)) w (as_restarting u) (as_restarting v) before.resources reached.resources e.sent e.answered m.holds.marks e.made.makes.makes.happens (not_failed e.answered e.unfailed)
+        (subst (λ (k : ℕ). HasLog (as_restarting u).drive k (log_of c.logs (at + 1))) (sym standing.member) (record { contents = c; told = told; there = there; log = refl }))
+        (subst (λ (k : ℕ). HasLog (as_restarting v).drive k (log_of d.logs (at + 1))) (sym (follows.member ∙ standing.member)) (record { contents = d; told = left; there = ap (λ (k : ℕ). nat_lt (at + 1 - 1) k) goes.count ∙ there; log = refl }))
+        restart_logged before_course
+
+    none : NoneInSlots m.holds.marks
+    none = stood.rests (stood.restarts restarting)
+
+    -- what its member is told changes nothing of it
+    told_through : (x : List ℕ) → LogLocked x [] ends.left.marks → LogLocked x [] n.holds.marks
+    told_through x locked = subst (λ (z : Member). LogLocked x [] z.holds.marks) (sym e.made.enters.member)
+        (told_locked e.made.mid.holds x (subst (λ (z : Member). LogLocked x [] z.holds.marks) (sym ends.member) (facts.locked x [] (begun ends.left e.place).marks ends.after.marks ends.tells.0 (begun_locked ends.left e.place x locked))))
+
+    course_on : (b : Bool) → GoesOn b reached m.holds e.made.mid.restart ends.left → IfSome e.made.mid.restart (λ q. RestartCourse (log_of d.logs (at + 1)) q.resources.marks n.holds.marks)
+    course_on true over = subst (λ (x : Option RestartHeld). IfSome x (λ q. RestartCourse (log_of d.logs (at + 1)) q.resources.marks n.holds.marks)) (sym over.0) tt
+    course_on false over = subst (λ (x : Option RestartHeld). IfSome x (λ q. RestartCourse (log_of d.logs (at + 1)) q.resources.marks n.holds.marks)) (sym over.restart)
+        (own_course (log_of d.logs (at + 1)) over.rest.resources.marks ends.left.marks n.holds.marks told_through
+        (facts.courses.hands (log_of d.logs (at + 1)) reached over.rest over.left m.holds ends.left (follows.order standing.order) stood.free none over.takes over.adopts course))
+
+    left_so : (b : Bool) → b ≡ true → GoesOn b reached m.holds e.made.mid.restart ends.left → ends.left ≡ m.holds
+    left_so true is over = over.1
+    left_so false is over = absurd (never (sym is))
+
+    -- nothing is left of it where it has made its member live
+    ended : v.facility.lists.statuses ≢ u.facility.lists.statuses → LeavesNothing reached.resources.marks
+    ended changed =
+        let so : EndsSo before.resources.marks reached.resources.marks = facts.tell (as_restarting u) (as_restarting v) before.resources reached.resources e.sent e.answered e.made.makes.makes.happens standing.order changed in
+        let over = subst (λ (z : Option RestartHeld). IfSome z (λ q. q.resources.marks.trans.left ≡ 0 → AllByRecursion (λ (x : RestartTran). x.stage ≡ stage.Over) q.resources.marks.trans.list)) e.made.makes.makes.had counts so.left in
+        record {
+          read = so.read;
+          tail = so.tail;
+          over = all_over before.resources.marks.trans.list reached.resources.marks.trans.list
+              ((facts.lists (as_restarting u) (as_restarting v) before.resources reached.resources e.sent e.answered e.made.makes.makes.happens restart_logged.stands).read so.was) over;
+        }
+
+    up_by : reached.resources.marks.is_up ≡ true → v.facility.lists.statuses ≢ u.facility.lists.statuses → UpLogged (log_of d.logs (at + 1)) new.facility.counter n.holds.marks
+    up_by is changed =
+        let whole : LockedAlike (log_of d.logs (at + 1)) m.holds.marks = facts.courses.ends (log_of d.logs (at + 1)) reached.resources.marks m.holds stood.free none (ended changed) course in
+        record {
+          pend = [];
+          locked = told_through (log_of d.logs (at + 1)) (subst (λ (z : MemberHeld). LogLocked (log_of d.logs (at + 1)) [] z.marks) (sym (left_so reached.resources.marks.is_up is ends.goes_on)) whole.locked);
+          counted = counted;
+          alike = fronts_begin facts.alike (log_of d.logs (at + 1)) whole.alike;
+        }
+
+    up : status_of new.facility.lists.statuses (at + 1) ≡ Up → UpLogged (log_of d.logs (at + 1)) new.facility.counter n.holds.marks
+    up is = elim sets.statuses [
+      | inl x ↦ absurd (restarting_up (status_of old.facility.lists.statuses (at + 1)) restarting (sym (ap (λ (z : List MemberStatus). status_of z (at + 1)) x.1) ∙ is))
+      | inr x ↦ up_by x.0 (λ same. restarting_up (status_of old.facility.lists.statuses (at + 1)) restarting (sym (ap (λ (z : List MemberStatus). status_of z (at + 1)) same) ∙ is))
+    ]
 
     -- ---- the standings
     sets : Sets old.facility.lists new.facility.lists before.resources.marks reached.resources.marks

@@ -12,19 +12,36 @@ use Rattle.lock_protocol.specs.Machine.{World}
 use Rattle.failed_logs.specs.Given.{Restarting as RestartHeld}
 use Rattle.failed_logs.specs.Given.{Member}
 use Rattle.group_core.specs.Given.{CrewState}
-use Rattle.failed_logs.specs.Logs.{ClaimsOf, FailsClaimed, FailsUnread, LogClaimed, StillClaimed}
+use Rattle.failed_logs.specs.Logs.{ClaimsOf, FailsClaimed, FailsLocked, FailsUnread, LogClaimed, StillClaimed}
+use Rattle.failed_logs.specs.Given.{LockedBegins}
 use Rattle.failed_logs.specs.Given.{Moves, MovesSpare, OfMember}
 use Rattle.failed_logs.specs.Given.{LocksTied, MemberStands}
 use Rattle.failed_logs.specs.Given.{FailsAt}
 use Rattle.group_logs.specs.Logs.{OneGoes}
-use Rattle.claimed_logs.specs.Failing.{AnyBytes, HasFront, RestartFailsLogged, UpFailsLogged}
+use Rattle.ds_model.specs.declared.log.LogRecord.{LogRecord}
+use Rattle.log_appends.specs.Appends.{AreLastFrom, LastSpell}
+use Rattle.log_appends.specs.Rests.{IsRest, LastWithoutRest}
+use Rattle.log_numbers.specs.Numbers.{CountedBegin}
+use Rattle.log_reader.specs.Keeping.{AreWhole}
+use Rattle.restart_law.specs.Reads.{AreLast}
+use Rattle.claimed_logs.specs.Courses.{LeavesAlike, RestartCourse}
+use Rattle.claimed_logs.specs.Failing.{AnyBytes, HandedFailsLogged, HasFront, RestartFailsLogged, UpFailsLogged}
 use Rattle.claimed_logs.specs.Logs.{LeavesOthers, LogsClaimed, MemberLogged, OneLogged, RestartLogged, UpLogged}
+use Rattle.claimed_logs.proofs.Alike.{Facts as AlikeFacts, leaves_front}
+use Rattle.claimed_logs.proofs.Idle.{idle_begins}
+use Rattle.claimed_logs.proofs.Logs.{last_from}
 
 pub record Facts : Type 0 where
   pub one : OneLogged
   pub spare : MovesSpare
   pub up : FailsClaimed
   pub unread : FailsUnread
+  pub locked : FailsLocked
+  pub alike : AlikeFacts
+  pub begin : LockedBegins
+  pub spell : LastSpell
+  pub counted : CountedBegin
+  pub without : LastWithoutRest
 
 at_set : {A : Type 0} → (xs : List A) (i : ℕ) (a d : A) → (slice_index_or (slice_set xs i a) i d ≡ a) ⊎ (slice_index_or (slice_set xs i a) i d ≡ d)
 at_set [] i a d = inr refl
@@ -94,8 +111,8 @@ module _ (facts : Facts) (c d : Contents) (old new : CrewState) (at : ℕ) (m n 
   from_one k = omega arith
 
   -- where its log, as it is left, has its claims in the world that moves lead to
-  pub behind : (Goes : List ℕ → List ℕ → Type 0) → OneGoes (at + 1) Goes c d → (moves : Moves (OfMember m.id) old new w) → LogClaimed (log_of d.logs (at + 1)) moves.world m.id → LogsClaimed d new moves.world
-  behind Goes goes moves claimed = facts.one c d old new w moves.world at n t l
+  pub behind : (Goes : List ℕ → List ℕ → Type 0) → OneGoes (at + 1) Goes c d → (moves : Moves (OfMember m.id) old new w) → LogClaimed (log_of d.logs (at + 1)) moves.world m.id → LeavesAlike (log_of d.logs (at + 1)) → LogsClaimed d new moves.world
+  behind Goes goes moves claimed leaves = facts.one c d old new w moves.world at n t l
       (record {
         has = f.has;
         members = f.count;
@@ -109,13 +126,25 @@ module _ (facts : Facts) (c d : Contents) (old new : CrewState) (at : ℕ) (m n 
       (record {
         up = λ up. absurd (now_down up);
         restarts = subst (λ (z : Option RestartHeld). IfSome z (λ q. RestartLogged (log_of d.logs (at + 1)) moves.world q.resources.marks)) (sym f.down.rests) tt;
-        down = λ _. subst (λ (z : ℕ). LogClaimed (log_of d.logs (at + 1)) moves.world z) stood.id claimed;
+        course = subst (λ (z : Option RestartHeld). IfSome z (λ q. RestartCourse (log_of d.logs (at + 1)) q.resources.marks n.holds.marks)) (sym f.down.rests) tt;
+        down = λ _. record {
+          claimed = subst (λ (z : ℕ). LogClaimed (log_of d.logs (at + 1)) moves.world z) stood.id claimed;
+          leaves = leaves;
+          idle = idle_begins facts.begin facts.spell n.id old.sizes n.holds stood_now.book f.down.holds;
+        };
+        counted = facts.counted new.facility.counter n.id old.sizes n.holds f.down.holds;
       })
+    where
+      tied : LocksTied new moves.world
+      tied = moves.tied
+
+      stood_now : MemberStands new.facility (at + 1) n
+      stood_now = subst (λ (z : Option Member). IfSome z (MemberStands new.facility (at + 1))) f.has (tied.stands at)
 
 pub up_fails : Facts → UpFailsLogged
 up_fails facts c d old new at m n w t f up goes l = record {
   moves = fails.moves;
-  logs = behind facts c d old new at m n w t f l (HasFront m) goes fails.moves (subst (λ (z : List ℕ). LogClaimed z fails.moves.world m.id) (sym front.1) (fails.claimed front.0));
+  logs = behind facts c d old new at m n w t f l (HasFront m) goes fails.moves (subst (λ (z : List ℕ). LogClaimed z fails.moves.world m.id) (sym front.1) (fails.claimed front.0)) (subst LeavesAlike (sym front.1) leaves);
 }
   where
     logged : UpLogged (log_of c.logs (at + 1)) old.facility.counter m.holds.marks
@@ -127,8 +156,31 @@ up_fails facts c d old new at m n w t f up goes l = record {
     front : HasFront m (log_of c.logs (at + 1)) (log_of d.logs (at + 1))
     front = goes.own (there facts c d old new at m n w t f l)
 
+    leaves : LeavesAlike (log_of c.logs (at + 1) ++ take front.0 m.holds.marks.log.pending)
+    leaves = subst (λ (z : List ℕ). LeavesAlike (log_of c.logs (at + 1) ++ take front.0 z)) (sym logged.locked.spelled)
+        (leaves_front facts.alike (log_of c.logs (at + 1)) logged.pend front.0 logged.locked.whole logged.locked.allowed logged.alike)
+
 pub restart_fails : Facts → RestartFailsLogged
-restart_fails facts c d old new at m n w t f not_up goes claimed l = record { moves = fails.moves; logs = behind facts c d old new at m n w t f l AnyBytes goes fails.moves fails.claimed }
+restart_fails facts c d old new at m n w t f not_up goes left l = record { moves = fails.moves; logs = behind facts c d old new at m n w t f l AnyBytes goes fails.moves fails.claimed left.leaves }
   where
     fails : StillClaimed (log_of d.logs (at + 1)) old new w m
-    fails = facts.unread old new at m n w (log_of d.logs (at + 1)) t f not_up claimed
+    fails = facts.unread old new at m n w (log_of d.logs (at + 1)) t f not_up left.claimed
+
+-- ---- whose restart has handed over
+from_last : (bytes : List ℕ) (start : ℕ) (records : List LogRecord) → AreLastFrom bytes start records → AreLast bytes records
+from_last bytes start records l = record { start = start; whole = l.whole; begins = l.begins; parts = l.parts; told = l.told; are = l.are }
+
+-- the last records of the log are those of its whole records
+claimed_rest : LastWithoutRest → (whole rest : List ℕ) (w : World) (k : ℕ) → AreWhole whole → IsRest rest → LogClaimed whole w k → LogClaimed (whole ++ rest) w k
+claimed_rest law whole rest w k are is_rest claimed records last = claimed records (from_last whole last.start records (law whole rest last.start records are is_rest (last_from (whole ++ rest) records last)))
+
+pub handed_fails : Facts → HandedFailsLogged
+handed_fails facts c d old new at m n w whole rest t f not_up goes is is_rest alike locked l = record {
+  moves = fails.moves;
+  logs = behind facts c d old new at m n w t f l AnyBytes goes fails.moves
+      (subst (λ (z : List ℕ). LogClaimed z fails.moves.world m.id) (sym is) (claimed_rest facts.without whole rest fails.moves.world m.id locked.whole is_rest fails.claimed))
+      (record { whole = whole; rest = rest; is = is; are = locked.whole; is_rest = is_rest; alike = alike });
+}
+  where
+    fails : StillClaimed whole old new w m
+    fails = facts.locked old new at m n w whole t f not_up locked

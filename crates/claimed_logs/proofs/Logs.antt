@@ -3,6 +3,7 @@ use Rattle.std.proofs.Common.{◌≡◌, ℕ, zero, suc, ◌+◌, ◌≤◌, ref
 use Rattle.std.specs.Prelude.{◌≢◌, IfSome, slice_get}
 use Rattle.std.specs.List.{AllByRecursion}
 use Rattle.std.proofs.lemmas.Bool.{cases_eq}
+use Rattle.std.proofs.lemmas.List.{append-nil}
 use Rattle.ds_disk.specs.Contents.{Contents, log_of}
 use Rattle.ds_model.specs.Rows.{Spot}
 use Rattle.ds_model.specs.declared.log.LogRecord.{LogRecord}
@@ -14,7 +15,8 @@ use Rattle.list_structure.specs.Standings.{is_live, status_of}
 use Rattle.log_rows.specs.Rows.{IsOpenIn, OpenTell}
 use Rattle.log_trans.specs.Courses.{open_trans}
 use Rattle.log_trans.specs.declared.opened.OpenTran.{OpenTran}
-use Rattle.log_appends.specs.Appends.{AreLastFrom}
+use Rattle.log_appends.specs.Appends.{AreLastFrom, LastSpell}
+use Rattle.log_appends.specs.Rests.{NothingIsRest}
 use Rattle.log_numbers.specs.Numbers.{AreCounted, CountedBegin, CountedMore}
 use Rattle.lock_protocol.specs.Machine.{Covers, World}
 use Rattle.lock_world.specs.Rollbacks.{row_of, space_of}
@@ -29,8 +31,12 @@ use Rattle.group_core.specs.Given.{CrewState}
 use Rattle.failed_logs.specs.Given.{LockedBegins}
 use Rattle.failed_logs.specs.Logs.{LogClaimed}
 use Rattle.failed_logs.specs.Given.{LocksTied, MemberStands, RestartInHand}
+use Rattle.restart_closing.specs.Closing.{OpensAlike}
+use Rattle.claimed_logs.specs.Courses.{LeavesAlike, RestartCourse}
 use Rattle.claimed_logs.specs.Found.{OpensKnown}
-use Rattle.claimed_logs.specs.Logs.{FreshLogged, GroupFailsLogged, LeavesOthers, LogCloses, LogsClaimed, LogsKnow, MemberLogged, OneLogged, RestartLogged, UpLogged}
+use Rattle.claimed_logs.specs.Logs.{DownLogged, FreshLogged, GroupFailsLogged, LeavesOthers, LogCloses, LogsClaimed, LogsKnow, MemberLogged, OneLogged, RestartLogged, UpLogged}
+use Rattle.claimed_logs.proofs.Alike.{Facts as AlikeFacts, fronts_begin}
+use Rattle.claimed_logs.proofs.Idle.{idle_begins}
 
 never : true ≡ false → ⊥
 never e = cc
@@ -67,9 +73,18 @@ closes_claimed tell log w k closes records last = each (IsOpenIn records) (HasRo
     none : (t : OpenTran) → IsOpenIn records t → HasRows w k t
     none t opened spot touched = absurd (never (sym (closes.closed last.start records (last_from log records last) t.id spot opened.numbered (opened.changed spot touched)) ∙ opened.unclosed))
 
+closes_alike : (log : List ℕ) → LogCloses log → OpensAlike log
+closes_alike log closes start back last begin other also id spot some changed = inl (closes.closed begin other also id spot some changed)
+
+closes_leaves : NothingIsRest → (log : List ℕ) → LogCloses log → LeavesAlike log
+closes_leaves nothing log closes = record { whole = log; rest = []; is = sym (append-nil log); are = closes.whole; is_rest = nothing; alike = closes_alike log closes }
+
 pub record FreshFacts : Type 0 where
+  pub alike : AlikeFacts
   pub tell : OpenTell
   pub begin : LockedBegins
+  pub spell : LastSpell
+  pub nothing : NothingIsRest
   pub counted : CountedBegin
 
 pub fresh_logged : FreshFacts → FreshLogged
@@ -82,9 +97,16 @@ fresh_logged facts c s w t down there close = record { there = there; each = λ 
         pend = [];
         locked = facts.begin (log_of c.logs (at + 1)) m.id s.sizes m.holds closes.whole stood.book d.holds closes.closed;
         counted = facts.counted s.facility.counter m.id s.sizes m.holds d.holds;
+        alike = fronts_begin facts.alike (log_of c.logs (at + 1)) (closes_alike (log_of c.logs (at + 1)) closes);
       };
       restarts = subst (λ (z : Option Restarting). IfSome z (λ q. RestartLogged (log_of c.logs (at + 1)) w q.resources.marks)) (sym d.rests) tt;
-      down = λ _. closes_claimed facts.tell (log_of c.logs (at + 1)) w (at + 1) closes;
+      course = subst (λ (z : Option Restarting). IfSome z (λ q. RestartCourse (log_of c.logs (at + 1)) q.resources.marks m.holds.marks)) (sym d.rests) tt;
+      down = λ _. record {
+        claimed = closes_claimed facts.tell (log_of c.logs (at + 1)) w (at + 1) closes;
+        leaves = closes_leaves facts.nothing (log_of c.logs (at + 1)) closes;
+        idle = idle_begins facts.begin facts.spell m.id s.sizes m.holds stood.book d.holds;
+      };
+      counted = facts.counted s.facility.counter m.id s.sizes m.holds d.holds;
     }
 
 pub group_fails_logged : GroupFailsLogged
@@ -124,9 +146,11 @@ restarts_left law log w z k m (Some q) stands same h = restart_left law log w z 
 pub member_left : LeftFacts → (f g : Facility) (w z : World) (k : ℕ) (log : List ℕ) (m : Member) → f.counter ≤ g.counter → status_of g.lists.statuses k ≡ status_of f.lists.statuses k → ((o c : ℕ) → z.claims k o c ≡ w.claims k o c)
     → RestartInHand k m m.restart → MemberLogged f w k log m → MemberLogged g z k log m
 member_left facts f g w z k log m rises status same stands h = record {
-  up = λ up. let before : UpLogged log f.counter m.holds.marks = h.up (sym status ∙ up) in record { pend = before.pend; locked = before.locked; counted = facts.more f.counter g.counter m.holds.marks rises before.counted };
+  up = λ up. let before : UpLogged log f.counter m.holds.marks = h.up (sym status ∙ up) in record { pend = before.pend; locked = before.locked; counted = facts.more f.counter g.counter m.holds.marks rises before.counted; alike = before.alike };
   restarts = restarts_left facts.left log w z k m m.restart stands same h.restarts;
-  down = λ dead. log_left log w z k same (h.down (sym (ap is_live status) ∙ dead));
+  course = h.course;
+  down = λ dead. let before : DownLogged log w k m.holds.marks = h.down (sym (ap is_live status) ∙ dead) in record { claimed = log_left log w z k same before.claimed; leaves = before.leaves; idle = before.idle };
+  counted = facts.more f.counter g.counter m.holds.marks rises h.counted;
 }
 
 pub one_logged : LeftFacts → OneLogged

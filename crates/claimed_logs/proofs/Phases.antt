@@ -10,13 +10,15 @@ use Rattle.list_structure.specs.declared.standing.MemberStatus.TheVariants.{Down
 use Rattle.list_structure.specs.Standings.{is_live, status_of}
 use Rattle.list_structure.specs.States.{ListsState}
 use Rattle.lock_protocol.specs.Machine.{World}
-use Rattle.log_numbers.specs.Numbers.{CountedMore}
+use Rattle.log_numbers.specs.Numbers.{AreCounted, CountedMore}
+use Rattle.member_marks.specs.State.{MarksState}
 use Rattle.restart_marks.specs.State.{RestartState}
 use Rattle.restart_records.specs.Own.{OwnState}
 use Rattle.restart_resources.specs.Held.{IsNew}
 use Rattle.restart_law.specs.Opens.{OpensBegin}
 use Rattle.restart_law.specs.Reads.{KnowsWhole, ReadsBegin}
 use Rattle.restart_claims.specs.Claims.{ClaimsLeft}
+use Rattle.restart_closing.specs.Closing.{ClosesBegin}
 use Rattle.script_phases.specs.Phases.{is_failed, restarts_in}
 use Rattle.failed_logs.specs.Given.{Restarting as RestartHeld}
 use Rattle.failed_logs.specs.Given.{Member}
@@ -25,8 +27,10 @@ use Rattle.group_core.specs.Given.{CrewState}
 use Rattle.failed_logs.specs.Logs.{BeginsClaimed, LogClaimed}
 use Rattle.failed_logs.specs.Given.{Moves, MovesSpare, OfPhase}
 use Rattle.failed_logs.specs.Given.{LocksTied, MemberStands}
+use Rattle.failed_logs.specs.Given.{LogLocked}
 use Rattle.claimed_logs.specs.Beginning.{BeginKnowing, IsLog, PhasesLogged}
-use Rattle.claimed_logs.specs.Logs.{LogsClaimed, MemberLogged, RestartLogged}
+use Rattle.claimed_logs.specs.Courses.{LeavesAlike, RestartCourse}
+use Rattle.claimed_logs.specs.Logs.{DownLogged, LogsClaimed, MemberLogged, RestartLogged}
 use Rattle.claimed_logs.proofs.Logs.{LeftFacts, log_left, member_left}
 
 never : true ≡ false → ⊥
@@ -146,6 +150,7 @@ pub record Facts : Type 0 where
   pub reads : ReadsBegin
   pub left : ClaimsLeft
   pub more : CountedMore
+  pub closes : ClosesBegin
 
 dead_by : (s : MemberStatus) → is_failed s ≡ true → is_live s ≡ false
 dead_by Down e = absurd (never (sym e))
@@ -173,18 +178,39 @@ begun_logged facts log w k (Some q) is claimed fresh knows = record {
   unread = λ _. refl;
 }
 
+-- and it begins over a log that leaves the same open wherever reading may begin
+begun_course : ClosesBegin → (log : List ℕ) (k : ℕ) (x : Option RestartHeld) (own : MarksState) → LeavesAlike log → LogLocked [] [] own → IsSomeAnd x (λ q. IsNew k q.resources) → IfSome x (λ q. RestartCourse log q.resources.marks own)
+begun_course law log k None own leaves idle fresh = absurd fresh
+begun_course law log k (Some q) own leaves idle fresh = record {
+  whole = leaves.whole;
+  rest = leaves.rest;
+  is = leaves.is;
+  alike = leaves.alike;
+  goes = inl (record { pend = []; closes = law leaves.whole leaves.rest k q.resources.marks leaves.are leaves.is_rest leaves.alike fresh.marks; idle = idle });
+}
+
 member_turns : Facts → (c : Contents) (phase : Phase) (f g : Facility) (w z : World) (k : ℕ) (log : List ℕ) (m n : Member) (b : Bool) → begins_restart phase f.lists.statuses k ≡ b → Turns b m n (status_of f.lists.statuses k) (status_of g.lists.statuses k)
     → f.counter ≤ g.counter → ((o q : ℕ) → z.claims k o q ≡ w.claims k o q) → MemberStands f k m → IsLog log → (begins_restart phase f.lists.statuses n.id ≡ true → IfSome n.restart (λ q. KnowsWhole log q.resources.marks))
     → MemberLogged f w k log m → MemberLogged g z k log n
 member_turns facts c phase f g w z k log m n true e turns rises same stood is knows h = record {
   up = λ up. absurd (restarting_up (status_of g.lists.statuses k) turns.2 up);
-  restarts = begun_logged facts log z k n.restart is (log_left log w z k same (h.down (dead_by (status_of f.lists.statuses k) (and_parts (is_failed (status_of f.lists.statuses k)) (restarts_in phase k) e).0)))
-      (subst (λ (i : ℕ). IsSomeAnd n.restart (λ q. IsNew i q.resources)) stood.id turns.0) (knows (ap (λ (i : ℕ). begins_restart phase f.lists.statuses i) id ∙ e));
+  restarts = begun_logged facts log z k n.restart is (log_left log w z k same was.claimed) fresh (knows (ap (λ (i : ℕ). begins_restart phase f.lists.statuses i) id ∙ e));
+  course = subst (λ (own : MarksState). IfSome n.restart (λ q. RestartCourse log q.resources.marks own)) (sym holds) (begun_course facts.closes log k n.restart m.holds.marks was.leaves was.idle fresh);
   down = λ dead. absurd (restarting_dead (status_of g.lists.statuses k) turns.2 dead);
+  counted = subst (AreCounted g.counter) (sym holds) (facts.more f.counter g.counter m.holds.marks rises h.counted);
 }
   where
     id : n.id ≡ k
     id = ap (λ (x : Member). x.id) turns.1 ∙ stood.id
+
+    holds : n.holds.marks ≡ m.holds.marks
+    holds = ap (λ (x : Member). x.holds.marks) turns.1
+
+    was : DownLogged log w k m.holds.marks
+    was = h.down (dead_by (status_of f.lists.statuses k) (and_parts (is_failed (status_of f.lists.statuses k)) (restarts_in phase k) e).0)
+
+    fresh : IsSomeAnd n.restart (λ q. IsNew k q.resources)
+    fresh = subst (λ (i : ℕ). IsSomeAnd n.restart (λ q. IsNew i q.resources)) stood.id turns.0
 member_turns facts c phase f g w z k log m n false e turns rises same stood is knows h =
     subst (λ (x : Member). MemberLogged g z k log x) (sym turns.0) (member_left (record { left = facts.left; more = facts.more }) f g w z k log m rises turns.1 same stood.restart h)
 

@@ -83,7 +83,7 @@ pub record HandFacts : Type 0 where
   pub opens : OpensHand
   pub claims : ClaimsHand
 
-kept_some : (s : RestartState) (o : Option KeptBy) → is_some (adopted_by s o) ≡ true → is_some o ≡ true
+pub kept_some : (s : RestartState) (o : Option KeptBy) → is_some (adopted_by s o) ≡ true → is_some o ≡ true
 kept_some s None e = e
 kept_some s (Some kept) e = refl
 
@@ -91,7 +91,7 @@ abbrev adopted_for : RestartState → KeptBy → Adopted
 adopted_for s kept = record { by = kept.by; trans = opened_among s.trans.list }
 
 -- it may not, and stays as it is
-not_handed : (s : RestartState) (o : Option KeptBy) → is_some (adopted_by s o) ≡ false → adopted_as s o ≡ s
+pub not_handed : (s : RestartState) (o : Option KeptBy) → is_some (adopted_by s o) ≡ false → adopted_as s o ≡ s
 not_handed s None e = refl
 not_handed s (Some kept) e = by (may_adopt s) e
   where

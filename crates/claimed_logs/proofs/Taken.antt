@@ -2,7 +2,7 @@
 use Rattle.std.proofs.Common.{◌≡◌, ℕ, zero, suc, ◌+◌, ◌≤◌, refl, sym, ◌∙◌, ap, subst, arith, Bool, true, false, inl, inr, List, [], ◌∷◌, ◌++◌, length, take, Option, Some, None, Ok}
 use Rattle.std.specs.Prelude.{◌≢◌, ◌⊎◌, ◌-◌, ◌*◌, ◌/◌, ◌%◌, ◌==◌, ◌||◌, not, if◌then◌else◌, IfSome, IsSomeAnd, is_some, map, slice_get}
 use Rattle.std.proofs.lemmas.Bool.{and_parts, cases_Bool, cases_eq, eqb-true}
-use Rattle.std.proofs.lemmas.List.{append-nil}
+use Rattle.std.proofs.lemmas.List.{append-nil, take_at}
 use Rattle.std.proofs.lemmas.Nat.{div-add-mod'}
 use Rattle.std.proofs.lemmas.Option.{slice_get-map}
 use Rattle.ds_disk.specs.Contents.{Becomes, Contents, log_of}
@@ -17,17 +17,27 @@ use Rattle.lock_protocol.specs.Machine.{World}
 use Rattle.member_intents.specs.declared.outcome.Sent.{Sent}
 use Rattle.member_intents.specs.declared.outcome.Sent.TheVariants as sent
 use Rattle.member_intents.specs.declared.outcome.Answered.{Answered}
+use Rattle.member_intents.specs.declared.outcome.Answered.TheVariants as answered
+use Rattle.ds_model.specs.declared.log.LogRecord.{LogRecord}
+use Rattle.log_appends.specs.Rests.{IsRest, NothingIsRest}
 use Rattle.member_resources.specs.Events.{World as Resources, world_of}
 use Rattle.restart_marks.specs.Needs.{need_of}
 use Rattle.restart_marks.specs.declared.intent.RestartIntent.{RestartIntent}
 use Rattle.restart_marks.specs.State.{RestartState}
+use Rattle.restart_law.specs.Reads.{ReadsTrue}
 use Rattle.restart_law.proofs.Truth.{FitsRead, fits_read}
+use Rattle.restart_closing.specs.Closing.{HasLog, RestartCloses}
+use Rattle.restart_closing.specs.Leaving.{FailuresLeave}
+use Rattle.restart_closing.specs.Resting.{Rests}
+use Rattle.restart_closing.proofs.Needs.{FitsSent, fits_sent}
+use Rattle.restart_resources.specs.Events as event
 use Rattle.script_phases.specs.declared.progress.Progress.{Progress}
 use Rattle.script_phases.specs.Progresses.{has_groupfail, has_phase, own_choice}
 use Rattle.failed_logs.specs.Given.{MemberPart}
 use Rattle.failed_logs.specs.Given.{Restarting as RestartHeld}
 use Rattle.failed_logs.specs.Given.{Stepped}
 use Rattle.failed_logs.specs.Given.stepped_variants as steps
+use Rattle.failed_logs.specs.Given.{as_restarting}
 use Rattle.failed_logs.specs.Given.{Breaks, Comes, RestartSent, Restarts, Steps}
 use Rattle.failed_logs.specs.Given.restart_sent_module as restart_sent
 use Rattle.failed_logs.specs.Given.{Member, member_of}
@@ -44,8 +54,7 @@ use Rattle.group_core.specs.declared.group.Group.{Group}
 use Rattle.group_core.specs.Events.{takes}
 use Rattle.group_core.specs.Takes.{BeginsOrNot, IsMade, TakesMember, TakesOwn}
 use Rattle.group_logs.specs.Changes.{MembersGo}
-use Rattle.group_logs.specs.Logs.{Appends, IsNumbered, LogGoes, OneGoes, RestartGoes, buffer_of}
-use Rattle.failed_logs.specs.Logs.{LogClaimed}
+use Rattle.group_logs.specs.Logs.{Appends, IsCut, IsNumbered, LogGoes, OneGoes, RestartGoes, buffer_of}
 use Rattle.failed_logs.specs.Given.{HaveClaimed}
 use Rattle.failed_logs.specs.Given.{AreBy, IsFor, Moves, OfGroup, OfMember, OfPhase, Whose}
 use Rattle.failed_logs.specs.Given.{MemberStepsMoves, StepsAt}
@@ -55,10 +64,10 @@ use Rattle.failed_logs.specs.Given.{RestingMoves, RestingStepsAt, RestingStepsMo
 use Rattle.failed_logs.specs.Given.{LocksTied, MemberStands, RestartInHand, RestartStands}
 use Rattle.failed_logs.specs.Given.{FailsAt, GroupFailsTied}
 use Rattle.claimed_logs.specs.Beginning.{PhasesLogged}
-use Rattle.claimed_logs.specs.Events.{IsIdle, RestartEventsLogged, RestingEventsLogged, UpEventsLogged}
-use Rattle.claimed_logs.specs.Failing.{AnyBytes, HasFront, MovesLogged, RestartFailsLogged, UpFailsLogged}
+use Rattle.claimed_logs.specs.Courses.{RestartCourse, RestartHanded, RestartOpen}
+use Rattle.claimed_logs.specs.Events.{CountsLeft, RestartEventsLogged, RestingEventsLogged, UpEventsLogged}
+use Rattle.claimed_logs.specs.Failing.{AnyBytes, HandedFailsLogged, HasFront, LeftClaimed, MovesLogged, RestartFailsLogged, RestartsStop, UpFailsLogged}
 use Rattle.claimed_logs.specs.Found.{AdoptionsFound}
-use Rattle.claimed_logs.specs.Leaving.{LeavesLeft, ReadLeaves, UnreadLeaves}
 use Rattle.claimed_logs.specs.Logs.{GroupFailsLogged, LogsClaimed, LogsKnow, MemberLogged, RestartLogged}
 use Rattle.claimed_logs.specs.Taken.{EventsKeep, Supplied}
 use Rattle.claimed_logs.proofs.Events.{within}
@@ -80,8 +89,10 @@ pub record Facts : Type 0 where
   pub resting : RestingEventsLogged
   pub up_fails : UpFailsLogged
   pub restart_fails : RestartFailsLogged
-  pub unread : UnreadLeaves
-  pub read : ReadLeaves
+  pub handed_fails : HandedFailsLogged
+  pub stop : RestartsStop
+  pub leave : FailuresLeave
+  pub nothing : NothingIsRest
 
 never : true ≡ false → ⊥
 never e = cc
@@ -200,6 +211,50 @@ restart_log s i x failed pending old new lawful unread idle h = by x (fits_read 
     by restart_sent.AppendLog fits h = absurd (never (sym (ap (λ (z : List ℕ). length z == 0) idle) ∙ fits))
     by (restart_sent.ReadPage page) fits h = h
 
+is_failed : (a : Answered) → is_failure a ≡ true → a ≡ answered.Failed
+is_failed answered.None e = absurd (never (sym e))
+is_failed (answered.Reply reply) e = absurd (never (sym e))
+is_failed answered.Done e = absurd (never (sym e))
+is_failed answered.Failed e = refl
+
+told_log : (v : Resources) (d : Contents) (member : ℕ) (bytes : List ℕ) → v.drive.contents ≡ Some d → HasLog (as_restarting v).drive member bytes → log_of d.logs member ≡ bytes
+told_log v d member bytes left has =
+    let same : d ≡ has.contents = let both : Some d ≡ Some has.contents = sym left ∙ has.told in cc in
+    ap (λ (z : Contents). log_of z.logs member) same ∙ has.log
+
+-- it has failed in a call of its restart, which has read its log
+fails_leave : FailuresLeave → (u v : Resources) (before reached q : RestartHeld) (s : RestartSent) (a : Answered) (d : Contents) (whole rest : List ℕ) (pend : List LogRecord) → before ≡ q → is_failure a ≡ true
+    → event.Happens (as_restarting u) before.resources s a (as_restarting (record v { facility = u.facility })) reached.resources → HasLog (as_restarting u).drive q.resources.marks.member (whole ++ rest)
+    → RestartCloses whole rest pend q.resources.marks → q.resources.marks.own.is_read ≡ true → v.drive.contents ≡ Some d
+    → (log_of d.logs q.resources.marks.member ≡ whole ++ rest) ⊎ ((q.resources.marks.own.is_read ≡ true) × (n : ℕ) × (log_of d.logs q.resources.marks.member ≡ whole ++ take n q.resources.marks.log.pending))
+fails_leave law u v before reached q s a d whole rest pend same failed happens has closes read left = by
+    (law whole rest pend (as_restarting u) (as_restarting now) q.resources reached.resources s
+    (subst (λ (z : Answered). event.Happens (as_restarting u) q.resources s z (as_restarting now) reached.resources) (is_failed a failed)
+    (subst (λ (z : RestartHeld). event.Happens (as_restarting u) z.resources s a (as_restarting now) reached.resources) same happens)) has closes)
+  where
+    now : Resources
+    now = record v { facility = u.facility }
+
+    by : HasLog (as_restarting now).drive q.resources.marks.member (whole ++ rest) ⊎ ((n : ℕ) × HasLog (as_restarting now).drive q.resources.marks.member (whole ++ take n q.resources.marks.log.pending))
+        → (log_of d.logs q.resources.marks.member ≡ whole ++ rest) ⊎ ((q.resources.marks.own.is_read ≡ true) × (n : ℕ) × (log_of d.logs q.resources.marks.member ≡ whole ++ take n q.resources.marks.log.pending))
+    by (inl x) = inl (told_log now d q.resources.marks.member (whole ++ rest) left x)
+    by (inr (n, x)) = inr (read, n, told_log now d q.resources.marks.member (whole ++ take n q.resources.marks.log.pending) left x)
+
+-- one that has handed over has cut off the rest, or has left the log as it was
+cut_left : (long : ℕ) (failed : Bool) (x y whole rest : List ℕ) → x ≡ whole ++ rest → length whole ≡ long → IsCut long failed x y → (y ≡ whole ++ rest) ⊎ (y ≡ whole)
+cut_left long false x y whole rest is same e = inr (e ∙ ap (λ (z : List ℕ). take long z) is ∙ take_at whole rest long same)
+cut_left long true x y whole rest is same (inl e) = inl (e ∙ is)
+cut_left long true x y whole rest is same (inr e) = inr (e ∙ ap (λ (z : List ℕ). take long z) is ∙ take_at whole rest long same)
+
+handed_left : (s : RestartSent) (marks : RestartState) (failed : Bool) (pending x y whole rest : List ℕ) → FitsSent marks s → Rests whole rest marks → x ≡ whole ++ rest → RestartGoes s pending failed x y → (y ≡ whole ++ rest) ⊎ (y ≡ whole)
+handed_left restart_sent.None marks failed pending x y whole rest fits r is h = inl (h ∙ is)
+handed_left (restart_sent.Command c) marks failed pending x y whole rest fits r is h = inl (h ∙ is)
+handed_left restart_sent.LogLength marks failed pending x y whole rest fits r is h = inl (h ∙ is)
+handed_left (restart_sent.ReadLog at count) marks failed pending x y whole rest fits r is h = inl (h ∙ is)
+handed_left (restart_sent.CutLog long) marks failed pending x y whole rest fits r is h = cut_left long failed x y whole rest is (sym (fits.2 ∙ r.long fits.1)) h
+handed_left restart_sent.AppendLog marks failed pending x y whole rest fits r is h = absurd (never (sym (ap (λ (z : List ℕ). length z == 0) r.idle) ∙ fits.0))
+handed_left (restart_sent.ReadPage page) marks failed pending x y whole rest fits r is h = inl (h ∙ is)
+
 -- ---- the event of a member
 record At (old new : CrewState) (at : ℕ) (m n : Member) : Type 0 where
   pub had : slice_get old.members at ≡ Some m
@@ -219,16 +274,13 @@ module _ (facts : Facts) (old new : CrewState) (w : World) (c d : Contents) (t :
   logged : MemberLogged old.facility w (at + 1) (log_of c.logs (at + 1)) m
   logged = subst (λ (z : Option Member). IfSome z (MemberLogged old.facility w (at + 1) (log_of c.logs (at + 1)))) here.had (l.each at)
 
-  idle : IsIdle m
-  idle = subst (λ (z : Option Member). IfSome z IsIdle) here.had (given.idle at)
-
   -- ---- it goes on
   made_as : (stepped : Stepped) → Steps m u old.fates place stepped n v new.fates
       → Steps m (record { facility = old.facility; drive = u.drive }) old.fates place stepped n (record { facility = new.facility; drive = v.drive }) new.fates
   made_as stepped made = subst (λ (z : Resources). Steps m z old.fates place stepped n (record { facility = new.facility; drive = v.drive }) new.fates) f (subst (λ (z : Resources). Steps m u old.fates place stepped n z new.fates) g made)
 
   up_goes : (stepped : Stepped) → status_of old.facility.lists.statuses m.id ≡ status.Up → is_over stepped ≡ false → Steps m u old.fates place stepped n v new.fates → MovesLogged d old new w m
-  up_goes stepped up over made = record { moves = moves; logs = facts.up c d old new at m n w t steps_at (unfailed_of stepped over) told left moves l }
+  up_goes stepped up over made = record { moves = moves; logs = facts.up c d old new at m n w t steps_at (unfailed_of stepped over) told left (given.unclosed at m n steps_at) moves l }
     where
       steps_at : StepsAt old new at m n
       steps_at = record {
@@ -248,8 +300,11 @@ module _ (facts : Facts) (old new : CrewState) (w : World) (c d : Contents) (t :
       moves : Moves (OfMember m.id) old new w
       moves = facts.steps old new at m n w t steps_at
 
-  rests_at : (stepped : Stepped) → status_of old.facility.lists.statuses m.id ≡ status.Restarting → is_restart stepped ≡ false → Steps m u old.fates place stepped n v new.fates → MovesLogged d old new w m
-  rests_at stepped standing other made = record { moves = moves.moves; logs = facts.resting c d old new at m n w t steps_at idle told left moves l }
+  rests_at : (stepped : Stepped) → status_of old.facility.lists.statuses m.id ≡ status.Restarting → is_over stepped ≡ false → is_restart stepped ≡ false → Steps m u old.fates place stepped n v new.fates → MovesLogged d old new w m
+  rests_at stepped standing over other made = record {
+    moves = moves.moves;
+    logs = facts.resting c d old new at m n w t steps_at (unfailed_of stepped over) told left moves l;
+  }
     where
       steps_at : RestingStepsAt old new at m n
       steps_at = record {
@@ -271,7 +326,7 @@ module _ (facts : Facts) (old new : CrewState) (w : World) (c d : Contents) (t :
       moves = facts.rests old new at m n w t steps_at
 
   restart_goes : (stepped : Stepped) → status_of old.facility.lists.statuses m.id ≡ status.Restarting → is_over stepped ≡ false → Steps m u old.fates place stepped n v new.fates → MovesLogged d old new w m
-  restart_goes (steps.Restart s a) standing over made = record { moves = moves.moves; logs = facts.restart c d old new at m n w t steps_at told left moves (given.ups at m n steps_at) l }
+  restart_goes (steps.Restart s a) standing over made = record { moves = moves.moves; logs = facts.restart c d old new at m n w t steps_at told left moves (subst (λ (z : Option Member). IfSome z CountsLeft) here.had (given.left at)) (given.counted at m n steps_at logged.counted) l }
     where
       whole : Steps m (record { facility = old.facility; drive = u.drive }) old.fates place (steps.Restart s a) n (record { facility = new.facility; drive = v.drive }) new.fates
       whole = made_as (steps.Restart s a) made
@@ -296,8 +351,8 @@ module _ (facts : Facts) (old new : CrewState) (w : World) (c d : Contents) (t :
 
       moves : RestartMoves old new w m n s
       moves = facts.restarts old new at m n w t steps_at
-  restart_goes (steps.Sent s a) standing over made = rests_at (steps.Sent s a) standing refl made
-  restart_goes (steps.Rebuild s a) standing over made = rests_at (steps.Rebuild s a) standing refl made
+  restart_goes (steps.Sent s a) standing over made = rests_at (steps.Sent s a) standing over refl made
+  restart_goes (steps.Rebuild s a) standing over made = rests_at (steps.Rebuild s a) standing over refl made
   restart_goes steps.Failed standing over made = absurd (never over)
 
   -- ---- it fails
@@ -342,45 +397,98 @@ module _ (facts : Facts) (old new : CrewState) (w : World) (c d : Contents) (t :
       let standing : RestartStands (at + 1) m q.resources.marks = subst (λ (z : Option RestartHeld). RestartInHand (at + 1) m z) is stood.restart in
       record { own = stood.member; restart = subst (λ (z : Option RestartHeld). IfSome z (λ x. x.resources.marks.member ≡ at + 1)) (sym is) standing.member }
 
-  -- its log stays until it is read
-  unread_log : (script : Script) (begun choice : ℕ) (stepped : Stepped) → Comes script begun old.sizes choice m u old.fates place stepped n v new.fates → is_over stepped ≡ true → (q : RestartHeld) → m.restart ≡ Some q
-      → q.resources.marks.own.is_read ≡ false → q.resources.marks.log.pending ≡ [] → (x y : List ℕ) → LogGoes m stepped x y → y ≡ x
-  unread_log script begun choice (steps.Sent s a) e over q is unread waits x y h =
-      own_log s m.holds.marks.log.pending x y (is_failure a) (subst (λ (z : Option RestartHeld). IfSome z (λ p. p.resources.marks.own.is_read ≡ false → m.holds.marks.log.pending ≡ [])) is idle unread) h
-  unread_log script begun choice (steps.Restart s a) e over q is unread waits x y h =
-      let broken : Breaks m u place (steps.Restart s a) (record v { facility = u.facility }) = e.breaks (failed_so (is_failure a) over) in
-      let same : broken.makes.makes.before ≡ q = same_restart broken.makes.makes.before q (sym broken.makes.makes.had ∙ is) in
-      restart_log broken.makes.makes.before.resources.marks broken.makes.makes.happens.intent s (is_failure a) (buffer_of m.restart) x y broken.makes.makes.happens.lawful
-      (ap (λ (z : RestartHeld). z.resources.marks.own.is_read) same ∙ unread) (ap (λ (z : RestartHeld). z.resources.marks.log.pending) same ∙ waits) h
-  unread_log script begun choice (steps.Rebuild s a) e over q is unread waits x y h = h
-  unread_log script begun choice steps.Failed e over q is unread waits x y h = h
+  -- what befell its log
+  log_goes : (script : Script) (begun choice : ℕ) (stepped : Stepped) → Comes script begun old.sizes choice m u old.fates place stepped n v new.fates → (q : RestartHeld) → m.restart ≡ Some q → LogGoes m stepped (log_of c.logs (at + 1)) (log_of d.logs (at + 1))
+  log_goes script begun choice stepped e q is = (goes script begun choice stepped e (restart_numbered q is)).own (within old.members at m c.logs here.had l.there)
 
-  -- what its restart leaves has its claims
-  left_claimed : (script : Script) (begun choice : ℕ) (stepped : Stepped) → Comes script begun old.sizes choice m u old.fates place stepped n v new.fates → is_over stepped ≡ true → (q : RestartHeld) → m.restart ≡ Some q → FailsAt old new at m n
-      → LogClaimed (log_of d.logs (at + 1)) w m.id
-  left_claimed script begun choice stepped e over q is fails = subst (λ (k : ℕ). LogClaimed (log_of d.logs (at + 1)) w k) (standing.member ∙ sym stood.id) (by q.resources.marks.own.is_read refl)
+  -- as it fails that hasn't handed over
+  stops_at : (script : Script) (begun choice : ℕ) (stepped : Stepped) → Comes script begun old.sizes choice m u old.fates place stepped n v new.fates → is_over stepped ≡ true → (q : RestartHeld) → m.restart ≡ Some q
+      → (whole rest : List ℕ) → log_of c.logs (at + 1) ≡ whole ++ rest → ReadsTrue (log_of c.logs (at + 1)) q.resources.marks ⊎ (q.resources.marks.own.is_read ≡ true) → RestartOpen whole rest q.resources.marks m.holds.marks
+      → (log_of d.logs (at + 1) ≡ whole ++ rest) ⊎ ((q.resources.marks.own.is_read ≡ true) × (k : ℕ) × (log_of d.logs (at + 1) ≡ whole ++ take k q.resources.marks.log.pending))
+  stops_at script begun choice (steps.Sent s a) e over q is whole rest at_whole reads o =
+      inl (own_log s m.holds.marks.log.pending (log_of c.logs (at + 1)) (log_of d.logs (at + 1)) (is_failure a) o.idle.spelled (log_goes script begun choice (steps.Sent s a) e q is) ∙ at_whole)
+  stops_at script begun choice (steps.Rebuild s a) e over q is whole rest at_whole reads o = inl (log_goes script begun choice (steps.Rebuild s a) e q is ∙ at_whole)
+  stops_at script begun choice steps.Failed e over q is whole rest at_whole reads o = inl (log_goes script begun choice steps.Failed e q is ∙ at_whole)
+  stops_at script begun choice (steps.Restart s a) e over q is whole rest at_whole reads o = by reads
     where
       standing : RestartStands (at + 1) m q.resources.marks
       standing = subst (λ (z : Option RestartHeld). RestartInHand (at + 1) m z) is stood.restart
 
-      has : RestartLogged (log_of c.logs (at + 1)) w q.resources.marks
-      has = subst (λ (z : Option RestartHeld). IfSome z (λ x. RestartLogged (log_of c.logs (at + 1)) w x.resources.marks)) is logged.restarts
+      broken : Breaks m u place (steps.Restart s a) (record v { facility = u.facility })
+      broken = e.breaks (failed_so (is_failure a) over)
 
-      by : (b : Bool) → q.resources.marks.own.is_read ≡ b → LogClaimed (log_of d.logs (at + 1)) w q.resources.marks.member
-      by true read = facts.read (log_of c.logs (at + 1)) (log_of d.logs (at + 1)) w q.resources.marks has read standing.on
-          (subst (λ (z : Option RestartHeld). IfSome z (λ x. x.resources.marks.own.is_read ≡ true → LeavesLeft (log_of d.logs (at + 1)) x.resources.marks)) is (given.leaves at m n fails) read)
-      by false unread = subst (λ (z : List ℕ). LogClaimed z w q.resources.marks.member)
-          (sym (unread_log script begun choice stepped e over q is unread (has.reads.idle unread) (log_of c.logs (at + 1)) (log_of d.logs (at + 1))
-          ((goes script begun choice stepped e (restart_numbered q is)).own (within old.members at m c.logs here.had l.there))))
-          (facts.unread (log_of c.logs (at + 1)) w q.resources.marks has unread)
+      same : broken.makes.makes.before ≡ q
+      same = same_restart broken.makes.makes.before q (sym broken.makes.makes.had ∙ is)
+
+      has : HasLog (as_restarting u).drive q.resources.marks.member (whole ++ rest)
+      has = subst (λ (k : ℕ). HasLog (as_restarting u).drive k (whole ++ rest)) (sym standing.member) (record { contents = c; told = told; there = within old.members at m c.logs here.had l.there; log = at_whole })
+
+      -- once the log is read
+      on_disk : q.resources.marks.own.is_read ≡ true → (log_of d.logs (at + 1) ≡ whole ++ rest) ⊎ ((q.resources.marks.own.is_read ≡ true) × (k : ℕ) × (log_of d.logs (at + 1) ≡ whole ++ take k q.resources.marks.log.pending))
+      on_disk read = subst (λ (k : ℕ). (log_of d.logs k ≡ whole ++ rest) ⊎ ((q.resources.marks.own.is_read ≡ true) × (j : ℕ) × (log_of d.logs k ≡ whole ++ take j q.resources.marks.log.pending))) standing.member
+          (fails_leave facts.leave u v broken.makes.makes.before broken.makes.reached q s a d whole rest o.pend same (failed_so (is_failure a) over) broken.makes.makes.happens has o.closes read left)
+
+      by : ReadsTrue (log_of c.logs (at + 1)) q.resources.marks ⊎ (q.resources.marks.own.is_read ≡ true) → (log_of d.logs (at + 1) ≡ whole ++ rest) ⊎ ((q.resources.marks.own.is_read ≡ true) × (k : ℕ) × (log_of d.logs (at + 1) ≡ whole ++ take k q.resources.marks.log.pending))
+      by (inr read) = on_disk read
+      by (inl true_so) = elim (cases_Bool q.resources.marks.own.is_read) [
+        | inl read ↦ on_disk read
+        | inr unread ↦ inl (restart_log broken.makes.makes.before.resources.marks broken.makes.makes.happens.intent s (is_failure a) (buffer_of m.restart) (log_of c.logs (at + 1)) (log_of d.logs (at + 1)) broken.makes.makes.happens.lawful
+            (ap (λ (z : RestartHeld). z.resources.marks.own.is_read) same ∙ unread) (ap (λ (z : RestartHeld). z.resources.marks.log.pending) same ∙ true_so.idle unread) (log_goes script begun choice (steps.Restart s a) e q is) ∙ at_whole)
+      ]
+
+  -- and that has
+  left_at : (script : Script) (begun choice : ℕ) (stepped : Stepped) → Comes script begun old.sizes choice m u old.fates place stepped n v new.fates → is_over stepped ≡ true → (q : RestartHeld) → m.restart ≡ Some q
+      → (whole rest : List ℕ) → log_of c.logs (at + 1) ≡ whole ++ rest → RestartHanded whole rest q.resources.marks m.holds.marks → (log_of d.logs (at + 1) ≡ whole ++ rest) ⊎ (log_of d.logs (at + 1) ≡ whole)
+  left_at script begun choice (steps.Sent s a) e over q is whole rest at_whole o =
+      inl (own_log s m.holds.marks.log.pending (log_of c.logs (at + 1)) (log_of d.logs (at + 1)) (is_failure a) o.locked.spelled (log_goes script begun choice (steps.Sent s a) e q is) ∙ at_whole)
+  left_at script begun choice (steps.Rebuild s a) e over q is whole rest at_whole o = inl (log_goes script begun choice (steps.Rebuild s a) e q is ∙ at_whole)
+  left_at script begun choice steps.Failed e over q is whole rest at_whole o = inl (log_goes script begun choice steps.Failed e q is ∙ at_whole)
+  left_at script begun choice (steps.Restart s a) e over q is whole rest at_whole o =
+      let broken : Breaks m u place (steps.Restart s a) (record v { facility = u.facility }) = e.breaks (failed_so (is_failure a) over) in
+      let same : broken.makes.makes.before ≡ q = same_restart broken.makes.makes.before q (sym broken.makes.makes.had ∙ is) in
+      handed_left s q.resources.marks (is_failure a) (buffer_of m.restart) (log_of c.logs (at + 1)) (log_of d.logs (at + 1)) whole rest
+      (subst (λ (z : RestartHeld). FitsSent z.resources.marks s) same (fits_sent broken.makes.makes.before.resources.marks broken.makes.makes.happens.intent s broken.makes.makes.happens.lawful))
+      o.rests at_whole (log_goes script begun choice (steps.Restart s a) e q is)
 
   restart_fails : (script : Script) (begun choice : ℕ) (stepped : Stepped) → Comes script begun old.sizes choice m u old.fates place stepped n v new.fates → is_over stepped ≡ true → status_of old.facility.lists.statuses m.id ≡ status.Restarting
       → (x : Option RestartHeld) → m.restart ≡ x → MovesLogged d old new w m
   restart_fails script begun choice stepped e over standing None is = absurd (never (sym (stood.restarts (sym there ∙ standing)) ∙ ap (λ (z : Option RestartHeld). is_some z) is))
-  restart_fails script begun choice stepped e over standing (Some q) is =
-      let fails : FailsAt old new at m n = fails_at script begun choice stepped e over in
-      facts.restart_fails c d old new at m n w t fails (not_up (status_of old.facility.lists.statuses m.id) standing)
-      (one_as (at + 1) (LogGoes m stepped) AnyBytes c d (λ x y h. tt) (goes script begun choice stepped e (restart_numbered q is))) (left_claimed script begun choice stepped e over q is fails) l
+  restart_fails script begun choice stepped e over standing (Some q) is = by course.goes
+    where
+      stands : RestartStands (at + 1) m q.resources.marks
+      stands = subst (λ (z : Option RestartHeld). RestartInHand (at + 1) m z) is stood.restart
+
+      has : RestartLogged (log_of c.logs (at + 1)) w q.resources.marks
+      has = subst (λ (z : Option RestartHeld). IfSome z (λ x. RestartLogged (log_of c.logs (at + 1)) w x.resources.marks)) is logged.restarts
+
+      course : RestartCourse (log_of c.logs (at + 1)) q.resources.marks m.holds.marks
+      course = subst (λ (z : Option RestartHeld). IfSome z (λ x. RestartCourse (log_of c.logs (at + 1)) x.resources.marks m.holds.marks)) is logged.course
+
+      fails : FailsAt old new at m n
+      fails = fails_at script begun choice stepped e over
+
+      any : OneGoes (at + 1) AnyBytes c d
+      any = one_as (at + 1) (LogGoes m stepped) AnyBytes c d (λ x y h. tt) (goes script begun choice stepped e (restart_numbered q is))
+
+      down : status_of old.facility.lists.statuses m.id ≢ status.Up
+      down = not_up (status_of old.facility.lists.statuses m.id) standing
+
+      reads : (b : Bool) → q.resources.marks.own.is_read ≡ b → ReadsTrue (log_of c.logs (at + 1)) q.resources.marks ⊎ (q.resources.marks.own.is_read ≡ true)
+      reads true read = inr read
+      reads false unread = inl (subst (λ (z : List ℕ). ReadsTrue z q.resources.marks) (has.unread unread) has.reads)
+
+      handed : (x : List ℕ) → IsRest x → log_of d.logs (at + 1) ≡ course.whole ++ x → RestartHanded course.whole course.rest q.resources.marks m.holds.marks → MovesLogged d old new w m
+      handed x is_rest at_d o = facts.handed_fails c d old new at m n w course.whole x t fails down any at_d is_rest course.alike o.locked l
+
+      by : RestartOpen course.whole course.rest q.resources.marks m.holds.marks ⊎ RestartHanded course.whole course.rest q.resources.marks m.holds.marks → MovesLogged d old new w m
+      by (inl o) = facts.restart_fails c d old new at m n w t fails down any
+          (subst (λ (k : ℕ). LeftClaimed (log_of d.logs (at + 1)) w k) (stands.member ∙ sym stood.id)
+          (facts.stop course.whole course.rest (log_of d.logs (at + 1)) w q.resources.marks m.holds.marks (subst (λ (z : List ℕ). RestartLogged z w q.resources.marks) course.is has) stands.on course.alike o
+          (stops_at script begun choice stepped e over q is course.whole course.rest course.is (reads q.resources.marks.own.is_read refl) o))) l
+      by (inr o) = elim (left_at script begun choice stepped e over q is course.whole course.rest course.is o) [
+        | inl at_d ↦ handed course.rest o.is_rest at_d o
+        | inr at_d ↦ handed [] facts.nothing (at_d ∙ sym (append-nil course.whole)) o
+      ]
 
   comes : (script : Script) (begun choice : ℕ) (stepped : Stepped) → Comes script begun old.sizes choice m u old.fates place stepped n v new.fates → MovesLogged d old new w m
   comes script begun choice stepped e = elim (cases_Bool (is_over stepped)) [

@@ -1,5 +1,7 @@
 -- The log of a member that is up, behind an event of it.
-use Rattle.std.proofs.Common.{◌≡◌, ℕ, ◌+◌, ◌≤◌, refl, sym, ◌∙◌, ap, subst, arith, Bool, true, false, inl, inr, List, [], Option, Some, None}
+use Rattle.std.proofs.Common.{◌≡◌, ℕ, ◌+◌, ◌≤◌, refl, sym, ◌∙◌, ap, subst, arith, Bool, true, false, inl, inr, List, [], ◌∷◌, ◌++◌, Option, Some, None}
+use Rattle.std.specs.List.{AllByRecursion}
+use Rattle.ds_model.specs.RecordBytes.{IsAllowed}
 use Rattle.std.specs.Prelude.{◌≢◌, ◌⊎◌, ◌-◌, ◌&&◌, IfSome, nat_lt}
 use Rattle.ds_disk.specs.Contents.{Becomes, Contents, log_of}
 use Rattle.ds_model.specs.Rows.{Spot}
@@ -43,10 +45,13 @@ use Rattle.failed_logs.specs.Given.{Member}
 use Rattle.failed_logs.specs.Given.{is_failure}
 use Rattle.group_logs.specs.Changes.{MadeGo}
 use Rattle.group_logs.specs.Logs.{IsNumbered, LogGoes, OneGoes}
-use Rattle.claimed_logs.specs.Logs.{UpLogged}
-use Rattle.claimed_logs.specs.Steps.{StillLogged, UpStepsLogged}
+use Rattle.failed_logs.specs.Given.{ArePlain}
+use Rattle.claimed_logs.specs.Logs.{FrontsAlike, UpLogged}
+use Rattle.claimed_logs.specs.Steps.{PutsUnclosed, StillLogged, UpStepsLogged}
+use Rattle.claimed_logs.proofs.Alike.{Facts as AlikeFacts, fronts_forced, fronts_more}
 
 pub record Facts : Type 0 where
+  pub alike : AlikeFacts
   pub event : CountedStay
   pub reach : CountedReach
   pub more : CountedMore
@@ -89,7 +94,7 @@ rows_still s decided offer refused done place disk pend r = record {
   rows = λ id spot some changed. row_still s decided offer refused done place id spot disk (r.rows id spot some changed);
 }
 
-locked_still : (s : MarksState) (decided : List ℕ) (offer : Option Offer) (refused : Option Refused) (done : Option ℕ) (place : ℕ) (log : List ℕ) (pend : List LogRecord) → LogLocked log pend s → LogLocked log pend (telling s decided offer refused done place)
+pub locked_still : (s : MarksState) (decided : List ℕ) (offer : Option Offer) (refused : Option Refused) (done : Option ℕ) (place : ℕ) (log : List ℕ) (pend : List LogRecord) → LogLocked log pend s → LogLocked log pend (telling s decided offer refused done place)
 locked_still s decided offer refused done place log pend l = record {
   whole = l.whole;
   spelled = l.spelled;
@@ -98,7 +103,7 @@ locked_still s decided offer refused done place log pend l = record {
   locked = λ start back last. rows_still s decided offer refused done place back pend (l.locked start back last);
 }
 
-counted_still : (s : MarksState) (decided : List ℕ) (offer : Option Offer) (refused : Option Refused) (done : Option ℕ) (place counter : ℕ) → AreCounted counter s → AreCounted counter (telling s decided offer refused done place)
+pub counted_still : (s : MarksState) (decided : List ℕ) (offer : Option Offer) (refused : Option Refused) (done : Option ℕ) (place counter : ℕ) → AreCounted counter s → AreCounted counter (telling s decided offer refused done place)
 counted_still s decided offer refused done place counter a = record { last = a.last; stable = a.stable; below = a.below; once = a.once }
 
 begun_logged : (log : List ℕ) (counter : ℕ) (h : Held) (place : ℕ) → UpLogged log counter h.marks → UpLogged log counter (begun h place).marks
@@ -106,6 +111,7 @@ begun_logged log counter h place l = record {
   pend = l.pend;
   locked = locked_still h.marks [] None None None place log l.pend l.locked;
   counted = counted_still h.marks [] None None None place counter l.counted;
+  alike = l.alike;
 }
 
 told_logged : (log : List ℕ) (counter : ℕ) (h : Held) → UpLogged log counter h.marks → UpLogged log counter (told_once h).marks
@@ -113,19 +119,41 @@ told_logged log counter h l = record {
   pend = l.pend;
   locked = locked_still h.marks h.marks.trans.decided h.marks.trans.offer None None h.marks.trans.place log l.pend l.locked;
   counted = counted_still h.marks h.marks.trans.decided h.marks.trans.offer None None h.marks.trans.place counter l.counted;
+  alike = l.alike;
 }
 
 -- ---- its own event
-is_unfailed : (a : Answered) → is_failure a ≡ false → IsUnfailed a
+pub is_unfailed : (a : Answered) → is_failure a ≡ false → IsUnfailed a
 is_unfailed answered.None e = tt
 is_unfailed (answered.Reply reply) e = tt
 is_unfailed answered.Done e = tt
 is_unfailed answered.Failed e = absurd (never e)
 
-own_still : Facts → (log : List ℕ) (m mid : Member) (u v : World) (place : ℕ) (s : Sent) (a : Answered) → Acts m u place s a v mid → is_failure a ≡ false → TellsLog log u.drive m.holds.marks.member → UpLogged log u.facility.counter m.holds.marks
-    → StillLogged v.drive u.facility.counter v.facility.counter mid.holds.marks
-own_still facts log m mid u v place s a e ok tells l = subst (λ (z : Member). StillLogged v.drive u.facility.counter v.facility.counter z.holds.marks) (sym e.member)
-    (record { log = log_after (is_done a && is_append e.intent) log l.pend; tells = still.tells; logged = record { pend = pend_after (is_done a && is_append e.intent) l.pend (event_records (begun e.happens.ready place).marks e.intent e.happens.plan a); locked = still.locked; counted = counted.counted }; rises = counted.rises })
+rest_all : (xs ys : List LogRecord) → ArePlain (xs ++ ys) → ArePlain ys
+rest_all [] ys h = h
+rest_all (x ∷ xs) ys h = rest_all xs ys h.1
+
+fronts_after : AlikeFacts → (b : Bool) (log : List ℕ) (pend new : List LogRecord) (s t : MarksState) → LogLocked log pend s → AllByRecursion IsAllowed new → PutsUnclosed log s.log.pending t.log.pending
+    → LogLocked (log_after b log pend) (pend_after b pend new) t → FrontsAlike log pend → FrontsAlike (log_after b log pend) (pend_after b pend new)
+fronts_after facts true log pend new s t l allowed unclosed now alike = fronts_forced facts log pend alike
+fronts_after facts false log pend new s t l allowed unclosed now alike =
+    fronts_more facts log pend new l.whole l.allowed allowed l.plain (rest_all pend new now.plain) (unclosed pend new l.allowed allowed l.spelled now.spelled) alike
+
+own_still : Facts → (log : List ℕ) (m mid : Member) (u v : World) (place : ℕ) (s : Sent) (a : Answered) → Acts m u place s a v mid → is_failure a ≡ false → TellsLog log u.drive m.holds.marks.member
+    → PutsUnclosed log m.holds.marks.log.pending mid.holds.marks.log.pending → UpLogged log u.facility.counter m.holds.marks → StillLogged v.drive u.facility.counter v.facility.counter mid.holds.marks
+own_still facts log m mid u v place s a e ok tells unclosed l = subst (λ (z : Member). StillLogged v.drive u.facility.counter v.facility.counter z.holds.marks) (sym e.member)
+    (record {
+      log = log_after (is_done a && is_append e.intent) log l.pend;
+      tells = still.tells;
+      logged = record {
+        pend = pend_after (is_done a && is_append e.intent) l.pend (event_records (begun e.happens.ready place).marks e.intent e.happens.plan a);
+        locked = still.locked;
+        counted = counted.counted;
+        alike = fronts_after facts.alike (is_done a && is_append e.intent) log l.pend (event_records (begun e.happens.ready place).marks e.intent e.happens.plan a) m.holds.marks e.after.marks l.locked e.happens.allowed
+            (subst (λ (z : List ℕ). PutsUnclosed log m.holds.marks.log.pending z) (ap (λ (z : Member). z.holds.marks.log.pending) e.member) unclosed) still.locked l.alike;
+      };
+      rises = counted.rises;
+    })
   where
     still : LogStays (is_done a && is_append e.intent) log l.pend (event_records (begun e.happens.ready place).marks e.intent e.happens.plan a) v.drive e.after.marks
     still = facts.stay log l.pend u v m.holds e.after e.intent place s a e.happens (is_unfailed a ok) l.counted.stable tells l.locked
@@ -168,6 +196,7 @@ rebuild_still facts log m mid u v place s a e on rests one same tells l = record
     pend = now.pend;
     locked = facts.locked log now.pend (begun m.holds place).marks on.after.marks on.tells.0 now.locked;
     counted = facts.more u.facility.counter v.facility.counter on.after.marks rises (facts.reach u.facility.counter (begun m.holds place).marks on.after.marks on.tells.0 now.counted);
+    alike = now.alike;
   });
 }
   where
@@ -191,11 +220,12 @@ no_restart : (x : Option Restarting) (q : Restarting) → x ≡ None → x ≡ S
 no_restart x q none some = cc
 
 pub up_steps : Facts → UpStepsLogged
-up_steps facts log m n u v f g place (steps.Sent s a) made ok rests one same tells l =
-    entered made.mid n v.drive u.facility.counter v.facility.counter made.enters.member (own_still facts log m made.mid u v place s a made.makes ok tells l)
-up_steps facts log m n u v f g place (steps.Restart s a) made ok rests one same tells l = absurd (no_restart m.restart made.makes.makes.before rests made.makes.makes.had)
-up_steps facts log m n u v f g place (steps.Rebuild s a) made ok rests one same tells l =
+up_steps facts log m n u v f g place (steps.Sent s a) made ok rests one same tells unclosed l =
+    entered made.mid n v.drive u.facility.counter v.facility.counter made.enters.member
+    (own_still facts log m made.mid u v place s a made.makes ok tells (subst (λ (z : List ℕ). PutsUnclosed log m.holds.marks.log.pending z) (ap (λ (z : Member). z.holds.marks.log.pending) made.enters.member) unclosed) l)
+up_steps facts log m n u v f g place (steps.Restart s a) made ok rests one same tells unclosed l = absurd (no_restart m.restart made.makes.makes.before rests made.makes.makes.had)
+up_steps facts log m n u v f g place (steps.Rebuild s a) made ok rests one same tells unclosed l =
     entered made.mid n v.drive u.facility.counter v.facility.counter made.enters.member
     (rebuild_still facts log m made.mid u v place s a made.makes (subst (λ (b : Bool). RebuildEnds b made.makes.reached m place made.mid) ok made.makes.ends) rests one
     (sym (ap (λ (z : Member). z.holds.marks.member) made.enters.member) ∙ same) tells l)
-up_steps facts log m n u v f g place steps.Failed made ok rests one same tells l = absurd made.makes
+up_steps facts log m n u v f g place steps.Failed made ok rests one same tells unclosed l = absurd made.makes

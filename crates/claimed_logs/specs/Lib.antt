@@ -1,9 +1,9 @@
 pub mod Found
+pub mod Courses
 pub mod Logs
 pub mod Failing
 pub mod Beginning
 pub mod Steps
 pub mod Runs
 pub mod Events
-pub mod Leaving
 pub mod Taken

@@ -1,6 +1,7 @@
 -- The logs of a group's members on disk, beside the world of locks beside which the group stands.
-use Rattle.std.specs.Prelude.{◌≡◌, ◌≢◌, ℕ, ◌+◌, ◌≤◌, false, List, length, Some, IfSome, slice_get}
+use Rattle.std.specs.Prelude.{◌≡◌, ◌≢◌, ℕ, ◌+◌, ◌≤◌, ◌++◌, false, List, [], length, Some, IfSome, slice_get}
 use Rattle.ds_disk.specs.Contents.{Contents, log_of}
+use Rattle.ds_model.specs.RecordBytes.{log_bytes}
 use Rattle.ds_model.specs.declared.log.LogRecord.{LogRecord}
 use Rattle.facility.specs.States.{Held as Facility}
 use Rattle.list_structure.specs.declared.standing.MemberStatus.TheVariants.{Up}
@@ -14,6 +15,7 @@ use Rattle.restart_marks.specs.State.{RestartState}
 use Rattle.restart_law.specs.Opens.{FewNeeds, OpensStand}
 use Rattle.restart_law.specs.Reads.{AreLast, ReadsTrue}
 use Rattle.restart_claims.specs.Claims.{OpensClaimed}
+use Rattle.restart_closing.specs.Closing.{OpensAlike}
 use Rattle.failed_logs.specs.Given.{AllClosed}
 use Rattle.failed_logs.specs.Given.{IsDown, Member}
 use Rattle.group_core.specs.Given.{GroupFails}
@@ -21,15 +23,21 @@ use Rattle.group_core.specs.Given.{CrewState}
 use Rattle.failed_logs.specs.Given.{LogLocked}
 use Rattle.failed_logs.specs.Logs.{LogClaimed}
 use Rattle.failed_logs.specs.Given.{LocksTied}
+use Rattle.claimed_logs.specs.Courses.{LeavesAlike, RestartCourse}
 use Rattle.claimed_logs.specs.Found.{AllOpensKnown}
 
 -- ---- the log of a member
+
+-- whatever front of these records is behind it, it leaves the same open wherever reading may begin
+abbrev pub FrontsAlike : List ℕ → List LogRecord → Type 0
+FrontsAlike log pend = (front rest : List LogRecord) → pend ≡ front ++ rest → OpensAlike (log ++ log_bytes front)
 
 -- that of one that is up: wherever reading may begin, the rows of the log and of the log buffer are locked, or closed on disk
 pub record UpLogged (log : List ℕ) (counter : ℕ) (s : MarksState) : Type 0 where
   pub pend : List LogRecord
   pub locked : LogLocked log pend s
   pub counted : AreCounted counter s
+  pub alike : FrontsAlike log pend
 
 -- that of one that restarts: as long as its restart hasn't read it, it has the bytes that the restart reads
 pub record RestartLogged (log : List ℕ) (w : World) (s : RestartState) : Type 0 where
@@ -41,11 +49,19 @@ pub record RestartLogged (log : List ℕ) (w : World) (s : RestartState) : Type 
   pub claimed : OpensClaimed bytes w s
   pub unread : s.own.is_read ≡ false → bytes ≡ log
 
--- by its standing
+-- that of one that isn't live: what it leaves open has its claims, and the member itself has no transaction, and no record that waits
+pub record DownLogged (log : List ℕ) (w : World) (k : ℕ) (s : MarksState) : Type 0 where
+  pub claimed : LogClaimed log w k
+  pub leaves : LeavesAlike log
+  pub idle : LogLocked [] [] s
+
+-- by its standing; and no number that names a transaction of it is above the counter, or names two
 pub record MemberLogged (f : Facility) (w : World) (k : ℕ) (log : List ℕ) (m : Member) : Type 0 where
   pub up : status_of f.lists.statuses k ≡ Up → UpLogged log f.counter m.holds.marks
   pub restarts : IfSome m.restart (λ q. RestartLogged log w q.resources.marks)
-  pub down : is_live (status_of f.lists.statuses k) ≡ false → LogClaimed log w k
+  pub course : IfSome m.restart (λ q. RestartCourse log q.resources.marks m.holds.marks)
+  pub down : is_live (status_of f.lists.statuses k) ≡ false → DownLogged log w k m.holds.marks
+  pub counted : AreCounted f.counter m.holds.marks
 
 -- ---- those of all members, for each of which the disk has one
 

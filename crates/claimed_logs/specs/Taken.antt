@@ -1,37 +1,35 @@
 -- The logs of a group behind any event of it.
-use Rattle.std.specs.Prelude.{◌≡◌, ◌≢◌, ℕ, ◌+◌, Bool, true, false, Option, Some, IfSome, is_some, slice_get}
+use Rattle.std.specs.Prelude.{◌≡◌, ◌≢◌, ℕ, ◌+◌, Bool, false, Option, Some, IfSome, is_some, slice_get}
 use Rattle.ds_disk.specs.Contents.{Contents, log_of}
 use Rattle.ds_model.specs.declared.script.Phase.{Phase}
 use Rattle.cache_structure.specs.Directory.{Directory}
-use Rattle.list_structure.specs.declared.standing.MemberStatus.TheVariants.{Up}
-use Rattle.list_structure.specs.Standings.{status_of}
 use Rattle.lock_protocol.specs.Machine.{World}
+use Rattle.log_numbers.specs.Numbers.{AreCounted}
 use Rattle.failed_logs.specs.Given.{Member}
 use Rattle.group_core.specs.Given.{CrewState, crew_state}
 use Rattle.group_core.specs.declared.fault.RunFault.TheVariants as fault
 use Rattle.group_core.specs.declared.group.Group.{Group}
 use Rattle.group_core.specs.Takes.{Takes}
 use Rattle.failed_logs.specs.Given.{IsFor, Moves, Whose}
+use Rattle.failed_logs.specs.Given.{StepsAt}
 use Rattle.failed_logs.specs.Given.{RestartStepsAt}
 use Rattle.failed_logs.specs.Given.{LocksTied}
-use Rattle.failed_logs.specs.Given.{FailsAt}
 use Rattle.claimed_logs.specs.Beginning.{BeginKnowing, IsLog}
-use Rattle.claimed_logs.specs.Events.{IsIdle}
-use Rattle.claimed_logs.specs.Leaving.{LeavesLeft}
-use Rattle.claimed_logs.specs.Logs.{LogsClaimed, UpLogged}
+use Rattle.claimed_logs.specs.Events.{CountsLeft}
+use Rattle.claimed_logs.specs.Logs.{LogsClaimed}
+use Rattle.claimed_logs.specs.Steps.{PutsUnclosed}
 
 -- What an event takes from elsewhere, where the disk holds these before it, and those behind it. No contract says it yet.
 pub record Supplied (c d : Contents) (old new : CrewState) (w : World) : Type 0 where
   -- logs are bytes, of few records; and restarts that begin were told of whole records alone
   pub are : (at : ℕ) → IsLog (log_of c.logs (at + 1))
   pub knows : (phase : Phase) → BeginKnowing c phase old new
-  -- of the log of a member that is up by its restart
-  pub ups : (at : ℕ) (m n : Member) → RestartStepsAt old new at m n w → status_of new.facility.lists.statuses (at + 1) ≡ Up → UpLogged (log_of d.logs (at + 1)) new.facility.counter n.holds.marks
-  -- nothing waits in the own log buffer of a member that restarts, as long as its restart hasn't read its log
-  pub idle : (at : ℕ) → IfSome (slice_get old.members at) IsIdle
-  -- the log where one fails that restarts, once it is read: it leaves open what isn't over. Behind what it has handed over it isn't so, since the restart's
-  -- list is empty then and the log not closed yet: nothing is said of a member that fails there
-  pub leaves : (at : ℕ) (m n : Member) → FailsAt old new at m n → IfSome m.restart (λ q. q.resources.marks.own.is_read ≡ true → LeavesLeft (log_of d.logs (at + 1)) q.resources.marks)
+  -- a member that is up changes no row for a transaction which its log closes
+  pub unclosed : (at : ℕ) (m n : Member) → StepsAt old new at m n → PutsUnclosed (log_of c.logs (at + 1)) m.holds.marks.log.pending n.holds.marks.log.pending
+  -- a restart that counts no transaction as left has none that isn't over
+  pub left : (at : ℕ) → IfSome (slice_get old.members at) CountsLeft
+  -- no number of what a restart hands over is above the counter, or names another transaction of its member
+  pub counted : (at : ℕ) (m n : Member) → RestartStepsAt old new at m n w → AreCounted old.facility.counter m.holds.marks → AreCounted new.facility.counter n.holds.marks
 
 -- an event that isn't refused, while no group restart is in hand
 abbrev pub EventsKeep : {C D : Type 0} → (P : Type 0) → (C → Directory) → (D → Bool) → (D → Option Contents) → (D → ℕ) → Type 0

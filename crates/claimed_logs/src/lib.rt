@@ -6,12 +6,11 @@
 
 ghost use Rattle.claimed_logs.specs.Beginning.{PhasesLogged};
 ghost use Rattle.claimed_logs.specs.Events.{RestartEventsLogged, RestingEventsLogged, UpEventsLogged};
-ghost use Rattle.claimed_logs.specs.Failing.{RestartFailsLogged, UpFailsLogged};
+ghost use Rattle.claimed_logs.specs.Failing.{HandedFailsLogged, RestartFailsLogged, RestartsStop, UpFailsLogged};
 ghost use Rattle.claimed_logs.specs.Found.{AdoptionsFound};
-ghost use Rattle.claimed_logs.specs.Leaving.{ReadLeaves, UnreadLeaves};
 ghost use Rattle.claimed_logs.specs.Logs.{FreshLogged, GroupFailsLogged, LogsKnow, OneLogged};
 ghost use Rattle.claimed_logs.specs.Runs.{KnowingRunsStand};
-ghost use Rattle.claimed_logs.specs.Steps.{HandedLogged, RestartStepsLogged, UpStepsLogged};
+ghost use Rattle.claimed_logs.specs.Steps.{CourseEnds, CourseHands, CourseSteps, EndsTell, HandedLogged, RestartStepsLogged, RestingStays, UpStepsLogged};
 ghost use Rattle.claimed_logs.specs.Taken.{EventsKeep};
 
 use adopted_claims::adopted_have_claims;
@@ -19,13 +18,17 @@ use cache_structure::CacheFace;
 use ds_disk::Disk;
 use failed_logs::{
     claims_stay as logs_stay_claimed, failures_claim, groups_go, groups_run, logs_stay_locked,
-    member_restarts_go, member_steps_go, members_go, moves_spare, phases_go, resting_members_go,
+    logs_taken_over, member_restarts_go, member_steps_go, members_go, moves_spare, phases_go,
+    resting_members_go,
 };
 use group_logs::members_log;
-use lock_restarts::restarts_follow;
+use lock_restarts::{restarts_follow, sends_lawfully};
+use log_appends::{appends_tell, rests_tell};
 use log_numbers::{commands_count, numbers_stay};
-use log_rows::open_trans_tell;
-use restart_claims::{claims_stay, claims_tell};
+use log_opens::opens_are_all;
+use log_rows::{both_tell, open_trans_tell};
+use restart_claims::{claims_stay, claims_tell, restarts_close_truly, stops_are_claimed};
+use restart_closing::{failures_leave, restarts_close, restarts_rest};
 use restart_law::{lists_go, opens_stay, reads_true};
 
 /// Where each restart in hand that has read its log knows that what it has left open has its claims, the claims are there that its member
@@ -56,7 +59,11 @@ pub fn logs_claimed()
     ensures fails { GroupFailsLogged }
     ensures one { OneLogged }
 {
+    appends_tell();
+    rests_tell();
+    both_tell();
     open_trans_tell();
+    opens_are_all();
     logs_stay_locked();
     numbers_stay();
     claims_stay();
@@ -72,25 +79,41 @@ pub fn phases_logged()
     reads_true();
     claims_stay();
     numbers_stay();
+    restarts_close();
 }
 
 /// Where a member fails that was up, moves of it lead to a world in which it is so again, whatever of the log buffer is on disk then; and so
-/// where one fails that restarts, if its log as it is left has its claims.
+/// where one fails that restarts, if its log as it is left has its claims, or the rows of it are locked, as they are once the restart has handed
+/// over.
 pub fn failures_logged()
     ensures up { UpFailsLogged }
     ensures restart { RestartFailsLogged }
+    ensures handed { HandedFailsLogged }
 {
+    appends_tell();
+    rests_tell();
+    both_tell();
+    open_trans_tell();
+    opens_are_all();
+    numbers_stay();
+    logs_stay_locked();
     logs_claimed();
     moves_spare();
     failures_claim();
 }
 
-/// So its log has its claims where a restart fails that hasn't read it; and behind that, where the rows of what the log leaves open are those
-/// of the restart's transactions that aren't over.
-pub fn restarts_leave()
-    ensures unread { UnreadLeaves }
-    ensures read { ReadLeaves }
-{}
+/// So its log has its claims where a restart fails that hasn't handed over, whatever of its log buffer is on disk then, and whether it has read
+/// the log or not.
+pub fn restarts_stop()
+    ensures { RestartsStop }
+{
+    appends_tell();
+    rests_tell();
+    both_tell();
+    open_trans_tell();
+    opens_are_all();
+    stops_are_claimed();
+}
 
 /// It stays so of the log of a member that is up, behind an event of it; and of one that restarts, also behind what it hands over.
 pub fn steps_logged()
@@ -98,6 +121,11 @@ pub fn steps_logged()
     ensures restart { RestartStepsLogged }
     ensures handed { HandedLogged }
 {
+    appends_tell();
+    rests_tell();
+    both_tell();
+    open_trans_tell();
+    opens_are_all();
     members_log();
     logs_stay_locked();
     numbers_stay();
@@ -109,14 +137,46 @@ pub fn steps_logged()
     claims_tell();
 }
 
-/// So the logs of all members stay claimed behind an event of one that is up, and behind one of a member that restarts, in which no call of the
-/// disk fails: of the restart given that the rows of its member's log are locked, where the member is up by it, and of the others given that
-/// nothing waits in the member's own log buffer as long as its restart hasn't read the log.
+/// What a restart has taken back is closed in the log on disk, and the log leaves open what the restart does; once it has handed over, or has
+/// nothing left, the rows of the log are locked, and the member holds what it needs for it. Its own other events change nothing of that, if
+/// it puts no record.
+pub fn courses_go()
+    ensures steps { CourseSteps }
+    ensures hands { CourseHands }
+    ensures ends { CourseEnds }
+    ensures tell { EndsTell }
+    ensures rests { RestingStays }
+{
+    appends_tell();
+    rests_tell();
+    both_tell();
+    open_trans_tell();
+    opens_are_all();
+    sends_lawfully();
+    restarts_close_truly();
+    restarts_rest();
+    logs_taken_over();
+    logs_stay_locked();
+    numbers_stay();
+    commands_count();
+}
+
+/// So the logs of all members stay claimed behind an event of one that is up, if it changes no row for a transaction which its log closes; and
+/// behind one of a member that restarts, in which no call of the disk fails: of the restart if it counts no transaction as left where each is
+/// over, and the numbers stay counted of what it hands over.
 pub fn events_logged()
     ensures up { UpEventsLogged }
     ensures restart { RestartEventsLogged }
     ensures resting { RestingEventsLogged }
 {
+    appends_tell();
+    rests_tell();
+    both_tell();
+    open_trans_tell();
+    opens_are_all();
+    logs_stay_locked();
+    lists_go();
+    courses_go();
     logs_claimed();
     steps_logged();
     moves_spare();
@@ -143,5 +203,7 @@ pub fn events_keep<D: Disk, C: CacheFace, P>()
     phases_logged();
     events_logged();
     failures_logged();
-    restarts_leave();
+    restarts_stop();
+    failures_leave();
+    rests_tell();
 }

@@ -1,6 +1,7 @@
 -- The claims of what a log leaves open, behind a failure.
 use Rattle.std.proofs.Common.{◌≡◌, ℕ, sym, subst, List, [], ◌∷◌, ◌++◌, take, Option}
 use Rattle.std.specs.List.{AllByRecursion}
+use Rattle.std.proofs.lemmas.List.{append-nil}
 use Rattle.ds_model.specs.Rows.{Spot}
 use Rattle.ds_model.specs.declared.log.LogRecord.{LogRecord}
 use Rattle.lock_names.specs.declared.mode.Mode.{Mode}
@@ -16,7 +17,7 @@ use Rattle.log_appends.specs.Appends.{AreLastFrom}
 use Rattle.left_open.specs.Logs.{HasAllLocked, LeftIsLocked}
 use Rattle.group_locks.specs.Events.{MovesSpare}
 use Rattle.failed_logs.specs.Failures.{ClaimsKept, DownHandsOver, RowsClaimed, UpHandsOver}
-use Rattle.failed_logs.specs.Logs.{FailsClaimed, FailsUnread, LogClaimed, MovesLeaveClaimed}
+use Rattle.failed_logs.specs.Logs.{FailsClaimed, FailsLocked, FailsUnread, LogClaimed, MovesLeaveClaimed}
 
 each : {A : Type 0} → (P Q : A → Type 0) → ((x : A) → P x → Q x) → (xs : List A) → AllByRecursion P xs → AllByRecursion Q xs
 each P Q go [] h = tt
@@ -46,6 +47,19 @@ fails_unread keeps old new at m n w bytes t f not_up claimed = record { moves = 
 
     still : LogClaimed bytes kept.claimed.moves.world m.id
     still records last = each (HasRows w m.id) (HasRows kept.claimed.moves.world m.id) (λ x h spot touched. kept.kept (rollback_owner x.id) spot (h spot touched)) (open_trans records) (claimed records last)
+
+pub fails_locked : DownHandsOver → LeftIsLocked → FailsLocked
+fails_locked keeps locked old new at m n w log t f not_up l = record { moves = over.moves; claimed = claimed }
+  where
+    over : RowsClaimed old new w m
+    over = (keeps old new at m n w t f not_up).claimed
+
+    has : (x : OpenTran) → HasAllLocked m.holds.marks x → HasRows over.moves.world m.id x
+    has x h spot touched = over.rows x.id spot h.named (h.rows spot touched)
+
+    claimed : LogClaimed log over.moves.world m.id
+    claimed records last = each (HasAllLocked m.holds.marks) (HasRows over.moves.world m.id) has (open_trans records)
+        (locked log [] m.holds.marks 0 last.start records l (subst (λ (z : List ℕ). AreLastFrom z last.start records) (sym (append-nil log)) (last_from log records last)))
 
 -- ---- other moves
 same_row : (w v : World) (m owner : ℕ) (spot : Spot) → ((o c : ℕ) → v.claims m o c ≡ w.claims m o c) → HasRow w m owner spot → HasRow v m owner spot

@@ -9,11 +9,15 @@ pub use Rattle.group_locks.specs.Runs.{AllEvents, AreCounted, IsSafe, StandsBesi
 pub use Rattle.group_locks.specs.Given.{KnowsOwn, LeadsTo, MemberIsUp, StepsGo}
 pub use Rattle.group_locks.specs.Adopting.{HaveClaimed, rows_of}
 pub use Rattle.left_open.specs.Given.{AllClosed, SlotsStand, HasLocked, IsTaken, name_of, IsUnfailed, RowsLocked}
+pub use Rattle.closing_law.specs.Closing.{ArePlain, is_checkpoint}
 pub use Rattle.left_open.specs.Logs.{LogLocked, TellsLog, LockedBegins, LockedReaches, LockedStay, LogStays, log_after, pend_after}
 pub use Rattle.group_member.specs.Members.{Member, IsDown, member_of}
 pub use Rattle.group_member.specs.Stepping.{has_failed, is_failure, is_fail, is_over}
 pub use Rattle.group_member.specs.declared.stepped.Stepped.{Stepped}
-pub use Rattle.group_member.specs.Happening.{Steps, GoesOn, RestartEnds, RestartGoesOn, as_restarting, Acts, RebuildEnds, RebuildGoesOn, Rebuilds, Restarts, Takes, Makes, as_rebuilding, Breaks, Comes, RestartSent}
+pub use Rattle.marks_law.specs.Free.{FreeHoldNothing}
+pub use Rattle.group_member.specs.Adopting.{AdoptsAll}
+pub use Rattle.group_member.specs.Resting.{NoneInSlots}
+pub use Rattle.group_member.specs.Happening.{AdoptsLeft, Steps, GoesOn, RestartEnds, RestartGoesOn, as_restarting, Acts, RebuildEnds, RebuildGoesOn, Rebuilds, Restarts, Takes, Makes, as_rebuilding, Breaks, Comes, RestartSent}
 pub use Rattle.group_member.specs.declared.restarting.Restarting.{Restarting}
 pub use Rattle.group_member.specs.Entering.{told_once}
 pub use Rattle.group_locks.specs.Resting.{RestingMoves, RestingStepsAt, is_restart, RestingStepsMove}

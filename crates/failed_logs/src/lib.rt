@@ -9,7 +9,9 @@ ghost use Rattle.failed_logs.specs.Failures.{DownHandsOver, UpHandsOver};
 ghost use Rattle.failed_logs.specs.Logs.{
   BeginsClaimed,
   FailsClaimed,
+  FailsLocked,
   FailsUnread,
+  IdleTakesOver,
   MovesLeaveClaimed,
   TakenOverLocked,
 };
@@ -51,10 +53,12 @@ pub fn failures_keep()
 }
 
 /// Behind the failure of a member that was up each transaction that the last records of its log leave open has its claims, whatever of the log
-/// buffer is on disk then; and it still has them where the member fails again before its restart has changed the log.
+/// buffer is on disk then; and it still has them where the member fails again before its restart has changed the log, or once it has taken over
+/// what its restart has left open.
 pub fn failures_claim()
     ensures up { FailsClaimed }
     ensures unread { FailsUnread }
+    ensures locked { FailsLocked }
 {
     failures_hand_over();
     failures_keep();
@@ -70,9 +74,11 @@ pub fn claims_stay()
     claims_tell();
 }
 
-/// Once the member has taken over what its restart has left open, the rows of its log are locked again, wherever reading may begin.
+/// Once the member has taken over what its restart has left open, the rows of its log are locked again, wherever reading may begin; so they
+/// are where it had no transaction before, and takes over all that the log leaves open.
 pub fn logs_taken_over()
-    ensures { TakenOverLocked }
+    ensures taken { TakenOverLocked }
+    ensures idle { IdleTakesOver }
 {
     appends_tell();
     rows_taken_over();

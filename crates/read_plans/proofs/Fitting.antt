@@ -79,10 +79,10 @@ turn_queues logs others turned us h = λ m t. turn_queue logs others m t (filter
 
 -- ---- logs that have just the records that were read
 
-abbrev alone : Log → Log
+abbrev pub alone : Log → Log
 alone read = record { member = read.member; records = read.records; length = length (log_bytes read.records); tail = 0 }
 
-abbrev bytes_alone : Log → List ℕ
+abbrev pub bytes_alone : Log → List ℕ
 bytes_alone read = log_bytes read.records
 
 are_alone : (member : ℕ) (bytes : List (List ℕ)) (logs reads : List Log) → AreWholeLogs member bytes logs → AreSoundReads logs reads → AreWholeLogs member (map bytes_alone reads) (map alone reads)
@@ -121,7 +121,7 @@ alone_transactions reads h = record {
   follow = alone_follow reads h.follow;
 }
 
-alone_opened : (o : Opened) (reads : List Log) → with_logs o (map alone reads) ≡ with_logs o reads
+pub alone_opened : (o : Opened) (reads : List Log) → with_logs o (map alone reads) ≡ with_logs o reads
 alone_opened o [] = refl
 alone_opened o (r ∷ rs) = alone_opened (with_log o r) rs
 
@@ -129,17 +129,17 @@ alone_have : (reads : List Log) (m : ℕ) → has_log (map alone reads) m ≡ ha
 alone_have [] m = refl
 alone_have (r ∷ rs) m = ap (λ (b : Bool). (r.member == m) || b) (alone_have rs m)
 
-alone_records : (reads : List Log) (m : ℕ) → records_for (map alone reads) m ≡ records_for reads m
+pub alone_records : (reads : List Log) (m : ℕ) → records_for (map alone reads) m ≡ records_for reads m
 alone_records [] m = refl
 alone_records (r ∷ rs) m = ap (λ (xs : List LogRecord). cond (r.member == m) r.records xs) (alone_records rs m)
 
 -- ---- the plan of what was read
 
 module _ (told : CoursesAreRead) (apart : ReadsStandApart) (c : Contents) (logs reads : List Log) (h : IsSoundWith c logs) (are : AreReadOf logs reads) where
-  whole_alone : AreWholeLogs 1 (map bytes_alone reads) (map alone reads)
+  pub whole_alone : AreWholeLogs 1 (map bytes_alone reads) (map alone reads)
   whole_alone = are_alone 1 c.logs logs reads h.whole_logs (all_sound 1 c.logs logs reads h.whole_logs h.transactions.follow are)
 
-  fit_alone : AreTransactions (map alone reads)
+  pub fit_alone : AreTransactions (map alone reads)
   fit_alone = alone_transactions reads (apart c logs h reads are)
 
   alone_turned : (m t : ℕ) → IsTurned (map alone reads) logs m t

@@ -5,3 +5,4 @@ pub mod Members
 pub mod Fitting
 pub mod Ends
 pub mod Beginning
+pub mod Taken

@@ -42,7 +42,7 @@ free_stays c (r ∷ rs) a =
 -- ---- one log
 
 -- a transaction of which these speak has no record in the front
-away_of : (t : ℕ) (front rs : List LogRecord) → (t == 0) ≡ false → AllByRecursion (IsAway front) rs → speak_of t rs ≡ true → speak_of t front ≡ false
+pub away_of : (t : ℕ) (front rs : List LogRecord) → (t == 0) ≡ false → AllByRecursion (IsAway front) rs → speak_of t rs ≡ true → speak_of t front ≡ false
 away_of t front [] some away is = absurd cc
 away_of t front (r ∷ rs) some away is =
     elim (or_cases (r.tran == t) (speak_of t rs) is) as (λ _. speak_of t front ≡ false) [

@@ -17,6 +17,7 @@ use Rattle.group_restart.specs.Course.{plan_read, begin_undo}
 use Rattle.sound_disk.specs.Laws.{records_of}
 use Rattle.sound_disk.specs.Sound.{IsSoundWith}
 use Rattle.sound_plans.specs.Courses.{IsDue}
+use Rattle.sound_plans.specs.Ends.{ToEnd, EndAll}
 use Rattle.sound_plans.specs.Queues.{has_log, records_for, length_for, ClosingsFit, QueueFits}
 use Rattle.sound_reads.specs.Reads.{AreReadOf}
 
@@ -78,4 +79,4 @@ pub record GoesBy (p : Plan) (h : Restart) : Type 0 where
   pub number : h.plan.greatest.lrsn ≡ p.greatest.lrsn
 
 abbrev pub UndoOfReadBegins : Type 0
-UndoOfReadBegins = (c : Contents) (logs reads : List Log) (h : Restart) → IsSoundWith c logs → AreReadOf logs reads → GoesBy (plan_read reads) h → IsDue (begin_undo h) logs
+UndoOfReadBegins = (ts : ToEnd) (c : Contents) (logs reads : List Log) (h : Restart) → IsSoundWith c logs → AreReadOf logs reads → GoesBy (plan_read reads) h → EndAll ts (plan_read reads).closings (plan_read reads).undo logs → IsDue ts (begin_undo h) logs

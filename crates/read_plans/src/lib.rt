@@ -4,6 +4,7 @@
 #![tactic(auto)]
 
 ghost use Rattle.read_plans.specs.Courses.{CoursesAreRead, EndedIsSettled};
+ghost use Rattle.read_plans.specs.Ends.{OpensAreTaken};
 ghost use Rattle.read_plans.specs.Fits.{ClosingsReadFit, EndingsReadFit, EndsAreKnown, EndsAreRead, FitsGoOn, NumberIsRead, QueueReadFits, TailsAreRead, UndoOfReadBegins};
 
 /// A transaction no row change of which is open has a Commit, or nothing of it is left to be undone.
@@ -22,10 +23,13 @@ pub fn read_course_laws()
 }
 
 /// So the closings and the queue of the plan of what was read fit the logs whole; and then they fit all logs with the same records.
+/// Each transaction that a log leaves open, with neither a Commit nor an Ended, is closed by that plan, or a change of it is undone;
+/// or it was left out: none of its records stands behind the Checkpoint from which the log was read.
 pub fn fit_laws()
     ensures closings { ClosingsReadFit }
     ensures queue { QueueReadFits }
     ensures same { FitsGoOn }
+    ensures opens { OpensAreTaken }
 {
     read_course_laws();
     sound_reads::read_laws();

@@ -98,22 +98,22 @@ none_weighs = refl
 put_weighs : (k : ℕ) (v : Course) (es : List (ℕ × Course)) → T (is_sorted nat_cmp es) → Adds k v es → total (put nat_cmp k v es) ≤ total es + 1
 unfolding total
 put_weighs k v [] sorted adds = let none = none_weighs in omega (arith, none, adds)
-put_weighs k v (e ∷ es) sorted adds = by (nat_cmp k e.0) refl
+put_weighs k v (e ∷ es) sorted adds = by (put_weighs k v es (second _ _ sorted)) (nat_cmp k e.0) refl
   where
     found : (b : Bool) → eq_by_cmp nat_cmp k e.0 ≡ b → Adds k v (e ∷ es) → weight v ≤ weight (course_of (cond b (Some e.1) (find nat_cmp k es))) + 1
     found b is a = subst (λ (z : Bool). weight v ≤ weight (course_of (cond z (Some e.1) (find nat_cmp k es))) + 1) is a
 
-    by : (o : Ordering) → nat_cmp k e.0 ≡ o → total (by_order o ((k, v) ∷ e ∷ es) ((e.0, v) ∷ es) (e ∷ put nat_cmp k v es)) ≤ total (e ∷ es) + 1
-    by Less is =
+    by : (Adds k v es → total (put nat_cmp k v es) ≤ total es + 1) → (o : Ordering) → nat_cmp k e.0 ≡ o → total (by_order o ((k, v) ∷ e ∷ es) ((e.0, v) ∷ es) (e ∷ put nat_cmp k v es)) ≤ total (e ∷ es) + 1
+    by on Less is =
         let under : k < e.0 = ranked k e.0 Less (sym is) in
         let nothing : find nat_cmp k es ≡ None = none_found k e.0 es under (first _ _ sorted) in
         let light : weight v ≤ weight (course_of (find nat_cmp k es)) + 1 = found false (ap is_eq is) adds in
         let same : weight (course_of (find nat_cmp k es)) ≡ 0 = ap (λ (z : Option Course). weight (course_of z)) nothing ∙ none_weighs in
         omega (arith, light, same)
-    by Equal is = let light : weight v ≤ weight e.1 + 1 = found true (ap is_eq is) adds in omega (arith, light)
-    by Greater is =
+    by on Equal is = let light : weight v ≤ weight e.1 + 1 = found true (ap is_eq is) adds in omega (arith, light)
+    by on Greater is =
         let light : weight v ≤ weight (course_of (find nat_cmp k es)) + 1 = found false (ap is_eq is) adds in
-        let rest : total (put nat_cmp k v es) ≤ total es + 1 = put_weighs k v es (second _ _ sorted) light in
+        let rest : total (put nat_cmp k v es) ≤ total es + 1 = on light in
         omega (arith, rest)
 
 record_weighs : (cs : Courses) (r : LogRecord) → total (entries (with_record cs r)) ≤ total (entries cs) + 1
@@ -189,6 +189,7 @@ few_behind most r n (Err at) few = tt
 few_from : (count : ℕ) (read_on : List ℕ → Result Parts ℕ) (bytes : List ℕ) → ((rest : List ℕ) → Few count (read_on rest)) → (x : Result (LogRecord × ℕ) RecordFault) → Few (suc count) (parts_from read_on bytes x)
 few_from count read_on bytes few (Ok (r, n)) = few_behind count r n (read_on (drop n bytes)) (few (drop n bytes))
 few_from count read_on bytes few (Err fault.NotWhole) = omega arith
+few_from count read_on bytes few (Err fault.NoMemory) = omega arith
 few_from count read_on bytes few (Err (fault.Bad at)) = tt
 
 few_up_to : (count : ℕ) (bytes : List ℕ) → Few count (parts_up_to count bytes)

@@ -1,7 +1,10 @@
 pub mod Counting
 pub mod Planned
-pub mod Steps
 pub mod Rows
+pub mod Closed
+pub mod Closes
+pub mod Kept
+pub mod Steps
 pub mod Numbered
 pub mod Runs
 pub mod Disks

@@ -19,7 +19,7 @@ use Rattle.disk_restart.proofs.Whole.{ReadsSound}
 
 -- ---- what tells of rows
 
-abbrev tells_body : Body → Bool
+abbrev pub tells_body : Body → Bool
 tells_body (body.RowChange change) = true
 tells_body (body.Compensation change undone) = false
 tells_body (body.System patches) = false
@@ -31,10 +31,10 @@ tells_body body.RestartEnd = false
 abbrev tells : LogRecord → Bool
 tells r = tells_body r.body
 
-abbrev telling : List LogRecord → List LogRecord
+abbrev pub telling : List LogRecord → List LogRecord
 telling rs = filter tells rs
 
-no_commit : (b : Body) → tells_body b ≡ false → is_commit b ≡ false
+pub no_commit : (b : Body) → tells_body b ≡ false → is_commit b ≡ false
 no_commit (body.RowChange change) e = refl
 no_commit (body.Compensation change undone) e = refl
 no_commit (body.System patches) e = refl
@@ -137,7 +137,7 @@ commit_if : (b : Bool) (r : LogRecord) (us : List LogRecord) (tran : ℕ) → te
 commit_if true r us tran e = refl
 commit_if false r us tran e = ap (λ (c : Bool). (c && (r.tran == tran)) || has_commit us tran) (sym (no_commit r.body e))
 
-commits_told : (rs : List LogRecord) (tran : ℕ) → has_commit (telling rs) tran ≡ has_commit rs tran
+pub commits_told : (rs : List LogRecord) (tran : ℕ) → has_commit (telling rs) tran ≡ has_commit rs tran
 commits_told [] tran = refl
 commits_told (r ∷ rs) tran = commit_if (tells_body r.body) r (telling rs) tran refl ∙ ap (λ (b : Bool). (is_commit r.body && (r.tran == tran)) || b) (commits_told rs tran)
 
@@ -179,10 +179,10 @@ same_told rs ss e = sym (lasting_tells 0 rs) ∙ ap telling e ∙ lasting_tells 
 abbrev together : List (List LogRecord) → List LogRecord
 together lists = flat_map (λ (l : List LogRecord). l) lists
 
-abbrev Keep : List (List ℕ) → List (List ℕ) → Type 0
+abbrev pub Keep : List (List ℕ) → List (List ℕ) → Type 0
 Keep before after = (i : ℕ) → lasting (get_or after i []) ≡ lasting (get_or before i [])
 
-told_first : ReadsSound → (b d : List ℕ) (r s : List LogRecord) → IsLog b r → IsLog d s → lasting d ≡ lasting b → telling s ≡ telling r
+pub told_first : ReadsSound → (b d : List ℕ) (r s : List LogRecord) → IsLog b r → IsLog d s → lasting d ≡ lasting b → telling s ≡ telling r
 told_first sound b d r s is now same =
     let one : lasting d ≡ Ok (lasting_among s) = ap lasting_in (sound d s now) in
     let two : lasting b ≡ Ok (lasting_among r) = ap lasting_in (sound b r is) in
@@ -204,7 +204,7 @@ told_all sound (b ∷ bs) (d ∷ ds) (r ∷ rs) (s ∷ ss) are now as_many keep 
     ∙ ap (λ (l : List LogRecord). telling r ++ l) (told_all sound bs ds rs ss are.1 now.1 less (λ i. keep (suc i)))
     ∙ sym (filter-append tells r (together rs))
 
-by_place : (c d : Contents) → KeepsRecords c d → Keep c.logs d.logs
+pub by_place : (c d : Contents) → KeepsRecords c d → Keep c.logs d.logs
 by_place c d keeps i =
     let there : suc i - 1 ≡ i = omega arith in
     subst (λ (k : ℕ). lasting (get_or d.logs k []) ≡ lasting (get_or c.logs k [])) there (keeps (suc i))

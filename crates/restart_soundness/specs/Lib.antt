@@ -1,2 +1,4 @@
 pub mod Soundness
+pub mod Left_out
 pub mod Runs
+pub mod Closing

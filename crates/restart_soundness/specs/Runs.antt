@@ -1,5 +1,5 @@
 -- A whole run of a group restart over a sound disk: what it leaves, wherever it ends.
-use Rattle.std.specs.Prelude.{◌≡◌, ℕ, Bool, true, false, List, length, Option, Some, Result, IfOk}
+use Rattle.std.specs.Prelude.{◌≡◌, ◌≢◌, ◌⊎◌, ℕ, Bool, true, false, List, length, Option, Some, Result, IfOk}
 use Rattle.std.specs.List.{AllByRecursion}
 use Rattle.ds_base.specs.declared.fault.NoMemory.{NoMemory}
 use Rattle.ds_base.specs.declared.names.PageId.{PageId}
@@ -7,8 +7,9 @@ use Rattle.ds_disk.specs.Contents.{Contents, Becomes}
 use Rattle.ds_disk.specs.Pages.{AreBytes, PagesAreBytes, page_at}
 use Rattle.ds_model.specs.declared.log.LogRecord.{LogRecord}
 use Rattle.ds_model.specs.Logs.{StandFor}
-use Rattle.ds_model.specs.Rows.{Rows}
+use Rattle.ds_model.specs.Rows.{Rows, Spot}
 use Rattle.log_record.specs.declared.log.Log.{Log}
+use Rattle.log_rows.specs.Rows.{has_changed, is_closed}
 use Rattle.log_trans.specs.Numbers.{greatest}
 use Rattle.log_merge.specs.Merging.{all_records}
 use Rattle.restart_plan.specs.Renewal.{must_renew}
@@ -17,14 +18,18 @@ use Rattle.group_restart.specs.declared.calls.State.TheVariants as state
 use Rattle.group_restart.specs.Disk.{Drive}
 use Rattle.group_restart.specs.Machine.{Restart}
 use Rattle.group_restart.specs.Course.{IsBegun}
+use Rattle.disk_restart.specs.Keeping.{KeepsRecords}
 use Rattle.disk_restart.specs.Runs.{IsRun, RestartsDisk}
 use Rattle.sound_disk.specs.Settled.{is_row_change, is_settled, has_ended}
 use Rattle.sound_disk.specs.Sound.{IsSoundWith, IsSoundDisk}
 use Rattle.sound_disk.specs.Versions.{last_images}
+use Rattle.sound_disk.specs.Whole_logs.{AreWholeLogs}
 use Rattle.sound_appends.specs.Laws.{HaveNoTails}
 use Rattle.sound_plans.specs.Queues.{records_for}
 use Rattle.sound_restarts.specs.Redo.{OldAreNumbered, with_page}
+use Rattle.read_plans.specs.Ends.{IsLeftOut}
 use Rattle.sound_steps.specs.Given.{NoneIsOld, IsLeftSound}
+use Rattle.restart_soundness.specs.Left_out.{LeavesOutClosed}
 
 -- ---- what a run leaves
 
@@ -32,29 +37,41 @@ use Rattle.sound_steps.specs.Given.{NoneIsOld, IsLeftSound}
 abbrev pub KeepsRows : Contents → Contents → Type 0
 KeepsRows c d = (rows : Rows) → StandFor c.logs rows → StandFor d.logs rows
 
--- the disk is sound, and nothing is left to be restarted: no row change is open, no log has a tail, each page is as all records leave it, and none is
--- of version 1. This is the greatest number of the logs
-pub record IsAtRest (counter : ℕ) (d : Contents) : Type 0 where
+-- the member's log on the disk has neither a Commit nor an Ended of the transaction, and it may be read from a Checkpoint on behind which none of its
+-- records stands
+pub record IsUnread (c : Contents) (member tran : ℕ) : Type 0 where
+  pub logs : List Log
+  pub whole : AreWholeLogs 1 c.logs logs
+  pub unclosed : is_closed (records_for logs member) tran ≡ false
+  pub out : IsLeftOut (records_for logs member) tran
+
+-- The disk is sound, and nothing is left to be restarted: no row change is open, no log has a tail, each page is as all records leave it, and none is
+-- of version 1. Each transaction that has changed a row has a Commit or an Ended, but for one that was rolled back whole before the Checkpoint from
+-- which the log of this disk was read when the restart began. This is the greatest number of the logs.
+pub record IsAtRest (c : Contents) (counter : ℕ) (d : Contents) : Type 0 where
   pub logs : List Log
   pub sound : IsSoundWith d logs
   pub ended : (member tran : ℕ) → has_ended (records_for logs member) tran ≡ true
+  pub closed : (member tran : ℕ) (spot : Spot) → tran ≢ 0 → has_changed (records_for logs member) tran spot ≡ true → (is_closed (records_for logs member) tran ≡ true) ⊎ IsUnread c member tran
   pub no_tails : HaveNoTails logs
   pub pages : (id : PageId) → page_at d.pages id ≡ last_images logs id
   pub none_old : NoneIsOld d
   pub number : counter ≡ greatest (all_records logs)
 
 -- where all is done, the disk is at rest; no damage is named
-abbrev pub EndsWith : State → Contents → Type 0
-EndsWith state.Going d = Unit {0}
-EndsWith (state.Done counter) d = IsAtRest counter d
-EndsWith (state.Damaged volume at) d = ⊥
-EndsWith state.Failed d = Unit {0}
+abbrev pub EndsWith : Contents → State → Contents → Type 0
+EndsWith c state.Going d = Unit {0}
+EndsWith c (state.Done counter) d = IsAtRest c counter d
+EndsWith c (state.Damaged volume at) d = ⊥
+EndsWith c state.Failed d = Unit {0}
 
--- whatever the end, the disk is sound, with the same rows
+-- whatever the end, the disk is sound, with the same lasting records and the same rows; and what is left out of its logs is closed, if it was
 pub record IsLeft (result : Result State NoMemory) (c d : Contents) : Type 0 where
   pub sound : IsLeftSound d
+  pub keeps : KeepsRecords c d
   pub rows : KeepsRows c d
-  pub ends : IfOk result (λ s. EndsWith s d)
+  pub ends : IfOk result (λ s. EndsWith c s d)
+  pub closed : LeavesOutClosed c → LeavesOutClosed d
 
 -- ---- laws
 

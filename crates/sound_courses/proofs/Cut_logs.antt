@@ -14,6 +14,7 @@ use Rattle.restart_plan.specs.Renewal.{asks_renewal, must_renew}
 use Rattle.restart_plan.specs.Tails.{tail_of, tails_of}
 use Rattle.sound_appends.specs.Laws.{HaveNoTails}
 use Rattle.sound_disk.specs.Laws.{last_number, with_tail}
+use Rattle.sound_plans.specs.Ends.{ToEnd, EndAll}
 use Rattle.sound_plans.specs.Opens.{course_of}
 use Rattle.sound_plans.specs.Queues.{has_log, records_for, CanClose, ClosingsFit, IsOwnChange, IsQueueOf, is_of, undos, IsSettled, QueueFits}
 
@@ -123,3 +124,12 @@ queue_still logs others us a fits = λ m t. elim (fits m t) [
   | inl e ↦ inl (e.0, settled_still logs others m t a e.1)
   | inr q ↦ inr (queue_of_still logs others m t (filter (is_of m t) us) a q)
 ]
+
+pub takes_still : (ts : ToEnd) (logs others : List Log) (cs : List Closing) (us : List Undo) → AreAlike logs others → EndAll ts cs us logs → EndAll ts cs us others
+takes_still ts logs others cs us a h = record {
+  each = λ m t is. elim (h.each m t is) [
+    | inl e ↦ inl (ap (λ (rs : List LogRecord). (course_of rs t).is_ended) (sym (a.own m)) ∙ e)
+    | inr e ↦ inr e
+  ];
+  grown = λ m. record { more = (h.grown m).more; are = sym (a.own m) ∙ (h.grown m).are; until = (h.grown m).until };
+}

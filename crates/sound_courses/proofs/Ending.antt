@@ -21,6 +21,7 @@ use Rattle.sound_disk.specs.Laws.{AreMerged}
 use Rattle.sound_disk.specs.Versions.{merged, last_images}
 use Rattle.sound_disk.specs.Whole_logs.{AreWholeLogs}
 use Rattle.sound_plans.specs.Courses.{OwesNothing, EndsNext, IsDue, writes_of, EndingGoes as EndingFits}
+use Rattle.sound_plans.specs.Ends.{ToEnd}
 use Rattle.sound_plans.specs.Queues.{has_log, records_for, length_for, IsSettled, EmptyQueueSettles, SettledIsDone, QueueFits}
 use Rattle.sound_plans.proofs.Members.{IsHome, each_home}
 use Rattle.sound_restarts.specs.Undo.{OthersLeavePages}
@@ -54,9 +55,9 @@ first_has : (P : ℕ → Type 0) (ms : List ℕ) (m : ℕ) → AllByRecursion P 
 first_has P [] m h e = absurd cc
 first_has P (x ∷ ms) m h e = let same : x ≡ m = cc in subst P same h.0
 
-ending_leads : (c : Contents) (logs : List Log) (h : Restart) (next : Option ℕ) → ((m : ℕ) → next ≡ Some m → has_log logs m ≡ true) → BeginsEnding h c logs → EndLeads (ending_or h next) c logs
-ending_leads c logs h None first b = inr (record { tells = refl; stage_is = refl; rests = rests_as h (record h { stage = stage.End }) c logs refl refl refl b.rests; nothing = b.nothing; new = b.new })
-ending_leads c logs h (Some m) first b = inl (
+ending_leads : (ts : ToEnd) (c : Contents) (logs : List Log) (h : Restart) (next : Option ℕ) → ((m : ℕ) → next ≡ Some m → has_log logs m ≡ true) → BeginsEnding ts h c logs → EndLeads ts (ending_or h next) c logs
+ending_leads ts c logs h None first b = inr (record { tells = refl; stage_is = refl; rests = rests_as h (record h { stage = stage.End }) c logs refl refl refl b.rests; nothing = b.nothing; new = b.new })
+ending_leads ts c logs h (Some m) first b = inl (
   refl,
   record {
     rests = rests_as h (go (with_added h (ending h.counter (end_of h.plan.ends m))) (stage.EndAppend m)).0 c logs refl refl refl b.rests;
@@ -80,8 +81,8 @@ without_first h c logs r = record {
 
 pub ending_begins : EndingBegins
 unfolding next_ending
-ending_begins h c logs b =
-    ending_leads c logs (with_plan h (rest_endings h.plan)) (slice_get h.plan.endings 0) (λ m e. first_has (λ (n : ℕ). has_log logs n ≡ true) h.plan.endings m b.rests.stands.endings e)
+ending_begins ts h c logs b =
+    ending_leads ts c logs (with_plan h (rest_endings h.plan)) (slice_get h.plan.endings 0) (λ m e. first_has (λ (n : ℕ). has_log logs n ≡ true) h.plan.endings m b.rests.stands.endings e)
     (record { rests = without_first h c logs b.rests; nothing = b.nothing; new = b.new })
 
 -- ---- what stands before a Checkpoint
@@ -99,49 +100,49 @@ no_lower h c logs r new id =
     omega (arith, same)
 
 -- all that stands in the log is in the pages of the disk, and no transaction of it is open
-done_at : EndLaws → (h : Restart) (c : Contents) (logs after : List Log) (r : LogRecord) (a : Appends logs r after) → Rests h c logs → OwesNothing h.plan.undo h.counter logs → NoneIsOld c
+done_at : EndLaws → (ts : ToEnd) (h : Restart) (c : Contents) (logs after : List Log) (r : LogRecord) (a : Appends logs r after) → Rests h c logs → OwesNothing ts h.plan.undo h.counter logs → NoneIsOld c
     → list_all (is_done (page_at c.pages) a.log.records) a.log.records ≡ true
-done_at l h c logs after r a rests none new =
+done_at l ts h c logs after r a rests none new =
     let sound = rests.stands.sound.now.sound in
     let are : AreRecords (merged logs) = l.merged c.logs logs sound.whole_logs sound.transactions in
     let pages = all_in_pages l.versions l.orders (page_at c.pages) c.logs logs a.log.member sound.whole_logs are (no_lower h c logs rests new) in
     let settled : (tran : ℕ) → IsSettled logs a.log.member tran = λ tran. l.empty logs (subst (QueueFits logs) none.none none.owes.queue) a.log.member tran in
     subst (λ (rs : List LogRecord). list_all (is_done (page_at c.pages) rs) rs ≡ true) (own_records c.logs logs after r a sound.whole_logs) (l.done (page_at c.pages) logs a.log.member settled pages)
 
-both_settled : EndLaws → (h : Restart) (c : Contents) (logs after : List Log) (member lrsn at : ℕ) → Rests h c logs → OwesNothing h.plan.undo h.counter logs → NoneIsOld c
+both_settled : EndLaws → (ts : ToEnd) (h : Restart) (c : Contents) (logs after : List Log) (member lrsn at : ℕ) → Rests h c logs → OwesNothing ts h.plan.undo h.counter logs → NoneIsOld c
     → (all : AppendsAll logs (writes_of member (ending lrsn at)) after) → AreSettledBefore (page_at c.pages) logs (writes_of member (ending lrsn at)) after all
-both_settled l h c logs after member lrsn at rests none new all = ((done_at l h c logs all.0 (checkpoint lrsn at) all.1 rests none new, tt), ((tt, new), tt))
+both_settled l ts h c logs after member lrsn at rests none new all = ((done_at l ts h c logs all.0 (checkpoint lrsn at) all.1 rests none new, tt), ((tt, new), tt))
 
 -- ---- the records are appended
 
 -- what the course of a plan with one more log to be ended says
-nothing_of : (k : Restart) (m : ℕ) (logs : List Log) → slice_get k.plan.endings 0 ≡ Some m → IsDue (next_ending k) logs → OwesNothing k.plan.undo k.counter logs
+nothing_of : (ts : ToEnd) (k : Restart) (m : ℕ) (logs : List Log) → slice_get k.plan.endings 0 ≡ Some m → IsDue ts (next_ending k) logs → OwesNothing ts k.plan.undo k.counter logs
 unfolding next_ending
-nothing_of k m logs e due =
-    let d : IsDue (ending_or (with_plan k (rest_endings k.plan)) (Some m)) logs = subst (λ (o : Option ℕ). IsDue (ending_or (with_plan k (rest_endings k.plan)) o) logs) e due in
+nothing_of ts k m logs e due =
+    let d : IsDue ts (ending_or (with_plan k (rest_endings k.plan)) (Some m)) logs = subst (λ (o : Option ℕ). IsDue ts (ending_or (with_plan k (rest_endings k.plan)) o) logs) e due in
     (d refl).rest
 
 abbrev with_one : Restart → Restart
 with_one h = record h { plan = record h.plan { endings = 0 ∷ [] } }
 
 pub ending_goes : EndLaws → EndingGoes
-ending_goes l h member c logs d allowed =
+ending_goes l ts h member c logs d allowed =
     let whole = d.rests.stands.sound.now.sound.whole_logs in
     let end : end_of h.plan.ends member ≡ length_for logs member = ap (λ (es : List ℕ). end_of es member) d.rests.stands.ends ∙ end_is c.logs logs member whole d.has in
-    let due : EndsNext (with_one h) member logs = record { added_is = d.due.added_is; rest = d.due.rest } in
-    let goes = l.fits (with_one h) member logs due d.has end allowed in
+    let due : EndsNext ts (with_one h) member logs = record { added_is = d.due.added_is; rest = d.due.rest } in
+    let goes = l.fits ts (with_one h) member logs due d.has end allowed in
     let after = goes.0 in
     let all : AppendsAll logs (writes_of member h.added) after = goes.1 in
-    let nothing : OwesNothing h.plan.undo h.counter after = nothing_of (appended (with_one h) member) 0 after refl goes.2 in
+    let nothing : OwesNothing ts h.plan.undo h.counter after = nothing_of ts (appended (with_one h) member) 0 after refl goes.2 in
     let added : ending h.counter (end_of h.plan.ends member) ≡ h.added = sym d.due.added_is in
     let settled = subst (λ (rs : List LogRecord). (every : AppendsAll logs (writes_of member rs) after) → AreSettledBefore (page_at c.pages) logs (writes_of member rs) after every) added
-    (both_settled l h c logs after member h.counter (end_of h.plan.ends member) d.rests d.due.rest d.new) in
+    (both_settled l ts h c logs after member h.counter (end_of h.plan.ends member) d.rests d.due.rest d.new) in
     let leave : LeavePages h.added = subst LeavePages added (refl, (refl, tt)) in
     let a = all_appended l.appends c logs after member h.added all (settled all) d.rests.stands.sound in (
       a.stops,
       (
         after,
-        ending_begins (appended h member) (with_appended h member c) after
+        ending_begins ts (appended h member) (with_appended h member c) after
             (record {
               rests = record {
                 stands = stands_behind h member c logs after d.rests.stands a;

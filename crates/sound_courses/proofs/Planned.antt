@@ -74,26 +74,27 @@ unfolding plan_of
 plan_tails logs = refl
 
 pub plan_fits : PlanLaws → PlanOfAllFits
-plan_fits l c logs s = record {
+plan_fits l ts c logs s takes = record {
   closings = l.closings c.logs logs s.whole_logs s.transactions;
   queue = l.queue c.logs logs s.whole_logs s.transactions;
   numbers = l.numbers c.logs logs s.whole_logs s.transactions s.numbers;
   ends = plan_ends logs;
   endings = ends_there logs (home_has logs logs (each_home c.logs logs s.whole_logs));
+  takes = takes;
 }
 
 -- ---- the begin
 
 pub reads_begin : PlanLaws → GoesToTails → PlanOfAllSuits → CutsBegin → ReadsBegin
-reads_begin l tails suits begins c h now asks =
+reads_begin l tails suits begins ts c h now asks takes =
     let p = plan_of h.logs in
     let k : Restart = record h { plan = plan_of h.logs; logs = [] } in
-    subst (λ (n : Next). BringLeads n p c h.logs) (sym (tails c h now.sound))
-    (begins p k c h.logs (record {
+    subst (λ (n : Next). BringLeads ts n p c h.logs) (sym (tails c h now.sound))
+    (begins ts p k c h.logs (record {
       now = now;
       tails_are = plan_tails h.logs;
       suits = suits c h.logs now;
-      fits = plan_fits l c h.logs now.sound;
+      fits = plan_fits l ts c h.logs now.sound takes;
       rest = record { ends = refl; closings = refl; undo = refl; endings = refl; renews = refl; greatest = refl };
       merged_is = refl;
       pages_are = refl;

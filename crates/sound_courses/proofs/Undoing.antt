@@ -25,11 +25,13 @@ use Rattle.sound_appends.specs.Appends.{Appends, AppendsAll}
 use Rattle.sound_disk.specs.Rows_there.{Stood}
 use Rattle.sound_disk.specs.Versions.{merged, last_images}
 use Rattle.sound_plans.specs.Courses.{Owes, writes_of, UndoGoes as UndoFits}
+use Rattle.sound_plans.specs.Ends.{ToEnd, EndAll}
 use Rattle.sound_plans.specs.Opens.{course_of}
 use Rattle.sound_plans.specs.Queues.{records_for, CanClose, ClosingsFit, is_of, QueueFits}
-use Rattle.sound_plans.proofs.Logs.{put_record, greatest_put, PutIs}
-use Rattle.sound_plans.proofs.Closings.{last_of_member, closes, all_close_still}
-use Rattle.sound_plans.proofs.Queues.{head_of, first_queue, undoes, fits_ended}
+use Rattle.sound_plans.proofs.Logs.{put_record, PutIs}
+use Rattle.sound_plans.proofs.Closings.{closes, all_close_still}
+use Rattle.sound_plans.proofs.Courses.{none_to_close, some_to_close, owes_behind}
+use Rattle.sound_plans.proofs.Queues.{head_of, first_queue, undoes}
 use Rattle.sound_restarts.specs.Redo.{IsSoundNow, with_page, IsLast, LastKeeps}
 use Rattle.sound_restarts.specs.Undo.{page_of, page_for, AreLast, CanUndo, UndoMakesLast, UndoLeavesOthers, OthersLeavePages, UndoReads as UndoMeetsNothing}
 use Rattle.sound_tables.specs.Keeping.{AreTableLogs, MeetsItsRow}
@@ -59,9 +61,9 @@ some_undos : (us : List Undo) (u : Undo) → slice_get us 0 ≡ Some u → us �
 some_undos [] u e = absurd cc
 some_undos (x ∷ us) u e = let same : x ≡ u = cc in ap (λ (v : Undo). v ∷ us) same
 
-undo_leads : (c : Contents) (logs : List Log) (h : Restart) (next : Option Undo) → slice_get h.plan.undo 0 ≡ next → Rests h c logs → Owes h.plan.undo h.counter logs → HasNumbers h → UndoLeads (undo_or h next) c logs
-undo_leads c logs h None e r o n = inr (record { behind = h; goes = refl; rests = r; nothing = record { owes = o; none = none_first h.plan.undo e } })
-undo_leads c logs h (Some u) e r o n = inl (
+undo_leads : (ts : ToEnd) (c : Contents) (logs : List Log) (h : Restart) (next : Option Undo) → slice_get h.plan.undo 0 ≡ next → Rests h c logs → Owes ts [] h.plan.undo h.counter logs → HasNumbers h → UndoLeads ts (undo_or h next) c logs
+undo_leads ts c logs h None e r o n = inr (record { behind = h; goes = refl; rests = r; nothing = record { owes = o; none = none_first h.plan.undo e } })
+undo_leads ts c logs h (Some u) e r o n = inl (
   refl,
   record {
     rests = rests_as h (go h (stage.UndoRead (page_of u))).0 c logs refl refl refl r;
@@ -74,9 +76,9 @@ undo_leads c logs h (Some u) e r o n = inl (
   },
 )
 
-pub next_undo_leads : (c : Contents) (logs : List Log) (h : Restart) → Rests h c logs → Owes h.plan.undo h.counter logs → HasNumbers h → UndoLeads (next_undo h) c logs
+pub next_undo_leads : (ts : ToEnd) (c : Contents) (logs : List Log) (h : Restart) → Rests h c logs → Owes ts [] h.plan.undo h.counter logs → HasNumbers h → UndoLeads ts (next_undo h) c logs
 unfolding next_undo
-next_undo_leads c logs h r o n = undo_leads c logs h (slice_get h.plan.undo 0) refl r o n
+next_undo_leads ts c logs h r o n = undo_leads ts c logs h (slice_get h.plan.undo 0) refl r o n
 
 -- ---- closings
 
@@ -89,44 +91,36 @@ rest_close logs [] h = tt
 rest_close logs (x ∷ cs) h = h.1
 
 -- the first of these is taken out of the list
-closing_leads : (c : Contents) (logs : List Log) (h : Restart) (next : Option Closing) → ((cl : Closing) → next ≡ Some cl → CanClose logs cl) → ClosingsFit logs h.plan.closings → Rests h c logs → Owes h.plan.undo h.counter logs → HasNumbers h
-    → UndoLeads (closing_or h next) c logs
-closing_leads c logs h None first rest r o n = next_undo_leads c logs h r o n
-closing_leads c logs h (Some cl) first rest r o n = inl (
+closing_leads : (ts : ToEnd) (c : Contents) (logs : List Log) (h : Restart) (all : List Closing) (next : Option Closing) → slice_get all 0 ≡ next → h.plan.closings ≡ drop 1 all → ((cl : Closing) → next ≡ Some cl → CanClose logs cl) → ClosingsFit logs h.plan.closings → Rests h c logs → Owes ts all h.plan.undo h.counter logs → HasNumbers h
+    → UndoLeads ts (closing_or h next) c logs
+closing_leads ts c logs h all None is left first rest r o n = next_undo_leads ts c logs h r (subst (λ (cs : List Closing). Owes ts cs h.plan.undo h.counter logs) (none_to_close all is) o) n
+closing_leads ts c logs h all (Some cl) is left first rest r o n = inl (
   refl,
   record {
     rests = rests_as h (go (with_added h (ended cl.lrsn cl.tran ∷ [])) (stage.CloseAppend cl.member)).0 c logs refl refl refl r;
-    due = record { closing = cl; member_is = refl; added_is = refl; can = first cl refl; rest = rest; owes = o };
+    due = record { closing = cl; member_is = refl; added_is = refl; can = first cl refl; rest = rest; owes = subst (λ (cs : List Closing). Owes ts cs h.plan.undo h.counter logs) (some_to_close all cl is ∙ ap (λ (cs : List Closing). cl ∷ cs) (sym left)) o };
     numbers = n;
   },
 )
 
-next_closing_leads : (c : Contents) (logs : List Log) (h : Restart) → ClosingsFit logs h.plan.closings → Rests h c logs → Owes h.plan.undo h.counter logs → HasNumbers h → UndoLeads (next_closing h) c logs
+next_closing_leads : (ts : ToEnd) (c : Contents) (logs : List Log) (h : Restart) → ClosingsFit logs h.plan.closings → Rests h c logs → Owes ts h.plan.closings h.plan.undo h.counter logs → HasNumbers h → UndoLeads ts (next_closing h) c logs
 unfolding next_closing
-next_closing_leads c logs h fits r o n =
-    closing_leads c logs (with_plan h (rest_closings h.plan)) (slice_get h.plan.closings 0) (λ cl e. first_closing logs h.plan.closings cl fits e) (rest_close logs h.plan.closings fits)
+next_closing_leads ts c logs h fits r o n =
+    closing_leads ts c logs (with_plan h (rest_closings h.plan)) h.plan.closings (slice_get h.plan.closings 0) refl refl (λ cl e. first_closing logs h.plan.closings cl fits e) (rest_close logs h.plan.closings fits)
     (rests_as h (with_plan h (rest_closings h.plan)) c logs refl refl refl r) o n
 
-numbered_leads : (c : Contents) (logs : List Log) (h : Restart) → HasNumbers h → UndoLeads (next_closing h) c logs → UndoLeads (numbered h) c logs
-numbered_leads c logs h few next = subst (λ (b : Bool). UndoLeads (cond b (next_closing h) (too_few_numbers h)) c logs) (sym (lt-ltb (h.counter + length h.plan.undo) (2 ^ 80) few)) next
+numbered_leads : (ts : ToEnd) (c : Contents) (logs : List Log) (h : Restart) → HasNumbers h → UndoLeads ts (next_closing h) c logs → UndoLeads ts (numbered h) c logs
+numbered_leads ts c logs h few next = subst (λ (b : Bool). UndoLeads ts (cond b (next_closing h) (too_few_numbers h)) c logs) (sym (lt-ltb (h.counter + length h.plan.undo) (2 ^ 80) few)) next
 
 pub undo_begins : UndoBegins
 unfolding begin_undo
-undo_begins h c logs b =
+undo_begins ts h c logs b =
     let few : HasNumbers (counted h) = subst (λ (n : ℕ). n + length h.plan.undo < 2 ^ 80) (sym b.number) b.numbers in
-    numbered_leads c logs (counted h) few
-    (next_closing_leads c logs (counted h) b.closings (rests_as h (counted h) c logs refl refl refl b.rests) (record { queue = b.queue; number = b.number }) few)
-
-owes_behind : (logs : List Log) (cl : Closing) (us : List Undo) (counter : ℕ) → CanClose logs cl → Owes us counter logs → Owes us counter (put_record logs cl.member (ended cl.lrsn cl.tran))
-owes_behind logs cl us counter can o =
-    let last = last_of_member logs cl.member (ended cl.lrsn cl.tran) can.has in
-    let top = greatest_put logs cl.member (ended cl.lrsn cl.tran) can.has in
-    let number = can.number in
-    let same = o.number in
-    record { queue = fits_ended logs cl.member cl.lrsn cl.tran us can.has o.queue; number = omega (arith, last, top, number, same) }
+    numbered_leads ts c logs (counted h) few
+    (next_closing_leads ts c logs (counted h) b.closings (rests_as h (counted h) c logs refl refl refl b.rests) (record { queue = b.queue; number = b.number; ends = b.ends }) few)
 
 pub closing_goes : UndoLaws → ClosingGoes
-closing_goes l h member c logs d =
+closing_goes l ts h member c logs d =
     let cl = d.due.closing in
     let can : CanClose logs cl = d.due.can in
     let after = put_record logs cl.member (ended cl.lrsn cl.tran) in
@@ -139,12 +133,12 @@ closing_goes l h member c logs d =
       a.stops,
       (
         after,
-        next_closing_leads (with_appended h member c) after (appended h member) (all_close_still logs cl h.plan.closings can d.due.rest)
+        next_closing_leads ts (with_appended h member c) after (appended h member) (all_close_still logs cl h.plan.closings can d.due.rest)
             (record {
               stands = stands_behind h member c logs after d.rests.stands a;
               last = last_still c member (log_of c.logs member ++ log_bytes h.added) logs after (λ id. all_leave l.unmerged h.added logs after member id all leave) d.rests.last;
             })
-            (owes_behind logs cl h.plan.undo h.counter can d.due.owes) d.numbers,
+            (owes_behind ts logs cl h.plan.closings h.plan.undo h.counter can d.due.owes) d.numbers,
       ),
     )
 
@@ -176,10 +170,10 @@ can_undo meets c logs mid u n s last a =
 abbrev hand_of : Restart → Contents → Undo → Restart
 hand_of h c u = with_plan (with_hand h (page_for c u)) (rest_undo h.plan)
 
-done_leads : (h : Restart) (c : Contents) (logs : List Log) (u : Undo) (us : List Undo) (n : ℕ) → n ≡ h.counter + 1 → h.plan.undo ≡ u ∷ us → Rests h c logs → QueueFits logs (u ∷ us) → n ≡ greatest (all_records logs) + 1 → HasNumbers h → CanUndo c logs u
-    → UndoLeads (undone (hand_of h c u) u n) c logs
+done_leads : (ts : ToEnd) (h : Restart) (c : Contents) (logs : List Log) (u : Undo) (us : List Undo) (n : ℕ) → n ≡ h.counter + 1 → h.plan.undo ≡ u ∷ us → Rests h c logs → QueueFits logs (u ∷ us) → n ≡ greatest (all_records logs) + 1 → HasNumbers h → CanUndo c logs u → EndAll ts [] (u ∷ us) logs
+    → UndoLeads ts (undone (hand_of h c u) u n) c logs
 unfolding undone
-done_leads h c logs u us n next is r fits number few can =
+done_leads ts h c logs u us n next is r fits number few can ends =
     let left : drop 1 h.plan.undo ≡ us = ap (drop 1) is in
     let count : length h.plan.undo ≡ suc (length us) = ap (λ (l : List Undo). length l) is in
     let fewer : n + length us < 2 ^ 80 = omega (arith, next, count, few) in
@@ -188,7 +182,7 @@ done_leads h c logs u us n next is r fits number few can =
       refl,
       record {
         rests = rests_as h k c logs refl refl refl r;
-        due = record { first = u; member_is = refl; added_is = refl; queue = subst (λ (l : List Undo). QueueFits logs (u ∷ l)) (sym left) fits; number = number; small = omega (arith, fewer) };
+        due = record { first = u; member_is = refl; added_is = refl; queue = subst (λ (l : List Undo). QueueFits logs (u ∷ l)) (sym left) fits; number = number; small = omega (arith, fewer); ends = subst (λ (l : List Undo). EndAll ts [] (u ∷ l) logs) (sym left) ends };
         can = can;
         page_is = refl;
         hand_is = refl;
@@ -196,8 +190,8 @@ done_leads h c logs u us n next is r fits number few can =
       },
     )
 
-reads_at : UndoLaws → (h : Restart) (page : PageId) (c : Contents) (logs : List Log) (n : ℕ) → n ≡ h.counter + 1 → (d : ReadsNext page h c logs) → UndoLeads (undo_at (hand_of h c d.first) d.first n) c logs × CanUndo c logs d.first
-reads_at l h page c logs n next d =
+reads_at : UndoLaws → (ts : ToEnd) (h : Restart) (page : PageId) (c : Contents) (logs : List Log) (n : ℕ) → n ≡ h.counter + 1 → (d : ReadsNext ts page h c logs) → UndoLeads ts (undo_at (hand_of h c d.first) d.first n) c logs × CanUndo c logs d.first
+reads_at l ts h page c logs n next d =
     let u = d.first in
     let us = d.rest in
     let fits : QueueFits logs (u ∷ us) = subst (QueueFits logs) d.undo_is d.owes.queue in
@@ -207,17 +201,17 @@ reads_at l h page c logs n next d =
     let small : n < 2 ^ 80 = omega (arith, next, count, few) in
     let f = first_appends logs u us n fits number small in
     let can = can_undo l.meets c logs f.mid u n d.rests.stands.sound d.rests.last f.appends in (
-      subst (λ (b : Bool). UndoLeads (cond b (undone (hand_of h c u) u n) (too_few_numbers (hand_of h c u))) c logs) (sym (lt-ltb n (2 ^ 80) small))
-          (done_leads h c logs u us n next d.undo_is d.rests fits number d.numbers can),
+      subst (λ (b : Bool). UndoLeads ts (cond b (undone (hand_of h c u) u n) (too_few_numbers (hand_of h c u))) c logs) (sym (lt-ltb n (2 ^ 80) small))
+          (done_leads ts h c logs u us n next d.undo_is d.rests fits number d.numbers can (subst (λ (l : List Undo). EndAll ts [] l logs) d.undo_is d.owes.ends)),
       can,
     )
 
 pub undo_reads : UndoLaws → UndoReads
-undo_reads l h page c logs d =
+undo_reads l ts h page c logs d =
     let u = d.first in
-    let r = reads_at l h page c logs (h.counter + 1) refl d in
-    subst (λ (id : PageId). UndoLeads (take_done (with_hand h (page_at c.pages id)) (stage.UndoRead id)) c logs) (sym d.page_is)
-    (subst (λ (x : Next). UndoLeads x c logs) (sym (l.reads h c logs u d.rest r.1 d.undo_is)) r.0)
+    let r = reads_at l ts h page c logs (h.counter + 1) refl d in
+    subst (λ (id : PageId). UndoLeads ts (take_done (with_hand h (page_at c.pages id)) (stage.UndoRead id)) c logs) (sym d.page_is)
+    (subst (λ (x : Next). UndoLeads ts x c logs) (sym (l.reads h c logs u d.rest r.1 d.undo_is)) r.0)
 
 -- ---- the compensation is appended
 
@@ -242,9 +236,9 @@ compensated l c logs after member u n can h =
     }
 
 pub undo_appends : UndoLaws → UndoAppends
-undo_appends l h member page c logs d =
+undo_appends l ts h member page c logs d =
     let u = d.due.first in
-    let goes = l.fits h member page logs d.due in
+    let goes = l.fits ts h member page logs d.due in
     let after = goes.0 in
     let all : AppendsAll logs (writes_of member h.added) after = goes.1 in
     let added : h.added ≡ undoing u h.counter = d.due.added_is in
@@ -272,8 +266,8 @@ undo_appends l h member page c logs d =
 -- ---- the page is written
 
 pub undo_writes : UndoLaws → UndoWrites
-undo_writes l h page c logs d =
-    subst (λ (p : List ℕ). IsSoundNow (with_page c page p) logs × UndoLeads (take_done h (stage.UndoWrite page)) (with_page c page p) logs) (sym d.hand_is) (
+undo_writes l ts h page c logs d =
+    subst (λ (p : List ℕ). IsSoundNow (with_page c page p) logs × UndoLeads ts (take_done h (stage.UndoWrite page)) (with_page c page p) logs) (sym d.hand_is) (
       (l.keeps c logs page d.stands.sound.now).0,
-      next_undo_leads (with_page c page (last_images logs page)) logs h (written_rests l.keeps h c logs page d.stands d.others) d.owes d.numbers,
+      next_undo_leads ts (with_page c page (last_images logs page)) logs h (written_rests l.keeps h c logs page d.stands d.others) d.owes d.numbers,
     )

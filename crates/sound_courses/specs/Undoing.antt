@@ -1,5 +1,5 @@
 -- The undo of a group restart over a sound disk, call by call.
-use Rattle.std.specs.Prelude.{◌≡◌, ◌⊎◌, ℕ, ◌+◌, ◌<◌, ◌^◌, false, List, ◌∷◌, length}
+use Rattle.std.specs.Prelude.{◌≡◌, ◌⊎◌, ℕ, ◌+◌, ◌<◌, ◌^◌, false, List, [], ◌∷◌, length}
 use Rattle.ds_base.specs.Pages.{same_page}
 use Rattle.ds_base.specs.declared.names.PageId.{PageId}
 use Rattle.ds_disk.specs.Contents.{Contents}
@@ -17,6 +17,7 @@ use Rattle.group_restart.specs.Undo.{undone_page}
 use Rattle.group_restart.specs.Course.{Next, begin_renewal, begin_undo, take_done}
 use Rattle.sound_disk.specs.Versions.{last_images}
 use Rattle.sound_plans.specs.Courses.{Owes, OwesNothing, ClosesNext, UndoesNext}
+use Rattle.sound_plans.specs.Ends.{ToEnd, EndAll}
 use Rattle.sound_plans.specs.Queues.{ClosingsFit, QueueFits}
 use Rattle.sound_restarts.specs.Redo.{IsSoundNow, with_page, IsLast}
 use Rattle.sound_restarts.specs.Undo.{page_of, page_for, CanUndo}
@@ -25,15 +26,15 @@ use Rattle.sound_courses.specs.Standing.{Stands, Rests, HasNumbers, with_appende
 -- ---- before a call
 
 -- the Ended of a transaction of which nothing is to be undone is appended
-pub record Closes (member : ℕ) (h : Restart) (c : Contents) (logs : List Log) : Type 0 where
+pub record Closes (ts : ToEnd) (member : ℕ) (h : Restart) (c : Contents) (logs : List Log) : Type 0 where
   pub rests : Rests h c logs
-  pub due : ClosesNext h member logs
+  pub due : ClosesNext ts h member logs
   pub numbers : HasNumbers h
 
 -- the page of the first change that is to be undone is read
-pub record ReadsNext (page : PageId) (h : Restart) (c : Contents) (logs : List Log) : Type 0 where
+pub record ReadsNext (ts : ToEnd) (page : PageId) (h : Restart) (c : Contents) (logs : List Log) : Type 0 where
   pub rests : Rests h c logs
-  pub owes : Owes h.plan.undo h.counter logs
+  pub owes : Owes ts [] h.plan.undo h.counter logs
   pub numbers : HasNumbers h
   pub first : Undo
   pub rest : List Undo
@@ -41,77 +42,79 @@ pub record ReadsNext (page : PageId) (h : Restart) (c : Contents) (logs : List L
   pub page_is : page ≡ page_of first
 
 -- its compensation is appended, and the page at hand is the one of the disk with the row before the change
-pub record Compensates (member : ℕ) (page : PageId) (h : Restart) (c : Contents) (logs : List Log) : Type 0 where
+pub record Compensates (ts : ToEnd) (member : ℕ) (page : PageId) (h : Restart) (c : Contents) (logs : List Log) : Type 0 where
   pub rests : Rests h c logs
-  pub due : UndoesNext h member logs
+  pub due : UndoesNext ts h member logs
   pub can : CanUndo c logs due.first
   pub page_is : page ≡ page_of due.first
   pub hand_is : h.page ≡ undone_page due.first.change h.counter (page_for c due.first)
   pub numbers : HasNumbers h
 
 -- the page at hand is written, which is as all records leave it, as all other pages of the disk are
-pub record WritesBack (page : PageId) (h : Restart) (c : Contents) (logs : List Log) : Type 0 where
+pub record WritesBack (ts : ToEnd) (page : PageId) (h : Restart) (c : Contents) (logs : List Log) : Type 0 where
   pub stands : Stands h c logs
   pub others : (id : PageId) → same_page page id ≡ false → IsLast c logs id
   pub hand_is : h.page ≡ last_images logs page
-  pub owes : Owes h.plan.undo h.counter logs
+  pub owes : Owes ts [] h.plan.undo h.counter logs
   pub numbers : HasNumbers h
 
 -- before the call of this stage
-abbrev pub UndoIn : Stage → Restart → Contents → List Log → Type 0
-UndoIn stage.ReadLog h c logs = ⊥
-UndoIn (stage.CutTail tail) h c logs = ⊥
-UndoIn (stage.RedoRead page) h c logs = ⊥
-UndoIn (stage.RedoWrite page) h c logs = ⊥
-UndoIn (stage.CloseAppend member) h c logs = Closes member h c logs
-UndoIn (stage.UndoRead page) h c logs = ReadsNext page h c logs
-UndoIn (stage.UndoAppend member page) h c logs = Compensates member page h c logs
-UndoIn (stage.UndoWrite page) h c logs = WritesBack page h c logs
-UndoIn (stage.RenewRead page) h c logs = ⊥
-UndoIn (stage.RenewWrite page) h c logs = ⊥
-UndoIn (stage.EndAppend member) h c logs = ⊥
-UndoIn stage.End h c logs = ⊥
+abbrev pub UndoIn : ToEnd → Stage → Restart → Contents → List Log → Type 0
+UndoIn ts stage.ReadLog h c logs = ⊥
+UndoIn ts (stage.CutTail tail) h c logs = ⊥
+UndoIn ts (stage.RedoRead page) h c logs = ⊥
+UndoIn ts (stage.RedoWrite page) h c logs = ⊥
+UndoIn ts (stage.CloseAppend member) h c logs = Closes ts member h c logs
+UndoIn ts (stage.UndoRead page) h c logs = ReadsNext ts page h c logs
+UndoIn ts (stage.UndoAppend member page) h c logs = Compensates ts member page h c logs
+UndoIn ts (stage.UndoWrite page) h c logs = WritesBack ts page h c logs
+UndoIn ts (stage.RenewRead page) h c logs = ⊥
+UndoIn ts (stage.RenewWrite page) h c logs = ⊥
+UndoIn ts (stage.EndAppend member) h c logs = ⊥
+UndoIn ts stage.End h c logs = ⊥
 
 -- nothing is to be undone any more, and pages of version 1 are looked for next
-pub record HasUndone (n : Next) (c : Contents) (logs : List Log) : Type 0 where
+pub record HasUndone (ts : ToEnd) (n : Next) (c : Contents) (logs : List Log) : Type 0 where
   pub behind : Restart
   pub goes : n ≡ begin_renewal behind
   pub rests : Rests behind c logs
-  pub nothing : OwesNothing behind.plan.undo behind.counter logs
+  pub nothing : OwesNothing ts behind.plan.undo behind.counter logs
 
 -- the undo goes on with the next call, or has come to its end
-abbrev pub UndoLeads : Next → Contents → List Log → Type 0
-UndoLeads n c logs = ((n.1 ≡ state.Going) × UndoIn n.0.stage n.0 c logs) ⊎ HasUndone n c logs
+abbrev pub UndoLeads : ToEnd → Next → Contents → List Log → Type 0
+UndoLeads ts n c logs = ((n.1 ≡ state.Going) × UndoIn ts n.0.stage n.0 c logs) ⊎ HasUndone ts n c logs
 
 -- ---- its calls
 
--- all pages are brought forward, by a plan whose closings and queue fit the logs, and there are numbers for it
-pub record BeginsUndo (h : Restart) (c : Contents) (logs : List Log) : Type 0 where
+-- all pages are brought forward, by a plan whose closings and queue fit the logs, and there are numbers for it; each of these transactions has an Ended, or
+-- the plan takes it
+pub record BeginsUndo (ts : ToEnd) (h : Restart) (c : Contents) (logs : List Log) : Type 0 where
   pub rests : Rests h c logs
   pub closings : ClosingsFit logs h.plan.closings
   pub queue : QueueFits logs h.plan.undo
   pub number : h.plan.greatest.lrsn ≡ greatest (all_records logs)
   pub numbers : greatest (all_records logs) + length h.plan.undo < 2 ^ 80
+  pub ends : EndAll ts h.plan.closings h.plan.undo logs
 
 abbrev pub UndoBegins : Type 0
-UndoBegins = (h : Restart) (c : Contents) (logs : List Log) → BeginsUndo h c logs → UndoLeads (begin_undo h) c logs
+UndoBegins = (ts : ToEnd) (h : Restart) (c : Contents) (logs : List Log) → BeginsUndo ts h c logs → UndoLeads ts (begin_undo h) c logs
 
 -- an Ended, or what is left of it, leaves a sound disk, and the undo goes on there
 abbrev pub ClosingGoes : Type 0
-ClosingGoes = (h : Restart) (member : ℕ) (c : Contents) (logs : List Log) → UndoIn (stage.CloseAppend member) h c logs
-    → StopsSound h member c × ((after : List Log) × UndoLeads (take_done h (stage.CloseAppend member)) (with_appended h member c) after)
+ClosingGoes = (ts : ToEnd) (h : Restart) (member : ℕ) (c : Contents) (logs : List Log) → UndoIn ts (stage.CloseAppend member) h c logs
+    → StopsSound h member c × ((after : List Log) × UndoLeads ts (take_done h (stage.CloseAppend member)) (with_appended h member c) after)
 
 -- the page is read, where no field is in the way of the undo, and there is a number for it
 abbrev pub UndoReads : Type 0
-UndoReads = (h : Restart) (page : PageId) (c : Contents) (logs : List Log) → UndoIn (stage.UndoRead page) h c logs
-    → UndoLeads (take_done (with_hand h (page_at c.pages page)) (stage.UndoRead page)) c logs
+UndoReads = (ts : ToEnd) (h : Restart) (page : PageId) (c : Contents) (logs : List Log) → UndoIn ts (stage.UndoRead page) h c logs
+    → UndoLeads ts (take_done (with_hand h (page_at c.pages page)) (stage.UndoRead page)) c logs
 
 -- the compensation, and the Ended behind the last of a transaction, or what is left of them, leave a sound disk
 abbrev pub UndoAppends : Type 0
-UndoAppends = (h : Restart) (member : ℕ) (page : PageId) (c : Contents) (logs : List Log) → UndoIn (stage.UndoAppend member page) h c logs
-    → StopsSound h member c × ((after : List Log) × UndoLeads (take_done h (stage.UndoAppend member page)) (with_appended h member c) after)
+UndoAppends = (ts : ToEnd) (h : Restart) (member : ℕ) (page : PageId) (c : Contents) (logs : List Log) → UndoIn ts (stage.UndoAppend member page) h c logs
+    → StopsSound h member c × ((after : List Log) × UndoLeads ts (take_done h (stage.UndoAppend member page)) (with_appended h member c) after)
 
 -- and so does the page that is written behind them
 abbrev pub UndoWrites : Type 0
-UndoWrites = (h : Restart) (page : PageId) (c : Contents) (logs : List Log) → UndoIn (stage.UndoWrite page) h c logs
-    → IsSoundNow (with_page c page h.page) logs × UndoLeads (take_done h (stage.UndoWrite page)) (with_page c page h.page) logs
+UndoWrites = (ts : ToEnd) (h : Restart) (page : PageId) (c : Contents) (logs : List Log) → UndoIn ts (stage.UndoWrite page) h c logs
+    → IsSoundNow (with_page c page h.page) logs × UndoLeads ts (take_done h (stage.UndoWrite page)) (with_page c page h.page) logs

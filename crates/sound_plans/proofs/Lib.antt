@@ -9,8 +9,10 @@ pub mod Planned_closings
 pub mod Planned_queue
 pub mod Planned
 pub mod Ended
+pub mod Ends_put
 pub mod Courses
 pub mod Counted
 pub mod Settled
 pub mod Fitting_queue
 pub mod Done
+pub mod Planned_ends

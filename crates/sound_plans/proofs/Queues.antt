@@ -81,6 +81,11 @@ unfolding last_flag
 flag_none [] h = refl
 flag_none (x ∷ xs) h = absurd cc
 
+pub flag_some : (xs : List LogRecord) → last_flag true xs ≡ false → xs ≡ [] → ⊥
+unfolding last_flag
+flag_some [] h e = cc
+flag_some (x ∷ xs) h e = cc
+
 before_more : (m t : ℕ) (b : Bool) (lrsn : ℕ) (d : Body) (us : List Undo) (v : Undo) → undo_before m t b lrsn d (us ++ v ∷ []) ≡ undo_before m t b lrsn d us ++ v ∷ []
 before_more m t b lrsn (body.RowChange change) us v = refl
 before_more m t b lrsn (body.Compensation change undone) us v = refl

@@ -31,10 +31,10 @@ use Rattle.sound_plans.proofs.Queues.{own_some, head_none}
 -- ---- a transaction that has ended
 
 -- it has a Commit, or it was rolled back whole
-abbrev IsOver : Course → Type 0
+abbrev pub IsOver : Course → Type 0
 IsOver c = (c.is_committed ≡ true) ⊎ ((c.undo ≡ []) × ((length c.undone == 0) ≡ false))
 
-abbrev OverIfEnded : Course → Type 0
+abbrev pub OverIfEnded : Course → Type 0
 OverIfEnded c = c.is_ended ≡ true → IsOver c
 
 unless_none : (b : Bool) (at : ℕ) → unless b at ≡ None → b ≡ true
@@ -90,7 +90,7 @@ over_more c r body.Ended h fits = λ is. ended_over c r fits
 over_more c r (body.Checkpoint offset) h fits = h
 over_more c r body.RestartEnd h fits = h
 
-abbrev AllOver : List LogRecord → Type 0
+abbrev pub AllOver : List LogRecord → Type 0
 AllOver rs = (t : ℕ) → OverIfEnded (course_in new_course t rs)
 
 over_last : (rs : List LogRecord) (r : LogRecord) → MayFollow rs r → AllOver rs → AllOver (rs ++ r ∷ [])
@@ -107,7 +107,7 @@ over_from earlier (r ∷ rs) f h = subst AllOver (append_assoc earlier (r ∷ []
 over_none : AllOver []
 over_none = λ t is. absurd cc
 
-all_over : (rs : List LogRecord) → EachFollows [] rs → AllOver rs
+pub all_over : (rs : List LogRecord) → EachFollows [] rs → AllOver rs
 all_over rs f = over_from [] rs f over_none
 
 -- ---- each open transaction is listed
@@ -115,7 +115,7 @@ all_over rs f = over_from [] rs f over_none
 same_key : (k n : ℕ) → eq_by_cmp nat_cmp k n ≡ (n == k)
 same_key k n = grind (arith, nat_tests)
 
-listed : (es : List (ℕ × Course)) (t : ℕ) (c : Course) → find nat_cmp t es ≡ Some c → is_open c ≡ true → is_among t (ids (open_among es)) ≡ true
+pub listed : (es : List (ℕ × Course)) (t : ℕ) (c : Course) → find nat_cmp t es ≡ Some c → is_open c ≡ true → is_among t (ids (open_among es)) ≡ true
 listed [] t c h o = absurd cc
 listed (e ∷ es) t c h o = elim (cases_Bool (e.0 == t)) [
   | inl is ↦ (
@@ -131,11 +131,11 @@ listed (e ∷ es) t c h o = elim (cases_Bool (e.0 == t)) [
       (λ is. or_right (e.0 == t) (is_among t (ids (open_among es))) rest) (λ is. rest))
 ]
 
-some_course : (rs : List LogRecord) (m : Courses) (t : ℕ) (o : Option Course) → Tells rs m → (t == 0) ≡ false → get m t ≡ o → (course_in new_course t rs ≡ new_course) ⊎ (o ≡ Some (course_in new_course t rs))
+pub some_course : (rs : List LogRecord) (m : Courses) (t : ℕ) (o : Option Course) → Tells rs m → (t == 0) ≡ false → get m t ≡ o → (course_in new_course t rs ≡ new_course) ⊎ (o ≡ Some (course_in new_course t rs))
 some_course rs m t None h some e = inl (sym (h.course t some) ∙ ap courses.course_of e)
 some_course rs m t (Some c) h some e = inr (ap (λ (d : Course). Some d) (sym (ap courses.course_of e) ∙ h.course t some))
 
-open_is : (c : Course) → c.is_committed ≡ false → c.is_ended ≡ false → is_open c ≡ true
+pub open_is : (c : Course) → c.is_committed ≡ false → c.is_ended ≡ false → is_open c ≡ true
 open_is c h k = ap (λ (b : Bool). not b && not c.is_ended) h ∙ ap not k
 
 -- a transaction is settled, or listed as open
@@ -204,7 +204,7 @@ none_of_zero t (u ∷ us) z h = absurd (own_some t u h.0 z)
 last_there : (x : LogRecord) (rs : List LogRecord) → slice_get (x ∷ rs) (length (x ∷ rs) - 1) ≡ None → ⊥
 last_there x rs h = let n = get_none (x ∷ rs) (length (x ∷ rs) - 1) h in omega (arith, n)
 
-no_records : (rs : List LogRecord) → slice_get rs (length rs - 1) ≡ None → rs ≡ []
+pub no_records : (rs : List LogRecord) → slice_get rs (length rs - 1) ≡ None → rs ≡ []
 no_records [] h = refl
 no_records (x ∷ rs) h = absurd (last_there x rs h)
 

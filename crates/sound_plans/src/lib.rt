@@ -4,6 +4,7 @@
 #![tactic(auto)]
 
 ghost use Rattle.sound_plans.specs.Courses.{ClosingGoes, EndingGoes, PagesGo, UndoBegins, UndoGoes};
+ghost use Rattle.sound_plans.specs.Ends.{PlanTakesOpens};
 ghost use Rattle.sound_plans.specs.Opens.{EndsWhereNothingIsLeft, OpensTell, SomeIsUndone};
 ghost use Rattle.sound_plans.specs.Plans.{ClosingsOfPlanFit, NumbersSuffice, PlanAppends, QueueOfPlanFits};
 ghost use Rattle.sound_plans.specs.Queues.{ClosingsAppend, EmptyQueueSettles, QueueAppends, SettledIsDone};
@@ -33,12 +34,14 @@ pub fn queue_laws()
 }
 
 /// The closings and the queue of the plan of whole logs, whose records fit each other, fit them. So all that the plan closes and
-/// undoes is appended, one record after the other, if there are numbers for it; and there are where numbers are left.
+/// undoes is appended, one record after the other, if there are numbers for it; and there are where numbers are left. Each
+/// transaction that a log leaves open, with neither a Commit nor an Ended, is closed by the plan, or a change of it is undone.
 pub fn plan_laws()
     ensures closings { ClosingsOfPlanFit }
     ensures queue { QueueOfPlanFits }
     ensures appends { PlanAppends }
     ensures numbers { NumbersSuffice }
+    ensures takes { PlanTakesOpens }
 {
     open_laws();
     queue_laws();
@@ -46,7 +49,9 @@ pub fn plan_laws()
 
 /// A group restart that has brought the pages forward, with a plan that fits the logs, appends just such records from then on:
 /// each append of an Ended, or of a compensation, leads to logs for which what is left of the plan fits. So does that of a
-/// Checkpoint, which names the end of its log, and of a RestartEnd, when nothing is to be undone any more.
+/// Checkpoint, which names the end of its log, and of a RestartEnd, when nothing is to be undone any more. Of any transactions
+/// each of which has an Ended, or is closed or undone by the plan, each has an Ended, or is still to be closed or undone, behind
+/// each call; so all have one in the end.
 pub fn course_laws()
     ensures begins { UndoBegins }
     ensures closing { ClosingGoes }

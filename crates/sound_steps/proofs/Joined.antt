@@ -19,6 +19,7 @@ use Rattle.group_restart.specs.Disk.{with_page as with_hand}
 use Rattle.group_restart.specs.Renewal.{first_page, last_behind, page_behind}
 use Rattle.group_restart.specs.Course.{Next, go, with_plan, rest_endings, ending_or, next_ending, renewal_or, next_renewal, begin_renewal, next_tail, renew_page, looked_at, take_old, take_done}
 use Rattle.sound_plans.specs.Courses.{OwesNothing}
+use Rattle.sound_plans.specs.Ends.{ToEnd}
 use Rattle.sound_disk.specs.Versions.{current, last_images}
 use Rattle.sound_restarts.specs.Redo.{IsSoundNow, with_page}
 use Rattle.sound_restarts.specs.Renewal.{RenewIn, RenewLeads, RenewalBegins, RenewalReads, RenewalWrites}
@@ -43,23 +44,23 @@ pub record PartLaws : Type 0 where
 
 -- ---- the ends of logs
 
-ends_in : (st : Stage) (p : Plan) (h : Restart) (c : Contents) (logs : List Log) → EndIn st h c logs → SoundIn st p h c logs
-ends_in stage.ReadLog p h c logs i = absurd i
-ends_in (stage.CutTail tail) p h c logs i = absurd i
-ends_in (stage.RedoRead page) p h c logs i = absurd i
-ends_in (stage.RedoWrite page) p h c logs i = absurd i
-ends_in (stage.CloseAppend member) p h c logs i = absurd i
-ends_in (stage.UndoRead page) p h c logs i = absurd i
-ends_in (stage.UndoAppend member page) p h c logs i = absurd i
-ends_in (stage.UndoWrite page) p h c logs i = absurd i
-ends_in (stage.RenewRead page) p h c logs i = absurd i
-ends_in (stage.RenewWrite page) p h c logs i = absurd i
-ends_in (stage.EndAppend member) p h c logs i = i
-ends_in stage.End p h c logs i = absurd i
+ends_in : (ts : ToEnd) (st : Stage) (p : Plan) (h : Restart) (c : Contents) (logs : List Log) → EndIn ts st h c logs → SoundIn ts st p h c logs
+ends_in ts stage.ReadLog p h c logs i = absurd i
+ends_in ts (stage.CutTail tail) p h c logs i = absurd i
+ends_in ts (stage.RedoRead page) p h c logs i = absurd i
+ends_in ts (stage.RedoWrite page) p h c logs i = absurd i
+ends_in ts (stage.CloseAppend member) p h c logs i = absurd i
+ends_in ts (stage.UndoRead page) p h c logs i = absurd i
+ends_in ts (stage.UndoAppend member page) p h c logs i = absurd i
+ends_in ts (stage.UndoWrite page) p h c logs i = absurd i
+ends_in ts (stage.RenewRead page) p h c logs i = absurd i
+ends_in ts (stage.RenewWrite page) p h c logs i = absurd i
+ends_in ts (stage.EndAppend member) p h c logs i = i
+ends_in ts stage.End p h c logs i = absurd i
 
-pub end_joins : (n : Next) (p : Plan) (c : Contents) (logs : List Log) → EndLeads n c logs → SoundLeads n p c logs
-end_joins n p c logs (inl g) = inl (g.0, ends_in n.0.stage p n.0 c logs g.1)
-end_joins n p c logs (inr e) = inr e
+pub end_joins : (ts : ToEnd) (n : Next) (p : Plan) (c : Contents) (logs : List Log) → EndLeads ts n c logs → SoundLeads ts n p c logs
+end_joins ts n p c logs (inl g) = inl (g.0, ends_in ts n.0.stage p n.0 c logs g.1)
+end_joins ts n p c logs (inr e) = inr e
 
 -- ---- the renewal leaves the plan and the counter
 
@@ -163,53 +164,53 @@ is_renewal (stage.RenewWrite page) h c logs i = tt
 is_renewal (stage.EndAppend member) h c logs i = absurd i
 is_renewal stage.End h c logs i = absurd i
 
-renews_in : (st : Stage) (p : Plan) (h : Restart) (c : Contents) (logs : List Log) → RenewIn st h c logs → Rests h c logs → OwesNothing h.plan.undo h.counter logs → SoundIn st p h c logs
-renews_in stage.ReadLog p h c logs i r o = absurd i
-renews_in (stage.CutTail tail) p h c logs i r o = absurd i
-renews_in (stage.RedoRead page) p h c logs i r o = absurd i
-renews_in (stage.RedoWrite page) p h c logs i r o = absurd i
-renews_in (stage.CloseAppend member) p h c logs i r o = absurd i
-renews_in (stage.UndoRead page) p h c logs i r o = absurd i
-renews_in (stage.UndoAppend member page) p h c logs i r o = absurd i
-renews_in (stage.UndoWrite page) p h c logs i r o = absurd i
-renews_in (stage.RenewRead page) p h c logs i r o = record { renews = i; rests = r; nothing = o }
-renews_in (stage.RenewWrite page) p h c logs i r o = record { renews = i; rests = r; nothing = o }
-renews_in (stage.EndAppend member) p h c logs i r o = absurd i
-renews_in stage.End p h c logs i r o = absurd i
+renews_in : (ts : ToEnd) (st : Stage) (p : Plan) (h : Restart) (c : Contents) (logs : List Log) → RenewIn st h c logs → Rests h c logs → OwesNothing ts h.plan.undo h.counter logs → SoundIn ts st p h c logs
+renews_in ts stage.ReadLog p h c logs i r o = absurd i
+renews_in ts (stage.CutTail tail) p h c logs i r o = absurd i
+renews_in ts (stage.RedoRead page) p h c logs i r o = absurd i
+renews_in ts (stage.RedoWrite page) p h c logs i r o = absurd i
+renews_in ts (stage.CloseAppend member) p h c logs i r o = absurd i
+renews_in ts (stage.UndoRead page) p h c logs i r o = absurd i
+renews_in ts (stage.UndoAppend member page) p h c logs i r o = absurd i
+renews_in ts (stage.UndoWrite page) p h c logs i r o = absurd i
+renews_in ts (stage.RenewRead page) p h c logs i r o = record { renews = i; rests = r; nothing = o }
+renews_in ts (stage.RenewWrite page) p h c logs i r o = record { renews = i; rests = r; nothing = o }
+renews_in ts (stage.EndAppend member) p h c logs i r o = absurd i
+renews_in ts stage.End p h c logs i r o = absurd i
 
 -- ---- the renewal
 
-nothing_as : (h k : Restart) (logs : List Log) → IsSameBut h k → OwesNothing h.plan.undo h.counter logs → OwesNothing k.plan.undo k.counter logs
-nothing_as h k logs s o = subst (λ (n : ℕ). OwesNothing k.plan.undo n logs) s.counter (subst (λ (p : Plan). OwesNothing p.undo h.counter logs) s.plan o)
+nothing_as : (ts : ToEnd) (h k : Restart) (logs : List Log) → IsSameBut h k → OwesNothing ts h.plan.undo h.counter logs → OwesNothing ts k.plan.undo k.counter logs
+nothing_as ts h k logs s o = subst (λ (n : ℕ). OwesNothing ts k.plan.undo n logs) s.counter (subst (λ (p : Plan). OwesNothing ts p.undo h.counter logs) s.plan o)
 
 same_rests : (h k : Restart) (c : Contents) (logs : List Log) → IsSameBut h k → Rests h c logs → Rests k c logs
 same_rests h k c logs s r = rests_as h k c logs (ap (λ (p : Plan). p.ends) s.plan) (ap (λ (p : Plan). p.endings) s.plan) s.renews r
 
 -- its calls leave the rest of the restart as it was
-renew_joins : PartLaws → (h : Restart) (n : Next) (p : Plan) (c : Contents) (logs : List Log) → Turns h n → RenewLeads n c logs → Rests h c logs → OwesNothing h.plan.undo h.counter logs → SoundLeads n p c logs
-renew_joins l h n p c logs (inl t) (inl g) r o = inl (g.0, renews_in n.0.stage p n.0 c logs g.1 (same_rests h n.0 c logs t.same r) (nothing_as h n.0 logs t.same o))
-renew_joins l h n p c logs (inl t) (inr e) r o = absurd ((subst EndsOnly (sym e.goes) (next_only e.behind)).0 t.renewal)
-renew_joins l h n p c logs (inr (inl t)) (inl g) r o = absurd ((subst EndsOnly (sym t.goes) (next_only t.behind)).0 (is_renewal n.0.stage n.0 c logs g.1))
-renew_joins l h n p c logs (inr (inl t)) (inr e) r o =
-    end_joins n p c logs (subst (λ (m : Next). EndLeads m c logs) (sym t.goes) (l.ending t.behind c logs (record { rests = same_rests h t.behind c logs t.same r; nothing = nothing_as h t.behind logs t.same o; new = e.new })))
-renew_joins l h n p c logs (inr (inr t)) (inl g) r o = absurd (let e : state.Going ≡ state.Damaged t.on t.byte = sym g.0 ∙ t.tells in let no : ⊥ = cc in no)
-renew_joins l h n p c logs (inr (inr t)) (inr e) r o = absurd ((subst EndsOnly (sym e.goes) (next_only e.behind)).1 t.on t.byte t.tells)
+renew_joins : PartLaws → (ts : ToEnd) (h : Restart) (n : Next) (p : Plan) (c : Contents) (logs : List Log) → Turns h n → RenewLeads n c logs → Rests h c logs → OwesNothing ts h.plan.undo h.counter logs → SoundLeads ts n p c logs
+renew_joins l ts h n p c logs (inl t) (inl g) r o = inl (g.0, renews_in ts n.0.stage p n.0 c logs g.1 (same_rests h n.0 c logs t.same r) (nothing_as ts h n.0 logs t.same o))
+renew_joins l ts h n p c logs (inl t) (inr e) r o = absurd ((subst EndsOnly (sym e.goes) (next_only e.behind)).0 t.renewal)
+renew_joins l ts h n p c logs (inr (inl t)) (inl g) r o = absurd ((subst EndsOnly (sym t.goes) (next_only t.behind)).0 (is_renewal n.0.stage n.0 c logs g.1))
+renew_joins l ts h n p c logs (inr (inl t)) (inr e) r o =
+    end_joins ts n p c logs (subst (λ (m : Next). EndLeads ts m c logs) (sym t.goes) (l.ending ts t.behind c logs (record { rests = same_rests h t.behind c logs t.same r; nothing = nothing_as ts h t.behind logs t.same o; new = e.new })))
+renew_joins l ts h n p c logs (inr (inr t)) (inl g) r o = absurd (let e : state.Going ≡ state.Damaged t.on t.byte = sym g.0 ∙ t.tells in let no : ⊥ = cc in no)
+renew_joins l ts h n p c logs (inr (inr t)) (inr e) r o = absurd ((subst EndsOnly (sym e.goes) (next_only e.behind)).1 t.on t.byte t.tells)
 
 -- ---- the undo
 
-undo_in : (st : Stage) (p : Plan) (h : Restart) (c : Contents) (logs : List Log) → UndoIn st h c logs → SoundIn st p h c logs
-undo_in stage.ReadLog p h c logs i = absurd i
-undo_in (stage.CutTail tail) p h c logs i = absurd i
-undo_in (stage.RedoRead page) p h c logs i = absurd i
-undo_in (stage.RedoWrite page) p h c logs i = absurd i
-undo_in (stage.CloseAppend member) p h c logs i = i
-undo_in (stage.UndoRead page) p h c logs i = i
-undo_in (stage.UndoAppend member page) p h c logs i = i
-undo_in (stage.UndoWrite page) p h c logs i = i
-undo_in (stage.RenewRead page) p h c logs i = absurd i
-undo_in (stage.RenewWrite page) p h c logs i = absurd i
-undo_in (stage.EndAppend member) p h c logs i = absurd i
-undo_in stage.End p h c logs i = absurd i
+undo_in : (ts : ToEnd) (st : Stage) (p : Plan) (h : Restart) (c : Contents) (logs : List Log) → UndoIn ts st h c logs → SoundIn ts st p h c logs
+undo_in ts stage.ReadLog p h c logs i = absurd i
+undo_in ts (stage.CutTail tail) p h c logs i = absurd i
+undo_in ts (stage.RedoRead page) p h c logs i = absurd i
+undo_in ts (stage.RedoWrite page) p h c logs i = absurd i
+undo_in ts (stage.CloseAppend member) p h c logs i = i
+undo_in ts (stage.UndoRead page) p h c logs i = i
+undo_in ts (stage.UndoAppend member page) p h c logs i = i
+undo_in ts (stage.UndoWrite page) p h c logs i = i
+undo_in ts (stage.RenewRead page) p h c logs i = absurd i
+undo_in ts (stage.RenewWrite page) p h c logs i = absurd i
+undo_in ts (stage.EndAppend member) p h c logs i = absurd i
+undo_in ts stage.End p h c logs i = absurd i
 
 -- a page of version 1 is there only where they are looked for
 asked : (h : Restart) (c : Contents) → (h.renews ≡ false → NoneIsOld c) → (id : PageId) → is_old (page_at c.pages id) ≡ true → h.renews ≡ true
@@ -218,46 +219,46 @@ asked h c none id old = elim (cases_Bool h.renews) as (λ _. h.renews ≡ true) 
   | inr idle ↦ absurd (both_ways (is_old (page_at c.pages id)) (none idle id) old)
 ]
 
-pub undo_joins : PartLaws → (n : Next) (p : Plan) (c : Contents) (logs : List Log) → UndoLeads n c logs → SoundLeads n p c logs
-undo_joins l n p c logs (inl g) = inl (g.0, undo_in n.0.stage p n.0 c logs g.1)
-undo_joins l n p c logs (inr u) =
-    subst (λ (m : Next). SoundLeads m p c logs) (sym u.goes)
-    (renew_joins l u.behind (begin_renewal u.behind) p c logs (begin_turns u.behind)
+pub undo_joins : PartLaws → (ts : ToEnd) (n : Next) (p : Plan) (c : Contents) (logs : List Log) → UndoLeads ts n c logs → SoundLeads ts n p c logs
+undo_joins l ts n p c logs (inl g) = inl (g.0, undo_in ts n.0.stage p n.0 c logs g.1)
+undo_joins l ts n p c logs (inr u) =
+    subst (λ (m : Next). SoundLeads ts m p c logs) (sym u.goes)
+    (renew_joins l ts u.behind (begin_renewal u.behind) p c logs (begin_turns u.behind)
     (l.renewal u.behind c logs u.rests.stands.sound.now u.rests.last (asked u.behind c u.rests.stands.renews)) u.rests u.nothing)
 
 -- ---- cuts and redo
 
-bring_in : (st : Stage) (p : Plan) (h : Restart) (c : Contents) (logs : List Log) → BringIn st p h c logs → SoundIn st p h c logs
-bring_in stage.ReadLog p h c logs i = absurd i
-bring_in (stage.CutTail tail) p h c logs i = i
-bring_in (stage.RedoRead page) p h c logs i = i
-bring_in (stage.RedoWrite page) p h c logs i = i
-bring_in (stage.CloseAppend member) p h c logs i = absurd i
-bring_in (stage.UndoRead page) p h c logs i = absurd i
-bring_in (stage.UndoAppend member page) p h c logs i = absurd i
-bring_in (stage.UndoWrite page) p h c logs i = absurd i
-bring_in (stage.RenewRead page) p h c logs i = absurd i
-bring_in (stage.RenewWrite page) p h c logs i = absurd i
-bring_in (stage.EndAppend member) p h c logs i = absurd i
-bring_in stage.End p h c logs i = absurd i
+bring_in : (ts : ToEnd) (st : Stage) (p : Plan) (h : Restart) (c : Contents) (logs : List Log) → BringIn ts st p h c logs → SoundIn ts st p h c logs
+bring_in ts stage.ReadLog p h c logs i = absurd i
+bring_in ts (stage.CutTail tail) p h c logs i = i
+bring_in ts (stage.RedoRead page) p h c logs i = i
+bring_in ts (stage.RedoWrite page) p h c logs i = i
+bring_in ts (stage.CloseAppend member) p h c logs i = absurd i
+bring_in ts (stage.UndoRead page) p h c logs i = absurd i
+bring_in ts (stage.UndoAppend member page) p h c logs i = absurd i
+bring_in ts (stage.UndoWrite page) p h c logs i = absurd i
+bring_in ts (stage.RenewRead page) p h c logs i = absurd i
+bring_in ts (stage.RenewWrite page) p h c logs i = absurd i
+bring_in ts (stage.EndAppend member) p h c logs i = absurd i
+bring_in ts stage.End p h c logs i = absurd i
 
-pub bring_joins : PartLaws → (n : Next) (p : Plan) (c : Contents) (logs : List Log) → BringLeads n p c logs → SoundLeads n p c logs
-bring_joins l n p c logs (inl g) = inl (g.0, bring_in n.0.stage p n.0 c logs g.1)
-bring_joins l n p c logs (inr b) = undo_joins l n p c logs (subst (λ (m : Next). UndoLeads m c logs) (sym b.goes) (l.undo b.behind c logs b.begins))
+pub bring_joins : PartLaws → (ts : ToEnd) (n : Next) (p : Plan) (c : Contents) (logs : List Log) → BringLeads ts n p c logs → SoundLeads ts n p c logs
+bring_joins l ts n p c logs (inl g) = inl (g.0, bring_in ts n.0.stage p n.0 c logs g.1)
+bring_joins l ts n p c logs (inr b) = undo_joins l ts n p c logs (subst (λ (m : Next). UndoLeads ts m c logs) (sym b.goes) (l.undo ts b.behind c logs b.begins))
 
 pub course_begins : PartLaws → CourseBegins
-course_begins l p h c logs d = bring_joins l (next_tail h) p c logs (l.cuts p h c logs d)
+course_begins l ts p h c logs d = bring_joins l ts (next_tail h) p c logs (l.cuts ts p h c logs d)
 
 -- ---- the calls of the renewal
 
-pub renewal_reads : PartLaws → (h : Restart) (page : PageId) (p : Plan) (c : Contents) (logs : List Log) → Renewing (stage.RenewRead page) h c logs → SoundLeads (take_done (with_hand h (page_at c.pages page)) (stage.RenewRead page)) p c logs
-renewal_reads l h page p c logs d =
+pub renewal_reads : PartLaws → (ts : ToEnd) (h : Restart) (page : PageId) (p : Plan) (c : Contents) (logs : List Log) → Renewing ts (stage.RenewRead page) h c logs → SoundLeads ts (take_done (with_hand h (page_at c.pages page)) (stage.RenewRead page)) p c logs
+renewal_reads l ts h page p c logs d =
     let k = with_hand h (page_at c.pages page) in
-    renew_joins l h (take_done k (stage.RenewRead page)) p c logs (old_turns h k page (record { plan = refl; counter = refl; renews = refl })) (l.reads h page c logs d.renews) d.rests d.nothing
+    renew_joins l ts h (take_done k (stage.RenewRead page)) p c logs (old_turns h k page (record { plan = refl; counter = refl; renews = refl })) (l.reads h page c logs d.renews) d.rests d.nothing
 
 -- a page of version 1 is written as it was, in the version that is written
-written_rests : (h : Restart) (page : PageId) (c : Contents) (logs : List Log) → Renewing (stage.RenewWrite page) h c logs → IsSoundNow (with_page c page h.page) logs → Rests h (with_page c page h.page) logs
-written_rests h page c logs d now =
+written_rests : (ts : ToEnd) (h : Restart) (page : PageId) (c : Contents) (logs : List Log) → Renewing ts (stage.RenewWrite page) h c logs → IsSoundNow (with_page c page h.page) logs → Rests h (with_page c page h.page) logs
+written_rests ts h page c logs d now =
     let old = d.renews.old in
     let was = page_at c.pages page in
     let here : current h.page ≡ last_images logs page =
@@ -272,8 +273,8 @@ written_rests h page c logs d now =
       last = λ id. put_has (λ (n : PageId) (q : List ℕ). current q ≡ last_images logs n) c page id h.page here (λ _. d.rests.last id);
     }
 
-pub renewal_writes : PartLaws → (h : Restart) (page : PageId) (p : Plan) (c : Contents) (logs : List Log) → Renewing (stage.RenewWrite page) h c logs
-    → IsSoundNow (with_page c page h.page) logs × SoundLeads (take_done h (stage.RenewWrite page)) p (with_page c page h.page) logs
-renewal_writes l h page p c logs d =
+pub renewal_writes : PartLaws → (ts : ToEnd) (h : Restart) (page : PageId) (p : Plan) (c : Contents) (logs : List Log) → Renewing ts (stage.RenewWrite page) h c logs
+    → IsSoundNow (with_page c page h.page) logs × SoundLeads ts (take_done h (stage.RenewWrite page)) p (with_page c page h.page) logs
+renewal_writes l ts h page p c logs d =
     let w = l.writes h page c logs d.renews in
-    (w.0, renew_joins l h (take_done h (stage.RenewWrite page)) p (with_page c page h.page) logs (next_turns h h page (same_self h)) w.1 (written_rests h page c logs d w.0) d.nothing)
+    (w.0, renew_joins l ts h (take_done h (stage.RenewWrite page)) p (with_page c page h.page) logs (next_turns h h page (same_self h)) w.1 (written_rests ts h page c logs d w.0) d.nothing)

@@ -18,6 +18,8 @@ returns g c = events_keep _ g.C.CacheFace.directory g.D.Disk.alive g.D.Disk.cont
   resting = c.events_logged.ensures.resting;
   up_fails = c.failures_logged.ensures.up;
   restart_fails = c.failures_logged.ensures.restart;
-  unread = c.restarts_leave.ensures.unread;
-  read = c.restarts_leave.ensures.read;
+  handed_fails = c.failures_logged.ensures.handed;
+  stop = c.restarts_stop.ensures;
+  leave = c.failures_leave.ensures;
+  nothing = c.rests_tell.ensures.none;
 })

@@ -5,6 +5,18 @@ use Rattle.claimed_logs.proofs.Resting.{resting_events}
 pub returns : goal.returns
 returns c =
     let facts : Facts = record {
+      alike = record {
+        both = c.both_tell.ensures;
+        tell = c.open_trans_tell.ensures;
+        all = c.opens_are_all.ensures;
+        last = c.appends_tell.ensures.last;
+        whole = c.appends_tell.ensures.whole;
+        leave = c.rests_tell.ensures.leave;
+      };
+      courses = record { steps = c.courses_go.ensures.steps; hands = c.courses_go.ensures.hands; ends = c.courses_go.ensures.ends };
+      locked = c.logs_stay_locked.ensures.local;
+      tell = c.courses_go.ensures.tell;
+      lists = c.lists_go.ensures;
       one = c.logs_claimed.ensures.one;
       spare = c.moves_spare.ensures;
       made = c.members_log.ensures.made;
@@ -23,6 +35,6 @@ returns c =
         one = facts.one;
         made = facts.made;
         left = record { left = c.claims_stay.ensures.other; more = c.numbers_stay.ensures.more };
-        commands = facts.commands;
+        stays = c.courses_go.ensures.rests;
       });
     }

@@ -9,4 +9,5 @@ returns c = phases_logged (record {
   reads = c.reads_true.ensures.begin;
   left = c.claims_stay-2.ensures.other;
   more = c.numbers_stay.ensures.more;
+  closes = c.restarts_close.ensures.begin;
 })

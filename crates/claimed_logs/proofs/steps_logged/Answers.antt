@@ -5,6 +5,14 @@ use Rattle.claimed_logs.proofs.Up.{up_steps}
 pub returns : goal.returns
 returns c = record {
   up = up_steps (record {
+    alike = record {
+      both = c.both_tell.ensures;
+      tell = c.open_trans_tell.ensures;
+      all = c.opens_are_all.ensures;
+      last = c.appends_tell.ensures.last;
+      whole = c.appends_tell.ensures.whole;
+      leave = c.rests_tell.ensures.leave;
+    };
     event = c.numbers_stay.ensures.event;
     reach = c.numbers_stay.ensures.local;
     more = c.numbers_stay.ensures.more;

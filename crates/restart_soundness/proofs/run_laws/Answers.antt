@@ -11,5 +11,8 @@ returns c =
       stand = c.page_laws.ensures.rows;
       settles = c.queue_laws.ensures.empty;
       ended = c.open_laws.ensures.ended;
+      opens = c.fit_laws.ensures.opens;
+      before = c.step_laws.ensures.before;
+      logs = record { reads = c.log_laws.ensures.sound; spell = c.appends_tell.ensures.spell; allowed = c.rests_tell.ensures.allowed; both = c.both_tell.ensures };
     } in
     record { run = runs_leave_sound l; restart = restarts_leave_sound l }

@@ -19,5 +19,6 @@ returns c =
       reads = c.restart_laws.ensures.goes;
       leaves = c.step_laws.ensures.leaves;
       answer = c.step_laws.ensures.answer;
+      grows = c.step_laws.ensures.grows;
     } in
     record { begins = restart_begins l; step = step_leaves_sound l; run = run_leaves_sound l }

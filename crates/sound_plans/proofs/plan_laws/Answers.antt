@@ -1,6 +1,7 @@
 use Rattle.sound_plans.proofs.Planned_closings.{closings_fit}
 use Rattle.sound_plans.proofs.Fitting_queue.{queue_fits}
 use Rattle.sound_plans.proofs.Planned.{plan_appends}
+use Rattle.sound_plans.proofs.Planned_ends.{plan_takes_opens}
 use Rattle.sound_plans.proofs.Counted.{numbers_suffice}
 use Rattle.sound_plans.proofs.plan_laws.Goals as goal
 
@@ -15,3 +16,6 @@ returns-clause-appends c = plan_appends (closings_fit c.open_laws.ensures.tell c
 
 pub returns-clause-numbers : goal.returns-clause-numbers
 returns-clause-numbers c = numbers_suffice c.open_laws.ensures.tell
+
+pub returns-clause-takes : goal.returns-clause-takes
+returns-clause-takes c = plan_takes_opens c.open_laws.ensures.tell (queue_fits c.open_laws.ensures.tell)

@@ -1,5 +1,6 @@
 use Rattle.sound_steps.proofs.Joined.{PartLaws, course_begins}
 use Rattle.sound_steps.proofs.Steps.{StepLaws, call_leaves_sound, answer_goes_on}
+use Rattle.sound_steps.proofs.Grown.{grown_in, call_grows}
 use Rattle.sound_steps.proofs.step_laws.Goals as goal
 
 pub returns : goal.returns
@@ -23,4 +24,4 @@ returns c =
       undo_write = c.undo_laws.ensures.writes;
       ending = c.ending_laws.ensures.goes;
     } in
-    record { begins = course_begins parts; leaves = call_leaves_sound l; answer = answer_goes_on l }
+    record { begins = course_begins parts; leaves = call_leaves_sound l; answer = answer_goes_on l; before = grown_in; grows = call_grows (record { reads = c.log_laws.ensures.sound; cuts = c.whole_laws.ensures.cut }) }
