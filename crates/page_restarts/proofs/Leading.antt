@@ -28,7 +28,7 @@ use Rattle.page_members.specs.Members.{CommandsLeave, SameOthers, Shows}
 use Rattle.page_restarts.specs.Beside.{Beside, Leads, OthersRestart}
 use Rattle.page_restarts.specs.Bringing.{ReadsOn, TestsOn}
 use Rattle.page_restarts.specs.Hands.{FillGoes, WriteGoes}
-use Rattle.page_restarts.specs.Locals.{CastsNone, ReachesGo}
+use Rattle.page_restarts.specs.Locals.{CastsNone, MayPark, ReachesGo}
 use Rattle.page_restarts.specs.Locks.{AppendGoes, GiveUpGoes, LockGoes, StayGoes}
 use Rattle.page_restarts.specs.Stands.{Begins, Goes, IsRestarting, SameHand, behind, copy_of}
 use Rattle.page_restarts.specs.Undoes.{UndoGoes, undone_behind}
@@ -179,6 +179,7 @@ Level g m k = k.marks.hand.changed ≡ true → is_some k.marks.hand.key ≡ tru
 pub record Led (w : World) (v : Outside) (g : Holdings) (content : ℕ → ℕ → List ℕ) (forced : ℕ → ℕ) (h k : Held) (owned : ℕ → Option ℕ) : Type 0 where
   pub leads : Leads w v g content forced h k
   pub level : Level leads.left h.marks.member k
+  pub uncast : CastsNone g h.marks.member → CastsNone leads.left h.marks.member
   pub owner : leads.left.owner ≡ owned
 
 -- the castout locks are as they were
@@ -200,7 +201,6 @@ made law w u v g left content versions forced force h k b goes facility drive so
       begins = record { good = law set_of goes.moves w goes.moved.world b.begins.good goes.moved.run; tied = goes.moved.tied; numbered = goes.numbered; sound = sound; restarts = goes.stands };
       facility = facility;
       drive = drive;
-      casts = subst (λ m. CastsNone left m) (sym goes.same) (still_none w goes.moved.world g left content versions h.marks.member b.begins.tied goes.moved.tied goes.casts b.casts);
       read = read;
     };
     same = goes.same;
@@ -208,6 +208,7 @@ made law w u v g left content versions forced force h k b goes facility drive so
     kept = kept;
   };
   level = level;
+  uncast = still_none w goes.moved.world g left content versions h.marks.member b.begins.tied goes.moved.tied goes.casts;
   owner = refl;
 }
 
@@ -343,13 +344,13 @@ pub record LedOn (w : World) (v : Outside) (g : Holdings) (content : ℕ → ℕ
   pub owner : leads.left.owner ≡ owned
 
 pub ended : Facts → (w : World) (v : Outside) (g : Holdings) (content : ℕ → ℕ → List ℕ) (forced : ℕ → ℕ) (h mid k : Held)
-    → (a : Leads w v g content forced h mid) → (mid.marks.hand.changed ≡ true → is_some mid.marks.hand.key ≡ true → a.left.stable mid.marks.member ≡ a.left.written mid.marks.member) → Ends mid k → k.marks.own.is_read ≡ true → LedOn w v g content forced h k a.left.owner
+    → (a : Leads w v g content forced h mid) → MayPark a.left mid → Ends mid k → k.marks.own.is_read ≡ true → LedOn w v g content forced h k a.left.owner
 ended facts w v g content forced h mid k a park ends read =
     let b = a.beside in
     let f = a.left.facility in
     let m = mid.marks.member in
     let left = behind a.left f m k in
-    let goes : Goes a.world a.versions a.force left mid k = facts.reaches a.world a.left a.versions a.force mid k b.begins b.casts park ends in
+    let goes : Goes a.world a.versions a.force left mid k = facts.reaches a.world a.left a.versions a.force mid k b.begins park ends in
     record {
       leads = record {
         moves = a.moves ++ goes.moves;
@@ -362,7 +363,6 @@ ended facts w v g content forced h mid k a park ends read =
           begins = record { good = facts.good set_of goes.moves a.world goes.moved.world b.begins.good goes.moved.run; tied = goes.moved.tied; numbered = goes.numbered; sound = b.begins.sound; restarts = goes.stands };
           facility = b.facility;
           drive = b.drive;
-          casts = subst (λ z. CastsNone a.left z) (sym goes.same) b.casts;
           read = read;
         };
         same = goes.same ∙ a.same;

@@ -189,7 +189,7 @@ is_kept : (changed key : Bool) → changed ≡ true → (not changed || key) ≡
 is_kept true key e f = f
 is_kept false key e f = absurd (cc e)
 
-module _ (takes : TakesUp) (puts : PutsDown) (w : World) (g : Holdings) (content : ℕ → ℕ → List ℕ) (forced : ℕ → ℕ) (h : Held) (b : Begins w g content forced h) (none : CastsNone g h.marks.member) (park : MayPark g h) where
+module _ (takes : TakesUp) (puts : PutsDown) (w : World) (g : Holdings) (content : ℕ → ℕ → List ℕ) (forced : ℕ → ℕ) (h : Held) (b : Begins w g content forced h) (park : MayPark g h) where
   abbrev s : RestartState
   s = h.marks
 
@@ -223,7 +223,9 @@ module _ (takes : TakesUp) (puts : PutsDown) (w : World) (g : Holdings) (content
 
   put_aside : (x : Bool) → s.hand.changed ≡ x → may_put_down s.hand s.claim ≡ true → Left (with_hand s no_hand)
   put_aside false e may = (puts w g content forced h b e).goes
-  put_aside true e may = puts_aside w g content forced h b none (park e (is_kept s.hand.changed (is_some s.hand.key) e (and_parts (not (claims_hand s.claim s.hand.page)) (not s.hand.changed || is_some s.hand.key) may).1))
+  put_aside true e may =
+      let parks = park e (is_kept s.hand.changed (is_some s.hand.key) e (and_parts (not (claims_hand s.claim s.hand.page)) (not s.hand.changed || is_some s.hand.key) may).1) in
+      puts_aside w g content forced h b parks.1 parks.0
 
   closes : (id : ℕ) → Left (record s { log = after_put s.log (closing_record s id); trans = after_end s.trans id })
   closes id = record {
@@ -259,7 +261,7 @@ module _ (takes : TakesUp) (puts : PutsDown) (w : World) (g : Holdings) (content
 
 -- a page in hand that may be put aside still may be
 abbrev Parks : Holdings → ℕ → RestartState → Type 0
-Parks g m t = t.hand.changed ≡ true → is_some t.hand.key ≡ true → g.stable m ≡ g.written m
+Parks g m t = t.hand.changed ≡ true → is_some t.hand.key ≡ true → (g.stable m ≡ g.written m) × CastsNone g m
 
 park_if : (g : Holdings) (m : ℕ) (x : Bool) (s t : RestartState) → Parks g m s → Parks g m t → Parks g m (if x then t else s)
 park_if g m true s t a b = b
@@ -280,21 +282,20 @@ park_one g m PutDown s a = park_if g m (may_put_down s.hand s.claim) s (with_han
 park_one g m (Close id) s a = park_if g m (may_close s id) s (record s { log = after_put s.log (closing_record s id); trans = after_end s.trans id }) a a
 
 -- ---- several
-all_go : AlwaysGood → TakesUp → PutsDown → (xs : List Local) (w : World) (g : Holdings) (content : ℕ → ℕ → List ℕ) (forced : ℕ → ℕ) (h : Held) → Begins w g content forced h → CastsNone g h.marks.member → MayPark g h
+all_go : AlwaysGood → TakesUp → PutsDown → (xs : List Local) (w : World) (g : Holdings) (content : ℕ → ℕ → List ℕ) (forced : ℕ → ℕ) (h : Held) → Begins w g content forced h → MayPark g h
     → Goes w content forced (behind g g.facility h.marks.member (with_marks h (all_moved xs h.marks))) h (with_marks h (all_moved xs h.marks))
-all_go good takes puts [] w g content forced h b none park = idle takes puts w g content forced h b none park
-all_go good takes puts (x ∷ xs) w g content forced h b none park =
+all_go good takes puts [] w g content forced h b park = idle takes puts w g content forced h b park
+all_go good takes puts (x ∷ xs) w g content forced h b park =
     let t = with_marks h (moved x h.marks) in
-    let a = one takes puts w g content forced h b none park x in
+    let a = one takes puts w g content forced h b park x in
     let left = behind g g.facility h.marks.member t in
     goes_on w g content forced g.facility h t (with_marks h (all_moved xs (moved x h.marks))) a
     (all_go good takes puts xs a.moved.world left content forced t
     (record { good = good set_of a.moves w a.moved.world b.good a.moved.run; tied = a.moved.tied; numbered = a.numbered; sound = b.sound; restarts = a.stands })
-    (λ n. subst (λ z. castout_of g.facility.directory (page_at n) ≢ Some z) (sym a.same) (none n))
     (subst (λ z. Parks g z (moved x h.marks)) (sym a.same) (park_one g h.marks.member x h.marks park)))
 
 pub reaches_go : AlwaysGood → TakesUp → PutsDown → ReachesGo
 unfolding Reaches
-reaches_go good takes puts w g content forced h k b none park ends =
+reaches_go good takes puts w g content forced h k b park ends =
     let is : k ≡ with_marks h (all_moved ends.0.0 h.marks) = ends.1 ∙ ap (with_marks h) ends.0.1 in
-    subst (λ (z : Held). Goes w content forced (behind g g.facility h.marks.member z) h z) (sym is) (all_go good takes puts ends.0.0 w g content forced h b none park)
+    subst (λ (z : Held). Goes w content forced (behind g g.facility h.marks.member z) h z) (sym is) (all_go good takes puts ends.0.0 w g content forced h b park)

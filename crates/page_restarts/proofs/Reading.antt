@@ -67,12 +67,12 @@ use Rattle.page_world.specs.Numbers.{page_at, set_of}
 use Rattle.page_members.specs.Members.{CommandsLeave, SameOthers, Shows, leaves_pages}
 use Rattle.page_restarts.specs.Beside.{as_restarting}
 use Rattle.page_restarts.specs.Events.{Owns, asks_page, frees_page}
-use Rattle.page_restarts.specs.Locals.{CastsNone, ReachesGo}
+use Rattle.page_restarts.specs.Locals.{ReachesGo}
 use Rattle.page_restarts.specs.Locks.{StayGoes}
 use Rattle.page_restarts.specs.Reading.{IsReading, LogIsWhole, ReadingBegins, ReadingGoes, ReadingLeads, ReadingOwns, reading}
 use Rattle.page_restarts.specs.Stands.{Begins, Goes, IsRestarting, SameHand, behind, hand_copy}
 use Rattle.page_restarts.proofs.Events.{own_reaches, owns_same, unasked, was_done}
-use Rattle.page_restarts.proofs.Leading.{KeepsStandings, directory_standings, others_behind, others_facility, put_other, standings_of, standings_same, still_none, unregister_goes, went_on}
+use Rattle.page_restarts.proofs.Leading.{KeepsStandings, directory_standings, others_behind, others_facility, put_other, standings_of, standings_same, unregister_goes, went_on}
 use Rattle.page_restarts.proofs.Needs.{asks_page as asks_page_of, err_ok, just_as, sent_as}
 use Rattle.page_restarts.proofs.Owning.{still}
 use Rattle.page_restarts.proofs.Standing.{copy_none}
@@ -264,7 +264,6 @@ module _ (facts : Facts) (w : World) (u v : Outside) (g : Holdings) (content : �
       begins = record { good = facts.good set_of goes.moves w goes.moved.world b.begins.good goes.moved.run; tied = goes.moved.tied; numbered = goes.numbered; sound = sound; restarts = goes.stands };
       facility = refl;
       drive = drive;
-      casts = subst (λ m. CastsNone (with_facility g v.facility) m) (sym goes.same) (still_none w goes.moved.world g (with_facility g v.facility) content content h.marks.member b.begins.tied goes.moved.tied goes.casts b.casts);
       level = subst (λ m. g.written m ≡ g.stable m) (sym (member on)) b.level;
       unread = ap (λ (z : RestartState). z.own.is_read) on.is ∙ on.unread;
       rest = rests on;
@@ -310,9 +309,6 @@ module _ (facts : Facts) (w : World) (u v : Outside) (g : Holdings) (content : �
       subst (λ z. AreNumbered w content (put forced z last)) same_member
       (subst (λ z. AreNumbered w content (put forced mid.marks.member z)) (ap (λ (z : RestartState). z.log.stable) is) (tells (ap (λ (z : RestartState). z.own.is_read) is)))
 
-  casts : CastsNone g mid.marks.member
-  casts = subst (λ z. CastsNone g z) (sym same_member) b.casts
-
   restarts : IsRestarting g force mid
   restarts =
       let r = b.begins.restarts in
@@ -340,7 +336,7 @@ module _ (facts : Facts) (w : World) (u v : Outside) (g : Holdings) (content : �
   begins = record { good = b.begins.good; tied = b.begins.tied; numbered = numbered; sound = b.begins.sound; restarts = restarts }
 
   goes : Goes w content force (behind g g.facility mid.marks.member k) mid k
-  goes = facts.reaches w g content force mid k begins casts (λ e _. absurd (unchanged e)) ends
+  goes = facts.reaches w g content force mid k begins (λ e _. absurd (unchanged e)) ends
 
   read_whole : ReadingLeads w v g content forced h k
   read_whole =
@@ -356,7 +352,6 @@ module _ (facts : Facts) (w : World) (u v : Outside) (g : Holdings) (content : �
           begins = record { good = facts.good set_of goes.moves w goes.moved.world b.begins.good goes.moved.run; tied = goes.moved.tied; numbered = goes.numbered; sound = b.begins.sound; restarts = goes.stands };
           facility = b.facility ∙ sym same;
           drive = drive;
-          casts = subst (λ z. CastsNone g z) (sym goes.same) casts;
           read = ap (λ (z : OwnState). z.is_read) (own_reaches mid.marks k.marks ends.0) ∙ ap (λ (z : RestartState). z.own.is_read) is;
         });
         same = goes.same ∙ same_member;
@@ -500,7 +495,6 @@ reading_begins w u g content forced m h group left facility drive new = record {
   begins = record { good = group.good; tied = group.tied; numbered = fewer w content forced m group.numbered; sound = group.sound; restarts = restarts };
   facility = facility;
   drive = drive;
-  casts = subst (λ z. CastsNone g z) (sym member) left.casts;
   level = subst (λ z. g.written z ≡ g.stable z) (sym member) left.level;
   unread = ap (λ (z : OwnState). z.is_read) new.marks.own.rest;
   rest = fresh ∙ (λ i. reading (sym member i) h.marks.own);

@@ -8,19 +8,17 @@ use Rattle.page_world.specs.Numbers.{set_of}
 use Rattle.page_world.specs.Holdings.{Holdings}
 -- given out again: what an event of one member leaves of the others
 pub use Rattle.page_members.specs.Members.{SameOthers, Shows}
-use Rattle.page_restarts.specs.Locals.{CastsNone}
 use Rattle.page_restarts.specs.Stands.{Begins, IsRestarting}
 
 -- the facility and the disk, as a restart sees them
 abbrev pub as_restarting : Outside → restarting.World
 as_restarting u = record { facility = u.facility; drive = record { alive = u.drive.alive; contents = u.drive.contents } }
 
--- what the group holds is what is there, and of this member what its restart has; it casts nothing out
+-- what the group holds is what is there, and of this member what its restart has
 pub record Beside (w : World) (u : Outside) (g : Holdings) (content : ℕ → ℕ → List ℕ) (forced : ℕ → ℕ) (h : Held) : Type 0 where
   pub begins : Begins w g content forced h
   pub facility : g.facility ≡ u.facility
   pub drive : Shows u.drive g.disk
-  pub casts : CastsNone g h.marks.member
   pub read : h.marks.own.is_read ≡ true
 
 -- moves lead to a good world beside what is left, in which the restart is still in hand, and all else of the others is as it was. The bytes of

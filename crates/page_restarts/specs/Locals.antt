@@ -20,11 +20,11 @@ PutsAside = (w : World) (g : Holdings) (content : ℕ → ℕ → List ℕ) (for
     → Begins w g content forced h → CastsNone g h.marks.member → g.stable h.marks.member ≡ g.written h.marks.member
     → Goes w content forced (behind g g.facility h.marks.member (with_marks h (with_hand h.marks no_hand))) h (with_marks h (with_hand h.marks no_hand))
 
--- so it is of a changed page in hand whose record is still retained, as long as no change was taken back
+-- so it is of a changed page in hand whose record is still retained, as long as no change was taken back, and the member casts no page out
 abbrev pub MayPark : Holdings → Held → Type 0
-MayPark g h = h.marks.hand.changed ≡ true → is_some h.marks.hand.key ≡ true → g.stable h.marks.member ≡ g.written h.marks.member
+MayPark g h = h.marks.hand.changed ≡ true → is_some h.marks.hand.key ≡ true → (g.stable h.marks.member ≡ g.written h.marks.member) × CastsNone g h.marks.member
 
 -- whatever the policy does
 abbrev pub ReachesGo : Type 0
 ReachesGo = (w : World) (g : Holdings) (content : ℕ → ℕ → List ℕ) (forced : ℕ → ℕ) (h k : Held)
-    → Begins w g content forced h → CastsNone g h.marks.member → MayPark g h → Ends h k → Goes w content forced (behind g g.facility h.marks.member k) h k
+    → Begins w g content forced h → MayPark g h → Ends h k → Goes w content forced (behind g g.facility h.marks.member k) h k

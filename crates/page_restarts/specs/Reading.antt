@@ -24,7 +24,6 @@ use Rattle.page_members.specs.Members.{SameOthers, Shows}
 pub use Rattle.page_members.specs.Members.{Group}
 use Rattle.page_restarts.specs.Beside.{Beside, as_restarting}
 use Rattle.page_restarts.specs.Events.{Owns}
-use Rattle.page_restarts.specs.Locals.{CastsNone}
 use Rattle.page_restarts.specs.Stands.{Begins}
 
 -- but for the reader of its log it is as it began
@@ -50,7 +49,6 @@ pub record IsReading (w : World) (u : Outside) (g : Holdings) (content : ℕ →
   pub begins : Begins w g content forced h
   pub facility : g.facility ≡ u.facility
   pub drive : Shows u.drive g.disk
-  pub casts : CastsNone g h.marks.member
   pub level : g.written h.marks.member ≡ g.stable h.marks.member
   pub unread : h.marks.own.is_read ≡ false
   pub rest : h.marks ≡ reading h.marks.member h.marks.own
@@ -63,7 +61,6 @@ pub record IsLeft (g : Holdings) (m : ℕ) : Type 0 where
   pub restarts : status_of g.facility.lists.statuses m ≡ Restarting
   pub level : g.written m ≡ g.stable m
   pub copies : (n : ℕ) → g.copies m n ≡ no_copy
-  pub casts : CastsNone g m
 
 abbrev pub ReadingBegins : Type 0
 ReadingBegins = (w : World) (u : Outside) (g : Holdings) (content : ℕ → ℕ → List ℕ) (forced : ℕ → ℕ) (m : ℕ) (h : Held)

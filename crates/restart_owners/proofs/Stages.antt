@@ -1,5 +1,7 @@
 -- Any event of a restart, whether it reads its log yet or has read it.
 use Rattle.std.proofs.Common.{◌≡◌, ◌≢◌, ℕ, refl, sym, subst, inl, inr, List, Ok, Err}
+use Rattle.cache_structure.specs.Sound.{IsSound}
+use Rattle.facility.specs.States.{Held as Facility}
 use Rattle.member_intents.specs.declared.outcome.Answered.{Answered}
 use Rattle.member_resources.specs.Events.{World as Outside}
 use Rattle.restart_records.specs.Own.{OwnState}
@@ -15,15 +17,20 @@ use Rattle.lock_world.specs.Tied.{Claims}
 use Rattle.lock_restarts.specs.Stands.{Goes, Leads, OwnClaims}
 use Rattle.lock_restarts.specs.Changes.{gone_by}
 use Rattle.page_protocol.specs.Moves.{World}
-use Rattle.page_world.specs.Holdings.{Holdings}
-use Rattle.page_restarts.specs.Beside.{as_restarting}
+use Rattle.page_protocol.specs.Always.{AlwaysGood}
+use Rattle.page_world.specs.Holdings.{Holdings, KeepsPages, with_facility}
+use Rattle.page_world.specs.Numbers.{set_of}
+use Rattle.page_restarts.specs.Beside.{Shows, as_restarting}
+use Rattle.page_restarts.specs.Locks.{StayGoes}
+use Rattle.page_restarts.specs.Stands.{Begins, Goes as PageGoes, SameHand}
 use Rattle.page_restarts.specs.Events.{IsOver, Owns}
 use Rattle.page_restarts.specs.Reading.{IsReading, ReadingBegins, ReadingGoes, ReadingLeads, ReadingOwns, reading}
+use Rattle.page_restarts.proofs.Leading.{others_facility, standings_of}
 use Rattle.page_restarts.proofs.Needs.{err_ok}
 use Rattle.restart_owners.specs.Ends.{EndsGo}
 use Rattle.restart_owners.specs.Events.{BothRestart, EventsGo}
 use Rattle.restart_owners.specs.Owners.{RestartsBegin}
-use Rattle.restart_owners.specs.Stages.{InBoth, InPages, StageBegins, StageEnds, StageGoes, StageLeads, StageTells, StagesGo}
+use Rattle.restart_owners.specs.Stages.{InBoth, InPages, StageBegins, StageEnds, StageGoes, StageLeads, StageStays, StageTells, StagesGo}
 use Rattle.restart_owners.proofs.Going.{Known, stage_goes, staged}
 
 pub record Facts : Type 0 where
@@ -85,6 +92,54 @@ stages_go facts w l u v g content forced held left own h k s a b happens up tell
         let both : BothRestart w l u g content forced held own h = record { pages = x; sound = b.sound; tied = b.tied; restarts = b.restarts; knows = b.knows; owners = b.owners; owns = b.owns } in
         let paged = (facts.read w l u v g content forced held left own h k s a both happens up (tells.read x.read) frees leads).pages in
         led_by facts w l u v g content forced held left own h k s a b happens up tells leads locked (staged w v g content forced h k s a paged)
+
+-- ---- an event that changes nothing of the pages
+itself : (h : Held) → SameHand h h
+itself h = record { member = refl; log = refl; page = refl; copy = refl; last = refl }
+
+still_begins : AlwaysGood → (w : World) (v : Facility) (g : Holdings) (content : ℕ → ℕ → List ℕ) (forced : ℕ → ℕ) (h : Held) → Begins w g content forced h → KeepsPages g.facility v
+    → (goes : PageGoes w content forced (with_facility g v) h h) → Begins goes.moved.world (with_facility g v) content forced h
+still_begins good w v g content forced h b keeps goes = record {
+  good = good set_of goes.moves w goes.moved.world b.good goes.moved.run;
+  tied = goes.moved.tied;
+  numbered = goes.numbered;
+  sound = subst (λ z. IsSound z) (sym keeps.directory) b.sound;
+  restarts = goes.stands;
+}
+
+pub stage_stays : AlwaysGood → StayGoes → StageStays
+stage_stays good stay w u v g content forced h (inl r) keeps drive =
+    let now : KeepsPages g.facility v.facility = subst (λ (f : Facility). KeepsPages f v.facility) (sym r.facility) keeps in
+    let goes : PageGoes w content forced (with_facility g v.facility) h h = stay w g content forced h h v.facility r.begins now (itself h) in
+    record {
+      moves = goes.moves;
+      world = goes.moved.world;
+      run = goes.moved.run;
+      pages = inl (record {
+        begins = still_begins good w v.facility g content forced h r.begins now goes;
+        facility = refl;
+        drive = subst (λ z. Shows z g.disk) (sym drive) r.drive;
+        level = r.level;
+        unread = r.unread;
+        rest = r.rest;
+      });
+      others = others_facility g v.facility forced h.marks.member (standings_of g.facility v.facility now);
+    }
+stage_stays good stay w u v g content forced h (inr r) keeps drive =
+    let now : KeepsPages g.facility v.facility = subst (λ (f : Facility). KeepsPages f v.facility) (sym r.facility) keeps in
+    let goes : PageGoes w content forced (with_facility g v.facility) h h = stay w g content forced h h v.facility r.begins now (itself h) in
+    record {
+      moves = goes.moves;
+      world = goes.moved.world;
+      run = goes.moved.run;
+      pages = inr (record {
+        begins = still_begins good w v.facility g content forced h r.begins now goes;
+        facility = refl;
+        drive = subst (λ z. Shows z g.disk) (sym drive) r.drive;
+        read = r.read;
+      });
+      others = others_facility g v.facility forced h.marks.member (standings_of g.facility v.facility now);
+    }
 
 -- ---- the end
 not_up : (m : ℕ) (own : OwnState) (s : RestartSent) → need_of (reading m own) intent.Up ≡ Ok s → ⊥

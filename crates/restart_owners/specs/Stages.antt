@@ -18,7 +18,7 @@ use Rattle.lock_restarts.specs.Events.{FreesSent}
 use Rattle.lock_restarts.specs.Stands.{Goes, IsRestarting, Knows, Leads, OwnClaims}
 use Rattle.page_protocol.specs.Page.{put}
 use Rattle.page_protocol.specs.Moves.{World, Move, Run}
-use Rattle.page_world.specs.Holdings.{Holdings}
+use Rattle.page_world.specs.Holdings.{Holdings, KeepsPages, with_facility}
 use Rattle.page_world.specs.Numbers.{set_of}
 use Rattle.page_restarts.specs.Beside.{Beside, SameOthers, Shows, as_restarting}
 use Rattle.page_restarts.specs.Events.{IsOver, Owns}
@@ -89,6 +89,18 @@ abbrev pub StagesGo : Type 0
 StagesGo = (w : World) (l : LockWorld) (u v : Outside) (g : Holdings) (content : ℕ → ℕ → List ℕ) (forced : ℕ → ℕ) (held left : Claims) (own : OwnClaims) (h k : Held) (s : RestartSent) (a : Answered)
     → InBoth w l u g content forced held own h → (happens : Happens (as_restarting u) h s a (as_restarting v) k) → happens.intent ≢ intent.Up → StageTells w u v g content forced h k s a happens
     → FreesSent own s → Leads held left own h.marks k.marks → StageGoes w l u v g content forced left own h k s a
+
+-- ---- an event that changes nothing of the pages, as each of its own member's but those of a castout, leaves it beside them
+
+pub record PagesStay (w : World) (v : Outside) (g : Holdings) (content : ℕ → ℕ → List ℕ) (forced : ℕ → ℕ) (h : Held) : Type 0 where
+  pub moves : List Move
+  pub world : World
+  pub run : Run set_of w moves world
+  pub pages : InPages world v (with_facility g v.facility) content forced h
+  pub others : SameOthers g (with_facility g v.facility) forced forced h.marks.member
+
+abbrev pub StageStays : Type 0
+StageStays = (w : World) (u v : Outside) (g : Holdings) (content : ℕ → ℕ → List ℕ) (forced : ℕ → ℕ) (h : Held) → InPages w u g content forced h → KeepsPages u.facility v.facility → v.drive ≡ u.drive → PagesStay w v g content forced h
 
 -- ---- its end is one move of pages. It has read its log then, and its member owns no page
 abbrev pub StageEnds : Type 0
