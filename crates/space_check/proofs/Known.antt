@@ -1,10 +1,12 @@
 -- A disk that is sound by what is told of it table by table.
-use Rattle.std.proofs.Common.{◌≡◌, ℕ, ◌+◌, ◌-◌, ◌<◌, ◌≤◌, Bool, true, false, cond, List, [], ◌∷◌, ◌++◌, length, take, Option, Some, None, refl, sym, ap, subst, ◌∙◌, arith}
+use Rattle.std.proofs.Common.{◌≡◌, ℕ, ◌+◌, ◌-◌, ◌<◌, ◌≤◌, Bool, true, false, cond, List, [], ◌∷◌, ◌++◌, length, take, Option, Some, None, Result, Ok, Err, refl, sym, ap, subst, ◌∙◌, arith}
 use Rattle.std.specs.Prelude.{◌↔◌, ◌||◌, ◌&&◌, not, nat_le, slice_get, IfSome, IsTrue}
 use Rattle.std.specs.List.{list_any, AllByRecursion}
 use Rattle.std.proofs.lemmas.List.{take_at}
 use Rattle.std.proofs.lemmas.List.Folds.{list_any-append}
 use Rattle.ds_base.specs.Ids.{IsLrsn}
+use Rattle.ds_base.specs.Causes.{Rose}
+use Rattle.ds_disk.specs.declared.disk.DiskError.{DiskError}
 use Rattle.ds_disk.specs.Contents.{Contents, WhenTold, Becomes, Same}
 use Rattle.ds_disk.specs.Pages.{page_at}
 use Rattle.ds_model.specs.declared.log.LogRecord.{LogRecord}
@@ -23,7 +25,8 @@ use Rattle.sound_disk.specs.Whole_logs.{IsWholeLog, AreWholeLogs}
 use Rattle.sound_disk.specs.Versions.{merged}
 use Rattle.disk_logs.specs.Ends.{lengths_of, AreWholeTo}
 use Rattle.disk_walk.specs.Walks.{IsUpTo, AreUpTo, Begins, Stand}
-use Rattle.disk_walk.proofs.Reading.{told_before, told_all, told_by_both, if_some_is}
+use Rattle.disk_walk.specs.Reading.{Reads}
+use Rattle.disk_walk.proofs.Reading.{same_on, told_before, told_all, told_by_both, if_some_is}
 use Rattle.fitting_records.specs.declared.walked.Walked.{Walked}
 use Rattle.fitting_records.specs.Passed as passing
 use Rattle.fitting_records.specs.Passed.{all_of, PassedAreTransactions}
@@ -132,13 +135,13 @@ or_turn true true c = refl
 or_turn true false c = refl
 or_turn false b c = refl
 
+put_any : (p : LogRecord → Bool) (b : Bool) (r s : LogRecord) (ss : List LogRecord) → list_any p (put_by_lrsn r ss) ≡ (p r || list_any p ss) → list_any p (cond b (r ∷ s ∷ ss) (s ∷ put_by_lrsn r ss)) ≡ (p r || (p s || list_any p ss))
+put_any p true r s ss h = refl
+put_any p false r s ss h = ap (λ (x : Bool). p s || x) h ∙ or_turn (p s) (p r) (list_any p ss)
+
 any_put : (p : LogRecord → Bool) (r : LogRecord) (rs : List LogRecord) → list_any p (put_by_lrsn r rs) ≡ (p r || list_any p rs)
 any_put p r [] = refl
-any_put p r (s ∷ ss) = put_if (nat_le r.lrsn s.lrsn)
-  where
-    put_if : (b : Bool) → list_any p (cond b (r ∷ s ∷ ss) (s ∷ put_by_lrsn r ss)) ≡ (p r || (p s || list_any p ss))
-    put_if true = refl
-    put_if false = ap (λ (x : Bool). p s || x) (any_put p r ss) ∙ or_turn (p s) (p r) (list_any p ss)
+any_put p r (s ∷ ss) = put_any p (nat_le r.lrsn s.lrsn) r s ss (any_put p r ss)
 
 any_sorted : (p : LogRecord → Bool) (rs : List LogRecord) → list_any p (by_lrsn rs) ≡ list_any p rs
 any_sorted p [] = refl
@@ -218,9 +221,21 @@ sound_told fit merge tell turn number row merged_is own_is a b d ends behind w s
     (numbers.0 over) (kept so)) p (told_before a b S ab q))
     (told_before a b K ab (told_before b d K bd k))
 
-pub found_told : {V : Type 0} (items : V → List ℕ) → (a b : Option Contents) (ends : List ℕ) (found : Option V) (v : V) (IsR : Contents → Type 0) → found ≡ Some v → ends ≡ items v → WhenTold a (λ (c : Contents). IfSome found (λ es. AreWholeTo c.logs (items es)))
-    → Becomes a b Same → WhenTold b (λ (c : Contents). AreWholeTo c.logs ends → IsR c) → WhenTold a IsR
-found_told {V = V} items a b ends found v IsR is are p same q =
-    told_by_both a (λ (c : Contents). IfSome found (λ (es : V). AreWholeTo c.logs (items es))) (λ (c : Contents). AreWholeTo c.logs ends → IsR c) IsR
-    (λ c whole f. f (subst (AreWholeTo c.logs) (sym are) (if_some_is found v (λ (es : V). AreWholeTo c.logs (items es)) is whole))) p
-    (told_before a b (λ (c : Contents). AreWholeTo c.logs ends → IsR c) same q)
+rose_before : (a b c : ℕ) → a ≤ b → Rose b c → Rose a c
+rose_before a b c le rose = omega (arith, le, rose)
+
+-- what a reading tells behind one that told this
+pub then_reads : {U : Type 0} (a b d : Option Contents) (f0 f1 f2 : ℕ) (P : Contents → Type 0) (Q R : U → Contents → Type 0) (result : Result U DiskError) → WhenTold a P → Becomes a b Same → f0 ≤ f1 → Reads b d f1 f2 Q result
+    → ((c : Contents) (u : U) → P c → Q u c → R u c) → Reads a d f0 f2 R result
+then_reads a b d f0 f1 f2 P Q R (Ok u) told same le k f = record {
+  ok = told_by_both a P (Q u) (R u) (λ c. f c u) told (told_before a b (Q u) same k.ok);
+  failed = λ e. absurd cc;
+  same = same_on a b d same k.same;
+  later = (let later = k.later in omega (arith, le, later));
+}
+then_reads a b d f0 f1 f2 P Q R (Err e) told same le k f = record {
+  ok = tt;
+  failed = λ is. rose_before f0 f1 f2 le (k.failed is);
+  same = same_on a b d same k.same;
+  later = (let later = k.later in omega (arith, le, later));
+}
