@@ -1,10 +1,10 @@
 -- The logs of a group behind any event of it, by whose it is.
-use Rattle.std.proofs.Common.{◌≡◌, ℕ, zero, suc, ◌+◌, ◌≤◌, refl, sym, ◌∙◌, ap, subst, arith, Bool, true, false, inl, inr, List, [], ◌∷◌, ◌++◌, length, take, Option, Some, None, Ok}
+use Rattle.std.proofs.Common.{◌≡◌, ℕ, zero, suc, ◌+◌, ◌≤◌, ◌<◌, refl, sym, ◌∙◌, ap, subst, arith, Bool, true, false, inl, inr, List, [], ◌∷◌, ◌++◌, length, take, Option, Some, None, Ok}
 use Rattle.std.specs.Prelude.{◌≢◌, ◌⊎◌, ◌-◌, ◌*◌, ◌/◌, ◌%◌, ◌==◌, ◌||◌, not, if◌then◌else◌, IfSome, IsSomeAnd, is_some, map, slice_get}
 use Rattle.std.proofs.lemmas.Bool.{and_parts, cases_Bool, cases_eq, eqb-true}
 use Rattle.std.proofs.lemmas.List.{append-nil, take_at}
 use Rattle.std.proofs.lemmas.Nat.{div-add-mod'}
-use Rattle.std.proofs.lemmas.Option.{slice_get-map}
+use Rattle.std.proofs.lemmas.Option.{slice_get-map, slice_get_within}
 use Rattle.ds_disk.specs.Contents.{Becomes, Contents, log_of}
 use Rattle.ds_model.specs.declared.script.Phase.{Phase}
 use Rattle.ds_model.specs.declared.script.Script.{Script}
@@ -54,6 +54,9 @@ use Rattle.group_core.specs.declared.group.Group.{Group}
 use Rattle.group_core.specs.Events.{takes}
 use Rattle.group_core.specs.Takes.{BeginsOrNot, IsMade, TakesMember, TakesOwn}
 use Rattle.group_logs.specs.Changes.{MembersGo}
+use Rattle.group_logs.specs.Known.{BeginsKnow, DeadRest, EndHolds, EndsHold, IsSpared, IsSparedBy, MembersKnow, RestsAreUnknown, end_at}
+use Rattle.log_reader.specs.Keeping.{AreWhole}
+use Rattle.member_marks.specs.State.{MarksState}
 use Rattle.group_logs.specs.Logs.{Appends, IsCut, IsNumbered, LogGoes, OneGoes, RestartGoes, buffer_of}
 use Rattle.failed_logs.specs.Given.{HaveClaimed}
 use Rattle.failed_logs.specs.Given.{AreBy, IsFor, Moves, OfGroup, OfMember, OfPhase, Whose}
@@ -69,7 +72,7 @@ use Rattle.claimed_logs.specs.Events.{CountsLeft, RestartEventsLogged, RestingEv
 use Rattle.claimed_logs.specs.Failing.{AnyBytes, HandedFailsLogged, HasFront, LeftClaimed, MovesLogged, RestartFailsLogged, RestartsStop, UpFailsLogged}
 use Rattle.claimed_logs.specs.Found.{AdoptionsFound}
 use Rattle.claimed_logs.specs.Logs.{GroupFailsLogged, LogsClaimed, LogsKnow, MemberLogged, RestartLogged}
-use Rattle.claimed_logs.specs.Taken.{EventsKeep, Supplied}
+use Rattle.claimed_logs.specs.Taken.{EventsKeep, LogsStand, Supplied}
 use Rattle.claimed_logs.proofs.Events.{within}
 use Rattle.claimed_logs.proofs.Resting.{own_log}
 
@@ -93,21 +96,57 @@ pub record Facts : Type 0 where
   pub stop : RestartsStop
   pub leave : FailuresLeave
   pub nothing : NothingIsRest
+  pub begins : BeginsKnow
+  pub members : MembersKnow
+  pub unknown : RestsAreUnknown
 
 never : true ≡ false → ⊥
 never e = cc
 
 -- moves, behind which the logs stand
 abbrev Keeps : ℕ → CrewState → CrewState → World → Contents → Type 0
-Keeps event old new w d = (by : Whose) × IsFor event by × (moves : Moves by old new w) × LogsClaimed d new moves.world
+Keeps event old new w d = (by : Whose) × IsFor event by × (moves : Moves by old new w) × LogsStand d new moves.world
 
 -- moves of these, and the logs behind them
 record MovesKeep (by : Whose) (old new : CrewState) (w : World) (d : Contents) : Type 0 where
   moves : Moves by old new w
   logs : LogsClaimed d new moves.world
 
-kept : (event : ℕ) (by : Whose) (old new : CrewState) (w : World) (d : Contents) → IsFor event by → MovesKeep by old new w d → Keeps event old new w d
-kept event by old new w d is x = (by, is, x.moves, x.logs)
+kept : (event : ℕ) (by : Whose) (old new : CrewState) (w : World) (d : Contents) → IsFor event by → MovesKeep by old new w d → EndsHold d new → Keeps event old new w d
+kept event by old new w d is x ends = (by, is, x.moves, record { claimed = x.logs; ends = ends })
+
+-- what is known stays, and so do the logs
+ends_stay : (c d : Contents) (old new : CrewState) → new.known ≡ old.known → d ≡ c → EndsHold c old → EndsHold d new
+ends_stay c d old new known same ends at few = subst (λ (z : List (List ℕ)). EndHolds (end_at (record old { known = z }) at) (log_of d.logs (at + 1))) (sym known)
+    (subst (λ (z : Contents). EndHolds (end_at old at) (log_of z.logs (at + 1))) (sym same) (ends at few))
+
+-- none of them is live that has no restart
+dead_rest : (s : CrewState) (w : World) → LocksTied s w → DeadRest s
+dead_rest s w t at = on (slice_get s.members at) (t.stands at)
+  where
+    on : (x : Option Member) → IfSome x (MemberStands s.facility (at + 1)) → IfSome x (λ (m : Member). (m.id ≡ at + 1) × (is_live (status_of s.facility.lists.statuses (at + 1)) ≡ false → m.restart ≡ None))
+    on None h = tt
+    on (Some m) h = (h.id, λ dead. (h.down dead).0)
+
+-- a cut of a restart spares what is known
+spared_by : RestsAreUnknown → (end : ℕ) (log : List ℕ) (s : RestartSent) (marks : RestartState) (own : MarksState) → FitsSent marks s → EndHolds end log → RestartCourse log marks own → IsSparedBy end s
+spared_by law end log restart_sent.None marks own fits holds c = tt
+spared_by law end log (restart_sent.Command x) marks own fits holds c = tt
+spared_by law end log restart_sent.LogLength marks own fits holds c = tt
+spared_by law end log (restart_sent.ReadLog at count) marks own fits holds c = tt
+spared_by law end log restart_sent.AppendLog marks own fits holds c = tt
+spared_by law end log (restart_sent.ReadPage page) marks own fits holds c = tt
+spared_by law end log (restart_sent.CutLog long) marks own fits holds c = by c.goes
+  where
+    spared : AreWhole c.whole → IsRest c.rest → marks.own.long ≡ length c.whole → end ≤ long
+    spared are rest same =
+        let within : end ≤ length c.whole = law end c.whole c.rest are rest (subst (EndHolds end) c.is holds) in
+        let is : long ≡ length c.whole = fits.2 ∙ same in
+        omega (arith, within, is)
+
+    by : RestartOpen c.whole c.rest marks own ⊎ RestartHanded c.whole c.rest marks own → end ≤ long
+    by (inl o) = spared o.closes.whole o.closes.is_rest ((o.closes.read fits.0).long fits.1)
+    by (inr o) = spared o.locked.whole o.is_rest (o.rests.long fits.1)
 
 -- ---- no move
 none_by : (by : Whose) → AreBy by []
@@ -163,6 +202,10 @@ not_up s a b = cc
 unfailed : (b : Bool) → (b || false) ≡ false → b ≡ false
 unfailed true e = e
 unfailed false e = refl
+
+unfailed_either : (b : Bool) → b ≡ false → (b || false) ≡ false
+unfailed_either true e = e
+unfailed_either false e = refl
 
 unfailed_of : (stepped : Stepped) → is_over stepped ≡ false → has_failed stepped ≡ false
 unfailed_of (steps.Sent s a) e = unfailed (is_failure a) e
@@ -263,7 +306,7 @@ record At (old new : CrewState) (at : ℕ) (m n : Member) : Type 0 where
   pub others : (k : ℕ) → k ≢ at → slice_get new.members k ≡ slice_get old.members k
   pub sizes : new.sizes ≡ old.sizes
 
-module _ (facts : Facts) (old new : CrewState) (w : World) (c d : Contents) (t : LocksTied old w) (given : Supplied c d old new w) (l : LogsClaimed c old w) (at : ℕ) (m n : Member) (here : At old new at m n) (u v : Resources) (place : ℕ)
+module _ (facts : Facts) (old new : CrewState) (w : World) (c d : Contents) (t : LocksTied old w) (given : Supplied c d old new w) (l : LogsClaimed c old w) (ends : EndsHold c old) (at : ℕ) (m n : Member) (here : At old new at m n) (u v : Resources) (place : ℕ)
     (told : u.drive.contents ≡ Some c) (left : v.drive.contents ≡ Some d) (f : u ≡ record { facility = old.facility; drive = u.drive }) (g : v ≡ record { facility = new.facility; drive = v.drive }) where
   stood : MemberStands old.facility (at + 1) m
   stood = subst (λ (z : Option Member). IfSome z (MemberStands old.facility (at + 1))) here.had (t.stands at)
@@ -490,6 +533,40 @@ module _ (facts : Facts) (old new : CrewState) (w : World) (c d : Contents) (t :
         | inr at_d ↦ handed [] facts.nothing (at_d ∙ sym (append-nil course.whole)) o
       ]
 
+  -- ---- what is known of the logs
+  numbered : IsNumbered (at + 1) m
+  numbered = record { own = stood.member; restart = by m.restart stood.restart }
+    where
+      by : (x : Option RestartHeld) → RestartInHand (at + 1) m x → IfSome x (λ q. q.resources.marks.member ≡ at + 1)
+      by None h = tt
+      by (Some q) h = h.member
+
+  few : at < 32
+  few = let there : at < length old.members = slice_get_within old.members at m here.had in
+      let count = t.count in
+      let most = t.few in
+      omega (arith, there, count, most)
+
+  restart_spares : (s : RestartSent) (before : RestartHeld) → m.restart ≡ Some before → FitsSent before.resources.marks s → IsSparedBy (end_at old at) s
+  restart_spares s before is fits = spared_by facts.unknown (end_at old at) (log_of c.logs (at + 1)) s before.resources.marks m.holds.marks fits (ends at few)
+      (subst (λ (z : Option RestartHeld). IfSome z (λ x. RestartCourse (log_of c.logs (at + 1)) x.resources.marks m.holds.marks)) is logged.course)
+
+  spares : (script : Script) (begun choice : ℕ) (stepped : Stepped) → Comes script begun old.sizes choice m u old.fates place stepped n v new.fates → IsSpared (end_at old at) stepped
+  spares script begun choice (steps.Sent s a) e = tt
+  spares script begun choice (steps.Rebuild s a) e = tt
+  spares script begun choice steps.Failed e = tt
+  spares script begun choice (steps.Restart s a) e = elim (cases_Bool (is_failure a)) [
+    | inl failed ↦ (
+        let broken : Breaks m u place (steps.Restart s a) (record v { facility = u.facility }) = e.breaks failed in
+        restart_spares s broken.makes.makes.before broken.makes.makes.had (fits_sent broken.makes.makes.before.resources.marks broken.makes.makes.happens.intent s broken.makes.makes.happens.lawful))
+    | inr well ↦ (
+        let made : Steps m u old.fates place (steps.Restart s a) n v new.fates = e.steps (unfailed_either (is_failure a) well) in
+        restart_spares s made.makes.makes.before made.makes.makes.had (fits_sent made.makes.makes.before.resources.marks made.makes.makes.happens.intent s made.makes.makes.happens.lawful))
+  ]
+
+  ends_go : (script : Script) (begun choice : ℕ) (stepped : Stepped) → Comes script begun old.sizes choice m u old.fates place stepped n v new.fates → EndsHold d new
+  ends_go script begun choice stepped e = facts.members c d old new at m stepped ends given.known (goes script begun choice stepped e numbered) (spares script begun choice stepped e)
+
   comes : (script : Script) (begun choice : ℕ) (stepped : Stepped) → Comes script begun old.sizes choice m u old.fates place stepped n v new.fates → MovesLogged d old new w m
   comes script begun choice stepped e = elim (cases_Bool (is_over stepped)) [
     | inr on ↦ goes_by on (live_cases (status_of old.facility.lists.statuses m.id) live)
@@ -513,10 +590,10 @@ above_zero (suc n) ne = omega arith
 
 -- ---- any event
 pub events_keep : {C D : Type 0} → (P : Type 0) (directory : C → Directory) (alive : D → Bool) (contents : D → Option Contents) (count : D → ℕ) → Facts → EventsKeep P directory alive contents count
-events_keep {C} {D} P directory alive contents count facts old new event w c d taken lawful no_group told left t given l = elim (cases_Bool (takes old event)) [
+events_keep {C} {D} P directory alive contents count facts old new event w c d taken lawful no_group told left t given stand = elim (cases_Bool (takes old event)) [
   | inr isnt ↦ elim (cases_eq (event % 64) 0) [
-    | inl own ↦ kept event OfPhase before after w d own (unmoved OfPhase isnt)
-    | inr member ↦ kept event (OfMember (event % 64)) before after w d refl (unmoved (OfMember (event % 64)) isnt)
+    | inl own ↦ kept event OfPhase before after w d own (unmoved OfPhase isnt) (unmoved_ends isnt)
+    | inr member ↦ kept event (OfMember (event % 64)) before after w d refl (unmoved (OfMember (event % 64)) isnt) (unmoved_ends isnt)
   ]
   | inl is ↦ elim (cases_eq (event % 64) 0) [
     | inl own ↦ own_goes (taken.own is own) (own_choices old.crew.progress old.crew.script (event / 64) (ready is own)) own
@@ -530,6 +607,12 @@ events_keep {C} {D} P directory alive contents count facts old new event w c d t
     after : CrewState
     after = crew_state directory new.crew
 
+    l : LogsClaimed c before w
+    l = stand.claimed
+
+    same_ends : d ≡ c → EndsHold d after
+    same_ends same = ends_stay c d before after given.known same stand.ends
+
     -- ---- nothing has changed, or no log has
     still : (by : Whose) → length after.facility.locks.entries ≡ length before.facility.locks.entries → LocksTied after w → LogsClaimed c after w → d ≡ c → MovesKeep by before after w d
     still by entries tied logs same = record { moves = stays by before after w entries tied; logs = subst (λ (z : Contents). LogsClaimed z after w) (sym same) logs }
@@ -540,17 +623,23 @@ events_keep {C} {D} P directory alive contents count facts old new event w c d t
         still by (ap (λ (z : CrewState). length z.facility.locks.entries) same) (subst (λ (z : CrewState). LocksTied z w) (sym same) t) (subst (λ (z : CrewState). LogsClaimed c z w) (sym same) l)
         (same_told contents old.disk new.disk c d (ap (λ (z : Group D C P). contents z.disk) (taken.left isnt)) told left)
 
+    unmoved_ends : takes old event ≡ false → EndsHold d after
+    unmoved_ends isnt = same_ends (same_told contents old.disk new.disk c d (ap (λ (z : Group D C P). contents z.disk) (taken.left isnt)) told left)
+
     ready : takes old event ≡ true → event % 64 ≡ 0 → is_own (own_choice false old.crew.progress old.crew.script) (event / 64) ≡ true
     ready is own = subst (λ (b : Bool). is_own (own_choice b old.crew.progress old.crew.script) (event / 64) ≡ true) no_group
         (subst (λ z. ready_for (is_some old.crew.restart) (own_choice (is_some old.crew.restart) old.crew.progress old.crew.script) (map (λ (p : MemberPart P). p.ready) old.crew.parts.items) z (event / 64) ≡ true) own
         (and_parts (not (is_some old.fault)) (is_ready_in old.crew event) is).1)
+
+    few_members : length before.members ≤ 32
+    few_members = let count = t.count in let most = t.few in omega (arith, count, most)
 
     -- ---- the group's own
     phase_goes : event % 64 ≡ 0 → d ≡ c → (x : Option Phase) → IsSomeAnd x (λ phase. PhaseBegins phase before after) → Keeps event before after w d
     phase_goes own same None h = absurd h
     phase_goes own same (Some phase) h =
         let moves : Moves OfPhase before after w = facts.phases phase before after w t h in
-        kept event OfPhase before after w d own (record { moves = moves; logs = subst (λ (z : Contents). LogsClaimed z after moves.world) (sym same) (facts.phases_logged c phase before after w t h given.are (given.knows phase) moves l) })
+        kept event OfPhase before after w d own (record { moves = moves; logs = subst (λ (z : Contents). LogsClaimed z after moves.world) (sym same) (facts.phases_logged c phase before after w t h given.are (facts.begins c phase before after h stand.ends (dead_rest before w t) few_members) moves l) }) (same_ends same)
 
     begins : event % 64 ≡ 0 → d ≡ c → (why : Option RunFault) → new.fault ≡ why → BeginsOrNot directory why old.crew event (length new.journal.items) new.crew → Keeps event before after w d
     begins own same None is e = phase_goes own same (slice_get before.script.phases before.begun) e
@@ -570,8 +659,8 @@ events_keep {C} {D} P directory alive contents count facts old new event w c d t
         begins own (same_told contents old.disk new.disk c d (ap contents (e.still (no_restart_event event (event / 64) (own_number event (event / 64) own refl) (inl first)))) told left) new.fault refl (e.begins (own_number event 0 own first))
     own_goes e (inr second) own =
         let fails : GroupFails (fail_counted before) after = (e.fails (own_number event 1 own second)).1 in
-        kept event OfPhase before after w d own (still OfPhase (ap (λ (z : CrewState). length z.facility.locks.entries) fails.rest) (facts.fails (fail_counted before) after w fails counted_tied) (facts.group_fails c (fail_counted before) after w fails counted_logged)
-        (same_told contents old.disk new.disk c d (ap contents (e.still (no_restart_event event (event / 64) (own_number event (event / 64) own refl) (inr second)))) told left))
+        let same : d ≡ c = same_told contents old.disk new.disk c d (ap contents (e.still (no_restart_event event (event / 64) (own_number event (event / 64) own refl) (inr second)))) told left in
+        kept event OfPhase before after w d own (still OfPhase (ap (λ (z : CrewState). length z.facility.locks.entries) fails.rest) (facts.fails (fail_counted before) after w fails counted_tied) (facts.group_fails c (fail_counted before) after w fails counted_logged) same) (same_ends same)
 
     -- ---- a member's
     at : ℕ
@@ -600,6 +689,7 @@ events_keep {C} {D} P directory alive contents count facts old new event w c d t
         by None y had has q = absurd q
         by (Some m) None had has q = absurd q
         by (Some m) (Some n) had has q = kept event (OfMember m.id) before after w d number (record { moves = logged_moves.moves; logs = logged_moves.logs })
+            (ends_go facts before after w c d t given l stand.ends at m n here u v (length new.journal.items) told left refl refl old.crew.script old.crew.progress.begun (event / 64) e.stepped q)
           where
             stood_at : m.id ≡ at + 1
             stood_at = (subst (λ (z : Option Member). IfSome z (MemberStands before.facility (at + 1))) had (t.stands at)).id
@@ -613,14 +703,11 @@ events_keep {C} {D} P directory alive contents count facts old new event w c d t
               | inr ne ↦ ap (λ (z : Option Member). is_some z) (others k ne)
             ]
 
+            here : At before after at m n
+            here = record { had = had; has = has; count = some_at after.members before.members each; others = others; sizes = ap (λ z. z.sizes) e.steps.sizes }
+
             logged_moves : MovesLogged d before after w m
-            logged_moves = comes facts before after w c d t given l at m n (record {
-              had = had;
-              has = has;
-              count = some_at after.members before.members each;
-              others = others;
-              sizes = ap (λ z. z.sizes) e.steps.sizes;
-            }) u v (length new.journal.items) told left refl refl old.crew.script old.crew.progress.begun (event / 64) e.stepped q
+            logged_moves = comes facts before after w c d t given l stand.ends at m n here u v (length new.journal.items) told left refl refl old.crew.script old.crew.progress.begun (event / 64) e.stepped q
 
     member_takes : event % 64 ≢ 0 → (why : Option RunFault) → new.fault ≡ why → TakesMember directory alive contents why old.crew old.disk at (event / 64) (length new.journal.items) taken.failed new.crew new.disk → Keeps event before after w d
     member_takes member None is e = member_goes member e

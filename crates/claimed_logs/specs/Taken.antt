@@ -1,7 +1,6 @@
 -- The logs of a group behind any event of it.
 use Rattle.std.specs.Prelude.{◌≡◌, ◌≢◌, ℕ, ◌+◌, Bool, false, Option, Some, IfSome, is_some, slice_get}
 use Rattle.ds_disk.specs.Contents.{Contents, log_of}
-use Rattle.ds_model.specs.declared.script.Phase.{Phase}
 use Rattle.cache_structure.specs.Directory.{Directory}
 use Rattle.lock_protocol.specs.Machine.{World}
 use Rattle.log_numbers.specs.Numbers.{AreCounted}
@@ -14,16 +13,18 @@ use Rattle.failed_logs.specs.Given.{IsFor, Moves, Whose}
 use Rattle.failed_logs.specs.Given.{StepsAt}
 use Rattle.failed_logs.specs.Given.{RestartStepsAt}
 use Rattle.failed_logs.specs.Given.{LocksTied}
-use Rattle.claimed_logs.specs.Beginning.{BeginKnowing, IsLog}
+use Rattle.group_logs.specs.Known.{EndsHold}
+use Rattle.claimed_logs.specs.Beginning.{IsLog}
 use Rattle.claimed_logs.specs.Events.{CountsLeft}
 use Rattle.claimed_logs.specs.Logs.{LogsClaimed}
 use Rattle.claimed_logs.specs.Steps.{PutsUnclosed}
 
 -- What an event takes from elsewhere, where the disk holds these before it, and those behind it. No contract says it yet.
 pub record Supplied (c d : Contents) (old new : CrewState) (w : World) : Type 0 where
-  -- logs are bytes, of which each has fewer than 2^60; and restarts that begin were told of whole records alone
+  -- logs are bytes, of which each has fewer than 2^60
   pub are : (at : ℕ) → IsLog (log_of c.logs (at + 1))
-  pub knows : (phase : Phase) → BeginKnowing c phase old new
+  -- what members know of the ends of logs stays
+  pub known : new.known ≡ old.known
   -- a member that is up changes no row for a transaction which its log closes
   pub unclosed : (at : ℕ) (m n : Member) → StepsAt old new at m n → PutsUnclosed (log_of c.logs (at + 1)) m.holds.marks.log.pending n.holds.marks.log.pending
   -- a restart that counts no transaction as left has none that isn't over
@@ -31,10 +32,15 @@ pub record Supplied (c d : Contents) (old new : CrewState) (w : World) : Type 0 
   -- no number of what a restart hands over is above the counter, or names another transaction of its member
   pub counted : (at : ℕ) (m n : Member) → RestartStepsAt old new at m n w → AreCounted old.facility.counter m.holds.marks → AreCounted new.facility.counter n.holds.marks
 
+-- The logs have their claims in this world, and are whole records up to where their members know them to be.
+pub record LogsStand (c : Contents) (s : CrewState) (w : World) : Type 0 where
+  pub claimed : LogsClaimed c s w
+  pub ends : EndsHold c s
+
 -- an event that isn't refused, while no group restart is in hand
 abbrev pub EventsKeep : {C D : Type 0} → (P : Type 0) → (C → Directory) → (D → Bool) → (D → Option Contents) → (D → ℕ) → Type 0
 EventsKeep {C} {D} P directory alive contents count = (old new : Group D C P) (event : ℕ) (w : World) (c d : Contents)
     → Takes directory alive contents count old event new → ((at : ℕ) → new.fault ≢ Some (fault.Unlawful at)) → is_some old.crew.restart ≡ false
     → contents old.disk ≡ Some c → contents new.disk ≡ Some d → LocksTied (crew_state directory old.crew) w → Supplied c d (crew_state directory old.crew) (crew_state directory new.crew) w
-    → LogsClaimed c (crew_state directory old.crew) w
-    → (by : Whose) × IsFor event by × (moves : Moves by (crew_state directory old.crew) (crew_state directory new.crew) w) × LogsClaimed d (crew_state directory new.crew) moves.world
+    → LogsStand c (crew_state directory old.crew) w
+    → (by : Whose) × IsFor event by × (moves : Moves by (crew_state directory old.crew) (crew_state directory new.crew) w) × LogsStand d (crew_state directory new.crew) moves.world

@@ -21,7 +21,7 @@ use failed_logs::{
     logs_taken_over, member_restarts_go, member_steps_go, members_go, moves_spare, phases_go,
     resting_members_go,
 };
-use group_logs::members_log;
+use group_logs::{known_ends, members_log, rests_are_unknown};
 use lock_restarts::{restarts_follow, sends_lawfully};
 use log_appends::{appends_tell, rests_tell};
 use log_numbers::{commands_count, numbers_stay};
@@ -190,7 +190,8 @@ pub fn events_logged()
     numbers_stay();
 }
 
-/// So it stays behind any event of a group that isn't refused, while no group restart is in hand, given what no contract says yet.
+/// So it stays behind any event of a group that isn't refused, while no group restart is in hand, given what no contract says yet; and each log
+/// is whole records up to where its member knows it to be.
 pub fn events_keep<D: Disk, C: CacheFace, P>()
     ensures { EventsKeep P C.directory D.alive D.contents D.faults }
 {
@@ -208,4 +209,6 @@ pub fn events_keep<D: Disk, C: CacheFace, P>()
     restarts_stop();
     failures_leave();
     rests_tell();
+    known_ends();
+    rests_are_unknown();
 }

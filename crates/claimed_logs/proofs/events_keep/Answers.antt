@@ -22,4 +22,7 @@ returns g c = events_keep _ g.C.CacheFace.directory g.D.Disk.alive g.D.Disk.cont
   stop = c.restarts_stop.ensures;
   leave = c.failures_leave.ensures;
   nothing = c.rests_tell.ensures.none;
+  begins = c.known_ends.ensures.begins;
+  members = c.known_ends.ensures.members;
+  unknown = c.rests_are_unknown.ensures;
 })
