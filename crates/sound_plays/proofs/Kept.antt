@@ -9,7 +9,7 @@ use Rattle.group_restart.specs.declared.calls.State.TheVariants as state
 use Rattle.restarted_disks.specs.Restarted.{AreRun, IsLeftByRestarts, IsNamed, IsRestarted, IsUnwritten, LogBreaksAt}
 use Rattle.sound_disk.specs.Sound.{IsSoundDisk}
 use Rattle.restart_soundness.specs.Runs.{EndsWith, IsLeft, KeepsRows, LeftDisksAreSound, RestartsLeaveDisksSound}
-use Rattle.sound_plays.specs.Plays.{PlaysLeaveSound, StaysSound}
+use Rattle.sound_plays.specs.Plays.{StaysSound}
 use Rattle.sound_plays.proofs.Unbroken.{Readings, unbroken}
 
 -- the disk has stayed sound, and none of these group restarts has named damage
@@ -68,7 +68,7 @@ module _ {D : Type 0} (alive : D → Bool) (contents : D → Option Contents) (l
   restarted : (old new : D) (Tells : Volume → ℕ → Type 0) → IsRestarted alive contents old Tells new → Becomes (contents old) (contents new) (λ c d. IsSoundDisk c → StaysSound Tells c d)
   restarted old new Tells is = named_by Tells is.came (contents old) (contents new) is.named (run_stays old new is.came is.run)
 
-  pub leaves_sound : Readings → PlaysLeaveSound alive contents
+  pub leaves_sound : Readings → (old new : D) (Tells : Volume → ℕ → Type 0) → IsLeftByRestarts alive contents old Tells new → Becomes (contents old) (contents new) (λ c d. IsSoundDisk c → StaysSound Tells c d)
   leaves_sound k old new Tells is = elim is [
     | inl none ↦ unwritten k Tells (contents old) (contents new) none.same none.damaged
     | inr some ↦ restarted old new Tells some
