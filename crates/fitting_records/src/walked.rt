@@ -14,7 +14,7 @@ use crate::passing::Passing;
 use disk_walk::{Next, next_of_all};
 use ds_base::{MemberId, NoMemory, TableId};
 use ds_disk::{Disk, DiskError};
-use ds_model::{LogRecord, Version};
+use ds_model::{Body, LogRecord, Version};
 use log_heads::Heads;
 use std::alloc::Global;
 use table_records::concerns;
@@ -25,6 +25,10 @@ pub struct Walked {
     pub passing: Passing,
     /// For each of the 64 tables whether a record changes a page of it.
     pub tables: Vec<bool>,
+    /// How many do, and how many transactions have committed, so that room may be made for them. Nothing that is told depends on
+    /// it.
+    pub counts: Vec<usize>,
+    pub commits: usize,
 }
 
 // Whether the record is of version 1.
@@ -47,23 +51,40 @@ fn table_behind(n: usize) -> TableId
     }
 }
 
+// Counts one record more of the table behind so many others.
+fn count(counts: &mut [usize], n: usize) {
+    if let Some(count) = counts.get_mut(n) {
+        *count = count.saturating_add(1);
+    }
+}
+
+fn count_commit(commits: &mut usize, it: &LogRecord) {
+    if let Body::Commit = it.body {
+        *commits = commits.saturating_add(1);
+    }
+}
+
 // Notes the table behind so many others, if the record changes a page of it.
-fn note_table(tables: &mut [bool], n: usize, it: &LogRecord)
+fn note_table(tables: &mut [bool], counts: &mut [usize], n: usize, it: &LogRecord)
     requires in_bounds { n < length tables.old }
     requires few { n < 64 }
     ensures { tables.new ≡ slice_set tables.old n (slice_index_or tables.old n false || concerns (n + 1) it.now) }
 {
-    tables[n] = tables[n] || concerns(table_behind(n), it);
+    let found = concerns(table_behind(n), it);
+    tables[n] = tables[n] || found;
+    if found {
+        count(counts, n);
+    }
 }
 
 // Notes the tables of which the record changes a page.
 #[tactic(auto, using(crate::proofs::Noting::notes_none, crate::proofs::Noting::notes_more))]
-fn note(tables: &mut [bool], it: &LogRecord)
+fn note(tables: &mut [bool], counts: &mut [usize], it: &LogRecord)
     requires { length tables.old ≡ 64 }
     ensures { NotesUpTo 64 tables.old tables.new it.now }
 {
     for n in 0..64usize {
-        note_table(tables, n, it);
+        note_table(tables, counts, n, it);
     }
 }
 
@@ -74,6 +95,8 @@ impl Walked {
         Ok(Walked {
             passing: Passing::new(alloc),
             tables: vec![in alloc; false; 64]?,
+            counts: vec![in alloc; 0usize; 64]?,
+            commits: 0,
         })
     }
 
@@ -86,7 +109,8 @@ impl Walked {
             return Ok(false);
         }
         self.passing.pass(alloc, member, it)?;
-        note(&mut self.tables, it);
+        note(&mut self.tables, &mut self.counts, it);
+        count_commit(&mut self.commits, it);
         Ok(true)
     }
 }

@@ -1,6 +1,6 @@
 //! The records of one table of a disk, read by blocks out of all logs.
 
-ghost use Rattle.std.specs.Prelude.{◌≡◌, ◌∷◌, ◌++◌, [], List, true, length, IfOk, IfSome};
+ghost use Rattle.std.specs.Prelude.{◌≡◌, ◌∷◌, ◌++◌, [], List, true, length, IfOk, IfSome, OnOk};
 ghost use Rattle.std.specs.List.{AllByRecursion};
 ghost use Rattle.ds_model.specs.declared.log.LogRecord.{LogRecord};
 ghost use Rattle.ds_model.specs.Logs.{by_lrsn};
@@ -30,6 +30,15 @@ fn records_in(taken: TableRecords) -> Vec<LogRecord>
     records
 }
 
+// Makes room for so many records.
+fn make_room(taken: &mut TableRecords, room: usize) -> Result<(), NoMemory>
+    ensures table { taken.new.table ≡ taken.old.table }
+    ensures taken { OnOk result ((all : List LogRecord) → HaveBeenTaken all taken.old → HaveBeenTaken all taken.new) }
+{
+    taken.records.reserve_exact(room)?;
+    Ok(())
+}
+
 // Takes the next record, if it may stand in a log.
 fn take(taken: &mut TableRecords, it: LogRecord) -> Result<bool, NoMemory>
     ensures table { taken.new.table ≡ taken.old.table }
@@ -48,6 +57,7 @@ fn read_own<D: Disk>(
     disk: &mut D,
     heads: &mut Heads,
     table: TableId,
+    room: usize,
     block: &mut [u8],
 ) -> Result<Option<Vec<LogRecord>>, DiskError>
     requires { heads.old.block ≡ length block.old }
@@ -57,6 +67,7 @@ fn read_own<D: Disk>(
 {
     own_laws();
     let mut taken = TableRecords::new(alloc, table);
+    make_room(&mut taken, room)?;
     for _ in 0..u64::MAX {
         match next_of_all(alloc, disk, heads, block)? {
             Next::Record { it, .. } => {
@@ -73,13 +84,14 @@ fn read_own<D: Disk>(
 }
 
 /// The table's own among the records of all logs, whose whole records end at these bytes, in the order of their numbers; none,
-/// and no log is read, where it isn't noted that a record changes a page of it.
+/// and no log is read, where it isn't noted that a record changes a page of it. There is room for so many from the first on.
 pub fn records_of<D: Disk>(
     alloc: Global,
     disk: &mut D,
     ends: &[u64],
     table: TableId,
     is_noted: bool,
+    room: usize,
     block: &mut [u8],
 ) -> Result<Option<Vec<LogRecord>>, DiskError>
     requires ends { length ends.now ≡ 32 }
@@ -92,5 +104,5 @@ pub fn records_of<D: Disk>(
         return Ok(Some(Vec::new(alloc)));
     }
     let mut heads = heads_to(alloc, ends, BLOCK as u32)?;
-    read_own(alloc, disk, &mut heads, table, block)
+    read_own(alloc, disk, &mut heads, table, room, block)
 }

@@ -68,7 +68,16 @@ fn check_ended<D: Disk>(
     let Some(walked) = walk(alloc, disk, ends, &mut block)? else {
         return Ok(None);
     };
-    let tables = check_tables(alloc, disk, ends, &walked.tables, behind, &mut block)?;
+    let tables = check_tables(
+        alloc,
+        disk,
+        ends,
+        &walked.tables,
+        &walked.counts,
+        walked.commits,
+        behind,
+        &mut block,
+    )?;
     let Some(all) = tables else {
         return Ok(None);
     };

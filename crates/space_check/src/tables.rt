@@ -34,6 +34,7 @@ fn add_table<D: Disk>(
     ends: &[u64],
     table: TableId,
     is_noted: bool,
+    room: usize,
     behind: u32,
     all: &mut TableSums,
     block: &mut [u8],
@@ -43,7 +44,7 @@ fn add_table<D: Disk>(
     ensures { Reads (D.contents disk.old) (D.contents disk.new) (D.faults disk.old) (D.faults disk.new) (λ held c. held ≡ true → TellsNext ends.now table is_noted behind all.old all.new c) result }
 {
     right_laws();
-    let Some(records) = records_of(alloc, disk, ends, table, is_noted, block)? else {
+    let Some(records) = records_of(alloc, disk, ends, table, is_noted, room, block)? else {
         return Ok(false);
     };
     let Some(pages) = check_table(alloc, disk, table, &records, false, behind)? else {
@@ -64,13 +65,24 @@ fn table_behind(n: usize) -> TableId
     }
 }
 
+// How many records the table behind so many others may have of its own: those that change a page of it, and no more Commit records
+// than there are in all.
+fn room_for(counts: &[usize], commits: usize, n: usize) -> usize {
+    match counts.get(n) {
+        Some(count) => count.saturating_add(commits.min(*count)),
+        None => 0,
+    }
+}
+
 /// What all tables come to, where each is right and its rows change in turn. `tables` has for each whether a record changes a
-/// page of it.
+/// page of it; `counts` has how many do, and so many transactions have committed.
 pub fn check_tables<D: Disk>(
     alloc: Global,
     disk: &mut D,
     ends: &[u64],
     tables: &[bool],
+    counts: &[usize],
+    commits: usize,
     behind: u32,
     block: &mut [u8],
 ) -> Result<Option<TableSums>, DiskError>
@@ -86,7 +98,10 @@ pub fn check_tables<D: Disk>(
     };
     for n in 0..64usize {
         let table = table_behind(n);
-        if !add_table(alloc, disk, ends, table, tables[n], behind, &mut all, block)? {
+        let room = room_for(counts, commits, n);
+        if !add_table(
+            alloc, disk, ends, table, tables[n], room, behind, &mut all, block,
+        )? {
             return Ok(None);
         }
     }

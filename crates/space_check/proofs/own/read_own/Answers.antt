@@ -1,12 +1,12 @@
-use Rattle.std.proofs.Common.{◌≡◌, ◌≤◌, ◌∙◌, refl, arith}
+use Rattle.std.proofs.Common.{◌≡◌, ◌≤◌, [], ◌∙◌, refl, arith}
 use Rattle.disk_walk.proofs.Reading.{same_self, same_on}
 use Rattle.space_check.proofs.Taken.{none_taken, more_taken, own_allowed, own_read}
 use Rattle.space_check.proofs.own.read_own.Goals as goal
 
 pub loop-init : goal.loop-init
 loop-init g c = record {
-  taken = none_taken (g.D.Disk.contents c.args.disk.now) c.args.heads.now.heads c.new-taken.result c.new-taken.ensures.taken;
-  table = c.new-taken.ensures.table;
+  taken = none_taken (g.D.Disk.contents c.args.disk.now) c.args.heads.now.heads c.make_room.new.taken (c.in_ok-make_room.ensures.taken [] c.new-taken.ensures.taken);
+  table = c.make_room.ensures.table ∙ c.new-taken.ensures.table;
   block = refl;
   same = same_self (g.D.Disk.contents c.args.disk.now);
   later = omega arith;
