@@ -25,8 +25,8 @@ same_stays None b same = tt
 same_stays (Some c) None same = absurd same
 same_stays (Some c) (Some d) same = λ sound. subst (λ (x : Contents). Stays [] c x) (sym same) (record { sound = sound; rows = λ rows stand. stand; none = λ v at named. named })
 
-one_none : (came : Result State NoMemory) (d : Contents) → IfOk came (λ s. EndsWith s d) → (v : Volume) (at : ℕ) → came ≡ Ok (state.Damaged v at) → ⊥
-one_none came d ends v at e = subst (λ (r : Result State NoMemory). IfOk r (λ s. EndsWith s d)) e ends
+one_none : (came : Result State NoMemory) (c d : Contents) → IfOk came (λ s. EndsWith c s d) → (v : Volume) (at : ℕ) → came ≡ Ok (state.Damaged v at) → ⊥
+one_none came c d ends v at e = subst (λ (r : Result State NoMemory). IfOk r (λ s. EndsWith c s d)) e ends
 
 more_stay : LeftDisksAreSound → (came : Result State NoMemory) (more : List (Result State NoMemory)) (c d e : Contents) → IsLeft came c d → (IsSoundDisk d → Stays more d e) → Stays (came ∷ more) c e
 more_stay left came more c d e is on =
@@ -34,7 +34,7 @@ more_stay left came more c d e is on =
     record {
       sound = rest.sound;
       rows = λ rows stand. rest.rows rows (is.rows rows stand);
-      none = λ v at named. elim named [ inl here ↦ one_none came d is.ends v at here | inr there ↦ rest.none v at there ];
+      none = λ v at named. elim named [ inl here ↦ one_none came c d is.ends v at here | inr there ↦ rest.none v at there ];
     }
 
 joined : LeftDisksAreSound → (came : Result State NoMemory) (more : List (Result State NoMemory)) (a b m n : Option Contents) → Becomes a b Same → Becomes b m (λ c d. IsSoundDisk c → IsLeft came c d) → Becomes m n (λ c d. IsSoundDisk c → Stays more c d)
