@@ -70,7 +70,7 @@ use Rattle.page_intents.specs.Logs.{all_forced}
 use Rattle.page_members.specs.Members.{Shows, leaves_pages}
 use Rattle.page_restarts.specs.Beside.{Beside, as_restarting}
 use Rattle.page_restarts.specs.Bringing.{Forwards}
-use Rattle.page_restarts.specs.Locals.{CastsNone, MayPark}
+use Rattle.page_restarts.specs.Locals.{MayPark}
 use Rattle.page_restarts.specs.Events.{EventsGo, IsGiven, IsQuiet, MayGiveUp, MayTake, MayUndo, Owns, asks_page, frees_page, gives_page, is_granted, takes_page}
 use Rattle.page_restarts.specs.Stands.{GoesAlong, SameHand, behind}
 use Rattle.page_restarts.specs.Undoes.{IsUndone, undone_behind}
@@ -645,6 +645,6 @@ events_go facts w u v g content forced h k s a b happens up supplied =
     let did = by_intent facts w u v g content forced h mid a happens.said b supplied.quiet supplied.works happens.intent s happens.lawful up happens.runs supplied.given in
     let led = did.led in
     let own : k.marks.own ≡ mid.marks.own = own_reaches mid.marks k.marks happens.ends.0 in
-    let park : MayPark led.leads.left mid = λ c e. subst (λ z. (led.leads.left.stable z ≡ led.leads.left.written z) × CastsNone led.leads.left z) (sym led.leads.same) (led.level c e, led.uncast (supplied.quiet.uncast c e)) in
+    let park : MayPark led.leads.left mid = λ c e. subst (λ z. led.leads.left.stable z ≡ led.leads.left.written z) (sym led.leads.same) (led.level c e) in
     let on = ended facts w v g content forced h mid k led.leads park happens.ends (ap (λ (z : OwnState). z.is_read) own ∙ led.leads.beside.read) in
     record { leads = on.leads; owns = subst (λ z. Owns g.owner z h.marks.member s a) (sym (on.owner ∙ led.owner)) did.owns }

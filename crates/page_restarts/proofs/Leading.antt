@@ -28,7 +28,7 @@ use Rattle.page_members.specs.Members.{CommandsLeave, SameOthers, Shows}
 use Rattle.page_restarts.specs.Beside.{Beside, Leads, OthersRestart}
 use Rattle.page_restarts.specs.Bringing.{ReadsOn, TestsOn}
 use Rattle.page_restarts.specs.Hands.{FillGoes, WriteGoes}
-use Rattle.page_restarts.specs.Locals.{CastsNone, MayPark, ReachesGo}
+use Rattle.page_restarts.specs.Locals.{MayPark, ReachesGo}
 use Rattle.page_restarts.specs.Locks.{AppendGoes, GiveUpGoes, LockGoes, StayGoes}
 use Rattle.page_restarts.specs.Stands.{Begins, Goes, IsRestarting, SameHand, behind, copy_of}
 use Rattle.page_restarts.specs.Undoes.{UndoGoes, undone_behind}
@@ -179,12 +179,7 @@ Level g m k = k.marks.hand.changed ≡ true → is_some k.marks.hand.key ≡ tru
 pub record Led (w : World) (v : Outside) (g : Holdings) (content : ℕ → ℕ → List ℕ) (forced : ℕ → ℕ) (h k : Held) (owned : ℕ → Option ℕ) : Type 0 where
   pub leads : Leads w v g content forced h k
   pub level : Level leads.left h.marks.member k
-  pub uncast : CastsNone g h.marks.member → CastsNone leads.left h.marks.member
   pub owner : leads.left.owner ≡ owned
-
--- the castout locks are as they were
-pub still_none : (w v : World) (g left : Holdings) (content versions : ℕ → ℕ → List ℕ) (m : ℕ) → Tied w g content → Tied v left versions → ((n : ℕ) → (v.pages n).castout ≡ (w.pages n).castout) → CastsNone g m → CastsNone left m
-still_none w v g left content versions m t u same none n e = none n ((t.pages n).castout ∙ sym (same n) ∙ sym ((u.pages n).castout) ∙ e)
 
 pub made : AlwaysGood → (w : World) (u v : Outside) (g left : Holdings) (content versions : ℕ → ℕ → List ℕ) (forced force : ℕ → ℕ) (h k : Held)
     → Beside w u g content forced h → Goes w versions force left h k → left.facility ≡ v.facility → Shows v.drive left.disk → IsSound left.facility.directory → k.marks.own.is_read ≡ true
@@ -208,7 +203,6 @@ made law w u v g left content versions forced force h k b goes facility drive so
     kept = kept;
   };
   level = level;
-  uncast = still_none w goes.moved.world g left content versions h.marks.member b.begins.tied goes.moved.tied goes.casts;
   owner = refl;
 }
 
