@@ -1,6 +1,7 @@
 -- The intents of a castout, of a member that is up, and of one whose restart is in hand.
 use Rattle.std.specs.Prelude.{◌≡◌, ◌≢◌, ◌⊎◌, ℕ, ◌==◌, true, false, if◌then◌else◌, List, Option, Some, None}
 use Rattle.ds_base.specs.declared.names.PageId.{PageId}
+use Rattle.list_structure.specs.Standings.{status_of}
 use Rattle.facility.specs.declared.command.Reply.{Reply}
 use Rattle.facility.specs.declared.command.Reply.TheVariants as reply
 use Rattle.facility.specs.States.{Held, castout_member}
@@ -78,3 +79,11 @@ abbrev pub AnyDoneGoes : Type 0
 AnyDoneGoes = (w : World) (g : Holdings) (content : ℕ → ℕ → List ℕ) (forced : ℕ → ℕ) (m : ℕ) (cast : InHand) (buffer : List ℕ) (answer : Reply) (v : Held)
     → Good w → Tied w g content → AreNumbered w content forced → HasCast g m (Some cast) buffer → (cast.is_written ≡ true) ⊎ (castout_member g.facility cast.page ≢ Some m)
     → EndsCastout g.facility m cast.page answer v → CastGoes w content forced (cast_behind g v m None buffer)
+
+-- what the group holds of the member, but for what it casts out, is as it was, and so are the owners of pages
+pub record LeavesMember (g left : Holdings) (m : ℕ) : Type 0 where
+  pub standing : status_of left.facility.lists.statuses m ≡ status_of g.facility.lists.statuses m
+  pub stable : left.stable m ≡ g.stable m
+  pub written : left.written m ≡ g.written m
+  pub copies : (n : ℕ) → left.copies m n ≡ g.copies m n
+  pub owner : left.owner ≡ g.owner
