@@ -6,3 +6,4 @@ pub mod Runs
 pub mod Resting
 pub mod Bare
 pub mod Casting
+pub mod Keeping
