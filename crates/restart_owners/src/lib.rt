@@ -15,7 +15,9 @@ use lock_protocol::{claims_give, keeps_sound, moves_leave_others};
 use lock_restarts::{restarts_go, sends_lawfully};
 use lock_world::names_have_numbers;
 use page_protocol::coherent_pages;
-use page_restarts::{ends_go as pages_end, events_go as pages_go, own_still_restarts, owners_go, readings_go};
+use page_restarts::{
+    ends_go as pages_end, events_go as pages_go, own_still_restarts, owners_go, readings_go,
+};
 use page_world::pages_have_numbers;
 use retained_pages::{commands_retain, retained_pages_keep_out};
 
