@@ -23,7 +23,6 @@ use Rattle.page_world.specs.Numbers.{page_number}
 use Rattle.page_members.specs.Members.{GroupGoes, Shows}
 use Rattle.page_restarts.specs.Beside.{Beside, Leads, as_restarting}
 use Rattle.page_restarts.specs.Bringing.{Forwards}
-use Rattle.page_restarts.specs.Locals.{CastsNone}
 use Rattle.page_restarts.specs.Undoes.{IsUndone}
 
 -- ---- what an event takes from elsewhere
@@ -62,11 +61,9 @@ IsGiven w g content h e (intent.Undo id) answer = (number : ℕ) (p : PageId) �
 IsGiven w g content h e intent.ReleasePage answer = (p : PageId) → h.marks.claim ≡ Some p → MayGiveUp w g h.marks.member p
 IsGiven w g content h e _ answer = Unit {0}
 
--- a page in hand that was changed, and whose record is still retained, may be put aside: no change was taken back, and none is in this event; and
--- the member casts no page out
+-- a page in hand that was changed, and whose record is still retained, may be put aside: no change was taken back, and none is in this event
 pub record IsQuiet (g : Holdings) (h after : Held) (a : Answered) : Type 0 where
   pub level : after.marks.hand.changed ≡ true → is_some after.marks.hand.key ≡ true → g.stable h.marks.member ≡ g.written h.marks.member
-  pub uncast : after.marks.hand.changed ≡ true → is_some after.marks.hand.key ≡ true → CastsNone g h.marks.member
   pub undrawn : (number : ℕ) → after.marks.hand.changed ≡ true → is_some after.marks.hand.key ≡ true → a ≢ answered.Reply (reply.Drawn number)
 
 pub record Supplied (w : World) (u v : Outside) (g : Holdings) (content : ℕ → ℕ → List ℕ) (h k : Held) (s : RestartSent) (a : Answered) (happens : Happens (as_restarting u) h s a (as_restarting v) k) : Type 0 where

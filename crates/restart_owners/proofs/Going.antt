@@ -163,6 +163,7 @@ staged w v g content forced h k s a e = record {
   others = e.leads.others;
   owns = e.owns;
   kept = e.leads.kept;
+  casts = e.leads.casts;
 }
 
 -- ---- where page locks and claims go
