@@ -205,9 +205,13 @@ sized_by bytes size false true false s c =
     let within : size ≤ length bytes = ltb-false (length bytes) size c in
     sized_whole bytes size (omega (arith, long), within)
 
+sized_of : (bytes : List ℕ) (size : ℕ) (few : Bool)
+    → Sized bytes (if few then Err fault.NotWhole else if not (is_size size) then Err (fault.Bad 0) else if nat_lt (length bytes) size then Err fault.NotWhole else whole_in bytes size)
+sized_of bytes size few = sized_by bytes size few (is_size size) (nat_lt (length bytes) size) refl refl
+
 record_sized : (bytes : List ℕ) → Sized bytes (record_in bytes)
 unfolding record_in
-record_sized bytes = sized_by bytes _ _ _ _ refl refl
+record_sized bytes = search (sized_of)
 
 abbrev Few : ℕ → Result Parts ℕ → Type 0
 Few most (Ok p) = length p.records ≤ most
