@@ -1,6 +1,6 @@
 -- How often names are needed of what a log leaves open: no more often than there are records.
 use Rattle.std.proofs.Common.{◌≡◌, ℕ, zero, suc, ◌+◌, ◌<◌, ◌≤◌, refl, sym, ◌∙◌, ap, subst, arith, inl, inr, Bool, true, false, cond, List, [], ◌∷◌, ◌++◌, length, length-append, take, drop, Option, Some, None, Result, Ok, Err}
-use Rattle.std.specs.Prelude.{◌-◌, ◌==◌, ◌^◌, ◌&&◌, T, not, nat_le, nat_lt, if◌then◌else◌, map, filter}
+use Rattle.std.specs.Prelude.{◌-◌, ◌==◌, ◌&&◌, T, not, nat_le, nat_lt, if◌then◌else◌, map, filter}
 use Rattle.std.proofs.lemmas.Bool.{and_parts, cases_Bool, leb-true, ltb-false}
 use Rattle.std.proofs.lemmas.List.{length-drop, length-take}
 use Rattle.std.specs.Ordering.{eq_by_cmp, is_eq, is_lt, nat_cmp}
@@ -22,7 +22,7 @@ use Rattle.log_record.specs.Logs.{Parts, behind, parts_from, parts_in, parts_up_
 use Rattle.log_record.specs.Fields.{◌>>=◌}
 use Rattle.log_record.specs.Reading.{ends_at, fields_in, is_size, record_in, whole_in}
 use Rattle.log_trans.specs.declared.course.Course.{Course}
-use Rattle.log_trans.specs.Courses.{Courses, after_body, course_of, courses_from, courses_of, is_next, is_open, open_among, open_tran, open_trans, undone_one, with_record}
+use Rattle.log_trans.specs.Courses.{Courses, after_body, course_of, courses_from, courses_of, is_next, is_open, open_among, open_tran, undone_one, with_record}
 use Rattle.restart_law.specs.Few.{NeedsAreCounted, ShortLogsNeedFew}
 use Rattle.restart_law.specs.Opens.{is_named, needs_among, needs_by, needs_in, needs_of, one_if}
 
