@@ -189,7 +189,7 @@ begun_course law log k (Some q) own leaves idle fresh = record {
   rest = leaves.rest;
   is = leaves.is;
   alike = leaves.alike;
-  goes = inl (record { pend = []; closes = law leaves.whole leaves.rest k q.resources.marks leaves.are leaves.is_rest leaves.alike fresh.marks; idle = idle });
+  goes = inl (record { pend = []; closes = law leaves.whole leaves.rest k q.resources.marks leaves.are leaves.is_rest leaves.alike.opens fresh.marks; idle = idle });
 }
 
 member_turns : Facts → (c : Contents) (phase : Phase) (f g : Facility) (w z : World) (k : ℕ) (log : List ℕ) (m n : Member) (b : Bool) → begins_restart phase f.lists.statuses k ≡ b → Turns b m n (status_of f.lists.statuses k) (status_of g.lists.statuses k)

@@ -48,7 +48,9 @@ use Rattle.group_logs.specs.Logs.{IsNumbered, LogGoes, OneGoes}
 use Rattle.failed_logs.specs.Given.{ArePlain}
 use Rattle.claimed_logs.specs.Logs.{FrontsAlike, UpLogged}
 use Rattle.claimed_logs.specs.Steps.{PutsUnclosed, StillLogged, UpStepsLogged}
+use Rattle.claimed_logs.specs.Commits.{commits_last}
 use Rattle.claimed_logs.proofs.Alike.{Facts as AlikeFacts, fronts_forced, fronts_more}
+use Rattle.claimed_logs.proofs.Commits.{event_last}
 
 pub record Facts : Type 0 where
   pub alike : AlikeFacts
@@ -133,11 +135,11 @@ rest_all : (xs ys : List LogRecord) → ArePlain (xs ++ ys) → ArePlain ys
 rest_all [] ys h = h
 rest_all (x ∷ xs) ys h = rest_all xs ys h.1
 
-fronts_after : AlikeFacts → (b : Bool) (log : List ℕ) (pend new : List LogRecord) (s t : MarksState) → LogLocked log pend s → AllByRecursion IsAllowed new → PutsUnclosed log s.log.pending t.log.pending
+fronts_after : AlikeFacts → (b : Bool) (log : List ℕ) (pend new : List LogRecord) (s t : MarksState) → LogLocked log pend s → AllByRecursion IsAllowed new → commits_last new ≡ true → PutsUnclosed log s.log.pending t.log.pending
     → LogLocked (log_after b log pend) (pend_after b pend new) t → FrontsAlike log pend → FrontsAlike (log_after b log pend) (pend_after b pend new)
-fronts_after facts true log pend new s t l allowed unclosed now alike = fronts_forced facts log pend alike
-fronts_after facts false log pend new s t l allowed unclosed now alike =
-    fronts_more facts log pend new l.whole l.allowed allowed l.plain (rest_all pend new now.plain) (unclosed pend new l.allowed allowed l.spelled now.spelled) alike
+fronts_after facts true log pend new s t l allowed ordered unclosed now alike = fronts_forced facts log pend alike
+fronts_after facts false log pend new s t l allowed ordered unclosed now alike =
+    fronts_more facts log pend new l.whole l.allowed allowed l.plain (rest_all pend new now.plain) ordered (unclosed pend new l.allowed allowed l.spelled now.spelled) alike
 
 own_still : Facts → (log : List ℕ) (m mid : Member) (u v : World) (place : ℕ) (s : Sent) (a : Answered) → Acts m u place s a v mid → is_failure a ≡ false → TellsLog log u.drive m.holds.marks.member
     → PutsUnclosed log m.holds.marks.log.pending mid.holds.marks.log.pending → UpLogged log u.facility.counter m.holds.marks → StillLogged v.drive u.facility.counter v.facility.counter mid.holds.marks
@@ -150,6 +152,7 @@ own_still facts log m mid u v place s a e ok tells unclosed l = subst (λ (z : M
         locked = still.locked;
         counted = counted.counted;
         alike = fronts_after facts.alike (is_done a && is_append e.intent) log l.pend (event_records (begun e.happens.ready place).marks e.intent e.happens.plan a) m.holds.marks e.after.marks l.locked e.happens.allowed
+            (event_last (begun e.happens.ready place).marks e.intent e.happens.plan a)
             (subst (λ (z : List ℕ). PutsUnclosed log m.holds.marks.log.pending z) (ap (λ (z : Member). z.holds.marks.log.pending) e.member) unclosed) still.locked l.alike;
       };
       rises = counted.rises;
