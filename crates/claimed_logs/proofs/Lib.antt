@@ -1,6 +1,7 @@
 pub mod Unread
 pub mod Found
 pub mod Alike
+pub mod Forward
 pub mod Idle
 pub mod Logs
 pub mod Failing

@@ -17,7 +17,7 @@ use Rattle.log_trans.specs.Courses.{open_trans}
 use Rattle.log_trans.specs.declared.opened.OpenTran.{OpenTran}
 use Rattle.log_appends.specs.Appends.{AreLastFrom, LastSpell}
 use Rattle.log_appends.specs.Rests.{NothingIsRest}
-use Rattle.log_numbers.specs.Numbers.{AreCounted, CountedBegin, CountedMore}
+use Rattle.log_numbers.specs.Numbers.{AreCounted, CountedBegin, CountedMore, forward_in}
 use Rattle.lock_protocol.specs.Machine.{Covers, World}
 use Rattle.lock_world.specs.Rollbacks.{row_of, space_of}
 use Rattle.lock_world.specs.Views.{rollback_owner}
@@ -36,6 +36,7 @@ use Rattle.claimed_logs.specs.Courses.{LeavesAlike, RestartCourse}
 use Rattle.claimed_logs.specs.Found.{OpensKnown}
 use Rattle.claimed_logs.specs.Logs.{DownLogged, FreshLogged, GroupFailsLogged, LeavesOthers, LogCloses, LogsClaimed, LogsKnow, MemberLogged, OneLogged, RestartLogged, UpLogged}
 use Rattle.claimed_logs.proofs.Alike.{Facts as AlikeFacts, fronts_begin}
+use Rattle.claimed_logs.proofs.Forward.{forward_begins, forward_on, new_forward}
 use Rattle.claimed_logs.proofs.Idle.{idle_begins}
 
 never : true ≡ false → ⊥
@@ -98,6 +99,7 @@ fresh_logged facts c s w t down there close = record { there = there; each = λ 
         locked = facts.begin (log_of c.logs (at + 1)) m.id s.sizes m.holds closes.whole stood.book d.holds closes.closed;
         counted = facts.counted s.facility.counter m.id s.sizes m.holds d.holds;
         alike = fronts_begin facts.alike (log_of c.logs (at + 1)) (closes_alike (log_of c.logs (at + 1)) closes);
+        forward = forward_begins (log_of c.logs (at + 1)) s.facility.counter m.holds.marks (λ id some. new_forward m.id s.sizes m.holds d.holds id);
       };
       restarts = subst (λ (z : Option Restarting). IfSome z (λ q. RestartLogged (log_of c.logs (at + 1)) w q.resources.marks)) (sym d.rests) tt;
       course = subst (λ (z : Option Restarting). IfSome z (λ q. RestartCourse (log_of c.logs (at + 1)) q.resources.marks m.holds.marks)) (sym d.rests) tt;
@@ -123,6 +125,9 @@ pub log_left : (log : List ℕ) (w z : World) (m : ℕ) → ((o c : ℕ) → z.c
 log_left log w z m same claimed records last =
     each (HasRows w m) (HasRows z m) (λ x h spot touched. same_row w z m (rollback_owner x.id) spot same (h spot touched)) (open_trans records) (claimed records last)
 
+at_most : (n : ℕ) → n ≤ n
+at_most n = omega arith
+
 pub record LeftFacts : Type 0 where
   pub left : ClaimsLeft
   pub more : CountedMore
@@ -146,7 +151,7 @@ restarts_left law log w z k m (Some q) stands same h = restart_left law log w z 
 pub member_left : LeftFacts → (f g : Facility) (w z : World) (k : ℕ) (log : List ℕ) (m : Member) → f.counter ≤ g.counter → status_of g.lists.statuses k ≡ status_of f.lists.statuses k → ((o c : ℕ) → z.claims k o c ≡ w.claims k o c)
     → RestartInHand k m m.restart → MemberLogged f w k log m → MemberLogged g z k log m
 member_left facts f g w z k log m rises status same stands h = record {
-  up = λ up. let before : UpLogged log f.counter m.holds.marks = h.up (sym status ∙ up) in record { pend = before.pend; locked = before.locked; counted = facts.more f.counter g.counter m.holds.marks rises before.counted; alike = before.alike };
+  up = λ up. let before : UpLogged log f.counter m.holds.marks = h.up (sym status ∙ up) in record { pend = before.pend; locked = before.locked; counted = facts.more f.counter g.counter m.holds.marks rises before.counted; alike = before.alike; forward = forward_on log before.pend f.counter g.counter m.holds.marks m.holds.marks rises (λ id some. at_most (forward_in m.holds.marks.trans id)) before.forward };
   restarts = restarts_left facts.left log w z k m m.restart stands same h.restarts;
   course = h.course;
   down = λ dead. let before : DownLogged log w k m.holds.marks = h.down (sym (ap is_live status) ∙ dead) in record { claimed = log_left log w z k same before.claimed; leaves = before.leaves; idle = before.idle };

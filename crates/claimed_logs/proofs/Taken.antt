@@ -323,7 +323,7 @@ module _ (facts : Facts) (old new : CrewState) (w : World) (c d : Contents) (t :
   made_as stepped made = subst (λ (z : Resources). Steps m z old.fates place stepped n (record { facility = new.facility; drive = v.drive }) new.fates) f (subst (λ (z : Resources). Steps m u old.fates place stepped n z new.fates) g made)
 
   up_goes : (stepped : Stepped) → status_of old.facility.lists.statuses m.id ≡ status.Up → is_over stepped ≡ false → Steps m u old.fates place stepped n v new.fates → MovesLogged d old new w m
-  up_goes stepped up over made = record { moves = moves; logs = facts.up c d old new at m n w t steps_at (unfailed_of stepped over) told left (given.unclosed at m n steps_at) moves l }
+  up_goes stepped up over made = record { moves = moves; logs = facts.up c d old new at m n w t steps_at (unfailed_of stepped over) told left (given.below at) moves l }
     where
       steps_at : StepsAt old new at m n
       steps_at = record {

@@ -1,5 +1,6 @@
 -- The logs of a group's members on disk, beside the world of locks beside which the group stands.
-use Rattle.std.specs.Prelude.{◌≡◌, ◌≢◌, ℕ, ◌+◌, ◌≤◌, ◌++◌, false, List, [], length, Some, IfSome, slice_get}
+use Rattle.std.specs.Prelude.{◌≡◌, ◌≢◌, ℕ, ◌+◌, ◌≤◌, ◌++◌, true, false, List, [], length, Some, IfSome, slice_get}
+use Rattle.std.specs.List.{AllByRecursion}
 use Rattle.ds_disk.specs.Contents.{Contents, log_of}
 use Rattle.ds_model.specs.RecordBytes.{log_bytes}
 use Rattle.ds_model.specs.declared.log.LogRecord.{LogRecord}
@@ -8,7 +9,8 @@ use Rattle.list_structure.specs.declared.standing.MemberStatus.TheVariants.{Up}
 use Rattle.list_structure.specs.Standings.{is_live, status_of}
 use Rattle.log_reader.specs.Keeping.{AreBytes, AreWhole}
 use Rattle.log_appends.specs.Appends.{AreLastFrom}
-use Rattle.log_numbers.specs.Numbers.{AreCounted}
+use Rattle.log_numbers.specs.Numbers.{AreCounted, forward_in}
+use Rattle.log_rows.specs.Rows.{is_closed}
 use Rattle.lock_protocol.specs.Machine.{World}
 use Rattle.member_marks.specs.State.{MarksState}
 use Rattle.restart_marks.specs.State.{RestartState}
@@ -32,12 +34,23 @@ use Rattle.claimed_logs.specs.Found.{AllOpensKnown}
 abbrev pub FrontsAlike : List ℕ → List LogRecord → Type 0
 FrontsAlike log pend = (front rest : List LogRecord) → pend ≡ front ++ rest → OpensAlike (log ++ log_bytes front)
 
+-- No number by which a record of the log names its transaction is above this one, wherever reading may begin.
+abbrev pub LogBelow : ℕ → List ℕ → Type 0
+LogBelow counter log = (start : ℕ) (back : List LogRecord) → AreLastFrom log start back → AllByRecursion (λ (r : LogRecord). r.tran ≤ counter) back
+
+-- Nor is one of a record that waits; and wherever reading may begin, neither the log's last records nor those that wait close a transaction of a slot
+-- that goes forward.
+pub record ForwardOpen (log : List ℕ) (pend : List LogRecord) (counter : ℕ) (s : MarksState) : Type 0 where
+  pub below : AllByRecursion (λ (r : LogRecord). r.tran ≤ counter) pend
+  pub unclosed : (start : ℕ) (back : List LogRecord) → AreLastFrom log start back → (id : ℕ) → id ≢ 0 → is_closed (back ++ pend) id ≡ true → forward_in s.trans id ≡ 0
+
 -- that of one that is up: wherever reading may begin, the rows of the log and of the log buffer are locked, or closed on disk
 pub record UpLogged (log : List ℕ) (counter : ℕ) (s : MarksState) : Type 0 where
   pub pend : List LogRecord
   pub locked : LogLocked log pend s
   pub counted : AreCounted counter s
   pub alike : FrontsAlike log pend
+  pub forward : ForwardOpen log pend counter s
 
 -- that of one that restarts: as long as its restart hasn't read it, it has the bytes that the restart reads
 pub record RestartLogged (log : List ℕ) (w : World) (s : RestartState) : Type 0 where

@@ -35,7 +35,7 @@ use Rattle.failed_logs.specs.Given.{Member}
 use Rattle.failed_logs.specs.Given.{has_failed}
 use Rattle.failed_logs.specs.Given.{is_restart}
 use Rattle.claimed_logs.specs.Courses.{LeavesNothing, RestartCourse}
-use Rattle.claimed_logs.specs.Logs.{RestartLogged, UpLogged}
+use Rattle.claimed_logs.specs.Logs.{LogBelow, RestartLogged, UpLogged}
 
 -- ---- a member that is up
 
@@ -46,17 +46,12 @@ pub record StillLogged (drive : Drive) (before counter : ℕ) (s : MarksState) :
   pub logged : UpLogged log counter s
   pub rises : before ≤ counter
 
--- Where the log buffer had these bytes, and has those: a record that was put behind its records, and changes a row, does so for a transaction which
--- neither they close, nor the log's last records do, wherever reading may begin.
-abbrev pub PutsUnclosed : List ℕ → List ℕ → List ℕ → Type 0
-PutsUnclosed log before after = (pend new : List LogRecord) → AllByRecursion IsAllowed pend → AllByRecursion IsAllowed new → before ≡ log_bytes pend → after ≡ log_bytes (pend ++ new)
-    → (start : ℕ) (back : List LogRecord) → AreLastFrom log start back → (id : ℕ) (spot : Spot) → id ≢ 0 → has_changed new id spot ≡ true → is_closed (back ++ pend) id ≡ false
-
--- behind any event of the member, which keeps its number, with what is entered and told behind it
+-- Behind any event of the member, which keeps its number, with what is entered and told behind it. No record of its log names a transaction by a
+-- number above the counter.
 abbrev pub UpStepsLogged : Type 0
 UpStepsLogged = (log : List ℕ) (m n : Member) (u v : World) (f g : FatesState) (place : ℕ) (stepped : Stepped)
     → Steps m u f place stepped n v g → has_failed stepped ≡ false → m.restart ≡ None → 1 ≤ m.holds.marks.member → n.holds.marks.member ≡ m.holds.marks.member → TellsLog log u.drive m.holds.marks.member
-    → PutsUnclosed log m.holds.marks.log.pending n.holds.marks.log.pending → UpLogged log u.facility.counter m.holds.marks → StillLogged v.drive u.facility.counter v.facility.counter n.holds.marks
+    → LogBelow u.facility.counter log → UpLogged log u.facility.counter m.holds.marks → StillLogged v.drive u.facility.counter v.facility.counter n.holds.marks
 
 -- ---- one that restarts
 

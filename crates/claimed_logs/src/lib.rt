@@ -24,7 +24,7 @@ use failed_logs::{
 use group_logs::{known_ends, members_log, rests_are_unknown};
 use lock_restarts::{restarts_follow, sends_lawfully};
 use log_appends::{appends_tell, rests_tell};
-use log_numbers::{commands_count, numbers_stay};
+use log_numbers::{commands_count, forward_stays, numbers_stay};
 use log_opens::opens_are_all;
 use log_rows::{both_tell, open_trans_tell};
 use restart_claims::{claims_stay, claims_tell, restarts_close_truly, stops_are_claimed};
@@ -131,6 +131,7 @@ pub fn steps_logged()
     members_log();
     logs_stay_locked();
     numbers_stay();
+    forward_stays();
     commands_count();
     opens_stay();
     reads_true();
@@ -163,7 +164,8 @@ pub fn courses_go()
     commands_count();
 }
 
-/// So the logs of all members stay claimed behind an event of one that is up, if it changes no row for a transaction which its log closes; and
+/// So the logs of all members stay claimed behind an event of one that is up, if no record of its log names a transaction by a number above the
+/// counter: it changes no row for one that the log closes. And
 /// behind one of a member that restarts, in which no call of the disk fails: of the restart if it counts no transaction as left where each is
 /// over, and the numbers stay counted of what it hands over.
 pub fn events_logged()
@@ -185,6 +187,7 @@ pub fn events_logged()
     members_log();
     members_go();
     restarts_follow();
+    forward_stays();
     commands_count();
     claims_stay();
     numbers_stay();

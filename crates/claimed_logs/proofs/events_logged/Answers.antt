@@ -27,6 +27,7 @@ returns c =
       follow = c.restarts_follow.ensures.follows;
       standings = c.restarts_follow.ensures.standings;
       commands = c.commands_count.ensures;
+      reaches = c.forward_stays.ensures.local;
     } in
     record {
       up = up_events facts;
