@@ -90,9 +90,9 @@ all_below c d (r ∷ rs) le low = (let first = low.0 in omega (arith, first, le)
 
 -- ---- the counter rises, and none goes forward that didn't
 pub forward_on : (log : List ℕ) (pend : List LogRecord) (c d : ℕ) (s t : MarksState) → c ≤ d → ((id : ℕ) → id ≢ 0 → forward_in t.trans id ≤ forward_in s.trans id) → ForwardOpen log pend c s → ForwardOpen log pend d t
-forward_on log pend c d s t le less open = record {
-  below = all_below c d pend le open.below;
-  unclosed = λ start back last id some closed. (let none = open.unclosed start back last id some closed in let few = less id some in omega (arith, none, few));
+forward_on log pend c d s t le less held = record {
+  below = all_below c d pend le held.below;
+  unclosed = λ start back last id some closed. (let none = held.unclosed start back last id some closed in let few = less id some in omega (arith, none, few));
 }
 
 module _ (log : List ℕ) (pend new : List LogRecord) (c d : ℕ) (s t : MarksState) (low : LogBelow c log) (held : ForwardOpen log pend c s) (names : RecordsName c d s t new) where

@@ -48,11 +48,11 @@ use Rattle.member_effects.specs.Frames.{full_at, read_after, tested_after, unreg
 use Rattle.member_effects.specs.Kept.{Kept}
 use Rattle.log_numbers.proofs.Lists.{removed_named}
 use Rattle.log_numbers.proofs.Records.{draws_change, draws_commit, draws_system, draws_undo, owner_like, slot_none}
-use Rattle.log_numbers.proofs.Stays.{Draws, Fewer, Stays, draws_after, draws_as, draws_stays, fewer_itself, stays_as, stays_fewer, stays_heads, stays_if, stays_itself, stays_locks, stays_names, stays_on, stays_same}
+use Rattle.log_numbers.proofs.Stays.{Draws, Fewer, Stays, draws_after, draws_as, draws_stays, fewer_itself, fewer_same, stays_as, stays_fewer, stays_heads, stays_if, stays_itself, stays_locks, stays_names, stays_on, stays_same}
 
 -- ---- refusals
 pub stays_offered : (s : MarksState) (o : Owner) (r : Refusal) (place : ℕ) → Stays s (offered s o r place)
-stays_offered s o r place = stays_fewer s (offered s o r place) refl (fewer_itself s.trans)
+stays_offered s o r place = stays_fewer s (offered s o r place) refl (fewer_same s.trans _ refl refl)
 
 in_the_way : (s : MarksState) (o : Owner) (n : Name) (a : CellAnswer) (event : ℕ) → Stays s (in_the_way_after s o n a event)
 in_the_way s o n cell_answer.Clean event = stays_itself s

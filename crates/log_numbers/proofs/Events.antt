@@ -42,7 +42,7 @@ use Rattle.log_numbers.proofs.Commands.{commands_count}
 use Rattle.log_numbers.proofs.Effects.{DrawsBy, committed_goes, drawn_goes, goes_as, stays_claimed, stays_cycle, stays_ended, stays_ended_of, stays_filled, stays_found, stays_page_released, stays_purged, stays_read, stays_released, stays_tested, stays_unregistered, stays_written, undone_goes}
 use Rattle.log_numbers.proofs.Locals.{reach_stays}
 use Rattle.log_numbers.proofs.Records.{slot_like, stays_append}
-use Rattle.log_numbers.proofs.Stays.{Draws, Stays, counted_more, fewer_itself, stays_as, stays_fewer, stays_itself, stays_on}
+use Rattle.log_numbers.proofs.Stays.{Draws, Stays, counted_more, fewer_same, stays_as, stays_fewer, stays_itself, stays_on}
 use Rattle.ds_disk.specs.declared.disk.DiskError.TheVariants.{Failed}
 use Rattle.member_needs.specs.Plans.{intent_plan}
 use Rattle.member_needs.specs.declared.needs.Setting.{Setting}
@@ -92,9 +92,9 @@ settled_go h k i p waits answer cells place said e = settles_go h k i p answer c
 -- ---- what a command draws
 
 -- from the one counter to the other
-record Goes (c d : ℕ) (s t : MarksState) : Type 0 where
-  counted : AreCounted c s → AreCounted d t
-  forward : (id : ℕ) → id ≢ 0 → id ≤ c → forward_in t.trans id ≤ forward_in s.trans id
+pub record Goes (c d : ℕ) (s t : MarksState) : Type 0 where
+  pub counted : AreCounted c s → AreCounted d t
+  pub forward : (id : ℕ) → id ≢ 0 → id ≤ c → forward_in t.trans id ≤ forward_in s.trans id
 
 goes_drawn : (c : ℕ) (s t : MarksState) → Draws (c + 1) s t → Goes c (c + 1) s t
 goes_drawn c s t draws = record { counted = λ k. draws.counted c refl k; forward = λ id some low. draws.forward id some (λ e. absurd (let q = e in omega (arith, low, q))) }
@@ -192,9 +192,9 @@ called_stays : (w v : Drive) (h k : Held) (i : Intent) (s : Sent) (a : Answered)
 called_stays w v h k i s a said r = subst (λ (z : MarksState). Stays z k.marks) (call_same w v h r.after i s r.done r.calls) (stores_stay r.after k i r.done a said r.stores)
 
 -- ---- the event, by what is sent
-record RunsOn (w v : Facility) (s t : MarksState) : Type 0 where
-  rises : w.counter ≤ v.counter
-  goes : Goes w.counter v.counter s t
+pub record RunsOn (w v : Facility) (s t : MarksState) : Type 0 where
+  pub rises : w.counter ≤ v.counter
+  pub goes : Goes w.counter v.counter s t
 
 same_counter : (w v : Facility) (s t : MarksState) → v ≡ w → Stays s t → RunsOn w v s t
 same_counter w v s t e stays = subst (λ (z : Facility). RunsOn w z s t) (sym e) (record { rises = itself w.counter; goes = goes_stays w.counter w.counter s t (itself w.counter) stays })
@@ -209,13 +209,13 @@ runs_on b pages set w v h k i (sent.WritePage page) p place a said lawful r = sa
 
 -- ---- the memory that is taken, and the begin
 ready_stays : (h ready : Held) (i : Intent) → Reserves i h ready → Stays h.marks ready.marks
-ready_stays h ready (intent.Obtain o n m) e = marks_as h ready (with_spare h ready.marks.locks.spare) e.2 (stays_fewer h.marks (with_spare h ready.marks.locks.spare).marks refl (fewer_itself h.marks.trans))
-ready_stays h ready (intent.Grant o n m) e = marks_as h ready (with_spare h ready.marks.locks.spare) e.2 (stays_fewer h.marks (with_spare h ready.marks.locks.spare).marks refl (fewer_itself h.marks.trans))
+ready_stays h ready (intent.Obtain o n m) e = marks_as h ready (with_spare h ready.marks.locks.spare) e.2 (stays_fewer h.marks (with_spare h ready.marks.locks.spare).marks refl (fewer_same h.marks.trans _ refl refl))
+ready_stays h ready (intent.Grant o n m) e = marks_as h ready (with_spare h ready.marks.locks.spare) e.2 (stays_fewer h.marks (with_spare h ready.marks.locks.spare).marks refl (fewer_same h.marks.trans _ refl refl))
 ready_stays h ready (intent.Change slot action frames) e = marks_as h ready (with_change_room h slot) e (stays_fewer h.marks (with_change_room h slot).marks refl (slot_like h.marks.trans slot (with_room (slot_tran h.marks slot)) refl (λ e. e)))
 ready_stays h ready _ e = marks_as h ready h e (stays_itself h.marks)
 
 begun_stays : (h : Held) (place : ℕ) → Stays h.marks (begun h place).marks
-begun_stays h place = stays_fewer h.marks (begun h place).marks refl (fewer_itself h.marks.trans)
+begun_stays h place = stays_fewer h.marks (begun h place).marks refl (fewer_same h.marks.trans _ refl refl)
 
 -- ---- the whole event
 abbrev sent_in : Result Prepared Test → Result Sent Test
@@ -228,30 +228,30 @@ needs_sent (Ok t) (Err test) s p e = absurd cc
 needs_sent (Ok t) (Ok q) s p e = ap sent_in e
 
 module _ (sends : SendsLawfully) (w v : World) (h k : Held) (i : Intent) (place : ℕ) (s : Sent) (a : Answered) (happens : Happens w h i place s a v k) where
-  pub set : Setting
-  set = setting_of h (holder_in w.facility h.cast) place
+  abbrev pub setting : Setting
+  setting = setting_of h (holder_in w.facility h.cast) place
 
-  pub lawful : Lawful h.marks h.pages set i s
-  lawful = sends h.marks h.pages set i s (needs_sent (need_of h.marks h.pages set i) (intent_plan h.marks h.pages h.limit i) s happens.plan happens.lawful)
+  pub sent_lawfully : Lawful h.marks h.pages setting i s
+  sent_lawfully = sends h.marks h.pages setting i s (needs_sent (need_of h.marks h.pages setting i) (intent_plan h.marks h.pages h.limit i) s happens.plan happens.lawful)
 
   -- up to where it is sent, by what is sent, and then by local moves
-  pub first : Stays h.marks (begun happens.ready place).marks
-  first = stays_on h.marks happens.ready.marks (begun happens.ready place).marks (ready_stays h happens.ready i happens.reserves) (begun_stays happens.ready place)
+  pub stays_ready : Stays h.marks (begun happens.ready place).marks
+  stays_ready = stays_on h.marks happens.ready.marks (begun happens.ready place).marks (ready_stays h happens.ready i happens.reserves) (begun_stays happens.ready place)
 
-  pub middle : RunsOn w.facility v.facility (begun happens.ready place).marks happens.after.marks
-  middle = runs_on h.marks h.pages set w v (begun happens.ready place) happens.after i s happens.plan place a happens.said lawful happens.runs
+  pub runs_between : RunsOn w.facility v.facility (begun happens.ready place).marks happens.after.marks
+  runs_between = runs_on h.marks h.pages setting w v (begun happens.ready place) happens.after i s happens.plan place a happens.said sent_lawfully happens.runs
 
-  pub last : Stays happens.after.marks k.marks
-  last = reach_stays happens.after.marks k.marks happens.ends.0
+  pub stays_local : Stays happens.after.marks k.marks
+  stays_local = reach_stays happens.after.marks k.marks happens.ends.0
 
 pub counted_stay : SendsLawfully → CountedStay
 counted_stay sends w v h k i place s a happens c =
-    let on = middle sends w v h k i place s a happens in
-    record { rises = on.rises; counted = (last sends w v h k i place s a happens).counted v.facility.counter (on.goes.counted ((first sends w v h k i place s a happens).counted w.facility.counter c)) }
+    let on = runs_between sends w v h k i place s a happens in
+    record { rises = on.rises; counted = (stays_local sends w v h k i place s a happens).counted v.facility.counter (on.goes.counted ((stays_ready sends w v h k i place s a happens).counted w.facility.counter c)) }
 
 pub forward_stay : SendsLawfully → ForwardStay
 forward_stay sends w v h k i place s a happens id some low =
-    let p = (first sends w v h k i place s a happens).forward id some in
-    let q = (middle sends w v h k i place s a happens).goes.forward id some low in
-    let r = (last sends w v h k i place s a happens).forward id some in
+    let p = (stays_ready sends w v h k i place s a happens).forward id some in
+    let q = (runs_between sends w v h k i place s a happens).goes.forward id some low in
+    let r = (stays_local sends w v h k i place s a happens).forward id some in
     omega (arith, p, q, r)

@@ -29,11 +29,11 @@ use Rattle.log_numbers.specs.Numbers.{AreCounted, CountedAdopt, CountedBegin, Co
 use Rattle.log_numbers.proofs.Effects.{stays_offered}
 use Rattle.log_numbers.proofs.Lists.{free_named, none_named, push_named, set_forward, set_named}
 use Rattle.log_numbers.proofs.Records.{slot_like, slot_none}
-use Rattle.log_numbers.proofs.Stays.{Fewer, Stays, above_some, fewer_if, fewer_itself, stays_as, stays_fewer, stays_heads, stays_if, stays_itself, stays_locks, stays_on, stays_trans}
+use Rattle.log_numbers.proofs.Stays.{Fewer, Stays, above_some, fewer_if, fewer_itself, fewer_same, stays_as, stays_fewer, stays_heads, stays_if, stays_itself, stays_locks, stays_on, stays_trans}
 
 -- ---- a lock is tried at home
 at_home : (s : MarksState) (slot : ℕ) (n : Name) (m : Mode) (event : ℕ) (has_memory : Bool) (spare : ℕ) → Stays s (entered_at_home s slot n m event has_memory spare)
-at_home s slot n m event has_memory spare = stays_if s _ _ has_memory (stays_locks s (given_with s.locks spare slot n m)) (stays_fewer s (offered_memory (with_locks s (record s.locks { spare = spare })) slot event) refl (fewer_itself s.trans))
+at_home s slot n m event has_memory spare = stays_if s _ _ has_memory (stays_locks s (given_with s.locks spare slot n m)) (stays_fewer s (offered_memory (with_locks s (record s.locks { spare = spare })) slot event) refl (fewer_same s.trans _ refl refl))
 
 tried : (s : MarksState) (slot : ℕ) (n : Name) (m : Mode) (event : ℕ) (has_memory : Bool) (spare : ℕ) (a : Ask) → Stays s (tried_as s slot n m event has_memory spare a)
 tried s slot n m event has_memory spare ask.Have = stays_itself s
@@ -96,7 +96,7 @@ postponed_by s slot (Some by) = stays_fewer s (with_postponed s slot by) refl (r
 
 waits_by : (s : MarksState) (id : ℕ) (by : Option ℕ) → Stays s (waiting_for s id by)
 waits_by s id None = stays_itself s
-waits_by s id (Some by) = stays_fewer s (waiting_for s id (Some by)) refl (fewer_itself s.trans)
+waits_by s id (Some by) = stays_fewer s (waiting_for s id (Some by)) refl (fewer_same s.trans _ refl refl)
 
 -- ---- any of them
 stays_moved : (s : MarksState) (x : Local) → Stays s (moved x s)

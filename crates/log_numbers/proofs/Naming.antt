@@ -2,7 +2,7 @@
 use Rattle.std.proofs.Common.{◌≡◌, ℕ, zero, suc, ◌+◌, ◌<◌, ◌≤◌, refl, sym, ◌∙◌, ap, subst, arith, Bool, true, false, inl, inr, List, [], ◌∷◌, length, Option, Some, None}
 use Rattle.std.specs.Prelude.{◌≢◌, ◌⊎◌, ◌==◌, ◌&&◌, ◌||◌, not, nat_le, nat_lt, if◌then◌else◌, slice_index_or, slice_set}
 use Rattle.std.specs.List.{AllByRecursion}
-use Rattle.std.proofs.lemmas.Bool.{and_parts, cond_both, eqb-true, leb-false, leb-true, or_cases}
+use Rattle.std.proofs.lemmas.Bool.{and_parts, cond_both, eq-eqb, eqb-true, leb-false, leb-true, or_cases}
 use Rattle.ds_model.specs.declared.log.Body.TheVariants as body
 use Rattle.ds_model.specs.declared.log.LogRecord.{LogRecord}
 use Rattle.ds_model.specs.Rows.{Spot}
@@ -52,7 +52,7 @@ use Rattle.needs_law.specs.Lawful.{Lawful, SendsLawfully}
 use Rattle.log_numbers.specs.Numbers.{AreCounted, RecordsAreNamed, RecordsName, forward_among, forward_in, named_in, one_if}
 use Rattle.log_numbers.proofs.Apart.{rollback_named, slot_named}
 use Rattle.log_numbers.proofs.Effects.{DrawsBy}
-use Rattle.log_numbers.proofs.Events.{first, last, lawful, lent_same, same_command, set, settled_go}
+use Rattle.log_numbers.proofs.Events.{lent_same, same_command, sent_lawfully, setting, settled_go, stays_local, stays_ready}
 use Rattle.log_numbers.proofs.Lists.{apart_named, at_forward, forward_named, none_named, set_forward}
 use Rattle.log_numbers.proofs.Records.{draw_fewer}
 use Rattle.log_numbers.proofs.Stays.{Draws, Stays}
@@ -245,12 +245,9 @@ with_below first n c d low next there = cond_both (first == 0) n first (λ (z : 
 rests_alone : (c : ℕ) (s : MarksState) (o : Owner) (id : ℕ) → AreCounted c s → id ≢ 0 → (tran_of s o).first ≡ id → is_forward (tran_of s o).stage ≡ false → forward_in s.trans id ≡ 0
 rests_alone c s (owner.Slot slot) id k some named rests =
     let apart = apart_named s.trans.slots slot id some rests in
-    let one : one_if ((tran_at s.trans slot).first == id) ≡ 1 = ap one_if (ap (λ (z : ℕ). z == id) named ∙ same id) in
+    let one : one_if ((tran_at s.trans slot).first == id) ≡ 1 = ap one_if (eq-eqb (tran_at s.trans slot).first id named) in
     let once = k.once id some in
     omega (arith, apart, one, once)
-  where
-    same : (n : ℕ) → (n == n) ≡ true
-    same n = search rules
 rests_alone c s (owner.Rollback r) id k some named rests =
     let there = rollback_named s.trans r id some named in
     let less = forward_named s.trans.slots id in
@@ -279,12 +276,9 @@ drawn_alone c s slot n id k next goes is some = by ((tran_at s.trans slot).first
     set : forward_among (slice_set s.trans.slots slot (drawn (tran_at s.trans slot))) id + one_if (is_forward (tran_at s.trans slot).stage && ((tran_at s.trans slot).first == id)) ≤ forward_among s.trans.slots id
     set = (let h = set_forward s.trans.slots slot (drawn (tran_at s.trans slot)) id in omega (arith, h))
 
-    same : (m : ℕ) → (m == m) ≡ true
-    same m = search rules
-
     old : (tran_at s.trans slot).first ≡ id → forward_in (after_draw s.trans slot) id ≡ 0
     old e =
-        let one : one_if (is_forward (tran_at s.trans slot).stage && ((tran_at s.trans slot).first == id)) ≡ 1 = ap (λ (b : Bool). one_if (b && ((tran_at s.trans slot).first == id))) goes ∙ ap one_if (ap (λ (z : ℕ). z == id) e ∙ same id) in
+        let one : one_if (is_forward (tran_at s.trans slot).stage && ((tran_at s.trans slot).first == id)) ≡ 1 = ap (λ (b : Bool). one_if (b && ((tran_at s.trans slot).first == id))) goes ∙ ap one_if (eq-eqb (tran_at s.trans slot).first id e) in
         let less = forward_named s.trans.slots id in
         let once = k.once id some in
         let none : forward_among (slice_set s.trans.slots slot (drawn (tran_at s.trans slot))) id ≡ 0 = (let h = set in omega (arith, h, one, less, once)) in
@@ -409,6 +403,6 @@ names_on c d s b t u records first last names = record {
 
 pub records_are_named : SendsLawfully → RecordsAreNamed
 records_are_named sends w v h k i place s a happens counted =
-    let before = first sends w v h k i place s a happens in
-    names_on w.facility.counter v.facility.counter h.marks (begun happens.ready place).marks happens.after.marks k.marks (event_records (begun happens.ready place).marks i happens.plan a) before (last sends w v h k i place s a happens)
-    (sent_names h.pages (set sends w v h k i place s a happens) w v h happens.ready happens.after i s happens.plan place a happens.said (lawful sends w v h k i place s a happens) happens.reserves happens.runs (before.counted w.facility.counter counted))
+    let before = stays_ready sends w v h k i place s a happens in
+    names_on w.facility.counter v.facility.counter h.marks (begun happens.ready place).marks happens.after.marks k.marks (event_records (begun happens.ready place).marks i happens.plan a) before (stays_local sends w v h k i place s a happens)
+    (sent_names h.pages (setting sends w v h k i place s a happens) w v h happens.ready happens.after i s happens.plan place a happens.said (sent_lawfully sends w v h k i place s a happens) happens.reserves happens.runs (before.counted w.facility.counter counted))

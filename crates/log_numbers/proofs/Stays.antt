@@ -5,10 +5,10 @@ use Rattle.std.proofs.lemmas.Bool.{cond_both, eqb-true, ne_eqb}
 use Rattle.lock_manager.specs.Managers.{Book}
 use Rattle.member_log.specs.Buffers.{LogBuffer}
 use Rattle.member_pool.specs.Heads.{HeadState}
-use Rattle.member_trans.specs.Trans.{TransState}
+use Rattle.member_trans.specs.Trans.{TranState, TransState}
 use Rattle.member_marks.specs.Names.{NameSet}
 use Rattle.member_marks.specs.State.{MarksState, with_heads, with_kept, with_locks, with_trans}
-use Rattle.log_numbers.specs.Numbers.{AreCounted, CountedMore, forward_in, named_in, one_if}
+use Rattle.log_numbers.specs.Numbers.{AreCounted, CountedMore, forward_among, forward_in, named_among, named_in, one_if}
 use Rattle.log_numbers.proofs.Lists.{none_named}
 
 -- ---- no number more, and none that goes forward
@@ -40,6 +40,13 @@ fewer_if s x y b p q = cond_both b x y (λ z. Fewer s z) (λ e. p) (λ e. q)
 
 pub fewer_itself : (s : TransState) → Fewer s s
 fewer_itself s = record { named = λ id some. omega arith; forward = λ id some. omega arith }
+
+-- where its lists stay
+pub fewer_same : (s t : TransState) → t.slots ≡ s.slots → t.rollbacks ≡ s.rollbacks → Fewer s t
+fewer_same s t slots rollbacks = record {
+  named = λ id some. (let a = ap (λ (z : List TranState). named_among z id) slots in let b = ap (λ (z : List TranState). named_among z id) rollbacks in omega (arith, a, b));
+  forward = λ id some. (let a = ap (λ (z : List TranState). forward_among z id) slots in omega (arith, a));
+}
 
 pub fewer_on : (s t u : TransState) → Fewer s t → Fewer t u → Fewer s u
 fewer_on s t u a b = record {

@@ -26,7 +26,7 @@ use Rattle.restart_marks.specs.State.{RestartState}
 use Rattle.restart_marks.specs.Undoing.{may_undo, may_undo_as, undone_after, undone_as, undone_by}
 use Rattle.restart_closing.specs.Closing.{IsOf, IsRead, IsUnread, LeavesOpen, RestartCloses, TranCloses, TransClose, Waits, trans_of}
 use Rattle.restart_closing.proofs.Logs.{AreBack, IsBack, both_all, closed_last}
-use Rattle.restart_closing.proofs.Trans.{at_place, back_same, end_same, none_some, same_some, trans_back, trans_ended, trans_more}
+use Rattle.restart_closing.proofs.Trans.{IsOpenAt, at_place, back_open, back_same, end_same, none_some, same_some, trans_back, trans_ended, trans_more}
 
 -- ---- records are put behind those that wait
 abbrev pub Puts : List ℕ → List ℕ → List LogRecord → RestartState → Type 0
@@ -237,6 +237,14 @@ tran_of_newest : (o : Option RestartTran) (it : Newest) → newest_by o ≡ Some
 tran_of_newest None it e = absurd (none_some it e)
 tran_of_newest (Some x) it e = (x, refl, e)
 
+-- it is open still
+newest_open : (x : RestartTran) (it : Newest) → newest_of x ≡ Some it → is_open x ≡ true
+newest_open x it e = by (is_open x) e
+  where
+    by : (b : Bool) → (if b && not (x.stands == 0) then newest_at (slice_get x.tran.undo (x.stands - 1)) else None) ≡ Some it → b ≡ true
+    by true q = refl
+    by false q = absurd (none_some it q)
+
 none_newest : (t : TransState) (id : ℕ) (it : Newest) → newest t id ≡ Some it → t ≡ no_trans → ⊥
 none_newest t id it e none = none_some it (sym (ap (λ (z : TransState). newest z id) none) ∙ e)
 
@@ -272,6 +280,9 @@ module _ (law : BothTell) where
       q_ok : IsAllowed q
       q_ok = ended_allowed id lrsn some number drawn
 
+      goes : IsOpenAt s.trans id
+      goes = subst (λ (z : Option RestartTran). IfSome z (λ (x : RestartTran). is_open x ≡ true)) (sym found.1) (newest_open found.0 it found.2)
+
       read : s.own.is_read ≡ true
       read = not_unread log rest pend s c (none_newest s.trans id it new)
 
@@ -291,7 +302,7 @@ module _ (law : BothTell) where
             (ap (λ (z : TransState). trans_of z.list) ends ∙ (end_same (after_back s.trans id) id ∙ back_same s.trans id))
             (subst (Waits (pend ++ r ∷ q ∷ [])) (sym logs) both)
             (subst (TransClose log (pend ++ r ∷ q ∷ [])) (sym ends)
-            (trans_ended log (pend ++ r ∷ q ∷ []) (after_back s.trans id) id (closed_last law pend (r ∷ q ∷ []) id (own_closed id ((id == id) && false) (eq-eqb id id refl))) (back (r ∷ q ∷ [])))) c,
+            (trans_ended log (pend ++ r ∷ q ∷ []) (after_back s.trans id) id (back_open s.trans id goes) (closed_last law pend (r ∷ q ∷ []) id (own_closed id ((id == id) && false) (eq-eqb id id refl))) (back (r ∷ q ∷ [])))) c,
       )
       by false logs ends = (
         r ∷ [],
@@ -314,9 +325,9 @@ module _ (law : BothTell) where
   step_undo s id lrsn drawn = step_if (may_undo s id lrsn) s (undone_as s id lrsn (newest s.trans id)) s (λ e. step_undone s id lrsn (newest s.trans id) drawn refl) (λ e. step_itself s)
 
   -- ---- a transaction is closed
-  undone_tran : (o : Option RestartTran) → is_undone_by o ≡ true → (x : RestartTran) × (o ≡ Some x)
+  undone_tran : (o : Option RestartTran) → is_undone_by o ≡ true → (x : RestartTran) × (o ≡ Some x) × (is_open x ≡ true)
   undone_tran None e = absurd cc
-  undone_tran (Some x) e = (x, refl)
+  undone_tran (Some x) e = (x, refl, (and_parts (is_open x) (x.stands == 0) e).0)
 
   none_undone : (t : TransState) (id : ℕ) → is_undone t id ≡ true → t ≡ no_trans → ⊥
   none_undone t id e none = never (sym (ap (λ (z : TransState). is_undone z id) none) ∙ e)
@@ -330,13 +341,13 @@ module _ (law : BothTell) where
     q ∷ [],
     put_closes log rest pend (q ∷ []) s (record s { log = after_put s.log q; trans = after_end s.trans id }) read refl (end_same s.trans id)
         (waits_more pend s.log q (ended_allowed id s.log.last some number c.waits.number) (refl, tt) c.waits.number c.waits)
-        (trans_ended log (pend ++ q ∷ []) s.trans id (closed_last law pend (q ∷ []) id (ends_own id s.log.last)) (trans_more law log pend (q ∷ []) s.trans c.trans)) c,
+        (trans_ended log (pend ++ q ∷ []) s.trans id goes (closed_last law pend (q ∷ []) id (ends_own id s.log.last)) (trans_more law log pend (q ∷ []) s.trans c.trans)) c,
   )
     where
       q : LogRecord
       q = closing_record s id
 
-      found : (x : RestartTran) × (tran_in s.trans id ≡ Some x)
+      found : (x : RestartTran) × (tran_in s.trans id ≡ Some x) × (is_open x ≡ true)
       found = undone_tran (tran_in s.trans id) undone
 
       n : Named log pend s.trans id found.0
@@ -347,6 +358,9 @@ module _ (law : BothTell) where
 
       number : IsNumber version.Two id
       number = subst (IsNumber version.Two) n.is n.closes.has.number
+
+      goes : IsOpenAt s.trans id
+      goes = subst (λ (z : Option RestartTran). IfSome z (λ (x : RestartTran). is_open x ≡ true)) (sym found.1) found.2
 
       read : s.own.is_read ≡ true
       read = not_unread log rest pend s c (none_undone s.trans id undone)

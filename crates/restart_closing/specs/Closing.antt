@@ -1,5 +1,5 @@
 -- That what a restart has taken back is closed in the log on disk.
-use Rattle.std.specs.Prelude.{◌≡◌, ◌≢◌, ◌⊎◌, ℕ, ◌-◌, nat_lt, Bool, true, false, List, [], ◌∷◌, ◌++◌, length, map, slice_get, Option, None, Some, IfSome}
+use Rattle.std.specs.Prelude.{◌≡◌, ◌≢◌, ◌⊎◌, ℕ, ◌+◌, ◌-◌, ◌^◌, ◌<◌, ◌≤◌, nat_lt, Bool, true, false, List, [], ◌∷◌, ◌++◌, length, map, slice_get, Option, None, Some, IfSome}
 use Rattle.std.specs.List.{AllByRecursion}
 use Rattle.ds_disk.specs.Contents.{Contents, log_of}
 use Rattle.ds_model.specs.RecordBytes.{IsAllowed, IsNumber, log_bytes}
@@ -19,6 +19,7 @@ use Rattle.log_trans.specs.Courses.{open_trans}
 use Rattle.member_intents.specs.declared.outcome.Answered.{Answered}
 use Rattle.member_intents.specs.declared.outcome.Answered.TheVariants as answered
 use Rattle.member_log.specs.Buffers.{LogBuffer}
+use Rattle.restart_records.specs.declared.trans.RestartStage.{RestartStage}
 use Rattle.restart_records.specs.declared.trans.RestartStage.TheVariants as stage
 use Rattle.restart_records.specs.declared.trans.RestartTran.{RestartTran}
 use Rattle.restart_records.specs.Maps.{place_at}
@@ -84,11 +85,23 @@ abbrev pub IsOf : ℕ → Option RestartTran → Type 0
 IsOf id None = ⊥
 IsOf id (Some x) = x.tran.id ≡ id
 
--- at the place of a number its transaction stands; and of the one at the place that is known as ending the Ended record was put
+-- how many aren't over
+abbrev pub one_left : RestartStage → ℕ
+one_left stage.Open = 1
+one_left stage.Ended = 1
+one_left stage.Over = 0
+
+abbrev pub left_among : List RestartTran → ℕ
+left_among [] = 0
+left_among (x ∷ xs) = one_left x.stage + left_among xs
+
+-- At the place of a number its transaction stands; and of the one at the place that is known as ending the Ended record was put. No fewer are counted
+-- as left than aren't over, if they can be counted with 64 bits.
 pub record TransClose (log : List ℕ) (pend : List LogRecord) (t : TransState) : Type 0 where
   pub list : AllByRecursion (TranCloses log pend) t.list
   pub places : (id at : ℕ) → place_at t.places id ≡ Some at → IsOf id (slice_get t.list at)
   pub ending : IfSome t.ending (λ (at : ℕ). IfSome (slice_get t.list at) (λ (x : RestartTran). x.stage ≡ stage.Ended))
+  pub left : length t.list < 2 ^ 64 → left_among t.list ≤ t.left
 
 abbrev pub trans_of : List RestartTran → List OpenTran
 trans_of list = map (λ (x : RestartTran). x.tran) list
