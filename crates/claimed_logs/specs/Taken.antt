@@ -13,14 +13,11 @@ use Rattle.failed_logs.specs.Given.{IsFor, Moves, Whose}
 use Rattle.failed_logs.specs.Given.{RestartStepsAt}
 use Rattle.failed_logs.specs.Given.{LocksTied}
 use Rattle.group_logs.specs.Known.{EndsHold}
-use Rattle.claimed_logs.specs.Beginning.{IsLog}
 use Rattle.claimed_logs.specs.Events.{CountsLeft}
 use Rattle.claimed_logs.specs.Logs.{LogBelow, LogsClaimed}
 
 -- What an event takes from elsewhere, where the disk holds these before it, and those behind it. No contract says it yet.
 pub record Supplied (c d : Contents) (old new : CrewState) (w : World) : Type 0 where
-  -- logs are bytes, of which each has fewer than 2^60
-  pub are : (at : ℕ) → IsLog (log_of c.logs (at + 1))
   -- what members know of the ends of logs stays
   pub known : new.known ≡ old.known
   -- no record of a log names its transaction by a number above the counter
