@@ -30,9 +30,9 @@ abbrev pub NoneIsLeft : Type 0
 NoneIsLeft = (log rest : List ℕ) (pend : List LogRecord) (s : RestartState)
     → RestartCloses log rest pend s → length s.trans.list < 2 ^ 64 → s.trans.left ≡ 0 → AllByRecursion (λ (x : RestartTran). x.stage ≡ stage.Over) s.trans.list
 
--- and a log of fewer than 2^60 bytes leaves so few open
+-- and a log of fewer than 2^64 bytes leaves so few open
 abbrev pub LogsLeaveFew : Type 0
-LogsLeaveFew = (log : List ℕ) → length log < 2 ^ 60 → (start : ℕ) (records : List LogRecord) → AreLastFrom log start records → length (open_trans records) < 2 ^ 64
+LogsLeaveFew = (log : List ℕ) → length log < 2 ^ 64 → (start : ℕ) (records : List LogRecord) → AreLastFrom log start records → length (open_trans records) < 2 ^ 64
 
 -- ---- what is handed over is all that the log leaves open, where no record waits
 

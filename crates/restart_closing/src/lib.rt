@@ -28,7 +28,7 @@ pub fn restarts_close()
 
 /// Then a transaction that is over is closed in the log; where no record waits in the log buffer, each that has changed a row is closed or
 /// handed over; and whatever of the buffer is on disk where the restart stops, what the log leaves open isn't over. Where no transaction is
-/// counted as left, each is over, if the log has fewer than 2^60 bytes.
+/// counted as left, each is over, if the log has fewer than 2^64 bytes.
 pub fn closings_tell()
     ensures over { OverAreClosed }
     ensures handed { HandsAll }
