@@ -565,8 +565,8 @@ module _ (facts : Facts) (old new : CrewState) (w : World) (c d : Contents) (t :
         restart_spares s made.makes.makes.before made.makes.makes.had (fits_sent made.makes.makes.before.resources.marks made.makes.makes.happens.intent s made.makes.makes.happens.lawful))
   ]
 
-  ends_go : (script : Script) (begun choice : ℕ) (stepped : Stepped) → Comes script begun old.sizes choice m u old.fates place stepped n v new.fates → EndsHold d new
-  ends_go script begun choice stepped e = facts.members c d old new at m stepped ends given.known (goes script begun choice stepped e numbered) (spares script begun choice stepped e)
+  ends_go : new.known ≡ old.known → (script : Script) (begun choice : ℕ) (stepped : Stepped) → Comes script begun old.sizes choice m u old.fates place stepped n v new.fates → EndsHold d new
+  ends_go known script begun choice stepped e = facts.members c d old new at m stepped ends known (goes script begun choice stepped e numbered) (spares script begun choice stepped e)
 
   comes : (script : Script) (begun choice : ℕ) (stepped : Stepped) → Comes script begun old.sizes choice m u old.fates place stepped n v new.fates → MovesLogged d old new w m
   comes script begun choice stepped e = elim (cases_Bool (is_over stepped)) [
@@ -611,8 +611,8 @@ events_keep {C} {D} P directory alive contents count bytes facts old new event w
     l : LogsClaimed c before w
     l = stand.claimed
 
-    same_ends : d ≡ c → EndsHold d after
-    same_ends same = ends_stay c d before after given.known same stand.ends
+    same_ends : after.known ≡ before.known → d ≡ c → EndsHold d after
+    same_ends known same = ends_stay c d before after known same stand.ends
 
     -- ---- nothing has changed, or no log has
     still : (by : Whose) → length after.facility.locks.entries ≡ length before.facility.locks.entries → LocksTied after w → LogsClaimed c after w → d ≡ c → MovesKeep by before after w d
@@ -625,7 +625,7 @@ events_keep {C} {D} P directory alive contents count bytes facts old new event w
         (same_told contents old.disk new.disk c d (ap (λ (z : Group D C P). contents z.disk) (taken.left isnt)) told left)
 
     unmoved_ends : takes old event ≡ false → EndsHold d after
-    unmoved_ends isnt = same_ends (same_told contents old.disk new.disk c d (ap (λ (z : Group D C P). contents z.disk) (taken.left isnt)) told left)
+    unmoved_ends isnt = same_ends (ap (λ (z : Group D C P). (crew_state directory z.crew).known) (taken.left isnt)) (same_told contents old.disk new.disk c d (ap (λ (z : Group D C P). contents z.disk) (taken.left isnt)) told left)
 
     ready : takes old event ≡ true → event % 64 ≡ 0 → is_own (own_choice false old.crew.progress old.crew.script) (event / 64) ≡ true
     ready is own = subst (λ (b : Bool). is_own (own_choice b old.crew.progress old.crew.script) (event / 64) ≡ true) no_group
@@ -640,7 +640,7 @@ events_keep {C} {D} P directory alive contents count bytes facts old new event w
     phase_goes own same None h = absurd h
     phase_goes own same (Some phase) h =
         let moves : Moves OfPhase before after w = facts.phases phase before after w t h in
-        kept event OfPhase before after w d own (record { moves = moves; logs = subst (λ (z : Contents). LogsClaimed z after moves.world) (sym same) (facts.phases_logged c phase before after w t h (bytes old.disk c told) (facts.begins c phase before after h stand.ends (dead_rest before w t) few_members) moves l) }) (same_ends same)
+        kept event OfPhase before after w d own (record { moves = moves; logs = subst (λ (z : Contents). LogsClaimed z after moves.world) (sym same) (facts.phases_logged c phase before after w t h (bytes old.disk c told) (facts.begins c phase before after h stand.ends (dead_rest before w t) few_members) moves l) }) (same_ends (ap (λ (z : CrewState). z.known) h.rest) same)
 
     begins : event % 64 ≡ 0 → d ≡ c → (why : Option RunFault) → new.fault ≡ why → BeginsOrNot directory why old.crew event (length new.journal.items) new.crew → Keeps event before after w d
     begins own same None is e = phase_goes own same (slice_get before.script.phases before.begun) e
@@ -661,7 +661,7 @@ events_keep {C} {D} P directory alive contents count bytes facts old new event w
     own_goes e (inr second) own =
         let fails : GroupFails (fail_counted before) after = (e.fails (own_number event 1 own second)).1 in
         let same : d ≡ c = same_told contents old.disk new.disk c d (ap contents (e.still (no_restart_event event (event / 64) (own_number event (event / 64) own refl) (inr second)))) told left in
-        kept event OfPhase before after w d own (still OfPhase (ap (λ (z : CrewState). length z.facility.locks.entries) fails.rest) (facts.fails (fail_counted before) after w fails counted_tied) (facts.group_fails c (fail_counted before) after w fails counted_logged) same) (same_ends same)
+        kept event OfPhase before after w d own (still OfPhase (ap (λ (z : CrewState). length z.facility.locks.entries) fails.rest) (facts.fails (fail_counted before) after w fails counted_tied) (facts.group_fails c (fail_counted before) after w fails counted_logged) same) (same_ends (ap (λ (z : CrewState). z.known) fails.rest) same)
 
     -- ---- a member's
     at : ℕ
@@ -690,7 +690,7 @@ events_keep {C} {D} P directory alive contents count bytes facts old new event w
         by None y had has q = absurd q
         by (Some m) None had has q = absurd q
         by (Some m) (Some n) had has q = kept event (OfMember m.id) before after w d number (record { moves = logged_moves.moves; logs = logged_moves.logs })
-            (ends_go facts before after w c d t given l stand.ends at m n here u v (length new.journal.items) told left refl refl old.crew.script old.crew.progress.begun (event / 64) e.stepped q)
+            (ends_go facts before after w c d t given l stand.ends at m n here u v (length new.journal.items) told left refl refl e.steps.known old.crew.script old.crew.progress.begun (event / 64) e.stepped q)
           where
             stood_at : m.id ≡ at + 1
             stood_at = (subst (λ (z : Option Member). IfSome z (MemberStands before.facility (at + 1))) had (t.stands at)).id

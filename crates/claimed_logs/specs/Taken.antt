@@ -18,8 +18,6 @@ use Rattle.claimed_logs.specs.Logs.{LogBelow, LogsClaimed}
 
 -- What an event takes from elsewhere, where the disk holds these before it, and those behind it. No contract says it yet.
 pub record Supplied (c d : Contents) (old new : CrewState) (w : World) : Type 0 where
-  -- what members know of the ends of logs stays
-  pub known : new.known ≡ old.known
   -- no record of a log names its transaction by a number above the counter
   pub below : (at : ℕ) → LogBelow old.facility.counter (log_of c.logs (at + 1))
   -- a restart that counts no transaction as left has none that isn't over

@@ -218,6 +218,13 @@ undo_next w v m c indexes lent left n is e =
     let draws = subst (λ (z : Command). Executes w m z lent (reply.Drawn n) v left) (same_command c (command.DrawUndo indexes) is) e in
     subst (λ (z : Facility). IsNext w.counter z.counter n) (sym draws.0.1) (next_undo (first_stale w.directory m (given indexes)) w.counter n draws.0.0)
 
+-- whatever the answer is
+draw_of : (w v : Facility) (m : ℕ) (c : Command) (indexes : Indexes) (lent left : List ℕ) (answer : Reply) → sent.Command c ≡ sent.Command (command.Draw indexes) → Executes w m c lent answer v left → (n : ℕ) → answer ≡ reply.Drawn n → IsNext w.counter v.counter n
+draw_of w v m c indexes lent left answer is e n drawn = draw_next w v m c indexes lent left n is (subst (λ (z : Reply). Executes w m c lent z v left) drawn e)
+
+undo_of : (w v : Facility) (m : ℕ) (c : Command) (indexes : Indexes) (lent left : List ℕ) (answer : Reply) → sent.Command c ≡ sent.Command (command.DrawUndo indexes) → Executes w m c lent answer v left → (n : ℕ) → answer ≡ reply.Drawn n → IsNext w.counter v.counter n
+undo_of w v m c indexes lent left answer is e n drawn = undo_next w v m c indexes lent left n is (subst (λ (z : Reply). Executes w m c lent z v left) drawn e)
+
 -- ---- names of owners
 owner_named : (t : TransState) (o : Owner) (x : ℕ) → x ≢ 0 → (tran_in t o).first ≡ x → 1 ≤ named_in t x
 owner_named t (owner.Slot slot) x some e = (let p = slot_named t slot x some e in omega (arith, p))
@@ -349,17 +356,17 @@ command_names : (pages : List (List ℕ)) (set : Setting) (w v : Facility) (h re
     → RecordsName w.counter v.counter (begun ready place).marks k.marks (reply_records (begun ready place).marks i p r.answer)
 command_names pages set w v h ready k (intent.Change slot action frames) c p place a said lawful e r counted =
     change_names w.counter v.counter (begun ready place).marks k.marks slot action frames p r.answer counted
-    (λ n is. draw_next w v (begun ready place).marks.member c (indexes_of frames) _ _ n lawful.is (subst (λ (z : Reply). Executes w (begun ready place).marks.member c _ z v _) is r.gives.executed.executes))
+    (draw_of w v (begun ready place).marks.member c (indexes_of frames) _ _ r.answer lawful.is r.gives.executed.executes)
     (change_goes h ready slot place e lawful.may.forward)
 command_names pages set w v h ready k (intent.Undo o at) c p place a said lawful e r counted =
     undo_names w.counter v.counter (begun ready place).marks k.marks o at p r.answer counted
-    (λ n is. undo_next w v (begun ready place).marks.member c (record { count = 1; at = at ∷ 0 ∷ 0 ∷ [] }) _ _ n lawful.is (subst (λ (z : Reply). Executes w (begun ready place).marks.member c _ z v _) is r.gives.executed.executes))
+    (undo_of w v (begun ready place).marks.member c (record { count = 1; at = at ∷ 0 ∷ 0 ∷ [] }) _ _ r.answer lawful.is r.gives.executed.executes)
     (ap (λ (z : Held). is_undoing (tran_of z.marks o).stage) e ∙ lawful.undoing)
     (subst (λ (z : MarksState). DrawsBy r.answer z k.marks) (lent_same (begun ready place) r.after (lent_of (begun ready place) c) _ r.gives.executed.back)
     (settled_go r.after k (intent.Undo o at) p v.lists.waits r.answer (cells_for v.lists.cells r.after.marks.member c) place said r.settles))
 command_names pages set w v h ready k (intent.Commit slot) c p place a said lawful e r counted =
     commit_names w.counter v.counter (begun ready place).marks k.marks slot p r.answer place counted
-    (λ n is. draw_next w v (begun ready place).marks.member c (record { count = 0; at = 0 ∷ 0 ∷ 0 ∷ [] }) _ _ n lawful.is (subst (λ (z : Reply). Executes w (begun ready place).marks.member c _ z v _) is r.gives.executed.executes))
+    (draw_of w v (begun ready place).marks.member c (record { count = 0; at = 0 ∷ 0 ∷ 0 ∷ [] }) _ _ r.answer lawful.is r.gives.executed.executes)
     (ap (λ (z : Held). is_forward (slot_tran z.marks slot).stage) e ∙ lawful.may.forward)
     (ap (λ (z : Held). z.marks) r.settles.1 ∙ ap (λ (z : MarksState). committed_after z slot r.answer place) (lent_same (begun ready place) r.after (lent_of (begun ready place) c) _ r.gives.executed.back))
 command_names pages set w v h ready k _ c p place a said lawful e r counted = names_none w.counter v.counter (begun ready place).marks k.marks
