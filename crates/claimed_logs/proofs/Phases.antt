@@ -21,6 +21,7 @@ use Rattle.restart_law.specs.Opens.{OpensBegin}
 use Rattle.restart_law.specs.Reads.{KnowsWhole, ReadsBegin}
 use Rattle.restart_claims.specs.Claims.{ClaimsLeft}
 use Rattle.restart_closing.specs.Closing.{ClosesBegin}
+use Rattle.restart_closing.specs.Leaving.{LogsLeaveFew}
 use Rattle.script_phases.specs.Phases.{is_failed, restarts_in}
 use Rattle.failed_logs.specs.Given.{Restarting as RestartHeld}
 use Rattle.failed_logs.specs.Given.{Member}
@@ -33,7 +34,7 @@ use Rattle.failed_logs.specs.Given.{LogLocked}
 use Rattle.claimed_logs.specs.Beginning.{BeginKnowing, PhasesLogged}
 use Rattle.claimed_logs.specs.Courses.{LeavesAlike, RestartCourse}
 use Rattle.claimed_logs.specs.Logs.{DownLogged, LogsClaimed, MemberLogged, RestartLogged}
-use Rattle.claimed_logs.proofs.Logs.{LeftFacts, log_left, member_left}
+use Rattle.claimed_logs.proofs.Logs.{LeftFacts, last_from, log_left, member_left}
 
 never : true ≡ false → ⊥
 never e = cc
@@ -154,6 +155,7 @@ pub record Facts : Type 0 where
   pub more : CountedMore
   pub closes : ClosesBegin
   pub short : ShortLogsNeedFew
+  pub few : LogsLeaveFew
 
 dead_by : (s : MemberStatus) → is_failed s ≡ true → is_live s ≡ false
 dead_by Down e = absurd (never (sym e))
@@ -175,6 +177,8 @@ begun_logged facts log w k (Some q) is claimed fresh knows = record {
   bytes = log;
   are = is.are;
   few = facts.short log is.short;
+  brief = λ records last. facts.few log is.short last.start records (last_from log records last);
+  counts = (let none = ap (λ (z : RestartState). length z.trans.list) fresh.marks.rest in omega (arith, none));
   stands = facts.opens k q.resources.marks fresh.marks;
   reads = facts.reads k log q.resources.marks fresh.marks knows;
   claimed = facts.begins log w k q.resources.marks fresh.marks claimed;

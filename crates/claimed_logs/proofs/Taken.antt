@@ -2,6 +2,7 @@
 use Rattle.std.proofs.Common.{◌≡◌, ℕ, zero, suc, ◌+◌, ◌≤◌, ◌<◌, refl, sym, ◌∙◌, ap, subst, arith, Bool, true, false, inl, inr, List, [], ◌∷◌, ◌++◌, length, take, Option, Some, None, Ok}
 use Rattle.std.specs.Prelude.{◌≢◌, ◌⊎◌, ◌-◌, ◌*◌, ◌/◌, ◌%◌, ◌==◌, ◌||◌, not, if◌then◌else◌, IfSome, IsSomeAnd, is_some, map, slice_get}
 use Rattle.std.proofs.lemmas.Bool.{and_parts, cases_Bool, cases_eq, eqb-true}
+use Rattle.std.specs.List.{AllByRecursion}
 use Rattle.std.proofs.lemmas.List.{append-nil, take_at}
 use Rattle.std.proofs.lemmas.Nat.{div-add-mod'}
 use Rattle.std.proofs.lemmas.Option.{slice_get-map, slice_get_within}
@@ -22,13 +23,16 @@ use Rattle.member_intents.specs.declared.outcome.Answered.TheVariants as answere
 use Rattle.ds_model.specs.declared.log.LogRecord.{LogRecord}
 use Rattle.log_appends.specs.Rests.{IsRest, NothingIsRest}
 use Rattle.member_resources.specs.Events.{World as Resources, world_of}
+use Rattle.restart_records.specs.Trans.{TransState}
+use Rattle.restart_records.specs.declared.trans.RestartStage.TheVariants as stage
+use Rattle.restart_records.specs.declared.trans.RestartTran.{RestartTran}
 use Rattle.restart_marks.specs.Needs.{need_of}
 use Rattle.restart_marks.specs.declared.intent.RestartIntent.{RestartIntent}
 use Rattle.restart_marks.specs.State.{RestartState}
 use Rattle.restart_law.specs.Reads.{ReadsTrue}
 use Rattle.restart_law.proofs.Truth.{FitsRead, fits_read}
 use Rattle.restart_closing.specs.Closing.{HasLog, RestartCloses}
-use Rattle.restart_closing.specs.Leaving.{FailuresLeave}
+use Rattle.restart_closing.specs.Leaving.{FailuresLeave, NoneIsLeft}
 use Rattle.restart_closing.specs.Resting.{Rests}
 use Rattle.restart_closing.proofs.Needs.{FitsSent, fits_sent}
 use Rattle.restart_resources.specs.Events as event
@@ -69,7 +73,7 @@ use Rattle.failed_logs.specs.Given.{LocksTied, MemberStands, RestartInHand, Rest
 use Rattle.failed_logs.specs.Given.{FailsAt, GroupFailsTied}
 use Rattle.claimed_logs.specs.Beginning.{PhasesLogged}
 use Rattle.claimed_logs.specs.Courses.{RestartCourse, RestartHanded, RestartOpen}
-use Rattle.claimed_logs.specs.Events.{CountsLeft, RestartEventsLogged, RestingEventsLogged, UpEventsLogged}
+use Rattle.claimed_logs.specs.Events.{RestartEventsLogged, RestingEventsLogged, UpEventsLogged}
 use Rattle.claimed_logs.specs.Failing.{AnyBytes, HandedFailsLogged, HasFront, LeftClaimed, MovesLogged, RestartFailsLogged, RestartsStop, UpFailsLogged}
 use Rattle.claimed_logs.specs.Found.{AdoptionsFound}
 use Rattle.claimed_logs.specs.Logs.{GroupFailsLogged, LogsClaimed, LogsKnow, MemberLogged, RestartLogged}
@@ -96,6 +100,7 @@ pub record Facts : Type 0 where
   pub handed_fails : HandedFailsLogged
   pub stop : RestartsStop
   pub leave : FailuresLeave
+  pub left : NoneIsLeft
   pub nothing : NothingIsRest
   pub begins : BeginsKnow
   pub members : MembersKnow
@@ -103,6 +108,16 @@ pub record Facts : Type 0 where
 
 never : true ≡ false → ⊥
 never e = cc
+
+-- where a restart counts no transaction as left, each is over
+counts_left : NoneIsLeft → (log : List ℕ) (w : World) (x : Option RestartHeld) (own : MarksState) → IfSome x (λ q. RestartLogged log w q.resources.marks) → IfSome x (λ q. RestartCourse log q.resources.marks own)
+    → IfSome x (λ q. q.resources.marks.trans.left ≡ 0 → AllByRecursion (λ (y : RestartTran). y.stage ≡ stage.Over) q.resources.marks.trans.list)
+counts_left law log w None own l course = tt
+counts_left law log w (Some q) own l course = λ none. by none course.goes
+  where
+    by : q.resources.marks.trans.left ≡ 0 → RestartOpen course.whole course.rest q.resources.marks own ⊎ RestartHanded course.whole course.rest q.resources.marks own → AllByRecursion (λ (y : RestartTran). y.stage ≡ stage.Over) q.resources.marks.trans.list
+    by none (inl opened) = law course.whole course.rest opened.pend q.resources.marks opened.closes l.counts none
+    by none (inr handed) = subst (λ (t : TransState). AllByRecursion (λ (y : RestartTran). y.stage ≡ stage.Over) t.list) (sym handed.rests.none) tt
 
 -- moves, behind which the logs stand
 abbrev Keeps : ℕ → CrewState → CrewState → World → Contents → Type 0
@@ -370,7 +385,7 @@ module _ (facts : Facts) (old new : CrewState) (w : World) (c d : Contents) (t :
       moves = facts.rests old new at m n w t steps_at
 
   restart_goes : (stepped : Stepped) → status_of old.facility.lists.statuses m.id ≡ status.Restarting → is_over stepped ≡ false → Steps m u old.fates place stepped n v new.fates → MovesLogged d old new w m
-  restart_goes (steps.Restart s a) standing over made = record { moves = moves.moves; logs = facts.restart c d old new at m n w t steps_at told left moves (subst (λ (z : Option Member). IfSome z CountsLeft) here.had (given.left at)) (given.counted at m n steps_at logged.counted) l }
+  restart_goes (steps.Restart s a) standing over made = record { moves = moves.moves; logs = facts.restart c d old new at m n w t steps_at told left moves (counts_left facts.left (log_of c.logs (at + 1)) w m.restart m.holds.marks logged.restarts logged.course) (given.counted at m n steps_at logged.counted) l }
     where
       whole : Steps m (record { facility = old.facility; drive = u.drive }) old.fates place (steps.Restart s a) n (record { facility = new.facility; drive = v.drive }) new.fates
       whole = made_as (steps.Restart s a) made

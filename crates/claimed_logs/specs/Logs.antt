@@ -1,5 +1,5 @@
 -- The logs of a group's members on disk, beside the world of locks beside which the group stands.
-use Rattle.std.specs.Prelude.{◌≡◌, ◌≢◌, ℕ, ◌+◌, ◌≤◌, ◌++◌, true, false, List, [], length, Some, IfSome, slice_get}
+use Rattle.std.specs.Prelude.{◌≡◌, ◌≢◌, ℕ, ◌+◌, ◌^◌, ◌<◌, ◌≤◌, ◌++◌, true, false, List, [], length, Some, IfSome, slice_get}
 use Rattle.std.specs.List.{AllByRecursion}
 use Rattle.ds_disk.specs.Contents.{Contents, log_of}
 use Rattle.ds_model.specs.RecordBytes.{log_bytes}
@@ -9,6 +9,7 @@ use Rattle.list_structure.specs.declared.standing.MemberStatus.TheVariants.{Up}
 use Rattle.list_structure.specs.Standings.{is_live, status_of}
 use Rattle.log_reader.specs.Keeping.{AreBytes, AreWhole}
 use Rattle.log_appends.specs.Appends.{AreLastFrom}
+use Rattle.log_trans.specs.Courses.{open_trans}
 use Rattle.log_numbers.specs.Numbers.{AreCounted, forward_in}
 use Rattle.log_rows.specs.Rows.{is_closed}
 use Rattle.lock_protocol.specs.Machine.{World}
@@ -52,15 +53,18 @@ pub record UpLogged (log : List ℕ) (counter : ℕ) (s : MarksState) : Type 0 w
   pub alike : FrontsAlike log pend
   pub forward : ForwardOpen log pend counter s
 
--- that of one that restarts: as long as its restart hasn't read it, it has the bytes that the restart reads
+-- That of one that restarts: as long as its restart hasn't read it, it has the bytes that the restart reads. What they leave open can be counted
+-- with 64 bits.
 pub record RestartLogged (log : List ℕ) (w : World) (s : RestartState) : Type 0 where
   pub bytes : List ℕ
   pub are : AreBytes bytes
   pub few : (records : List LogRecord) → AreLast bytes records → FewNeeds records
+  pub brief : (records : List LogRecord) → AreLast bytes records → length (open_trans records) < 2 ^ 64
   pub stands : OpensStand s
   pub reads : ReadsTrue bytes s
   pub claimed : OpensClaimed bytes w s
   pub unread : s.own.is_read ≡ false → bytes ≡ log
+  pub counts : length s.trans.list < 2 ^ 64
 
 -- that of one that isn't live: what it leaves open has its claims, and the member itself has no transaction, and no record that waits
 pub record DownLogged (log : List ℕ) (w : World) (k : ℕ) (s : MarksState) : Type 0 where

@@ -28,7 +28,7 @@ use log_numbers::{commands_count, forward_stays, numbers_stay};
 use log_opens::opens_are_all;
 use log_rows::{both_tell, open_trans_tell};
 use restart_claims::{claims_stay, claims_tell, restarts_close_truly, stops_are_claimed};
-use restart_closing::{failures_leave, restarts_close, restarts_rest};
+use restart_closing::{closings_tell, failures_leave, restarts_close, restarts_rest};
 use restart_law::{lists_go, needs_are_few, opens_stay, reads_true};
 
 /// Where each restart in hand that has read its log knows that what it has left open has its claims, the claims are there that its member
@@ -81,6 +81,7 @@ pub fn phases_logged()
     claims_stay();
     numbers_stay();
     restarts_close();
+    closings_tell();
     needs_are_few();
 }
 
@@ -211,6 +212,7 @@ pub fn events_keep<D: Disk, C: CacheFace, P>()
     failures_logged();
     restarts_stop();
     failures_leave();
+    closings_tell();
     rests_tell();
     known_ends();
     rests_are_unknown();

@@ -21,6 +21,7 @@ returns g c = events_keep _ g.C.CacheFace.directory g.D.Disk.alive g.D.Disk.cont
   handed_fails = c.failures_logged.ensures.handed;
   stop = c.restarts_stop.ensures;
   leave = c.failures_leave.ensures;
+  left = c.closings_tell.ensures.left;
   nothing = c.rests_tell.ensures.none;
   begins = c.known_ends.ensures.begins;
   members = c.known_ends.ensures.members;
