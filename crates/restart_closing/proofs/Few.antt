@@ -2,6 +2,7 @@
 use Rattle.std.proofs.Common.{◌≡◌, ℕ, zero, suc, ◌+◌, ◌<◌, ◌≤◌, refl, sym, ◌∙◌, ap, subst, arith, Bool, true, false, cond, List, [], ◌∷◌, length, drop, take, Option, Some, None, Result, Ok, Err}
 use Rattle.std.specs.Prelude.{◌-◌, ◌==◌, ◌^◌, ◌&&◌, not, nat_le, nat_lt, if◌then◌else◌, map, filter}
 use Rattle.std.proofs.lemmas.Bool.{and_parts, leb-true, ltb-false}
+use Rattle.std.specs.List.{AllByRecursion}
 use Rattle.std.proofs.lemmas.List.{length-drop}
 use Rattle.std.specs.Ordering.{nat_cmp}
 use Rattle.std.specs.Cmp.{nat_cmp_total}
@@ -18,7 +19,8 @@ use Rattle.log_record.specs.Fields.{◌>>=◌}
 use Rattle.log_record.specs.Reading.{ends_at, fields_in, is_size, record_in, whole_in}
 use Rattle.log_trans.specs.declared.course.Course.{Course}
 use Rattle.log_trans.specs.Courses.{Courses, after_body, course_of, courses_from, courses_of, is_open, open_among, open_tran, open_trans, with_record}
-use Rattle.restart_closing.specs.Leaving.{LogsLeaveFew}
+use Rattle.log_trans.specs.declared.opened.OpenTran.{OpenTran}
+use Rattle.restart_closing.specs.Leaving.{LogsLeaveBelow, LogsLeaveFew}
 
 -- ---- transactions, of records
 put_long : (k : ℕ) (v : Course) (es : List (ℕ × Course)) → length (put nat_cmp k v es) ≤ length es + 1
@@ -89,9 +91,13 @@ sized_by bytes size false true false s c =
     let within : size ≤ length bytes = ltb-false (length bytes) size c in
     sized_whole bytes size (omega (arith, long), within)
 
+sized_of : (bytes : List ℕ) (size : ℕ) (few : Bool)
+    → Sized bytes (if few then Err fault.NotWhole else if not (is_size size) then Err (fault.Bad 0) else if nat_lt (length bytes) size then Err fault.NotWhole else whole_in bytes size)
+sized_of bytes size few = sized_by bytes size few (is_size size) (nat_lt (length bytes) size) refl refl
+
 record_sized : (bytes : List ℕ) → Sized bytes (record_in bytes)
 unfolding record_in
-record_sized bytes = sized_by bytes _ _ _ _ refl refl
+record_sized bytes = search (sized_of)
 
 abbrev Few : ℕ → Result Parts ℕ → Type 0
 Few most (Ok p) = length p.records ≤ most
@@ -123,3 +129,47 @@ logs_leave_few log short start records last =
     let parts : length last.parts.records ≤ length (drop start log) = few_parts (drop start log) last.parts last.told in
     let left = length-drop start log in
     omega (arith, opened, same, parts, left, short)
+
+-- ---- the numbers of transactions are those of records
+put_below : (c k : ℕ) (v : Course) (es : List (ℕ × Course)) → k ≤ c → AllByRecursion (λ (e : ℕ × Course). e.0 ≤ c) es → AllByRecursion (λ (e : ℕ × Course). e.0 ≤ c) (put nat_cmp k v es)
+put_below c k v [] low all = (low, tt)
+put_below c k v (e ∷ es) low all = by (put_below c k v es low all.1) (nat_cmp k e.0)
+  where
+    by : AllByRecursion (λ (x : ℕ × Course). x.0 ≤ c) (put nat_cmp k v es) → (o : Ordering) → AllByRecursion (λ (x : ℕ × Course). x.0 ≤ c) (by_order o ((k, v) ∷ e ∷ es) ((e.0, v) ∷ es) (e ∷ put nat_cmp k v es))
+    by rest Less = (low, (all.0, all.1))
+    by rest Equal = (all.0, all.1)
+    by rest Greater = (all.0, rest)
+
+record_below : (c : ℕ) (cs : Courses) (r : LogRecord) → r.tran ≤ c → AllByRecursion (λ (e : ℕ × Course). e.0 ≤ c) (entries cs) → AllByRecursion (λ (e : ℕ × Course). e.0 ≤ c) (entries (with_record cs r))
+record_below c cs r low all = by (r.tran == 0)
+  where
+    next : Course
+    next = after_body (course_of (get cs r.tran)) r r.body
+
+    by : (b : Bool) → AllByRecursion (λ (e : ℕ × Course). e.0 ≤ c) (entries (if b then cs else insert cs r.tran next))
+    by true = all
+    by false = subst (λ (es : List (ℕ × Course)). AllByRecursion (λ (e : ℕ × Course). e.0 ≤ c) es) (sym (entries-insert nat_cmp_total cs r.tran next)) (put_below c r.tran next (entries cs) low all)
+
+all_below : (c : ℕ) (cs : Courses) (rs : List LogRecord) → AllByRecursion (λ (r : LogRecord). r.tran ≤ c) rs → AllByRecursion (λ (e : ℕ × Course). e.0 ≤ c) (entries cs) → AllByRecursion (λ (e : ℕ × Course). e.0 ≤ c) (entries (courses_from cs rs))
+all_below c cs [] low all = all
+all_below c cs (r ∷ rs) low all = all_below c (with_record cs r) rs low.1 (record_below c cs r low.0 all)
+
+among_below : (c : ℕ) (es : List (ℕ × Course)) → AllByRecursion (λ (e : ℕ × Course). e.0 ≤ c) es → AllByRecursion (λ (t : OpenTran). t.id ≤ c) (open_among es)
+among_below c [] all = tt
+among_below c (e ∷ es) all = by (is_open e.1) (among_below c es all.1)
+  where
+    rest : List (ℕ × Course)
+    rest = filter (λ (x : ℕ × Course). is_open x.1) es
+
+    by : (b : Bool) → AllByRecursion (λ (t : OpenTran). t.id ≤ c) (open_among es) → AllByRecursion (λ (t : OpenTran). t.id ≤ c) (map open_tran (cond b (e ∷ rest) rest))
+    by true few = (all.0, few)
+    by false few = few
+
+none_below : (c : ℕ) (es : List (ℕ × Course)) → length es ≡ 0 → AllByRecursion (λ (e : ℕ × Course). e.0 ≤ c) es
+none_below c [] none = tt
+none_below c (e ∷ es) none = absurd (omega (arith, none))
+
+pub logs_leave_below : LogsLeaveBelow
+logs_leave_below c records low =
+    let none : length (entries finite.empty) ≡ 0 = sym (len-entries finite.empty) ∙ len-empty nat_cmp Course in
+    among_below c (entries (courses_of records)) (all_below c finite.empty records low (none_below c (entries finite.empty) none))

@@ -106,6 +106,10 @@ pub record TransClose (log : List ℕ) (pend : List LogRecord) (t : TransState) 
 abbrev pub trans_of : List RestartTran → List OpenTran
 trans_of list = map (λ (x : RestartTran). x.tran) list
 
+-- none of their numbers is above this one
+abbrev pub ListedBelow : ℕ → List RestartTran → Type 0
+ListedBelow c list = AllByRecursion (λ (t : OpenTran). t.id ≤ c) (trans_of list)
+
 -- Until the log is read, no record waits, and nothing is known of what it leaves open.
 pub record IsUnread (log : List ℕ) (pend : List LogRecord) (s : RestartState) : Type 0 where
   pub idle : pend ≡ []
@@ -118,7 +122,8 @@ pub record IsRead (log rest : List ℕ) (s : RestartState) : Type 0 where
   pub tail : s.own.tail ≡ length rest
   pub long : s.own.tail ≢ 0 → s.own.long ≡ length log
 
--- The log on disk has these whole records, and then a rest that is none; and these records wait in the log buffer.
+-- The log on disk has these whole records, and then a rest that is none; and these records wait in the log buffer. Each names one of the restart's
+-- transactions, so by no number above all of theirs.
 pub record RestartCloses (log rest : List ℕ) (pend : List LogRecord) (s : RestartState) : Type 0 where
   pub whole : AreWhole log
   pub is_rest : IsRest rest
@@ -126,6 +131,7 @@ pub record RestartCloses (log rest : List ℕ) (pend : List LogRecord) (s : Rest
   pub trans : TransClose log pend s.trans
   pub unread : s.own.is_read ≡ false → IsUnread log pend s
   pub read : s.own.is_read ≡ true → IsRead log rest s
+  pub named : (c : ℕ) → ListedBelow c s.trans.list → AllByRecursion (λ (r : LogRecord). r.tran ≤ c) pend
 
 -- ---- so it is where a restart begins, over a log that leaves the same open wherever reading of it may begin
 

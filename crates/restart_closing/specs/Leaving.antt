@@ -1,5 +1,5 @@
 -- What the log of a restart leaves open, as it hands over, and wherever it stops.
-use Rattle.std.specs.Prelude.{◌≡◌, ◌⊎◌, ℕ, ◌^◌, ◌<◌, ◌==◌, ◌&&◌, ◌||◌, Bool, true, false, List, [], ◌∷◌, ◌++◌, length, take}
+use Rattle.std.specs.Prelude.{◌≡◌, ◌⊎◌, ℕ, ◌^◌, ◌<◌, ◌≤◌, ◌==◌, ◌&&◌, ◌||◌, Bool, true, false, List, [], ◌∷◌, ◌++◌, length, take}
 use Rattle.std.specs.List.{AllByRecursion}
 use Rattle.ds_model.specs.Rows.{Spot}
 use Rattle.ds_model.specs.declared.log.LogRecord.{LogRecord}
@@ -33,6 +33,10 @@ NoneIsLeft = (log rest : List ℕ) (pend : List LogRecord) (s : RestartState)
 -- and a log of fewer than 2^64 bytes leaves so few open
 abbrev pub LogsLeaveFew : Type 0
 LogsLeaveFew = (log : List ℕ) → length log < 2 ^ 64 → (start : ℕ) (records : List LogRecord) → AreLastFrom log start records → length (open_trans records) < 2 ^ 64
+
+-- and by no number above those by which its records name their transactions
+abbrev pub LogsLeaveBelow : Type 0
+LogsLeaveBelow = (c : ℕ) (records : List LogRecord) → AllByRecursion (λ (r : LogRecord). r.tran ≤ c) records → AllByRecursion (λ (t : OpenTran). t.id ≤ c) (open_trans records)
 
 -- ---- what is handed over is all that the log leaves open, where no record waits
 

@@ -6,7 +6,7 @@
 #![tactic(auto)]
 
 ghost use Rattle.restart_closing.specs.Closing.{ClosesBegin, ClosesStay};
-ghost use Rattle.restart_closing.specs.Leaving.{FailuresLeave, HandsAll, LogsLeaveFew, NoneIsLeft, OverAreClosed, RestsOpen, StopsOpen};
+ghost use Rattle.restart_closing.specs.Leaving.{FailuresLeave, HandsAll, LogsLeaveBelow, LogsLeaveFew, NoneIsLeft, OverAreClosed, RestsOpen, StopsOpen};
 ghost use Rattle.restart_closing.specs.Resting.{HandsOver, RestsStay};
 
 use log_appends::{appends_tell, rests_tell};
@@ -36,6 +36,7 @@ pub fn closings_tell()
     ensures rests { RestsOpen }
     ensures left { NoneIsLeft }
     ensures few { LogsLeaveFew }
+    ensures below { LogsLeaveBelow }
 {
     appends_tell();
     rests_tell();
