@@ -38,7 +38,7 @@ use Rattle.lock_restarts.specs.Courses.{Follows, HasHandedOver, IsInOrder, Resta
 use Rattle.lock_restarts.specs.Stands.{Spares}
 use Rattle.failed_logs.specs.Given.{LockedReaches, LogLocked, TellsLog}
 use Rattle.failed_logs.specs.Given.{NoneInSlots}
-use Rattle.restart_closing.specs.Closing.{HasLog}
+use Rattle.restart_closing.specs.Closing.{HasLog, ListedBelow}
 use Rattle.failed_logs.specs.Given.{Restarting as RestartHeld}
 use Rattle.failed_logs.specs.Given.stepped_variants as steps
 use Rattle.failed_logs.specs.Given.{GoesOn, RestartEnds, RestartGoesOn, Takes, as_restarting}
@@ -52,13 +52,15 @@ use Rattle.failed_logs.specs.Given.{freed_world}
 use Rattle.failed_logs.specs.Given.{LocksTied, MemberStands, RestartInHand, RestartStands, known, known_by}
 use Rattle.claimed_logs.specs.Events.{RestartEventsLogged, UpEventsLogged}
 use Rattle.claimed_logs.specs.Courses.{LeavesNothing, RestartCourse}
-use Rattle.claimed_logs.specs.Logs.{ForwardOpen, FrontsAlike, MemberLogged, OneLogged, RestartLogged, UpLogged}
-use Rattle.claimed_logs.specs.Steps.{CourseEnds, CourseHands, CourseSteps, EndsSo, EndsTell, HandedLogged, LockedAlike, RestartStepsLogged, StillLogged, UpStepsLogged}
+use Rattle.claimed_logs.specs.Logs.{ForwardOpen, FrontsAlike, LogBelow, MemberLogged, OneLogged, RestartLogged, UpLogged}
+use Rattle.claimed_logs.specs.Steps.{CourseBelow, CourseEnds, CourseHands, CourseSteps, EndsSo, EndsTell, HandedLogged, LockedAlike, RestartStepsLogged, StillBelow, StillLogged, UpStepsLogged}
 use Rattle.claimed_logs.proofs.Alike.{Facts as AlikeFacts, fronts_begin}
 use Rattle.claimed_logs.proofs.Courses.{own_course}
 use Rattle.claimed_logs.proofs.Ends.{all_over}
 use Rattle.claimed_logs.proofs.Found.{freed_spares}
-use Rattle.claimed_logs.proofs.Forward.{all_free, forward_begins, none_forward}
+use Rattle.claimed_logs.proofs.Below.{handed_below}
+use Rattle.claimed_logs.proofs.Forward.{all_below, all_free, forward_begins, none_forward}
+use Rattle.claimed_logs.proofs.Logs.{names_below}
 use Rattle.claimed_logs.proofs.Own.{begun_locked, told_locked}
 
 -- of its log on disk
@@ -66,6 +68,7 @@ pub record CourseFacts : Type 0 where
   pub steps : CourseSteps
   pub hands : CourseHands
   pub ends : CourseEnds
+  pub below : CourseBelow
 
 pub record Facts : Type 0 where
   pub alike : AlikeFacts
@@ -138,7 +141,7 @@ set_live (x ∷ xs) (suc i) a e = set_live xs i a e
 
 -- ---- a member that is up
 pub up_events : Facts → UpEventsLogged
-up_events facts c d old new at m n w t e ok told left low moves l = facts.one c d old new w moves.world at n t l
+up_events facts c d old new at m n w t e ok told left moves l = facts.one c d old new w moves.world at n t l
     (record {
       has = e.has;
       members = e.count;
@@ -155,6 +158,8 @@ up_events facts c d old new at m n w t e ok told left low moves l = facts.one c 
       course = subst (λ (z : Option RestartHeld). IfSome z (λ q. RestartCourse (log_of d.logs (at + 1)) q.resources.marks n.holds.marks)) (sym (stood_now.up now_up)) tt;
       down = λ dead. absurd (never (sym (ap is_live now_up) ∙ dead));
       counted = step.logged.counted;
+      below = subst (LogBelow new.facility.counter) (sym log_is) step.below;
+      names = subst (λ (z : Option RestartHeld). IfSome z (λ q. ListedBelow new.facility.counter q.resources.marks.trans.list)) (sym (stood_now.up now_up)) tt;
     })
   where
     stood : MemberStands old.facility (at + 1) m
@@ -185,7 +190,7 @@ up_events facts c d old new at m n w t e ok told left low moves l = facts.one c 
     tells = subst (λ (k : ℕ). TellsLog (log_of c.logs (at + 1)) e.drive k) (sym stood.member) (record { contents = c; told = told; there = within old.members at m c.logs e.had l.there; bytes = refl })
 
     step : StillLogged e.left old.facility.counter new.facility.counter n.holds.marks
-    step = facts.up (log_of c.logs (at + 1)) m n u v old.fates new.fates e.place e.stepped e.steps ok rests (subst (λ (k : ℕ). 1 ≤ k) (sym stood.member) (from_one at)) (stood_now.member ∙ sym stood.member) tells low (before.up was_up)
+    step = facts.up (log_of c.logs (at + 1)) m n u v old.fates new.fates e.place e.stepped e.steps ok rests (subst (λ (k : ℕ). 1 ≤ k) (sym stood.member) (from_one at)) (stood_now.member ∙ sym stood.member) tells before.below (before.up was_up)
 
     log_is : log_of d.logs (at + 1) ≡ step.log
     log_is = ap (λ (k : ℕ). log_of d.logs k) (sym stood_now.member) ∙ one_told step.log e.left n.holds.marks.member d step.tells left
@@ -279,7 +284,7 @@ restart_events facts c d old new at m n w t e told left moves counts counted l =
       others = e.others;
       logs = goes.count;
       left = λ k ne. goes.others (k + 1) (from_one k) (other k at ne);
-      counter = restart_rises facts.commands (as_restarting u) (as_restarting v) before.resources e.made.makes.makes.happens.after e.made.makes.makes.happens.intent e.sent e.answered e.made.makes.makes.happens.said e.made.makes.makes.happens.runs;
+      counter = rises;
       statuses = apart_status;
       claims = λ k o q ne. facts.spare (OfMember m.id) old new w moves.moves (k + 1) o q (apart (k + 1) m.id (λ z. other k at ne (z ∙ stood.id)));
     })
@@ -289,6 +294,8 @@ restart_events facts c d old new at m n w t e told left moves counts counted l =
       course = subst (λ (x : Option RestartHeld). IfSome x (λ q. RestartCourse (log_of d.logs (at + 1)) q.resources.marks n.holds.marks)) (sym n_restart) (course_on reached.resources.marks.is_up ends.goes_on);
       down = λ dead. absurd (never (sym still_live ∙ dead));
       counted = counted;
+      below = λ start back last. all_below old.facility.counter new.facility.counter back rises (low.log start back last);
+      names = names_below old.facility.counter new.facility.counter n.restart rises (subst (λ (x : Option RestartHeld). IfSome x (λ q. ListedBelow old.facility.counter q.resources.marks.trans.list)) (sym n_restart) (names_on reached.resources.marks.is_up ends.goes_on));
     })
   where
     z : World
@@ -399,6 +406,25 @@ restart_events facts c d old new at m n w t e told left moves counts counted l =
 
     none : NoneInSlots m.holds.marks
     none = stood.rests (stood.restarts restarting)
+
+    -- ---- numbers
+    rises : old.facility.counter ≤ new.facility.counter
+    rises = restart_rises facts.commands (as_restarting u) (as_restarting v) before.resources e.made.makes.makes.happens.after e.made.makes.makes.happens.intent e.sent e.answered e.made.makes.makes.happens.said e.made.makes.makes.happens.runs
+
+    low : StillBelow old.facility.counter (log_of d.logs (at + 1)) reached.resources.marks.trans.list
+    low = facts.courses.below (log_of c.logs (at + 1)) (log_of d.logs (at + 1)) w (as_restarting u) (as_restarting v) before.resources reached.resources e.sent e.answered m.holds.marks old.facility.counter e.made.makes.makes.happens (not_failed e.answered e.unfailed)
+        (subst (λ (k : ℕ). HasLog (as_restarting u).drive k (log_of c.logs (at + 1))) (sym standing.member) (record { contents = c; told = told; there = there; log = refl }))
+        (subst (λ (k : ℕ). HasLog (as_restarting v).drive k (log_of d.logs (at + 1))) (sym (follows.member ∙ standing.member)) (record { contents = d; told = left; there = ap (λ (k : ℕ). nat_lt (at + 1 - 1) k) goes.count ∙ there; log = refl }))
+        restart_logged before_course logged.below
+        (subst (λ (z : Option RestartHeld). IfSome z (λ q. ListedBelow old.facility.counter q.resources.marks.trans.list)) e.made.makes.makes.had logged.names)
+
+    names_kept : (adopted : Option Adopted) (rest : RestartHeld) → Takes reached adopted rest → ListedBelow old.facility.counter rest.resources.marks.trans.list
+    names_kept adopted rest (inl takes) = subst (λ (q : RestartHeld). ListedBelow old.facility.counter q.resources.marks.trans.list) (sym takes.1) low.names
+    names_kept adopted rest (inr takes) = subst (λ (q : RestartHeld). ListedBelow old.facility.counter q.resources.marks.trans.list) (sym takes.1) (handed_below old.facility.counter reached.resources.marks reached.resources.marks.kept low.names)
+
+    names_on : (b : Bool) → GoesOn b reached m.holds e.made.mid.restart ends.left → IfSome e.made.mid.restart (λ q. ListedBelow old.facility.counter q.resources.marks.trans.list)
+    names_on true over = subst (λ (x : Option RestartHeld). IfSome x (λ q. ListedBelow old.facility.counter q.resources.marks.trans.list)) (sym over.0) tt
+    names_on false over = subst (λ (x : Option RestartHeld). IfSome x (λ q. ListedBelow old.facility.counter q.resources.marks.trans.list)) (sym over.restart) (names_kept over.left over.rest over.takes)
 
     -- what its member is told changes nothing of it
     told_through : (x : List ℕ) → LogLocked x [] ends.left.marks → LogLocked x [] n.holds.marks

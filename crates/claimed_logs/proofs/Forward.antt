@@ -80,7 +80,7 @@ closed_below (r ∷ rs) c id low e = by (closed_below rs c id low.1) (or_cases (
     by rest (inl m) = (let same = eqb-true r.tran id (and_parts (r.tran == id) (is_end r.body) m).0 in let first = low.0 in omega (arith, same, first))
     by rest (inr m) = rest m
 
-all_both : (P : LogRecord → Type 0) (xs ys : List LogRecord) → AllByRecursion P xs → AllByRecursion P ys → AllByRecursion P (xs ++ ys)
+pub all_both : (P : LogRecord → Type 0) (xs ys : List LogRecord) → AllByRecursion P xs → AllByRecursion P ys → AllByRecursion P (xs ++ ys)
 all_both P [] ys a b = b
 all_both P (x ∷ xs) ys a b = (a.0, all_both P xs ys a.1 b)
 
@@ -111,6 +111,14 @@ module _ (log : List ℕ) (pend new : List LogRecord) (c d : ℕ) (s t : MarksSt
       by : (b : Bool) → is_closed (back ++ pend) id ≡ b → is_closed (back ++ pend) id ≡ false
       by true e = absurd (against e (names.changed id spot some changed))
       by false e = e
+
+  -- nor do its records name any by a number above the counter
+  pub below_after : Facts → (b : Bool) → AreWhole log → AllByRecursion IsAllowed pend → ArePlain pend → c ≤ d → LogBelow d (log_after b log pend)
+  below_after facts true whole allowed plain le start records last =
+      let one : Back log pend start records = back_of facts log pend start records whole allowed (none_names pend plain) last in
+      subst (λ (z : List LogRecord). AllByRecursion (λ (r : LogRecord). r.tran ≤ d) z) (sym one.are)
+      (all_below c d (one.back ++ pend) le (all_both (λ (r : LogRecord). r.tran ≤ c) one.back pend (low start one.back one.last) held.below))
+  below_after facts false whole allowed plain le start back last = all_below c d back le (low start back last)
 
   -- so it is behind an event: it appends the records that wait, or puts others behind them
   pub forward_after : Facts → (b : Bool) → AreWhole log → AllByRecursion IsAllowed pend → ArePlain pend → c ≤ d → ((id : ℕ) → id ≢ 0 → id ≤ c → forward_in t.trans id ≤ forward_in s.trans id) → ForwardOpen (log_after b log pend) (pend_after b pend new) d t

@@ -11,6 +11,7 @@ pub mod Up
 pub mod Own
 pub mod Restarts
 pub mod Courses
+pub mod Below
 pub mod Ends
 pub mod Runs
 pub mod Events

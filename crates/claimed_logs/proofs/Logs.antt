@@ -31,12 +31,13 @@ use Rattle.group_core.specs.Given.{CrewState}
 use Rattle.failed_logs.specs.Given.{LockedBegins}
 use Rattle.failed_logs.specs.Logs.{LogClaimed}
 use Rattle.failed_logs.specs.Given.{LocksTied, MemberStands, RestartInHand}
-use Rattle.restart_closing.specs.Closing.{OpensAlike}
+use Rattle.log_trans.specs.declared.opened.OpenTran.{OpenTran}
+use Rattle.restart_closing.specs.Closing.{ListedBelow, OpensAlike, trans_of}
 use Rattle.claimed_logs.specs.Courses.{LeavesAlike, RestartCourse}
 use Rattle.claimed_logs.specs.Found.{OpensKnown}
 use Rattle.claimed_logs.specs.Logs.{DownLogged, FreshLogged, GroupFailsLogged, LeavesOthers, LogCloses, LogsClaimed, LogsKnow, MemberLogged, OneLogged, RestartLogged, UpLogged}
 use Rattle.claimed_logs.proofs.Alike.{Facts as AlikeFacts, fronts_begin}
-use Rattle.claimed_logs.proofs.Forward.{forward_begins, forward_on, new_forward}
+use Rattle.claimed_logs.proofs.Forward.{all_below, forward_begins, forward_on, new_forward}
 use Rattle.claimed_logs.proofs.Idle.{idle_begins}
 
 never : true ≡ false → ⊥
@@ -89,7 +90,7 @@ pub record FreshFacts : Type 0 where
   pub counted : CountedBegin
 
 pub fresh_logged : FreshFacts → FreshLogged
-fresh_logged facts c s w t down there close = record { there = there; each = λ at. on at (slice_get s.members at) (down at) (close at) (t.stands at) }
+fresh_logged facts c s w t down there close low = record { there = there; each = λ at. on at (slice_get s.members at) (down at) (close at) (t.stands at) }
   where
     on : (at : ℕ) (o : Option Member) → IfSome o (IsDown s.sizes) → IfSome o (λ (m : Member). LogCloses (log_of c.logs (at + 1))) → IfSome o (MemberStands s.facility (at + 1)) → IfSome o (MemberLogged s.facility w (at + 1) (log_of c.logs (at + 1)))
     on at None d closes stood = tt
@@ -109,6 +110,8 @@ fresh_logged facts c s w t down there close = record { there = there; each = λ 
         idle = idle_begins facts.begin facts.spell m.id s.sizes m.holds stood.book d.holds;
       };
       counted = facts.counted s.facility.counter m.id s.sizes m.holds d.holds;
+      below = low at;
+      names = subst (λ (z : Option Restarting). IfSome z (λ q. ListedBelow s.facility.counter q.resources.marks.trans.list)) (sym d.rests) tt;
     }
 
 pub group_fails_logged : GroupFailsLogged
@@ -127,6 +130,15 @@ log_left log w z m same claimed records last =
 
 at_most : (n : ℕ) → n ≤ n
 at_most n = omega arith
+
+opens_below : (c d : ℕ) (ts : List OpenTran) → c ≤ d → AllByRecursion (λ (t : OpenTran). t.id ≤ c) ts → AllByRecursion (λ (t : OpenTran). t.id ≤ d) ts
+opens_below c d [] le low = tt
+opens_below c d (t ∷ ts) le low = (let first = low.0 in omega (arith, first, le), opens_below c d ts le low.1)
+
+-- the numbers of a restart's transactions, beside a counter that has risen
+pub names_below : (c d : ℕ) (x : Option Restarting) → c ≤ d → IfSome x (λ q. ListedBelow c q.resources.marks.trans.list) → IfSome x (λ q. ListedBelow d q.resources.marks.trans.list)
+names_below c d None le low = tt
+names_below c d (Some q) le low = opens_below c d (trans_of q.resources.marks.trans.list) le low
 
 pub record LeftFacts : Type 0 where
   pub left : ClaimsLeft
@@ -158,6 +170,8 @@ member_left facts f g w z k log m rises status same stands h = record {
   course = h.course;
   down = λ dead. let before : DownLogged log w k m.holds.marks = h.down (sym (ap is_live status) ∙ dead) in record { claimed = log_left log w z k same before.claimed; leaves = before.leaves; idle = before.idle };
   counted = facts.more f.counter g.counter m.holds.marks rises h.counted;
+  below = λ start back last. all_below f.counter g.counter back rises (h.below start back last);
+  names = names_below f.counter g.counter m.restart rises h.names;
 }
 
 pub one_logged : LeftFacts → OneLogged

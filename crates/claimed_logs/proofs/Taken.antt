@@ -31,7 +31,7 @@ use Rattle.restart_marks.specs.declared.intent.RestartIntent.{RestartIntent}
 use Rattle.restart_marks.specs.State.{RestartState}
 use Rattle.restart_law.specs.Reads.{ReadsTrue}
 use Rattle.restart_law.proofs.Truth.{FitsRead, fits_read}
-use Rattle.restart_closing.specs.Closing.{HasLog, RestartCloses}
+use Rattle.restart_closing.specs.Closing.{HasLog, ListedBelow, RestartCloses}
 use Rattle.restart_closing.specs.Leaving.{FailuresLeave, NoneIsLeft}
 use Rattle.restart_closing.specs.Resting.{Rests}
 use Rattle.restart_closing.proofs.Needs.{FitsSent, fits_sent}
@@ -74,9 +74,9 @@ use Rattle.failed_logs.specs.Given.{FailsAt, GroupFailsTied}
 use Rattle.claimed_logs.specs.Beginning.{PhasesLogged}
 use Rattle.claimed_logs.specs.Courses.{RestartCourse, RestartHanded, RestartOpen}
 use Rattle.claimed_logs.specs.Events.{RestartEventsLogged, RestingEventsLogged, UpEventsLogged}
-use Rattle.claimed_logs.specs.Failing.{AnyBytes, HandedFailsLogged, HasFront, LeftClaimed, MovesLogged, RestartFailsLogged, RestartsStop, UpFailsLogged}
+use Rattle.claimed_logs.specs.Failing.{AnyBytes, HandedBelow, HandedFailsLogged, HasFront, LeftClaimed, MovesLogged, RestartFailsLogged, RestartsStop, StopsBelow, UpFailsLogged}
 use Rattle.claimed_logs.specs.Found.{AdoptionsFound}
-use Rattle.claimed_logs.specs.Logs.{GroupFailsLogged, LogsClaimed, LogsKnow, MemberLogged, RestartLogged}
+use Rattle.claimed_logs.specs.Logs.{GroupFailsLogged, LogBelow, LogsClaimed, LogsKnow, MemberLogged, RestartLogged}
 use Rattle.claimed_logs.specs.Taken.{EventsKeep, LogsStand, Supplied}
 use Rattle.claimed_logs.proofs.Events.{within}
 use Rattle.claimed_logs.proofs.Resting.{own_log}
@@ -101,6 +101,8 @@ pub record Facts : Type 0 where
   pub stop : RestartsStop
   pub leave : FailuresLeave
   pub left : NoneIsLeft
+  pub stops_below : StopsBelow
+  pub rests_below : HandedBelow
   pub nothing : NothingIsRest
   pub begins : BeginsKnow
   pub members : MembersKnow
@@ -339,7 +341,7 @@ module _ (facts : Facts) (old new : CrewState) (w : World) (c d : Contents) (t :
   made_as stepped made = subst (λ (z : Resources). Steps m z old.fates place stepped n (record { facility = new.facility; drive = v.drive }) new.fates) f (subst (λ (z : Resources). Steps m u old.fates place stepped n z new.fates) g made)
 
   up_goes : (stepped : Stepped) → status_of old.facility.lists.statuses m.id ≡ status.Up → is_over stepped ≡ false → Steps m u old.fates place stepped n v new.fates → MovesLogged d old new w m
-  up_goes stepped up over made = record { moves = moves; logs = facts.up c d old new at m n w t steps_at (unfailed_of stepped over) told left (given.below at) moves l }
+  up_goes stepped up over made = record { moves = moves; logs = facts.up c d old new at m n w t steps_at (unfailed_of stepped over) told left moves l }
     where
       steps_at : StepsAt old new at m n
       steps_at = record {
@@ -536,17 +538,24 @@ module _ (facts : Facts) (old new : CrewState) (w : World) (c d : Contents) (t :
       reads true read = inr read
       reads false unread = inl (subst (λ (z : List ℕ). ReadsTrue z q.resources.marks) (has.unread unread) has.reads)
 
-      handed : (x : List ℕ) → IsRest x → log_of d.logs (at + 1) ≡ course.whole ++ x → RestartHanded course.whole course.rest q.resources.marks m.holds.marks → MovesLogged d old new w m
-      handed x is_rest at_d o = facts.handed_fails c d old new at m n w course.whole x t fails down any at_d is_rest course.alike o.locked l
+      handed : (x : List ℕ) → IsRest x → log_of d.logs (at + 1) ≡ course.whole ++ x → RestartHanded course.whole course.rest q.resources.marks m.holds.marks → LogBelow old.facility.counter (log_of d.logs (at + 1)) → MovesLogged d old new w m
+      handed x is_rest at_d o low = facts.handed_fails c d old new at m n w course.whole x t fails down any at_d is_rest course.alike o.locked low l
+
+      low_here : LogBelow old.facility.counter (course.whole ++ course.rest)
+      low_here = subst (LogBelow old.facility.counter) course.is logged.below
+
+      names : ListedBelow old.facility.counter q.resources.marks.trans.list
+      names = subst (λ (z : Option RestartHeld). IfSome z (λ x. ListedBelow old.facility.counter x.resources.marks.trans.list)) is logged.names
 
       by : RestartOpen course.whole course.rest q.resources.marks m.holds.marks ⊎ RestartHanded course.whole course.rest q.resources.marks m.holds.marks → MovesLogged d old new w m
       by (inl o) = facts.restart_fails c d old new at m n w t fails down any
           (subst (λ (k : ℕ). LeftClaimed (log_of d.logs (at + 1)) w k) (stands.member ∙ sym stood.id)
           (facts.stop course.whole course.rest (log_of d.logs (at + 1)) w q.resources.marks m.holds.marks (subst (λ (z : List ℕ). RestartLogged z w q.resources.marks) course.is has) stands.on course.alike o
-          (stops_at script begun choice stepped e over q is course.whole course.rest course.is (reads q.resources.marks.own.is_read refl) o))) l
+          (stops_at script begun choice stepped e over q is course.whole course.rest course.is (reads q.resources.marks.own.is_read refl) o)))
+          (facts.stops_below course.whole course.rest (log_of d.logs (at + 1)) old.facility.counter q.resources.marks m.holds.marks o low_here names (stops_at script begun choice stepped e over q is course.whole course.rest course.is (reads q.resources.marks.own.is_read refl) o)) l
       by (inr o) = elim (left_at script begun choice stepped e over q is course.whole course.rest course.is o) [
-        | inl at_d ↦ handed course.rest o.is_rest at_d o
-        | inr at_d ↦ handed [] facts.nothing (at_d ∙ sym (append-nil course.whole)) o
+        | inl at_d ↦ handed course.rest o.is_rest at_d o (subst (LogBelow old.facility.counter) (sym at_d) low_here)
+        | inr at_d ↦ handed [] facts.nothing (at_d ∙ sym (append-nil course.whole)) o (subst (LogBelow old.facility.counter) (sym at_d) (facts.rests_below course.whole course.rest old.facility.counter o.locked.whole o.is_rest low_here))
       ]
 
   -- ---- what is known of the logs

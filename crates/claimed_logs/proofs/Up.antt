@@ -49,7 +49,7 @@ use Rattle.failed_logs.specs.Given.{ArePlain}
 use Rattle.claimed_logs.specs.Logs.{FrontsAlike, LogBelow, UpLogged}
 use Rattle.claimed_logs.specs.Steps.{StillLogged, UpStepsLogged}
 use Rattle.claimed_logs.proofs.Alike.{Facts as AlikeFacts, fronts_forced, fronts_more}
-use Rattle.claimed_logs.proofs.Forward.{forward_after, forward_on, puts_unclosed}
+use Rattle.claimed_logs.proofs.Forward.{all_below, below_after, forward_after, forward_on, puts_unclosed}
 
 pub record Facts : Type 0 where
   pub alike : AlikeFacts
@@ -162,6 +162,8 @@ own_still facts log m mid u v place s a e ok tells low l = subst (λ (z : Member
             l.locked.whole l.locked.allowed l.locked.plain counted.rises (facts.forward u v m.holds e.after e.intent place s a e.happens);
       };
       rises = counted.rises;
+      below = below_after log l.pend (event_records (begun e.happens.ready place).marks e.intent e.happens.plan a) u.facility.counter v.facility.counter m.holds.marks e.after.marks low l.forward named facts.alike (is_done a && is_append e.intent)
+          l.locked.whole l.locked.allowed l.locked.plain counted.rises;
     })
   where
     still : LogStays (is_done a && is_append e.intent) log l.pend (event_records (begun e.happens.ready place).marks e.intent e.happens.plan a) v.drive e.after.marks
@@ -199,11 +201,12 @@ told_same log member u v Goes stays tells goes = by v.contents refl (subst (λ (
     }
 
 rebuild_still : Facts → (log : List ℕ) (m mid : Member) (u v : World) (place : ℕ) (s : RebuildSent) (a : Answered) → (e : Rebuilds m u place s a v mid) → RebuildGoesOn e.reached m place mid → m.restart ≡ None → 1 ≤ m.holds.marks.member
-    → mid.holds.marks.member ≡ m.holds.marks.member → TellsLog log u.drive m.holds.marks.member → UpLogged log u.facility.counter m.holds.marks → StillLogged v.drive u.facility.counter v.facility.counter mid.holds.marks
-rebuild_still facts log m mid u v place s a e on rests one same tells l = record {
+    → mid.holds.marks.member ≡ m.holds.marks.member → TellsLog log u.drive m.holds.marks.member → LogBelow u.facility.counter log → UpLogged log u.facility.counter m.holds.marks → StillLogged v.drive u.facility.counter v.facility.counter mid.holds.marks
+rebuild_still facts log m mid u v place s a e on rests one same tells low l = record {
   log = log;
   tells = subst (λ (k : ℕ). TellsLog log v.drive k) (sym same) told;
   rises = rises;
+  below = λ start back last. all_below u.facility.counter v.facility.counter back rises (low start back last);
   logged = subst (λ (z : Member). UpLogged log v.facility.counter z.holds.marks) (sym on.member) (record {
     pend = now.pend;
     locked = facts.locked log now.pend (begun m.holds place).marks on.after.marks on.tells.0 now.locked;
@@ -227,7 +230,7 @@ rebuild_still facts log m mid u v place s a e on rests one same tells l = record
 
 -- ---- any event
 entered : (m n : Member) (drive : Drive) (before counter : ℕ) → n ≡ record m { holds = told_once m.holds } → StillLogged drive before counter m.holds.marks → StillLogged drive before counter n.holds.marks
-entered m n drive before counter e h = subst (λ (z : Member). StillLogged drive before counter z.holds.marks) (sym e) (record { log = h.log; tells = h.tells; logged = told_logged h.log counter m.holds h.logged; rises = h.rises })
+entered m n drive before counter e h = subst (λ (z : Member). StillLogged drive before counter z.holds.marks) (sym e) (record { log = h.log; tells = h.tells; logged = told_logged h.log counter m.holds h.logged; rises = h.rises; below = h.below })
 
 no_restart : (x : Option Restarting) (q : Restarting) → x ≡ None → x ≡ Some q → ⊥
 no_restart x q none some = cc
@@ -240,5 +243,5 @@ up_steps facts log m n u v f g place (steps.Restart s a) made ok rests one same 
 up_steps facts log m n u v f g place (steps.Rebuild s a) made ok rests one same tells low l =
     entered made.mid n v.drive u.facility.counter v.facility.counter made.enters.member
     (rebuild_still facts log m made.mid u v place s a made.makes (subst (λ (b : Bool). RebuildEnds b made.makes.reached m place made.mid) ok made.makes.ends) rests one
-    (sym (ap (λ (z : Member). z.holds.marks.member) made.enters.member) ∙ same) tells l)
+    (sym (ap (λ (z : Member). z.holds.marks.member) made.enters.member) ∙ same) tells low l)
 up_steps facts log m n u v f g place steps.Failed made ok rests one same tells low l = absurd made.makes

@@ -18,7 +18,7 @@ use Rattle.restart_marks.specs.State.{RestartState}
 use Rattle.restart_law.specs.Opens.{FewNeeds, OpensStand}
 use Rattle.restart_law.specs.Reads.{AreLast, ReadsTrue}
 use Rattle.restart_claims.specs.Claims.{OpensClaimed}
-use Rattle.restart_closing.specs.Closing.{OpensAlike}
+use Rattle.restart_closing.specs.Closing.{ListedBelow, OpensAlike}
 use Rattle.failed_logs.specs.Given.{AllClosed}
 use Rattle.failed_logs.specs.Given.{IsDown, Member}
 use Rattle.group_core.specs.Given.{GroupFails}
@@ -72,13 +72,16 @@ pub record DownLogged (log : List ℕ) (w : World) (k : ℕ) (s : MarksState) : 
   pub leaves : LeavesAlike log
   pub idle : LogLocked [] [] s
 
--- by its standing; and no number that names a transaction of it is above the counter, or names two
+-- By its standing. No number that names a transaction of it, or of its log, or of its restart, is above the counter, nor does one of the member's own
+-- name two.
 pub record MemberLogged (f : Facility) (w : World) (k : ℕ) (log : List ℕ) (m : Member) : Type 0 where
   pub up : status_of f.lists.statuses k ≡ Up → UpLogged log f.counter m.holds.marks
   pub restarts : IfSome m.restart (λ q. RestartLogged log w q.resources.marks)
   pub course : IfSome m.restart (λ q. RestartCourse log q.resources.marks m.holds.marks)
   pub down : is_live (status_of f.lists.statuses k) ≡ false → DownLogged log w k m.holds.marks
   pub counted : AreCounted f.counter m.holds.marks
+  pub below : LogBelow f.counter log
+  pub names : IfSome m.restart (λ q. ListedBelow f.counter q.resources.marks.trans.list)
 
 -- ---- those of all members, for each of which the disk has one
 
@@ -102,7 +105,8 @@ AllClose c s = (at : ℕ) → IfSome (slice_get s.members at) (λ m. LogCloses (
 
 abbrev pub FreshLogged : Type 0
 FreshLogged = (c : Contents) (s : CrewState) (w : World)
-    → LocksTied s w → ((at : ℕ) → IfSome (slice_get s.members at) (IsDown s.sizes)) → length s.members ≤ length c.logs → AllClose c s → LogsClaimed c s w
+    → LocksTied s w → ((at : ℕ) → IfSome (slice_get s.members at) (IsDown s.sizes)) → length s.members ≤ length c.logs → AllClose c s
+    → ((at : ℕ) → LogBelow s.facility.counter (log_of c.logs (at + 1))) → LogsClaimed c s w
 
 -- a failure of the group changes nothing of it
 abbrev pub GroupFailsLogged : Type 0

@@ -13,12 +13,10 @@ use Rattle.failed_logs.specs.Given.{IsFor, Moves, Whose}
 use Rattle.failed_logs.specs.Given.{RestartStepsAt}
 use Rattle.failed_logs.specs.Given.{LocksTied}
 use Rattle.group_logs.specs.Known.{EndsHold}
-use Rattle.claimed_logs.specs.Logs.{LogBelow, LogsClaimed}
+use Rattle.claimed_logs.specs.Logs.{LogsClaimed}
 
 -- What an event takes from elsewhere, where the disk holds these before it, and those behind it. No contract says it yet.
 pub record Supplied (c d : Contents) (old new : CrewState) (w : World) : Type 0 where
-  -- no record of a log names its transaction by a number above the counter
-  pub below : (at : ℕ) → LogBelow old.facility.counter (log_of c.logs (at + 1))
   -- no number of what a restart hands over is above the counter, or names another transaction of its member
   pub counted : (at : ℕ) (m n : Member) → RestartStepsAt old new at m n w → AreCounted old.facility.counter m.holds.marks → AreCounted new.facility.counter n.holds.marks
 

@@ -6,11 +6,11 @@
 
 ghost use Rattle.claimed_logs.specs.Beginning.{PhasesLogged};
 ghost use Rattle.claimed_logs.specs.Events.{RestartEventsLogged, RestingEventsLogged, UpEventsLogged};
-ghost use Rattle.claimed_logs.specs.Failing.{HandedFailsLogged, RestartFailsLogged, RestartsStop, UpFailsLogged};
+ghost use Rattle.claimed_logs.specs.Failing.{HandedBelow, HandedFailsLogged, RestartFailsLogged, RestartsStop, StopsBelow, UpFailsLogged};
 ghost use Rattle.claimed_logs.specs.Found.{AdoptionsFound};
 ghost use Rattle.claimed_logs.specs.Logs.{FreshLogged, GroupFailsLogged, LogsKnow, OneLogged};
 ghost use Rattle.claimed_logs.specs.Runs.{KnowingRunsStand};
-ghost use Rattle.claimed_logs.specs.Steps.{CourseEnds, CourseHands, CourseSteps, EndsTell, HandedLogged, RestartStepsLogged, RestingStays, UpStepsLogged};
+ghost use Rattle.claimed_logs.specs.Steps.{CourseBelow, CourseEnds, CourseHands, CourseSteps, EndsTell, HandedLogged, RestartStepsLogged, RestingStays, UpStepsLogged};
 ghost use Rattle.claimed_logs.specs.Taken.{EventsKeep};
 
 use adopted_claims::adopted_have_claims;
@@ -108,7 +108,9 @@ pub fn failures_logged()
 /// So its log has its claims where a restart fails that hasn't handed over, whatever of its log buffer is on disk then, and whether it has read
 /// the log or not.
 pub fn restarts_stop()
-    ensures { RestartsStop }
+    ensures stops { RestartsStop }
+    ensures below { StopsBelow }
+    ensures rests { HandedBelow }
 {
     appends_tell();
     rests_tell();
@@ -148,6 +150,7 @@ pub fn courses_go()
     ensures steps { CourseSteps }
     ensures hands { CourseHands }
     ensures ends { CourseEnds }
+    ensures below { CourseBelow }
     ensures tell { EndsTell }
     ensures rests { RestingStays }
 {
@@ -158,6 +161,9 @@ pub fn courses_go()
     opens_are_all();
     sends_lawfully();
     restarts_close_truly();
+    closings_tell();
+    lists_go();
+    reads_true();
     restarts_rest();
     logs_taken_over();
     logs_stay_locked();

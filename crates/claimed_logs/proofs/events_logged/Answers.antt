@@ -13,7 +13,7 @@ returns c =
         whole = c.appends_tell.ensures.whole;
         leave = c.rests_tell.ensures.leave;
       };
-      courses = record { steps = c.courses_go.ensures.steps; hands = c.courses_go.ensures.hands; ends = c.courses_go.ensures.ends };
+      courses = record { steps = c.courses_go.ensures.steps; hands = c.courses_go.ensures.hands; ends = c.courses_go.ensures.ends; below = c.courses_go.ensures.below };
       locked = c.logs_stay_locked.ensures.local;
       tell = c.courses_go.ensures.tell;
       lists = c.lists_go.ensures;
