@@ -17,3 +17,4 @@ pub mod Runs
 pub mod Events
 pub mod Resting
 pub mod Taken
+pub mod Whole

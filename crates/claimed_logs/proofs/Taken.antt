@@ -191,7 +191,7 @@ own_choices p script choice e = by p.is_idle (has_groupfail p script) (has_phase
     by true false false e = absurd (never (sym e))
     by false b c e = absurd (never (sym e))
 
-own_number : (event choice : ℕ) → event % 64 ≡ 0 → event / 64 ≡ choice → event ≡ choice * 64
+pub own_number : (event choice : ℕ) → event % 64 ≡ 0 → event / 64 ≡ choice → event ≡ choice * 64
 own_number event choice rest is =
     let whole : event / 64 * 64 + event % 64 ≡ event = div-add-mod' event 64 in
     let same : event / 64 * 64 ≡ choice * 64 = ap (λ z. z * 64) is in

@@ -12,6 +12,7 @@ ghost use Rattle.claimed_logs.specs.Logs.{FreshLogged, GroupFailsLogged, LogsKno
 ghost use Rattle.claimed_logs.specs.Runs.{KnowingRunsStand};
 ghost use Rattle.claimed_logs.specs.Steps.{CourseBelow, CourseEnds, CourseHands, CourseSteps, EndsTell, HandedLogged, RestartStepsLogged, RestingStays, UpStepsLogged};
 ghost use Rattle.claimed_logs.specs.Taken.{EventsKeep};
+ghost use Rattle.claimed_logs.specs.Whole.{LoggedRunsStand, StartsLogged};
 
 use adopted_claims::adopted_have_claims;
 use cache_structure::CacheFace;
@@ -222,4 +223,17 @@ pub fn events_keep<D: Disk, C: CacheFace, P>()
     rests_tell();
     known_ends();
     rests_are_unknown();
+}
+
+/// So it stands wherever events lead a group that has just started over logs that stand, none of which is refused, over a disk that tells what it
+/// holds, given what no contract says yet: beside a sound world of locks in which the logs have their claims, and the claims that members know of
+/// agree.
+pub fn logged_runs<D: Disk, C: CacheFace, P>()
+    ensures runs { LoggedRunsStand P C.directory D.alive D.contents D.faults }
+    ensures starts { StartsLogged P C.directory D.contents }
+{
+    groups_go();
+    logs_claimed();
+    knowing_runs::<D, C, P>();
+    events_keep::<D, C, P>();
 }
