@@ -6,9 +6,8 @@ use Rattle.ds_disk.specs.Contents.{Contents}
 use Rattle.cache_structure.specs.Directory.{Directory}
 use Rattle.lock_names.specs.Entries.{entry_number}
 use Rattle.script_fates.specs.Fated.{FatesState}
-use Rattle.group_restart.specs.Machine.{Restart}
-use Rattle.group_restart.specs.declared.calls.State.{State}
-use Rattle.group_restart.specs.declared.calls.State.TheVariants as state
+use Rattle.group_logs.specs.Given.{Restart, State}
+use Rattle.group_logs.specs.Given.state_variants as state
 use Rattle.lock_protocol.specs.Machine.{World, start}
 use Rattle.lock_protocol.specs.Moves.{Move, Run}
 use Rattle.lock_world.specs.Numbers.{name_at}
