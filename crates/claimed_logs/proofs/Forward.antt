@@ -2,7 +2,7 @@
 use Rattle.std.proofs.Common.{◌≡◌, ℕ, zero, suc, ◌+◌, ◌<◌, ◌≤◌, refl, sym, ◌∙◌, ap, subst, arith, Bool, true, false, inl, inr, List, [], ◌∷◌, ◌++◌, append_assoc, length}
 use Rattle.std.specs.Prelude.{◌≢◌, ◌⊎◌, ◌==◌, ◌&&◌, ◌||◌, nat_le, nat_lt, replicate, slice_index_or}
 use Rattle.std.specs.List.{AllByRecursion}
-use Rattle.std.proofs.lemmas.Bool.{and_parts, eqb-true, leb-false, or_cases}
+use Rattle.std.proofs.lemmas.Bool.{and_from, and_parts, eqb-true, leb-false, lt-ltb, or_cases}
 use Rattle.std.proofs.lemmas.List.{append-nil}
 use Rattle.ds_base.specs.declared.names.Sizes.{Sizes}
 use Rattle.ds_model.specs.RecordBytes.{IsAllowed}
@@ -37,7 +37,7 @@ all_free s slots none zero = slots.own
 all_free s slots none (suc slot) = by (nat_le (suc slot) s.locks.agents) refl
   where
     by : (b : Bool) → nat_le (suc slot) s.locks.agents ≡ b → is_free (slot_tran s (suc slot)).stage ≡ true
-    by true e = none (suc slot) e
+    by true e = none (suc slot) (and_from (nat_lt 0 (suc slot)) (nat_le (suc slot) s.locks.agents) (lt-ltb 0 (suc slot) (omega arith)) e)
     by false e =
         let above = leb-false (suc slot) s.locks.agents e in
         let long = slots.count in
