@@ -95,10 +95,10 @@ none_names [] plain place = tt
 none_names (r ∷ rs) plain place = (plain_names place r.body plain.0, none_names rs plain.1 place)
 
 -- last records of a log behind which these are
-record Back (log : List ℕ) (new : List LogRecord) (start : ℕ) (records : List LogRecord) : Type 0 where
-  back : List LogRecord
-  are : records ≡ back ++ new
-  last : AreLastFrom log start back
+pub record Back (log : List ℕ) (new : List LogRecord) (start : ℕ) (records : List LogRecord) : Type 0 where
+  pub back : List LogRecord
+  pub are : records ≡ back ++ new
+  pub last : AreLastFrom log start back
 
 module _ (facts : Facts) where
   -- ---- two readings of a log, behind which the same records stand
@@ -124,7 +124,7 @@ module _ (facts : Facts) where
               inr (still_open back new id spot some there.unclosed none (facts.both.changed back new id spot ∙ or_left (has_changed back id spot) (has_changed new id spot) there.changed))
 
   -- ---- a log
-  back_of : (log : List ℕ) (new : List LogRecord) (start : ℕ) (records : List LogRecord) → AreWhole log → AllByRecursion IsAllowed new → NoneNames new → AreLastFrom (log ++ log_bytes new) start records → Back log new start records
+  pub back_of : (log : List ℕ) (new : List LogRecord) (start : ℕ) (records : List LogRecord) → AreWhole log → AllByRecursion IsAllowed new → NoneNames new → AreLastFrom (log ++ log_bytes new) start records → Back log new start records
   back_of log new start records whole allowed none last = record { back = are.back; are = are.are ∙ ap (λ (z : List LogRecord). are.back ++ z) (are.all (omega arith)); last = are.last }
     where
       are : AreBehind log new (length (log_bytes new)) start records

@@ -59,7 +59,7 @@ never : false ≡ true → ⊥
 never e = cc
 
 -- what a disk tells of a log is one thing
-one_log : (drive : Drive) (member : ℕ) (a b : List ℕ) → HasLog drive member a → HasLog drive member b → a ≡ b
+pub one_log : (drive : Drive) (member : ℕ) (a b : List ℕ) → HasLog drive member a → HasLog drive member b → a ≡ b
 one_log drive member a b x y =
     let same : x.contents ≡ y.contents = let both : Some x.contents ≡ Some y.contents = sym x.told ∙ y.told in cc in
     sym x.log ∙ ap (λ (z : Contents). log_of z.logs member) same ∙ y.log

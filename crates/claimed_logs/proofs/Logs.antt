@@ -18,7 +18,7 @@ use Rattle.log_trans.specs.Courses.{open_trans}
 use Rattle.log_trans.specs.declared.opened.OpenTran.{OpenTran}
 use Rattle.log_appends.specs.Appends.{AreLastFrom, LastSpell}
 use Rattle.log_appends.specs.Rests.{NothingIsRest}
-use Rattle.log_numbers.specs.Numbers.{AreCounted, CountedBegin, CountedMore}
+use Rattle.log_numbers.specs.Numbers.{AreCounted, CountedBegin, CountedMore, forward_in}
 use Rattle.lock_protocol.specs.Machine.{Covers, World}
 use Rattle.lock_world.specs.Rollbacks.{row_of, space_of}
 use Rattle.lock_world.specs.Views.{rollback_owner}
@@ -32,10 +32,12 @@ use Rattle.group_core.specs.Given.{CrewState}
 use Rattle.failed_logs.specs.Given.{LockedBegins}
 use Rattle.failed_logs.specs.Logs.{LogClaimed}
 use Rattle.failed_logs.specs.Given.{LocksTied, MemberStands, RestartInHand}
+use Rattle.restart_closing.specs.Closing.{ListedBelow, trans_of}
 use Rattle.claimed_logs.specs.Courses.{LeavesAlike, RestartCourse, RestartHanded, RestartOpen, StandsAlike}
 use Rattle.claimed_logs.specs.Found.{OpensKnown}
 use Rattle.claimed_logs.specs.Logs.{ClosingLeaves, DownLogged, FreshLogged, GroupFailsLogged, LeavesOthers, LogCloses, LogsClaimed, LogsKnow, LogsLeave, MemberLogged, OneLogged, RestartLogged, UpLogged}
 use Rattle.claimed_logs.proofs.Alike.{Facts as AlikeFacts, fronts_begin}
+use Rattle.claimed_logs.proofs.Forward.{all_below, forward_begins, forward_on, new_forward}
 use Rattle.claimed_logs.proofs.Idle.{idle_begins}
 
 never : true ≡ false → ⊥
@@ -116,7 +118,7 @@ pub record FreshFacts : Type 0 where
   pub counted : CountedBegin
 
 pub fresh_logged : FreshFacts → FreshLogged
-fresh_logged facts c s w t down there close = record { there = there; each = λ at. on at (slice_get s.members at) (down at) (close at) (t.stands at) }
+fresh_logged facts c s w t down there close low = record { there = there; each = λ at. on at (slice_get s.members at) (down at) (close at) (t.stands at) }
   where
     on : (at : ℕ) (o : Option Member) → IfSome o (IsDown s.sizes) → IfSome o (λ (m : Member). LogCloses (log_of c.logs (at + 1))) → IfSome o (MemberStands s.facility (at + 1)) → IfSome o (MemberLogged s.facility w (at + 1) (log_of c.logs (at + 1)))
     on at None d closes stood = tt
@@ -126,6 +128,7 @@ fresh_logged facts c s w t down there close = record { there = there; each = λ 
         locked = facts.begin (log_of c.logs (at + 1)) m.id s.sizes m.holds closes.whole stood.book d.holds closes.closed;
         counted = facts.counted s.facility.counter m.id s.sizes m.holds d.holds;
         alike = fronts_begin facts.alike (log_of c.logs (at + 1)) (closes_alike (log_of c.logs (at + 1)) closes);
+        forward = forward_begins (log_of c.logs (at + 1)) s.facility.counter m.holds.marks (λ id some. new_forward m.id s.sizes m.holds d.holds id);
       };
       restarts = subst (λ (z : Option Restarting). IfSome z (λ q. RestartLogged (log_of c.logs (at + 1)) w q.resources.marks)) (sym d.rests) tt;
       course = subst (λ (z : Option Restarting). IfSome z (λ q. RestartCourse (log_of c.logs (at + 1)) q.resources.marks m.holds.marks)) (sym d.rests) tt;
@@ -135,6 +138,8 @@ fresh_logged facts c s w t down there close = record { there = there; each = λ 
         idle = idle_begins facts.begin facts.spell m.id s.sizes m.holds stood.book d.holds;
       };
       counted = facts.counted s.facility.counter m.id s.sizes m.holds d.holds;
+      below = low at;
+      names = subst (λ (z : Option Restarting). IfSome z (λ q. ListedBelow s.facility.counter q.resources.marks.trans.list)) (sym d.rests) tt;
     }
 
 pub group_fails_logged : GroupFailsLogged
@@ -151,6 +156,18 @@ pub log_left : (log : List ℕ) (w z : World) (m : ℕ) → ((o c : ℕ) → z.c
 log_left log w z m same claimed records last =
     each (HasRows w m) (HasRows z m) (λ x h spot touched. same_row w z m (rollback_owner x.id) spot same (h spot touched)) (open_trans records) (claimed records last)
 
+at_most : (n : ℕ) → n ≤ n
+at_most n = omega arith
+
+opens_below : (c d : ℕ) (ts : List OpenTran) → c ≤ d → AllByRecursion (λ (t : OpenTran). t.id ≤ c) ts → AllByRecursion (λ (t : OpenTran). t.id ≤ d) ts
+opens_below c d [] le low = tt
+opens_below c d (t ∷ ts) le low = (let first = low.0 in omega (arith, first, le), opens_below c d ts le low.1)
+
+-- the numbers of a restart's transactions, beside a counter that has risen
+pub names_below : (c d : ℕ) (x : Option Restarting) → c ≤ d → IfSome x (λ q. ListedBelow c q.resources.marks.trans.list) → IfSome x (λ q. ListedBelow d q.resources.marks.trans.list)
+names_below c d None le low = tt
+names_below c d (Some q) le low = opens_below c d (trans_of q.resources.marks.trans.list) le low
+
 pub record LeftFacts : Type 0 where
   pub left : ClaimsLeft
   pub more : CountedMore
@@ -160,6 +177,8 @@ restart_left law log w z k s own same h = record {
   bytes = h.bytes;
   are = h.are;
   few = h.few;
+  brief = h.brief;
+  counts = h.counts;
   stands = h.stands;
   reads = h.reads;
   claimed = law h.bytes w z s (λ o c. subst (λ (n : ℕ). z.claims n o c ≡ w.claims n o c) (sym own) (same o c)) h.claimed;
@@ -174,11 +193,13 @@ restarts_left law log w z k m (Some q) stands same h = restart_left law log w z 
 pub member_left : LeftFacts → (f g : Facility) (w z : World) (k : ℕ) (log : List ℕ) (m : Member) → f.counter ≤ g.counter → status_of g.lists.statuses k ≡ status_of f.lists.statuses k → ((o c : ℕ) → z.claims k o c ≡ w.claims k o c)
     → RestartInHand k m m.restart → MemberLogged f w k log m → MemberLogged g z k log m
 member_left facts f g w z k log m rises status same stands h = record {
-  up = λ up. let before : UpLogged log f.counter m.holds.marks = h.up (sym status ∙ up) in record { pend = before.pend; locked = before.locked; counted = facts.more f.counter g.counter m.holds.marks rises before.counted; alike = before.alike };
+  up = λ up. let before : UpLogged log f.counter m.holds.marks = h.up (sym status ∙ up) in record { pend = before.pend; locked = before.locked; counted = facts.more f.counter g.counter m.holds.marks rises before.counted; alike = before.alike; forward = forward_on log before.pend f.counter g.counter m.holds.marks m.holds.marks rises (λ id some. at_most (forward_in m.holds.marks.trans id)) before.forward };
   restarts = restarts_left facts.left log w z k m m.restart stands same h.restarts;
   course = h.course;
   down = λ dead. let before : DownLogged log w k m.holds.marks = h.down (sym (ap is_live status) ∙ dead) in record { claimed = log_left log w z k same before.claimed; leaves = before.leaves; idle = before.idle };
   counted = facts.more f.counter g.counter m.holds.marks rises h.counted;
+  below = λ start back last. all_below f.counter g.counter back rises (h.below start back last);
+  names = names_below f.counter g.counter m.restart rises h.names;
 }
 
 pub one_logged : LeftFacts → OneLogged

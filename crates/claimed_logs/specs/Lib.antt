@@ -8,3 +8,4 @@ pub mod Steps
 pub mod Runs
 pub mod Events
 pub mod Taken
+pub mod Whole
