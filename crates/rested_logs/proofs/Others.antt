@@ -23,13 +23,13 @@ same_others c d s same others = subst (λ (z : Contents). OthersClose z s) (sym 
 
 member_others : (c d : Contents) (s : CrewState) (number : ℕ) (o : Option Member) → number ≢ 0 → slice_get s.members (number - 1) ≡ o → MemberLogs o number c d → OthersClose c s → OthersClose d s
 member_others c d s number None ne is same others = same_others c d s same others
-member_others c d s number (Some m) ne is goes others at none = subst LogCloses (sym (goes.1.others (at + 1) (omega arith) apart)) (others at none)
+member_others c d s number (Some m) ne is goes others = λ at none. subst LogCloses (sym (goes.1.others (at + 1) (omega arith) (apart at none))) (others at none)
   where
     one : 1 ≤ number
     one = above_zero number ne
 
-    apart : at + 1 ≢ number
-    apart e =
+    apart : (at : ℕ) → slice_get s.members at ≡ None → at + 1 ≢ number
+    apart at none e =
         let here : number - 1 ≡ at = omega (arith, e) in
         none_some (slice_get s.members (number - 1)) m is (ap (slice_get s.members) here ∙ none)
 
