@@ -1,5 +1,6 @@
 pub mod Unread
 pub mod Found
+pub mod Commits
 pub mod Alike
 pub mod Forward
 pub mod Idle

@@ -1,6 +1,6 @@
 -- The logs of a group where nothing is held, and behind what leaves them as they were.
 use Rattle.std.proofs.Common.{◌≡◌, ℕ, zero, suc, ◌+◌, ◌≤◌, refl, sym, ◌∙◌, ap, subst, arith, true, false, inl, inr, List, [], ◌∷◌, length, Option, Some, None}
-use Rattle.std.specs.Prelude.{◌≢◌, IfSome, slice_get}
+use Rattle.std.specs.Prelude.{◌≢◌, ◌⊎◌, IfSome, is_some, slice_get}
 use Rattle.std.specs.List.{AllByRecursion}
 use Rattle.std.proofs.lemmas.Bool.{cases_eq}
 use Rattle.std.proofs.lemmas.List.{append-nil}
@@ -11,6 +11,7 @@ use Rattle.lock_names.specs.declared.mode.Mode.{Mode}
 use Rattle.lock_names.specs.declared.mode.Mode.TheVariants.{IX, X}
 use Rattle.facility.specs.States.{Held as Facility}
 use Rattle.list_structure.specs.declared.standing.MemberStatus.{MemberStatus}
+use Rattle.list_structure.specs.declared.standing.MemberStatus.TheVariants as standing
 use Rattle.list_structure.specs.Standings.{is_live, status_of}
 use Rattle.log_rows.specs.Rows.{IsOpenIn, OpenTell}
 use Rattle.log_trans.specs.Courses.{open_trans}
@@ -32,10 +33,10 @@ use Rattle.failed_logs.specs.Given.{LockedBegins}
 use Rattle.failed_logs.specs.Logs.{LogClaimed}
 use Rattle.failed_logs.specs.Given.{LocksTied, MemberStands, RestartInHand}
 use Rattle.log_trans.specs.declared.opened.OpenTran.{OpenTran}
-use Rattle.restart_closing.specs.Closing.{ListedBelow, OpensAlike, trans_of}
-use Rattle.claimed_logs.specs.Courses.{LeavesAlike, RestartCourse}
+use Rattle.restart_closing.specs.Closing.{ListedBelow, trans_of}
+use Rattle.claimed_logs.specs.Courses.{LeavesAlike, RestartCourse, RestartHanded, RestartOpen, StandsAlike}
 use Rattle.claimed_logs.specs.Found.{OpensKnown}
-use Rattle.claimed_logs.specs.Logs.{DownLogged, FreshLogged, GroupFailsLogged, LeavesOthers, LogCloses, LogsClaimed, LogsKnow, MemberLogged, OneLogged, RestartLogged, UpLogged}
+use Rattle.claimed_logs.specs.Logs.{ClosingLeaves, DownLogged, FreshLogged, GroupFailsLogged, LeavesOthers, LogCloses, LogsClaimed, LogsKnow, LogsLeave, MemberLogged, OneLogged, RestartLogged, UpLogged}
 use Rattle.claimed_logs.proofs.Alike.{Facts as AlikeFacts, fronts_begin}
 use Rattle.claimed_logs.proofs.Forward.{all_below, forward_begins, forward_on, new_forward}
 use Rattle.claimed_logs.proofs.Idle.{idle_begins}
@@ -68,6 +69,34 @@ logs_know c s w l at = on (slice_get s.members at) (l.each at)
     on None h = tt
     on (Some m) h = restart_known (log_of c.logs (at + 1)) w m.restart h.restarts
 
+-- ---- what each log leaves
+course_leaves : (log : List ℕ) (s : RestartState) (own : MarksState) → RestartCourse log s own → LeavesAlike log
+course_leaves log s own c = by c.goes
+  where
+    by : RestartOpen c.whole c.rest s own ⊎ RestartHanded c.whole c.rest s own → LeavesAlike log
+    by (inl o) = record { whole = c.whole; rest = c.rest; is = c.is; are = o.closes.whole; is_rest = o.closes.is_rest; alike = c.alike }
+    by (inr o) = record { whole = c.whole; rest = c.rest; is = c.is; are = o.locked.whole; is_rest = o.is_rest; alike = c.alike }
+
+restart_leaves : (log : List ℕ) (own : MarksState) (x : Option Restarting) → is_some x ≡ true → IfSome x (λ q. RestartCourse log q.resources.marks own) → LeavesAlike log
+restart_leaves log own None is c = absurd (never (sym is))
+restart_leaves log own (Some q) is c = course_leaves log q.resources.marks own c
+
+up_leaves : NothingIsRest → (log : List ℕ) (counter : ℕ) (s : MarksState) → UpLogged log counter s → LeavesAlike log
+up_leaves nothing log counter s up = record { whole = log; rest = []; is = sym (append-nil log); are = up.locked.whole; is_rest = nothing; alike = subst StandsAlike (append-nil log) (up.alike [] up.pend refl) }
+
+member_leaves : NothingIsRest → (f : Facility) (w : World) (k : ℕ) (log : List ℕ) (m : Member) (z : MemberStatus) → status_of f.lists.statuses k ≡ z → MemberStands f k m → MemberLogged f w k log m → LeavesAlike log
+member_leaves nothing f w k log m standing.Down is stood h = (h.down (ap is_live is)).leaves
+member_leaves nothing f w k log m standing.Up is stood h = up_leaves nothing log f.counter m.holds.marks (h.up is)
+member_leaves nothing f w k log m standing.Failed is stood h = (h.down (ap is_live is)).leaves
+member_leaves nothing f w k log m standing.Restarting is stood h = restart_leaves log m.holds.marks m.restart (stood.restarts is) h.course
+
+pub logs_leave : NothingIsRest → LogsLeave
+logs_leave nothing c s w t l at = on (slice_get s.members at) (t.stands at) (l.each at)
+  where
+    on : (o : Option Member) → IfSome o (MemberStands s.facility (at + 1)) → IfSome o (MemberLogged s.facility w (at + 1) (log_of c.logs (at + 1))) → IfSome o (λ (m : Member). LeavesAlike (log_of c.logs (at + 1)))
+    on None stood h = tt
+    on (Some m) stood h = member_leaves nothing s.facility w (at + 1) (log_of c.logs (at + 1)) m (status_of s.facility.lists.statuses (at + 1)) refl stood h
+
 -- ---- a log that leaves nothing open
 pub closes_claimed : OpenTell → (log : List ℕ) (w : World) (k : ℕ) → LogCloses log → LogClaimed log w k
 closes_claimed tell log w k closes records last = each (IsOpenIn records) (HasRows w k) none (open_trans records) (tell records)
@@ -75,10 +104,10 @@ closes_claimed tell log w k closes records last = each (IsOpenIn records) (HasRo
     none : (t : OpenTran) → IsOpenIn records t → HasRows w k t
     none t opened spot touched = absurd (never (sym (closes.closed last.start records (last_from log records last) t.id spot opened.numbered (opened.changed spot touched)) ∙ opened.unclosed))
 
-closes_alike : (log : List ℕ) → LogCloses log → OpensAlike log
-closes_alike log closes start back last begin other also id spot some changed = inl (closes.closed begin other also id spot some changed)
+closes_alike : (log : List ℕ) → LogCloses log → StandsAlike log
+closes_alike log closes = record { opens = λ start back last begin other also id spot some changed. inl (closes.closed begin other also id spot some changed); commits = closes.commits }
 
-closes_leaves : NothingIsRest → (log : List ℕ) → LogCloses log → LeavesAlike log
+pub closes_leaves : NothingIsRest → ClosingLeaves
 closes_leaves nothing log closes = record { whole = log; rest = []; is = sym (append-nil log); are = closes.whole; is_rest = nothing; alike = closes_alike log closes }
 
 pub record FreshFacts : Type 0 where

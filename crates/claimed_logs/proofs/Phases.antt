@@ -194,7 +194,7 @@ begun_course law log k (Some q) own leaves idle fresh = record {
   rest = leaves.rest;
   is = leaves.is;
   alike = leaves.alike;
-  goes = inl (record { pend = []; closes = law leaves.whole leaves.rest k q.resources.marks leaves.are leaves.is_rest leaves.alike fresh.marks; idle = idle });
+  goes = inl (record { pend = []; closes = law leaves.whole leaves.rest k q.resources.marks leaves.are leaves.is_rest leaves.alike.opens fresh.marks; idle = idle });
 }
 
 -- with no transaction

@@ -50,6 +50,8 @@ use Rattle.claimed_logs.specs.Logs.{FrontsAlike, LogBelow, UpLogged}
 use Rattle.claimed_logs.specs.Steps.{StillLogged, UpStepsLogged}
 use Rattle.claimed_logs.proofs.Alike.{Facts as AlikeFacts, fronts_forced, fronts_more}
 use Rattle.claimed_logs.proofs.Forward.{all_below, below_after, forward_after, forward_on, puts_unclosed}
+use Rattle.claimed_logs.specs.Commits.{commits_last}
+use Rattle.claimed_logs.proofs.Commits.{event_last}
 
 pub record Facts : Type 0 where
   pub alike : AlikeFacts
@@ -139,12 +141,12 @@ rest_all : (xs ys : List LogRecord) → ArePlain (xs ++ ys) → ArePlain ys
 rest_all [] ys h = h
 rest_all (x ∷ xs) ys h = rest_all xs ys h.1
 
-fronts_after : AlikeFacts → (b : Bool) (log : List ℕ) (pend new : List LogRecord) (s t : MarksState) → LogLocked log pend s → AllByRecursion IsAllowed new
+fronts_after : AlikeFacts → (b : Bool) (log : List ℕ) (pend new : List LogRecord) (s t : MarksState) → LogLocked log pend s → AllByRecursion IsAllowed new → commits_last new ≡ true
     → ((start : ℕ) (back : List LogRecord) → AreLastFrom log start back → (id : ℕ) (spot : Spot) → id ≢ 0 → has_changed new id spot ≡ true → is_closed (back ++ pend) id ≡ false)
     → LogLocked (log_after b log pend) (pend_after b pend new) t → FrontsAlike log pend → FrontsAlike (log_after b log pend) (pend_after b pend new)
-fronts_after facts true log pend new s t l allowed unclosed now alike = fronts_forced facts log pend alike
-fronts_after facts false log pend new s t l allowed unclosed now alike =
-    fronts_more facts log pend new l.whole l.allowed allowed l.plain (rest_all pend new now.plain) unclosed alike
+fronts_after facts true log pend new s t l allowed ordered unclosed now alike = fronts_forced facts log pend alike
+fronts_after facts false log pend new s t l allowed ordered unclosed now alike =
+    fronts_more facts log pend new l.whole l.allowed allowed l.plain (rest_all pend new now.plain) ordered unclosed alike
 
 own_still : Facts → (log : List ℕ) (m mid : Member) (u v : World) (place : ℕ) (s : Sent) (a : Answered) → Acts m u place s a v mid → is_failure a ≡ false → TellsLog log u.drive m.holds.marks.member
     → LogBelow u.facility.counter log → UpLogged log u.facility.counter m.holds.marks → StillLogged v.drive u.facility.counter v.facility.counter mid.holds.marks
@@ -157,6 +159,7 @@ own_still facts log m mid u v place s a e ok tells low l = subst (λ (z : Member
         locked = still.locked;
         counted = counted.counted;
         alike = fronts_after facts.alike (is_done a && is_append e.intent) log l.pend (event_records (begun e.happens.ready place).marks e.intent e.happens.plan a) m.holds.marks e.after.marks l.locked e.happens.allowed
+            (event_last (begun e.happens.ready place).marks e.intent e.happens.plan a)
             (puts_unclosed log l.pend (event_records (begun e.happens.ready place).marks e.intent e.happens.plan a) u.facility.counter v.facility.counter m.holds.marks e.after.marks low l.forward named) still.locked l.alike;
         forward = forward_after log l.pend (event_records (begun e.happens.ready place).marks e.intent e.happens.plan a) u.facility.counter v.facility.counter m.holds.marks e.after.marks low l.forward named facts.alike (is_done a && is_append e.intent)
             l.locked.whole l.locked.allowed l.locked.plain counted.rises (facts.forward u v m.holds e.after e.intent place s a e.happens);

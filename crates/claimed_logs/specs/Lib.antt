@@ -1,4 +1,5 @@
 pub mod Found
+pub mod Commits
 pub mod Courses
 pub mod Logs
 pub mod Failing

@@ -18,7 +18,7 @@ use Rattle.restart_marks.specs.State.{RestartState}
 use Rattle.restart_law.specs.Opens.{FewNeeds, OpensStand}
 use Rattle.restart_law.specs.Reads.{AreLast, ReadsTrue}
 use Rattle.restart_claims.specs.Claims.{OpensClaimed}
-use Rattle.restart_closing.specs.Closing.{ListedBelow, OpensAlike}
+use Rattle.restart_closing.specs.Closing.{ListedBelow}
 use Rattle.failed_logs.specs.Given.{AllClosed}
 use Rattle.failed_logs.specs.Given.{IsDown, Member}
 use Rattle.group_core.specs.Given.{GroupFails}
@@ -26,14 +26,15 @@ use Rattle.group_core.specs.Given.{CrewState}
 use Rattle.failed_logs.specs.Given.{LogLocked}
 use Rattle.failed_logs.specs.Logs.{LogClaimed}
 use Rattle.failed_logs.specs.Given.{LocksTied}
-use Rattle.claimed_logs.specs.Courses.{LeavesAlike, RestartCourse}
+use Rattle.claimed_logs.specs.Commits.{commits_last}
+use Rattle.claimed_logs.specs.Courses.{LeavesAlike, RestartCourse, StandsAlike}
 use Rattle.claimed_logs.specs.Found.{AllOpensKnown}
 
 -- ---- the log of a member
 
--- whatever front of these records is behind it, it leaves the same open wherever reading may begin
+-- whatever front of these records is behind it, it leaves the same open wherever reading may begin, and no transaction changes a row behind its Commit
 abbrev pub FrontsAlike : List ℕ → List LogRecord → Type 0
-FrontsAlike log pend = (front rest : List LogRecord) → pend ≡ front ++ rest → OpensAlike (log ++ log_bytes front)
+FrontsAlike log pend = (front rest : List LogRecord) → pend ≡ front ++ rest → StandsAlike (log ++ log_bytes front)
 
 -- No number by which a record of the log names its transaction is above this one, wherever reading may begin.
 abbrev pub LogBelow : ℕ → List ℕ → Type 0
@@ -93,12 +94,21 @@ pub record LogsClaimed (c : Contents) (s : CrewState) (w : World) : Type 0 where
 abbrev pub LogsKnow : Type 0
 LogsKnow = (c : Contents) (s : CrewState) (w : World) → LogsClaimed c s w → AllOpensKnown s w
 
+-- each log leaves the same open wherever reading may begin, and no transaction changes a row behind its Commit
+abbrev pub LogsLeave : Type 0
+LogsLeave = (c : Contents) (s : CrewState) (w : World) → LocksTied s w → LogsClaimed c s w → (at : ℕ) → IfSome (slice_get s.members at) (λ m. LeavesAlike (log_of c.logs (at + 1)))
+
 -- ---- where nothing is held, as at the start, and behind a group restart
 
--- the log is whole records, and closes all of which it has changed rows, wherever reading may begin
+-- the log is whole records, and closes all of which it has changed rows, wherever reading may begin; and none changes a row behind its Commit
 pub record LogCloses (log : List ℕ) : Type 0 where
   pub whole : AreWhole log
   pub closed : (start : ℕ) (back : List LogRecord) → AreLastFrom log start back → AllClosed back
+  pub commits : (start : ℕ) (back : List LogRecord) → AreLastFrom log start back → commits_last back ≡ true
+
+-- then it leaves nothing open
+abbrev pub ClosingLeaves : Type 0
+ClosingLeaves = (log : List ℕ) → LogCloses log → LeavesAlike log
 
 abbrev pub AllClose : Contents → CrewState → Type 0
 AllClose c s = (at : ℕ) → IfSome (slice_get s.members at) (λ m. LogCloses (log_of c.logs (at + 1)))

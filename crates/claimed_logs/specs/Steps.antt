@@ -20,7 +20,7 @@ use Rattle.restart_marks.specs.Adopt.{adopted_after}
 use Rattle.restart_marks.specs.declared.intent.RestartSent.{RestartSent}
 use Rattle.restart_marks.specs.State.{RestartState}
 use Rattle.restart_law.specs.Reads.{TellsLog as TellsRead}
-use Rattle.restart_closing.specs.Closing.{HasLog, ListedBelow, OpensAlike}
+use Rattle.restart_closing.specs.Closing.{HasLog, ListedBelow}
 use Rattle.restart_resources.specs.Events as event
 use Rattle.restart_resources.specs.Held as restart
 use Rattle.lock_protocol.specs.Machine.{World as Locks}
@@ -35,7 +35,7 @@ use Rattle.failed_logs.specs.Given.{AdoptsLeft, Steps, Takes}
 use Rattle.failed_logs.specs.Given.{Member}
 use Rattle.failed_logs.specs.Given.{has_failed}
 use Rattle.failed_logs.specs.Given.{is_restart}
-use Rattle.claimed_logs.specs.Courses.{LeavesNothing, RestartCourse}
+use Rattle.claimed_logs.specs.Courses.{LeavesNothing, RestartCourse, StandsAlike}
 use Rattle.claimed_logs.specs.Logs.{LogBelow, RestartLogged, UpLogged}
 
 -- ---- a member that is up
@@ -89,10 +89,10 @@ abbrev pub CourseHands : Type 0
 CourseHands = (log : List ℕ) (q rest : Restarting) (adopted : Option Adopted) (h k : Held)
     → IsInOrder q.resources.marks → FreeHoldNothing h.marks → NoneInSlots h.marks → Takes q adopted rest → AdoptsLeft adopted h k → RestartCourse log q.resources.marks h.marks → RestartCourse log rest.resources.marks k.marks
 
--- the rows of the log are locked, and it leaves the same open wherever reading may begin
+-- the rows of the log are locked, and it leaves the same open wherever reading may begin, as it did
 pub record LockedAlike (log : List ℕ) (s : MarksState) : Type 0 where
   pub locked : LogLocked log [] s
-  pub alike : OpensAlike log
+  pub alike : StandsAlike log
 
 -- so it is where nothing is left of the restart
 abbrev pub CourseEnds : Type 0

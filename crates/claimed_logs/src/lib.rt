@@ -8,7 +8,7 @@ ghost use Rattle.claimed_logs.specs.Beginning.{PhasesLogged};
 ghost use Rattle.claimed_logs.specs.Events.{RestartEventsLogged, RestingEventsLogged, UpEventsLogged};
 ghost use Rattle.claimed_logs.specs.Failing.{HandedBelow, HandedFailsLogged, RestartFailsLogged, RestartsStop, StopsBelow, UpFailsLogged};
 ghost use Rattle.claimed_logs.specs.Found.{AdoptionsFound};
-ghost use Rattle.claimed_logs.specs.Logs.{FreshLogged, GroupFailsLogged, LogsKnow, OneLogged};
+ghost use Rattle.claimed_logs.specs.Logs.{ClosingLeaves, FreshLogged, GroupFailsLogged, LogsKnow, LogsLeave, OneLogged};
 ghost use Rattle.claimed_logs.specs.Runs.{KnowingRunsStand};
 ghost use Rattle.claimed_logs.specs.Steps.{CourseBelow, CourseEnds, CourseHands, CourseSteps, EndsTell, HandedLogged, RestartStepsLogged, RestingStays, UpStepsLogged};
 ghost use Rattle.claimed_logs.specs.Taken.{EventsKeep};
@@ -53,11 +53,14 @@ pub fn knowing_runs<D: Disk, C: CacheFace, P>()
 }
 
 /// The logs have their claims, or their rows are locked, where no member holds anything and they leave nothing open. Then restarts
-/// know it; a failure of the group changes nothing of it, nor does an event of a member for the others.
+/// know it; a failure of the group changes nothing of it, nor does an event of a member for the others. Each log leaves the same open
+/// wherever reading of it may begin, and no transaction changes a row behind its Commit; so does a log that leaves nothing open.
 pub fn logs_claimed()
     ensures fresh { FreshLogged }
     ensures know { LogsKnow }
     ensures fails { GroupFailsLogged }
+    ensures leave { LogsLeave }
+    ensures closing { ClosingLeaves }
     ensures one { OneLogged }
 {
     appends_tell();
