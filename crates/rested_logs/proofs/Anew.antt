@@ -64,9 +64,9 @@ all_at P (x ∷ xs) all zero = all 0 x (omega arith)
 all_at P (x ∷ xs) all (suc at) = all_at P xs (λ k d low. all (suc k) d (omega (arith, low))) at
 
 pub groups_stand_anew : AnewFacts → GroupsStandAnew
-groups_stand_anew facts c d counter restart old new w t begins in_hand ends few_c few_d before left = record {
+groups_stand_anew facts c d counter restart old new w t begins in_hand ends few_c few_d before left low = record {
   moves = moves;
-  logs = record { claimed = facts.fresh d new moves.world moves.tied down there (λ at. close at (slice_get new.members at)); ends = facts.know d counter restart old new begins in_hand ends };
+  logs = record { claimed = facts.fresh d new moves.world moves.tied down there (λ at. close at (slice_get new.members at)) low; ends = facts.know d counter restart old new begins in_hand ends };
   others = λ at none. closes at;
 }
   where

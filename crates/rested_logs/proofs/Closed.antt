@@ -119,17 +119,17 @@ module _ (facts : Facts) where
   records_are : (k : ℕ) (bytes : List ℕ) (log : Log) → IsWholeLog k bytes log → (l : LeavesAlike bytes) → log.records ≡ l.are.records
   records_are k bytes log w l =
       same_records (parts_in bytes)
-          (record { records = log.records; size = length (log_bytes log.records); tail = length bytes - length (log_bytes log.records) })
-          (record { records = l.are.records; size = length (log_bytes l.are.records); tail = length l.rest })
-          (facts.sound bytes log.records w.records_are)
-          (facts.parts bytes (record { records = l.are.records; size = length (log_bytes l.are.records); tail = length l.rest }) (record {
-            rest = l.rest;
-            split = l.is ∙ ap (λ (z : List ℕ). z ++ l.rest) l.are.spelled;
-            allowed = l.are.allowed;
-            not_whole = l.is_rest;
-            size_is = refl;
-            tail_is = refl;
-          }))
+      (record { records = log.records; size = length (log_bytes log.records); tail = length bytes - length (log_bytes log.records) })
+      (record { records = l.are.records; size = length (log_bytes l.are.records); tail = length l.rest })
+      (facts.sound bytes log.records w.records_are)
+      (facts.parts bytes (record { records = l.are.records; size = length (log_bytes l.are.records); tail = length l.rest }) (record {
+        rest = l.rest;
+        split = l.is ∙ ap (λ (z : List ℕ). z ++ l.rest) l.are.spelled;
+        allowed = l.are.allowed;
+        not_whole = l.is_rest;
+        size_is = refl;
+        tail_is = refl;
+      }))
 
   -- what may be read from a Checkpoint on are last records
   begins_there : (start : ℕ) (back : List LogRecord) → AllByRecursion IsAllowed back → MayBeginAt start back → NamesOwn start (log_bytes back)
@@ -236,11 +236,10 @@ module _ (facts : Facts) where
 
   empty_whole : (k : ℕ) (bs : List (List ℕ)) → ((i : ℕ) → get_or bs i [] ≡ []) → AreWholeLogs k bs (empty_logs k bs)
   empty_whole k [] each = tt
-  empty_whole k (b ∷ bs) each =
-      (
-        record { member_is = refl; records_are = subst (λ (z : List ℕ). IsLog z []) (sym (each 0)) (whole_log [] tt); length_is = refl; tail_is = ap length (sym (each 0)); rising = tt },
-        empty_whole (k + 1) bs (λ i. each (suc i)),
-      )
+  empty_whole k (b ∷ bs) each = (
+    record { member_is = refl; records_are = subst (λ (z : List ℕ). IsLog z []) (sym (each 0)) (whole_log [] tt); length_is = refl; tail_is = ap length (sym (each 0)); rising = tt },
+    empty_whole (k + 1) bs (λ i. each (suc i)),
+  )
 
   pub empty_leave : ClosingLeaves → EmptyLeaveClosed
   empty_leave closing c none = alike_leave c (empty_logs 1 c.logs) (empty_whole 1 c.logs at) (λ i. closing (log_of c.logs (i + 1)) (subst LogCloses (sym (none i)) empty_closes))

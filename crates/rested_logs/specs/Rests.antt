@@ -13,7 +13,7 @@ use Rattle.lock_protocol.specs.Machine.{World}
 use Rattle.group_core.specs.Given.{BeginsAnew, CrewState}
 use Rattle.failed_logs.specs.Given.{LocksTied, Moves, OfGroup}
 use Rattle.claimed_logs.specs.Courses.{LeavesAlike}
-use Rattle.claimed_logs.specs.Logs.{LogCloses, LogsClaimed}
+use Rattle.claimed_logs.specs.Logs.{LogBelow, LogCloses, LogsClaimed}
 use Rattle.claimed_logs.specs.Taken.{LogsStand}
 
 -- ---- where a group restart begins
@@ -56,4 +56,4 @@ pub record StandsAnew (d : Contents) (old new : CrewState) (w : World) : Type 0 
 abbrev pub GroupsStandAnew : Type 0
 GroupsStandAnew = (c d : Contents) (counter : ℕ) (restart : Restart) (old new : CrewState) (w : World)
     → LocksTied old w → BeginsAnew counter old new → old.restart ≡ Some restart → EndsBehind restart d → length c.logs ≡ 32 → length d.logs ≡ 32
-    → LeavesOutClosed c → IsLeft (Ok (state.Done counter)) c d → StandsAnew d old new w
+    → LeavesOutClosed c → IsLeft (Ok (state.Done counter)) c d → ((at : ℕ) → LogBelow new.facility.counter (log_of d.logs (at + 1))) → StandsAnew d old new w
