@@ -32,6 +32,7 @@ use Rattle.group_core.specs.Given.{CrewState}
 use Rattle.failed_logs.specs.Given.{LockedBegins}
 use Rattle.failed_logs.specs.Logs.{LogClaimed}
 use Rattle.failed_logs.specs.Given.{LocksTied, MemberStands, RestartInHand}
+use Rattle.log_trans.specs.declared.opened.OpenTran.{OpenTran}
 use Rattle.restart_closing.specs.Closing.{ListedBelow, trans_of}
 use Rattle.claimed_logs.specs.Courses.{LeavesAlike, RestartCourse, RestartHanded, RestartOpen, StandsAlike}
 use Rattle.claimed_logs.specs.Found.{OpensKnown}

@@ -46,12 +46,12 @@ use Rattle.failed_logs.specs.Given.{is_failure}
 use Rattle.group_logs.specs.Changes.{MadeGo}
 use Rattle.group_logs.specs.Logs.{IsNumbered, LogGoes, OneGoes}
 use Rattle.failed_logs.specs.Given.{ArePlain}
-use Rattle.claimed_logs.specs.Commits.{commits_last}
 use Rattle.claimed_logs.specs.Logs.{FrontsAlike, LogBelow, UpLogged}
 use Rattle.claimed_logs.specs.Steps.{StillLogged, UpStepsLogged}
 use Rattle.claimed_logs.proofs.Alike.{Facts as AlikeFacts, fronts_forced, fronts_more}
-use Rattle.claimed_logs.proofs.Commits.{event_last}
 use Rattle.claimed_logs.proofs.Forward.{all_below, below_after, forward_after, forward_on, puts_unclosed}
+use Rattle.claimed_logs.specs.Commits.{commits_last}
+use Rattle.claimed_logs.proofs.Commits.{event_last}
 
 pub record Facts : Type 0 where
   pub alike : AlikeFacts

@@ -126,10 +126,10 @@ module _ {C D P : Type 0} (directory : C → Directory) (alive : D → Bool) (co
 
   -- ---- an event while a group restart is in hand
   module _ (facts : Facts) (old new : Group D C P) (event : ℕ) (taken : Takes directory alive contents count old event new) (given : IsGiven directory contents old new) (s : StandsLogged directory contents old) (in_hand : is_some old.crew.restart ≡ true) where
-    before : CrewState
+    abbrev before : CrewState
     before = crew_state directory old.crew
 
-    after : CrewState
+    abbrev after : CrewState
     after = crew_state directory new.crew
 
     -- it is in hand still, and the members are as they were
@@ -217,13 +217,11 @@ module _ {C D P : Type 0} (directory : C → Directory) (alive : D → Bool) (co
   all_go : Facts → EventsKeep P directory alive contents count → ((disk : D) → is_some (contents disk) ≡ true) → (events : List ℕ) (old new : Group D C P) (runs : RunsFresh directory alive contents count old events new)
       → AllGiven directory alive contents count old events new runs → IsLawful new → StandsLogged directory contents old → Reached events old new runs
   all_go facts law tells [] old new runs given lawful s = record { all = tt; stands = stands_as old new (looked_state old new runs) (ap (λ (z : Group D C P). contents z.disk) runs.rest) s }
-  all_go facts law tells (event ∷ events) old new runs given lawful s = record { all = (λ w b. record { world = s.world; stands = s.stands; known = s.known }, rest.all); stands = rest.stands }
-    where
-      mid : StandsLogged directory contents runs.1.mid
-      mid = stands_as old runs.1.mid (looked_state old runs.1.mid runs.1.looked) (ap (λ (z : Group D C P). contents z.disk) runs.1.looked.rest) s
-
-      rest : Reached events runs.0 new runs.2
-      rest = all_go facts law tells events runs.0 new runs.2 given.1 lawful (event_goes facts law tells runs.1.mid runs.0 event runs.1.takes (lawful_before events runs.0 new runs.2 lawful) given.0 mid)
+  all_go facts law tells (event ∷ events) old new runs given lawful s =
+      let mid : StandsLogged directory contents runs.1.mid = stands_as old runs.1.mid (looked_state old runs.1.mid runs.1.looked) (ap (λ (z : Group D C P). contents z.disk) runs.1.looked.rest) s in
+      let rest : Reached events runs.0 new runs.2 =
+      all_go facts law tells events runs.0 new runs.2 given.1 lawful (event_goes facts law tells runs.1.mid runs.0 event runs.1.takes (lawful_before events runs.0 new runs.2 lawful) given.0 mid) in
+      record { all = (λ w b. record { world = s.world; stands = s.stands; known = s.known }, rest.all); stands = rest.stands }
 
   pub runs_stand : Facts → EventsKeep P directory alive contents count → KnowingRunsStand P directory alive contents count → LoggedRunsStand P directory alive contents count
   runs_stand facts law knowing tells first events last fresh counted s runs given lawful =
