@@ -9,10 +9,9 @@ use Rattle.disk_restart.specs.Ends.{EndsBehind}
 use Rattle.restart_soundness.specs.Closing.{ClosesAll, RestsClose, RestsClosed}
 use Rattle.restart_soundness.specs.Left_out.{LeavesOutClosed}
 use Rattle.restart_soundness.specs.Runs.{IsLeft}
-use Rattle.lock_protocol.specs.Machine.{World}
-use Rattle.group_core.specs.Given.{BeginsAnew, CrewState}
+use Rattle.group_core.specs.Given.{CrewState}
 use Rattle.group_logs.specs.Known.{AnewKnow}
-use Rattle.failed_logs.specs.Given.{IsDown, LocksTied, Member, Moves, OfGroup}
+use Rattle.failed_logs.specs.Given.{IsDown, Member}
 use Rattle.claimed_logs.specs.Logs.{FreshLogged, LogCloses}
 use Rattle.rested_logs.specs.Rests.{ClosingCloses, EmptyCloses, GroupsStandAnew, RestsLogged, StandsAnew}
 use Rattle.rested_logs.proofs.Closed.{last_is}
@@ -20,7 +19,6 @@ use Rattle.rested_logs.proofs.Closed.{last_is}
 pub record AnewFacts : Type 0 where
   pub empty : EmptyCloses
   pub rests : RestsClose
-  pub anew : (old new : CrewState) (counter : ℕ) (w : World) → LocksTied old w → BeginsAnew counter old new → Moves OfGroup old new w
   pub know : AnewKnow
   pub fresh : FreshLogged
 
@@ -65,14 +63,10 @@ all_at P (x ∷ xs) all (suc at) = all_at P xs (λ k d low. all (suc k) d (omega
 
 pub groups_stand_anew : AnewFacts → GroupsStandAnew
 groups_stand_anew facts c d counter restart old new w t begins in_hand ends few_c few_d before left below = record {
-  moves = moves;
-  logs = λ v beside. record { claimed = facts.fresh d new v beside down there (λ at. close at (slice_get new.members at)) below; ends = facts.know d counter restart old new begins in_hand ends };
+  logs = record { claimed = facts.fresh d new w t down there (λ at. close at (slice_get new.members at)) below; ends = facts.know d counter restart old new begins in_hand ends };
   others = λ at none. closes at;
 }
   where
-    moves : Moves OfGroup old new w
-    moves = facts.anew old new counter w t begins
-
     closes : (at : ℕ) → LogCloses (log_of d.logs (at + 1))
     closes = rests_logged facts c d counter (few_c ∙ sym few_d) before left
 
@@ -87,4 +81,4 @@ groups_stand_anew facts c d counter restart old new w t begins in_hand ends few_
     down at = subst (λ (z : Sizes). IfSome (slice_get new.members at) (IsDown z)) (sym sizes) (all_at (IsDown old.sizes) new.members begins.members at)
 
     there : length new.members ≤ length d.logs
-    there = let count = moves.tied.count in let most = moves.tied.few in omega (arith, count, most, few_d)
+    there = let count = t.count in let most = t.few in omega (arith, count, most, few_d)

@@ -11,7 +11,7 @@ use Rattle.restart_soundness.specs.Left_out.{LeavesOutClosed}
 use Rattle.restart_soundness.specs.Runs.{IsLeft}
 use Rattle.lock_protocol.specs.Machine.{World}
 use Rattle.group_core.specs.Given.{BeginsAnew, CrewState}
-use Rattle.failed_logs.specs.Given.{LocksTied, Moves, OfGroup}
+use Rattle.failed_logs.specs.Given.{LocksTied}
 use Rattle.claimed_logs.specs.Courses.{LeavesAlike}
 use Rattle.claimed_logs.specs.Logs.{LogBelow, LogCloses, LogsClaimed}
 use Rattle.claimed_logs.specs.Taken.{LogsStand}
@@ -46,15 +46,13 @@ ClosingCloses = (log : List ℕ) → ClosesAll log → LogCloses log
 abbrev pub RestsLogged : Type 0
 RestsLogged = (c d : Contents) (counter : ℕ) → length c.logs ≡ length d.logs → LeavesOutClosed c → IsLeft (Ok (state.Done counter)) c d → (at : ℕ) → LogCloses (log_of d.logs (at + 1))
 
--- Moves of the world of locks lead to one beside which the group stands that begins anew; its logs stand beside any such world, and those of which no
--- member is there leave nothing open.
-pub record StandsAnew (d : Contents) (old new : CrewState) (w : World) : Type 0 where
-  pub moves : Moves OfGroup old new w
-  pub logs : (v : World) → LocksTied new v → LogsStand d new v
-  pub others : OthersClose d new
+-- The logs of a group that begins anew stand beside its world of locks, and those of which no member is there leave nothing open.
+pub record StandsAnew (d : Contents) (s : CrewState) (w : World) : Type 0 where
+  pub logs : LogsStand d s w
+  pub others : OthersClose d s
 
 -- if no record names its transaction by a number above the counter
 abbrev pub GroupsStandAnew : Type 0
 GroupsStandAnew = (c d : Contents) (counter : ℕ) (restart : Restart) (old new : CrewState) (w : World)
-    → LocksTied old w → BeginsAnew counter old new → old.restart ≡ Some restart → EndsBehind restart d → length c.logs ≡ 32 → length d.logs ≡ 32
-    → LeavesOutClosed c → IsLeft (Ok (state.Done counter)) c d → ((at : ℕ) → LogBelow new.facility.counter (log_of d.logs (at + 1))) → StandsAnew d old new w
+    → LocksTied new w → BeginsAnew counter old new → old.restart ≡ Some restart → EndsBehind restart d → length c.logs ≡ 32 → length d.logs ≡ 32
+    → LeavesOutClosed c → IsLeft (Ok (state.Done counter)) c d → ((at : ℕ) → LogBelow new.facility.counter (log_of d.logs (at + 1))) → StandsAnew d new w

@@ -10,7 +10,6 @@ ghost use Rattle.rested_logs.specs.Rests.{AlikeLeaveClosed, ClosingCloses, Empty
 use cache_structure::CacheFace;
 use claimed_logs::logs_claimed;
 use ds_disk::Disk;
-use failed_logs::groups_go;
 use group_logs::{groups_log, known_ends};
 use log_appends::{appends_tell, rests_tell};
 use log_record::{log_laws, reading_laws};
@@ -43,7 +42,6 @@ pub fn logs_rest()
 {
     logs_leave_closed();
     rest_laws();
-    groups_go();
     known_ends();
     logs_claimed();
 }

@@ -6,7 +6,6 @@ returns c =
     let facts : AnewFacts = record {
       empty = c.logs_leave_closed.ensures.none;
       rests = c.rest_laws.ensures;
-      anew = c.groups_go.ensures.anew;
       know = c.known_ends.ensures.anew;
       fresh = c.logs_claimed.ensures.fresh;
     } in
