@@ -26,7 +26,8 @@ pub fn load<D: Disk>(disk: &mut D, id: PageId, page: &mut Page) -> Result<(), Di
     Ok(())
 }
 
-fn is_blank(page: &Page) -> bool
+/// Whether all its bytes are zeros.
+pub fn is_blank(page: &Page) -> bool
     ensures { result ≡ is_zeros page.now }
 {
     page.bytes().iter().all(|byte| *byte == 0)
