@@ -1,5 +1,5 @@
 -- The pages of a disk beside what records so far have made of pages of zeros: which of them they have made.
-use Rattle.std.specs.Prelude.{◌≡◌, ℕ, Bool, true, false, ◌||◌, if◌then◌else◌, List, [], ◌∷◌, ◌++◌, Option, None, Some, is_some, IsTrue}
+use Rattle.std.specs.Prelude.{◌≡◌, ◌↔◌, ℕ, Bool, true, false, ◌||◌, if◌then◌else◌, List, [], ◌∷◌, ◌++◌, Option, None, Some, is_some, IsTrue}
 use Rattle.std.specs.Str.{bytes_eq}
 use Rattle.std.specs.List.{list_any}
 use Rattle.std.specs.Map.{lookup}
@@ -7,8 +7,7 @@ use Rattle.std.specs.BTreeMap.{is_at}
 use Rattle.ds_base.specs.declared.names.PageId.{PageId}
 use Rattle.ds_model.specs.declared.log.LogRecord.{LogRecord}
 use Rattle.page_format.specs.Fields.{lrsn_of}
-use Rattle.page_format.specs.Header.{is_zeros}
-use Rattle.page_images.specs.Images.{Images}
+use Rattle.page_images.specs.Images.{Images, zeros}
 use Rattle.page_chain.specs.Chains.{touches, IsVersion}
 use Rattle.page_redo.specs.Pages.{has_page}
 use Rattle.page_records.specs.Pages.{page_cmp}
@@ -54,7 +53,7 @@ pub record HaveMarks (pages : List PageId) (old new : MetPages) : Type 0 where
 -- what a page is marked by before a record changes it
 pub record IsFresh (page : List ℕ) (m : Mark) : Type 0 where
   pub number : m.lrsn ≡ lrsn_of (current page)
-  pub met : m.is_met ≡ is_zeros (current page)
+  pub met : IsTrue m.is_met ↔ (current page ≡ zeros)
 
 -- whether the page on disk, which bears this number, is now the one that was made
 abbrev pub IsSameNow : List ℕ → List ℕ → ℕ → Bool → Type 0
