@@ -28,12 +28,12 @@ use denote.Triple.Spec.{Meets, triple_of}
 use denote.Triple.Table.{entered}
 use denote.Triple.Walked.{says, Stays, walk_of, ends_at, walk_Meets}
 use Rattle.std.specs.contracts.marker.PhantomData as Mark
-use Rattle.turn_story.proofs.Made.{none, one, one_made}
-use Rattle.turn_story.specs.contracts.history.History as History
-use Rattle.turn_story.specs.contracts.history.History.new as F
-use Rattle.turn_story.specs.contracts.history.History.new.Key.{name as #self}
-use Rattle.turn_story.proofs.history.History.new.Statement as stated
-use Rattle.turn_story.proofs.history.History.new.Code as code
+use Rattle.past_items.proofs.Made.{none, one, one_made}
+use Rattle.past_items.specs.contracts.past.Past as Past
+use Rattle.past_items.specs.contracts.past.Past.new as F
+use Rattle.past_items.specs.contracts.past.Past.new.Key.{name as #self}
+use Rattle.past_items.proofs.past.Past.new.Statement as stated
+use Rattle.past_items.proofs.past.Past.new.Code as code
 
 module _ (E : RattleType) where
   abbrev args : Args
@@ -65,7 +65,7 @@ module _ (E : RattleType) where
       walks =
           let a = z.0.3 in
           let vss = z.0.4 in
-          let made : (History.the_row (param 0 E)).Denot =
+          let made : (Past.the_row (param 0 E)).Denot =
           record { of = record {}; items = [] } in
           qed 𝓛 ((raw toks ⊛ ‵ (owns (types_at ended.signature.params z.0.0) a vss)) ∷ raw ((held z.0.0 a).requires z.1) ∷ []) ∵
           keep ! (0 ∷ []) $ split ! $ keep ! (0 ∷ []) $

@@ -30,12 +30,12 @@ use denote.Triple.Spec.{Meets, triple_of}
 use denote.Triple.Table.{entered}
 use denote.Triple.Walked.{says, Stays, stay_dropped, walk_of, ends_at, walk_Meets, Goes-dropped}
 use Rattle.std.specs.contracts.marker.PhantomData as Mark
-use Rattle.turn_story.proofs.Made.{none, one, one_made}
-use Rattle.turn_story.specs.contracts.history.History as History
-use Rattle.turn_story.specs.contracts.history.History.and as F
-use Rattle.turn_story.specs.contracts.history.History.and.Key.{name as #self}
-use Rattle.turn_story.proofs.history.History.and.Statement as stated
-use Rattle.turn_story.proofs.history.History.and.Code as code
+use Rattle.past_items.proofs.Made.{none, one, one_made}
+use Rattle.past_items.specs.contracts.past.Past as Past
+use Rattle.past_items.specs.contracts.past.Past.and as F
+use Rattle.past_items.specs.contracts.past.Past.and.Key.{name as #self}
+use Rattle.past_items.proofs.past.Past.and.Statement as stated
+use Rattle.past_items.proofs.past.Past.and.Code as code
 
 module _ (E : RattleType) where
   abbrev args : Args
@@ -49,7 +49,7 @@ module _ (E : RattleType) where
 
   abbrev stayed : Stays ended.signature.params ended.kept
   stayed = (
-    stay_dropped (RefOf (0 ∷ []) tt (plain (λ _. History.the_row (param 0 E))) (λ _. tt)) yes,
+    stay_dropped (RefOf (0 ∷ []) tt (plain (λ _. Past.the_row (param 0 E))) (λ _. tt)) yes,
     (stay_dropped (RefOf (1 ∷ []) tt (plain (λ _. param 0 E)) (λ _. tt)) yes, tt),
   )
 
@@ -70,7 +70,7 @@ module _ (E : RattleType) where
       walks =
           let a = z.0.3 in
           let vss = z.0.4 in
-          let made : (History.the_row (param 0 E)).Denot =
+          let made : (Past.the_row (param 0 E)).Denot =
           record { of = record {}; items = a.0.now.items ++ a.1.0.now ∷ [] } in
           qed 𝓛 ((raw toks ⊛ ‵ (owns (types_at ended.signature.params z.0.0) a vss)) ∷ raw ((held z.0.0 a).requires z.1) ∷ []) ∵
           keep ! (0 ∷ []) $ split ! $ move ! (1 ∷ []) $
@@ -91,7 +91,7 @@ module _ (E : RattleType) where
     meets : (𝓣 : Tables 𝓤 H) → Meets 𝓛 ended.signature (WpFn 𝓤 H 𝓣.C 𝓣.Λ function) (closing 𝓛 ended held)
     meets 𝓣 =
         walk_Meets 𝓛 ended stayed (
-          Goes-dropped 𝓛 3 (RefOf (0 ∷ []) tt (plain (λ _. History.the_row (param 0 E))) (λ _. tt)) yes (λ κs x f. refl),
+          Goes-dropped 𝓛 3 (RefOf (0 ∷ []) tt (plain (λ _. Past.the_row (param 0 E))) (λ _. tt)) yes (λ κs x f. refl),
           (Goes-dropped 𝓛 3 (RefOf (1 ∷ []) tt (plain (λ _. param 0 E)) (λ _. tt)) yes (λ κs x f. refl), tt),
         ) held
         (WpFn 𝓤 H 𝓣.C 𝓣.Λ function) (WpFn-mono 𝓤 H 𝓛.laws 𝓣 function) (walks 𝓣.C 𝓣.Λ)
