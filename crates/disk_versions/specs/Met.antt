@@ -1,5 +1,5 @@
 -- The pages of a disk beside what records so far have made of pages of zeros: which of them they have made.
-use Rattle.std.specs.Prelude.{◌≡◌, ◌↔◌, ℕ, Bool, true, false, ◌||◌, if◌then◌else◌, List, [], ◌∷◌, ◌++◌, Option, None, Some, is_some, IsTrue}
+use Rattle.std.specs.Prelude.{◌≡◌, ◌↔◌, ℕ, Bool, true, false, ◌||◌, cond, if◌then◌else◌, List, [], ◌∷◌, ◌++◌, Option, None, Some, is_some, IsTrue}
 use Rattle.std.specs.Str.{bytes_eq}
 use Rattle.std.specs.List.{list_any}
 use Rattle.std.specs.Map.{lookup}
@@ -44,6 +44,10 @@ abbrev pub AreMet : Images → MetPages → Type 0
 AreMet at m = (id : PageId) → HasPage m.made.range id → IsKnown id m.made.records m.made.records (at id) (mark_of m id)
 
 -- ---- steps
+
+-- the page has this mark now
+abbrev pub IsPut : PageId → Mark → MetPages → MetPages → Type 0
+IsPut id mark old new = (q : PageId) → mark_of new q ≡ cond (is_at (page_cmp id) q) (Some mark) (mark_of old q)
 
 -- marks stay, and these pages have some
 pub record HaveMarks (pages : List PageId) (old new : MetPages) : Type 0 where

@@ -9,10 +9,10 @@ ghost use Rattle.page_images.specs.Images.{Images};
 ghost use Rattle.redone_pages.specs.Ranges.{HasPage};
 ghost use Rattle.sound_disk.specs.Versions.{current};
 ghost use Rattle.disk_versions.specs.Reading.{Reads};
-ghost use Rattle.disk_versions.specs.Met.{AreMet, HaveMarks, IsFresh, IsSameNow, IsMetNow, MeetsAlso};
+ghost use Rattle.disk_versions.specs.Met.{AreMet, IsPut, HaveMarks, IsFresh, IsSameNow, IsMetNow, MeetsAlso};
 
 use crate::page::{is_blank, load};
-use ds_base::{Lrsn, PageId};
+use ds_base::{Lrsn, NoMemory, PageId};
 use ds_disk::{Disk, DiskError};
 use ds_model::LogRecord;
 use page_format::Page;
@@ -105,17 +105,28 @@ impl MetPages {
         }
     }
 
+    fn put(&mut self, id: PageId, mark: Mark) -> Result<(), NoMemory>
+        ensures made { self.new.made ≡ self.old.made }
+        ensures put { OnOk result (IsPut id mark self.old self.new) }
+    {
+        self.marks.insert(id, mark)?;
+        Ok(())
+    }
+
     // Marks the page, if it is one of the tables and has no mark.
     fn mark<D: Disk>(&mut self, alloc: Global, disk: &mut D, id: PageId) -> Result<(), DiskError>
         ensures made { self.new.made ≡ self.old.made }
         ensures there { OnOk result (HaveMarks (id ∷ []) self.old self.new) }
         ensures met { Reads (D.contents disk.old) (D.contents disk.new) (D.faults disk.old) (D.faults disk.new) (λ _ c. AreMet (page_at c.pages) self.old → AreMet (page_at c.pages) self.new) result }
     {
-        if !self.made.range().has_page(id) || self.marks.get(&id).is_some() {
+        if !self.made.range().has_page(id) {
+            return Ok(());
+        }
+        if self.marks.get(&id).is_some() {
             return Ok(());
         }
         let mark = fresh_mark(alloc, disk, id)?;
-        self.marks.insert(id, mark)?;
+        self.put(id, mark)?;
         Ok(())
     }
 
@@ -165,7 +176,8 @@ impl MetPages {
             return Ok(());
         };
         let is_met = self.is_met(alloc, disk, id, mark)?;
-        self.marks.insert(id, Mark { lrsn: mark.lrsn, is_met })?;
+        let lrsn = mark.lrsn;
+        self.put(id, Mark { lrsn, is_met })?;
         Ok(())
     }
 
