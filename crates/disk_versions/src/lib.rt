@@ -15,4 +15,4 @@ pub use met::{Mark, MetPages};
 pub use range::check_range;
 pub use renewal::must_renew;
 pub use set::{Placing, check_set};
-pub use sets::{find_unplaced, sets_laws};
+pub use sets::{find_unplaced, placing_laws, sets_laws};

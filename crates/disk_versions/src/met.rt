@@ -15,6 +15,7 @@ use crate::page::{is_blank, load};
 use ds_base::{Lrsn, NoMemory, PageId};
 use ds_disk::{Disk, DiskError};
 use ds_model::LogRecord;
+use page_chain::chain_laws;
 use page_format::Page;
 use page_redo::pages_of;
 use redone_pages::{RedonePages, TableRange};
@@ -119,6 +120,7 @@ impl MetPages {
         ensures there { OnOk result (HaveMarks (id ∷ []) self.old self.new) }
         ensures met { Reads (D.contents disk.old) (D.contents disk.new) (D.faults disk.old) (D.faults disk.new) (λ _ c. AreMet (page_at c.pages) self.old → AreMet (page_at c.pages) self.new) result }
     {
+        chain_laws();
         if !self.made.range().has_page(id) {
             return Ok(());
         }
@@ -209,6 +211,7 @@ impl MetPages {
         ensures range { self.new.made.range ≡ self.old.made.range }
         ensures met { Reads (D.contents disk.old) (D.contents disk.new) (D.faults disk.old) (D.faults disk.new) (λ _ c. AreMet (page_at c.pages) self.old → AreMet (page_at c.pages) self.new) result }
     {
+        chain_laws();
         let pages = pages_of(alloc, it)?;
         self.mark_all(alloc, disk, pages.as_slice())?;
         self.made.take(alloc, it)?;

@@ -15,6 +15,7 @@ use crate::met::{MetPages, renew_old};
 use crate::page::{Judged, is_blank, load};
 use ds_base::PageId;
 use ds_disk::{Disk, DiskError};
+use page_chain::chain_laws;
 use page_format::Page;
 
 fn has_header(id: PageId, renews: bool, page: &Page) -> bool
@@ -28,6 +29,7 @@ fn is_version(met: &MetPages, id: PageId, page: &Page) -> bool
     requires { HasPage met.now.made.range id }
     ensures { (at : Images) → AreMet at met.now → page.now ≡ current (at id) → (IsTrue result ↔ IsVersion id met.now.made.records page.now) }
 {
+    chain_laws();
     match met.marks.get(&id) {
         Some(mark) => mark.is_met,
         None => is_blank(page),
