@@ -9,7 +9,7 @@ ghost use Rattle.page_images.specs.Images.{Images};
 ghost use Rattle.redone_pages.specs.Ranges.{HasPage};
 ghost use Rattle.sound_disk.specs.Versions.{current};
 ghost use Rattle.disk_versions.specs.Reading.{Reads};
-ghost use Rattle.disk_versions.specs.Met.{AreMet, IsPut, HaveMarks, IsFresh, IsSameNow, IsMetNow, MeetsAlso};
+ghost use Rattle.disk_versions.specs.Met.{mark_of, AreMet, IsPut, HaveMarks, IsFresh, IsSameNow, IsMetNow, MeetsAlso};
 
 use crate::page::{is_blank, load};
 use ds_base::{Lrsn, NoMemory, PageId};
@@ -114,6 +114,15 @@ impl MetPages {
         Ok(())
     }
 
+    fn mark_of(&self, id: PageId) -> Option<Mark>
+        ensures { result ≡ mark_of self.now id }
+    {
+        match self.marks.get(&id) {
+            Some(mark) => Some(*mark),
+            None => None,
+        }
+    }
+
     // Marks the page, if it is one of the tables and has no mark.
     fn mark<D: Disk>(&mut self, alloc: Global, disk: &mut D, id: PageId) -> Result<(), DiskError>
         ensures made { self.new.made ≡ self.old.made }
@@ -124,7 +133,7 @@ impl MetPages {
         if !self.made.range().has_page(id) {
             return Ok(());
         }
-        if self.marks.get(&id).is_some() {
+        if self.mark_of(id).is_some() {
             return Ok(());
         }
         let mark = fresh_mark(alloc, disk, id)?;
@@ -174,7 +183,7 @@ impl MetPages {
         if !self.made.range().has_page(id) {
             return Ok(());
         }
-        let Some(mark) = self.marks.get(&id).copied() else {
+        let Some(mark) = self.mark_of(id) else {
             return Ok(());
         };
         let is_met = self.is_met(alloc, disk, id, mark)?;
