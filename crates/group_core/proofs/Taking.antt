@@ -7,6 +7,7 @@ use Rattle.script_fates.specs.Fated.{FatesState}
 use Rattle.group_crew.specs.declared.crew.Crew.{Crew}
 use Rattle.group_crew.specs.Crews.{Keeps, Looks, unlooked}
 use Rattle.group_crew.specs.Happening.{ComesAt, MemberPart, Stepped, member_at, world_of}
+use Rattle.group_crew.specs.States.{known_by}
 use Rattle.group_core.specs.declared.fault.RunFault.{RunFault}
 use Rattle.group_core.specs.declared.fault.RunFault.TheVariants as fault
 use Rattle.group_core.specs.declared.group.Group.{Group}
@@ -39,14 +40,23 @@ member_unlooked (part ∷ parts) (suc k) = member_unlooked parts k
 pub same_member : {C P : Type 0} (mid new : Crew C P) (k : ℕ) → Looks mid new → member_at new.parts.items k ≡ member_at mid.parts.items k
 same_member mid new k looks = member_unlooked new.parts.items k ∙ (ap (λ parts. member_at parts k) looks.parts ∙ sym (member_unlooked mid.parts.items k))
 
+known_unlooked : {P : Type 0} (parts : List (MemberPart P)) → map known_by parts ≡ map known_by (map unlooked parts)
+known_unlooked [] = refl
+known_unlooked (part ∷ parts) = λ i. known_by part ∷ known_unlooked parts i
+
+-- nor does it change what they know
+same_known : {C P : Type 0} (mid new : Crew C P) → Looks mid new → map known_by new.parts.items ≡ map known_by mid.parts.items
+same_known mid new looks = known_unlooked new.parts.items ∙ (ap (map known_by) looks.parts ∙ sym (known_unlooked mid.parts.items))
+
 pub stepped_at : {C D P : Type 0} (directory : C → Directory) (alive : D → Bool) (contents : D → Option Contents) (old : Crew C P) (disk : D) (at choice place : ℕ) (stepped : Stepped) (mid : Crew C P) (left : D)
     → ComesAt old.script old.progress.begun old.sizes.sizes choice (member_at old.parts.items at) (world_of directory alive contents old.facility disk) old.fates place stepped (member_at mid.parts.items at) (world_of directory alive contents mid.facility left) mid.fates
-    → ((k : ℕ) → k ≢ at → member_at mid.parts.items k ≡ member_at old.parts.items k) → Keeps old mid
+    → ((k : ℕ) → k ≢ at → member_at mid.parts.items k ≡ member_at old.parts.items k) → Keeps old mid → map known_by mid.parts.items ≡ map known_by old.parts.items
     → mid ≡ record old { facility = mid.facility; parts = mid.parts; fates = mid.fates; is_own_stale = mid.is_own_stale; was_half = mid.was_half } → StepsAt directory alive contents old disk at choice place stepped mid left
-stepped_at {C} {D} {P} directory alive contents old disk at choice place stepped mid left comes others keeps rest = record {
+stepped_at {C} {D} {P} directory alive contents old disk at choice place stepped mid left comes others keeps known rest = record {
   comes = comes;
   others = others;
   keeps = keeps;
+  known = known;
   groupfails = ap (λ (crew : Crew C P). crew.progress.groupfails) rest;
   sizes = ap (λ (crew : Crew C P). crew.sizes) rest;
 }
@@ -71,6 +81,7 @@ looked {C} {D} {P} directory alive contents old disk at choice place stepped mid
           (subst (λ m. ComesAt old.script old.progress.begun old.sizes.sizes choice (member_at old.parts.items at) (world_of directory alive contents old.facility disk) old.fates place stepped m (world_of directory alive contents mid.facility left) mid.fates) member steps.comes));
       others = λ k other. same_member mid new k looks ∙ steps.others k other;
       keeps = kept old mid new steps.keeps looks;
+      known = same_known mid new looks ∙ steps.known;
       groupfails = ap (λ (crew : Crew C P). crew.progress.groupfails) looks.rest ∙ steps.groupfails;
       sizes = ap (λ (crew : Crew C P). crew.sizes) looks.rest ∙ steps.sizes;
     }

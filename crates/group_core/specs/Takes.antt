@@ -1,5 +1,5 @@
 -- What one event does to a group.
-use Rattle.std.specs.Prelude.{◌≡◌, ◌≢◌, ℕ, ◌-◌, ◌/◌, ◌%◌, Bool, true, false, [], ◌∷◌, ◌++◌, length, Option, Some, None, IfSome, slice_get}
+use Rattle.std.specs.Prelude.{◌≡◌, ◌≢◌, ℕ, ◌-◌, ◌/◌, ◌%◌, Bool, true, false, [], ◌∷◌, ◌++◌, length, map, Option, Some, None, IfSome, slice_get}
 use Rattle.ds_base.specs.Causes.{Rose}
 use Rattle.ds_disk.specs.Contents.{Contents}
 use Rattle.cache_structure.specs.Directory.{Directory}
@@ -8,7 +8,7 @@ use Rattle.group_crew.specs.Beginning.{BeginsNext, CannotBegin}
 use Rattle.group_crew.specs.Crews.{Keeps}
 use Rattle.group_crew.specs.Failing.{GroupFails, fail_counted}
 use Rattle.group_crew.specs.Happening.{ComesAt, IsRefusedAt, Stepped, has_failed, member_at}
-use Rattle.group_crew.specs.States.{crew_state}
+use Rattle.group_crew.specs.States.{crew_state, known_by}
 -- given out again: a member and its world, and a line of the trace
 pub use Rattle.group_crew.specs.Happening.{MemberPart, world_of}
 pub use Rattle.trace_words.specs.declared.line.Line.{Line}
@@ -22,11 +22,13 @@ use Rattle.group_core.specs.Restarts.{RestartSteps}
 
 -- ---- an event of a member
 
--- The member at a place of the crew has made such a step of a choice, and what is ready was found again. No other member has changed.
+-- The member at a place of the crew has made such a step of a choice, and what is ready was found again. No other member has changed, and what
+-- members know of the ends of logs stays.
 pub record StepsAt {C D P : Type 0} (directory : C → Directory) (alive : D → Bool) (contents : D → Option Contents) (old : Crew C P) (disk : D) (at choice place : ℕ) (stepped : Stepped) (new : Crew C P) (left : D) : Type 0 where
   pub comes : ComesAt old.script old.progress.begun old.sizes.sizes choice (member_at old.parts.items at) (world_of directory alive contents old.facility disk) old.fates place stepped (member_at new.parts.items at) (world_of directory alive contents new.facility left) new.fates
   pub others : (k : ℕ) → k ≢ at → member_at new.parts.items k ≡ member_at old.parts.items k
   pub keeps : Keeps old new
+  pub known : map known_by new.parts.items ≡ map known_by old.parts.items
   pub groupfails : new.progress.groupfails ≡ old.progress.groupfails
   pub sizes : new.sizes ≡ old.sizes
 

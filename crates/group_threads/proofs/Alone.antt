@@ -12,7 +12,7 @@ use Rattle.group_member.specs.declared.part.MemberPart.{MemberPart}
 use Rattle.group_member.specs.declared.stepped.Stepped.{Stepped}
 use Rattle.group_member.specs.Happening.{Comes}
 use Rattle.group_member.specs.Members.{Member, member_of}
-use Rattle.group_core.specs.Given.{Keeps, unlooked}
+use Rattle.group_core.specs.Given.{Keeps, known_by, unlooked}
 use Rattle.group_core.specs.Given.{ComesAt, IsRefusedAt, member_at}
 use Rattle.script_phases.specs.Progresses.{own_choice}
 use Rattle.group_core.specs.Given.{ready_at, ready_for}
@@ -141,6 +141,12 @@ module _ {C D P : Type 0} (directory : C → Directory) (alive : D → Bool) (co
       restart = ap (λ (g : Group D C P). g.crew.restart) rest;
     }
 
+    known_at : (x : Hand P) → map known_by (with_items base (parts_in (slice_set hands at x))).items ≡ slice_set (map known_by (parts_in hands)) at x.part.known
+    known_at x = ap (map known_by) (items_of at x) ∙ (ap (map known_by) (map_set (λ (h : Hand P). h.part) hands at x) ∙ map_set known_by (parts_in hands) at x.part)
+
+    known : q.part.known ≡ fresh.known → map known_by last.crew.parts.items ≡ map known_by mid.crew.parts.items
+    known same = known_at q ∙ (ap (slice_set (map known_by (parts_in hands)) at) same ∙ sym (known_at (record p { part = fresh })))
+
     -- the look before it
     pub looks : unlooked fresh ≡ unlooked p.part → IsLooked (whole base old hands) mid
     looks same = record {
@@ -163,19 +169,20 @@ module _ {C D P : Type 0} (directory : C → Directory) (alive : D → Bool) (co
         ap (λ k. not (is_some old.group.fault) && ready_for (is_some old.group.crew.restart) own ready k (event / 64)) (number ∙ is)
         ∙ ap (λ o. not (is_some old.group.fault) && (not (is_some old.group.crew.restart) && ready_at o (event / 64))) there
 
-    steps : (stepped : Stepped) → Comes old.group.crew.script old.group.crew.progress.begun old.group.crew.sizes.sizes (event / 64) (member_of fresh) (world_of directory alive contents old.group.crew.facility old.group.disk) old.group.crew.fates place stepped (member_of q.part) (world_of directory alive contents new.group.crew.facility new.group.disk) new.group.crew.fates
+    steps : (stepped : Stepped) → Comes old.group.crew.script old.group.crew.progress.begun old.group.crew.sizes.sizes (event / 64) (member_of fresh) (world_of directory alive contents old.group.crew.facility old.group.disk) old.group.crew.fates place stepped (member_of q.part) (world_of directory alive contents new.group.crew.facility new.group.disk) new.group.crew.fates → q.part.known ≡ fresh.known
         → StepsAt directory alive contents mid.crew mid.disk at (event / 64) place stepped last.crew last.disk
-    steps stepped comes = record {
+    steps stepped comes same = record {
       comes = subst (λ (o : Option Member × Option Member). ComesAt old.group.crew.script old.group.crew.progress.begun old.group.crew.sizes.sizes (event / 64) o.0 (world_of directory alive contents old.group.crew.facility old.group.disk) old.group.crew.fates place stepped o.1 (world_of directory alive contents new.group.crew.facility new.group.disk) new.group.crew.fates)
           (λ i. (sym had i, sym has i)) comes;
       others = others;
       keeps = keeps;
+      known = known same;
       groupfails = ap (λ (g : Group D C P). g.crew.progress.groupfails) rest;
       sizes = ap (λ (g : Group D C P). g.crew.sizes) rest;
     }
 
     made_by : MadeAlone directory alive contents old fresh (event / 64) place new q.part failed → IsMade directory alive contents mid.crew mid.disk at (event / 64) place failed last.crew last.disk
-    made_by it = record { stepped = it.stepped; failure = it.failure; steps = steps it.stepped it.comes }
+    made_by it = record { stepped = it.stepped; failure = it.failure; steps = steps it.stepped it.comes it.known }
 
     by_fault : (why : Option RunFault) → ByFault directory alive contents why old fresh (event / 64) place new q.part failed → TakesMember directory alive contents why mid.crew mid.disk at (event / 64) place failed last.crew last.disk
     by_fault None it = made_by it

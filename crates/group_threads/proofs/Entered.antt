@@ -95,10 +95,10 @@ module _ {C D P : Type 0} (directory : C → Directory) (alive : D → Bool) (co
     read_by (Some fault.NoMemory) p q choice place failed reads it = cc
 
     -- the step was made
-    pub stepped_alone : (p m q : MemberPart P) (event place : ℕ) (stepped : Stepped) → takes_alone old p event ≡ true → is_read new.group.fault ≡ true → unlooked q ≡ unlooked m
+    pub stepped_alone : (p m q : MemberPart P) (event place : ℕ) (stepped : Stepped) → takes_alone old p event ≡ true → is_read new.group.fault ≡ true → unlooked q ≡ unlooked m → m.known ≡ p.known
         → Comes old.group.crew.script old.group.crew.progress.begun old.group.crew.sizes.sizes (event / 64) (member_of p) (world_of directory alive contents old.group.crew.facility old.group.disk) old.group.crew.fates place stepped (member_of m) (world_of directory alive contents mid.group.crew.facility mid.group.disk) mid.group.crew.fates
         → TakesAlone directory alive contents old p event place new q (has_failed stepped)
-    stepped_alone p m q event place stepped holds reads same comes =
+    stepped_alone p m q event place stepped holds reads same known comes =
         let member : member_of m ≡ member_of q = sym (ap member_of same) in
         record {
           left = λ none. (let never : true ≡ false = sym holds ∙ none in cc);
@@ -110,6 +110,7 @@ module _ {C D P : Type 0} (directory : C → Directory) (alive : D → Bool) (co
             comes =
                 subst (λ (s : Shared D C P). Comes old.group.crew.script old.group.crew.progress.begun old.group.crew.sizes.sizes (event / 64) (member_of p) (world_of directory alive contents old.group.crew.facility old.group.disk) old.group.crew.fates place stepped (member_of q) (world_of directory alive contents s.group.crew.facility s.group.disk) s.group.crew.fates) (sym entered)
                 (subst (λ (n : Member). Comes old.group.crew.script old.group.crew.progress.begun old.group.crew.sizes.sizes (event / 64) (member_of p) (world_of directory alive contents old.group.crew.facility old.group.disk) old.group.crew.fates place stepped n (world_of directory alive contents mid.group.crew.facility mid.group.disk) mid.group.crew.fates) member comes);
+            known = ap (λ (part : MemberPart P). part.known) same ∙ known;
           });
         }
 
@@ -161,6 +162,7 @@ module _ {C D P : Type 0} (directory : C → Directory) (alive : D → Bool) (co
       comes =
           subst (λ (s : Shared D C P). Comes old.group.crew.script old.group.crew.progress.begun old.group.crew.sizes.sizes (event / 64) (member_of fresh) (world_of directory alive contents old.group.crew.facility old.group.disk) old.group.crew.fates place it.stepped (member_of q.part) (world_of directory alive contents s.group.crew.facility s.group.disk) s.group.crew.fates) (sym ends)
           (subst (λ (s : Shared D C P). Comes s.group.crew.script s.group.crew.progress.begun s.group.crew.sizes.sizes (event / 64) (member_of fresh) (world_of directory alive contents s.group.crew.facility s.group.disk) s.group.crew.fates place it.stepped (member_of q.part) (world_of directory alive contents after.group.crew.facility after.group.disk) after.group.crew.fates) begins it.comes);
+      known = it.known;
     }
 
     refused_as : (refused : ℕ) → RefusedAlone directory alive contents mid fresh place refused after failed → RefusedAlone directory alive contents old fresh place refused new failed

@@ -22,11 +22,12 @@ pub record Concerns {C D P : Type 0} (old new : Shared D C P) : Type 0 where
 pub record Leaves {C D P : Type 0} (old new : Shared D C P) : Type 0 where
   pub rest : new ≡ record old { group = record old.group { disk = new.group.disk; crew = record old.group.crew { facility = new.group.crew.facility; fates = new.group.crew.fates; was_half = new.group.crew.was_half; progress = record old.group.crew.progress { is_idle = new.group.crew.progress.is_idle } } }; stale = new.stale; listening = new.listening }
 
--- the member has made a step of the choice, in which a call of the disk has failed or not
+-- the member has made a step of the choice, in which a call of the disk has failed or not, and knows of the ends of logs what it knew
 pub record MadeAlone {C D P : Type 0} (directory : C → Directory) (alive : D → Bool) (contents : D → Option Contents) (old : Shared D C P) (p : MemberPart P) (choice place : ℕ) (new : Shared D C P) (q : MemberPart P) (failed : Bool) : Type 0 where
   pub stepped : Stepped
   pub failure : failed ≡ has_failed stepped
   pub comes : Comes old.group.crew.script old.group.crew.progress.begun old.group.crew.sizes.sizes choice (member_of p) (world_of directory alive contents old.group.crew.facility old.group.disk) old.group.crew.fates place stepped (member_of q) (world_of directory alive contents new.group.crew.facility new.group.disk) new.group.crew.fates
+  pub known : q.known ≡ p.known
 
 -- what was wanted may not be done
 pub record RefusedAlone {C D P : Type 0} (directory : C → Directory) (alive : D → Bool) (contents : D → Option Contents) (old : Shared D C P) (p : MemberPart P) (place refused : ℕ) (new : Shared D C P) (failed : Bool) : Type 0 where

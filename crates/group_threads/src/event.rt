@@ -41,6 +41,7 @@ fn step_at<D: Disk, C: CacheFace, P: Policy>(
 ) -> Result<Stepped, EventFault>
     ensures comes { IfOk result (λ stepped. Comes crew.old.script crew.old.progress.begun crew.old.sizes.sizes choice (member_of part.old) (world_of C.directory D.alive D.contents crew.old.facility disk.old) crew.old.fates place stepped (member_of part.new) (world_of C.directory D.alive D.contents crew.new.facility disk.new) crew.new.fates) }
     ensures unlawful { result ≡ Err faults.Unlawful → IsRefused (member_of part.old) (world_of C.directory D.alive D.contents crew.old.facility disk.old) place (world_of C.directory D.alive D.contents crew.new.facility disk.new) }
+    ensures known { part.new.known ≡ part.old.known }
     ensures later { D.faults disk.old ≤ D.faults disk.new }
     ensures failed { IfOk result (λ stepped. has_failed stepped ≡ true → Rose (D.faults disk.old) (D.faults disk.new)) }
     ensures rest { crew.new ≡ record crew.old { facility = crew.new.facility; fates = crew.new.fates } }
@@ -69,6 +70,7 @@ fn step_in<D: Disk, C: CacheFace, P: Policy>(
 ) -> Result<Stepped, EventFault>
     ensures comes { IfOk result (λ stepped. Comes group.old.crew.script group.old.crew.progress.begun group.old.crew.sizes.sizes choice (member_of part.old) (world_of C.directory D.alive D.contents group.old.crew.facility group.old.disk) group.old.crew.fates place stepped (member_of part.new) (world_of C.directory D.alive D.contents group.new.crew.facility group.new.disk) group.new.crew.fates) }
     ensures unlawful { result ≡ Err faults.Unlawful → IsRefused (member_of part.old) (world_of C.directory D.alive D.contents group.old.crew.facility group.old.disk) place (world_of C.directory D.alive D.contents group.new.crew.facility group.new.disk) }
+    ensures known { part.new.known ≡ part.old.known }
     ensures later { D.faults group.old.disk ≤ D.faults group.new.disk }
     ensures failed { IfOk result (λ stepped. has_failed stepped ≡ true → Rose (D.faults group.old.disk) (D.faults group.new.disk)) }
     ensures rest { group.new ≡ record group.old { disk = group.new.disk; crew = record group.old.crew { facility = group.new.crew.facility; fates = group.new.crew.fates } } }
@@ -161,6 +163,7 @@ impl<D: Disk, C: CacheFace, P: Policy> Shared<D, C, P> {
     ) -> Result<Stepped, EventFault>
         ensures comes { IfOk result (λ stepped. Comes self.old.group.crew.script self.old.group.crew.progress.begun self.old.group.crew.sizes.sizes choice (member_of hand.old.part) (world_of C.directory D.alive D.contents self.old.group.crew.facility self.old.group.disk) self.old.group.crew.fates place stepped (member_of hand.new.part) (world_of C.directory D.alive D.contents self.new.group.crew.facility self.new.group.disk) self.new.group.crew.fates) }
         ensures unlawful { result ≡ Err faults.Unlawful → IsRefused (member_of hand.old.part) (world_of C.directory D.alive D.contents self.old.group.crew.facility self.old.group.disk) place (world_of C.directory D.alive D.contents self.new.group.crew.facility self.new.group.disk) }
+        ensures known { hand.new.part.known ≡ hand.old.part.known }
         ensures later { D.faults self.old.group.disk ≤ D.faults self.new.group.disk }
         ensures failed { IfOk result (λ stepped. has_failed stepped ≡ true → Rose (D.faults self.old.group.disk) (D.faults self.new.group.disk)) }
         ensures rest { Leaves self.old self.new }

@@ -15,6 +15,9 @@ impl<E> Model for Past<E> {
     ghost also_owns = { λ _. ftrue };
 }
 
+// It owns nothing.
+unsafe impl<E: Send> Send for Past<E> {}
+
 impl<E> Past<E> {
     pub fn new() -> Past<E>
         ensures { result.items ≡ [] }

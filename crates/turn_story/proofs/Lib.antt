@@ -1,4 +1,3 @@
-pub mod Made
 pub mod Telling
 pub mod Rows
 pub mod Closing

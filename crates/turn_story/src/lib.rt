@@ -2,7 +2,6 @@
 #![tactic(auto)]
 
 mod desk;
-mod history;
 mod phase;
 mod row;
 mod step;
@@ -12,7 +11,6 @@ mod tests;
 mod told;
 
 pub use desk::Desk;
-pub use history::History;
 pub use phase::{Closed, Phase, Room};
 pub use step::{Start, Step};
 pub use stepping::Stepping;

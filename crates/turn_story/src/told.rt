@@ -2,10 +2,10 @@
 ghost use Rattle.std.specs.Prelude.{◌≡◌, ◌≤◌, [], ◌∷◌, ◌++◌};
 ghost use Rattle.turn_story.specs.declared.step.Step.{Step};
 
-use crate::history::History;
 use crate::step::{Start, Step};
 use crate::stepping::Stepping;
 use ds_base::NoMemory;
+use past_items::Past;
 use std::alloc::Global;
 use std::snapshot::Snapshot;
 use turn_gate::{Laid, Look, Machine};
@@ -15,7 +15,7 @@ use turn_gate::{Laid, Look, Machine};
 pub struct Told<M: Stepping> {
     pub value: M,
     pub start: Start<M, M::Part>,
-    pub history: History<Step<M, M::Part>>,
+    pub history: Past<Step<M, M::Part>>,
     pub ghost later: { M.tally start.value.value ≤ M.tally value },
 }
 
@@ -33,7 +33,7 @@ impl<M: Stepping> Told<M> {
         Told {
             value,
             start,
-            history: History::new(),
+            history: Past::new(),
         }
     }
 

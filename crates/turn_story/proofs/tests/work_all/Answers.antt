@@ -2,7 +2,7 @@ use denote.Param.Send.{sendable}
 use Rattle.std.proofs.Common.{rules, ◌≡◌, ◌+◌, ◌%◌, ◌<◌, length, sym, subst, arith}
 use Rattle.std.proofs.Crossing.{crosses}
 use Rattle.atomic_table.proofs.shared.Seat.TheSendSync.{the_send as place_send}
-use Rattle.turn_story.proofs.history.History.TheSendSync.{the_send as history_send}
+use Rattle.past_items.proofs.past.Past.TheSendSync.{the_send as history_send}
 use Rattle.turn_story.specs.Desks.{IsAt}
 use Rattle.turn_story.proofs.Rows.{moved, at_place, from_places}
 use Rattle.turn_story.proofs.tests.work_all.Goals as goal

@@ -1,7 +1,7 @@
--- A history owns nothing, so it may go to another thread.
+-- It owns nothing, so it may go to another thread.
 use denote.RattleType.{RattleType}
 use denote.Param.Send.{IsSend, owning_send, sendable}
-use Rattle.turn_story.specs.contracts.history.History.{the_row, the_type}
+use Rattle.past_items.specs.contracts.past.Past.{the_row, the_type}
 
 pub send : (E : RattleType) → IsSend E → IsSend (the_row E)
 send E e = owning_send (the_type E) (search sendable, tt) (λ d. tt) (λ k x w. tt)
