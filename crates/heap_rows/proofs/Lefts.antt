@@ -35,39 +35,39 @@ and_first false b h = h
 
 -- a row of a table that isn't among these isn't that of one that is
 other_row : (has : ℕ → Bool) (u table : ℕ) (b c : Bool) → (u == table) ≡ b → has u ≡ false → has table ≡ true → (b && c) ≡ false
-other_row has u table true c e no yes = let same : has u ≡ has table = ap has (same_number u table e) in absurd cc
-other_row has u table false c e no yes = refl
+other_row has u table true c e absent among = let same : has u ≡ has table = ap has (same_number u table e) in absurd cc
+other_row has u table false c e absent among = refl
 
 kept_when : (has : ℕ → Bool) (rows : Rows) (u j : ℕ) (after : Row) (table key : ℕ) → has table ≡ true → (b : Bool) → has u ≡ b
     → get (cond b (set_row rows u j after) rows) (table, key) ≡ cond ((u == table) && (j == key)) after (get rows (table, key))
-kept_when has rows u j after table key yes true e = set_told rows u j after table key
-kept_when has rows u j after table key yes false e = sym (ap (λ (b : Bool). cond b after (get rows (table, key))) (other_row has u table (u == table) (j == key) refl e yes))
+kept_when has rows u j after table key among true e = set_told rows u j after table key
+kept_when has rows u j after table key among false e = sym (ap (λ (b : Bool). cond b after (get rows (table, key))) (other_row has u table (u == table) (j == key) refl e among))
 
 put_told : (has : ℕ → Bool) (rows : Rows) (u j : ℕ) (after : Row) (table key : ℕ) → has table ≡ true → get (set_in has rows u j after) (table, key) ≡ cond ((u == table) && (j == key)) after (get rows (table, key))
-put_told has rows u j after table key yes = kept_when has rows u j after table key yes (has u) refl
+put_told has rows u j after table key among = kept_when has rows u j after table key among (has u) refl
 
 body_told : (has : ℕ → Bool) (rows : Rows) (b : Body) (table key : ℕ) → has table ≡ true → get (left_with has rows b) (table, key) ≡ row_with table key (get rows (table, key)) b
-body_told has rows (body.RowChange c) table key yes = put_told has rows c.table c.key c.after table key yes
-body_told has rows (body.Compensation c undone) table key yes = put_told has rows c.table c.key c.after table key yes
-body_told has rows (body.System patches) table key yes = refl
-body_told has rows body.Commit table key yes = refl
-body_told has rows body.Ended table key yes = refl
-body_told has rows (body.Checkpoint offset) table key yes = refl
-body_told has rows body.RestartEnd table key yes = refl
+body_told has rows (body.RowChange c) table key among = put_told has rows c.table c.key c.after table key among
+body_told has rows (body.Compensation c undone) table key among = put_told has rows c.table c.key c.after table key among
+body_told has rows (body.System patches) table key among = refl
+body_told has rows body.Commit table key among = refl
+body_told has rows body.Ended table key among = refl
+body_told has rows (body.Checkpoint offset) table key among = refl
+body_told has rows body.RestartEnd table key among = refl
 
 rows_more : (has : ℕ → Bool) (rows : Rows) (records : List LogRecord) (r : LogRecord) → AreRowsOf has records rows → AreRowsOf has (records ++ r ∷ []) (left_with has rows r.body)
-rows_more has rows records r h table key yes =
-    body_told has rows r.body table key yes
-    ∙ ap (λ (row : Row). row_with table key row r.body) (h table key yes)
+rows_more has rows records r h table key among =
+    body_told has rows r.body table key among
+    ∙ ap (λ (row : Row). row_with table key row r.body) (h table key among)
     ∙ sym (from_more table key None records r)
 
 pub none_left : (it : LeftRows) → it.rows ≡ empty → AreLeft [] it
-none_left it e table key yes = ap (λ (rows : Rows). get rows (table, key)) e ∙ get-empty {X = List ℕ} spot_cmp (table, key)
+none_left it e table key among = ap (λ (rows : Rows). get rows (table, key)) e ∙ get-empty {X = List ℕ} spot_cmp (table, key)
 
 left_more : (old new : LeftRows) (it : LogRecord) → new.range ≡ old.range → new.rows ≡ left_with (has_table old.range) old.rows it.body → (records : List LogRecord) → AreLeft records old → AreLeft (records ++ it ∷ []) new
-left_more old new it same is records h table key yes =
+left_more old new it same is records h table key among =
     ap (λ (rows : Rows). get rows (table, key)) is
-    ∙ rows_more (has_table old.range) old.rows records it h table key (sym (ap (λ (r : TableRange). has_table r table) same) ∙ yes)
+    ∙ rows_more (has_table old.range) old.rows records it h table key (sym (ap (λ (r : TableRange). has_table r table) same) ∙ among)
 
 pub taken : {T E : Type 0} (result : Result T E) (old new : LeftRows) (it : LogRecord) → new.range ≡ old.range → OnOk result (new.rows ≡ left_with (has_table old.range) old.rows it.body)
     → OnOk result ((records : List LogRecord) → AreLeft records old → AreLeft (records ++ it ∷ []) new)
