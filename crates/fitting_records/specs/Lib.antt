@@ -4,3 +4,4 @@ pub mod Fitting
 pub mod Passings
 pub mod Passed
 pub mod Walked
+pub mod Telling
