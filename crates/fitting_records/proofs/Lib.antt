@@ -6,3 +6,6 @@ mod Going
 mod Passes
 pub mod Noting
 mod Walking
+mod Joined
+mod Summing
+pub mod Asking

@@ -5,3 +5,4 @@ pub mod Passings
 pub mod Passed
 pub mod Walked
 pub mod Telling
+pub mod Summed

@@ -11,6 +11,7 @@ mod seen;
 mod spots;
 mod standing;
 mod summary;
+mod sums;
 mod walked;
 
 pub use laws::passing_laws;
