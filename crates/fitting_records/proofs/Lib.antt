@@ -8,4 +8,6 @@ pub mod Noting
 mod Walking
 mod Joined
 mod Summing
+mod Seeking
+mod Members
 pub mod Asking

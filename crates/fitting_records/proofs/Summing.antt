@@ -27,7 +27,8 @@ use Rattle.fitting_records.specs.declared.summary.Summary.{Summary}
 use Rattle.fitting_records.specs.Passings.{nothing_passed, may_pass, passed}
 use Rattle.fitting_records.specs.Passed.{list_at, all_of, with_record, ArePassed, NothingIsPassed, PassingGoesOn, PassedAreTransactions}
 use Rattle.fitting_records.specs.Summed.{any_asks, has_old, has_ended, IsNothing, IsPassedOn, IsAdded, AreSummed, AreSummedOf, IsSummedUp}
-use Rattle.fitting_records.specs.Telling.{OfWholeLogs, IsSummary}
+use Rattle.disk_walk.specs.Whole.{OfWholeLogs}
+use Rattle.fitting_records.specs.Telling.{IsSummary}
 use Rattle.fitting_records.proofs.Joined.{AreJoined, emptied, joined_start, empty_start, joined_end, joined_on, none_left, greatest_with, greatest_none, noted_with, noted_at, noted_none}
 
 -- ---- so far

@@ -6,3 +6,4 @@ pub mod Passed
 pub mod Walked
 pub mod Telling
 pub mod Summed
+pub mod Sought

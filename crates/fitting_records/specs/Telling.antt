@@ -1,6 +1,5 @@
 -- What is told of whole logs that are read by blocks.
-use Rattle.std.specs.Prelude.{◌≡◌, ℕ, true, List, map, Option, None, Some}
-use Rattle.ds_disk.specs.Contents.{Contents}
+use Rattle.std.specs.Prelude.{◌≡◌, ℕ, true, List, Option, None, Some}
 use Rattle.log_record.specs.declared.log.Log.{Log}
 use Rattle.log_merge.specs.Merging.{all_records}
 use Rattle.log_trans.specs.Numbers.{greatest}
@@ -8,13 +7,8 @@ use Rattle.restart_plan.specs.Renewal.{must_renew}
 use Rattle.disk_spots.specs.declared.spot.Spot.{Spot}
 use Rattle.disk_spots.specs.Spots.{spot_of, drawn_spot_of}
 use Rattle.sound_disk.specs.Transactions.{AreTransactions}
-use Rattle.sound_disk.specs.Whole_logs.{AreWholeLogs}
 use Rattle.fitting_records.specs.Breaches.{IsFirstBreach, IsRecordOf}
 use Rattle.fitting_records.specs.declared.summary.Summary.{Summary}
-
--- it holds of the logs of a disk, if they are whole and their records end at these bytes
-abbrev pub OfWholeLogs : List ℕ → (List Log → Type 0) → Contents → Type 0
-OfWholeLogs ends P c = (logs : List Log) → AreWholeLogs 1 c.logs logs → ends ≡ map (λ (l : Log). l.length) logs → P logs
 
 -- what the records come to: that they fit each other is told of such alone
 pub record IsSummary (s : Summary) (logs : List Log) : Type 0 where

@@ -2,6 +2,7 @@
 //! may follow those before it.
 #![tactic(auto)]
 
+mod blocks;
 mod inverses;
 mod laws;
 mod passing;

@@ -3,7 +3,8 @@
 
 ghost use Rattle.std.specs.Prelude.{◌≡◌, length};
 ghost use Rattle.disk_walk.specs.Reading.{Reads};
-ghost use Rattle.fitting_records.specs.Telling.{OfWholeLogs, AreFitTold};
+ghost use Rattle.disk_walk.specs.Whole.{OfWholeLogs};
+ghost use Rattle.fitting_records.specs.Telling.{AreFitTold};
 
 use disk_spots::Spot;
 use ds_disk::{Disk, DiskError};

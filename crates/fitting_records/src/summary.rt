@@ -2,8 +2,9 @@
 
 ghost use Rattle.std.specs.Prelude.{◌≡◌, ◌≤◌, ◌<◌, ◌^◌, length, IfOk};
 ghost use Rattle.disk_walk.specs.Reading.{Reads};
+ghost use Rattle.disk_walk.specs.Whole.{OfWholeLogs};
 ghost use Rattle.fitting_records.specs.Summed.{AreSummedOf, IsSummedUp};
-ghost use Rattle.fitting_records.specs.Telling.{OfWholeLogs, IsSummary};
+ghost use Rattle.fitting_records.specs.Telling.{IsSummary};
 
 use crate::laws::passing_laws;
 use crate::sums::{Sums, any_asks};
