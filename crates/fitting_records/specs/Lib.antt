@@ -7,3 +7,5 @@ pub mod Walked
 pub mod Telling
 pub mod Summed
 pub mod Sought
+pub mod Ranges
+pub mod Ranging

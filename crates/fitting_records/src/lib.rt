@@ -6,6 +6,7 @@ mod blocks;
 mod inverses;
 mod laws;
 mod passing;
+mod ranged;
 mod ranges;
 mod search;
 mod seen;
