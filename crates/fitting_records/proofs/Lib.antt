@@ -9,5 +9,8 @@ mod Walking
 mod Joined
 mod Summing
 mod Seeking
+mod Agreeing
+mod Ranging
+mod Rangeon
 mod Members
 pub mod Asking
