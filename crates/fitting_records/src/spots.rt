@@ -60,28 +60,22 @@ fn find_sought<D: Disk>(
     ends: &[u64],
     number: u128,
     drawn: bool,
+    block: &mut [u8],
 ) -> Result<Option<Spot>, DiskError>
-    requires { length ends.now ≡ 32 }
+    requires ends { length ends.now ≡ 32 }
+    requires some { 1 ≤ length block.old }
+    requires fits { length block.old < 2 ^ 32 }
     ensures { Reads (D.contents disk.old) (D.contents disk.new) (D.faults disk.old) (D.faults disk.new) (λ found c. OfWholeLogs ends.now (IsSpotIn drawn number found) c) result }
 {
     whole_laws();
     log_laws();
-    let mut block = block_of(alloc)?;
     for index in 0..32usize {
         let Some(member) = MemberId::new(index as u64 + 1) else {
             unreachable!()
         };
-        let place = place_of(
-            alloc,
-            disk,
-            member,
-            ends[index],
-            number,
-            drawn,
-            &mut block,
-        )?;
-        if let Some(at) = place {
-            return Ok(Some(Spot::Log { member, at }));
+        match place_of(alloc, disk, member, ends[index], number, drawn, block)? {
+            Some(at) => return Ok(Some(Spot::Log { member, at })),
+            None => {}
         }
     }
     Ok(None)
@@ -98,7 +92,8 @@ pub fn find_number<D: Disk>(
     requires { length ends.now ≡ 32 }
     ensures { Reads (D.contents disk.old) (D.contents disk.new) (D.faults disk.old) (D.faults disk.new) (λ found c. OfWholeLogs ends.now (IsSpotOf number found) c) result }
 {
-    find_sought(alloc, disk, ends, number, false)
+    let mut block = block_of(alloc)?;
+    find_sought(alloc, disk, ends, number, false, &mut block)
 }
 
 /// The same of records for which the number was drawn. Others may repeat it.
@@ -111,5 +106,6 @@ pub fn find_drawn<D: Disk>(
     requires { length ends.now ≡ 32 }
     ensures { Reads (D.contents disk.old) (D.contents disk.new) (D.faults disk.old) (D.faults disk.new) (λ found c. OfWholeLogs ends.now (IsDrawnSpotOf number found) c) result }
 {
-    find_sought(alloc, disk, ends, number, true)
+    let mut block = block_of(alloc)?;
+    find_sought(alloc, disk, ends, number, true, &mut block)
 }
