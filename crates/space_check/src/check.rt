@@ -15,6 +15,7 @@ use disk_versions::BEHIND;
 use ds_base::NoMemory;
 use ds_disk::{Disk, DiskError};
 use fitting_records::{Summary, find_first_unfit, summarize};
+use row_turns::order_laws;
 use std::alloc::Global;
 
 fn zeros(alloc: Global) -> Result<Vec<u8>, NoMemory>
@@ -53,11 +54,13 @@ fn check_fit<D: Disk>(
     requires block { length block.old ≡ 65536 }
     ensures { Reads (D.contents disk.old) (D.contents disk.new) (D.faults disk.old) (D.faults disk.new) (λ v c. TellsFit ends.now summary.now behind v c) result }
 {
+    order_laws();
     let found = tell_tables(
         alloc,
         disk,
         ends,
         &summary.counts,
+        summary.fits,
         summary.renews,
         behind,
         block,
