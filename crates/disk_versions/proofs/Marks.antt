@@ -25,7 +25,7 @@ use Rattle.sound_disk.specs.Versions.{current}
 use Rattle.redone_pages.specs.Redone.{Redone}
 use Rattle.redone_pages.specs.Ranges.{HasPage}
 use Rattle.disk_versions.specs.declared.met.Mark.{Mark}
-use Rattle.disk_versions.specs.Met.{IsMarked, IsKnown, IsFresh, IsMetNow}
+use Rattle.disk_versions.specs.Met.{IsMarked, IsKnown, IsFresh, IsNextMark}
 use Rattle.disk_versions.proofs.Pages.{decide}
 
 abbrev Entries : Type 0
@@ -281,14 +281,13 @@ met_behind q first records page m b is now t = elim (or_either m.is_met (bytes_e
   | inr e ↦ (all_is q records (current page) (sym ((bytes_eq-Decides (version_of q records) (current page)).0 e)))
 ]
 
-met_now : (q : PageId) (first records : List LogRecord) (it : LogRecord) (page : List ℕ) (m : Mark) (b : Bool) → records ≡ first ++ it ∷ [] → IsMarked q first records page m → IsMetNow (version_of q records) page m b
-    → IsMarked q records records page (record { lrsn = m.lrsn; is_met = b })
-met_now q first records it page m b whole is now =
-    let exact : b ≡ (m.is_met || bytes_eq (version_of q records) (current page)) = now is.number in
+met_now : (q : PageId) (first records : List LogRecord) (it : LogRecord) (page : List ℕ) (m next : Mark) → records ≡ first ++ it ∷ [] → IsMarked q first records page m → IsNextMark (version_of q records) page m next → IsMarked q records records page next
+met_now q first records it page m next whole is now =
+    let exact : next.is_met ≡ (m.is_met || bytes_eq (version_of q records) (current page)) = now.1 is.number in
     record {
-      number = is.number;
-      before = λ v. met_before q first records it page m b whole is exact v;
-      behind = λ t. met_behind q first records page m b is exact t;
+      number = now.0 ∙ is.number;
+      before = λ v. met_before q first records it page m next.is_met whole is exact v;
+      behind = λ t. met_behind q first records page m next.is_met is exact t;
     }
 
 -- behind one page more, another is as it was
@@ -305,8 +304,8 @@ this_page at made first pages id q p e known =
     let has : has_page (pages ++ id ∷ []) q ≡ true = has_more pages id q ∙ or_second (has_page pages q) (same_page id q) e in
     subst (λ (b : Bool). IsKnown q (if b then made.records else first) made.records (at q) p) (sym has) known
 
-pub meets_one : (at : Images) (made : Redone) (es fs : Entries) (id : PageId) (m : Mark) (b : Bool) → held es id ≡ Some m → IsPut id (record { lrsn = m.lrsn; is_met = b }) es fs → IsMetNow (version_of id made.records) (at id) m b → MeetsBy at made (id ∷ []) es fs
-meets_one at made es fs id m b has_mark put now = λ first it pages whole known q has.
+pub meets_one : (at : Images) (made : Redone) (es fs : Entries) (id : PageId) (m next : Mark) → held es id ≡ Some m → IsPut id next es fs → IsNextMark (version_of id made.records) (at id) m next → MeetsBy at made (id ∷ []) es fs
+meets_one at made es fs id m next has_mark put now = λ first it pages whole known q has.
     decide (same_page id q) (IsKnown q (if has_page (pages ++ id ∷ []) q then made.records else first) made.records (at q) (held fs q))
     (λ e.
     let name : id ≡ q = same_name id q e in
@@ -314,10 +313,10 @@ meets_one at made es fs id m b has_mark put now = λ first it pages whole known 
     let was : IsMarked q (if has_page pages q then made.records else first) made.records (at q) m =
     subst (λ (o : Option Mark). IsKnown q (if has_page pages q then made.records else first) made.records (at q) o) its (known q has) in
     this_page at made first pages id q (held fs q) e
-    (subst (λ (o : Option Mark). IsKnown q made.records made.records (at q) o) (sym (there es fs id q (record { lrsn = m.lrsn; is_met = b }) put e))
-    (met_now q first made.records it (at q) m b whole (weaker q first made.records it (at q) m (has_page pages q) whole was)
-    (subst (λ (i : PageId). IsMetNow (version_of i made.records) (at i) m b) name now))))
-    (λ e. other_page at made first pages id q (held es q) (held fs q) e (elsewhere es fs id q (record { lrsn = m.lrsn; is_met = b }) put e) (known q has))
+    (subst (λ (o : Option Mark). IsKnown q made.records made.records (at q) o) (sym (there es fs id q next put e))
+    (met_now q first made.records it (at q) m next whole (weaker q first made.records it (at q) m (has_page pages q) whole was)
+    (subst (λ (i : PageId). IsNextMark (version_of i made.records) (at i) m next) name now))))
+    (λ e. other_page at made first pages id q (held es q) (held fs q) e (elsewhere es fs id q next put e) (known q has))
 
 -- a page without a mark, and one of another table
 pub meets_none : (at : Images) (made : Redone) (es : Entries) (id : PageId) → (HasPage made.range id → held es id ≡ None) → MeetsBy at made (id ∷ []) es es

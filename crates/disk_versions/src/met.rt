@@ -9,7 +9,7 @@ ghost use Rattle.page_images.specs.Images.{Images};
 ghost use Rattle.redone_pages.specs.Ranges.{HasPage};
 ghost use Rattle.sound_disk.specs.Versions.{current};
 ghost use Rattle.disk_versions.specs.Reading.{Reads};
-ghost use Rattle.disk_versions.specs.Met.{mark_of, AreMet, IsPut, HaveMarks, IsFresh, IsSameNow, IsMetNow, MeetsAlso};
+ghost use Rattle.disk_versions.specs.Met.{mark_of, AreMet, IsPut, HaveMarks, IsFresh, IsSameNow, IsMetNow, IsNextMark, MeetsAlso};
 
 use crate::page::{is_blank, load};
 use ds_base::{Lrsn, NoMemory, PageId};
@@ -163,16 +163,34 @@ impl MetPages {
         alloc: Global,
         disk: &mut D,
         id: PageId,
-        mark: Mark,
+        mark: &Mark,
     ) -> Result<bool, DiskError>
         requires { HasPage self.now.made.range id }
-        ensures { Reads (D.contents disk.old) (D.contents disk.new) (D.faults disk.old) (D.faults disk.new) (λ met c. IsMetNow (images_of self.now.made.records id) (page_at c.pages id) mark met) result }
+        ensures { Reads (D.contents disk.old) (D.contents disk.new) (D.faults disk.old) (D.faults disk.new) (λ met c. IsMetNow (images_of self.now.made.records id) (page_at c.pages id) mark.now met) result }
     {
         if mark.is_met {
             return Ok(true);
         }
         let image = self.made.image(alloc, id)?;
         is_same_now(alloc, disk, id, &image, mark.lrsn)
+    }
+
+    // The mark of the page behind the records so far, which was this one before the last of them.
+    fn next_mark<D: Disk>(
+        &self,
+        alloc: Global,
+        disk: &mut D,
+        id: PageId,
+        mark: &Mark,
+    ) -> Result<Mark, DiskError>
+        requires { HasPage self.now.made.range id }
+        ensures { Reads (D.contents disk.old) (D.contents disk.new) (D.faults disk.old) (D.faults disk.new) (λ next c. IsNextMark (images_of self.now.made.records id) (page_at c.pages id) mark.now next) result }
+    {
+        let is_met = self.is_met(alloc, disk, id, mark)?;
+        Ok(Mark {
+            lrsn: mark.lrsn,
+            is_met,
+        })
     }
 
     // Enters that the page was made that is on disk, if it is so now.
@@ -186,9 +204,8 @@ impl MetPages {
         let Some(mark) = self.mark_of(id) else {
             return Ok(());
         };
-        let is_met = self.is_met(alloc, disk, id, mark)?;
-        let lrsn = mark.lrsn;
-        self.put(id, Mark { lrsn, is_met })?;
+        let next = self.next_mark(alloc, disk, id, &mark)?;
+        self.put(id, next)?;
         Ok(())
     }
 
