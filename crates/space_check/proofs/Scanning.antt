@@ -22,8 +22,12 @@ use Rattle.disk_walk.specs.declared.walk.Next.TheVariants as next
 use Rattle.disk_walk.specs.Walks.{IsUpTo, AreUpTo, Begins, Stand, AreRead, IsNextOfAll}
 use Rattle.disk_walk.proofs.Reading.{told_before, told_all, told_by_both}
 use Rattle.fitting_records.specs.Telling.{OfWholeLogs}
+use Rattle.redone_pages.specs.declared.range.TableRange.{TableRange}
+use Rattle.disk_versions.specs.Met.{AreMet}
+use Rattle.stood_rows.specs.Found.{IsStanding}
+use Rattle.row_turns.specs.Scans.{IsTurning}
 use Rattle.space_check.specs.declared.scan.TableScan.{TableScan}
-use Rattle.space_check.specs.Scans.{IsScanned, ScansAlso, ScansKept, ScansLeft, IsScanOf}
+use Rattle.space_check.specs.Scans.{IsScan, IsScanned, ScansAlso, ScansKept, ScansLeft, IsScanOf}
 use Rattle.space_check.proofs.Merging.{merged_is}
 
 -- ---- one record more
@@ -143,3 +147,20 @@ scan_of c ends start old new begin first left_is = λ logs whole ends_are.
     let all : by_lrsn (together (left c.logs start)) ≡ by_lrsn (all_records logs) = ap (λ (ls : List (List LogRecord)). by_lrsn (together ls)) b.left_is ∙ ap by_lrsn (together_is logs) in
     subst (λ (rs : List LogRecord). IsScanned (page_at c.pages) rs new) (ap kept all ∙ sym (merged_is (all_records logs)))
     (left_is b.stand (subst NoneFalls (sym b.left_is) (rising 1 c.logs logs whole)) first)
+
+-- ---- one record more for the tables of a range
+
+pub scan_more : (range : TableRange) (early : Bool) (old new : TableScan) (r : LogRecord) → new.met.made.records ≡ old.met.made.records ++ r ∷ [] → new.met.made.range ≡ old.met.made.range → new.standing.rows.range ≡ old.standing.rows.range → new.turns.range ≡ old.turns.range
+    → new.turns.is_early ≡ old.turns.is_early → (IsStanding old.met.made.records old.standing → IsStanding (old.met.made.records ++ r ∷ []) new.standing) → ((records : List LogRecord) → IsTurning records old.turns → IsTurning (records ++ r ∷ []) new.turns)
+    → IsScan range early old → IsScan range early new
+scan_more range early old new r records met rows turns is_early stands turn is = record {
+  range_is = met ∙ is.range_is;
+  rows_of = rows ∙ is.rows_of;
+  standing = subst (λ (rs : List LogRecord). IsStanding rs new.standing) (sym records) (stands is.standing);
+  turns_of = turns ∙ is.turns_of;
+  early_is = is_early ∙ is.early_is;
+  turns = subst (λ (rs : List LogRecord). IsTurning rs new.turns) (sym records) (turn old.met.made.records is.turns);
+}
+
+pub scanned_more : (at : Images) (old new : TableScan) (r : LogRecord) → new.met.made.records ≡ old.met.made.records ++ r ∷ [] → (AreMet at old.met → AreMet at new.met) → ScansAlso at r old new
+scanned_more at old new r also met = λ records is. record { records_are = also ∙ ap (λ (rs : List LogRecord). rs ++ r ∷ []) is.records_are; met = met is.met }

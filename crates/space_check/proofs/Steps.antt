@@ -1,6 +1,6 @@
 -- From what was told of logs and tables to the clauses of a sound disk.
 use Rattle.std.proofs.Common.{◌≡◌, ℕ, ◌+◌, ◌≤◌, Bool, true, false, List, [], ◌∷◌, ◌++◌, length, Option, Some, None, inl, inr, refl, sym, ap, subst, ◌∙◌, if◌then◌else◌}
-use Rattle.std.specs.Prelude.{◌⊎◌, ◌&&◌}
+use Rattle.std.specs.Prelude.{◌⊎◌, ◌↔◌, ◌&&◌, IsTrue}
 use Rattle.std.specs.List.{AllByRecursion}
 use Rattle.ds_base.specs.Ids.{IsLrsn, IsTable}
 use Rattle.ds_base.specs.declared.names.PageId.{PageId}
@@ -9,7 +9,7 @@ use Rattle.ds_disk.specs.Pages.{page_at}
 use Rattle.ds_model.specs.declared.log.LogRecord.{LogRecord}
 use Rattle.ds_model.specs.RecordBytes.{IsAllowed}
 use Rattle.ds_model.specs.Rows.{listed}
-use Rattle.ds_model.specs.Logs.{rows_of_logs}
+use Rattle.ds_model.specs.Logs.{rows_of_logs, by_lrsn}
 use Rattle.disk_spots.specs.declared.spot.Spot.{Spot}
 use Rattle.disk_spots.specs.declared.spot.Spot.TheVariants as spot
 use Rattle.disk_spots.specs.Spots.{spot_of, drawn_spot_of}
@@ -29,13 +29,16 @@ use Rattle.sound_disk.specs.Tables.{IsWholeTable, AreWholeTables, AreTables}
 use Rattle.sound_disk.specs.Turns.{is_in_turn, are_in_turn, ChangeInTurn}
 use Rattle.fitting_records.specs.Breaches.{IsRecordOf, IsFirstBreach}
 use Rattle.fitting_records.specs.Telling.{AreFitTold}
+use Rattle.fitting_records.specs.Passed as passing
 use Rattle.disk_logs.specs.Broken.{IsFirstBroken}
+use Rattle.disk_logs.specs.Ends.{AreWholeTo}
 use Rattle.disk_versions.specs.Placing.{AreInSets, IsFirstInSets}
 use Rattle.disk_versions.specs.Told.{page_sets, AreAllPlaced, IsFirstUnplaced}
 use Rattle.disk_versions.specs.Ranged.{PlacingTells}
 use Rattle.disk_versions.specs.declared.set.Placing.TheVariants as placing
 use Rattle.index_places.specs.Whole.{AreAllWhole, IsFirstUnwhole}
 use Rattle.kept_pages.specs.Unkept.{IsUnkept, AreKept}
+use Rattle.row_turns.specs.Orders as orders
 use Rattle.row_turns.specs.Out.{IsOutOfTurn, located}
 use Rattle.row_turns.specs.Turns.{out_of_turn}
 use Rattle.row_turns.specs.Ranges.{number_in, OutIsFirst, OpenAreAll, RowsAreAll}
@@ -55,7 +58,7 @@ use Rattle.space_check.specs.Clauses.{ArePlaced, IsTablesPage, IsBreach}
 use Rattle.space_check.specs.Judging.{AreRight}
 use Rattle.space_check.specs.Verdicts.{IsTold}
 use Rattle.space_check.specs.Tables.{AreWholeUpTo, AreStoodUpTo, AreTablesTold}
-use Rattle.space_check.specs.Telling.{AreEnded, AreFit, AreTabled, TellsTabled, wrong_by, wrong_page, unsound}
+use Rattle.space_check.specs.Telling.{AreEnded, TellsEnded, AreFit, AreTabled, wrong_by, wrong_page, unsound}
 
 -- the laws that are called
 pub record AreLaws : Type 0 where
@@ -232,3 +235,27 @@ unkept_told laws c ends great behind t logs found at none none_turned left some 
     told_breach c logs behind (breach_of clause.Checkpoints at) is.fit.ended.whole
     (unkept_breach (page_at c.pages) logs behind at is.fit.transactions (placed_of laws c ends great behind t logs is).read (tables_of laws c ends great behind t logs none is) (turns_of laws c ends great behind t logs none_turned is)
     (left_of laws c ends great behind t logs none_turned left is) (subst (λ (f : Option Spot). AreKept (page_at c.pages) logs f) some kept))
+
+-- ---- before the tables
+
+pub not_left : (b : Bool) (P : Type 0) → b ≡ false → IsTrue b ↔ P → P → ⊥
+not_left b P e h p = absurd (cc (e, h.1 p))
+
+pub ended_of : (c : Contents) (behind : ℕ) (ends slice : List ℕ) (v : Verdict) → slice ≡ ends → AreWholeTo c.logs ends → TellsEnded slice behind v c → IsTold c behind v
+ended_of c behind ends slice v same whole told = told whole.logs (record { whole = whole.are; ends_are = same ∙ whole.ends_are })
+
+pub unfit_told : (c : Contents) (ends : List ℕ) (behind : ℕ) (logs : List Log) (found : Option Spot) (at : Spot) → AreEnded c ends logs → found ≡ Some at → AreFitTold found logs → IsTold c behind (unsound clause.Transactions at)
+unfit_told c ends behind logs found at ended some told =
+    let unfit : (AreTransactions logs → ⊥) × IsRecordOf (IsFirstBreach AreTransactions logs) at = subst (λ (f : Option Spot). AreFitTold f logs) some told in
+    told_breach c logs behind (breach_of clause.Transactions at) ended.whole (unfit_breach (page_at c.pages) logs behind at unfit.0 unfit.1)
+
+pub fit_now : (c : Contents) (ends : List ℕ) (great : ℕ) (logs : List Log) (found : Option Spot) → AreEnded c ends logs → found ≡ None → AreFitTold found logs → great ≡ greatest (all_records logs) → AreFit c ends great logs
+fit_now c ends great logs found ended none told great_is = record { ended = ended; transactions = subst (λ (f : Option Spot). AreFitTold f logs) none told; greatest_is = great_is }
+
+-- row changes before the Commit
+early_same : (earlier rs : List LogRecord) → orders.are_early earlier rs ≡ passing.are_early earlier rs
+early_same earlier [] = refl
+early_same earlier (r ∷ rs) = ap (λ (b : Bool). orders.is_early earlier r && b) (early_same (earlier ++ r ∷ []) rs)
+
+pub early_of : (logs : List Log) → passing.are_early [] (by_lrsn (all_records logs)) ≡ true → orders.are_early [] (by_lrsn (all_records logs)) ≡ true
+early_of logs h = early_same [] (by_lrsn (all_records logs)) ∙ h

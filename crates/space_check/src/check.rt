@@ -80,7 +80,8 @@ fn check_ended<D: Disk>(
 {
     let mut block = zeros(alloc)?;
     let summary = summarize(alloc, disk, ends, &mut block)?;
-    match find_unfit(alloc, disk, ends, summary.fits)? {
+    let found = find_unfit(alloc, disk, ends, summary.fits)?;
+    match found {
         Some(at) => Ok(unsound(Clause::Transactions, at)),
         None => check_fit(alloc, disk, ends, &summary, behind, &mut block),
     }
@@ -90,7 +91,8 @@ fn check_ended<D: Disk>(
 pub fn check_behind<D: Disk>(alloc: Global, disk: &mut D, behind: u32) -> Result<Verdict, DiskError>
     ensures { Reads (D.contents disk.old) (D.contents disk.new) (D.faults disk.old) (D.faults disk.new) (λ v c. IsTold c behind v) result }
 {
-    match find_all_ends(alloc, disk)? {
+    let found = find_all_ends(alloc, disk)?;
+    match found {
         Ends::Broken { member, at } => Ok(unsound(Clause::WholeLogs, Spot::Log { member, at })),
         Ends::Whole { ends } => check_ended(alloc, disk, &ends, behind),
     }

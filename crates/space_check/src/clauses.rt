@@ -59,7 +59,8 @@ fn check_kept<D: Disk>(
     placing_laws();
     unstood_laws();
     turn_laws();
-    match find_first_unkept(alloc, disk, ends)? {
+    let found = find_first_unkept(alloc, disk, ends)?;
+    match found {
         Some(at) => Ok(unsound(Clause::Checkpoints, at)),
         None => Ok(Verdict::Sound {
             pages: told.pages,
@@ -89,8 +90,8 @@ fn check_numbers<D: Disk>(
     if are_left(great, told.turns.open) {
         return check_kept(alloc, disk, ends, great, told);
     }
-    let spot = find_number(alloc, disk, ends, great)?;
-    unsound_at(Clause::Numbers, spot)
+    let found = find_number(alloc, disk, ends, great)?;
+    unsound_at(Clause::Numbers, found)
 }
 
 // The fifth, where those before it hold.
@@ -112,8 +113,8 @@ fn check_turns<D: Disk>(
     match told.turns.out {
         None => check_numbers(alloc, disk, ends, great, told),
         Some(out) => {
-            let spot = find_drawn(alloc, disk, ends, out.number.number())?;
-            unsound_at(Clause::Turns, spot)
+            let found = find_drawn(alloc, disk, ends, out.number.number())?;
+            unsound_at(Clause::Turns, found)
         }
     }
 }
@@ -142,7 +143,8 @@ fn check_tables<D: Disk>(
     page_laws();
     placing_laws();
     unstood_laws();
-    match wrong_page(told) {
+    let page = wrong_page(told);
+    match page {
         Some(id) => Ok(unsound(Clause::Tables, Spot::Page { id })),
         None => check_turns(alloc, disk, ends, great, told),
     }

@@ -83,9 +83,10 @@ pub fn tell_tables<D: Disk>(
     let mut tables = 0;
     while tables < 64 {
         let range = range_behind(counts, tables);
-        match add_range(
+        let found = add_range(
             alloc, disk, ends, range, is_early, renews, behind, &told, block,
-        )? {
+        )?;
+        match found {
             RangeFound::Told { told: more } => told = more,
             RangeFound::Unplaced { id } => return Ok(RangeFound::Unplaced { id }),
         }

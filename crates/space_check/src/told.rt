@@ -121,10 +121,12 @@ pub fn add_range<D: Disk>(
     ensures { Reads (D.contents disk.old) (D.contents disk.new) (D.faults disk.old) (D.faults disk.new) (λ found c. TellsRange is_early ends.now renews behind range told.now found c) result }
 {
     let scan = scan_tables(alloc, disk, ends, range, is_early, block)?;
-    match check_range(alloc, disk, &scan.met, renews, behind)? {
+    let placed = check_range(alloc, disk, &scan.met, renews, behind)?;
+    match placed {
         Placing::Unplaced { id } => Ok(RangeFound::Unplaced { id }),
-        Placing::All { pages } => Ok(RangeFound::Told {
-            told: told.add_scan(alloc, &scan, range, pages)?,
-        }),
+        Placing::All { pages } => {
+            let told = told.add_scan(alloc, &scan, range, pages)?;
+            Ok(RangeFound::Told { told })
+        }
     }
 }
