@@ -32,7 +32,7 @@ same_spot table key u j =
 
 -- ---- records
 
-set_told : (rows : Rows) (u j : ℕ) (after : Option (List ℕ)) (table key : ℕ) → get (set_row rows u j after) (table, key) ≡ cond ((u == table) && (j == key)) after (get rows (table, key))
+pub set_told : (rows : Rows) (u j : ℕ) (after : Option (List ℕ)) (table key : ℕ) → get (set_row rows u j after) (table, key) ≡ cond ((u == table) && (j == key)) after (get rows (table, key))
 set_told rows u j None table key = get-remove spot_cmp_total rows (u, j) (table, key) ∙ ap (λ (b : Bool). cond b None (get rows (table, key))) (same_spot table key u j)
 set_told rows u j (Some v) table key = get-insert spot_cmp_total rows (u, j) v (table, key) ∙ ap (λ (b : Bool). cond b (Some v) (get rows (table, key))) (same_spot table key u j)
 

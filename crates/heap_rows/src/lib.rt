@@ -2,7 +2,9 @@
 #![tactic(auto)]
 
 mod heap;
+mod left;
 mod rows;
 
 pub use heap::page_has;
+pub use left::LeftRows;
 pub use rows::rows_after;

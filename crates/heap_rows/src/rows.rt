@@ -8,7 +8,7 @@ use log_record::{Body, LogRecord, RowChange};
 use spot_map::SpotMap;
 use std::alloc::Global;
 
-fn put(rows: &mut SpotMap<Value>, change: &RowChange) -> Result<(), NoMemory>
+pub fn put(rows: &mut SpotMap<Value>, change: &RowChange) -> Result<(), NoMemory>
     ensures { OnOk result (rows.new ≡ set_row rows.old change.now.table change.now.key change.now.after) }
 {
     match change.after {

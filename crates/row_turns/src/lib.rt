@@ -1,10 +1,16 @@
 //! Whether rows are changed under one transaction at a time, over merged records.
 #![tactic(auto)]
 
+mod held;
 mod holders;
 mod logs;
+mod row;
+mod scan;
 mod settling;
+mod told;
 mod turns;
 
 pub use logs::turn_spot;
+pub use scan::Turns;
+pub use told::{OutOfTurn, Told};
 pub use turns::find_out_of_turn;

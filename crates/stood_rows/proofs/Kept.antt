@@ -134,7 +134,7 @@ body_fits v body.Ended h = tt
 body_fits v (body.Checkpoint offset) h = tt
 body_fits v body.RestartEnd h = tt
 
-allowed_at : (rs : List LogRecord) (k : ℕ) (r : LogRecord) → AllByRecursion IsAllowed rs → k < length rs → IsAllowed (get_or rs k r)
+pub allowed_at : (rs : List LogRecord) (k : ℕ) (r : LogRecord) → AllByRecursion IsAllowed rs → k < length rs → IsAllowed (get_or rs k r)
 allowed_at [] k r h lt = absurd (omega arith)
 allowed_at (x ∷ rs) zero r h lt = h.0
 allowed_at (x ∷ rs) (suc k) r h lt = allowed_at rs k r h.1 (omega arith)

@@ -138,7 +138,7 @@ off_page id lrsn (p ∷ ps) page f =
     ap (λ (b : Bool). written id lrsn ps (if b then after_patch lrsn page p else page)) s
     ∙ off_page id lrsn ps page (sym (ap (λ (b : Bool). b || list_any (λ (q : Patch). same_page q.page id) ps) s) ∙ f))
 
-all_stay : (at : Images) (lrsn : ℕ) (ps : List Patch) → AllByRecursion (λ (p : Patch). StayOn at (after_change lrsn ps at) p.page) ps → SlotsStay at (after_change lrsn ps at)
+pub all_stay : (at : Images) (lrsn : ℕ) (ps : List Patch) → AllByRecursion (λ (p : Patch). StayOn at (after_change lrsn ps at) p.page) ps → SlotsStay at (after_change lrsn ps at)
 all_stay at lrsn ps h table key place some few is =
     let id = heap_page table place.page in
     decide (list_any (λ (p : Patch). same_page p.page id) ps) (IsPlaceOf (after_change lrsn ps at) table key place)

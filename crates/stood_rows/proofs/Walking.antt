@@ -16,7 +16,7 @@ as_long e [] (b ∷ bs) h = absurd h
 as_long e (r ∷ rs) [] h = absurd h
 as_long e (r ∷ rs) (b ∷ bs) h = ap suc (as_long (e ++ r ∷ []) rs bs h.1)
 
-next : (e rs : List LogRecord) (r : LogRecord) (k : ℕ) → (e ++ r ∷ []) ++ take k rs ≡ e ++ (r ∷ take k rs)
+pub next : (e rs : List LogRecord) (r : LogRecord) (k : ℕ) → (e ++ r ∷ []) ++ take k rs ≡ e ++ (r ∷ take k rs)
 next e rs r k = append_assoc e (r ∷ []) (take k rs)
 
 tells_at : (e rs : List LogRecord) (bs : List Bool) (k : ℕ) (r : LogRecord) (b : Bool) → AreBefores e rs bs → k < length rs → IsTrue (get_or bs k b) ↔ RowBefore (e ++ take k rs) (get_or rs k r).body
@@ -49,7 +49,7 @@ unmet earlier lrsn body.Ended id w s = w
 unmet earlier lrsn (body.Checkpoint offset) id w s = w
 unmet earlier lrsn body.RestartEnd id w s = w
 
-first_unstood : (rs : List LogRecord) (k : ℕ) (r : LogRecord) (id : PageId) → k < length rs → BeforesAgree [] (take k rs) → IsUnstood (take k rs) (get_or rs k r).lrsn (get_or rs k r).body id → IsFirstUnstood rs id
+pub first_unstood : (rs : List LogRecord) (k : ℕ) (r : LogRecord) (id : PageId) → k < length rs → BeforesAgree [] (take k rs) → IsUnstood (take k rs) (get_or rs k r).lrsn (get_or rs k r).body id → IsFirstUnstood rs id
 first_unstood rs k r id lt h w = record {
   first = take k rs;
   it = get_or rs k r;

@@ -1,3 +1,5 @@
 pub mod Held
 pub mod Owners
 pub mod Standing
+pub mod Found
+pub mod Laws

@@ -23,8 +23,8 @@ fn copy_of(alloc: Global, page: &Page) -> Result<Page, NoMemory>
     Ok(copy)
 }
 
-// The page of this name after those of the patches that are for it.
-fn written(
+/// The page of this name after those of the patches that are for it.
+pub fn written(
     alloc: Global,
     page: &Page,
     id: PageId,
