@@ -1,4 +1,3 @@
-use Rattle.std.proofs.Common.{refl}
 use Rattle.page_chain.specs.Chains.{row_patch}
 use Rattle.redone_pages.proofs.Kept.{after_one, left_out}
 use Rattle.redone_pages.proofs.apply.apply_change.Goals as goal
