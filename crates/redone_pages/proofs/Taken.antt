@@ -27,7 +27,7 @@ redone_more range es fs ls ms rs all r so after raised is =
       lasts_are = λ s. raised s ∙ ap (λ (n : ℕ). last_in_patches s n (changes_of r.body)) (so.lasts_are s) ∙ last_push s 0 rs r;
     })
 
-none_in : (n s : ℕ) → get_or (replicate n 0) s 0 ≡ 0
+none_in : (n s : ℕ) → get_or {A = ℕ} (replicate n 0) s 0 ≡ 0
 none_in zero s = refl
 none_in (suc n) zero = refl
 none_in (suc n) (suc s) = none_in n s
