@@ -3,6 +3,7 @@ use Rattle.std.proofs.Common.{◌≡◌, ℕ, zero, suc, ◌+◌, ◌≤◌, ◌
 use Rattle.std.specs.Prelude.{◌≢◌, ◌-◌, ◌&&◌, if◌then◌else◌, IfSome, IsSomeAnd, slice_get, slice_index_or, slice_set}
 use Rattle.std.proofs.lemmas.Bool.{and_parts}
 use Rattle.ds_disk.specs.Contents.{Contents, log_of}
+use Rattle.ds_disk.specs.Logs.{IsLogOfBytes}
 use Rattle.ds_model.specs.declared.script.Phase.{Phase}
 use Rattle.facility.specs.States.{Held as Facility}
 use Rattle.list_structure.specs.declared.standing.MemberStatus.{MemberStatus}
@@ -29,7 +30,7 @@ use Rattle.failed_logs.specs.Logs.{BeginsClaimed, LogClaimed}
 use Rattle.failed_logs.specs.Given.{Moves, MovesSpare, OfPhase}
 use Rattle.failed_logs.specs.Given.{LocksTied, MemberStands}
 use Rattle.failed_logs.specs.Given.{LogLocked}
-use Rattle.claimed_logs.specs.Beginning.{BeginKnowing, IsLog, PhasesLogged}
+use Rattle.claimed_logs.specs.Beginning.{BeginKnowing, PhasesLogged}
 use Rattle.claimed_logs.specs.Courses.{LeavesAlike, RestartCourse}
 use Rattle.claimed_logs.specs.Logs.{DownLogged, LogsClaimed, MemberLogged, RestartLogged}
 use Rattle.claimed_logs.proofs.Logs.{LeftFacts, log_left, member_left}
@@ -167,7 +168,7 @@ restarting_dead : (s : MemberStatus) → s ≡ Restarting → is_live s ≡ fals
 restarting_dead s a b = never (sym (ap is_live a) ∙ b)
 
 -- a restart that begins finds the claims of what the log leaves open
-begun_logged : Facts → (log : List ℕ) (w : World) (k : ℕ) (x : Option RestartHeld) → IsLog log → LogClaimed log w k → IsSomeAnd x (λ q. IsNew k q.resources) → IfSome x (λ q. KnowsWhole log q.resources.marks)
+begun_logged : Facts → (log : List ℕ) (w : World) (k : ℕ) (x : Option RestartHeld) → IsLogOfBytes log → LogClaimed log w k → IsSomeAnd x (λ q. IsNew k q.resources) → IfSome x (λ q. KnowsWhole log q.resources.marks)
     → IfSome x (λ q. RestartLogged log w q.resources.marks)
 begun_logged facts log w k None is claimed fresh knows = absurd fresh
 begun_logged facts log w k (Some q) is claimed fresh knows = record {
@@ -192,7 +193,7 @@ begun_course law log k (Some q) own leaves idle fresh = record {
 }
 
 member_turns : Facts → (c : Contents) (phase : Phase) (f g : Facility) (w z : World) (k : ℕ) (log : List ℕ) (m n : Member) (b : Bool) → begins_restart phase f.lists.statuses k ≡ b → Turns b m n (status_of f.lists.statuses k) (status_of g.lists.statuses k)
-    → f.counter ≤ g.counter → ((o q : ℕ) → z.claims k o q ≡ w.claims k o q) → MemberStands f k m → IsLog log → (begins_restart phase f.lists.statuses n.id ≡ true → IfSome n.restart (λ q. KnowsWhole log q.resources.marks))
+    → f.counter ≤ g.counter → ((o q : ℕ) → z.claims k o q ≡ w.claims k o q) → MemberStands f k m → IsLogOfBytes log → (begins_restart phase f.lists.statuses n.id ≡ true → IfSome n.restart (λ q. KnowsWhole log q.resources.marks))
     → MemberLogged f w k log m → MemberLogged g z k log n
 member_turns facts c phase f g w z k log m n true e turns rises same stood is knows h = record {
   up = λ up. absurd (restarting_up (status_of g.lists.statuses k) turns.2 up);
@@ -250,4 +251,4 @@ phases_logged facts c phase old new w t p logs knows moves l = record {
     on at (Some m) (Some n) turns stood known h = member_turns facts c phase old.facility new.facility w moves.world (at + 1) (log_of c.logs (at + 1)) m n (begins_restart phase old.facility.lists.statuses (at + 1)) refl
         (turns_as (begins_restart phase old.facility.lists.statuses (at + 1)) m n (status_of old.facility.lists.statuses (at + 1)) (status_of p.lists.statuses (at + 1)) (status_of new.facility.lists.statuses (at + 1))
         (ap (λ (z : List MemberStatus). status_of z (at + 1)) statuses) turns)
-        rises (λ o q. facts.spare OfPhase old new w moves (at + 1) o q refl) stood (logs at) known h
+        rises (λ o q. facts.spare OfPhase old new w moves (at + 1) o q refl) stood (logs (at + 1)) known h

@@ -6,6 +6,7 @@ use Rattle.std.proofs.lemmas.List.{append-nil, take_at}
 use Rattle.std.proofs.lemmas.Nat.{div-add-mod'}
 use Rattle.std.proofs.lemmas.Option.{slice_get-map, slice_get_within}
 use Rattle.ds_disk.specs.Contents.{Becomes, Contents, log_of}
+use Rattle.ds_disk.specs.Logs.{LogsAreBytes}
 use Rattle.ds_model.specs.declared.script.Phase.{Phase}
 use Rattle.ds_model.specs.declared.script.Script.{Script}
 use Rattle.cache_structure.specs.Directory.{Directory}
@@ -589,8 +590,8 @@ above_zero zero ne = absurd (ne refl)
 above_zero (suc n) ne = omega arith
 
 -- ---- any event
-pub events_keep : {C D : Type 0} → (P : Type 0) (directory : C → Directory) (alive : D → Bool) (contents : D → Option Contents) (count : D → ℕ) → Facts → EventsKeep P directory alive contents count
-events_keep {C} {D} P directory alive contents count facts old new event w c d taken lawful no_group told left t given stand = elim (cases_Bool (takes old event)) [
+pub events_keep : {C D : Type 0} → (P : Type 0) (directory : C → Directory) (alive : D → Bool) (contents : D → Option Contents) (count : D → ℕ) → ((disk : D) (c : Contents) → contents disk ≡ Some c → LogsAreBytes c.logs) → Facts → EventsKeep P directory alive contents count
+events_keep {C} {D} P directory alive contents count bytes facts old new event w c d taken lawful no_group told left t given stand = elim (cases_Bool (takes old event)) [
   | inr isnt ↦ elim (cases_eq (event % 64) 0) [
     | inl own ↦ kept event OfPhase before after w d own (unmoved OfPhase isnt) (unmoved_ends isnt)
     | inr member ↦ kept event (OfMember (event % 64)) before after w d refl (unmoved (OfMember (event % 64)) isnt) (unmoved_ends isnt)
@@ -639,7 +640,7 @@ events_keep {C} {D} P directory alive contents count facts old new event w c d t
     phase_goes own same None h = absurd h
     phase_goes own same (Some phase) h =
         let moves : Moves OfPhase before after w = facts.phases phase before after w t h in
-        kept event OfPhase before after w d own (record { moves = moves; logs = subst (λ (z : Contents). LogsClaimed z after moves.world) (sym same) (facts.phases_logged c phase before after w t h given.are (facts.begins c phase before after h stand.ends (dead_rest before w t) few_members) moves l) }) (same_ends same)
+        kept event OfPhase before after w d own (record { moves = moves; logs = subst (λ (z : Contents). LogsClaimed z after moves.world) (sym same) (facts.phases_logged c phase before after w t h (bytes old.disk c told) (facts.begins c phase before after h stand.ends (dead_rest before w t) few_members) moves l) }) (same_ends same)
 
     begins : event % 64 ≡ 0 → d ≡ c → (why : Option RunFault) → new.fault ≡ why → BeginsOrNot directory why old.crew event (length new.journal.items) new.crew → Keeps event before after w d
     begins own same None is e = phase_goes own same (slice_get before.script.phases before.begun) e

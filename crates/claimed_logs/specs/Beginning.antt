@@ -1,8 +1,8 @@
 -- A phase begins, and with it restarts of members that have failed.
-use Rattle.std.specs.Prelude.{◌≡◌, ℕ, ◌+◌, ◌^◌, ◌<◌, true, List, length, IfSome, slice_get}
+use Rattle.std.specs.Prelude.{◌≡◌, ℕ, ◌+◌, true, IfSome, slice_get}
 use Rattle.ds_disk.specs.Contents.{Contents, log_of}
+use Rattle.ds_disk.specs.Logs.{LogsAreBytes}
 use Rattle.ds_model.specs.declared.script.Phase.{Phase}
-use Rattle.log_reader.specs.Keeping.{AreBytes}
 use Rattle.restart_law.specs.Reads.{KnowsWhole}
 use Rattle.lock_protocol.specs.Machine.{World}
 use Rattle.group_core.specs.Given.{PhaseBegins, begins_restart}
@@ -11,11 +11,6 @@ use Rattle.failed_logs.specs.Given.{Moves, OfPhase}
 use Rattle.failed_logs.specs.Given.{LocksTied}
 use Rattle.claimed_logs.specs.Logs.{LogsClaimed}
 
--- the log is bytes, fewer than 2^60
-pub record IsLog (log : List ℕ) : Type 0 where
-  pub are : AreBytes log
-  pub short : length log < 2 ^ 60
-
 -- each restart that begins was told of whole records alone
 abbrev pub BeginKnowing : Contents → Phase → CrewState → CrewState → Type 0
 BeginKnowing c phase old new = (at : ℕ)
@@ -23,5 +18,5 @@ BeginKnowing c phase old new = (at : ℕ)
 
 abbrev pub PhasesLogged : Type 0
 PhasesLogged = (c : Contents) (phase : Phase) (old new : CrewState) (w : World)
-    → LocksTied old w → PhaseBegins phase old new → ((at : ℕ) → IsLog (log_of c.logs (at + 1))) → BeginKnowing c phase old new
+    → LocksTied old w → PhaseBegins phase old new → LogsAreBytes c.logs → BeginKnowing c phase old new
     → (moves : Moves OfPhase old new w) → LogsClaimed c old w → LogsClaimed c new moves.world

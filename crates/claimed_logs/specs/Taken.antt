@@ -14,15 +14,12 @@ use Rattle.failed_logs.specs.Given.{StepsAt}
 use Rattle.failed_logs.specs.Given.{RestartStepsAt}
 use Rattle.failed_logs.specs.Given.{LocksTied}
 use Rattle.group_logs.specs.Known.{EndsHold}
-use Rattle.claimed_logs.specs.Beginning.{IsLog}
 use Rattle.claimed_logs.specs.Events.{CountsLeft}
 use Rattle.claimed_logs.specs.Logs.{LogsClaimed}
 use Rattle.claimed_logs.specs.Steps.{PutsUnclosed}
 
 -- What an event takes from elsewhere, where the disk holds these before it, and those behind it. No contract says it yet.
 pub record Supplied (c d : Contents) (old new : CrewState) (w : World) : Type 0 where
-  -- logs are bytes, of which each has fewer than 2^60
-  pub are : (at : ℕ) → IsLog (log_of c.logs (at + 1))
   -- what members know of the ends of logs stays
   pub known : new.known ≡ old.known
   -- a member that is up changes no row for a transaction which its log closes

@@ -70,7 +70,7 @@ pub fn logs_claimed()
 }
 
 /// So it is behind the begin of a phase, if the restarts that begin were told of whole records alone, and each log is bytes, fewer than
-/// 2^60.
+/// 2^64.
 pub fn phases_logged()
     ensures { PhasesLogged }
 {

@@ -16,6 +16,7 @@ use Rattle.page_versions.specs.Fronts.{IsPlaced, PlacedMayStand}
 use Rattle.disk_versions.specs.Ends.{page_of, pages_read, IsRead}
 use Rattle.disk_versions.specs.Placing.{AreInSets, IsFirstInSets, AreSetsTold}
 use Rattle.disk_versions.specs.Told.{page_sets, IsReadOf, IsBefore, AreAllPlaced, IsFirstUnplaced, IsTold, AreToldBy}
+use Rattle.disk_versions.specs.Ranged.{NoneUnplaced}
 use Rattle.disk_versions.specs.declared.set.Placing.{Placing}
 use Rattle.disk_versions.specs.declared.set.Placing.TheVariants as placing
 use Rattle.disk_versions.proofs.Reading.{told_by}
@@ -64,6 +65,9 @@ by_reading at records behind sets id P f g =
     (λ b. g (λ r. not_le id.set sets b r.set_to)))
     (λ a. g (λ r. not_le 1 id.set a r.set_from))
 
+nothing_read : (set : ℕ) → 1 ≤ set → set ≤ 0 → ⊥
+nothing_read set from to = omega (arith, from, to)
+
 -- ---- what is told
 
 pub all_told : IsKnown → (at : Images) (logs : List Log) (behind pages : ℕ) → AreInSets at (merged logs) (must_renew logs) behind page_sets pages → AreAllPlaced at logs behind pages
@@ -92,9 +96,12 @@ first_told k at logs behind id h = record {
   first = λ other less r. (k.stand logs other (at other)).0 (before_in at logs behind id other h less r);
 }
 
-is_told : IsKnown → (at : Images) (logs : List Log) (behind : ℕ) (found : Placing) → AreSetsTold at (merged logs) (must_renew logs) behind page_sets found → IsTold at logs behind found
+pub is_told : IsKnown → (at : Images) (logs : List Log) (behind : ℕ) (found : Placing) → AreSetsTold at (merged logs) (must_renew logs) behind page_sets found → IsTold at logs behind found
 is_told k at logs behind (placing.All pages) h = all_told k at logs behind pages h
 is_told k at logs behind (placing.Unplaced id) h = first_told k at logs behind id h
+
+pub none_unplaced : NoneUnplaced
+none_unplaced at made renews behind = record { each = λ id r. absurd (nothing_read id.set r.set_from r.set_to); count = refl }
 
 abbrev SetsAt : List LogRecord → Bool → ℕ → Placing → Contents → Type 0
 SetsAt records renews behind found c = AreSetsTold (page_at c.pages) records renews behind 128 found

@@ -1,10 +1,11 @@
-ghost use Rattle.std.specs.Prelude.{◌≡◌};
+ghost use Rattle.std.specs.Prelude.{◌≡◌, ◌↔◌, IsTrue};
 ghost use Rattle.std.specs.List.{AllByRecursion};
 ghost use Rattle.ds_disk.specs.Answers.{Answers, HasCause};
 ghost use Rattle.ds_disk.specs.Contents.{Same};
 ghost use Rattle.ds_disk.specs.Pages.{page_at};
 ghost use Rattle.ds_model.specs.RecordBytes.{IsAllowed};
 ghost use Rattle.page_format.specs.Header.{is_zeros};
+ghost use Rattle.page_images.specs.Images.{zeros};
 ghost use Rattle.page_records.specs.Places.{by_page};
 ghost use Rattle.disk_versions.specs.Reading.{Reads};
 ghost use Rattle.disk_versions.specs.Placing.{IsJudged};
@@ -26,8 +27,10 @@ pub fn load<D: Disk>(disk: &mut D, id: PageId, page: &mut Page) -> Result<(), Di
     Ok(())
 }
 
-fn is_blank(page: &Page) -> bool
-    ensures { result ≡ is_zeros page.now }
+/// Whether all its bytes are zeros.
+pub fn is_blank(page: &Page) -> bool
+    ensures exact { result ≡ is_zeros page.now }
+    ensures fact { IsTrue result ↔ (page.now ≡ zeros) }
 {
     page.bytes().iter().all(|byte| *byte == 0)
 }

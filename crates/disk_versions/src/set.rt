@@ -25,7 +25,8 @@ pub enum Placing {
     Unplaced { id: PageId },
 }
 
-fn count_with(pages: u64, is_written: bool) -> u64
+/// The count with one page more, if it isn't all zeros.
+pub fn count_with(pages: u64, is_written: bool) -> u64
     requires { pages ≤ 2 ^ 32 }
     ensures { result ≡ count_with pages is_written }
 {

@@ -6,6 +6,7 @@ ghost use Rattle.page_records.specs.Places.{by_page};
 ghost use Rattle.disk_versions.specs.Reading.{Reads};
 ghost use Rattle.disk_versions.specs.Placing.{AreSetsTold};
 ghost use Rattle.disk_versions.specs.Told.{AreToldBy, SetsTell};
+ghost use Rattle.disk_versions.specs.Ranged.{PlacingTells, NoneUnplaced};
 
 use crate::set::{Placing, check_set};
 use ds_disk::{Disk, DiskError};
@@ -66,6 +67,15 @@ pub fn find_unplaced<D: Disk>(
 /// What is found of all page sets by the merged records is what is told of the third clause of a sound disk.
 pub fn sets_laws()
     ensures { SetsTell }
+{
+    header_laws();
+    version_laws();
+}
+
+/// What is found of all page sets, from the first on, is what is told of the third clause of a sound disk.
+pub fn placing_laws()
+    ensures told { PlacingTells }
+    ensures none { NoneUnplaced }
 {
     header_laws();
     version_laws();

@@ -8,6 +8,7 @@ use Rattle.ds_base.specs.declared.names.PageId.{PageId}
 use Rattle.ds_disk.specs.Pages.{Pages, PagesAreBytes, coded_page, put_pages}
 use Rattle.ds_disk.specs.Written.{have_bytes, pages_are}
 use Rattle.ds_disk.specs.Contents.{Contents, log_of, with_log, put_logs}
+use Rattle.ds_disk.specs.Logs.{LogsAreBytes, logs_have_bytes, logs_are}
 use Rattle.ds_disk.specs.Conditions.{Condition, course, counted, after, Answered}
 use Rattle.ds_disk.specs.declared.disk.DiskError.{DiskError}
 use Rattle.ds_disk.specs.declared.disk.DiskError.TheVariants.{NoMemory}
@@ -34,9 +35,9 @@ contents_code = code_by (Pages × List (List ℕ)) (coded× (map.code coded_page
 abbrev pub memory_code : Coded Condition → Coded Memory
 memory_code condition = code_by (Contents × Condition) (coded× contents_code condition) (λ m. (m.contents, m.condition)) (λ q. record { contents = q.0; condition = q.1 }) (λ _. refl)
 
--- each disk in memory has the 32 logs, and pages of bytes
+-- each disk in memory has the 32 logs, and pages and logs of bytes
 abbrev pub is_whole : Contents → Bool
-is_whole c = eqb (length c.logs) 32 && have_bytes c.pages
+is_whole c = eqb (length c.logs) 32 && (have_bytes c.pages && logs_have_bytes c.logs)
 
 -- so it tells what it holds
 abbrev pub told : Memory → Option Contents
@@ -46,14 +47,20 @@ whole_when : (b : Bool) (held c : Contents) → is_whole held ≡ b → cond b (
 whole_when true held c is e = ap is_whole (let same : c ≡ held = cc in same) ∙ is
 whole_when false held c is e = absurd cc
 
-told_whole : (m : Memory) (c : Contents) → told m ≡ Some c → (eqb (length c.logs) 32 ≡ true) × (have_bytes c.pages ≡ true)
-told_whole m c e = and_parts (eqb (length c.logs) 32) (have_bytes c.pages) (whole_when (is_whole m.contents) m.contents c refl e)
+told_whole : (m : Memory) (c : Contents) → told m ≡ Some c → (eqb (length c.logs) 32 ≡ true) × (have_bytes c.pages && logs_have_bytes c.logs ≡ true)
+told_whole m c e = and_parts (eqb (length c.logs) 32) (have_bytes c.pages && logs_have_bytes c.logs) (whole_when (is_whole m.contents) m.contents c refl e)
+
+told_bytes : (m : Memory) (c : Contents) → told m ≡ Some c → (have_bytes c.pages ≡ true) × (logs_have_bytes c.logs ≡ true)
+told_bytes m c e = and_parts (have_bytes c.pages) (logs_have_bytes c.logs) (told_whole m c e).1
 
 pub told_logs : (m : Memory) (c : Contents) → told m ≡ Some c → length c.logs ≡ 32
 told_logs m c e = eqb-true (length c.logs) 32 (told_whole m c e).0
 
 pub told_pages : (m : Memory) (c : Contents) → told m ≡ Some c → PagesAreBytes c.pages
-told_pages m c e = pages_are c.pages (told_whole m c e).1
+told_pages m c e = pages_are c.pages (told_bytes m c e).0
+
+pub told_log_bytes : (m : Memory) (c : Contents) → told m ≡ Some c → LogsAreBytes c.logs
+told_log_bytes m c e = logs_are c.logs (told_bytes m c e).1
 
 -- whether a page write or a cut is done, and whether an append keeps anything
 abbrev pub is_done : Course → Bool

@@ -22,11 +22,11 @@ have_bytes pages = list_all has_bytes (map.entries pages)
 
 -- ---- a page
 
-all_bytes : (bytes : List ℕ) → AreBytes bytes → list_all is_byte bytes ≡ true
+pub all_bytes : (bytes : List ℕ) → AreBytes bytes → list_all is_byte bytes ≡ true
 all_bytes [] h = refl
 all_bytes (b ∷ bs) h = and_from (is_byte b) (list_all is_byte bs) (lt-ltb b 256 (h 0)) (all_bytes bs (λ i. h (suc i)))
 
-byte_at : (bytes : List ℕ) (i : ℕ) → list_all is_byte bytes ≡ true → slice_index bytes i < 256
+pub byte_at : (bytes : List ℕ) (i : ℕ) → list_all is_byte bytes ≡ true → slice_index bytes i < 256
 byte_at [] zero h = omega arith
 byte_at [] (suc i) h = omega arith
 byte_at (b ∷ bs) zero h = ltb-true b 256 (and_parts (is_byte b) (list_all is_byte bs) h).0

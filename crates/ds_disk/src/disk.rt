@@ -55,6 +55,7 @@ pub struct DiskFailure {
 pub trait Disk {
     ghost use Rattle.ds_disk.specs.Pages.{PagesAreBytes, page_at};
     ghost use Rattle.ds_disk.specs.Contents.{Contents, Same, log_of, with_log};
+    ghost use Rattle.ds_disk.specs.Logs.{LogsAreBytes};
     ghost use Rattle.ds_disk.specs.Answers.{Answers, HasCause, Appended};
 
     /// What it holds, where it tells.
@@ -71,6 +72,9 @@ pub trait Disk {
 
     /// Each page is of bytes.
     ghost pages_are_bytes: { (disk : Self) (c : Contents) → contents disk ≡ Some c → PagesAreBytes c.pages };
+
+    /// Each log is of bytes, and of a length that 64 bits can count.
+    ghost logs_are_bytes: { (disk : Self) (c : Contents) → contents disk ≡ Some c → LogsAreBytes c.logs };
 
     fn read_page(&mut self, id: PageId, into: &mut [u8; 4096]) -> Result<(), DiskError>
         ensures answers { Answers (alive self.old) (alive self.new) (contents self.old) (contents self.new) result

@@ -1,6 +1,8 @@
 //! The logs of a disk in memory, one for each member.
-ghost use Rattle.std.specs.Prelude.{◌≡◌, ◌-◌, [], ◌++◌, length, take, replicate, slice_set, vec_len, IfOk, OnOk, OnErr};
+ghost use Rattle.std.specs.Prelude.{◌≡◌, ◌-◌, ◌<◌, ◌^◌, [], ◌++◌, length, take, replicate, slice_set, true, vec_len, IfOk, OnOk, OnErr};
 ghost use Rattle.ds_disk.specs.Contents.{log_of, put_logs};
+ghost use Rattle.ds_disk.specs.Logs.{logs_have_bytes};
+ghost use Rattle.ds_disk.specs.Pages.{AreBytes};
 
 use ds_base::{Bytes, MemberId, NoMemory};
 use std::alloc::Global;
@@ -33,6 +35,15 @@ fn empty_logs(alloc: Global) -> Result<Vec<Bytes>, NoMemory>
     Ok(logs)
 }
 
+/// How many bytes these are: fewer than 2^64.
+fn count(bytes: &[u8]) -> usize
+    ensures count { result ≡ length bytes.now }
+    ensures bytes { AreBytes bytes.now }
+    ensures short { length bytes.now < 2 ^ 64 }
+{
+    bytes.len()
+}
+
 impl LogSet {
     pub fn new(alloc: Global) -> Result<LogSet, NoMemory>
         ensures { IfOk result (λ logs. logs ≡ replicate 32 []) }
@@ -53,14 +64,19 @@ impl LogSet {
         ensures ok { OnOk result (self.new ≡ slice_set self.old (member - 1) (log_of self.old member ++ bytes.now)) }
         ensures err { OnErr result (self.new ≡ self.old) }
         ensures count { length self.new ≡ 32 }
+        ensures logged { logs_have_bytes self.old ≡ true → logs_have_bytes self.new ≡ true }
     {
-        self.logs[member.number() as usize - 1].extend(bytes)
+        let log = &mut self.logs[member.number() as usize - 1];
+        let done = log.extend(bytes);
+        count(log.as_slice());
+        done
     }
 
     /// Keeps the first `length` bytes of a log.
     pub fn cut(&mut self, member: MemberId, length: u64)
         ensures cut { self.new ≡ slice_set self.old (member - 1) (take length (log_of self.old member)) }
         ensures count { Rattle.std.specs.Prelude.length self.new ≡ 32 }
+        ensures logged { logs_have_bytes self.old ≡ true → logs_have_bytes self.new ≡ true }
     {
         self.logs[member.number() as usize - 1].truncate(length as usize);
     }
@@ -68,7 +84,9 @@ impl LogSet {
     fn put(&mut self, alloc: Global, member: MemberId, bytes: &[u8]) -> Result<(), NoMemory>
         ensures ok { OnOk result (self.new ≡ slice_set self.old (member - 1) bytes.now) }
         ensures err { OnErr result (self.new ≡ self.old) }
+        ensures logged { logs_have_bytes self.old ≡ true → logs_have_bytes self.new ≡ true }
     {
+        count(bytes);
         let mut log = Bytes::new(alloc);
         log.extend(bytes)?;
         self.logs[member.number() as usize - 1] = log;
@@ -78,6 +96,7 @@ impl LogSet {
     pub fn put_all(&mut self, alloc: Global, logs: &[(MemberId, Bytes)]) -> Result<(), NoMemory>
         ensures put { OnOk result (self.new ≡ put_logs self.old logs.now) }
         ensures count { length self.new ≡ length self.old }
+        ensures logged { OnOk result (logs_have_bytes self.old ≡ true → logs_have_bytes self.new ≡ true) }
     {
         for (member, bytes) in logs {
             self.put(alloc, *member, bytes.as_slice())?;

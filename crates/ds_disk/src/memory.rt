@@ -1,10 +1,10 @@
-ghost use Rattle.std.specs.Prelude.{◌≡◌, ◌⊎◌, ◌-◌, ◌≤◌, List, All, length, take, drop, min, replicate, Some, IfOk};
+ghost use Rattle.std.specs.Prelude.{◌≡◌, ◌⊎◌, ◌-◌, ◌≤◌, List, All, length, take, drop, min, replicate, true, Some, IfOk};
 ghost use Rattle.std.specs.FinMap as map;
 ghost use Rattle.ds_base.specs.Causes.{Rose};
-ghost use Rattle.ds_disk.specs.Pages.{AreBytes, page_at};
+ghost use Rattle.ds_disk.specs.Pages.{page_at};
 ghost use Rattle.ds_disk.specs.Contents.{log_of};
 ghost use Rattle.ds_disk.specs.Conditions.{healthy, course};
-ghost use Rattle.ds_disk.specs.Memory.{Ends, EndsOrWants, holding, nothing, append_left, cut_left, page_left, told, told_logs, told_pages};
+ghost use Rattle.ds_disk.specs.Memory.{Ends, EndsOrWants, holding, is_whole, nothing, append_left, cut_left, page_left, told, told_logs, told_log_bytes, told_pages};
 ghost use Rattle.ds_disk.specs.declared.disk.DiskOp.TheVariants.{ReadPage, WritePage, AppendLog, LogLength, ReadLog, CutLog};
 
 use crate::health::Health;
@@ -28,6 +28,7 @@ pub struct MemoryDisk {
 impl Model for MemoryDisk {
     ghost use Rattle.std.specs.Prelude.{◌≡◌, length, true};
     ghost use Rattle.ds_disk.specs.Conditions.{condition_code};
+    ghost use Rattle.ds_disk.specs.Logs.{logs_have_bytes};
     ghost use Rattle.ds_disk.specs.Written.{have_bytes};
     ghost use Rattle.ds_disk.specs.Memory.{Memory, memory_code};
     ghost use Rattle.ds_disk.specs.contracts.disk.DiskFailure as failure;
@@ -39,7 +40,7 @@ impl Model for MemoryDisk {
 
     ghost view = { λ d. record { contents = record { pages = d.pages; logs = d.logs }; condition = d.health } };
 
-    ghost invariant = { λ d. (length d.logs ≡ 32) × (have_bytes d.pages ≡ true) };
+    ghost invariant = { λ d. (length d.logs ≡ 32) × (have_bytes d.pages ≡ true) × (logs_have_bytes d.logs ≡ true) };
 }
 
 impl MemoryDisk {
@@ -108,6 +109,8 @@ impl Disk for MemoryDisk {
 
     ghost pages_are_bytes = { told_pages };
 
+    ghost logs_are_bytes = { told_log_bytes };
+
     fn read_page(&mut self, id: PageId, into: &mut [u8; 4096]) -> Result<(), DiskError>
         ensures ends { Ends ReadPage self.old self.new result (λ _. into.new ≡ page_at self.old.contents.pages id) self.old.contents }
     {
@@ -118,7 +121,7 @@ impl Disk for MemoryDisk {
 
     fn write_page(&mut self, id: PageId, from: &[u8; 4096]) -> Result<(), DiskError>
         ensures ends { EndsOrWants WritePage self.old self.new result (λ way. page_left way self.old.contents id from.now) }
-        ensures bytes { AreBytes from.now }
+        ensures whole { is_whole self.new.contents ≡ true }
     {
         let course = self.health.begin(DiskOp::WritePage);
         if course.is_done() {
@@ -129,6 +132,7 @@ impl Disk for MemoryDisk {
 
     fn append_log(&mut self, member: MemberId, bytes: &[u8]) -> Result<(), DiskError>
         ensures ends { EndsOrWants AppendLog self.old self.new result (λ way. append_left way self.old.contents member bytes.now) }
+        ensures whole { is_whole self.new.contents ≡ true }
     {
         let course = self.health.begin(DiskOp::AppendLog);
         if course.is_done() {
@@ -157,6 +161,7 @@ impl Disk for MemoryDisk {
 
     fn cut_log(&mut self, member: MemberId, length: u64) -> Result<(), DiskError>
         ensures ends { Ends CutLog self.old self.new result (λ _. Unit {0}) (cut_left (course CutLog self.old.condition) self.old.contents member length) }
+        ensures whole { is_whole self.new.contents ≡ true }
     {
         let course = self.health.begin(DiskOp::CutLog);
         if course.is_done() {

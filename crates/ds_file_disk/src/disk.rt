@@ -1,5 +1,5 @@
 ghost use Rattle.std.specs.Prelude.{◌≡◌, None, true};
-ghost use Rattle.ds_file_disk.specs.Untold.{never_told, no_page_told};
+ghost use Rattle.ds_file_disk.specs.Untold.{never_told, no_log_told, no_page_told};
 
 use crate::health::Health;
 use crate::logs::Logs;
@@ -45,6 +45,8 @@ impl<R: Files + Alloc> Disk for FileDisk<R> {
     ghost has_logs = { λ _ c e. never_told c e };
 
     ghost pages_are_bytes = { λ _ c e. no_page_told c e };
+
+    ghost logs_are_bytes = { λ _ c e. no_log_told c e };
 
     fn read_page(&mut self, id: PageId, into: &mut [u8; 4096]) -> Result<(), DiskError> {
         self.health.check()?;

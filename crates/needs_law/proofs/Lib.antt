@@ -1,2 +1,3 @@
 pub mod Tests
 pub mod Laws
+pub mod Executing

@@ -1,0 +1,4 @@
+pub mod Kept
+pub mod Raised
+pub mod Taken
+pub mod Within

@@ -41,13 +41,13 @@ fn take_page(
 
 fn apply_change(
     alloc: Global,
-    range: TableRange,
+    range: &TableRange,
     pages: &mut BTreeMap<PageId, Page>,
     change: &RowChange,
     lrsn: Lrsn,
 ) -> Result<(), NoMemory>
     requires { change.now.place.slot < slots_per_page }
-    ensures { OnOk result (AreAfter range lrsn (row_patch change.now ∷ []) pages.old.entries pages.new.entries) }
+    ensures { OnOk result (AreAfter range.now lrsn (row_patch change.now ∷ []) pages.old.entries pages.new.entries) }
 {
     let id = page_changed(change);
     if !range.has_page(id) {
@@ -67,13 +67,13 @@ fn apply_change(
 
 fn apply_patch(
     alloc: Global,
-    range: TableRange,
+    range: &TableRange,
     pages: &mut BTreeMap<PageId, Page>,
     patch: &Patch,
     lrsn: Lrsn,
 ) -> Result<(), NoMemory>
     requires { PatchIsAllowed patch.now }
-    ensures { OnOk result (AreAfter range lrsn (patch.now ∷ []) pages.old.entries pages.new.entries) }
+    ensures { OnOk result (AreAfter range.now lrsn (patch.now ∷ []) pages.old.entries pages.new.entries) }
 {
     if !range.has_page(patch.page) {
         return Ok(());
@@ -86,13 +86,13 @@ fn apply_patch(
 
 fn apply_patches(
     alloc: Global,
-    range: TableRange,
+    range: &TableRange,
     pages: &mut BTreeMap<PageId, Page>,
     patches: &[Patch],
     lrsn: Lrsn,
 ) -> Result<(), NoMemory>
     requires { AllByRecursion PatchIsAllowed patches.now }
-    ensures { OnOk result (AreAfter range lrsn patches.now pages.old.entries pages.new.entries) }
+    ensures { OnOk result (AreAfter range.now lrsn patches.now pages.old.entries pages.new.entries) }
 {
     for patch in patches {
         apply_patch(alloc, range, pages, patch, lrsn)?;
@@ -103,12 +103,12 @@ fn apply_patches(
 /// Does the changes of the record in those of their pages that are of the tables. A page that the map lacks was all zeros.
 pub fn apply_record(
     alloc: Global,
-    range: TableRange,
+    range: &TableRange,
     pages: &mut BTreeMap<PageId, Page>,
     it: &LogRecord,
 ) -> Result<(), NoMemory>
     requires { IsAllowed it.now }
-    ensures { OnOk result (AreAfter range it.now.lrsn (changes_of it.now.body) pages.old.entries pages.new.entries) }
+    ensures { OnOk result (AreAfter range.now it.now.lrsn (changes_of it.now.body) pages.old.entries pages.new.entries) }
 {
     match &it.body {
         Body::RowChange { change } | Body::Compensation { change, .. } => {

@@ -1,6 +1,6 @@
 //! The last page of each page set that records change.
 
-ghost use Rattle.std.specs.Prelude.{◌≡◌, ◌≤◌, [], ◌∷◌, get_or};
+ghost use Rattle.std.specs.Prelude.{◌≡◌, ℕ, ◌≤◌, get_or};
 ghost use Rattle.std.specs.List.{AllByRecursion};
 ghost use Rattle.ds_model.specs.RecordBytes.{IsAllowed, PatchIsAllowed, page_sets};
 ghost use Rattle.page_chain.specs.Chains.{changes_of};

@@ -53,15 +53,6 @@ impl RedonePages {
         }
     }
 
-    fn forget(&mut self, alloc: Global)
-        ensures records { self.new.records ≡ [] }
-        ensures range { self.new.range ≡ self.old.range }
-    {
-        self.pages = BTreeMap::new(alloc);
-        self.lasts = [0; 129];
-        self.past = Past::new();
-    }
-
     /// Does the changes of the record in the pages of the tables. Where memory is wanting, all is as before the first record.
     ///
     /// It takes time in the number of these changes times the logarithm of the number of pages.
@@ -71,14 +62,16 @@ impl RedonePages {
         ensures err { OnErr result (self.new.records ≡ []) }
         ensures range { self.new.range ≡ self.old.range }
     {
-        match apply_record(alloc, self.range, &mut self.pages, it) {
+        match apply_record(alloc, &self.range, &mut self.pages, it) {
             Ok(()) => {
                 raise_record(&mut self.lasts, it);
                 self.past = self.past.and(it);
                 Ok(())
             }
             Err(error) => {
-                self.forget(alloc);
+                self.pages.clear();
+                self.lasts = [0; 129];
+                self.past = Past::new();
                 Err(error)
             }
         }

@@ -1,7 +1,7 @@
 use ds_base::{PageId, TableId};
 
 /// The tables from a first one to a last one.
-#[derive(Clone, Copy, Debug)]
+#[derive(Clone, Copy, Debug, PartialEq, Eq)]
 pub struct TableRange {
     pub first: TableId,
     pub last: TableId,

@@ -1,7 +1,7 @@
 -- How often names are needed of what a log leaves open: no more often than there are records.
 use Rattle.std.proofs.Common.{◌≡◌, ℕ, zero, suc, ◌+◌, ◌<◌, ◌≤◌, refl, sym, ◌∙◌, ap, subst, arith, inl, inr, Bool, true, false, cond, List, [], ◌∷◌, ◌++◌, length, length-append, take, drop, Option, Some, None, Result, Ok, Err}
-use Rattle.std.specs.Prelude.{◌-◌, ◌==◌, ◌^◌, ◌&&◌, T, if◌then◌else◌, map, filter}
-use Rattle.std.proofs.lemmas.Bool.{cases_Bool}
+use Rattle.std.specs.Prelude.{◌-◌, ◌==◌, ◌^◌, ◌&&◌, T, not, nat_le, nat_lt, if◌then◌else◌, map, filter}
+use Rattle.std.proofs.lemmas.Bool.{and_parts, cases_Bool, leb-true, ltb-false}
 use Rattle.std.proofs.lemmas.List.{length-drop, length-take}
 use Rattle.std.specs.Ordering.{eq_by_cmp, is_eq, is_lt, nat_cmp}
 use Rattle.std.specs.Cmp.{nat_cmp_total, ranked}
@@ -19,7 +19,8 @@ use Rattle.ds_model.specs.declared.log.RowChange.{RowChange}
 use Rattle.log_record.specs.declared.fault.RecordFault.{RecordFault}
 use Rattle.log_record.specs.declared.fault.RecordFault.TheVariants as fault
 use Rattle.log_record.specs.Logs.{Parts, behind, parts_from, parts_in, parts_up_to}
-use Rattle.log_record.specs.Reading.{record_in}
+use Rattle.log_record.specs.Fields.{◌>>=◌}
+use Rattle.log_record.specs.Reading.{ends_at, fields_in, is_size, record_in, whole_in}
 use Rattle.log_trans.specs.declared.course.Course.{Course}
 use Rattle.log_trans.specs.Courses.{Courses, after_body, course_of, courses_from, courses_of, is_next, is_open, open_among, open_tran, open_trans, undone_one, with_record}
 use Rattle.restart_law.specs.Few.{NeedsAreCounted, ShortLogsNeedFew}
@@ -177,34 +178,64 @@ needs_counted records n =
     let among = among_most n (entries (courses_of records)) in
     omega (arith, none, all, among)
 
--- ---- a log has no more records than bytes, and one
+-- ---- a log has no more records than bytes
+abbrev Sized : List ℕ → Result (LogRecord × ℕ) RecordFault → Type 0
+Sized bytes (Ok (r, n)) = (1 ≤ n) × (n ≤ length bytes)
+Sized bytes (Err f) = Unit {0}
+
+sized_if : (bytes : List ℕ) (b : Bool) (r : LogRecord) (n : ℕ) (f : RecordFault) → (1 ≤ n) × (n ≤ length bytes) → Sized bytes (if b then Ok (r, n) else Err f)
+sized_if bytes true r n f h = h
+sized_if bytes false r n f h = tt
+
+sized_fields : (bytes : List ℕ) (size : ℕ) (x : Result (LogRecord × ℕ) RecordFault) → (1 ≤ size) × (size ≤ length bytes) → Sized bytes (x >>= λ found. if ends_at bytes size found.1 then Ok (found.0, size) else Err (fault.Bad found.1))
+sized_fields bytes size (Ok found) h = sized_if bytes (ends_at bytes size found.1) found.0 size (fault.Bad found.1) h
+sized_fields bytes size (Err f) h = tt
+
+sized_whole : (bytes : List ℕ) (size : ℕ) → (1 ≤ size) × (size ≤ length bytes) → Sized bytes (whole_in bytes size)
+unfolding whole_in
+sized_whole bytes size h = sized_fields bytes size (fields_in (take (size - 4) bytes)) h
+
+sized_by : (bytes : List ℕ) (size : ℕ) (few sized cut : Bool) → is_size size ≡ sized → nat_lt (length bytes) size ≡ cut
+    → Sized bytes (if few then Err fault.NotWhole else if not sized then Err (fault.Bad 0) else if cut then Err fault.NotWhole else whole_in bytes size)
+sized_by bytes size true sized cut s c = tt
+sized_by bytes size false false cut s c = tt
+sized_by bytes size false true true s c = tt
+sized_by bytes size false true false s c =
+    let long : 22 ≤ size = leb-true 22 size (and_parts (nat_le 22 size) (nat_le size 16384) s).0 in
+    let within : size ≤ length bytes = ltb-false (length bytes) size c in
+    sized_whole bytes size (omega (arith, long), within)
+
+record_sized : (bytes : List ℕ) → Sized bytes (record_in bytes)
+unfolding record_in
+record_sized bytes = sized_by bytes _ _ _ _ refl refl
+
 abbrev Few : ℕ → Result Parts ℕ → Type 0
 Few most (Ok p) = length p.records ≤ most
 Few most (Err at) = Unit {0}
 
-few_behind : (most : ℕ) (r : LogRecord) (n : ℕ) (x : Result Parts ℕ) → Few most x → Few (suc most) (behind r n x)
-few_behind most r n (Ok p) few = let less : length p.records ≤ most = few in omega (arith, less)
-few_behind most r n (Err at) few = tt
+few_behind : (less most : ℕ) (r : LogRecord) (n : ℕ) (x : Result Parts ℕ) → suc less ≤ most → Few less x → Few most (behind r n x)
+few_behind less most r n (Ok p) more few = let count : length p.records ≤ less = few in omega (arith, count, more)
+few_behind less most r n (Err at) more few = tt
 
-few_from : (count : ℕ) (read_on : List ℕ → Result Parts ℕ) (bytes : List ℕ) → ((rest : List ℕ) → Few count (read_on rest)) → (x : Result (LogRecord × ℕ) RecordFault) → Few (suc count) (parts_from read_on bytes x)
-few_from count read_on bytes few (Ok (r, n)) = few_behind count r n (read_on (drop n bytes)) (few (drop n bytes))
-few_from count read_on bytes few (Err fault.NotWhole) = omega arith
-few_from count read_on bytes few (Err fault.NoMemory) = omega arith
-few_from count read_on bytes few (Err (fault.Bad at)) = tt
+few_from : (read_on : List ℕ → Result Parts ℕ) (bytes : List ℕ) → ((rest : List ℕ) → Few (length rest) (read_on rest)) → (x : Result (LogRecord × ℕ) RecordFault) → Sized bytes x → Few (length bytes) (parts_from read_on bytes x)
+few_from read_on bytes few (Ok (r, n)) sized = let left = length-drop n bytes in few_behind (length (drop n bytes)) (length bytes) r n (read_on (drop n bytes)) (omega (arith, left, sized.0, sized.1)) (few (drop n bytes))
+few_from read_on bytes few (Err fault.NotWhole) sized = omega arith
+few_from read_on bytes few (Err fault.NoMemory) sized = omega arith
+few_from read_on bytes few (Err (fault.Bad at)) sized = tt
 
-few_up_to : (count : ℕ) (bytes : List ℕ) → Few count (parts_up_to count bytes)
+few_up_to : (count : ℕ) (bytes : List ℕ) → Few (length bytes) (parts_up_to count bytes)
 unfolding parts_up_to
 few_up_to zero bytes = omega arith
-few_up_to (suc count) bytes = few_from count (λ rest. parts_up_to count rest) bytes (λ rest. few_up_to count rest) (record_in bytes)
+few_up_to (suc count) bytes = few_from (λ rest. parts_up_to count rest) bytes (λ rest. few_up_to count rest) (record_in bytes) (record_sized bytes)
 
-few_parts : (bytes : List ℕ) (p : Parts) → parts_in bytes ≡ Ok p → length p.records ≤ suc (length bytes)
+few_parts : (bytes : List ℕ) (p : Parts) → parts_in bytes ≡ Ok p → length p.records ≤ length bytes
 unfolding parts_in
-few_parts bytes p is = subst (λ (x : Result Parts ℕ). Few (suc (length bytes)) x) is (few_up_to (suc (length bytes)) bytes)
+few_parts bytes p is = subst (λ (x : Result Parts ℕ). Few (length bytes) x) is (few_up_to (suc (length bytes)) bytes)
 
 pub short_logs_need_few : ShortLogsNeedFew
 short_logs_need_few log short records last n =
     let counted = needs_counted records n in
     let same : length records ≡ length last.parts.records = ap length last.are in
-    let parts : length last.parts.records ≤ suc (length (drop last.start log)) = few_parts (drop last.start log) last.parts last.told in
+    let parts : length last.parts.records ≤ length (drop last.start log) = few_parts (drop last.start log) last.parts last.told in
     let left = length-drop last.start log in
     omega (arith, counted, same, parts, left, short)

@@ -10,6 +10,6 @@ use Rattle.restart_law.specs.Reads.{AreLast}
 abbrev pub NeedsAreCounted : Type 0
 NeedsAreCounted = (records : List LogRecord) (n : Name) → needs_among n (open_trans records) ≤ length records
 
--- so where the log has fewer than 2^60 bytes, the needs of its last records can be counted with 64 bits
+-- so where the log has fewer than 2^64 bytes, the needs of its last records can be counted with 64 bits
 abbrev pub ShortLogsNeedFew : Type 0
-ShortLogsNeedFew = (log : List ℕ) → length log < 2 ^ 60 → (records : List LogRecord) → AreLast log records → FewNeeds records
+ShortLogsNeedFew = (log : List ℕ) → length log < 2 ^ 64 → (records : List LogRecord) → AreLast log records → FewNeeds records

@@ -72,7 +72,7 @@ pub fn lists_go()
     open_trans_tell();
 }
 
-/// The names that a restart may free are needed of what a log leaves open no more often than the log has records: so of a log of fewer than 2^60
+/// The names that a restart may free are needed of what a log leaves open no more often than the log has records: so of a log of fewer than 2^64
 /// bytes these can be counted with 64 bits.
 pub fn needs_are_few()
     ensures counted { NeedsAreCounted }

@@ -2,7 +2,7 @@ use Rattle.claimed_logs.proofs.events_keep.Goals as goal
 use Rattle.claimed_logs.proofs.Taken.{events_keep}
 
 pub returns : goal.returns
-returns g c = events_keep _ g.C.CacheFace.directory g.D.Disk.alive g.D.Disk.contents g.D.Disk.faults (record {
+returns g c = events_keep _ g.C.CacheFace.directory g.D.Disk.alive g.D.Disk.contents g.D.Disk.faults g.D.Disk.logs_are_bytes (record {
   fails = c.groups_go.ensures.fails;
   phases = c.phases_go.ensures;
   steps = c.member_steps_go.ensures;
