@@ -40,8 +40,8 @@ pub record TakesBackOne (earlier : List LogRecord) (tran : ℕ) (c : RowChange) 
   pub row_is : changes_row c it.body ≡ true
   pub tran_is : it.tran ≡ tran
   pub number_is : it.lrsn ≡ undone
-  pub before : list_any (λ (s : LogRecord). is_row_change s.body && (s.lrsn == undone)) front ≡ false
-  pub behind : list_any (λ (s : LogRecord). is_row_change s.body && (s.lrsn == undone)) rest ≡ false
+  pub before : list_any (λ (s : LogRecord). is_row_change s.body && (undone == s.lrsn)) front ≡ false
+  pub behind : list_any (λ (s : LogRecord). is_row_change s.body && (undone == s.lrsn)) rest ≡ false
   pub uncommitted : has_commit earlier tran ≡ false
   pub untaken : is_taken_back earlier undone ≡ false
 

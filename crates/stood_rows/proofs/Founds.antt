@@ -195,7 +195,7 @@ choose p q rs a b f g false t = record {
 }
 
 pub both_found : BothAreFound
-both_found p q rs None None f g i k = stood_both p q (take i rs) (item_at rs i) k (f i k) (g i k)
+both_found p q rs None None f g = λ i k. stood_both p q (take i rs) (item_at rs i) k (f i k) (g i k)
 both_found p q rs None (Some b) f g = record {
   passes = right_passes (p b.page) (q b.page) g.passes;
   fails = g.fails;
@@ -228,7 +228,7 @@ same_stood p q h e None k s = tt
 same_stood p q h e (Some r) k s = λ f. s (same_for p q h (part_page r.body k) ∙ f)
 
 pub same_found : SameAreFound
-same_found p q rs None h f i k = same_stood p q h (take i rs) (item_at rs i) k (f i k)
+same_found p q rs None h f = λ i k. same_stood p q h (take i rs) (item_at rs i) k (f i k)
 same_found p q rs (Some u) h f = record {
   passes = sym (h u.page) ∙ f.passes;
   fails = f.fails;

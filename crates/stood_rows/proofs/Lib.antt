@@ -4,3 +4,4 @@ pub mod Founds
 pub mod Owned
 pub mod Walking
 pub mod Tellings
+pub mod Scanning
