@@ -25,7 +25,7 @@ use Rattle.fitting_records.specs.declared.passing.Passing.{Passing}
 use Rattle.fitting_records.specs.declared.sums.Sums.{Sums}
 use Rattle.fitting_records.specs.declared.summary.Summary.{Summary}
 use Rattle.fitting_records.specs.Passings.{nothing_passed, may_pass, passed}
-use Rattle.fitting_records.specs.Passed.{list_at, all_of, with_record, ArePassed, NothingIsPassed, PassingGoesOn, PassedAreTransactions}
+use Rattle.fitting_records.specs.Passed.{list_at, all_of, with_record, are_early, ArePassed, NothingIsPassed, PassingGoesOn, PassedAreTransactions}
 use Rattle.fitting_records.specs.Summed.{any_asks, has_old, has_ended, IsNothing, IsPassedOn, IsAdded, AreSummed, AreSummedOf, IsSummedUp}
 use Rattle.disk_walk.specs.Whole.{OfWholeLogs}
 use Rattle.fitting_records.specs.Telling.{IsSummary}
@@ -184,6 +184,10 @@ all_is : (logs : List Log) → all_of (map (λ (l : Log). l.records) logs) ≡ a
 all_is [] = refl
 all_is (l ∷ ls) = ap (λ (x : List LogRecord). l.records ++ x) (all_is ls)
 
+together_is : (logs : List Log) → together (map (λ (l : Log). l.records) logs) ≡ all_records logs
+together_is [] = refl
+together_is (l ∷ ls) = ap (λ (x : List LogRecord). l.records ++ x) (together_is ls)
+
 asks_is : (logs : List Log) → any_asks (map has_old (map (λ (l : Log). l.records) logs)) (map has_ended (map (λ (l : Log). l.records) logs)) ≡ must_renew logs
 asks_is [] = refl
 asks_is (l ∷ ls) = ap (λ (b : Bool). (has_old l.records && not (has_ended l.records)) || b) (asks_is ls)
@@ -192,9 +196,10 @@ counted : {A B : Type 0} (f : A → B) (xs : List A) → length (map f xs) ≡ l
 counted f [] = refl
 counted f (x ∷ xs) = ap suc (counted f xs)
 
-summary_when : PassedAreTransactions → (logs : List Log) (walked : List LogRecord) (s : Sums) (it : Summary) → IsSummedUp s it → AreSummed s walked (map (λ (l : Log). l.records) logs) → IsSummary it logs
-summary_when law logs walked s it up sums = record {
+summary_when : PassedAreTransactions → (logs : List Log) (walked : List LogRecord) (s : Sums) (it : Summary) → IsSummedUp s it → walked ≡ by_lrsn (all_records logs) → AreSummed s walked (map (λ (l : Log). l.records) logs) → IsSummary it logs
+summary_when law logs walked s it up all sums = record {
   fit = λ fits. law s.passing walked logs (sums.passed (sym up.fits_is ∙ fits));
+  early = λ fits. ap (are_early []) (sym all) ∙ (sums.passed (sym up.fits_is ∙ fits)).early;
   greatest_is = up.greatest_is ∙ sums.greatest_is ∙ ap greatest (all_is logs);
   renews_is = up.renews_is ∙ ap (λ (bs : List Bool). any_asks bs s.ends.items) sums.olds_are ∙ ap (any_asks (map has_old (map (λ (l : Log). l.records) logs))) sums.ends_are ∙ asks_is logs;
 }
@@ -206,7 +211,7 @@ summary_of law ends start s it c long begin up sums logs whole is =
     let none : NoneFalls (left c.logs start) = subst NoneFalls (sym b.left_is) (rising 1 c.logs logs whole) in
     let count : length (left c.logs start) ≡ 32 =
     ap length b.left_is ∙ counted (λ (l : Log). l.records) logs ∙ sym (counted (λ (l : Log). l.length) logs) ∙ sym (ap length is) ∙ long in
-    summary_when law logs (by_lrsn (together (left c.logs start))) s it up (subst (AreSummed s (by_lrsn (together (left c.logs start)))) b.left_is (sums b.stand none count))
+    summary_when law logs (by_lrsn (together (left c.logs start))) s it up (ap (λ (ls : List (List LogRecord)). by_lrsn (together ls)) b.left_is ∙ ap by_lrsn (together_is logs)) (subst (AreSummed s (by_lrsn (together (left c.logs start)))) b.left_is (sums b.stand none count))
 
 pub summary_told : PassedAreTransactions → (a : Option Contents) (ends : List ℕ) (start : List HeadState) (s : Sums) (it : Summary) → length ends ≡ 32 → ((logs : List (List ℕ)) (lists : List (List LogRecord)) → AreUpTo logs ends lists → Begins logs start lists)
     → IsSummedUp s it → WhenTold a (λ (c : Contents). AreSummedOf c.logs start s) → WhenTold a (OfWholeLogs ends (IsSummary it))

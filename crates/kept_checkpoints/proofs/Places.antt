@@ -25,7 +25,7 @@ some_if : (b : Bool) (o : Option Bool) → is_some (cond b (Some true) o) ≡ (b
 some_if true o = refl
 some_if false o = refl
 
-has_put : (m : Places) (k q : ℕ) → is_some (get (insert m k true) q) ≡ ((k == q) || is_some (get m q))
+pub has_put : (m : Places) (k q : ℕ) → is_some (get (insert m k true) q) ≡ ((k == q) || is_some (get m q))
 has_put m k q =
     ap (λ (o : Option Bool). is_some o) (get-insert nat_cmp_total m k true q ∙ ap (λ (b : Bool). cond b (Some true) (get m q)) (same_number q k))
     ∙ some_if (k == q) (get m q)
