@@ -1,6 +1,6 @@
 -- Pages that records make one after the other, and marks of those on disk.
 use Rattle.std.proofs.Common.{◌≡◌, ℕ, ◌+◌, ◌<◌, ◌≤◌, Bool, true, false, cond, List, [], ◌∷◌, ◌++◌, length, get_or, take, Option, Some, None, inl, inr, refl, sym, ap, subst, ◌∙◌, arith, append_assoc, if◌then◌else◌}
-use Rattle.std.specs.Prelude.{◌⊎◌, ◌↔◌, ◌==◌, ◌&&◌, ◌||◌, IsTrue, is_some}
+use Rattle.std.specs.Prelude.{◌⊎◌, ◌↔◌, ◌==◌, ◌&&◌, ◌||◌, not, IsTrue, is_some}
 use Rattle.std.specs.Str.{bytes_eq}
 use Rattle.std.specs.List.{list_any}
 use Rattle.std.specs.Map.{lookup}
@@ -18,14 +18,15 @@ use Rattle.ds_model.specs.declared.log.LogRecord.{LogRecord}
 use Rattle.page_format.specs.declared.patch.Patch.{Patch}
 use Rattle.page_format.specs.Fields.{lrsn_of}
 use Rattle.page_images.specs.Images.{Images, zeros}
-use Rattle.page_chain.specs.Chains.{changes_of, touches, version_from, version_of, after_record, IsVersion, LeavesOthers}
+use Rattle.page_chain.specs.Chains.{changes_of, touches, version_from, version_of, images_of, after_record, IsVersion, LeavesOthers}
 use Rattle.page_redo.specs.Pages.{has_page, with_page, pages_from, pages_of}
 use Rattle.page_records.specs.Pages.{page_cmp}
 use Rattle.sound_disk.specs.Versions.{current}
 use Rattle.redone_pages.specs.Redone.{Redone}
 use Rattle.redone_pages.specs.Ranges.{HasPage}
 use Rattle.disk_versions.specs.declared.met.Mark.{Mark}
-use Rattle.disk_versions.specs.Met.{IsMarked, IsKnown, IsFresh, IsNextMark}
+use Rattle.disk_versions.specs.declared.met.MetPages.{MetPages}
+use Rattle.disk_versions.specs.Met.{IsMarked, IsKnown, mark_of, AreMetOn, AreMet, HaveMarks, IsFresh, IsNextMark, MeetsAlso}
 use Rattle.disk_versions.proofs.Pages.{decide}
 
 abbrev Entries : Type 0
@@ -354,3 +355,60 @@ ends law at made first it es whole known = λ q has.
     (λ e.
     known_all law q first it made.records (at q) (held es q) whole (sym (touched q it) ∙ e)
     (subst (λ (b : Bool). IsKnown q (if b then made.records else first) made.records (at q) (held es q)) e (known q has)))
+
+-- ---- in the words of what is held
+
+pub fresh_met : LeavesOthers → (at : Images) (old new : MetPages) (id : PageId) (m : Mark) → new.made ≡ old.made → IsPut id m old.marks.entries new.marks.entries → mark_of old id ≡ None → IsFresh (at id) m → AreMet at old → AreMet at new
+fresh_met law at old new id m same put none fresh met =
+    subst (λ (made : Redone). MetBy at made new.marks.entries) (sym same) (put_met law at old.made old.marks.entries new.marks.entries id m put none fresh met)
+
+pub marked_meets : (at : Images) (old new : MetPages) (id : PageId) (m next : Mark) → new.made ≡ old.made → mark_of old id ≡ Some m → IsPut id next old.marks.entries new.marks.entries → IsNextMark (images_of old.made.records id) (at id) m next → MeetsAlso at (id ∷ []) old new
+marked_meets at old new id m next same is put now = λ first it pages whole known.
+    subst (λ (made : Redone). OnBy at made new.marks.entries first (pages ++ id ∷ [])) (sym same)
+    (meets_one at old.made old.marks.entries new.marks.entries id m next is put now first it pages whole known)
+
+pub meets_both : (at : Images) (ids : List PageId) (id : PageId) (old now new : MetPages) → now.made ≡ old.made → MeetsAlso at ids old now → MeetsAlso at (id ∷ []) now new → MeetsAlso at (ids ++ id ∷ []) old new
+meets_both at ids id old now new same h k = λ first it pages whole known.
+    subst (λ (ps : List PageId). AreMetOn at new first ps) (append_assoc pages ids (id ∷ []))
+    (k first it (pages ++ ids) (ap (λ (made : Redone). made.records) same ∙ whole) (h first it pages whole known))
+
+pub marks_both : (pages : List PageId) (id : PageId) (old now new : MetPages) → now.made ≡ old.made → HaveMarks pages old now → HaveMarks (id ∷ []) now new → HaveMarks (pages ++ id ∷ []) old new
+marks_both pages id old now new same h k = record {
+  stay = λ q is. k.stay q (h.stay q is);
+  there = λ q has here. elim (or_either (has_page pages q) (same_page id q) (sym (has_more pages id q) ∙ here)) [
+    | inl e ↦ (k.stay q (h.there q has e))
+    | inr e ↦ (k.there q (subst (λ (made : Redone). HasPage made.range q) (sym same) has) (or_first (same_page id q) false e))
+  ];
+}
+
+differ : (m n : ℕ) (b : Bool) → b ≡ (m == n) → not b ≡ true → m ≡ n → ⊥
+differ m n b is off e = let yes : (m == n) ≡ true = grind (arith, nat_tests) in absurd (cc (is, yes, off))
+
+pub unlike : (image page : List ℕ) (lrsn : ℕ) (b : Bool) → b ≡ (lrsn_of image == lrsn) → not b ≡ true → lrsn ≡ lrsn_of page → false ≡ bytes_eq image page
+unlike image page lrsn b is off e =
+    decide (bytes_eq image page) (false ≡ bytes_eq image page)
+    (λ same.
+    let equal : lrsn_of image ≡ lrsn = ap lrsn_of ((bytes_eq-Decides image page).0 same) ∙ sym e in
+    absurd (differ (lrsn_of image) lrsn b is off equal))
+    (λ no. sym no)
+
+pub zero_version : LeavesOthers → (at : Images) (met : MetPages) (id : PageId) (page : List ℕ) (b : Bool) → mark_of met id ≡ None → HasPage met.made.range id → AreMet at met → IsTrue b ↔ (page ≡ zeros) → IsTrue b ↔ IsVersion id met.made.records page
+zero_version law at met id page b none has known is =
+    let free : list_any (touches id) met.made.records ≡ false = subst (λ (o : Option Mark). IsKnown id met.made.records met.made.records (at id) o) none (known id has) in
+    (λ t. zeros_are id met.made.records page (is.0 t), λ v. is.1 (zeros_of law id met.made.records page free v))
+
+pub mark_version : (at : Images) (met : MetPages) (id : PageId) (m : Mark) (page : List ℕ) → mark_of met id ≡ Some m → HasPage met.made.range id → AreMet at met → page ≡ current (at id) → IsTrue m.is_met ↔ IsVersion id met.made.records page
+mark_version at met id m page is has known its =
+    let marked : IsMarked id met.made.records met.made.records (at id) m = subst (λ (o : Option Mark). IsKnown id met.made.records met.made.records (at id) o) is (known id has) in
+    (λ t. subst (λ (p : List ℕ). IsVersion id met.made.records p) (sym its) (marked.behind t), λ v. marked.before (subst (λ (p : List ℕ). IsVersion id met.made.records p) its v))
+
+-- the pages after one record more
+pub took : LeavesOthers → (at : Images) (old marked redone met : MetPages) (it : LogRecord) → marked.made ≡ old.made → HaveMarks (pages_of it) old marked → (AreMet at old → AreMet at marked) → redone.marks ≡ marked.marks → redone.made.records ≡ marked.made.records ++ it ∷ []
+    → redone.made.range ≡ marked.made.range → met.made ≡ redone.made → MeetsAlso at (pages_of it) redone met → AreMet at old → AreMet at met
+took law at old marked redone met it same marks keeps also records range still meets known =
+    let now : MetBy at marked.made marked.marks.entries = keeps known in
+    let begun : OnBy at redone.made marked.marks.entries marked.made.records [] =
+    starts at marked.made redone.made it marked.marks.entries range records (λ q has. marks.there q (subst (λ (made : Redone). HasPage made.range q) same has)) now
+    in
+    let on : AreMetOn at met marked.made.records (pages_of it) = meets marked.made.records it [] records (subst (λ m. OnBy at redone.made m.entries marked.made.records []) (sym also) begun) in
+    ends law at met.made marked.made.records it met.marks.entries (ap (λ (made : Redone). made.records) still ∙ records) on
