@@ -1,6 +1,6 @@
 -- What is told of the tables of one range more.
-use Rattle.std.proofs.Common.{◌≡◌, ℕ, ◌+◌, ◌-◌, ◌*◌, ◌<◌, ◌≤◌, Bool, true, false, List, [], Option, Some, None, inl, inr, refl, sym, ap, subst, ◌∙◌, arith}
-use Rattle.std.specs.Prelude.{◌⊎◌, nat_le, ◌&&◌, ◌||◌}
+use Rattle.std.proofs.Common.{◌≡◌, ℕ, ◌+◌, ◌-◌, ◌*◌, ◌<◌, ◌≤◌, Bool, true, false, List, [], Option, Some, None, Result, Ok, Err, inl, inr, refl, sym, ap, subst, ◌∙◌, arith}
+use Rattle.std.specs.Prelude.{◌⊎◌, nat_le, ◌&&◌, ◌||◌, IfOk}
 use Rattle.std.proofs.lemmas.Bool.Decides.{nat_tests}
 use Rattle.ds_base.specs.Ids.{IsTable}
 use Rattle.ds_base.specs.Pages.{heap_set, index_set}
@@ -29,12 +29,13 @@ use Rattle.stood_rows.specs.Laws.{NoneAreFound, BothAreFound}
 use Rattle.row_turns.specs.declared.told.Told.{Told}
 use Rattle.row_turns.specs.Ranges.{AreApart}
 use Rattle.row_turns.specs.Orders.{AreOrderly}
-use Rattle.row_turns.specs.Scans.{AreTurnsTold}
+use Rattle.row_turns.specs.Scans.{AreTurnsTold, IsTurning}
+use Rattle.heap_rows.specs.Left.{AreRowsOf}
 use Rattle.space_check.specs.declared.scan.TableScan.{TableScan}
 use Rattle.space_check.specs.declared.told.TablesTold.{TablesTold}
 use Rattle.space_check.specs.declared.told.RangeFound.{RangeFound}
 use Rattle.space_check.specs.declared.told.RangeFound.TheVariants as found
-use Rattle.space_check.specs.Scans.{IsScanned, IsScanOf}
+use Rattle.space_check.specs.Scans.{IsScan, IsScanned, IsScanOf}
 use Rattle.space_check.specs.Tables.{AreWholeUpTo, AreStoodUpTo, AreTurnsUpTo, AreTablesTold, IsNothingTold, AddsScan, TellsMore, TellsRange, TellsUpTo, IsAllTold, TellsAll}
 
 pub decide : (b : Bool) (P : Type 0) → (b ≡ true → P) → (b ≡ false → P) → P
@@ -252,3 +253,34 @@ wrong_told a b early ends renews behind n range old id its first is before same 
 
 pub all_told : (a : Option Contents) (early : Bool) (ends : List ℕ) (renews : Bool) (behind n : ℕ) (t : TablesTold) → n ≡ 64 → WhenTold a (TellsUpTo early ends renews behind n t) → WhenTold a (TellsAll early ends renews behind (found.Told t))
 all_told a early ends renews behind n t is told = subst (λ (k : ℕ). WhenTold a (TellsUpTo early ends renews behind k t)) is told
+
+-- ---- from a scan
+
+pub rows_of_scan : (range : TableRange) (early : Bool) (s : TableScan) → IsScan range early s → AreRowsOf (has_table s.met.made.range) s.met.made.records s.standing.rows.rows
+rows_of_scan range early s is = subst (λ (r : TableRange). AreRowsOf (has_table r) s.met.made.records s.standing.rows.rows) (is.rows_of ∙ sym is.range_is) is.standing.left
+
+pub whole_found : {E : Type 0} (range : TableRange) (s : TableScan) (before : Option PageId) (result : Result (Option PageId) E) → before ≡ None → s.met.made.range ≡ range → IfOk result (λ x. IsRangeTold (images_of s.met.made.records) s.met.made.records s.met.made.range x)
+    → IfOk result (λ x. (n : ℕ) → range.first ≡ n + 1 → AreWholeUpTo (images_of s.met.made.records) s.met.made.records n before → AreWholeUpTo (images_of s.met.made.records) s.met.made.records range.last x)
+whole_found range s before (Ok x) none its told =
+    λ n first held. whole_more (images_of s.met.made.records) s.met.made.records n range before x first none (subst (λ (r : TableRange). IsRangeTold (images_of s.met.made.records) s.met.made.records r x) its told) held
+whole_found range s before (Err e) none its told = tt
+
+pub stood_of_scan : BothAreFound → (range : TableRange) (early : Bool) (s : TableScan) (n : ℕ) (old both : Option Unstood) → both ≡ sooner old s.standing.first → range.first ≡ n + 1 → IsScan range early s → AreStoodUpTo s.met.made.records n old → AreStoodUpTo s.met.made.records range.last both
+stood_of_scan law range early s n old both is first scan before =
+    subst (λ (o : Option Unstood). AreStoodUpTo s.met.made.records range.last o) (sym is)
+    (stood_more law s.met.made.records n range old s.standing.first first
+    (subst (λ (r : TableRange). AreFound (has_page r) s.met.made.records s.standing.first) scan.rows_of scan.standing.found) before)
+
+pub turns_of_scan : (range : TableRange) (s : TableScan) (n : ℕ) (old one both : Told) → range.first ≡ n + 1 → range.first ≤ range.last → IsScan range s.turns.is_early s
+    → ((rs : List LogRecord) → IsTurning rs s.turns → AreOrderly s.turns.is_early [] rs → AreTurnsTold (has_table s.turns.range) rs one)
+    → ((p q : ℕ → Bool) (rs : List LogRecord) → AreApart p q → AreTurnsTold p rs old → AreTurnsTold q rs one → AreTurnsTold (λ table. p table || q table) rs both)
+    → AreOrderly s.turns.is_early [] s.met.made.records → AreTurnsUpTo s.met.made.records n old → AreTurnsUpTo s.met.made.records range.last both
+turns_of_scan range s n old one both first some scan tells adds orderly before =
+    turns_more s.met.made.records n range old one both first some adds
+    (subst (λ (r : TableRange). AreTurnsTold (has_table r) s.met.made.records one) scan.turns_of (tells s.met.made.records scan.turns orderly)) before
+
+pub scan_early : (range : TableRange) (early : Bool) (s : TableScan) → IsScan range early s → IsScan range s.turns.is_early s
+scan_early range early s is = subst (λ (b : Bool). IsScan range b s) (sym is.early_is) is
+
+pub adds_early : (range : TableRange) (early : Bool) (s : TableScan) (pages : ℕ) (old new : TablesTold) → IsScan range early s → AddsScan range s.turns.is_early s.met.made.records pages old new → AddsScan range early s.met.made.records pages old new
+adds_early range early s pages old new is adds = subst (λ (b : Bool). AddsScan range b s.met.made.records pages old new) is.early_is adds

@@ -21,7 +21,7 @@ use Rattle.disk_walk.specs.declared.walk.Next.{Next}
 use Rattle.disk_walk.specs.declared.walk.Next.TheVariants as next
 use Rattle.disk_walk.specs.Walks.{IsUpTo, AreUpTo, Begins, Stand, AreRead, IsNextOfAll}
 use Rattle.disk_walk.proofs.Reading.{told_before, told_all, told_by_both}
-use Rattle.fitting_records.specs.Telling.{OfWholeLogs}
+use Rattle.disk_walk.specs.Whole.{OfWholeLogs}
 use Rattle.redone_pages.specs.declared.range.TableRange.{TableRange}
 use Rattle.disk_versions.specs.Met.{AreMet}
 use Rattle.stood_rows.specs.Found.{IsStanding}

@@ -14,7 +14,7 @@ use Rattle.disk_versions.specs.Met.{AreMet}
 use Rattle.stood_rows.specs.Found.{IsStanding}
 use Rattle.row_turns.specs.Scans.{IsTurning}
 use Rattle.sound_disk.specs.Versions.{merged}
-use Rattle.fitting_records.specs.Telling.{OfWholeLogs}
+use Rattle.disk_walk.specs.Whole.{OfWholeLogs}
 use Rattle.space_check.specs.declared.scan.TableScan.{TableScan}
 
 -- what is known of the tables of the range by the records that were scanned, whatever the disk says

@@ -10,7 +10,7 @@ use Rattle.sound_disk.specs.Tables.{IsWholeTable}
 use Rattle.sound_disk.specs.Versions.{merged}
 use Rattle.disk_versions.specs.Placing.{AreInSets, IsFirstInSets}
 use Rattle.disk_versions.specs.Told.{page_sets}
-use Rattle.fitting_records.specs.Telling.{OfWholeLogs}
+use Rattle.disk_walk.specs.Whole.{OfWholeLogs}
 use Rattle.index_places.specs.Whole.{IsFirstUnwhole}
 use Rattle.redone_pages.specs.declared.range.TableRange.{TableRange}
 use Rattle.stood_rows.specs.declared.unstood.Unstood.{Unstood}

@@ -1,6 +1,7 @@
 ghost use Rattle.std.specs.Prelude.{◌≡◌, length, true, IfOk};
 ghost use Rattle.disk_walk.specs.Reading.{Reads};
-ghost use Rattle.fitting_records.specs.Telling.{OfWholeLogs, AreFitTold};
+ghost use Rattle.disk_walk.specs.Whole.{OfWholeLogs};
+ghost use Rattle.fitting_records.specs.Telling.{AreFitTold};
 ghost use Rattle.sound_disk.specs.Transactions.{AreTransactions};
 ghost use Rattle.space_check.specs.Telling.{TellsEnded, TellsFit};
 ghost use Rattle.space_check.specs.Verdicts.{IsTold};

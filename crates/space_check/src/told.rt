@@ -76,7 +76,8 @@ impl TablesTold {
         range: TableRange,
         pages: u64,
     ) -> Result<TablesTold, NoMemory>
-        requires { IsScan range scan.now.turns.is_early scan.now }
+        requires range { range.first ≤ range.last }
+        requires scan { IsScan range scan.now.turns.is_early scan.now }
         ensures { IfOk result (λ told. AddsScan range scan.now.turns.is_early scan.now.met.made.records pages self.now told) }
     {
         unstood_laws();
@@ -84,7 +85,8 @@ impl TablesTold {
         let pages = add_pages(self.pages, pages)?;
         let unwhole = first_unwhole(alloc, self.unwhole, scan, range)?;
         let unstood = sooner(self.unstood, scan.standing.first);
-        let turns = self.turns.and(&scan.turns.told(alloc)?)?;
+        let told = scan.turns.told(alloc)?;
+        let turns = self.turns.and(&told)?;
         Ok(TablesTold {
             pages,
             unwhole,

@@ -4,7 +4,8 @@ use Rattle.disk_spots.specs.declared.spot.Spot.{Spot}
 use Rattle.log_record.specs.declared.log.Log.{Log}
 use Rattle.disk_walk.proofs.Reading.{same_on, told_before, told_by_both}
 use Rattle.sound_disk.specs.Transactions.{AreTransactions}
-use Rattle.fitting_records.specs.Telling.{OfWholeLogs, IsSummary, AreFitTold}
+use Rattle.disk_walk.specs.Whole.{OfWholeLogs}
+use Rattle.fitting_records.specs.Telling.{IsSummary, AreFitTold}
 use Rattle.space_check.specs.declared.verdict.Verdict.{Verdict}
 use Rattle.space_check.specs.Telling.{TellsEnded, TellsFit}
 use Rattle.space_check.specs.Verdicts.{IsTold}

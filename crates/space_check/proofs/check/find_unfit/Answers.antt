@@ -3,7 +3,8 @@ use Rattle.ds_disk.specs.Contents.{Contents}
 use Rattle.disk_spots.specs.declared.spot.Spot.{Spot}
 use Rattle.log_record.specs.declared.log.Log.{Log}
 use Rattle.sound_disk.specs.Transactions.{AreTransactions}
-use Rattle.fitting_records.specs.Telling.{OfWholeLogs, AreFitTold}
+use Rattle.disk_walk.specs.Whole.{OfWholeLogs}
+use Rattle.fitting_records.specs.Telling.{AreFitTold}
 use Rattle.space_check.proofs.Reading.{no_read, reads_as}
 use Rattle.space_check.proofs.check.find_unfit.Goals as goal
 

@@ -1,5 +1,6 @@
 use Rattle.ds_disk.specs.Contents.{Contents}
-use Rattle.fitting_records.specs.Telling.{OfWholeLogs, IsSpotOf}
+use Rattle.disk_walk.specs.Whole.{OfWholeLogs}
+use Rattle.fitting_records.specs.Telling.{IsSpotOf}
 use Rattle.space_check.specs.declared.verdict.Clause.TheVariants as clause
 use Rattle.space_check.specs.declared.verdict.Verdict.{Verdict}
 use Rattle.space_check.specs.Telling.{TellsTabled}

@@ -1,7 +1,8 @@
 use Rattle.std.proofs.Common.{◌≡◌, ℕ, Option, ap, ◌∙◌}
 use Rattle.ds_disk.specs.Contents.{Contents}
 use Rattle.disk_spots.specs.Spots.{drawn_spot_of}
-use Rattle.fitting_records.specs.Telling.{OfWholeLogs, IsDrawnSpotOf}
+use Rattle.disk_walk.specs.Whole.{OfWholeLogs}
+use Rattle.fitting_records.specs.Telling.{IsDrawnSpotOf}
 use Rattle.space_check.specs.declared.verdict.Clause.TheVariants as clause
 use Rattle.space_check.specs.declared.verdict.Verdict.{Verdict}
 use Rattle.space_check.specs.Telling.{TellsTabled}
