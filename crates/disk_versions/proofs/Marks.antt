@@ -9,7 +9,7 @@ use Rattle.std.specs.Ordering.{nat_cmp, is_eq, ordering_then}
 use Rattle.std.specs.declared.cmp.Ordering.{Ordering}
 use Rattle.std.specs.declared.cmp.Ordering.TheVariants.{Less, Equal, Greater}
 use Rattle.std.proofs.lemmas.Bool.Decides.{nat_tests}
-use Rattle.std.proofs.lemmas.List.{append-nil}
+use Rattle.std.proofs.lemmas.List.{append-nil, take_all, take_more}
 use Rattle.std.proofs.lemmas.List.Folds.{list_any-append}
 use Rattle.std.proofs.lemmas.Slice.Eq.{bytes_eq-Decides}
 use Rattle.ds_base.specs.Pages.{same_page}
@@ -27,6 +27,10 @@ use Rattle.redone_pages.specs.Ranges.{HasPage}
 use Rattle.disk_versions.specs.declared.met.Mark.{Mark}
 use Rattle.disk_versions.specs.declared.met.MetPages.{MetPages}
 use Rattle.disk_versions.specs.Met.{IsMarked, IsKnown, mark_of, AreMetOn, AreMet, HaveMarks, IsFresh, IsNextMark, MeetsAlso}
+use Rattle.ds_disk.specs.Contents.{Contents, WhenTold, Becomes, Same}
+use Rattle.ds_disk.specs.Pages.{page_at}
+use Rattle.redone_pages.specs.declared.range.TableRange.{TableRange}
+use Rattle.disk_versions.proofs.Reading.{told_before, told_by_both}
 use Rattle.disk_versions.proofs.Pages.{decide}
 
 abbrev Entries : Type 0
@@ -381,10 +385,10 @@ marks_both pages id old now new same h k = record {
   ];
 }
 
-differ : (m n : ℕ) (b : Bool) → b ≡ (m == n) → not b ≡ true → m ≡ n → ⊥
+differ : (m n : ℕ) (b : Bool) → b ≡ (m == n) → b ≡ false → m ≡ n → ⊥
 differ m n b is off e = let yes : (m == n) ≡ true = grind (arith, nat_tests) in absurd (cc (is, yes, off))
 
-pub unlike : (image page : List ℕ) (lrsn : ℕ) (b : Bool) → b ≡ (lrsn_of image == lrsn) → not b ≡ true → lrsn ≡ lrsn_of page → false ≡ bytes_eq image page
+pub unlike : (image page : List ℕ) (lrsn : ℕ) (b : Bool) → b ≡ (lrsn_of image == lrsn) → b ≡ false → lrsn ≡ lrsn_of page → false ≡ bytes_eq image page
 unlike image page lrsn b is off e =
     decide (bytes_eq image page) (false ≡ bytes_eq image page)
     (λ same.
@@ -403,12 +407,46 @@ mark_version at met id m page is has known its =
     (λ t. subst (λ (p : List ℕ). IsVersion id met.made.records p) (sym its) (marked.behind t), λ v. marked.before (subst (λ (p : List ℕ). IsVersion id met.made.records p) its v))
 
 -- the pages after one record more
-pub took : LeavesOthers → (at : Images) (old marked redone met : MetPages) (it : LogRecord) → marked.made ≡ old.made → HaveMarks (pages_of it) old marked → (AreMet at old → AreMet at marked) → redone.marks ≡ marked.marks → redone.made.records ≡ marked.made.records ++ it ∷ []
-    → redone.made.range ≡ marked.made.range → met.made ≡ redone.made → MeetsAlso at (pages_of it) redone met → AreMet at old → AreMet at met
-took law at old marked redone met it same marks keeps also records range still meets known =
-    let now : MetBy at marked.made marked.marks.entries = keeps known in
+pub took : LeavesOthers → (at : Images) (old marked redone met : MetPages) (it : LogRecord) {xs ys : List PageId} → xs ≡ pages_of it → ys ≡ pages_of it → marked.made ≡ old.made → HaveMarks xs old marked → (AreMet at old → AreMet at marked)
+    → redone.made.records ≡ marked.made.records ++ it ∷ [] → redone.made.range ≡ marked.made.range → met.made ≡ redone.made → MeetsAlso at ys redone met → redone.marks ≡ marked.marks → AreMet at old → AreMet at met
+took law at old marked redone met it {xs} {ys} xs_are ys_are same marks keeps records range still meets also known =
+    let there : HaveMarks (pages_of it) old marked = subst (λ (ps : List PageId). HaveMarks ps old marked) xs_are marks in
+    let on : MeetsAlso at (pages_of it) redone met = subst (λ (ps : List PageId). MeetsAlso at ps redone met) ys_are meets in
     let begun : OnBy at redone.made marked.marks.entries marked.made.records [] =
-    starts at marked.made redone.made it marked.marks.entries range records (λ q has. marks.there q (subst (λ (made : Redone). HasPage made.range q) same has)) now
+    starts at marked.made redone.made it marked.marks.entries range records (λ q has. there.there q (subst (λ (made : Redone). HasPage made.range q) same has)) (keeps known)
     in
-    let on : AreMetOn at met marked.made.records (pages_of it) = meets marked.made.records it [] records (subst (λ m. OnBy at redone.made m.entries marked.made.records []) (sym also) begun) in
-    ends law at met.made marked.made.records it met.marks.entries (ap (λ (made : Redone). made.records) still ∙ records) on
+    ends law at met.made marked.made.records it met.marks.entries (ap (λ (made : Redone). made.records) still ∙ records)
+    (on marked.made.records it [] records (subst (λ m. OnBy at redone.made m.entries marked.made.records []) (sym also) begun))
+
+-- ---- loops over the pages of a record
+
+pub marks_next : (pages : List PageId) (i : ℕ) (d : PageId) (old now new : MetPages) → i < length pages → now.made ≡ old.made → HaveMarks (take i pages) old now → HaveMarks (get_or pages i d ∷ []) now new → HaveMarks (take (i + 1) pages) old new
+marks_next pages i d old now new lt same h k = subst (λ (ps : List PageId). HaveMarks ps old new) (sym (take_more pages i d lt)) (marks_both (take i pages) (get_or pages i d) old now new same h k)
+
+pub meets_next : (a b : Option Contents) (pages : List PageId) (i : ℕ) (d : PageId) (old now new : MetPages) → i < length pages → now.made ≡ old.made → WhenTold a (λ (c : Contents). MeetsAlso (page_at c.pages) (take i pages) old now) → Becomes a b Same
+    → WhenTold b (λ (c : Contents). MeetsAlso (page_at c.pages) (get_or pages i d ∷ []) now new) → WhenTold a (λ (c : Contents). MeetsAlso (page_at c.pages) (take (i + 1) pages) old new)
+meets_next a b pages i d old now new lt made h same k =
+    told_by_both a (λ (c : Contents). MeetsAlso (page_at c.pages) (take i pages) old now) (λ (c : Contents). MeetsAlso (page_at c.pages) (get_or pages i d ∷ []) now new) (λ (c : Contents). MeetsAlso (page_at c.pages) (take (i + 1) pages) old new)
+    (λ c x y.
+    subst (λ (ps : List PageId). MeetsAlso (page_at c.pages) ps old new) (sym (take_more pages i d lt)) (meets_both (page_at c.pages) (take i pages) (get_or pages i d) old now new made x y))
+    h (told_before a b (λ (c : Contents). MeetsAlso (page_at c.pages) (get_or pages i d ∷ []) now new) same k)
+
+pub meets_whole : (a : Option Contents) (pages : List PageId) (i : ℕ) (old new : MetPages) → length pages ≤ i → WhenTold a (λ (c : Contents). MeetsAlso (page_at c.pages) (take i pages) old new) → WhenTold a (λ (c : Contents). MeetsAlso (page_at c.pages) pages old new)
+meets_whole a pages i old new le h = subst (λ (ps : List PageId). WhenTold a (λ (c : Contents). MeetsAlso (page_at c.pages) ps old new)) (take_all i pages le) h
+
+pub met_next : (a b : Option Contents) (old now new : MetPages) → WhenTold a (λ (c : Contents). AreMet (page_at c.pages) old → AreMet (page_at c.pages) now) → Becomes a b Same → WhenTold b (λ (c : Contents). AreMet (page_at c.pages) now → AreMet (page_at c.pages) new)
+    → WhenTold a (λ (c : Contents). AreMet (page_at c.pages) old → AreMet (page_at c.pages) new)
+met_next a b old now new h same k =
+    told_by_both a (λ (c : Contents). AreMet (page_at c.pages) old → AreMet (page_at c.pages) now) (λ (c : Contents). AreMet (page_at c.pages) now → AreMet (page_at c.pages) new) (λ (c : Contents). AreMet (page_at c.pages) old → AreMet (page_at c.pages) new)
+    (λ c x y known. y (x known)) h (told_before a b (λ (c : Contents). AreMet (page_at c.pages) now → AreMet (page_at c.pages) new) same k)
+
+-- a page of another table, and one without a mark
+pub other_meets : (at : Images) (met : MetPages) (id : PageId) (range : TableRange) (b : Bool) → range ≡ met.made.range → IsTrue b ↔ HasPage range id → b ≡ false → MeetsAlso at (id ∷ []) met met
+other_meets at met id range b same is off = meets_none at met.made met.marks.entries id (λ has. absurd (cc (off, is.1 (subst (λ (r : TableRange). HasPage r id) (sym same) has))))
+
+pub unmarked_meets : (at : Images) (met : MetPages) (id : PageId) → mark_of met id ≡ None → MeetsAlso at (id ∷ []) met met
+unmarked_meets at met id none = meets_none at met.made met.marks.entries id (λ has. none)
+
+pub off_of : (b : Bool) → not b ≡ true → b ≡ false
+off_of true h = absurd cc
+off_of false h = refl

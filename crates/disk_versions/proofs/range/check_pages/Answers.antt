@@ -1,6 +1,7 @@
-use Rattle.std.proofs.Common.{◌≡◌, true, false, arith}
+use Rattle.std.proofs.Common.{◌≡◌, ◌<◌, ◌≤◌, true, false, arith, rules}
 use Rattle.disk_versions.proofs.Reading.{same_self, same_on}
 use Rattle.disk_versions.proofs.Pages.{count_up, not_false}
+use Rattle.disk_versions.proofs.Marks.{off_of}
 use Rattle.disk_versions.proofs.Ranging.{pages_start, page_added, page_wrong_in}
 use Rattle.disk_versions.proofs.range.check_pages.Goals as goal
 
@@ -24,4 +25,17 @@ loop-number-preserved g c =
       same = same_on _ _ _ held.same read.same;
       later = (let a = held.later in let b = read.later in omega (arith, a, b));
       count = count_up c.loop-number.number c.loop-number.pages c.count_with-pages.result c.in_ok-judged.judged.is_written c.count_with-pages.ensures held.count;
+    }
+
+pub returns-then-not-judged-clause-told : goal.returns-then-not-judged-clause-told
+returns-then-not-judged-clause-told g c =
+    let held = c.loop-number.invariant in
+    let read = c.in_ok-judged.ensures in
+    let wrong : c.in_ok-judged.judged.is_placed ≡ false = search (rules, off_of) in
+    record {
+      ok =
+          page_wrong_in (g.D.Disk.contents c.args.disk.now) (g.D.Disk.contents c.loop-number.disk) c.args.met.now c.args.renews c.args.set c.loop-number.number c.args.end c.loop-number.pages c.in_ok-judged.judged held.same (omega arith) wrong held.told read.ok;
+      failed = λ e. absurd cc;
+      same = same_on _ _ _ held.same read.same;
+      later = (let a = held.later in let b = read.later in omega (arith, a, b));
     }
