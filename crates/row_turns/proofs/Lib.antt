@@ -2,3 +2,8 @@ pub mod Drawn
 pub mod Firsts
 pub mod Fronts
 pub mod Rows
+pub mod Tallies
+pub mod Behind
+pub mod Holding
+pub mod RowSteps
+pub mod HeldSteps

@@ -1,5 +1,5 @@
 -- One record after the other.
-use Rattle.std.proofs.Common.{◌≡◌, ◌↔◌, ◌⊎◌, ℕ, ◌+◌, ◌<◌, ◌≤◌, Bool, true, false, List, [], ◌∷◌, ◌++◌, length, get_or, Option, Some, None, Result, Ok, Err, inl, inr, refl, sym, ap, subst, ◌∙◌, arith, length-append}
+use Rattle.std.proofs.Common.{◌≡◌, ◌↔◌, ◌⊎◌, ℕ, ◌+◌, ◌<◌, ◌≤◌, Bool, true, false, List, [], ◌∷◌, ◌++◌, length, get_or, Option, Some, None, Result, Ok, Err, inl, inr, refl, sym, ap, subst, ◌∙◌, arith}
 use Rattle.std.specs.Prelude.{IsTrue, IfOk}
 use Rattle.std.proofs.lemmas.Bool.{cases_lt}
 use Rattle.ds_base.specs.declared.names.PageId.{PageId}
@@ -85,11 +85,3 @@ pub next_told : {E : Type 0} (made : TableRange) (rs : List LogRecord) (r : LogR
     → IfOk result (λ found. AreLeft rs it.rows → IsTold (has_page made) rs it.taken r.lrsn r.body found) → IfOk result (λ found. IsStanding rs it → AreFound (has_page it.rows.range) (rs ++ r ∷ []) found)
 next_told made rs r it (Ok found) same none h = found_by it.rows.range made rs r it found refl same none h
 next_told made rs r it (Err e) same none h = tt
-
-pub standing_more : (rs : List LogRecord) (r : LogRecord) (old new : Standing) → new.rows.range ≡ old.rows.range → (IsStanding rs old → AreFound (has_page old.rows.range) (rs ++ r ∷ []) new.first) → new.taken ≡ old.taken + 1
-    → ((records : List LogRecord) → AreLeft records old.rows → AreLeft (records ++ r ∷ []) new.rows) → IsStanding rs old → IsStanding (rs ++ r ∷ []) new
-standing_more rs r old new same found taken left s = record {
-  left = left rs s.left;
-  taken_is = let before = s.taken_is in omega (arith, taken, before, length-append rs (r ∷ []));
-  found = subst (λ (m : TableRange). AreFound (has_page m) (rs ++ r ∷ []) new.first) (sym same) (found s);
-}
