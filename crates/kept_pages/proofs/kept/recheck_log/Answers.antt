@@ -10,8 +10,8 @@ loop-init g c = (walk_starts rechecks _ _ c.args.member c.args.end c.new-head.re
 pub loop-preserved : goal.loop-preserved
 loop-preserved g c = (
   walk_more rechecks _ _ _ _ _ _ c.args.member c.args.end c.args.again.now c.loop.head c.next_of_log.new.head c.loop.again c.enter.new.self c.in_ok-next_of_log.field-0 c.in-Some.it c.in-Some.is
-  (λ (rest : List LogRecord). recheck_step c.loop.again c.enter.new.self c.loop.head.at c.at-at.result c.in-Some.it rest c.fits.result c.at-at.ensures c.in_ok-enter-in-Some.ensures c.fits.ensures c.if-not-fits.false) c.loop.invariant.0
-  c.in_ok-next_of_log.ensures.next,
+      (λ (rest : List LogRecord). recheck_step c.loop.again c.enter.new.self c.loop.head.at c.at-at.result c.in-Some.it rest c.fits.result c.at-at.ensures c.in_ok-enter-in-Some.ensures c.fits.ensures c.if-not-fits.false) c.loop.invariant.0
+      c.in_ok-next_of_log.ensures.next,
   sound_some c.next_of_log.new.head c.in_ok-next_of_log.field-0 c.in-Some.it c.in-Some.is c.in_ok-next_of_log.ensures.sound,
 )
 
