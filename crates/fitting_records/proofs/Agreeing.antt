@@ -182,7 +182,7 @@ fits_too member before full s r a fit =
     (asked_new (is_in s.range r.lrsn) (is_new_in s r) (is_new full r) (new_agrees member before full s r a) (and_left (is_new full r) (is_home full r) front))
     (asked_new (is_in s.range r.tran) (is_home_in s member r && follows_on (get s.trans r.tran) r) true
     (λ h. and_both (is_home_in s member r) (follows_on (get s.trans r.tran) r) (home_agrees member before full s r a h ∙ and_right (is_new full r) (is_home full r) front)
-        (follows_agrees member before full s r a h ∙ and_right (is_new full r && is_home full r) (follows full r) fit)) refl)
+    (follows_agrees member before full s r a h ∙ and_right (is_new full r && is_home full r) (follows full r) fit)) refl)
 
 -- the number that tells that the record doesn't fit
 abbrev pub blamed : Seen → LogRecord → ℕ

@@ -1,10 +1,9 @@
 //! Whether the records of all logs fit each other, as far as the numbers of a range tell.
 
-ghost use Rattle.std.specs.Prelude.{◌≡◌, OnOk};
+ghost use Rattle.std.specs.Prelude.{◌≡◌, not, ◌&&◌, ◌||◌, None, OnOk};
 ghost use Rattle.std.specs.FinMap as finite;
-ghost use Rattle.log_record.specs.Changes.{is_drawn};
 ghost use Rattle.fitting_records.specs.Fitting.{follows_on};
-ghost use Rattle.fitting_records.specs.Ranges.{is_in, nothing_in, is_new_in, is_own, is_home_in, fits_in, drawn_with, homes_with, trans_with, entered, found_at, tried_when, least_with, next_with, noted, range_with, left_behind, is_sooner, sooner};
+ghost use Rattle.fitting_records.specs.Ranges.{is_in, nothing_in, is_new_in, is_home_in, fits_in, drawn_with, homes_with, trans_with, entered, tried_when, least_with, next_with, noted, range_with, left_behind, is_sooner, sooner};
 
 use crate::seen::{enter_tran, is_first};
 use crate::standing::Standing;
@@ -49,24 +48,6 @@ impl NumberRange {
         ensures { result ≡ is_in self number }
     {
         self.from <= number && number < self.to
-    }
-}
-
-fn is_own(home: Option<&MemberId>, member: MemberId) -> bool
-    ensures { result ≡ is_own member home }
-{
-    match home {
-        None => true,
-        Some(home) => home.number() == member.number(),
-    }
-}
-
-fn follows(alloc: Global, standing: Option<&Standing>, it: &LogRecord) -> bool
-    ensures { result ≡ follows_on standing it.now }
-{
-    match standing {
-        None => is_first(it) && Standing::new(alloc).may_take(&it.body),
-        Some(standing) => standing.may_take(&it.body),
     }
 }
 
@@ -159,15 +140,40 @@ impl RangeSeen {
     fn is_home(&self, member: MemberId, it: &LogRecord) -> bool
         ensures { result ≡ is_home_in self.now member it.now }
     {
-        it.tran.number() == 0 || is_own(self.homes.get(it.tran), member)
+        if it.tran.number() == 0 {
+            return true;
+        }
+        match self.homes.get(it.tran) {
+            None => true,
+            Some(home) => home.number() == member.number(),
+        }
+    }
+
+    fn follows(&self, alloc: Global, it: &LogRecord) -> bool
+        ensures { result ≡ follows_on (finite.get self.now.trans it.now.tran) it.now }
+    {
+        match self.trans.get(it.tran) {
+            None => is_first(it) && Standing::new(alloc).may_take(&it.body),
+            Some(standing) => standing.may_take(&it.body),
+        }
+    }
+
+    fn fits_number(&self, it: &LogRecord) -> bool
+        ensures { result ≡ (not (is_in self.now.range it.now.lrsn) || is_new_in self.now it.now) }
+    {
+        !self.range.has(it.lrsn.number()) || self.is_new(it)
+    }
+
+    fn fits_tran(&self, alloc: Global, member: MemberId, it: &LogRecord) -> bool
+        ensures { result ≡ (not (is_in self.now.range it.now.tran) || (is_home_in self.now member it.now && follows_on (finite.get self.now.trans it.now.tran) it.now)) }
+    {
+        !self.range.has(it.tran.number()) || (self.is_home(member, it) && self.follows(alloc, it))
     }
 
     fn fits(&self, alloc: Global, member: MemberId, it: &LogRecord) -> bool
         ensures { result ≡ fits_in self.now member it.now }
     {
-        (!self.range.has(it.lrsn.number()) || self.is_new(it))
-            && (!self.range.has(it.tran.number())
-                || (self.is_home(member, it) && follows(alloc, self.trans.get(it.tran), it)))
+        self.fits_number(it) && self.fits_tran(alloc, member, it)
     }
 
     fn enter(&mut self, alloc: Global, member: MemberId, it: &LogRecord) -> Result<(), NoMemory>
@@ -176,6 +182,23 @@ impl RangeSeen {
         enter_drawn(&mut self.drawn, self.range, it)?;
         enter_home(&mut self.homes, self.range, member, it)?;
         enter_standing(alloc, &mut self.trans, self.range, it)
+    }
+
+    // Where none was found that doesn't fit.
+    fn try_record(
+        &mut self,
+        alloc: Global,
+        member: MemberId,
+        at: u64,
+        it: &LogRecord,
+    ) -> Result<(), NoMemory>
+        ensures { OnOk result (self.new ≡ tried_when None self.old member at it.now) }
+    {
+        if self.fits(alloc, member, it) {
+            return self.enter(alloc, member, it);
+        }
+        self.first = Some(Place { member, at });
+        Ok(())
     }
 
     fn try_next(
@@ -187,14 +210,9 @@ impl RangeSeen {
     ) -> Result<(), NoMemory>
         ensures { OnOk result (self.new ≡ tried_when self.old.first self.old member at it.now) }
     {
-        if self.first.is_some() {
-            return Ok(());
-        }
-        if self.fits(alloc, member, it) {
-            self.enter(alloc, member, it)
-        } else {
-            self.first = Some(Place { member, at });
-            Ok(())
+        match self.first {
+            Some(_) => Ok(()),
+            None => self.try_record(alloc, member, at, it),
         }
     }
 
@@ -231,8 +249,7 @@ impl RangeSeen {
 fn is_sooner(a: Place, b: Place) -> bool
     ensures { result ≡ is_sooner a b }
 {
-    a.member.number() < b.member.number()
-        || (a.member.number() == b.member.number() && a.at < b.at)
+    a.member.number() < b.member.number() || (a.member.number() == b.member.number() && a.at < b.at)
 }
 
 /// The sooner of two places, by the order of the logs, and in each by the order of its records.
@@ -242,12 +259,6 @@ pub fn sooner(a: Option<Place>, b: Option<Place>) -> Option<Place>
     match (a, b) {
         (None, b) => b,
         (Some(a), None) => Some(a),
-        (Some(a), Some(b)) => {
-            if is_sooner(b, a) {
-                Some(b)
-            } else {
-                Some(a)
-            }
-        }
+        (Some(a), Some(b)) => { if is_sooner(b, a) { Some(b) } else { Some(a) } }
     }
 }

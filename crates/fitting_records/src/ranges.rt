@@ -1,11 +1,10 @@
 //! The first record of the logs of a disk that doesn't fit those before it, by ranges of numbers: for each all logs are read by
 //! blocks, and the transactions and the drawn numbers in it are asked alone.
 
-ghost use Rattle.std.specs.Prelude.{◌≡◌, ◌+◌, ◌≤◌, ◌<◌, ◌^◌, length, OnOk, IfOk};
+ghost use Rattle.std.specs.Prelude.{◌≡◌, ◌≤◌, ◌<◌, ◌^◌, length, IfOk};
 ghost use Rattle.disk_walk.specs.Reading.{Reads};
 ghost use Rattle.disk_walk.specs.One.{OfRecords};
 ghost use Rattle.disk_walk.specs.Whole.{OfWholeLogs};
-ghost use Rattle.fitting_records.specs.Ranges.{nothing_in};
 ghost use Rattle.fitting_records.specs.Ranging.{spot_at, IsRangedFrom, IsRangedBy, IsSearched};
 ghost use Rattle.fitting_records.specs.Telling.{AreFitTold};
 
@@ -86,7 +85,7 @@ fn take_logs<D: Disk>(
 }
 
 // The range from this number on. No number of a record is so great that there is none.
-fn range_from(from: u128) -> Result<NumberRange, NoMemory>
+fn range_at(from: u128) -> Result<NumberRange, NoMemory>
     ensures { IfOk result (λ range. range.from ≡ from) }
 {
     let to = from.checked_add(WIDTH).ok_or(NoMemory)?;
@@ -108,7 +107,7 @@ fn search<D: Disk>(
     let mut from = 0;
     let mut first = None;
     for _ in 0..u64::MAX {
-        let range = range_from(from)?;
+        let range = range_at(from)?;
         let seen = take_logs(alloc, disk, ends, range, block)?;
         first = sooner(first, seen.first);
         match seen.next {

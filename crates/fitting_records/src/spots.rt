@@ -1,6 +1,7 @@
 //! Where in the logs of a disk a number stands, read by blocks.
 
 ghost use Rattle.std.specs.Prelude.{◌≡◌, ◌≤◌, ◌<◌, ◌^◌, length, IfOk};
+ghost use Rattle.disk_spots.specs.Spots.{has_drawn};
 ghost use Rattle.disk_walk.specs.Reading.{Reads};
 ghost use Rattle.disk_walk.specs.One.{OfRecords};
 ghost use Rattle.disk_walk.specs.Whole.{OfWholeLogs};
@@ -18,10 +19,20 @@ use log_record::is_drawn;
 use sound_disk::log_laws;
 use std::alloc::Global;
 
+fn has_drawn(it: &LogRecord, number: u128) -> bool
+    ensures { result ≡ has_drawn number it.now }
+{
+    is_drawn(&it.body) && it.lrsn.number() == number
+}
+
 fn is_sought(it: &LogRecord, number: u128, drawn: bool) -> bool
     ensures { result ≡ is_sought drawn number it.now }
 {
-    (!drawn || is_drawn(&it.body)) && it.lrsn.number() == number
+    if drawn {
+        has_drawn(it, number)
+    } else {
+        it.lrsn.number() == number
+    }
 }
 
 // Where the first such record begins of the member's log up to this byte.

@@ -38,7 +38,7 @@ fn is_old(it: &LogRecord) -> bool
 fn is_end(it: &LogRecord) -> bool
     ensures { result ≡ is_end it.now }
 {
-    matches!(it.version, Version::Two) && matches!(it.body, Body::RestartEnd)
+    matches!(it.version, Version::Two) && matches!(&it.body, Body::RestartEnd)
 }
 
 // Counts a change of a page of the table.
@@ -71,12 +71,14 @@ fn count_changes(counts: &mut [usize], it: &LogRecord) {
 fn pass(
     alloc: Global,
     passing: &mut Passing,
+    fitted: bool,
     member: MemberId,
     it: &LogRecord,
 ) -> Result<bool, NoMemory>
-    ensures { IfOk result (λ fits. fits ≡ true → IsPassedOn passing.old passing.new member it.now) }
+    ensures fitted { IfOk result (λ fits. fits ≡ true → fitted ≡ true) }
+    ensures passed { IfOk result (λ fits. fits ≡ true → IsPassedOn passing.old passing.new member it.now) }
 {
-    if !passing.may_pass(alloc, member, it) {
+    if !fitted || !passing.may_pass(alloc, member, it) {
         return Ok(false);
     }
     passing.pass(alloc, member, it)?;
@@ -136,10 +138,8 @@ impl Sums {
         ensures ends { length self.new.ends.items ≡ 32 }
         ensures count { length self.new.counts.items ≡ length self.old.counts.items }
     {
-        if self.fits {
-            self.fits = pass(alloc, &mut self.passing, member, it)?;
-        }
-        self.greatest = it.lrsn.number().max(self.greatest);
+        self.fits = pass(alloc, &mut self.passing, self.fits, member, it)?;
+        self.greatest = self.greatest.max(it.lrsn.number());
         let place = member.number() as usize - 1;
         note_version(&mut self.olds, place, it);
         note_end(&mut self.ends, place, it);

@@ -94,7 +94,7 @@ none_behind : (more : Option Spot) (member : ℕ) (place : Option ℕ) → or_be
 none_behind more member None h = (refl, h)
 none_behind more member (Some at) h = absurd cc
 
-no_spot : (logs : List Log) → bad_spot logs ≡ None → OffsetsFit logs
+pub no_spot : (logs : List Log) → bad_spot logs ≡ None → OffsetsFit logs
 no_spot [] h = tt
 no_spot (log ∷ logs) h =
     let both = none_behind (bad_spot logs) log.member (bad_offset log.records) h in
@@ -109,7 +109,7 @@ not_both : (b : Bool) → b ≡ false → b ≡ true → ⊥
 not_both true h k = absurd cc
 not_both false h k = absurd cc
 
-one_spot : (logs : List Log) (s : Spot) → bad_spot logs ≡ Some s → OffsetsFit logs → ⊥
+pub one_spot : (logs : List Log) (s : Spot) → bad_spot logs ≡ Some s → OffsetsFit logs → ⊥
 one_spot [] s h fit = absurd cc
 one_spot (log ∷ logs) s h fit =
     spot_behind (bad_spot logs) log.member (bad_offset log.records) s (offsets_fit [] 0 log.records ≡ true) (OffsetsFit logs)

@@ -91,6 +91,10 @@ all_there s at (r ∷ rs) =
 abbrev AreMet : Places → Places → Places → Type 0
 AreMet offsets met places = (q : ℕ) → is_some (get offsets q) ≡ true → is_some (get met q) ≡ is_some (get places q)
 
+apart : (x : Bool) → x ≡ true → x ≡ false → ⊥
+apart true a b = absurd cc
+apart false a b = absurd cc
+
 met_when : (b : Bool) (offsets met places : Places) (at q : ℕ) → is_some (get offsets at) ≡ b → is_some (get offsets q) ≡ true → is_some (get met q) ≡ is_some (get places q)
     → is_some (get (cond b (insert met at true) met) q) ≡ ((at == q) || is_some (get places q))
 met_when true offsets met places at q is h same = has_put met at q ∙ ap (λ (b : Bool). (at == q) || b) same
@@ -98,10 +102,6 @@ met_when false offsets met places at q is h same = by_test (at == q) refl
   where
     by_test : (c : Bool) → (at == q) ≡ c → is_some (get met q) ≡ (c || is_some (get places q))
     by_test true e = absurd (apart (is_some (get offsets q)) h (ap (λ (n : ℕ). is_some (get offsets n)) (sym (equal at q e)) ∙ is))
-      where
-        apart : (x : Bool) → x ≡ true → x ≡ false → ⊥
-        apart true a b = absurd cc
-        apart false a b = absurd cc
     by_test false e = same
 
 met_more : (offsets met places : Places) (at : ℕ) → AreMet offsets met places → AreMet offsets (met_with offsets met at) (with_place places at)

@@ -24,11 +24,7 @@ pub struct Recheck {
     pub changes: NumberMap<Sequence<Lrsn>>,
 }
 
-fn meet(
-    offsets: &NumberMap<bool>,
-    met: &mut NumberMap<bool>,
-    at: u64,
-) -> Result<(), NoMemory>
+fn meet(offsets: &NumberMap<bool>, met: &mut NumberMap<bool>, at: u64) -> Result<(), NoMemory>
     ensures { OnOk result (met.new ≡ met_with offsets.now met.old at) }
 {
     let place = place_number(at);

@@ -13,7 +13,7 @@ loop-init g c = (walk_starts (range_from c.args.member) _ _ c.args.member c.args
 pub loop-preserved : goal.loop-preserved
 loop-preserved g c = (
   walk_more (range_from c.args.member) _ _ _ _ _ _ c.args.member c.args.end c.args.seen.now c.loop.head c.next_of_log.new.head c.loop.seen c.take.new.self c.in_ok-next_of_log.field-0 c.in-Some.it c.in-Some.is
-  (λ (rest : List LogRecord). take_more c.args.member c.loop.seen c.take.new.self c.loop.head.at c.at-at.result c.in-Some.it rest c.at-at.ensures c.in_ok-take-in-Some.ensures) c.loop.invariant.0 c.in_ok-next_of_log.ensures.next,
+      (λ (rest : List LogRecord). take_more c.args.member c.loop.seen c.take.new.self c.loop.head.at c.at-at.result c.in-Some.it rest c.at-at.ensures c.in_ok-take-in-Some.ensures) c.loop.invariant.0 c.in_ok-next_of_log.ensures.next,
   sound_some c.next_of_log.new.head c.in_ok-next_of_log.field-0 c.in-Some.it c.in-Some.is c.in_ok-next_of_log.ensures.sound,
 )
 

@@ -10,7 +10,7 @@ loop-init g c = (walk_starts (places c.args.drawn c.args.number) _ _ c.args.memb
 pub loop-preserved : goal.loop-preserved
 loop-preserved g c = (
   walk_more (places c.args.drawn c.args.number) _ _ _ _ _ _ c.args.member c.args.end 0 c.loop.head c.next_of_log.new.head 0 0 c.in_ok-next_of_log.field-0 c.in-Some.it c.in-Some.is
-  (λ (rest : List LogRecord). passes_by c.args.drawn c.args.number c.loop.head.at c.in-Some.it rest c.is_sought.result c.is_sought.ensures c.if-is_sought.false) c.loop.invariant.0 c.in_ok-next_of_log.ensures.next,
+      (λ (rest : List LogRecord). passes_by c.args.drawn c.args.number c.loop.head.at c.in-Some.it rest c.is_sought.result c.is_sought.ensures c.if-is_sought.false) c.loop.invariant.0 c.in_ok-next_of_log.ensures.next,
   sound_some c.next_of_log.new.head c.in_ok-next_of_log.field-0 c.in-Some.it c.in-Some.is c.in_ok-next_of_log.ensures.sound,
 )
 
