@@ -7,3 +7,9 @@ pub mod Behind
 pub mod Holding
 pub mod RowSteps
 pub mod HeldSteps
+pub mod Turning
+pub mod Lefts
+pub mod Merges
+pub mod Ranging
+pub mod Numbers
+pub mod Ordering
