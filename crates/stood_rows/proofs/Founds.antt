@@ -1,17 +1,15 @@
 -- What is found of one record more, and of two kinds of pages.
-use Rattle.std.proofs.Common.{◌≡◌, ◌⊎◌, ℕ, zero, suc, ◌+◌, ◌<◌, ◌≤◌, Bool, true, false, cond, List, [], ◌∷◌, ◌++◌, length, get_or, take, Option, Some, None, inl, inr, refl, sym, ap, subst, ◌∙◌, append_assoc, arith}
+use Rattle.std.proofs.Common.{◌≡◌, ◌⊎◌, ℕ, zero, suc, ◌<◌, ◌≤◌, Bool, true, false, cond, List, [], ◌∷◌, ◌++◌, length, get_or, take, Option, Some, None, inl, inr, refl, sym, ap, subst, ◌∙◌, arith}
 use Rattle.std.specs.Prelude.{◌==◌, nat_lt, ◌&&◌, ◌||◌}
-use Rattle.std.specs.List.{AllByRecursion}
 use Rattle.std.proofs.lemmas.Bool.{cases_lt}
 use Rattle.std.proofs.lemmas.Bool.Decides.{nat_tests}
-use Rattle.std.proofs.lemmas.List.{take-append-le, take_at, take_all}
+use Rattle.std.proofs.lemmas.List.{take-append-le, take_at}
 use Rattle.ds_base.specs.declared.names.PageId.{PageId}
 use Rattle.ds_model.specs.declared.log.LogRecord.{LogRecord}
 use Rattle.ds_model.specs.declared.log.Body.{Body}
 use Rattle.ds_model.specs.declared.log.Body.TheVariants as body
-use Rattle.page_chain.specs.Chains.{images_of}
 use Rattle.stood_rows.specs.declared.unstood.Unstood.{Unstood}
-use Rattle.stood_rows.specs.Found.{item_at, PartStood, part_page, is_for, StoodFor, FailsOn, StoodAt, is_before, IsFirst, AreFound, sooner, IsRowTold, ArePatchesTold, IsNone, IsTold}
+use Rattle.stood_rows.specs.Found.{item_at, PartStood, part_page, is_for, StoodFor, FailsOn, StoodAt, is_before, IsFirst, AreFound, IsTold}
 use Rattle.stood_rows.specs.Laws.{NoneAreFound, BothAreFound, SameAreFound}
 
 -- ---- a list with one more at its end

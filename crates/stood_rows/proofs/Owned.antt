@@ -1,24 +1,18 @@
 -- Slots that stay their keys', page by page and patch by patch.
-use Rattle.std.proofs.Common.{◌≡◌, ◌↔◌, ℕ, ◌+◌, ◌-◌, ◌*◌, ◌/◌, ◌%◌, ◌<◌, ◌≤◌, Bool, true, false, Option, Some, None, Result, Ok, Err, List, [], ◌∷◌, ◌++◌, length, get_or, take, drop, inl, inr, refl, sym, ap, subst, ◌∙◌, arith, if◌then◌else◌}
-use Rattle.std.specs.Prelude.{◌==◌, ◌||◌, nat_lt, IsTrue, IfOk}
+use Rattle.std.proofs.Common.{◌≡◌, ◌↔◌, ℕ, ◌+◌, ◌-◌, ◌*◌, ◌/◌, ◌%◌, ◌<◌, ◌≤◌, Bool, true, false, Option, Some, None, List, [], ◌∷◌, ◌++◌, length, get_or, take, drop, inl, inr, refl, sym, ap, subst, ◌∙◌, arith, if◌then◌else◌}
+use Rattle.std.specs.Prelude.{◌==◌, ◌||◌, nat_lt, IsTrue}
 use Rattle.std.specs.List.{list_any, AllByRecursion}
-use Rattle.std.proofs.Math.Path.{fun_ext}
 use Rattle.std.proofs.lemmas.Bool.{cases_lt, ltb-true}
 use Rattle.std.proofs.lemmas.Bool.Decides.{nat_tests}
-use Rattle.std.proofs.lemmas.List.{take_more, take-append-drop, drop_more}
+use Rattle.std.proofs.lemmas.List.{take-append-drop, drop_more}
 use Rattle.ds_base.specs.Pages.{same_page, heap_page}
 use Rattle.ds_base.specs.declared.names.PageId.{PageId}
 use Rattle.ds_base.specs.declared.names.Place.{Place}
-use Rattle.ds_model.specs.declared.log.LogRecord.{LogRecord}
-use Rattle.ds_model.specs.declared.log.Body.{Body}
-use Rattle.ds_model.specs.declared.log.Body.TheVariants as body
-use Rattle.page_format.specs.Fields.{number_in}
 use Rattle.page_format.specs.Header.{slots_per_page}
 use Rattle.page_format.specs.declared.patch.Patch.{Patch}
 use Rattle.heap_space.specs.Slots.{content, slot_in}
 use Rattle.heap_space.specs.Written.{after_patch, written}
-use Rattle.page_images.specs.Images.{Images, zeros, after_change}
-use Rattle.page_chain.specs.Chains.{images_of}
+use Rattle.page_images.specs.Images.{Images, after_change}
 use Rattle.sound_disk.specs.Layouts.{count_in}
 use Rattle.sound_disk.specs.Rows_there.{key_in, IsPlaceOf, SlotsStay}
 use Rattle.stood_rows.specs.Owners.{owner, is_kept, OwnersStay, StayOn, TakesSlots}

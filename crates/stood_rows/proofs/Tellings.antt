@@ -1,5 +1,5 @@
 -- What is found of all pages is what is told of the records.
-use Rattle.std.proofs.Common.{◌≡◌, ◌↔◌, ℕ, zero, suc, ◌+◌, ◌<◌, ◌≤◌, Bool, true, false, List, [], ◌∷◌, ◌++◌, length, get_or, take, drop, Option, Some, None, refl, sym, ap, subst, ◌∙◌, arith}
+use Rattle.std.proofs.Common.{◌≡◌, ℕ, zero, suc, ◌<◌, ◌≤◌, Bool, true, false, List, [], ◌∷◌, ◌++◌, length, get_or, take, Option, Some, None, refl, sym, subst, ◌∙◌, arith}
 use Rattle.std.specs.Prelude.{◌==◌, nat_lt, ◌&&◌, ◌||◌}
 use Rattle.std.specs.List.{AllByRecursion}
 use Rattle.std.proofs.lemmas.Bool.Decides.{nat_tests}
@@ -19,7 +19,7 @@ use Rattle.sound_disk.specs.Rows_there.{BodyStood, BeforesAgree}
 use Rattle.stood_rows.specs.Owners.{StayOn, TakesSlots}
 use Rattle.stood_rows.specs.Standing.{IsUnstood, IsFirstUnstood}
 use Rattle.stood_rows.specs.declared.unstood.Unstood.{Unstood}
-use Rattle.stood_rows.specs.Found.{item_at, StaysThere, PartStood, patch_page, part_page, is_for, StoodFor, FailsOn, StoodAt, is_before, IsFirst, AreFound}
+use Rattle.stood_rows.specs.Found.{item_at, StaysThere, PartStood, patch_page, part_page, is_for, StoodFor, FailsOn, IsFirst}
 use Rattle.stood_rows.specs.Laws.{FoundAreTold}
 use Rattle.stood_rows.proofs.Kept.{allowed_at}
 use Rattle.stood_rows.proofs.Owned.{all_stay, taken_here}

@@ -10,7 +10,7 @@ use Rattle.page_format.specs.declared.patch.Patch.{Patch}
 use Rattle.heap_space.specs.Slots.{content, slot_in}
 use Rattle.page_images.specs.Images.{Images, after_change}
 use Rattle.sound_disk.specs.Layouts.{count_in}
-use Rattle.sound_disk.specs.Rows_there.{key_in, IsPlaceOf, SlotsStay}
+use Rattle.sound_disk.specs.Rows_there.{key_in, IsPlaceOf}
 
 -- ---- a page
 

@@ -10,7 +10,7 @@ use Rattle.ds_model.specs.declared.log.Body.TheVariants as body
 use Rattle.heap_space.specs.Slots.{Content, content, slot_in}
 use Rattle.page_redo.specs.Rows.{change_fault}
 use Rattle.page_chain.specs.Chains.{images_of}
-use Rattle.sound_disk.specs.Rows_there.{Stood, BodyStood, BeforesAgree}
+use Rattle.sound_disk.specs.Rows_there.{Stood, BeforesAgree}
 use Rattle.stood_rows.specs.Owners.{TakesSlots}
 
 abbrev pub same_value : Option (List ℕ) → List ℕ → Bool
