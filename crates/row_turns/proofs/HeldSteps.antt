@@ -174,9 +174,9 @@ fair_kept rs r takes comp before here =
     all_push (is_fair (rs ++ r ∷ [])) rs r
     ∙ and_both (list_all (is_fair (rs ++ r ∷ [])) rs) (is_fair (rs ++ r ∷ []) r)
     (all_less (is_fair rs) (is_fair (rs ++ r ∷ [])) rs before (λ s f.
-      ap (λ (b : Bool). not (is_row_change s.body) || not b || has_undone (rs ++ r ∷ []) s.tran) (taken_kept rs r s.lrsn (takes s.lrsn))
-      ∙ ap (λ (b : Bool). not (is_row_change s.body) || not (is_taken_back rs s.lrsn) || b) (undone_kept rs r s.tran comp)
-      ∙ f))
+    ap (λ (b : Bool). not (is_row_change s.body) || not b || has_undone (rs ++ r ∷ []) s.tran) (taken_kept rs r s.lrsn (takes s.lrsn))
+    ∙ ap (λ (b : Bool). not (is_row_change s.body) || not (is_taken_back rs s.lrsn) || b) (undone_kept rs r s.tran comp)
+    ∙ f))
     here
 
 commits_kept : (early : Bool) (rs : List LogRecord) (r : LogRecord) (t : ℕ) (o : Option Bool) → is_commit r.body ≡ false → is_some o ≡ marks_commits early rs t → is_some o ≡ marks_commits early (rs ++ r ∷ []) t
@@ -294,8 +294,8 @@ held_change has early rs r c it e own fresh early_is may h =
       rows_are = λ table key its.
           subst (λ (o : Option RowTurn). IsRowOr table key (rs ++ r ∷ []) o) (sym (got it.rows c.table c.key v table key))
           (row_when table key c.table c.key (rs ++ r ∷ []) v (get it.rows (table, key)) row
-            (λ other. row_plain table key rs r (get it.rows (table, key)) plain (ap (changes_at table key) e ∙ other) (h.rows_are table key its))
-            ((table == c.table) && (key == c.key)) refl);
+          (λ other. row_plain table key rs r (get it.rows (table, key)) plain (ap (changes_at table key) e ∙ other) (h.rows_are table key its))
+          ((table == c.table) && (key == c.key)) refl);
       others_none = λ table key other.
           got it.rows c.table c.key v table key
           ∙ ap (λ (b : Bool). cond b (Some v) (get it.rows (table, key))) (apart_others has table c.table (table == c.table) (key == c.key) refl other own)
@@ -335,8 +335,8 @@ commit_waits has t rs r c of false e =
     ∙ nothing_more (length (filter (is_waiting_of has t (rs ++ r ∷ [])) rs)) (is_waiting_of has t (rs ++ r ∷ []) r) (not_of (is_of has r.body) _ of)
     ∙ count_same (is_waiting_of has t (rs ++ r ∷ [])) (is_waiting_of has t rs)
     (λ s. wait_same (is_of has s.body) (s.tran == t) (is_row_change s.body) (has_commit rs s.tran) (has_commit (rs ++ r ∷ []) s.tran) (is_taken_back rs s.lrsn) (is_taken_back (rs ++ r ∷ []) s.lrsn)
-      (taken_kept rs r s.lrsn (c.takes s.lrsn))
-      (λ its. commit_now rs r s.tran c ∙ ap (λ (x : Bool). has_commit rs s.tran || x) (ap (λ (n : ℕ). r.tran == n) (same s.tran t its) ∙ e) ∙ or_false (has_commit rs s.tran))) rs
+    (taken_kept rs r s.lrsn (c.takes s.lrsn))
+    (λ its. commit_now rs r s.tran c ∙ ap (λ (x : Bool). has_commit rs s.tran || x) (ap (λ (n : ℕ). r.tran == n) (same s.tran t its) ∙ e) ∙ or_false (has_commit rs s.tran))) rs
 
 gone_when : (w : Waiting) (u t n : ℕ) (b : Bool) → get w t ≡ some_if n → cond b None (get w t) ≡ some_if (cond b 0 n)
 gone_when w u t n true h = refl
@@ -363,9 +363,9 @@ open_rest has rs r c of =
     ∙ nothing_more (length (filter (λ (s : LogRecord). is_of has s.body && is_open (rs ++ r ∷ []) s) rs)) (is_of has r.body && is_open (rs ++ r ∷ []) r) (not_of (is_of has r.body) _ of)
     ∙ count_same (λ (s : LogRecord). is_of has s.body && is_open (rs ++ r ∷ []) s) (λ (s : LogRecord). (is_of has s.body && is_open rs s) && not (r.tran == s.tran))
     (λ s.
-      ap (λ (x : Bool). is_of has s.body && (is_row_change s.body && not (x || is_taken_back (rs ++ r ∷ []) s.lrsn))) (commit_now rs r s.tran c)
-      ∙ ap (λ (x : Bool). is_of has s.body && (is_row_change s.body && not ((has_commit rs s.tran || (r.tran == s.tran)) || x))) (taken_kept rs r s.lrsn (c.takes s.lrsn))
-      ∙ rest_part (is_of has s.body) (is_row_change s.body) (has_commit rs s.tran) (r.tran == s.tran) (is_taken_back rs s.lrsn)) rs) in
+    ap (λ (x : Bool). is_of has s.body && (is_row_change s.body && not (x || is_taken_back (rs ++ r ∷ []) s.lrsn))) (commit_now rs r s.tran c)
+    ∙ ap (λ (x : Bool). is_of has s.body && (is_row_change s.body && not ((has_commit rs s.tran || (r.tran == s.tran)) || x))) (taken_kept rs r s.lrsn (c.takes s.lrsn))
+    ∙ rest_part (is_of has s.body) (is_row_change s.body) (has_commit rs s.tran) (r.tran == s.tran) (is_taken_back rs s.lrsn)) rs) in
     count_split O (λ (s : LogRecord). r.tran == s.tran) rs
     ∙ ap (λ (n : ℕ). n + length (filter (λ (s : LogRecord). (is_of has s.body && is_open rs s) && not (r.tran == s.tran)) rs)) first
     ∙ ap (λ (n : ℕ). waiting_count has r.tran rs + n) second
@@ -448,9 +448,9 @@ waits_now has t rs r c undone u of =
     ∙ nothing_more (length (filter (is_waiting_of has t (rs ++ r ∷ [])) rs)) (is_waiting_of has t (rs ++ r ∷ []) r) (not_of (is_of has r.body) _ of)
     ∙ count_same (is_waiting_of has t (rs ++ r ∷ [])) (λ (s : LogRecord). is_waiting_of has t rs s && not (undone == s.lrsn))
     (λ s.
-      ap (λ (x : Bool). is_of has s.body && ((s.tran == t) && (is_row_change s.body && not (x || is_taken_back (rs ++ r ∷ []) s.lrsn)))) (commit_kept rs r s.tran u.commit)
-      ∙ ap (λ (x : Bool). is_of has s.body && ((s.tran == t) && (is_row_change s.body && not (has_commit rs s.tran || x)))) (taken_now rs r c undone s.lrsn u)
-      ∙ wait_less (is_of has s.body) (s.tran == t) (is_row_change s.body) (has_commit rs s.tran) (is_taken_back rs s.lrsn) (undone == s.lrsn)) rs))
+    ap (λ (x : Bool). is_of has s.body && ((s.tran == t) && (is_row_change s.body && not (x || is_taken_back (rs ++ r ∷ []) s.lrsn)))) (commit_kept rs r s.tran u.commit)
+    ∙ ap (λ (x : Bool). is_of has s.body && ((s.tran == t) && (is_row_change s.body && not (has_commit rs s.tran || x)))) (taken_now rs r c undone s.lrsn u)
+    ∙ wait_less (is_of has s.body) (s.tran == t) (is_row_change s.body) (has_commit rs s.tran) (is_taken_back rs s.lrsn) (undone == s.lrsn)) rs))
 
 open_now : (has : ℕ → Bool) (rs : List LogRecord) (r : LogRecord) (c : RowChange) (undone : ℕ) → Undoes rs r c undone → is_of has r.body ≡ false → open_in has rs ≡ cond (has c.table) 1 0 + open_in has (rs ++ r ∷ [])
 open_now has rs r c undone u of =
@@ -462,9 +462,9 @@ open_now has rs r c undone u of =
     ∙ nothing_more (length (filter (λ (s : LogRecord). is_of has s.body && is_open (rs ++ r ∷ []) s) rs)) (is_of has r.body && is_open (rs ++ r ∷ []) r) (not_of (is_of has r.body) _ of)
     ∙ count_same (λ (s : LogRecord). is_of has s.body && is_open (rs ++ r ∷ []) s) (λ (s : LogRecord). (is_of has s.body && is_open rs s) && not (undone == s.lrsn))
     (λ s.
-      ap (λ (x : Bool). is_of has s.body && (is_row_change s.body && not (x || is_taken_back (rs ++ r ∷ []) s.lrsn))) (commit_kept rs r s.tran u.commit)
-      ∙ ap (λ (x : Bool). is_of has s.body && (is_row_change s.body && not (has_commit rs s.tran || x))) (taken_now rs r c undone s.lrsn u)
-      ∙ open_less (is_of has s.body) (is_row_change s.body) (has_commit rs s.tran) (is_taken_back rs s.lrsn) (undone == s.lrsn)) rs))
+    ap (λ (x : Bool). is_of has s.body && (is_row_change s.body && not (x || is_taken_back (rs ++ r ∷ []) s.lrsn))) (commit_kept rs r s.tran u.commit)
+    ∙ ap (λ (x : Bool). is_of has s.body && (is_row_change s.body && not (has_commit rs s.tran || x))) (taken_now rs r c undone s.lrsn u)
+    ∙ open_less (is_of has s.body) (is_row_change s.body) (has_commit rs s.tran) (is_taken_back rs s.lrsn) (undone == s.lrsn)) rs))
 
 fair_now : (row tk d un m : Bool) → (not row || not tk || un) ≡ true → (not (row && d) || m) ≡ true → (not row || not (tk || d) || (un || m)) ≡ true
 fair_now true true d un m h k = or_left un m h
@@ -477,16 +477,16 @@ fair_undone rs r c undone u before =
     all_push (is_fair (rs ++ r ∷ [])) rs r
     ∙ and_both (list_all (is_fair (rs ++ r ∷ [])) rs) (is_fair (rs ++ r ∷ []) r)
     (all_less (λ (s : LogRecord). is_fair rs s && is_its undone r.tran s) (is_fair (rs ++ r ∷ [])) rs (all_two (is_fair rs) (is_its undone r.tran) rs before (all_its rs r.tran c undone u.one)) (λ s both.
-      ap (λ (x : Bool). not (is_row_change s.body) || not x || has_undone (rs ++ r ∷ []) s.tran) (taken_now rs r c undone s.lrsn u)
-      ∙ ap (λ (x : Bool). not (is_row_change s.body) || not (is_taken_back rs s.lrsn || (undone == s.lrsn)) || x) (undone_now rs r c undone s.tran u)
-      ∙ fair_now (is_row_change s.body) (is_taken_back rs s.lrsn) (undone == s.lrsn) (has_undone rs s.tran) (r.tran == s.tran) (and_left (is_fair rs s) (is_its undone r.tran s) both) (and_right (is_fair rs s) (is_its undone r.tran s) both)))
+    ap (λ (x : Bool). not (is_row_change s.body) || not x || has_undone (rs ++ r ∷ []) s.tran) (taken_now rs r c undone s.lrsn u)
+    ∙ ap (λ (x : Bool). not (is_row_change s.body) || not (is_taken_back rs s.lrsn || (undone == s.lrsn)) || x) (undone_now rs r c undone s.tran u)
+    ∙ fair_now (is_row_change s.body) (is_taken_back rs s.lrsn) (undone == s.lrsn) (has_undone rs s.tran) (r.tran == s.tran) (and_left (is_fair rs s) (is_its undone r.tran s) both) (and_right (is_fair rs s) (is_its undone r.tran s) both)))
     (no_row_fair (is_row_change r.body) (is_taken_back (rs ++ r ∷ []) r.lrsn) (has_undone (rs ++ r ∷ []) r.tran) u.row)
 
 apart_undone : (rs : List LogRecord) (r : LogRecord) (c : RowChange) (undone : ℕ) → Undoes rs r c undone → Apart rs → Apart (rs ++ r ∷ [])
 apart_undone rs r c undone u apart t h =
     commit_kept rs r t u.commit
     ∙ by_bool (has_undone rs t) (has_commit rs t ≡ false) (λ e. apart t e) (λ e.
-      ap (λ (n : ℕ). has_commit rs n) (sym (same r.tran t (second_if (has_undone rs t) (r.tran == t) (sym (undone_now rs r c undone t u) ∙ h) e))) ∙ u.one.uncommitted)
+    ap (λ (n : ℕ). has_commit rs n) (sym (same r.tran t (second_if (has_undone rs t) (r.tran == t) (sym (undone_now rs r c undone t u) ∙ h) e))) ∙ u.one.uncommitted)
 
 none_first : (n m : ℕ) → n ≡ 0 + m → n ≡ m
 none_first n m h = omega (arith, h)
@@ -521,9 +521,9 @@ rows_taken has early rs r c undone it u own h None is table key its =
 rows_taken has early rs r c undone it u own h (Some g) is table key its =
     subst (λ (o : Option RowTurn). IsRowOr table key (rs ++ r ∷ []) o) (sym (got it.rows c.table c.key (taken_by g) table key))
     (row_when table key c.table c.key (rs ++ r ∷ []) (taken_by g) (get it.rows (table, key))
-      (row_taken c.table c.key rs r c undone g u (both_itself c.table c.key) (subst (λ (o : Option RowTurn). IsRowOr c.table c.key rs o) is (h.rows_are c.table c.key own)))
-      (λ other. row_elsewhere table key rs r c undone (get it.rows (table, key)) u other (h.rows_are table key its))
-      ((table == c.table) && (key == c.key)) refl)
+    (row_taken c.table c.key rs r c undone g u (both_itself c.table c.key) (subst (λ (o : Option RowTurn). IsRowOr c.table c.key rs o) is (h.rows_are c.table c.key own)))
+    (λ other. row_elsewhere table key rs r c undone (get it.rows (table, key)) u other (h.rows_are table key its))
+    ((table == c.table) && (key == c.key)) refl)
 
 others_taken : (has : ℕ → Bool) (rows : RowTurns) (u j table key : ℕ) (o : Option RowTurn) → has u ≡ true → has table ≡ false → get rows (table, key) ≡ None → get (rows_less rows (u, j) o) (table, key) ≡ None
 others_taken has rows u j table key None own other h = h

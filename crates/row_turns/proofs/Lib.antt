@@ -7,3 +7,7 @@ pub mod Behind
 pub mod Holding
 pub mod RowSteps
 pub mod HeldSteps
+pub mod Turning
+pub mod Lefts
+pub mod Merges
+pub mod Ranging

@@ -4,9 +4,9 @@ use Rattle.std.specs.List.{AllByRecursion}
 use Rattle.ds_model.specs.declared.log.LogRecord.{LogRecord}
 use Rattle.ds_model.specs.RecordBytes.{IsAllowed}
 use Rattle.ds_model.specs.Rows.{listed}
-use Rattle.ds_model.specs.Logs.{rows_of_logs}
+use Rattle.ds_model.specs.Logs.{by_lrsn, rows_of_logs}
 use Rattle.log_record.specs.declared.log.Log.{Log}
-use Rattle.log_merge.specs.Merging.{all_records}
+use Rattle.log_merge.specs.Merging.{all_records, kept, in_order}
 use Rattle.sound_disk.specs.Transactions.{AreTransactions}
 use Rattle.sound_disk.specs.Numbers_left.{open_changes}
 use Rattle.sound_disk.specs.Versions.{merged}
@@ -49,3 +49,7 @@ OpenAreAll = (has : ℕ → Bool) (logs : List Log) (told : Told) → AllByRecur
 -- and as many rows are left as the logs stand for
 abbrev pub RowsAreAll : Type 0
 RowsAreAll = (has : ℕ → Bool) (logs : List Log) (told : Told) → AllByRecursion IsAllowed (merged logs) → PassesAll has → AreTurnsTold has (merged logs) told → told.out ≡ None → told.rows ≡ length (listed (rows_of_logs (map (λ (l : Log). l.records) logs)))
+
+-- the merged records are those of all logs in the order of their numbers that change pages or commit
+abbrev pub MergedIsKept : Type 0
+MergedIsKept = (records : List LogRecord) → in_order records ≡ kept (by_lrsn records)

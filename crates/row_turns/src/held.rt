@@ -1,4 +1,4 @@
-ghost use Rattle.std.specs.Prelude.{◌≡◌, ◌+◌, if◌then◌else◌, OnOk, IfOk, is_some};
+ghost use Rattle.std.specs.Prelude.{◌≡◌, ◌+◌, true, if◌then◌else◌, OnOk, IfOk, is_some};
 ghost use Rattle.std.specs.FinMap as finite;
 ghost use Rattle.redone_pages.specs.Ranges.{has_table};
 ghost use Rattle.row_turns.specs.States.{may_change, nothing_held, count_in, keys_with, waiting_with, waiting_less, row_changed, rows_less, row_taken_back, tran_committed, turned, is_let, left_with, left_among};
@@ -55,11 +55,11 @@ fn wait_less(waiting: &mut NumberMap<u64>, tran: Lrsn, count: u64) -> Result<(),
 
 fn enter_key(
     keys: &mut Sequence<(TableId, Key)>,
-    row: Option<RowTurn>,
+    row: &Option<RowTurn>,
     table: TableId,
     key: Key,
 ) -> Result<(), NoMemory>
-    ensures { OnOk result (keys.new ≡ keys_with row keys.old (table, key)) }
+    ensures { OnOk result (keys.new ≡ keys_with row.now keys.old (table, key)) }
 {
     match row {
         None => keys.push((table, key)),
@@ -69,11 +69,11 @@ fn enter_key(
 
 fn take_back_row(
     rows: &mut SpotMap<RowTurn>,
-    row: Option<RowTurn>,
+    row: &Option<RowTurn>,
     table: TableId,
     key: Key,
 ) -> Result<(), NoMemory>
-    ensures { OnOk result (rows.new ≡ rows_less rows.old (table, key) row) }
+    ensures { OnOk result (rows.new ≡ rows_less rows.old (table, key) row.now) }
 {
     match row {
         None => Ok(()),
@@ -94,7 +94,8 @@ fn note_commit(committed: &mut NumberMap<bool>, is_early: bool, tran: Lrsn) -> R
 fn enter_left(it: &Held, left: &mut SpotMap<bool>, table: TableId, key: Key) -> Result<(), NoMemory>
     ensures { OnOk result (left.new ≡ left_with it.now left.old (table, key)) }
 {
-    if left_in(&it.waiting, it.rows.get(table, key)) {
+    let row = it.rows.get(table, key);
+    if left_in(&it.waiting, &row) {
         left.insert(table, key, true)
     } else {
         Ok(())
@@ -133,8 +134,8 @@ impl Held {
         ensures { OnOk result (self.new ≡ row_changed self.old tran change.now) }
     {
         let before = self.rows.get(change.table, change.key);
-        let next = changed_by(&self.waiting, before, tran, change.after.is_some())?;
-        enter_key(&mut self.keys, before, change.table, change.key)?;
+        let next = changed_by(&self.waiting, &before, tran, change.after.is_some())?;
+        enter_key(&mut self.keys, &before, change.table, change.key)?;
         self.rows.insert(change.table, change.key, next)?;
         self.open_one(tran)
     }
@@ -144,7 +145,7 @@ impl Held {
     {
         let before = self.rows.get(change.table, change.key);
         let count = count_in(&self.waiting, tran);
-        take_back_row(&mut self.rows, before, change.table, change.key)?;
+        take_back_row(&mut self.rows, &before, change.table, change.key)?;
         wait_less(&mut self.waiting, tran, count)?;
         self.unsettled = self.unsettled.saturating_sub(1);
         Ok(())
@@ -195,7 +196,8 @@ impl Held {
         ensures { result ≡ (if has_table range change.now.table then may_change self.now.waiting (finite.get self.now.rows (change.now.table, change.now.key)) tran else true) }
     {
         if range.has_table(change.table) {
-            may_change(&self.waiting, self.rows.get(change.table, change.key), tran)
+            let row = self.rows.get(change.table, change.key);
+            may_change(&self.waiting, &row, tran)
         } else {
             true
         }

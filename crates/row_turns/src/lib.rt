@@ -3,6 +3,7 @@
 
 mod held;
 mod holders;
+mod laws;
 mod logs;
 mod row;
 mod scan;
@@ -10,6 +11,7 @@ mod settling;
 mod told;
 mod turns;
 
+pub use laws::{merged_laws, turn_laws};
 pub use logs::turn_spot;
 pub use scan::Turns;
 pub use told::{OutOfTurn, Told};

@@ -1,4 +1,4 @@
-ghost use Rattle.std.specs.Prelude.{◌≡◌, ◌+◌, IfOk};
+ghost use Rattle.std.specs.Prelude.{◌≡◌, ◌+◌, Some, IfOk};
 ghost use Rattle.row_turns.specs.States.{left_by, left_in, may_change, changed_by, taken_by, is_waiting};
 
 use ds_base::{Lrsn, NoMemory};
@@ -23,10 +23,11 @@ fn is_waiting(waiting: &NumberMap<u64>, tran: Lrsn) -> bool
     waiting.get(tran).is_some()
 }
 
-fn left_by(waiting: &NumberMap<u64>, row: RowTurn) -> bool
-    ensures { result ≡ left_by waiting.now row }
+fn left_by(waiting: &NumberMap<u64>, row: &RowTurn) -> bool
+    ensures { result ≡ left_by waiting.now row.now }
 {
-    if 0 < row.untaken && !is_waiting(waiting, row.tran) {
+    let waits = is_waiting(waiting, row.tran);
+    if 0 < row.untaken && !waits {
         row.is_there
     } else {
         row.was_there
@@ -34,8 +35,8 @@ fn left_by(waiting: &NumberMap<u64>, row: RowTurn) -> bool
 }
 
 /// Whether the committed changes leave a row.
-pub fn left_in(waiting: &NumberMap<u64>, row: Option<RowTurn>) -> bool
-    ensures { result ≡ left_in waiting.now row }
+pub fn left_in(waiting: &NumberMap<u64>, row: &Option<RowTurn>) -> bool
+    ensures { result ≡ left_in waiting.now row.now }
 {
     match row {
         None => false,
@@ -43,54 +44,78 @@ pub fn left_in(waiting: &NumberMap<u64>, row: Option<RowTurn>) -> bool
     }
 }
 
+fn may_change_row(waiting: &NumberMap<u64>, row: &RowTurn, tran: Lrsn) -> bool
+    ensures { result ≡ may_change waiting.now (Some row.now) tran }
+{
+    let waits = is_waiting(waiting, row.tran);
+    row.tran.number() == tran.number() || row.untaken == 0 || !waits
+}
+
 /// Whether the transaction may change the row: it changed it last, or the changes of the transaction that did are settled.
-pub fn may_change(waiting: &NumberMap<u64>, row: Option<RowTurn>, tran: Lrsn) -> bool
-    ensures { result ≡ may_change waiting.now row tran }
+pub fn may_change(waiting: &NumberMap<u64>, row: &Option<RowTurn>, tran: Lrsn) -> bool
+    ensures { result ≡ may_change waiting.now row.now tran }
 {
     match row {
         None => true,
-        Some(row) => {
-            row.tran.number() == tran.number() || row.untaken == 0 || !is_waiting(waiting, row.tran)
-        }
+        Some(row) => may_change_row(waiting, row, tran),
     }
 }
 
-fn changed_again(row: RowTurn, is_there: bool) -> Result<RowTurn, NoMemory>
-    ensures { IfOk result (λ next. next ≡ record { tran = row.tran; untaken = row.untaken + 1; is_there = is_there; was_there = row.was_there }) }
+fn changed_again(row: &RowTurn, tran: Lrsn, is_there: bool) -> Result<RowTurn, NoMemory>
+    ensures { IfOk result (λ next. next ≡ record { tran = tran; untaken = row.now.untaken + 1; is_there = is_there; was_there = row.now.was_there }) }
 {
     let untaken = row.untaken.checked_add(1).ok_or(NoMemory)?;
     Ok(RowTurn {
-        tran: row.tran,
+        tran,
         untaken,
         is_there,
         was_there: row.was_there,
     })
 }
 
-/// The row behind a change of the transaction.
-pub fn changed_by(
+fn changed_row(
     waiting: &NumberMap<u64>,
-    row: Option<RowTurn>,
+    row: &RowTurn,
     tran: Lrsn,
     is_there: bool,
 ) -> Result<RowTurn, NoMemory>
-    ensures { IfOk result (λ next. next ≡ changed_by waiting.now row tran is_there) }
+    ensures { IfOk result (λ next. next ≡ changed_by waiting.now (Some row.now) tran is_there) }
 {
-    let was_there = left_in(waiting, row);
-    match row {
-        Some(row) if row.tran.number() == tran.number() => changed_again(row, is_there),
-        _ => Ok(RowTurn {
+    if row.tran.number() == tran.number() {
+        changed_again(row, tran, is_there)
+    } else {
+        Ok(RowTurn {
             tran,
             untaken: 1,
             is_there,
-            was_there,
+            was_there: left_by(waiting, row),
+        })
+    }
+}
+
+/// The row behind a change of the transaction.
+pub fn changed_by(
+    waiting: &NumberMap<u64>,
+    row: &Option<RowTurn>,
+    tran: Lrsn,
+    is_there: bool,
+) -> Result<RowTurn, NoMemory>
+    ensures { IfOk result (λ next. next ≡ changed_by waiting.now row.now tran is_there) }
+{
+    match row {
+        None => Ok(RowTurn {
+            tran,
+            untaken: 1,
+            is_there,
+            was_there: false,
         }),
+        Some(row) => changed_row(waiting, row, tran, is_there),
     }
 }
 
 /// The row where a change of it is taken back.
-pub fn taken_by(row: RowTurn) -> RowTurn
-    ensures { result ≡ taken_by row }
+pub fn taken_by(row: &RowTurn) -> RowTurn
+    ensures { result ≡ taken_by row.now }
 {
     RowTurn {
         tran: row.tran,
