@@ -15,7 +15,7 @@ use Rattle.sound_disk.specs.Versions.{merged, is_page, current, MayStand}
 use Rattle.page_versions.specs.Fronts.{IsPlaced, PlacedMayStand}
 use Rattle.disk_versions.specs.Ends.{page_of, pages_read, IsRead}
 use Rattle.disk_versions.specs.Placing.{AreInSets, IsFirstInSets, AreSetsTold}
-use Rattle.disk_versions.specs.Told.{page_sets, IsReadOf, IsBefore, AreAllPlaced, IsFirstUnplaced, IsTold, AreToldBy}
+use Rattle.disk_versions.specs.Told.{page_sets, IsReadOf, IsBefore, AreAllPlaced, IsFirstUnplaced, IsTold}
 use Rattle.disk_versions.specs.Ranged.{NoneUnplaced}
 use Rattle.disk_versions.specs.declared.set.Placing.{Placing}
 use Rattle.disk_versions.specs.declared.set.Placing.TheVariants as placing
