@@ -14,8 +14,11 @@ use Rattle.ds_model.specs.Logs.{has_commit}
 use Rattle.settled_changes.specs.Left.{Spots, with_row, with_body}
 use Rattle.row_turns.specs.declared.row.RowTurn.{RowTurn}
 use Rattle.row_turns.specs.declared.held.Held.{Held}
+use Rattle.redone_pages.specs.Ranges.{has_table}
+use Rattle.row_turns.specs.declared.scan.Turns.{Turns}
+use Rattle.row_turns.specs.Orders.{AreOrderly}
 use Rattle.row_turns.specs.States.{Left, left_by, left_in, left_with, left_among}
-use Rattle.row_turns.specs.Scans.{is_of, spots_in, rows_left_in, row_left_with, row_left_from, row_left, same_spot, IsRow, IsRowOr, IsHeld}
+use Rattle.row_turns.specs.Scans.{is_of, spots_in, rows_left_in, row_left_with, row_left_from, row_left, same_spot, IsRow, IsRowOr, IsHeld, AreTurnsTold, AreScanned, IsTurning}
 use Rattle.row_turns.proofs.Tallies.{and_left, by_bool, clash}
 use Rattle.row_turns.proofs.Behind.{same, left_none}
 use Rattle.row_turns.proofs.Holding.{left_is}
@@ -149,3 +152,13 @@ spot_both has early rs it table key h false other =
 pub left_are : (has : ℕ → Bool) (early : Bool) (rs : List LogRecord) (it : Held) → IsHeld has early rs it → len (left_among it empty it.keys) ≡ rows_left_in has rs
 left_are has early rs it h =
     ap (λ (m : Spots). len m) (same_map spot_cmp_total exact_spots (left_among it empty it.keys) (spots_in has (has_commit rs) no_spots rs) (λ q. spot_both has early rs it q.0 q.1 h (has q.0) refl))
+
+-- what the scan tells
+pub scan_told : (rs : List LogRecord) (it : Turns) (rows : ℕ) → rows ≡ len (left_among it.held empty it.held.keys) → IsTurning rs it → AreOrderly it.is_early [] rs
+    → AreTurnsTold (has_table it.range) rs (record { out = it.out; «open» = it.held.unsettled; rows = rows })
+scan_told rs it rows is t orderly =
+    let s : AreScanned rs it = t.scanned orderly in record {
+      out_is = s.out_is;
+      open_is = λ none. let h = s.held none in h.unsettled_is;
+      rows_is = λ none. is ∙ left_are (has_table it.range) it.is_early rs it.held (s.held none);
+    }

@@ -11,3 +11,5 @@ pub mod Turning
 pub mod Lefts
 pub mod Merges
 pub mod Ranging
+pub mod Numbers
+pub mod Ordering

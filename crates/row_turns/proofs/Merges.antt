@@ -116,7 +116,7 @@ any_when f false r more rest h k = h ∙ ap (λ (b : Bool). b || rest) (sym (k r
 abbrev pub IsOfMerged : (LogRecord → Bool) → Type 0
 IsOfMerged f = (r : LogRecord) → is_merged r.body ≡ false → f r ≡ false
 
-any_kept : (f : LogRecord → Bool) → IsOfMerged f → (rs : List LogRecord) → list_any f (kept rs) ≡ list_any f rs
+pub any_kept : (f : LogRecord → Bool) → IsOfMerged f → (rs : List LogRecord) → list_any f (kept rs) ≡ list_any f rs
 any_kept f h [] = refl
 any_kept f h (r ∷ rs) = any_when f (is_merged r.body) r (kept rs) (list_any f rs) (any_kept f h rs) (h r)
 

@@ -6,9 +6,14 @@ use Rattle.ds_model.specs.declared.log.LogRecord.{LogRecord}
 use Rattle.ds_model.specs.declared.log.RowChange.{RowChange}
 use Rattle.ds_model.specs.declared.log.Body.{Body}
 use Rattle.ds_model.specs.declared.log.Body.TheVariants as body
-use Rattle.ds_model.specs.Logs.{has_commit}
+use Rattle.ds_model.specs.Logs.{has_commit, by_lrsn}
+use Rattle.log_record.specs.declared.log.Log.{Log}
+use Rattle.log_merge.specs.Merging.{all_records}
 use Rattle.sound_disk.specs.Settled.{is_row_change, takes_back}
 use Rattle.sound_disk.specs.Turns.{changes_row}
+use Rattle.sound_disk.specs.Transactions.{AreTransactions}
+use Rattle.sound_disk.specs.Versions.{merged}
+use Rattle.sound_disk.specs.Whole_logs.{AreWholeLogs}
 
 abbrev pub is_compensation : Body → Bool
 is_compensation (body.RowChange change) = false
@@ -63,3 +68,12 @@ pub record MayTurn (early : Bool) (earlier : List LogRecord) (r : LogRecord) : T
 abbrev pub AreOrderly : Bool → List LogRecord → List LogRecord → Type 0
 AreOrderly early earlier [] = Unit {0}
 AreOrderly early earlier (r ∷ rs) = MayTurn early earlier r × AreOrderly early (earlier ++ r ∷ []) rs
+
+-- no record, behind the earlier ones, is one of a transaction that has committed
+abbrev pub are_early : List LogRecord → List LogRecord → Bool
+are_early earlier [] = true
+are_early earlier (r ∷ rs) = is_early earlier r && are_early (earlier ++ r ∷ []) rs
+
+-- so are the merged records of logs of transactions
+abbrev pub OrdersHold : Type 0
+OrdersHold = (logs : List Log) (bytes : List (List ℕ)) (early : Bool) → AreWholeLogs 1 bytes logs → AreTransactions logs → (early ≡ true → are_early [] (by_lrsn (all_records logs)) ≡ true) → AreOrderly early [] (merged logs)

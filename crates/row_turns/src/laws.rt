@@ -1,5 +1,6 @@
 //! What follows for all tables from what is told of some. The functions do nothing: they are called where their facts are needed.
 
+ghost use Rattle.row_turns.specs.Orders.{OrdersHold};
 ghost use Rattle.row_turns.specs.Ranges.{SameTurnsTold, OutIsFirst, OpenAreAll, RowsAreAll, MergedIsKept};
 
 use log_merge::merging_laws;
@@ -19,3 +20,10 @@ pub fn turn_laws()
 pub fn merged_laws()
     ensures { MergedIsKept }
 {}
+
+/// The merged records of logs of transactions keep to their order.
+pub fn order_laws()
+    ensures { OrdersHold }
+{
+    sound_tables::row_laws();
+}

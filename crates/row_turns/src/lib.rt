@@ -11,7 +11,7 @@ mod settling;
 mod told;
 mod turns;
 
-pub use laws::{merged_laws, turn_laws};
+pub use laws::{merged_laws, order_laws, turn_laws};
 pub use logs::turn_spot;
 pub use scan::Turns;
 pub use told::{OutOfTurn, Told};

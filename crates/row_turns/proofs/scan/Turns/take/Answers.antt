@@ -1,4 +1,4 @@
-use Rattle.std.proofs.Common.{◌≡◌, ◌+◌, refl}
+use Rattle.std.proofs.Common.{rules, ◌≡◌, ◌+◌}
 use Rattle.row_turns.proofs.Turning.{turn_more}
 use Rattle.row_turns.proofs.scan.Turns.take.Goals as goal
 
