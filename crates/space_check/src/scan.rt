@@ -45,14 +45,14 @@ fn is_merged(body: &Body) -> bool
 impl TableScan {
     /// Before the first record. `is_early` says that no transaction changes a row behind its Commit; where that isn't known, what has
     /// committed is held.
-    pub fn new(alloc: Global, range: TableRange, is_early: bool) -> TableScan
-        ensures scan { IsScan range is_early result }
+    pub fn new(alloc: Global, range: &TableRange, is_early: bool) -> TableScan
+        ensures scan { IsScan range.now is_early result }
         ensures scanned { (at : Images) → IsScanned at [] result }
     {
         TableScan {
-            met: MetPages::new(alloc, range),
-            standing: Standing::new(alloc, range),
-            turns: Turns::new(alloc, range, is_early),
+            met: MetPages::new(alloc, *range),
+            standing: Standing::new(alloc, *range),
+            turns: Turns::new(alloc, *range, is_early),
         }
     }
 

@@ -58,7 +58,7 @@ pub fn scan_tables<D: Disk>(
 {
     merged_laws();
     let mut heads = heads_to(alloc, ends, BLOCK as u32)?;
-    let mut scan = TableScan::new(alloc, range, is_early);
+    let mut scan = TableScan::new(alloc, &range, is_early);
     scan_left(alloc, disk, &mut heads, &mut scan, block)?;
     Ok(scan)
 }
