@@ -3,3 +3,4 @@ pub mod Pages
 pub mod Set_steps
 pub mod Versions
 pub mod Marks
+pub mod Ranging

@@ -1,6 +1,6 @@
 -- Pages that records make one after the other, and marks of those on disk.
 use Rattle.std.proofs.Common.{◌≡◌, ℕ, ◌+◌, ◌<◌, ◌≤◌, Bool, true, false, cond, List, [], ◌∷◌, ◌++◌, length, get_or, take, Option, Some, None, inl, inr, refl, sym, ap, subst, ◌∙◌, arith, append_assoc, if◌then◌else◌}
-use Rattle.std.specs.Prelude.{◌⊎◌, ◌↔◌, ◌==◌, ◌&&◌, ◌||◌, IsTrue, is_some}
+use Rattle.std.specs.Prelude.{◌⊎◌, ◌↔◌, ◌==◌, ◌&&◌, ◌||◌, not, IsTrue, is_some}
 use Rattle.std.specs.Str.{bytes_eq}
 use Rattle.std.specs.List.{list_any}
 use Rattle.std.specs.Map.{lookup}
@@ -9,7 +9,7 @@ use Rattle.std.specs.Ordering.{nat_cmp, is_eq, ordering_then}
 use Rattle.std.specs.declared.cmp.Ordering.{Ordering}
 use Rattle.std.specs.declared.cmp.Ordering.TheVariants.{Less, Equal, Greater}
 use Rattle.std.proofs.lemmas.Bool.Decides.{nat_tests}
-use Rattle.std.proofs.lemmas.List.{append-nil}
+use Rattle.std.proofs.lemmas.List.{append-nil, take_all, take_more}
 use Rattle.std.proofs.lemmas.List.Folds.{list_any-append}
 use Rattle.std.proofs.lemmas.Slice.Eq.{bytes_eq-Decides}
 use Rattle.ds_base.specs.Pages.{same_page}
@@ -18,14 +18,19 @@ use Rattle.ds_model.specs.declared.log.LogRecord.{LogRecord}
 use Rattle.page_format.specs.declared.patch.Patch.{Patch}
 use Rattle.page_format.specs.Fields.{lrsn_of}
 use Rattle.page_images.specs.Images.{Images, zeros}
-use Rattle.page_chain.specs.Chains.{changes_of, touches, version_from, version_of, after_record, IsVersion, LeavesOthers}
+use Rattle.page_chain.specs.Chains.{changes_of, touches, version_from, version_of, images_of, after_record, IsVersion, LeavesOthers}
 use Rattle.page_redo.specs.Pages.{has_page, with_page, pages_from, pages_of}
 use Rattle.page_records.specs.Pages.{page_cmp}
 use Rattle.sound_disk.specs.Versions.{current}
 use Rattle.redone_pages.specs.Redone.{Redone}
 use Rattle.redone_pages.specs.Ranges.{HasPage}
 use Rattle.disk_versions.specs.declared.met.Mark.{Mark}
-use Rattle.disk_versions.specs.Met.{IsMarked, IsKnown, IsFresh, IsMetNow}
+use Rattle.disk_versions.specs.declared.met.MetPages.{MetPages}
+use Rattle.disk_versions.specs.Met.{IsMarked, IsKnown, mark_of, AreMetOn, AreMet, HaveMarks, IsFresh, IsNextMark, MeetsAlso}
+use Rattle.ds_disk.specs.Contents.{Contents, WhenTold, Becomes, Same}
+use Rattle.ds_disk.specs.Pages.{page_at}
+use Rattle.redone_pages.specs.declared.range.TableRange.{TableRange}
+use Rattle.disk_versions.proofs.Reading.{told_before, told_by_both}
 use Rattle.disk_versions.proofs.Pages.{decide}
 
 abbrev Entries : Type 0
@@ -281,14 +286,13 @@ met_behind q first records page m b is now t = elim (or_either m.is_met (bytes_e
   | inr e ↦ (all_is q records (current page) (sym ((bytes_eq-Decides (version_of q records) (current page)).0 e)))
 ]
 
-met_now : (q : PageId) (first records : List LogRecord) (it : LogRecord) (page : List ℕ) (m : Mark) (b : Bool) → records ≡ first ++ it ∷ [] → IsMarked q first records page m → IsMetNow (version_of q records) page m b
-    → IsMarked q records records page (record { lrsn = m.lrsn; is_met = b })
-met_now q first records it page m b whole is now =
-    let exact : b ≡ (m.is_met || bytes_eq (version_of q records) (current page)) = now is.number in
+met_now : (q : PageId) (first records : List LogRecord) (it : LogRecord) (page : List ℕ) (m next : Mark) → records ≡ first ++ it ∷ [] → IsMarked q first records page m → IsNextMark (version_of q records) page m next → IsMarked q records records page next
+met_now q first records it page m next whole is now =
+    let exact : next.is_met ≡ (m.is_met || bytes_eq (version_of q records) (current page)) = now.1 is.number in
     record {
-      number = is.number;
-      before = λ v. met_before q first records it page m b whole is exact v;
-      behind = λ t. met_behind q first records page m b is exact t;
+      number = now.0 ∙ is.number;
+      before = λ v. met_before q first records it page m next.is_met whole is exact v;
+      behind = λ t. met_behind q first records page m next.is_met is exact t;
     }
 
 -- behind one page more, another is as it was
@@ -305,8 +309,8 @@ this_page at made first pages id q p e known =
     let has : has_page (pages ++ id ∷ []) q ≡ true = has_more pages id q ∙ or_second (has_page pages q) (same_page id q) e in
     subst (λ (b : Bool). IsKnown q (if b then made.records else first) made.records (at q) p) (sym has) known
 
-pub meets_one : (at : Images) (made : Redone) (es fs : Entries) (id : PageId) (m : Mark) (b : Bool) → held es id ≡ Some m → IsPut id (record { lrsn = m.lrsn; is_met = b }) es fs → IsMetNow (version_of id made.records) (at id) m b → MeetsBy at made (id ∷ []) es fs
-meets_one at made es fs id m b has_mark put now = λ first it pages whole known q has.
+pub meets_one : (at : Images) (made : Redone) (es fs : Entries) (id : PageId) (m next : Mark) → held es id ≡ Some m → IsPut id next es fs → IsNextMark (version_of id made.records) (at id) m next → MeetsBy at made (id ∷ []) es fs
+meets_one at made es fs id m next has_mark put now = λ first it pages whole known q has.
     decide (same_page id q) (IsKnown q (if has_page (pages ++ id ∷ []) q then made.records else first) made.records (at q) (held fs q))
     (λ e.
     let name : id ≡ q = same_name id q e in
@@ -314,10 +318,10 @@ meets_one at made es fs id m b has_mark put now = λ first it pages whole known 
     let was : IsMarked q (if has_page pages q then made.records else first) made.records (at q) m =
     subst (λ (o : Option Mark). IsKnown q (if has_page pages q then made.records else first) made.records (at q) o) its (known q has) in
     this_page at made first pages id q (held fs q) e
-    (subst (λ (o : Option Mark). IsKnown q made.records made.records (at q) o) (sym (there es fs id q (record { lrsn = m.lrsn; is_met = b }) put e))
-    (met_now q first made.records it (at q) m b whole (weaker q first made.records it (at q) m (has_page pages q) whole was)
-    (subst (λ (i : PageId). IsMetNow (version_of i made.records) (at i) m b) name now))))
-    (λ e. other_page at made first pages id q (held es q) (held fs q) e (elsewhere es fs id q (record { lrsn = m.lrsn; is_met = b }) put e) (known q has))
+    (subst (λ (o : Option Mark). IsKnown q made.records made.records (at q) o) (sym (there es fs id q next put e))
+    (met_now q first made.records it (at q) m next whole (weaker q first made.records it (at q) m (has_page pages q) whole was)
+    (subst (λ (i : PageId). IsNextMark (version_of i made.records) (at i) m next) name now))))
+    (λ e. other_page at made first pages id q (held es q) (held fs q) e (elsewhere es fs id q next put e) (known q has))
 
 -- a page without a mark, and one of another table
 pub meets_none : (at : Images) (made : Redone) (es : Entries) (id : PageId) → (HasPage made.range id → held es id ≡ None) → MeetsBy at made (id ∷ []) es es
@@ -355,3 +359,94 @@ ends law at made first it es whole known = λ q has.
     (λ e.
     known_all law q first it made.records (at q) (held es q) whole (sym (touched q it) ∙ e)
     (subst (λ (b : Bool). IsKnown q (if b then made.records else first) made.records (at q) (held es q)) e (known q has)))
+
+-- ---- in the words of what is held
+
+pub fresh_met : LeavesOthers → (at : Images) (old new : MetPages) (id : PageId) (m : Mark) → new.made ≡ old.made → IsPut id m old.marks.entries new.marks.entries → mark_of old id ≡ None → IsFresh (at id) m → AreMet at old → AreMet at new
+fresh_met law at old new id m same put none fresh met =
+    subst (λ (made : Redone). MetBy at made new.marks.entries) (sym same) (put_met law at old.made old.marks.entries new.marks.entries id m put none fresh met)
+
+pub marked_meets : (at : Images) (old new : MetPages) (id : PageId) (m next : Mark) → new.made ≡ old.made → mark_of old id ≡ Some m → IsPut id next old.marks.entries new.marks.entries → IsNextMark (images_of old.made.records id) (at id) m next → MeetsAlso at (id ∷ []) old new
+marked_meets at old new id m next same is put now = λ first it pages whole known.
+    subst (λ (made : Redone). OnBy at made new.marks.entries first (pages ++ id ∷ [])) (sym same)
+    (meets_one at old.made old.marks.entries new.marks.entries id m next is put now first it pages whole known)
+
+pub meets_both : (at : Images) (ids : List PageId) (id : PageId) (old now new : MetPages) → now.made ≡ old.made → MeetsAlso at ids old now → MeetsAlso at (id ∷ []) now new → MeetsAlso at (ids ++ id ∷ []) old new
+meets_both at ids id old now new same h k = λ first it pages whole known.
+    subst (λ (ps : List PageId). AreMetOn at new first ps) (append_assoc pages ids (id ∷ []))
+    (k first it (pages ++ ids) (ap (λ (made : Redone). made.records) same ∙ whole) (h first it pages whole known))
+
+pub marks_both : (pages : List PageId) (id : PageId) (old now new : MetPages) → now.made ≡ old.made → HaveMarks pages old now → HaveMarks (id ∷ []) now new → HaveMarks (pages ++ id ∷ []) old new
+marks_both pages id old now new same h k = record {
+  stay = λ q is. k.stay q (h.stay q is);
+  there = λ q has here. elim (or_either (has_page pages q) (same_page id q) (sym (has_more pages id q) ∙ here)) [
+    | inl e ↦ (k.stay q (h.there q has e))
+    | inr e ↦ (k.there q (subst (λ (made : Redone). HasPage made.range q) (sym same) has) (or_first (same_page id q) false e))
+  ];
+}
+
+differ : (m n : ℕ) (b : Bool) → b ≡ (m == n) → b ≡ false → m ≡ n → ⊥
+differ m n b is off e = let yes : (m == n) ≡ true = grind (arith, nat_tests) in absurd (cc (is, yes, off))
+
+pub unlike : (image page : List ℕ) (lrsn : ℕ) (b : Bool) → b ≡ (lrsn_of image == lrsn) → b ≡ false → lrsn ≡ lrsn_of page → false ≡ bytes_eq image page
+unlike image page lrsn b is off e =
+    decide (bytes_eq image page) (false ≡ bytes_eq image page)
+    (λ same.
+    let equal : lrsn_of image ≡ lrsn = ap lrsn_of ((bytes_eq-Decides image page).0 same) ∙ sym e in
+    absurd (differ (lrsn_of image) lrsn b is off equal))
+    (λ no. sym no)
+
+pub zero_version : LeavesOthers → (at : Images) (met : MetPages) (id : PageId) (page : List ℕ) (b : Bool) → mark_of met id ≡ None → HasPage met.made.range id → AreMet at met → IsTrue b ↔ (page ≡ zeros) → IsTrue b ↔ IsVersion id met.made.records page
+zero_version law at met id page b none has known is =
+    let free : list_any (touches id) met.made.records ≡ false = subst (λ (o : Option Mark). IsKnown id met.made.records met.made.records (at id) o) none (known id has) in
+    (λ t. zeros_are id met.made.records page (is.0 t), λ v. is.1 (zeros_of law id met.made.records page free v))
+
+pub mark_version : (at : Images) (met : MetPages) (id : PageId) (m : Mark) (page : List ℕ) → mark_of met id ≡ Some m → HasPage met.made.range id → AreMet at met → page ≡ current (at id) → IsTrue m.is_met ↔ IsVersion id met.made.records page
+mark_version at met id m page is has known its =
+    let marked : IsMarked id met.made.records met.made.records (at id) m = subst (λ (o : Option Mark). IsKnown id met.made.records met.made.records (at id) o) is (known id has) in
+    (λ t. subst (λ (p : List ℕ). IsVersion id met.made.records p) (sym its) (marked.behind t), λ v. marked.before (subst (λ (p : List ℕ). IsVersion id met.made.records p) its v))
+
+-- the pages after one record more
+pub took : LeavesOthers → (at : Images) (old marked redone met : MetPages) (it : LogRecord) {xs ys : List PageId} → xs ≡ pages_of it → ys ≡ pages_of it → marked.made ≡ old.made → HaveMarks xs old marked → (AreMet at old → AreMet at marked)
+    → redone.made.records ≡ marked.made.records ++ it ∷ [] → redone.made.range ≡ marked.made.range → met.made ≡ redone.made → MeetsAlso at ys redone met → redone.marks ≡ marked.marks → AreMet at old → AreMet at met
+took law at old marked redone met it {xs} {ys} xs_are ys_are same marks keeps records range still meets also known =
+    let there : HaveMarks (pages_of it) old marked = subst (λ (ps : List PageId). HaveMarks ps old marked) xs_are marks in
+    let on : MeetsAlso at (pages_of it) redone met = subst (λ (ps : List PageId). MeetsAlso at ps redone met) ys_are meets in
+    let begun : OnBy at redone.made marked.marks.entries marked.made.records [] =
+    starts at marked.made redone.made it marked.marks.entries range records (λ q has. there.there q (subst (λ (made : Redone). HasPage made.range q) same has)) (keeps known)
+    in
+    ends law at met.made marked.made.records it met.marks.entries (ap (λ (made : Redone). made.records) still ∙ records)
+    (on marked.made.records it [] records (subst (λ m. OnBy at redone.made m.entries marked.made.records []) (sym also) begun))
+
+-- ---- loops over the pages of a record
+
+pub marks_next : (pages : List PageId) (i : ℕ) (d : PageId) (old now new : MetPages) → i < length pages → now.made ≡ old.made → HaveMarks (take i pages) old now → HaveMarks (get_or pages i d ∷ []) now new → HaveMarks (take (i + 1) pages) old new
+marks_next pages i d old now new lt same h k = subst (λ (ps : List PageId). HaveMarks ps old new) (sym (take_more pages i d lt)) (marks_both (take i pages) (get_or pages i d) old now new same h k)
+
+pub meets_next : (a b : Option Contents) (pages : List PageId) (i : ℕ) (d : PageId) (old now new : MetPages) → i < length pages → now.made ≡ old.made → WhenTold a (λ (c : Contents). MeetsAlso (page_at c.pages) (take i pages) old now) → Becomes a b Same
+    → WhenTold b (λ (c : Contents). MeetsAlso (page_at c.pages) (get_or pages i d ∷ []) now new) → WhenTold a (λ (c : Contents). MeetsAlso (page_at c.pages) (take (i + 1) pages) old new)
+meets_next a b pages i d old now new lt made h same k =
+    told_by_both a (λ (c : Contents). MeetsAlso (page_at c.pages) (take i pages) old now) (λ (c : Contents). MeetsAlso (page_at c.pages) (get_or pages i d ∷ []) now new) (λ (c : Contents). MeetsAlso (page_at c.pages) (take (i + 1) pages) old new)
+    (λ c x y.
+    subst (λ (ps : List PageId). MeetsAlso (page_at c.pages) ps old new) (sym (take_more pages i d lt)) (meets_both (page_at c.pages) (take i pages) (get_or pages i d) old now new made x y))
+    h (told_before a b (λ (c : Contents). MeetsAlso (page_at c.pages) (get_or pages i d ∷ []) now new) same k)
+
+pub meets_whole : (a : Option Contents) (pages : List PageId) (i : ℕ) (old new : MetPages) → length pages ≤ i → WhenTold a (λ (c : Contents). MeetsAlso (page_at c.pages) (take i pages) old new) → WhenTold a (λ (c : Contents). MeetsAlso (page_at c.pages) pages old new)
+meets_whole a pages i old new le h = subst (λ (ps : List PageId). WhenTold a (λ (c : Contents). MeetsAlso (page_at c.pages) ps old new)) (take_all i pages le) h
+
+pub met_next : (a b : Option Contents) (old now new : MetPages) → WhenTold a (λ (c : Contents). AreMet (page_at c.pages) old → AreMet (page_at c.pages) now) → Becomes a b Same → WhenTold b (λ (c : Contents). AreMet (page_at c.pages) now → AreMet (page_at c.pages) new)
+    → WhenTold a (λ (c : Contents). AreMet (page_at c.pages) old → AreMet (page_at c.pages) new)
+met_next a b old now new h same k =
+    told_by_both a (λ (c : Contents). AreMet (page_at c.pages) old → AreMet (page_at c.pages) now) (λ (c : Contents). AreMet (page_at c.pages) now → AreMet (page_at c.pages) new) (λ (c : Contents). AreMet (page_at c.pages) old → AreMet (page_at c.pages) new)
+    (λ c x y known. y (x known)) h (told_before a b (λ (c : Contents). AreMet (page_at c.pages) now → AreMet (page_at c.pages) new) same k)
+
+-- a page of another table, and one without a mark
+pub other_meets : (at : Images) (met : MetPages) (id : PageId) (range : TableRange) (b : Bool) → range ≡ met.made.range → IsTrue b ↔ HasPage range id → b ≡ false → MeetsAlso at (id ∷ []) met met
+other_meets at met id range b same is off = meets_none at met.made met.marks.entries id (λ has. absurd (cc (off, is.1 (subst (λ (r : TableRange). HasPage r id) (sym same) has))))
+
+pub unmarked_meets : (at : Images) (met : MetPages) (id : PageId) → mark_of met id ≡ None → MeetsAlso at (id ∷ []) met met
+unmarked_meets at met id none = meets_none at met.made met.marks.entries id (λ has. none)
+
+pub off_of : (b : Bool) → not b ≡ true → b ≡ false
+off_of true h = absurd cc
+off_of false h = refl

@@ -1,13 +1,15 @@
 -- One page more of a page set.
-use Rattle.std.proofs.Common.{◌≡◌, ◌↔◌, ℕ, ◌+◌, ◌<◌, ◌≤◌, Bool, true, false, not, List, Option, Some, None, refl, sym, ap, subst, ◌∙◌, arith, add-one}
-use Rattle.std.specs.Prelude.{nat_lt, IsTrue}
+use Rattle.std.proofs.Common.{◌≡◌, ◌↔◌, ℕ, zero, suc, ◌+◌, ◌<◌, ◌≤◌, Bool, true, false, not, List, [], ◌∷◌, length, replicate, Option, Some, None, refl, sym, ap, subst, ◌∙◌, arith, add-one}
+use Rattle.std.specs.Prelude.{nat_lt, ◌==◌, ◌&&◌, IsTrue}
 use Rattle.std.proofs.lemmas.Bool.Decides.{nat_tests}
 use Rattle.ds_base.specs.declared.names.PageId.{PageId}
 use Rattle.ds_disk.specs.Contents.{Contents, WhenTold, Becomes, Same}
 use Rattle.ds_disk.specs.Pages.{page_at}
 use Rattle.ds_model.specs.declared.log.LogRecord.{LogRecord}
 use Rattle.page_format.specs.Header.{is_zeros, header_of}
-use Rattle.page_images.specs.Images.{Images}
+use Rattle.page_format.specs.Fields.{page_size}
+use Rattle.index_leaf.specs.Changes.{zeros as zero_bytes}
+use Rattle.page_images.specs.Images.{Images, zeros}
 use Rattle.page_versions.specs.Fronts.{IsPlaced}
 use Rattle.disk_versions.specs.Ends.{page_of, last_by_header, last_in_records, end_of, pages_read}
 use Rattle.disk_versions.specs.Placing.{IsJudged, count_with, written_in, AreUpTo, AreInSet, IsFirstInSet, IsSetTold}
@@ -18,6 +20,14 @@ use Rattle.disk_versions.proofs.Reading.{told_before, told_by_both}
 pub decide : (b : Bool) (P : Type 0) → (b ≡ true → P) → (b ≡ false → P) → P
 decide true P f g = f refl
 decide false P f g = g refl
+
+and_left : (a b : Bool) → (a && b) ≡ true → a ≡ true
+and_left true b h = refl
+and_left false b h = h
+
+and_right : (a b : Bool) → (a && b) ≡ true → b ≡ true
+and_right true b h = h
+and_right false b h = absurd cc
 
 below : (k n : ℕ) → nat_lt k n ≡ true → k < n
 below k n h = grind (arith, nat_tests)
@@ -61,6 +71,29 @@ count_if n pages false le = omega (arith, le)
 
 pub count_up : (n pages more : ℕ) (w : Bool) → more ≡ count_with pages w → pages ≤ n → more ≤ n + 1
 count_up n pages more w e le = let up = count_if n pages w le in omega (arith, e, up)
+
+-- ---- a page that was never written
+
+equal : (m n : ℕ) → (m == n) ≡ true → m ≡ n
+equal m n h = grind (arith, nat_tests)
+
+all_zero : (page : List ℕ) → is_zeros page ≡ true → page ≡ replicate (length page) 0
+all_zero [] h = refl
+all_zero (x ∷ xs) h = ap (λ (y : ℕ). y ∷ xs) (equal x 0 (and_left (x == 0) (is_zeros xs) h)) ∙ ap (λ (ys : List ℕ). 0 ∷ ys) (all_zero xs (and_right (x == 0) (is_zeros xs) h))
+
+zeros_all : (n : ℕ) → is_zeros (replicate n 0) ≡ true
+zeros_all zero = refl
+zeros_all (suc n) = zeros_all n
+
+blank : replicate page_size 0 ≡ zeros
+unfolding zero_bytes
+blank = refl
+
+pub blank_is : (page : List ℕ) (b : Bool) → b ≡ is_zeros page → length page ≡ page_size → IsTrue b ↔ (page ≡ zeros)
+blank_is page b is long = (
+  (λ t. all_zero page (sym is ∙ t) ∙ ap (λ (n : ℕ). replicate n 0) long ∙ blank),
+  (λ e. is ∙ ap is_zeros (e ∙ sym blank) ∙ zeros_all page_size),
+)
 
 -- ---- over what the disk told
 

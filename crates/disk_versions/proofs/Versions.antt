@@ -101,7 +101,7 @@ is_told k at logs behind (placing.All pages) h = all_told k at logs behind pages
 is_told k at logs behind (placing.Unplaced id) h = first_told k at logs behind id h
 
 pub none_unplaced : NoneUnplaced
-none_unplaced at made renews behind = record { each = λ id r. absurd (nothing_read id.set r.set_from r.set_to); count = refl }
+none_unplaced at records renews behind = record { each = λ id r. absurd (nothing_read id.set r.set_from r.set_to); count = refl }
 
 abbrev SetsAt : List LogRecord → Bool → ℕ → Placing → Contents → Type 0
 SetsAt records renews behind found c = AreSetsTold (page_at c.pages) records renews behind 128 found

@@ -67,6 +67,9 @@ IsSameNow image page lrsn same = lrsn ≡ lrsn_of (current page) → same ≡ by
 abbrev pub IsMetNow : List ℕ → List ℕ → Mark → Bool → Type 0
 IsMetNow image page m met = m.lrsn ≡ lrsn_of (current page) → met ≡ (m.is_met || bytes_eq image (current page))
 
+abbrev pub IsNextMark : List ℕ → List ℕ → Mark → Mark → Type 0
+IsNextMark image page m next = (next.lrsn ≡ m.lrsn) × IsMetNow image page m next.is_met
+
 -- where the others are known by all records but the last, so are these also by all of them
 abbrev pub MeetsAlso : Images → List PageId → MetPages → MetPages → Type 0
 MeetsAlso at ids old new =

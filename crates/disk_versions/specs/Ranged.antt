@@ -2,6 +2,7 @@
 use Rattle.std.specs.Prelude.{ℕ, ◌+◌, ◌-◌, Bool, List}
 use Rattle.ds_base.specs.Pages.{heap_set, index_set}
 use Rattle.ds_base.specs.declared.names.PageId.{PageId}
+use Rattle.ds_model.specs.declared.log.LogRecord.{LogRecord}
 use Rattle.log_record.specs.declared.log.Log.{Log}
 use Rattle.page_images.specs.Images.{Images}
 use Rattle.restart_plan.specs.Renewal.{must_renew}
@@ -32,4 +33,4 @@ PlacingTells = (at : Images) (logs : List Log) (behind : ℕ) (found : Placing) 
 
 -- before the first page set each may stand
 abbrev pub NoneUnplaced : Type 0
-NoneUnplaced = (at : Images) (made : Redone) (renews : Bool) (behind : ℕ) → AreInSets at made.records renews behind 0 0
+NoneUnplaced = (at : Images) (records : List LogRecord) (renews : Bool) (behind : ℕ) → AreInSets at records renews behind 0 0

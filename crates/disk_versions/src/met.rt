@@ -1,17 +1,18 @@
 //! The pages of some tables, as log records make them one after the other, beside those of a disk.
 
-ghost use Rattle.std.specs.Prelude.{◌≡◌, [], ◌∷◌, ◌++◌, OnOk};
+ghost use Rattle.std.specs.Prelude.{◌≡◌, ◌==◌, [], ◌∷◌, ◌++◌, None, Some, OnOk};
 ghost use Rattle.std.specs.Str.{bytes_eq};
 ghost use Rattle.ds_disk.specs.Pages.{page_at};
 ghost use Rattle.ds_model.specs.RecordBytes.{IsAllowed};
+ghost use Rattle.page_format.specs.Fields.{lrsn_of};
 ghost use Rattle.page_chain.specs.Chains.{images_of};
 ghost use Rattle.page_images.specs.Images.{Images};
 ghost use Rattle.redone_pages.specs.Ranges.{HasPage};
 ghost use Rattle.sound_disk.specs.Versions.{current};
 ghost use Rattle.disk_versions.specs.Reading.{Reads};
-ghost use Rattle.disk_versions.specs.Met.{mark_of, AreMet, IsPut, HaveMarks, IsFresh, IsSameNow, IsMetNow, MeetsAlso};
+ghost use Rattle.disk_versions.specs.Met.{mark_of, AreMet, IsPut, HaveMarks, IsFresh, IsSameNow, IsMetNow, IsNextMark, MeetsAlso};
 
-use crate::page::{is_blank, load};
+use crate::page::{is_zero, load};
 use ds_base::{Lrsn, NoMemory, PageId};
 use ds_disk::{Disk, DiskError};
 use ds_model::LogRecord;
@@ -66,7 +67,7 @@ fn fresh_mark<D: Disk>(alloc: Global, disk: &mut D, id: PageId) -> Result<Mark, 
     let page = read_current(alloc, disk, id)?;
     Ok(Mark {
         lrsn: page.lrsn(),
-        is_met: is_blank(&page),
+        is_met: is_zero(&page),
     })
 }
 
@@ -74,6 +75,12 @@ fn is_same(a: &Page, b: &Page) -> bool
     ensures { result ≡ bytes_eq a.now b.now }
 {
     a.bytes().as_slice() == b.bytes().as_slice()
+}
+
+fn bears(image: &Page, lrsn: Lrsn) -> bool
+    ensures { result ≡ (lrsn_of image.now == lrsn) }
+{
+    image.lrsn().number() == lrsn.number()
 }
 
 // Whether the page on disk, which bears this number, is the one that was made. It is read only where that one bears it too.
@@ -86,7 +93,8 @@ fn is_same_now<D: Disk>(
 ) -> Result<bool, DiskError>
     ensures { Reads (D.contents disk.old) (D.contents disk.new) (D.faults disk.old) (D.faults disk.new) (λ same c. IsSameNow image.now (page_at c.pages id) lrsn same) result }
 {
-    if image.lrsn().number() != lrsn.number() {
+    let is_its = bears(image, lrsn);
+    if !is_its {
         return Ok(false);
     }
     let page = read_current(alloc, disk, id)?;
@@ -114,7 +122,8 @@ impl MetPages {
         Ok(())
     }
 
-    fn mark_of(&self, id: PageId) -> Option<Mark>
+    /// The page's mark, if it has one.
+    pub fn mark_of(&self, id: PageId) -> Option<Mark>
         ensures { result ≡ mark_of self.now id }
     {
         match self.marks.get(&id) {
@@ -123,22 +132,38 @@ impl MetPages {
         }
     }
 
+    // Marks a page that has no mark.
+    fn mark_fresh<D: Disk>(
+        &mut self,
+        alloc: Global,
+        disk: &mut D,
+        id: PageId,
+    ) -> Result<(), DiskError>
+        requires { mark_of self.old id ≡ None }
+        ensures made { self.new.made ≡ self.old.made }
+        ensures there { OnOk result (HaveMarks (id ∷ []) self.old self.new) }
+        ensures met { Reads (D.contents disk.old) (D.contents disk.new) (D.faults disk.old) (D.faults disk.new) (λ _ c. AreMet (page_at c.pages) self.old → AreMet (page_at c.pages) self.new) result }
+    {
+        chain_laws();
+        let mark = fresh_mark(alloc, disk, id)?;
+        self.put(id, mark)?;
+        Ok(())
+    }
+
     // Marks the page, if it is one of the tables and has no mark.
     fn mark<D: Disk>(&mut self, alloc: Global, disk: &mut D, id: PageId) -> Result<(), DiskError>
         ensures made { self.new.made ≡ self.old.made }
         ensures there { OnOk result (HaveMarks (id ∷ []) self.old self.new) }
         ensures met { Reads (D.contents disk.old) (D.contents disk.new) (D.faults disk.old) (D.faults disk.new) (λ _ c. AreMet (page_at c.pages) self.old → AreMet (page_at c.pages) self.new) result }
     {
-        chain_laws();
         if !self.made.range().has_page(id) {
             return Ok(());
         }
-        if self.mark_of(id).is_some() {
-            return Ok(());
+        let old = self.mark_of(id);
+        match old {
+            Some(_) => Ok(()),
+            None => self.mark_fresh(alloc, disk, id),
         }
-        let mark = fresh_mark(alloc, disk, id)?;
-        self.put(id, mark)?;
-        Ok(())
     }
 
     fn mark_all<D: Disk>(
@@ -163,10 +188,10 @@ impl MetPages {
         alloc: Global,
         disk: &mut D,
         id: PageId,
-        mark: Mark,
+        mark: &Mark,
     ) -> Result<bool, DiskError>
         requires { HasPage self.now.made.range id }
-        ensures { Reads (D.contents disk.old) (D.contents disk.new) (D.faults disk.old) (D.faults disk.new) (λ met c. IsMetNow (images_of self.now.made.records id) (page_at c.pages id) mark met) result }
+        ensures { Reads (D.contents disk.old) (D.contents disk.new) (D.faults disk.old) (D.faults disk.new) (λ met c. IsMetNow (images_of self.now.made.records id) (page_at c.pages id) mark.now met) result }
     {
         if mark.is_met {
             return Ok(true);
@@ -175,7 +200,43 @@ impl MetPages {
         is_same_now(alloc, disk, id, &image, mark.lrsn)
     }
 
-    // Enters that the page was made that is on disk, if it is so now.
+    // The mark of the page behind the records so far, which was this one before the last of them.
+    fn next_mark<D: Disk>(
+        &self,
+        alloc: Global,
+        disk: &mut D,
+        id: PageId,
+        mark: &Mark,
+    ) -> Result<Mark, DiskError>
+        requires { HasPage self.now.made.range id }
+        ensures { Reads (D.contents disk.old) (D.contents disk.new) (D.faults disk.old) (D.faults disk.new) (λ next c. IsNextMark (images_of self.now.made.records id) (page_at c.pages id) mark.now next) result }
+    {
+        let is_met = self.is_met(alloc, disk, id, mark)?;
+        Ok(Mark {
+            lrsn: mark.lrsn,
+            is_met,
+        })
+    }
+
+    // Enters whether the page on disk, of which this is the mark, was made.
+    fn meet_marked<D: Disk>(
+        &mut self,
+        alloc: Global,
+        disk: &mut D,
+        id: PageId,
+        mark: &Mark,
+    ) -> Result<(), DiskError>
+        requires page { HasPage self.old.made.range id }
+        requires mark { mark_of self.old id ≡ Some mark.now }
+        ensures made { self.new.made ≡ self.old.made }
+        ensures met { Reads (D.contents disk.old) (D.contents disk.new) (D.faults disk.old) (D.faults disk.new) (λ _ c. MeetsAlso (page_at c.pages) (id ∷ []) self.old self.new) result }
+    {
+        let next = self.next_mark(alloc, disk, id, mark)?;
+        self.put(id, next)?;
+        Ok(())
+    }
+
+    // Enters whether the page on disk was made, if the page is one of the tables.
     fn meet<D: Disk>(&mut self, alloc: Global, disk: &mut D, id: PageId) -> Result<(), DiskError>
         ensures made { self.new.made ≡ self.old.made }
         ensures met { Reads (D.contents disk.old) (D.contents disk.new) (D.faults disk.old) (D.faults disk.new) (λ _ c. MeetsAlso (page_at c.pages) (id ∷ []) self.old self.new) result }
@@ -183,13 +244,11 @@ impl MetPages {
         if !self.made.range().has_page(id) {
             return Ok(());
         }
-        let Some(mark) = self.mark_of(id) else {
-            return Ok(());
-        };
-        let is_met = self.is_met(alloc, disk, id, mark)?;
-        let lrsn = mark.lrsn;
-        self.put(id, Mark { lrsn, is_met })?;
-        Ok(())
+        let old = self.mark_of(id);
+        match &old {
+            Some(mark) => self.meet_marked(alloc, disk, id, mark),
+            None => Ok(()),
+        }
     }
 
     fn meet_all<D: Disk>(

@@ -29,10 +29,18 @@ pub fn load<D: Disk>(disk: &mut D, id: PageId, page: &mut Page) -> Result<(), Di
 
 /// Whether all its bytes are zeros.
 pub fn is_blank(page: &Page) -> bool
-    ensures exact { result ≡ is_zeros page.now }
-    ensures fact { IsTrue result ↔ (page.now ≡ zeros) }
+    ensures { result ≡ is_zeros page.now }
 {
     page.bytes().iter().all(|byte| *byte == 0)
+}
+
+/// Whether the page is one that was never written.
+#[tactic(auto, using(crate::proofs::Pages::blank_is))]
+pub fn is_zero(page: &Page) -> bool
+    ensures { IsTrue result ↔ (page.now ≡ zeros) }
+{
+    let _bytes = page.bytes();
+    is_blank(page)
 }
 
 /// What is found of a page: whether it may stand there, and whether it is more than zeros.

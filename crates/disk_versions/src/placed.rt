@@ -12,7 +12,7 @@ ghost use Rattle.disk_versions.specs.Placing.{IsJudged};
 ghost use Rattle.disk_versions.specs.Met.{AreMet};
 
 use crate::met::{MetPages, renew_old};
-use crate::page::{Judged, is_blank, load};
+use crate::page::{Judged, is_blank, is_zero, load};
 use ds_base::PageId;
 use ds_disk::{Disk, DiskError};
 use page_chain::chain_laws;
@@ -30,9 +30,10 @@ fn is_version(met: &MetPages, id: PageId, page: &Page) -> bool
     ensures { (at : Images) → AreMet at met.now → page.now ≡ current (at id) → (IsTrue result ↔ IsVersion id met.now.made.records page.now) }
 {
     chain_laws();
-    match met.marks.get(&id) {
+    let mark = met.mark_of(id);
+    match mark {
         Some(mark) => mark.is_met,
-        None => is_blank(page),
+        None => is_zero(page),
     }
 }
 

@@ -102,8 +102,11 @@ pub fn check_range<D: Disk>(
 {
     let range = met.made.range();
     let mut pages = 0u64;
-    for before in range.first.heap_set() - 1..range.last.index_set() {
-        match check_set(alloc, disk, met, before + 1, renews, behind)? {
+    let from = range.first.heap_set() - 1;
+    let to = 2 * range.last.number() as u16;
+    for before in from..to {
+        let found = check_set(alloc, disk, met, before + 1, renews, behind)?;
+        match found {
             Placing::All { pages: more } => pages += more,
             Placing::Unplaced { id } => return Ok(Placing::Unplaced { id }),
         }

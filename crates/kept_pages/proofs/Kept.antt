@@ -21,7 +21,7 @@ not_both : (b : Bool) → b ≡ true → b ≡ false → ⊥
 not_both true h k = absurd cc
 not_both false h k = absurd cc
 
-are_kept : NeedsAreMet → NeedsTell → (at : Images) (logs : List Log) (found : Option PageId) → OffsetsFit logs → AreJudged at (needs_of logs) found → AreKept at logs (page_spot found)
+pub are_kept : NeedsAreMet → NeedsTell → (at : Images) (logs : List Log) (found : Option PageId) → OffsetsFit logs → AreJudged at (needs_of logs) found → AreKept at logs (page_spot found)
 are_kept met tell at logs None o h = tell at logs o h
 are_kept met tell at logs (Some id) o h = record {
   lacking = λ k. not_both (has_unmet at (needs_of logs) id) h.unmet (none_unmet at (needs_of logs) id (met at logs k));
@@ -32,6 +32,9 @@ pub kept_told : NeedsAreMet → NeedsTell → (before : Option Contents) (logs :
     → WhenTold before (λ (c : Contents). AreJudged (page_at c.pages) (needs_of logs) found) → WhenTold before (λ (c : Contents). AreKept (page_at c.pages) logs spot)
 kept_told met tell None logs found spot e o h = tt
 kept_told met tell (Some c) logs found spot e o h = subst (λ (s : Option Spot). AreKept (page_at c.pages) logs s) (sym e) (are_kept met tell (page_at c.pages) logs found o h)
+
+pub bad_kept : (at : Images) (logs : List Log) (s : Spot) → bad_spot logs ≡ Some s → (OffsetsFit logs → ⊥) → AreKept at logs (Some s)
+bad_kept at logs s e misfit = record { lacking = λ k. misfit (offsets_of at logs k); spot_is = inl e }
 
 pub bad_told : (before : Option Contents) (logs : List Log) (s : Spot) → bad_spot logs ≡ Some s → (OffsetsFit logs → ⊥) → WhenTold before (λ (c : Contents). AreKept (page_at c.pages) logs (Some s))
 bad_told None logs s e misfit = tt

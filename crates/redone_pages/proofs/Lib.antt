@@ -1,4 +1,3 @@
 pub mod Kept
 pub mod Raised
 pub mod Taken
-pub mod Within

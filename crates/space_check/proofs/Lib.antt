@@ -1,5 +1,6 @@
 pub mod Reading
 pub mod Steps
 pub mod Verdicts
-mod Taken
-mod Known
+pub mod Merging
+pub mod Scanning
+pub mod Adding

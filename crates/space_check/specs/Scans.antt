@@ -1,5 +1,5 @@
 -- What is known of some tables while all records go by.
-use Rattle.std.specs.Prelude.{◌≡◌, ℕ, List, [], ◌∷◌, ◌++◌}
+use Rattle.std.specs.Prelude.{◌≡◌, ℕ, Bool, List, [], ◌∷◌, ◌++◌}
 use Rattle.ds_disk.specs.Contents.{Contents}
 use Rattle.ds_disk.specs.Pages.{page_at}
 use Rattle.ds_model.specs.declared.log.LogRecord.{LogRecord}
@@ -12,17 +12,18 @@ use Rattle.disk_walk.specs.Walks.{Stand}
 use Rattle.redone_pages.specs.declared.range.TableRange.{TableRange}
 use Rattle.disk_versions.specs.Met.{AreMet}
 use Rattle.stood_rows.specs.Found.{IsStanding}
-use Rattle.row_turns.specs.Ranges.{IsTurning}
+use Rattle.row_turns.specs.Scans.{IsTurning}
 use Rattle.sound_disk.specs.Versions.{merged}
-use Rattle.fitting_records.specs.Telling.{OfWholeLogs}
+use Rattle.disk_walk.specs.Whole.{OfWholeLogs}
 use Rattle.space_check.specs.declared.scan.TableScan.{TableScan}
 
 -- what is known of the tables of the range by the records that were scanned, whatever the disk says
-pub record IsScan (range : TableRange) (s : TableScan) : Type 0 where
+pub record IsScan (range : TableRange) (early : Bool) (s : TableScan) : Type 0 where
   pub range_is : s.met.made.range ≡ range
   pub rows_of : s.standing.rows.range ≡ range
   pub standing : IsStanding s.met.made.records s.standing
   pub turns_of : s.turns.range ≡ range
+  pub early_is : s.turns.is_early ≡ early
   pub turns : IsTurning s.met.made.records s.turns
 
 -- these records were scanned, beside the pages of the disk

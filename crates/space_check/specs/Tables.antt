@@ -1,5 +1,5 @@
 -- What is told of the first tables, so many, by the merged records.
-use Rattle.std.specs.Prelude.{◌≡◌, ℕ, ◌+◌, ◌*◌, ◌≤◌, Bool, true, List, Option, None, Some}
+use Rattle.std.specs.Prelude.{◌≡◌, ℕ, ◌+◌, ◌*◌, ◌≤◌, Bool, true, List, [], Option, None, Some}
 use Rattle.ds_disk.specs.Contents.{Contents}
 use Rattle.ds_disk.specs.Pages.{page_at}
 use Rattle.ds_base.specs.declared.names.PageId.{PageId}
@@ -10,13 +10,14 @@ use Rattle.sound_disk.specs.Tables.{IsWholeTable}
 use Rattle.sound_disk.specs.Versions.{merged}
 use Rattle.disk_versions.specs.Placing.{AreInSets, IsFirstInSets}
 use Rattle.disk_versions.specs.Told.{page_sets}
-use Rattle.fitting_records.specs.Telling.{OfWholeLogs}
+use Rattle.disk_walk.specs.Whole.{OfWholeLogs}
 use Rattle.index_places.specs.Whole.{IsFirstUnwhole}
 use Rattle.redone_pages.specs.declared.range.TableRange.{TableRange}
-use Rattle.stood_rows.specs.declared.standing.Unstood.{Unstood}
+use Rattle.stood_rows.specs.declared.unstood.Unstood.{Unstood}
 use Rattle.stood_rows.specs.Found.{AreFound}
-use Rattle.row_turns.specs.declared.ranges.Told.{Told}
-use Rattle.row_turns.specs.Ranges.{AreTurnsTold}
+use Rattle.row_turns.specs.declared.told.Told.{Told}
+use Rattle.row_turns.specs.Scans.{AreTurnsTold}
+use Rattle.row_turns.specs.Orders.{AreOrderly}
 use Rattle.space_check.specs.declared.told.TablesTold.{TablesTold}
 use Rattle.space_check.specs.declared.told.RangeFound.{RangeFound}
 use Rattle.space_check.specs.declared.told.RangeFound.TheVariants as found
@@ -57,11 +58,11 @@ IsNothingTold t = (at : Images) (records : List LogRecord) (renews : Bool) (behi
 -- ---- the tables of a range
 
 -- behind all tables before them, by a scan of the records, of whose tables so many pages aren't all zeros
-pub record AddsScan (range : TableRange) (records : List LogRecord) (pages : ℕ) (old new : TablesTold) : Type 0 where
+pub record AddsScan (range : TableRange) (early : Bool) (records : List LogRecord) (pages : ℕ) (old new : TablesTold) : Type 0 where
   pub pages_are : new.pages ≡ old.pages + pages
   pub whole : (n : ℕ) → range.first ≡ n + 1 → AreWholeUpTo (images_of records) records n old.unwhole → AreWholeUpTo (images_of records) records range.last new.unwhole
   pub stood : (n : ℕ) → range.first ≡ n + 1 → AreStoodUpTo records n old.unstood → AreStoodUpTo records range.last new.unstood
-  pub turns : (n : ℕ) → range.first ≡ n + 1 → AreTurnsUpTo records n old.turns → AreTurnsUpTo records range.last new.turns
+  pub turns : (n : ℕ) → range.first ≡ n + 1 → AreOrderly early [] records → AreTurnsUpTo records n old.turns → AreTurnsUpTo records range.last new.turns
 
 -- what was told of all tables before these leads to what is told up to the last of them; or this is the first page of all that may
 -- not stand on the disk
@@ -69,19 +70,23 @@ abbrev pub TellsMore : Images → List LogRecord → Bool → ℕ → TableRange
 TellsMore at records renews behind range old (found.Told new) = (n : ℕ) → range.first ≡ n + 1 → AreTablesTold at records renews behind n old → AreTablesTold at records renews behind range.last new
 TellsMore at records renews behind range old (found.Unplaced id) = (n : ℕ) → range.first ≡ n + 1 → AreTablesTold at records renews behind n old → IsFirstInSets at records renews behind page_sets id
 
-abbrev pub TellsRange : List ℕ → Bool → ℕ → TableRange → TablesTold → RangeFound → Contents → Type 0
-TellsRange ends renews behind range old found c = OfWholeLogs ends (λ logs. TellsMore (page_at c.pages) (merged logs) renews behind range old found) c
+-- it holds of the merged records of the logs of a disk, if they are whole and their records end at these bytes, and keep to their order
+abbrev pub OfOrderly : Bool → List ℕ → (List LogRecord → Type 0) → Contents → Type 0
+OfOrderly early ends P c = OfWholeLogs ends (λ logs. AreOrderly early [] (merged logs) → P (merged logs)) c
+
+abbrev pub TellsRange : Bool → List ℕ → Bool → ℕ → TableRange → TablesTold → RangeFound → Contents → Type 0
+TellsRange early ends renews behind range old found c = OfOrderly early ends (λ records. TellsMore (page_at c.pages) records renews behind range old found) c
 
 -- ---- all tables
+
+-- what is told of the first so many, of which each page may stand
+abbrev pub TellsUpTo : Bool → List ℕ → Bool → ℕ → ℕ → TablesTold → Contents → Type 0
+TellsUpTo early ends renews behind tables t c = OfOrderly early ends (λ records. AreTablesTold (page_at c.pages) records renews behind tables t) c
 
 -- what is told of all; or this is the first page that may not stand on the disk
 abbrev pub IsAllTold : Images → List LogRecord → Bool → ℕ → RangeFound → Type 0
 IsAllTold at records renews behind (found.Told t) = AreTablesTold at records renews behind 64 t
 IsAllTold at records renews behind (found.Unplaced id) = IsFirstInSets at records renews behind page_sets id
 
-abbrev pub TellsAll : List ℕ → Bool → ℕ → RangeFound → Contents → Type 0
-TellsAll ends renews behind found c = OfWholeLogs ends (λ logs. IsAllTold (page_at c.pages) (merged logs) renews behind found) c
-
--- of the first so many, as long as each page may stand
-abbrev pub TellsUpTo : List ℕ → Bool → ℕ → ℕ → TablesTold → Contents → Type 0
-TellsUpTo ends renews behind tables t c = OfWholeLogs ends (λ logs. AreTablesTold (page_at c.pages) (merged logs) renews behind tables t) c
+abbrev pub TellsAll : Bool → List ℕ → Bool → ℕ → RangeFound → Contents → Type 0
+TellsAll early ends renews behind found c = OfOrderly early ends (λ records. IsAllTold (page_at c.pages) records renews behind found) c

@@ -10,11 +10,16 @@ use Rattle.restart_plan.specs.Renewal.{must_renew}
 use Rattle.sound_disk.specs.Whole_logs.{AreWholeLogs}
 use Rattle.sound_disk.specs.Transactions.{AreTransactions}
 use Rattle.sound_disk.specs.Versions.{merged}
+use Rattle.disk_spots.specs.declared.spot.Spot.{Spot}
 use Rattle.fitting_records.specs.declared.summary.Summary.{Summary}
-use Rattle.stood_rows.specs.declared.standing.Unstood.{Unstood}
+use Rattle.fitting_records.specs.Telling.{IsSummary}
+use Rattle.stood_rows.specs.declared.unstood.Unstood.{Unstood}
+use Rattle.stood_rows.specs.Found.{page_in}
 use Rattle.space_check.specs.declared.told.TablesTold.{TablesTold}
 use Rattle.space_check.specs.declared.told.RangeFound.{RangeFound}
+use Rattle.space_check.specs.declared.verdict.Clause.{Clause}
 use Rattle.space_check.specs.declared.verdict.Verdict.{Verdict}
+use Rattle.space_check.specs.declared.verdict.Verdict.TheVariants as verdict
 use Rattle.space_check.specs.Tables.{AreTablesTold, IsAllTold}
 use Rattle.space_check.specs.Verdicts.{IsTold}
 
@@ -37,7 +42,7 @@ pub record AreFit (c : Contents) (ends : List ℕ) (great : ℕ) (logs : List Lo
 
 -- what is told of it where the summary is that of the logs
 abbrev pub TellsFit : List ℕ → Summary → ℕ → Verdict → Contents → Type 0
-TellsFit ends s behind v c = (logs : List Log) → AreFit c ends s.greatest logs → s.renews ≡ must_renew logs → IsTold c behind v
+TellsFit ends s behind v c = (logs : List Log) → AreFit c ends s.greatest logs → IsSummary s logs → IsTold c behind v
 
 -- ---- the tables
 
@@ -59,14 +64,16 @@ TellsTabled ends great t v c = (logs : List Log) (behind : ℕ) → AreTabled c 
 
 -- ---- the fourth clause
 
-abbrev pub page_of : Option Unstood → Option PageId
-page_of None = None
-page_of (Some u) = Some u.page
-
 -- the page of the first table that isn't whole, or else of the first record that is unstood
 abbrev pub wrong_by : Option PageId → Option Unstood → Option PageId
-wrong_by None unstood = page_of unstood
+wrong_by None unstood = page_in unstood
 wrong_by (Some id) unstood = Some id
 
 abbrev pub wrong_page : TablesTold → Option PageId
 wrong_page t = wrong_by t.unwhole t.unstood
+
+-- ---- verdicts
+
+-- this clause is the first that fails, and this its spot
+abbrev pub unsound : Clause → Spot → Verdict
+unsound name at = verdict.Unsound (record { clause = name; at = at })

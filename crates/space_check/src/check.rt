@@ -1,6 +1,7 @@
 ghost use Rattle.std.specs.Prelude.{◌≡◌, length, true, IfOk};
 ghost use Rattle.disk_walk.specs.Reading.{Reads};
-ghost use Rattle.fitting_records.specs.Telling.{OfWholeLogs, AreFitTold};
+ghost use Rattle.disk_walk.specs.Whole.{OfWholeLogs};
+ghost use Rattle.fitting_records.specs.Telling.{AreFitTold};
 ghost use Rattle.sound_disk.specs.Transactions.{AreTransactions};
 ghost use Rattle.space_check.specs.Telling.{TellsEnded, TellsFit};
 ghost use Rattle.space_check.specs.Verdicts.{IsTold};
@@ -15,6 +16,7 @@ use disk_versions::BEHIND;
 use ds_base::NoMemory;
 use ds_disk::{Disk, DiskError};
 use fitting_records::{Summary, find_first_unfit, summarize};
+use row_turns::order_laws;
 use std::alloc::Global;
 
 fn zeros(alloc: Global) -> Result<Vec<u8>, NoMemory>
@@ -53,11 +55,13 @@ fn check_fit<D: Disk>(
     requires block { length block.old ≡ 65536 }
     ensures { Reads (D.contents disk.old) (D.contents disk.new) (D.faults disk.old) (D.faults disk.new) (λ v c. TellsFit ends.now summary.now behind v c) result }
 {
+    order_laws();
     let found = tell_tables(
         alloc,
         disk,
         ends,
         &summary.counts,
+        summary.fits,
         summary.renews,
         behind,
         block,
@@ -77,7 +81,8 @@ fn check_ended<D: Disk>(
 {
     let mut block = zeros(alloc)?;
     let summary = summarize(alloc, disk, ends, &mut block)?;
-    match find_unfit(alloc, disk, ends, summary.fits)? {
+    let found = find_unfit(alloc, disk, ends, summary.fits)?;
+    match found {
         Some(at) => Ok(unsound(Clause::Transactions, at)),
         None => check_fit(alloc, disk, ends, &summary, behind, &mut block),
     }
@@ -87,7 +92,8 @@ fn check_ended<D: Disk>(
 pub fn check_behind<D: Disk>(alloc: Global, disk: &mut D, behind: u32) -> Result<Verdict, DiskError>
     ensures { Reads (D.contents disk.old) (D.contents disk.new) (D.faults disk.old) (D.faults disk.new) (λ v c. IsTold c behind v) result }
 {
-    match find_all_ends(alloc, disk)? {
+    let found = find_all_ends(alloc, disk)?;
+    match found {
         Ends::Broken { member, at } => Ok(unsound(Clause::WholeLogs, Spot::Log { member, at })),
         Ends::Whole { ends } => check_ended(alloc, disk, &ends, behind),
     }

@@ -1,8 +1,10 @@
 //! The clauses from the third on, one after the other, by what was found of all tables.
 
-ghost use Rattle.std.specs.Prelude.{◌≡◌, length, None};
+ghost use Rattle.std.specs.Prelude.{◌≡◌, ◌+◌, ℕ, true, length, None, is_some, IfOk, IfSome, IsErrOf};
+ghost use Rattle.ds_base.specs.Ids.{IsLrsn};
+ghost use Rattle.ds_disk.specs.declared.disk.DiskError.TheVariants.{Failed};
 ghost use Rattle.disk_walk.specs.Reading.{Reads};
-ghost use Rattle.space_check.specs.Telling.{TellsAsked, TellsTabled, wrong_page};
+ghost use Rattle.space_check.specs.Telling.{unsound, TellsAsked, TellsTabled, wrong_page};
 
 use crate::told::{RangeFound, TablesTold};
 use crate::verdict::{Breach, Clause, Verdict};
@@ -16,11 +18,11 @@ use row_turns::turn_laws;
 use settled_changes::{are_left, number_laws};
 use sound_disk::page_laws;
 use std::alloc::Global;
-use stood_rows::standing_laws;
+use stood_rows::unstood_laws;
 
 /// The verdict that this clause is the first that fails, at this spot.
 pub fn unsound(clause: Clause, at: Spot) -> Verdict
-    ensures { result ≡ unsound_at clause at }
+    ensures { result ≡ unsound clause at }
 {
     Verdict::Unsound {
         breach: Breach { clause, at },
@@ -29,7 +31,9 @@ pub fn unsound(clause: Clause, at: Spot) -> Verdict
 
 // The same where the spot was looked for. There is one where the clause fails.
 fn unsound_at(clause: Clause, spot: Option<Spot>) -> Result<Verdict, DiskError>
-    ensures { IsUnsoundAt clause spot result }
+    ensures told { IfOk result (λ v. IfSome spot (λ at. v ≡ unsound clause at)) }
+    ensures some { IfOk result (λ v. is_some spot ≡ true) }
+    ensures failed { IsErrOf result Failed → ⊥ }
 {
     match spot {
         Some(at) => Ok(unsound(clause, at)),
@@ -53,9 +57,10 @@ fn check_kept<D: Disk>(
 {
     page_laws();
     placing_laws();
-    standing_laws();
+    unstood_laws();
     turn_laws();
-    match find_first_unkept(alloc, disk, ends)? {
+    let found = find_first_unkept(alloc, disk, ends)?;
+    match found {
         Some(at) => Ok(unsound(Clause::Checkpoints, at)),
         None => Ok(Verdict::Sound {
             pages: told.pages,
@@ -79,14 +84,14 @@ fn check_numbers<D: Disk>(
 {
     page_laws();
     placing_laws();
-    standing_laws();
+    unstood_laws();
     turn_laws();
     number_laws();
     if are_left(great, told.turns.open) {
         return check_kept(alloc, disk, ends, great, told);
     }
-    let spot = find_number(alloc, disk, ends, great)?;
-    unsound_at(Clause::Numbers, spot)
+    let found = find_number(alloc, disk, ends, great)?;
+    unsound_at(Clause::Numbers, found)
 }
 
 // The fifth, where those before it hold.
@@ -103,13 +108,13 @@ fn check_turns<D: Disk>(
 {
     page_laws();
     placing_laws();
-    standing_laws();
+    unstood_laws();
     turn_laws();
     match told.turns.out {
         None => check_numbers(alloc, disk, ends, great, told),
         Some(out) => {
-            let spot = find_drawn(alloc, disk, ends, out.number.number())?;
-            unsound_at(Clause::Turns, spot)
+            let found = find_drawn(alloc, disk, ends, out.number.number())?;
+            unsound_at(Clause::Turns, found)
         }
     }
 }
@@ -137,8 +142,9 @@ fn check_tables<D: Disk>(
 {
     page_laws();
     placing_laws();
-    standing_laws();
-    match wrong_page(told) {
+    unstood_laws();
+    let page = wrong_page(told);
+    match page {
         Some(id) => Ok(unsound(Clause::Tables, Spot::Page { id })),
         None => check_turns(alloc, disk, ends, great, told),
     }

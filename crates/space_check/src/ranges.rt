@@ -60,7 +60,8 @@ fn range_behind(counts: &[usize], before: u64) -> TableRange
 }
 
 /// What is told of all tables by the records of all logs, whose whole records end at these bytes; or the first page that may not
-/// stand on the disk. `counts` has for each table how many parts of its pages are changed.
+/// stand on the disk. `counts` has for each table how many parts of its pages are changed;
+/// `is_early` says that no transaction changes a row behind its Commit.
 ///
 /// The records are read once for each range, whose tables have no more than 4,096 changes in all, or for each table that has more. What
 /// is held are the pages and the rows of these tables as the records make them, and what is open.
@@ -69,19 +70,23 @@ pub fn tell_tables<D: Disk>(
     disk: &mut D,
     ends: &[u64],
     counts: &[usize],
+    is_early: bool,
     renews: bool,
     behind: u32,
     block: &mut [u8],
 ) -> Result<RangeFound, DiskError>
     requires ends { length ends.now ≡ 32 }
     requires block { length block.old ≡ 65536 }
-    ensures { Reads (D.contents disk.old) (D.contents disk.new) (D.faults disk.old) (D.faults disk.new) (λ found c. TellsAll ends.now renews behind found c) result }
+    ensures { Reads (D.contents disk.old) (D.contents disk.new) (D.faults disk.old) (D.faults disk.new) (λ found c. TellsAll is_early ends.now renews behind found c) result }
 {
     let mut told = TablesTold::new();
     let mut tables = 0;
     while tables < 64 {
         let range = range_behind(counts, tables);
-        match add_range(alloc, disk, ends, range, renews, behind, &told, block)? {
+        let found = add_range(
+            alloc, disk, ends, range, is_early, renews, behind, &told, block,
+        )?;
+        match found {
             RangeFound::Told { told: more } => told = more,
             RangeFound::Unplaced { id } => return Ok(RangeFound::Unplaced { id }),
         }

@@ -1,6 +1,6 @@
 //! What is told of some tables while the records of all logs go by.
 
-ghost use Rattle.std.specs.Prelude.{◌≡◌, [], OnOk};
+ghost use Rattle.std.specs.Prelude.{◌≡◌, Bool, [], OnOk};
 ghost use Rattle.ds_disk.specs.Pages.{page_at};
 ghost use Rattle.ds_model.specs.RecordBytes.{IsAllowed};
 ghost use Rattle.log_merge.specs.Merging.{is_merged};
@@ -43,15 +43,16 @@ fn is_merged(body: &Body) -> bool
 }
 
 impl TableScan {
-    /// Before the first record.
-    pub fn new(alloc: Global, range: TableRange) -> TableScan
-        ensures scan { IsScan range result }
+    /// Before the first record. `is_early` says that no transaction changes a row behind its Commit; where that isn't known, what has
+    /// committed is held.
+    pub fn new(alloc: Global, range: TableRange, is_early: bool) -> TableScan
+        ensures scan { IsScan range is_early result }
         ensures scanned { (at : Images) → IsScanned at [] result }
     {
         TableScan {
             met: MetPages::new(alloc, range),
             standing: Standing::new(alloc, range),
-            turns: Turns::new(alloc, range),
+            turns: Turns::new(alloc, range, is_early),
         }
     }
 
@@ -62,8 +63,10 @@ impl TableScan {
         disk: &mut D,
         it: &LogRecord,
     ) -> Result<(), DiskError>
-        requires { IsAllowed it.now }
-        ensures scan { OnOk result ((range : TableRange) → IsScan range self.old → IsScan range self.new) }
+        requires allowed { IsAllowed it.now }
+        requires range { self.old.met.made.range ≡ self.old.standing.rows.range }
+        ensures scan { OnOk result ((range : TableRange) (early : Bool) → IsScan range early self.old → IsScan range early self.new) }
+        ensures range { OnOk result (self.new.met.made.range ≡ self.new.standing.rows.range) }
         ensures scanned { Reads (D.contents disk.old) (D.contents disk.new) (D.faults disk.old) (D.faults disk.new) (λ _ c. ScansAlso (page_at c.pages) it.now self.old self.new) result }
     {
         self.standing.take(alloc, &self.met.made, it)?;
@@ -78,7 +81,9 @@ impl TableScan {
         disk: &mut D,
         it: &LogRecord,
     ) -> Result<(), DiskError>
-        ensures scan { OnOk result ((range : TableRange) → IsScan range self.old → IsScan range self.new) }
+        requires { self.old.met.made.range ≡ self.old.standing.rows.range }
+        ensures scan { OnOk result ((range : TableRange) (early : Bool) → IsScan range early self.old → IsScan range early self.new) }
+        ensures range { OnOk result (self.new.met.made.range ≡ self.new.standing.rows.range) }
         ensures scanned { Reads (D.contents disk.old) (D.contents disk.new) (D.faults disk.old) (D.faults disk.new) (λ _ c. ScansKept (page_at c.pages) it.now self.old self.new) result }
     {
         if !is_merged(&it.body) {

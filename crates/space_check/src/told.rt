@@ -8,14 +8,14 @@ ghost use Rattle.space_check.specs.Tables.{AreWholeUpTo, IsNothingTold, AddsScan
 
 use crate::scan::TableScan;
 use crate::walk::scan_tables;
-use disk_versions::{Placing, check_range};
+use disk_versions::{Placing, check_range, placing_laws};
 use ds_base::{NoMemory, PageId};
 use ds_disk::{Disk, DiskError};
 use index_places::find_unwhole;
 use redone_pages::TableRange;
-use row_turns::Told;
+use row_turns::{Told, turn_laws};
 use std::alloc::Global;
-use stood_rows::{Unstood, sooner};
+use stood_rows::{Unstood, sooner, unstood_laws};
 
 /// What is told of the first tables. Each of their pages may stand on the disk.
 #[derive(Clone, Copy, Debug)]
@@ -44,7 +44,7 @@ fn first_unwhole(
     scan: &TableScan,
     range: TableRange,
 ) -> Result<Option<PageId>, NoMemory>
-    requires { IsScan range scan.now }
+    requires { IsScan range scan.now.turns.is_early scan.now }
     ensures { IfOk result (λ found. (n : ℕ) → range.first ≡ n + 1 → AreWholeUpTo (images_of scan.now.met.made.records) scan.now.met.made.records n before → AreWholeUpTo (images_of scan.now.met.made.records) scan.now.met.made.records range.last found) }
 {
     match before {
@@ -58,6 +58,8 @@ impl TablesTold {
     pub fn new() -> TablesTold
         ensures { IsNothingTold result }
     {
+        placing_laws();
+        unstood_laws();
         TablesTold {
             pages: 0,
             unwhole: None,
@@ -70,17 +72,21 @@ impl TablesTold {
     fn add_scan(
         &self,
         alloc: Global,
-        scan: TableScan,
+        scan: &TableScan,
         range: TableRange,
         pages: u64,
     ) -> Result<TablesTold, NoMemory>
-        requires { IsScan range scan }
-        ensures { IfOk result (λ told. AddsScan range scan.met.made.records pages self.now told) }
+        requires range { range.first ≤ range.last }
+        requires scan { IsScan range scan.now.turns.is_early scan.now }
+        ensures { IfOk result (λ told. AddsScan range scan.now.turns.is_early scan.now.met.made.records pages self.now told) }
     {
+        unstood_laws();
+        turn_laws();
         let pages = add_pages(self.pages, pages)?;
-        let unwhole = first_unwhole(alloc, self.unwhole, &scan, range)?;
+        let unwhole = first_unwhole(alloc, self.unwhole, scan, range)?;
         let unstood = sooner(self.unstood, scan.standing.first);
-        let turns = self.turns.and(scan.turns.close())?;
+        let told = scan.turns.told(alloc)?;
+        let turns = self.turns.and(&told)?;
         Ok(TablesTold {
             pages,
             unwhole,
@@ -105,6 +111,7 @@ pub fn add_range<D: Disk>(
     disk: &mut D,
     ends: &[u64],
     range: TableRange,
+    is_early: bool,
     renews: bool,
     behind: u32,
     told: &TablesTold,
@@ -113,13 +120,15 @@ pub fn add_range<D: Disk>(
     requires ends { length ends.now ≡ 32 }
     requires block { length block.old ≡ 65536 }
     requires range { range.first ≤ range.last }
-    ensures { Reads (D.contents disk.old) (D.contents disk.new) (D.faults disk.old) (D.faults disk.new) (λ found c. TellsRange ends.now renews behind range told.now found c) result }
+    ensures { Reads (D.contents disk.old) (D.contents disk.new) (D.faults disk.old) (D.faults disk.new) (λ found c. TellsRange is_early ends.now renews behind range told.now found c) result }
 {
-    let scan = scan_tables(alloc, disk, ends, range, block)?;
-    match check_range(alloc, disk, &scan.met, renews, behind)? {
+    let scan = scan_tables(alloc, disk, ends, range, is_early, block)?;
+    let placed = check_range(alloc, disk, &scan.met, renews, behind)?;
+    match placed {
         Placing::Unplaced { id } => Ok(RangeFound::Unplaced { id }),
-        Placing::All { pages } => Ok(RangeFound::Told {
-            told: told.add_scan(alloc, scan, range, pages)?,
-        }),
+        Placing::All { pages } => {
+            let told = told.add_scan(alloc, &scan, range, pages)?;
+            Ok(RangeFound::Told { told })
+        }
     }
 }

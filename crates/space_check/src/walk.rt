@@ -1,6 +1,6 @@
 //! The records of all logs, read by blocks, scanned for some tables.
 
-ghost use Rattle.std.specs.Prelude.{◌≡◌, length, IfOk, OnOk};
+ghost use Rattle.std.specs.Prelude.{◌≡◌, Bool, length, IfOk, OnOk};
 ghost use Rattle.redone_pages.specs.declared.range.TableRange.{TableRange};
 ghost use Rattle.disk_walk.specs.Reading.{Reads};
 ghost use Rattle.space_check.specs.Scans.{IsScan, ScansLeft, IsScanOf};
@@ -23,8 +23,9 @@ fn scan_left<D: Disk>(
     scan: &mut TableScan,
     block: &mut [u8],
 ) -> Result<(), DiskError>
-    requires { heads.old.block ≡ length block.old }
-    ensures scan { OnOk result ((range : TableRange) → IsScan range scan.old → IsScan range scan.new) }
+    requires block { heads.old.block ≡ length block.old }
+    requires range { scan.old.met.made.range ≡ scan.old.standing.rows.range }
+    ensures scan { OnOk result ((range : TableRange) (early : Bool) → IsScan range early scan.old → IsScan range early scan.new) }
     ensures scanned { Reads (D.contents disk.old) (D.contents disk.new) (D.faults disk.old) (D.faults disk.new) (λ _ c. ScansLeft c heads.old.heads scan.old scan.new) result }
 {
     for _ in 0..u64::MAX {
@@ -46,15 +47,16 @@ pub fn scan_tables<D: Disk>(
     disk: &mut D,
     ends: &[u64],
     range: TableRange,
+    is_early: bool,
     block: &mut [u8],
 ) -> Result<TableScan, DiskError>
     requires ends { length ends.now ≡ 32 }
     requires block { length block.old ≡ 65536 }
-    ensures scan { IfOk result (IsScan range) }
+    ensures scan { IfOk result (IsScan range is_early) }
     ensures scanned { Reads (D.contents disk.old) (D.contents disk.new) (D.faults disk.old) (D.faults disk.new) (λ scan c. IsScanOf ends.now scan c) result }
 {
     let mut heads = heads_to(alloc, ends, BLOCK as u32)?;
-    let mut scan = TableScan::new(alloc, range);
+    let mut scan = TableScan::new(alloc, range, is_early);
     scan_left(alloc, disk, &mut heads, &mut scan, block)?;
     Ok(scan)
 }
