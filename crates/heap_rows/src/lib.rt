@@ -7,4 +7,3 @@ mod rows;
 
 pub use heap::page_has;
 pub use left::LeftRows;
-pub use rows::rows_after;

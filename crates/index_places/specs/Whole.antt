@@ -97,10 +97,6 @@ pub record IsFirstUnwhole (at : Images) (records : List LogRecord) (id : PageId)
   pub before : (k : ℕ) → 1 ≤ k → k < table → IsWholeTable at records k
   pub page : IsNamed at records table id
 
-abbrev pub IsFirstTold : Images → List LogRecord → Option PageId → Type 0
-IsFirstTold at records None = AreAllWhole at records
-IsFirstTold at records (Some id) = IsFirstUnwhole at records id
-
 -- ---- the tables of a range
 
 -- the table is the first of them that isn't whole, and this is the page that is named

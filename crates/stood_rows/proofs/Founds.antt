@@ -150,9 +150,6 @@ found_more has rs r at (Some u) is h told =
 pub found_still : (has : PageId → Bool) (rs : List LogRecord) (r : LogRecord) (u : Unstood) → AreFound has rs (Some u) → AreFound has (rs ++ r ∷ []) (Some u)
 found_still has rs r u h = still_first has rs r u h
 
-pub nothing_found : (has : PageId → Bool) → AreFound has [] None
-nothing_found has i k = tt
-
 -- ---- of some pages and of others
 
 either : (a b : Bool) (P : Type 0) → (a ≡ true → P) → (b ≡ true → P) → (a || b) ≡ true → P

@@ -1,4 +1,3 @@
-pub mod Held
 pub mod Owners
 pub mod Standing
 pub mod Found

@@ -42,14 +42,6 @@ IsUnstood earlier lrsn body.Ended id = ⊥
 IsUnstood earlier lrsn (body.Checkpoint offset) id = ⊥
 IsUnstood earlier lrsn body.RestartEnd id = ⊥
 
-abbrev pub IsChangeTold : List LogRecord → RowChange → Option PageId → Type 0
-IsChangeTold earlier c None = Stood earlier c
-IsChangeTold earlier c (Some id) = IsUnstoodChange earlier c id
-
-abbrev pub IsBodyTold : List LogRecord → ℕ → Body → Option PageId → Type 0
-IsBodyTold earlier lrsn b None = BodyStood earlier lrsn b
-IsBodyTold earlier lrsn b (Some id) = IsUnstood earlier lrsn b id
-
 -- the page of the first record whose change didn't meet its row, or tells another than was left, or whose patches take a slot from its key
 pub record IsFirstUnstood (records : List LogRecord) (id : PageId) : Type 0 where
   pub first : List LogRecord
