@@ -267,7 +267,9 @@ taken_one : (logs : List Log) (log : Log) (k : ℕ) (back : List Log) → drop k
 taken_one [] log zero back e = absurd cc
 taken_one [] log (suc k) back e = absurd cc
 taken_one (l ∷ ls) log zero back e = (let same : l ≡ log = cc in ap (λ (x : Log). x ∷ []) same)
-taken_one (l ∷ ls) log (suc k) back e = ap (λ (xs : List Log). l ∷ xs) (taken_one ls log k back e)
+taken_one (l ∷ ls) log (suc k) back e =
+    let next : suc k + 1 ≡ suc (k + 1) = omega arith in
+    ap (λ (n : ℕ). take n (l ∷ ls)) next ∙ ap (λ (xs : List Log). l ∷ xs) (taken_one ls log k back e)
 
 needs_one : (logs : List Log) (log : Log) → needs_of (logs ++ log ∷ []) ≡ needs_of logs ++ needs_in log.records
 needs_one logs log = flat_map-append (λ (l : Log). needs_in l.records) logs (log ∷ []) ∙ ap (λ (ns : List Need). needs_of logs ++ ns) (append-nil (needs_in log.records))
