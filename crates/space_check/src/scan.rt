@@ -34,10 +34,8 @@ fn is_merged(body: &Body) -> bool
     ensures { result ≡ is_merged body.now }
 {
     match body {
-        Body::RowChange { .. }
-        | Body::Compensation { .. }
-        | Body::System { .. }
-        | Body::Commit => true,
+        Body::RowChange { .. } | Body::Compensation { .. } | Body::System { .. } | Body::Commit =>
+            true,
         Body::Ended | Body::Checkpoint { .. } | Body::RestartEnd => false,
     }
 }

@@ -68,12 +68,7 @@ impl TablesTold {
     }
 
     // Adds what was told of the next tables, of which so many pages aren't all zeros.
-    fn add_scan(
-        &self,
-        alloc: Global,
-        scan: &TableScan,
-        pages: u64,
-    ) -> Result<TablesTold, NoMemory>
+    fn add_scan(&self, alloc: Global, scan: &TableScan, pages: u64) -> Result<TablesTold, NoMemory>
         requires range { scan.now.met.made.range.first ≤ scan.now.met.made.range.last }
         requires scan { IsScan scan.now.met.made.range scan.now.turns.is_early scan.now }
         ensures { IfOk result (λ told. AddsScan scan.now.met.made.range scan.now.turns.is_early scan.now.met.made.records pages self.now told) }
