@@ -1,6 +1,7 @@
 -- A log that is passed record by record, up to where its whole records end.
-use Rattle.std.proofs.Common.{◌≡◌, ℕ, ◌+◌, ◌-◌, ◌<◌, ◌≤◌, Bool, true, inl, inr, ◌⊎◌, List, [], ◌∷◌, ◌++◌, length, take, drop, Option, Some, None, Ok, refl, sym, ap, subst, ◌∙◌, append_assoc, arith}
-use Rattle.std.specs.Prelude.{◌↔◌, IfSome, IsTrue, map}
+use Rattle.std.proofs.Common.{◌≡◌, ℕ, ◌+◌, ◌-◌, ◌<◌, ◌≤◌, Bool, true, false, inl, inr, ◌⊎◌, List, [], ◌∷◌, ◌++◌, length, take, drop, Option, Some, None, Ok, refl, sym, ap, subst, ◌∙◌, append_assoc, arith}
+use Rattle.std.specs.Prelude.{◌↔◌, nat_lt, IsTrue, map}
+use Rattle.std.proofs.lemmas.Bool.{ltb-true}
 use Rattle.std.specs.List.{AllByRecursion}
 use Rattle.std.proofs.lemmas.List.{append-nil, length-append, length-drop, take_all, take_more, map_push, length-take-le}
 use Rattle.std.proofs.lemmas.List.Concat.{flat_map-append}
@@ -259,12 +260,12 @@ broken_to again log at p untorn = record {
   place = p.at_is;
 }
 
+not_true : false ≡ true → ⊥
+not_true e = cc
+
 end_when : Again → (member : ℕ) (log : List ℕ) (at : ℕ) (torn : Bool) → ArePassedTo log at → (IsTrue torn ↔ IsTorn (drop at log)) → IsEnd member log (ended_at at torn)
 end_when again member log at true p tells = whole_to member log at p (tells.0 refl)
 end_when again member log at false p tells = broken_to again log at p (λ t. not_true (tells.1 t))
-  where
-    not_true : false ≡ true → ⊥
-    not_true e = cc
 
 within : (log : List ℕ) (at : ℕ) → ArePassedTo log at → at ≤ length log
 within log at p =
@@ -293,15 +294,22 @@ untorn_when again framed log at le more t =
     let count = length-drop at log in
     omega (arith, few, count, le, more)
 
-pub untorn_told : Again → RecordIsFramed → (a : Option Contents) (member at size : ℕ) (torn : Bool) → torn ≡ false → (size < at) ⊎ (16384 < size - at) → WhenTold a (λ (c : Contents). size ≡ length (log_of c.logs member))
-    → WhenTold a (λ (c : Contents). at ≤ length (log_of c.logs member) → (IsTrue torn ↔ IsTorn (drop at (log_of c.logs member))))
-untorn_told again framed a member at size torn is far told =
-    told_by a (λ (c : Contents). size ≡ length (log_of c.logs member)) (λ (c : Contents). at ≤ length (log_of c.logs member) → (IsTrue torn ↔ IsTorn (drop at (log_of c.logs member))))
-    (λ c size_is le. (λ (yes : torn ≡ true). absurd cc, λ t. absurd (apart (log_of c.logs member) far size_is le t))) told
+pub untorn_told : Again → RecordIsFramed → (a : Option Contents) (member at size tail : ℕ) (long : Bool) → tail ≡ size - at → long ≡ nat_lt 16384 tail → long ≡ true → WhenTold a (λ (c : Contents). size ≡ length (log_of c.logs member))
+    → WhenTold a (λ (c : Contents). at ≤ length (log_of c.logs member) → (IsTrue false ↔ IsTorn (drop at (log_of c.logs member))))
+untorn_told again framed a member at size tail long tail_is long_is holds_it told =
+    told_by a (λ (c : Contents). size ≡ length (log_of c.logs member)) (λ (c : Contents). at ≤ length (log_of c.logs member) → (IsTrue false ↔ IsTorn (drop at (log_of c.logs member))))
+    (λ c size_is le. (λ (fails_it : false ≡ true). absurd (not_true fails_it), λ t. absurd (untorn_when again framed (log_of c.logs member) at le (more (log_of c.logs member) size_is) t))) told
   where
-    apart : (log : List ℕ) → (size < at) ⊎ (16384 < size - at) → size ≡ length log → at ≤ length log → IsTorn (drop at log) → ⊥
-    apart log (inl less) size_is le t = omega (arith, less, size_is, le)
-    apart log (inr more) size_is le t = untorn_when again framed log at le (omega (arith, more, size_is)) t
+    more : (log : List ℕ) → size ≡ length log → 16384 < length log - at
+    more log size_is = (let lt : 16384 < tail = ltb-true 16384 tail (sym long_is ∙ holds_it) in omega (arith, lt, tail_is, size_is))
+
+pub torn_told : (a b : Option Contents) (member at size tail : ℕ) (bytes : List ℕ) (torn : Bool) → tail ≡ size - at → (IsTrue torn ↔ IsTorn bytes) → WhenTold a (λ (c : Contents). size ≡ length (log_of c.logs member)) → Becomes a b Same
+    → WhenTold b (λ (c : Contents). length (log_of c.logs member) ≤ at + tail → bytes ≡ drop at (log_of c.logs member)) → WhenTold a (λ (c : Contents). at ≤ length (log_of c.logs member) → (IsTrue torn ↔ IsTorn (drop at (log_of c.logs member))))
+torn_told a b member at size tail bytes torn tail_is tells p same q =
+    told_by_both a (λ (c : Contents). size ≡ length (log_of c.logs member)) (λ (c : Contents). length (log_of c.logs member) ≤ at + tail → bytes ≡ drop at (log_of c.logs member))
+    (λ (c : Contents). at ≤ length (log_of c.logs member) → (IsTrue torn ↔ IsTorn (drop at (log_of c.logs member))))
+    (λ c size_is read le. subst (λ (t : List ℕ). IsTrue torn ↔ IsTorn t) (read (omega (arith, size_is, tail_is, le))) tells) p
+    (on_start a b (λ (c : Contents). length (log_of c.logs member) ≤ at + tail → bytes ≡ drop at (log_of c.logs member)) same q)
 
 -- ---- one log more
 
@@ -330,9 +338,6 @@ all_ended None i ends has le h = tt
 all_ended (Some c) i ends has le h = subst (λ (l : List (List ℕ)). AreWholeTo l ends) (take_all i c.logs (let long = has c refl in omega (arith, long, le))) h
 
 -- ---- from what was found
-
-if_some : {A : Type 0} (o : Option A) (x : A) (P : A → Type 0) → o ≡ Some x → IfSome o P → P x
-if_some o x P e h = subst (λ (v : Option _). IfSome v P) e h
 
 pub end_told : Again → (a b : Option Contents) (member at : ℕ) (found : LogEnd) (torn : Bool) → found ≡ end.Whole at → WhenTold a (λ (c : Contents). IsReached (log_of c.logs member) found) → Becomes a b Same
     → WhenTold b (λ (c : Contents). at ≤ length (log_of c.logs member) → (IsTrue torn ↔ IsTorn (drop at (log_of c.logs member)))) → WhenTold a (λ (c : Contents). IsEnd member (log_of c.logs member) (ended_at at torn))
@@ -363,3 +368,6 @@ found_broken a b i member at found ends has lt its is h same k =
     broken_first a i member at ends has lt its h
     (told_by a (λ (c : Contents). IsEnd member (log_of c.logs member) found) (λ (c : Contents). BreaksOff (log_of c.logs member) at) (λ c q. subst (IsEnd member (log_of c.logs member)) is q)
     (on_start a b (λ (c : Contents). IsEnd member (log_of c.logs member) found) same k))
+
+pub end_made : (a : Option Contents) (member at : ℕ) (made : LogEnd) (torn : Bool) → made ≡ ended_at at torn → WhenTold a (λ (c : Contents). IsEnd member (log_of c.logs member) (ended_at at torn)) → WhenTold a (λ (c : Contents). IsEnd member (log_of c.logs member) made)
+end_made a member at made torn is p = told_by a (λ (c : Contents). IsEnd member (log_of c.logs member) (ended_at at torn)) (λ (c : Contents). IsEnd member (log_of c.logs member) made) (λ c e. subst (IsEnd member (log_of c.logs member)) (sym is) e) p

@@ -1,6 +1,6 @@
 //! Where the whole records of logs end, which are read by blocks.
 
-ghost use Rattle.std.specs.Prelude.{◌≡◌, ◌↔◌, ◌+◌, ◌≤◌, ◌<◌, ◌^◌, [], ◌∷◌, ◌++◌, length, drop, IfOk, IfSome, IsTrue, OnOk};
+ghost use Rattle.std.specs.Prelude.{◌≡◌, ◌↔◌, ◌+◌, ◌≤◌, ◌<◌, ◌^◌, nat_lt, [], ◌∷◌, ◌++◌, length, drop, IfOk, IfSome, IsTrue, OnOk};
 ghost use Rattle.ds_disk.specs.Contents.{log_of};
 ghost use Rattle.ds_model.specs.Logs.{IsTorn};
 ghost use Rattle.disk_heads.specs.Records.{IsSound};
@@ -139,6 +139,18 @@ fn read_tail<D: Disk>(
     Ok(bytes)
 }
 
+fn length_of<D: Disk>(disk: &mut D, member: MemberId) -> Result<u64, DiskError>
+    ensures { Reads (D.contents disk.old) (D.contents disk.new) (D.faults disk.old) (D.faults disk.new) (λ n c. n ≡ length (log_of c.logs member)) result }
+{
+    disk.log_length(member)
+}
+
+fn is_long(tail: u64) -> bool
+    ensures { result ≡ nat_lt 16384 tail }
+{
+    LONGEST < tail
+}
+
 // Whether the member's log has nothing behind this byte, or what a stop inside an append may leave, which is no longer than a
 // record.
 fn has_torn_tail<D: Disk>(
@@ -151,11 +163,13 @@ fn has_torn_tail<D: Disk>(
 {
     reading_laws();
     whole_laws();
-    let length = disk.log_length(member)?;
-    if length < at || LONGEST < length - at {
+    let length = length_of(disk, member)?;
+    let tail = length.saturating_sub(at);
+    let long = is_long(tail);
+    if long {
         return Ok(false);
     }
-    let bytes = read_tail(alloc, disk, member, at, (length - at) as usize)?;
+    let bytes = read_tail(alloc, disk, member, at, tail as usize)?;
     let torn = is_torn(alloc, &bytes)?;
     Ok(torn)
 }

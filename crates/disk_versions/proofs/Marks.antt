@@ -170,7 +170,7 @@ pub zeros_of : LeavesOthers → (id : PageId) (rs : List LogRecord) (page : List
 zeros_of law id rs page none v =
     v.bytes
     ∙ untouched law id zeros v.first
-      (or_left (list_any (touches id) v.first) (list_any (touches id) v.rest) (sym (list_any-append (touches id) v.first v.rest) ∙ ap (list_any (touches id)) (sym v.whole) ∙ none))
+    (or_left (list_any (touches id) v.first) (list_any (touches id) v.rest) (sym (list_any-append (touches id) v.first v.rest) ∙ ap (list_any (touches id)) (sym v.whole) ∙ none))
 
 pub zeros_are : (id : PageId) (rs : List LogRecord) (page : List ℕ) → page ≡ zeros → IsVersion id rs page
 zeros_are id rs page e = record { first = []; rest = rs; whole = refl; bytes = e }
@@ -224,8 +224,8 @@ pub marks_stay : (made : Redone) (es : Entries) (id : PageId) → (HasPage made.
 marks_stay made es id some = (
   (λ q is. is),
   (λ q has here.
-  let name : id ≡ q = same_name id q (sym (or_none (same_page id q)) ∙ here) in
-  subst (λ (i : PageId). is_some (held es i) ≡ true) name (some (subst (λ (i : PageId). HasPage made.range i) (sym name) has))),
+      let name : id ≡ q = same_name id q (sym (or_none (same_page id q)) ∙ here) in
+      subst (λ (i : PageId). is_some (held es i) ≡ true) name (some (subst (λ (i : PageId). HasPage made.range i) (sym name) has))),
 )
 
 pub no_marks : (made : Redone) (es : Entries) → HaveBy made [] es es

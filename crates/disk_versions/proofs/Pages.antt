@@ -95,31 +95,6 @@ blank_is page b is long = (
   (λ e. is ∙ ap is_zeros (e ∙ sym blank) ∙ zeros_all page_size),
 )
 
--- ---- over what the disk told
-
-abbrev JudgedAt : ℕ → ℕ → List LogRecord → Bool → Judged → Contents → Type 0
-JudgedAt set n records renews j c = IsJudged (page_of set n) records renews (page_at c.pages (page_of set n)) j
-
-abbrev InSetAt : List LogRecord → Bool → ℕ → ℕ → ℕ → Contents → Type 0
-InSetAt records renews set n pages c = AreInSet (page_at c.pages) records renews set n pages
-
-abbrev FirstAt : List LogRecord → Bool → ℕ → ℕ → ℕ → Contents → Type 0
-FirstAt records renews set end n c = IsFirstInSet (page_at c.pages) records renews set end (page_of set n)
-
-pub page_told : (start now : Option Contents) (records : List LogRecord) (renews : Bool) (set n pages more : ℕ) (j : Judged) → Becomes start now Same → j.is_placed ≡ true → more ≡ count_with pages j.is_written
-    → WhenTold start (InSetAt records renews set n pages) → WhenTold now (JudgedAt set n records renews j) → WhenTold start (InSetAt records renews set (n + 1) more)
-page_told start now records renews set n pages more j s placed m h k =
-    told_by_both start (JudgedAt set n records renews j) (InSetAt records renews set n pages) (InSetAt records renews set (n + 1) more)
-    (λ c is all. page_more (page_at c.pages) records renews set n pages more j is placed m all)
-    (told_before start now (JudgedAt set n records renews j) s k) h
-
-pub wrong_told : (start now : Option Contents) (records : List LogRecord) (renews : Bool) (set n end pages : ℕ) (j : Judged) → Becomes start now Same → n < end → j.is_placed ≡ false
-    → WhenTold start (InSetAt records renews set n pages) → WhenTold now (JudgedAt set n records renews j) → WhenTold start (FirstAt records renews set end n)
-wrong_told start now records renews set n end pages j s lt wrong h k =
-    told_by_both start (JudgedAt set n records renews j) (InSetAt records renews set n pages) (FirstAt records renews set end n)
-    (λ c is all. page_wrong (page_at c.pages) records renews set n end pages j lt is wrong all)
-    (told_before start now (JudgedAt set n records renews j) s k) h
-
 -- ---- a page as it was read
 
 abbrev Loaded : PageId → List ℕ → Contents → Contents → Type 0
@@ -144,13 +119,3 @@ pub end_told : (before after : Option Contents) (records : List LogRecord) (set 
 end_told None after records set behind end page b e = tt
 end_told (Some c) None records set behind end page b e = absurd b
 end_told (Some c) (Some d) records set behind end page b e = e ∙ ap (λ (q : List ℕ). end_of (last_by_header (header_of q (page_of set 0)) q) (last_in_records set 0 records) behind) b.1
-
--- what was found up to an end is found up to the same end
-pub ends_at : (start now : Option Contents) (records : List LogRecord) (renews : Bool) (set behind end : ℕ) (found : Placing) → Becomes start now Same
-    → WhenTold start (λ (c : Contents). end ≡ pages_read (page_at c.pages) records behind set) → WhenTold now (λ (c : Contents). IsSetTold (page_at c.pages) records renews set end found)
-    → WhenTold start (λ (c : Contents). IsSetTold (page_at c.pages) records renews set (pages_read (page_at c.pages) records behind set) found)
-ends_at start now records renews set behind end found s e k =
-    told_by_both start (λ (c : Contents). end ≡ pages_read (page_at c.pages) records behind set) (λ (c : Contents). IsSetTold (page_at c.pages) records renews set end found)
-    (λ (c : Contents). IsSetTold (page_at c.pages) records renews set (pages_read (page_at c.pages) records behind set) found)
-    (λ c is told. subst (λ (n : ℕ). IsSetTold (page_at c.pages) records renews set n found) is told)
-    e (told_before start now (λ (c : Contents). IsSetTold (page_at c.pages) records renews set end found) s k)

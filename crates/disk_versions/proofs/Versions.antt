@@ -15,7 +15,7 @@ use Rattle.sound_disk.specs.Versions.{merged, is_page, current, MayStand}
 use Rattle.page_versions.specs.Fronts.{IsPlaced, PlacedMayStand}
 use Rattle.disk_versions.specs.Ends.{page_of, pages_read, IsRead}
 use Rattle.disk_versions.specs.Placing.{AreInSets, IsFirstInSets, AreSetsTold}
-use Rattle.disk_versions.specs.Told.{page_sets, IsReadOf, IsBefore, AreAllPlaced, IsFirstUnplaced, IsTold, AreToldBy}
+use Rattle.disk_versions.specs.Told.{page_sets, IsReadOf, IsBefore, AreAllPlaced, IsFirstUnplaced, IsTold}
 use Rattle.disk_versions.specs.Ranged.{NoneUnplaced}
 use Rattle.disk_versions.specs.declared.set.Placing.{Placing}
 use Rattle.disk_versions.specs.declared.set.Placing.TheVariants as placing
@@ -102,20 +102,3 @@ is_told k at logs behind (placing.Unplaced id) h = first_told k at logs behind i
 
 pub none_unplaced : NoneUnplaced
 none_unplaced at records renews behind = record { each = λ id r. absurd (nothing_read id.set r.set_from r.set_to); count = refl }
-
-abbrev SetsAt : List LogRecord → Bool → ℕ → Placing → Contents → Type 0
-SetsAt records renews behind found c = AreSetsTold (page_at c.pages) records renews behind 128 found
-
-by_records : IsKnown → (at : Images) (records : List LogRecord) (renews : Bool) (behind : ℕ) (found : Placing) → AreSetsTold at records renews behind page_sets found → AreToldBy at records renews behind found
-by_records k at records renews behind found h = λ logs r n.
-    is_told k at logs behind found
-    (subst (λ (b : Bool). AreSetsTold at (merged logs) b behind page_sets found) n (subst (λ (rs : List LogRecord). AreSetsTold at rs renews behind page_sets found) r h))
-
-abbrev TellsBy : List LogRecord → Bool → ℕ → Placing → Contents → Type 0
-TellsBy records renews behind found c = AreToldBy (page_at c.pages) records renews behind found
-
-pub told : IsKnown → {E : Type 0} (start : Option Contents) (records : List LogRecord) (renews : Bool) (behind : ℕ) (result : Result Placing E)
-    → IfOk result (λ found. WhenTold start (SetsAt records renews behind found)) → IfOk result (λ found. WhenTold start (TellsBy records renews behind found))
-told k start records renews behind (Err e) h = tt
-told k start records renews behind (Ok found) h =
-    told_by start (SetsAt records renews behind found) (TellsBy records renews behind found) (λ c s. by_records k (page_at c.pages) records renews behind found s) h

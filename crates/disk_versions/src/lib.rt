@@ -2,17 +2,15 @@
 #![tactic(auto)]
 
 mod ends;
+mod laws;
 mod met;
 mod page;
 mod placed;
 mod range;
-mod renewal;
 mod set;
-mod sets;
 
-pub use ends::{BEHIND, end_of, last_in_records};
+pub use ends::{BEHIND, end_of};
+pub use laws::placing_laws;
 pub use met::{Mark, MetPages};
 pub use range::check_range;
-pub use renewal::must_renew;
-pub use set::{Placing, check_set};
-pub use sets::{find_unplaced, placing_laws, sets_laws};
+pub use set::Placing;

@@ -38,7 +38,8 @@ log_at parts read member (b ∷ bytes) (log ∷ logs) zero h lt =
     record { log = log; split = refl; member_is = h.0.member_is ∙ omega arith; within = are.0; records_are = are.1 }
 log_at parts read member (b ∷ bytes) (log ∷ logs) (suc k) h lt =
     let more = log_at parts read (member + 1) bytes logs k h.1 (omega (arith, lt)) in
-    record { log = more.log; split = more.split; member_is = more.member_is ∙ omega arith; within = more.within; records_are = more.records_are }
+    let next : suc (k + 1) ≡ suc k + 1 = omega arith in
+    record { log = more.log; split = more.split ∙ ap (λ (n : ℕ). more.log ∷ drop n (log ∷ logs)) next; member_is = more.member_is ∙ omega arith; within = more.within; records_are = more.records_are }
 
 -- ---- so far
 

@@ -197,13 +197,13 @@ and_none true = refl
 and_none false = refl
 
 misfit_by : (n h f m g e l t : Bool) → ((n && h) && f) ≡ false → (l ≡ true → m ≡ n) → (t ≡ true → g ≡ h) → (t ≡ true → e ≡ f) → cond n t l ≡ true → ((not l || m) && (not t || (g && e))) ≡ false
-misfit_by true h f m g e l true no new home follow within =
-    ap (λ (b : Bool). (not l || m) && (b && e)) (home refl) ∙ ap (λ (b : Bool). (not l || m) && (h && b)) (follow refl) ∙ ap (λ (b : Bool). (not l || m) && b) no ∙ and_none (not l || m)
-misfit_by true h f m g e l false no new home follow within = absurd cc
-misfit_by false h f m g e true t no new home follow within = ap (λ (b : Bool). b && (not t || (g && e))) (new refl)
-misfit_by false h f m g e false t no new home follow within = absurd cc
+misfit_by true h f m g e l true fails_it new home follow within =
+    ap (λ (b : Bool). (not l || m) && (b && e)) (home refl) ∙ ap (λ (b : Bool). (not l || m) && (h && b)) (follow refl) ∙ ap (λ (b : Bool). (not l || m) && b) fails_it ∙ and_none (not l || m)
+misfit_by true h f m g e l false fails_it new home follow within = absurd cc
+misfit_by false h f m g e true t fails_it new home follow within = ap (λ (b : Bool). b && (not t || (g && e))) (new refl)
+misfit_by false h f m g e false t fails_it new home follow within = absurd cc
 
 pub misfits_too : (member : ℕ) (before : List LogRecord) (full : Seen) (s : RangeSeen) (r : LogRecord) → Agrees member before full s → fits full r ≡ false → is_in s.range (blamed full r) ≡ true → fits_in s member r ≡ false
-misfits_too member before full s r a no within =
-    misfit_by (is_new full r) (is_home full r) (follows full r) (is_new_in s r) (is_home_in s member r) (follows_on (get s.trans r.tran) r) (is_in s.range r.lrsn) (is_in s.range r.tran) no
+misfits_too member before full s r a fails_it within =
+    misfit_by (is_new full r) (is_home full r) (follows full r) (is_new_in s r) (is_home_in s member r) (follows_on (get s.trans r.tran) r) (is_in s.range r.lrsn) (is_in s.range r.tran) fails_it
     (new_agrees member before full s r a) (home_agrees member before full s r a) (follows_agrees member before full s r a) (sym (in_when s.range (is_new full r) r.tran r.lrsn) ∙ within)

@@ -351,8 +351,8 @@ sooner_first x (Some p) None k e = e
 sooner_first x (Some p) (Some q) k e = by_test (is_sooner q p) (subst (λ (y : Option Spot). IsFrom y (Some q)) (sym e) k)
   where
     by_test : (c : Bool) → c ≡ false → spot_at (cond c (Some q) (Some p)) ≡ x
-    by_test true no = absurd cc
-    by_test false no = e
+    by_test true fails_it = absurd cc
+    by_test false fails_it = e
 
 same_place : (p q : Place) → is_sooner p q ≡ false → is_sooner q p ≡ false → (p.member ≡ q.member) × (p.at ≡ q.at)
 same_place p q h k = (members, places members)
@@ -369,9 +369,9 @@ sooner_second x (Some p) None h e = absurd (subst (λ (y : Option Spot). IsFrom 
 sooner_second x (Some p) (Some q) h e = by_test (is_sooner q p) refl (subst (λ (y : Option Spot). IsFrom y (Some p)) (sym e) h)
   where
     by_test : (c : Bool) → is_sooner q p ≡ c → is_sooner p q ≡ false → spot_at (cond c (Some q) (Some p)) ≡ x
-    by_test true is no = e
-    by_test false is no =
-        let same = same_place p q no is in
+    by_test true is fails_it = e
+    by_test false is fails_it =
+        let same = same_place p q fails_it is in
         ap (λ (m : ℕ). Some (spot.Log m p.at)) same.0 ∙ ap (λ (n : ℕ). Some (spot.Log q.member n)) same.1 ∙ e
 
 -- ---- range after range
@@ -394,7 +394,7 @@ search_first logs = record { from_there = nothing_from (unfit_among nothing_seen
 
 -- the number was asked for before, or it is in the range
 asked : (range : NumberRange) (o : Option ℕ) (from n : ℕ) → range.from ≡ from → covers range.to o n ≡ true → reaches o n ≡ false → (nat_lt n from || is_in range n) ≡ true
-asked range o from n is h no = grind (arith, nat_tests)
+asked range o from n is h fails_it = grind (arith, nat_tests)
 
 either : (a b : Bool) (X : Type 0) → (a || b) ≡ true → (a ≡ true → X) → (b ≡ true → X) → X
 either true b X h f g = f refl
@@ -413,13 +413,13 @@ range_stays (log ∷ logs) x = range_stays logs (left_behind (range_from log.mem
 
 search_on : (first : Option Place) (from n : ℕ) (range : NumberRange) (s : RangeSeen) (bytes : List (List ℕ)) (logs : List Log) → AreWholeLogs 1 bytes logs → range.from ≡ from → Searches first from logs → IsRangedBy range s logs
     → blame_among nothing_seen logs ≡ Some n → reaches s.next n ≡ false → spot_at (sooner first s.first) ≡ unfit_among nothing_seen logs
-search_on first from n range s bytes logs whole is h by blame no =
+search_on first from n range s bytes logs whole is h by blame fails_it =
     let all : AllRanged (unfit_among nothing_seen logs) (blame_among nothing_seen logs) range s =
     subst (AllRanged (unfit_among nothing_seen logs) (blame_among nothing_seen logs) range) (sym by) (logs_ranged logs 1 nothing_seen (nothing_in range) (members_of 1 bytes logs whole) (agrees_none 1 range) refl) in
     let there : covered s n ≡ true = subst (λ (x : RangeSeen). covered x n ≡ true) (sym by) (all_covered logs nothing_seen (nothing_in range) n blame) in
     let to_is : s.range ≡ range = ap (λ (x : RangeSeen). x.range) by ∙ range_stays logs (nothing_in range) in
     let within : covers range.to s.next n ≡ true = subst (λ (x : NumberRange). covers x.to s.next n ≡ true) to_is there in
-    either (nat_lt n from) (is_in range n) (spot_at (sooner first s.first) ≡ unfit_among nothing_seen logs) (asked range s.next from n is within no)
+    either (nat_lt n from) (is_in range n) (spot_at (sooner first s.first) ≡ unfit_among nothing_seen logs) (asked range s.next from n is within fails_it)
     (λ lt. sooner_first (unfit_among nothing_seen logs) first s.first all.from_there (h.blamed_is n blame lt))
     (λ in_it. sooner_second (unfit_among nothing_seen logs) first s.first h.from_there (all.blamed_is n blame in_it))
 

@@ -52,10 +52,10 @@ abbrev pub places : Bool → ℕ → ℕ → ℕ → List LogRecord → Option �
 places drawn number state at rs = place_of drawn number at rs
 
 pub passes_by : (drawn : Bool) (number at : ℕ) (r : LogRecord) (rest : List LogRecord) (b : Bool) → b ≡ is_sought drawn number r → b ≡ false → place_of drawn number at (r ∷ rest) ≡ place_of drawn number (at + length (record_bytes r)) rest
-passes_by drawn number at r rest b is no = ap (λ (x : Bool). cond x (Some at) (place_of drawn number (at + length (record_bytes r)) rest)) (sym is ∙ no)
+passes_by drawn number at r rest b is fails_it = ap (λ (x : Bool). cond x (Some at) (place_of drawn number (at + length (record_bytes r)) rest)) (sym is ∙ fails_it)
 
 pub stops_at : (drawn : Bool) (number at place : ℕ) (r : LogRecord) (rest : List LogRecord) (b : Bool) → b ≡ is_sought drawn number r → b ≡ true → place ≡ at → place_of drawn number at (r ∷ rest) ≡ Some place
-stops_at drawn number at place r rest b is yes here = ap (λ (x : Bool). cond x (Some at) (place_of drawn number (at + length (record_bytes r)) rest)) (sym is ∙ yes) ∙ ap Some (sym here)
+stops_at drawn number at place r rest b is holds_it here = ap (λ (x : Bool). cond x (Some at) (place_of drawn number (at + length (record_bytes r)) rest)) (sym is ∙ holds_it) ∙ ap Some (sym here)
 
 abbrev pub spots : Bool → ℕ → ℕ → List Log → Option Spot
 spots drawn number state logs = spot_in drawn number logs

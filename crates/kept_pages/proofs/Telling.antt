@@ -104,14 +104,14 @@ abbrev stands : Recheck → ℕ → ℕ → LogRecord → List LogRecord → Rec
 stands x at next r rest = cond (fits_now x r) (recheck_from x next rest) (record { bad = Some at; left = x })
 
 pub recheck_step : (s t : Recheck) (at place : ℕ) (r : LogRecord) (rest : List LogRecord) (fits : Bool) → place ≡ at → t ≡ rechecked s place r → fits ≡ fits_now t r → fits ≡ true → recheck_from s at (r ∷ rest) ≡ recheck_from t (at + length (record_bytes r)) rest
-recheck_step s t at place r rest fits is step fit yes =
+recheck_step s t at place r rest fits is step fit holds_it =
     ap (λ (x : Recheck). stands x at (at + length (record_bytes r)) r rest) (recheck_if s t at place r is step)
-    ∙ ap (λ (b : Bool). cond b (recheck_from t (at + length (record_bytes r)) rest) (record { bad = Some at; left = t })) (sym fit ∙ yes)
+    ∙ ap (λ (b : Bool). cond b (recheck_from t (at + length (record_bytes r)) rest) (record { bad = Some at; left = t })) (sym fit ∙ holds_it)
 
 pub recheck_stop : (s t : Recheck) (at place : ℕ) (r : LogRecord) (rest : List LogRecord) (fits : Bool) → place ≡ at → t ≡ rechecked s place r → fits ≡ fits_now t r → fits ≡ false → recheck_from s at (r ∷ rest) ≡ record { bad = Some place; left = t }
-recheck_stop s t at place r rest fits is step fit no =
+recheck_stop s t at place r rest fits is step fit fails_it =
     ap (λ (x : Recheck). stands x at (at + length (record_bytes r)) r rest) (recheck_if s t at place r is step)
-    ∙ ap (λ (b : Bool). cond b (recheck_from t (at + length (record_bytes r)) rest) (record { bad = Some at; left = t })) (sym fit ∙ no)
+    ∙ ap (λ (b : Bool). cond b (recheck_from t (at + length (record_bytes r)) rest) (record { bad = Some at; left = t })) (sym fit ∙ fails_it)
     ∙ ap (λ (n : ℕ). record { bad = Some n; left = t }) (sym is)
 
 pub recheck_told : {a b : Option Contents} {n k : ℕ} (member end : ℕ) (start s : Recheck) (bad : Option ℕ) → Reads a b n k (ComeTo rechecks member end start) (Ok (record { bad = bad; left = s }))
@@ -267,7 +267,9 @@ taken_one : (logs : List Log) (log : Log) (k : ℕ) (back : List Log) → drop k
 taken_one [] log zero back e = absurd cc
 taken_one [] log (suc k) back e = absurd cc
 taken_one (l ∷ ls) log zero back e = (let same : l ≡ log = cc in ap (λ (x : Log). x ∷ []) same)
-taken_one (l ∷ ls) log (suc k) back e = ap (λ (xs : List Log). l ∷ xs) (taken_one ls log k back e)
+taken_one (l ∷ ls) log (suc k) back e =
+    let next : suc k + 1 ≡ suc (k + 1) = omega arith in
+    ap (λ (n : ℕ). take n (l ∷ ls)) next ∙ ap (λ (xs : List Log). l ∷ xs) (taken_one ls log k back e)
 
 needs_one : (logs : List Log) (log : Log) → needs_of (logs ++ log ∷ []) ≡ needs_of logs ++ needs_in log.records
 needs_one logs log = flat_map-append (λ (l : Log). needs_in l.records) logs (log ∷ []) ∙ ap (λ (ns : List Need). needs_of logs ++ ns) (append-nil (needs_in log.records))

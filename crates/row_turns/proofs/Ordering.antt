@@ -327,15 +327,6 @@ knows_change rs r ch is k fresh = record {
 
 -- ---- a compensation
 
--- what is known of the change that it takes back
-pub record Undoes (rs : List LogRecord) (r : LogRecord) (ch : RowChange) (undone : ℕ) : Type 0 where
-  pub found : Found (hits undone) rs
-  pub rest : list_any (hits undone) found.rest ≡ false
-  pub last : Last (course_in new_course r.tran rs).undo
-  pub same_it : last.it ≡ found.it
-  pub mine : its r.tran rs found.it ≡ true
-  pub uncommitted : has_commit rs r.tran ≡ false
-
 -- the only one that passes a test among those that pass another
 only_one : (p : LogRecord → Bool) (n : ℕ) (rs : List LogRecord) → (f : Found (hits n) rs) → list_any (hits n) f.rest ≡ false → filter (λ s. hits n s && p s) rs ≡ cond (p f.it) (f.it ∷ []) []
 only_one p n rs f rest =
@@ -422,9 +413,11 @@ undo_now t rs r undone u =
     ∙ filter_agree (its t (rs ++ r ∷ [])) (λ s. its t rs s && not (undone == s.lrsn))
     (λ s. ap (λ (b : Bool). is_row_change s.body && ((s.tran == t) && not b)) (taken_now rs r undone s.lrsn u) ∙ less_its (is_row_change s.body) (s.tran == t) (is_taken_back rs s.lrsn) (undone == s.lrsn)) rs
 
+not_zero : (n : ℕ) → 1 ≤ n → (n == 0) ≡ false
+not_zero n h = grind (arith, nat_tests)
+
 longer : (xs : List LogRecord) (x : LogRecord) → (length (xs ++ x ∷ []) == 0) ≡ false
-longer [] x = refl
-longer (y ∷ xs) x = refl
+longer xs x = not_zero (length (xs ++ x ∷ [])) (let e = length-append xs (x ∷ []) in omega (arith, e))
 
 some_undone : (xs ys : List LogRecord) (x : LogRecord) → ys ≡ x ∷ [] → (length (xs ++ ys) == 0) ≡ false
 some_undone xs ys x h = ap (λ (l : List LogRecord). length (xs ++ l) == 0) h ∙ longer xs x

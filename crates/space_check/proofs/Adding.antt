@@ -259,11 +259,10 @@ all_told a early ends renews behind n t is told = subst (λ (k : ℕ). WhenTold 
 pub rows_of_scan : (range : TableRange) (early : Bool) (s : TableScan) → IsScan range early s → AreRowsOf (has_table s.met.made.range) s.met.made.records s.standing.rows.rows
 rows_of_scan range early s is = subst (λ (r : TableRange). AreRowsOf (has_table r) s.met.made.records s.standing.rows.rows) (is.rows_of ∙ sym is.range_is) is.standing.left
 
-pub whole_found : {E : Type 0} (range : TableRange) (s : TableScan) (before : Option PageId) (result : Result (Option PageId) E) → before ≡ None → s.met.made.range ≡ range → IfOk result (λ x. IsRangeTold (images_of s.met.made.records) s.met.made.records s.met.made.range x)
-    → IfOk result (λ x. (n : ℕ) → range.first ≡ n + 1 → AreWholeUpTo (images_of s.met.made.records) s.met.made.records n before → AreWholeUpTo (images_of s.met.made.records) s.met.made.records range.last x)
-whole_found range s before (Ok x) none its told =
-    λ n first held. whole_more (images_of s.met.made.records) s.met.made.records n range before x first none (subst (λ (r : TableRange). IsRangeTold (images_of s.met.made.records) s.met.made.records r x) its told) held
-whole_found range s before (Err e) none its told = tt
+pub whole_found : {E : Type 0} (s : TableScan) (before : Option PageId) (result : Result (Option PageId) E) → before ≡ None → IfOk result (λ x. IsRangeTold (images_of s.met.made.records) s.met.made.records s.met.made.range x)
+    → IfOk result (λ x. (n : ℕ) → s.met.made.range.first ≡ n + 1 → AreWholeUpTo (images_of s.met.made.records) s.met.made.records n before → AreWholeUpTo (images_of s.met.made.records) s.met.made.records s.met.made.range.last x)
+whole_found s before (Ok x) none told = λ n first held. whole_more (images_of s.met.made.records) s.met.made.records n s.met.made.range before x first none told held
+whole_found s before (Err e) none told = tt
 
 pub stood_of_scan : BothAreFound → (range : TableRange) (early : Bool) (s : TableScan) (n : ℕ) (old both : Option Unstood) → both ≡ sooner old s.standing.first → range.first ≡ n + 1 → IsScan range early s → AreStoodUpTo s.met.made.records n old → AreStoodUpTo s.met.made.records range.last both
 stood_of_scan law range early s n old both is first scan before =
@@ -279,8 +278,10 @@ turns_of_scan range s n old one both first some scan tells adds orderly before =
     turns_more s.met.made.records n range old one both first some adds
     (subst (λ (r : TableRange). AreTurnsTold (has_table r) s.met.made.records one) scan.turns_of (tells s.met.made.records scan.turns orderly)) before
 
-pub scan_early : (range : TableRange) (early : Bool) (s : TableScan) → IsScan range early s → IsScan range s.turns.is_early s
-scan_early range early s is = subst (λ (b : Bool). IsScan range b s) (sym is.early_is) is
+-- a scan by its own range
+pub scan_itself : (range : TableRange) (early : Bool) (s : TableScan) → IsScan range early s → IsScan s.met.made.range s.turns.is_early s
+scan_itself range early s is = subst (λ (b : Bool). IsScan s.met.made.range b s) (sym is.early_is) (subst (λ (r : TableRange). IsScan r early s) (sym is.range_is) is)
 
-pub adds_early : (range : TableRange) (early : Bool) (s : TableScan) (pages : ℕ) (old new : TablesTold) → IsScan range early s → AddsScan range s.turns.is_early s.met.made.records pages old new → AddsScan range early s.met.made.records pages old new
-adds_early range early s pages old new is adds = subst (λ (b : Bool). AddsScan range b s.met.made.records pages old new) is.early_is adds
+pub adds_early : (range : TableRange) (early : Bool) (s : TableScan) (pages : ℕ) (old new : TablesTold) → IsScan range early s → AddsScan s.met.made.range s.turns.is_early s.met.made.records pages old new → AddsScan range early s.met.made.records pages old new
+adds_early range early s pages old new is adds =
+    subst (λ (b : Bool). AddsScan range b s.met.made.records pages old new) is.early_is (subst (λ (r : TableRange). AddsScan r s.turns.is_early s.met.made.records pages old new) is.range_is adds)

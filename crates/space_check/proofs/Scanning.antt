@@ -26,9 +26,9 @@ use Rattle.redone_pages.specs.declared.range.TableRange.{TableRange}
 use Rattle.disk_versions.specs.Met.{AreMet}
 use Rattle.stood_rows.specs.Found.{IsStanding}
 use Rattle.row_turns.specs.Scans.{IsTurning}
+use Rattle.row_turns.specs.Ranges.{MergedIsKept}
 use Rattle.space_check.specs.declared.scan.TableScan.{TableScan}
 use Rattle.space_check.specs.Scans.{IsScan, IsScanned, ScansAlso, ScansKept, ScansLeft, IsScanOf}
-use Rattle.space_check.proofs.Merging.{merged_is}
 
 -- ---- one record more
 
@@ -139,13 +139,13 @@ together_is : (logs : List Log) → together (records_of logs) ≡ all_records l
 together_is [] = refl
 together_is (l ∷ ls) = ap (λ (x : List LogRecord). l.records ++ x) (together_is ls)
 
-pub scan_of : (c : Contents) (ends : List ℕ) (start : List HeadState) (old new : TableScan) → ((logs : List (List ℕ)) (lists : List (List LogRecord)) → AreUpTo logs ends lists → Begins logs start lists) → IsScanned (page_at c.pages) [] old → ScansLeft c start old new
+pub scan_of : MergedIsKept → (c : Contents) (ends : List ℕ) (start : List HeadState) (old new : TableScan) → ((logs : List (List ℕ)) (lists : List (List LogRecord)) → AreUpTo logs ends lists → Begins logs start lists) → IsScanned (page_at c.pages) [] old → ScansLeft c start old new
     → IsScanOf ends new c
-scan_of c ends start old new begin first left_is = λ logs whole ends_are.
+scan_of law c ends start old new begin first left_is = λ logs whole ends_are.
     let lists : List (List LogRecord) = records_of logs in
     let b = begin c.logs lists (subst (λ (es : List ℕ). AreUpTo c.logs es lists) (sym ends_are) (up_to 1 c.logs logs whole)) in
     let all : by_lrsn (together (left c.logs start)) ≡ by_lrsn (all_records logs) = ap (λ (ls : List (List LogRecord)). by_lrsn (together ls)) b.left_is ∙ ap by_lrsn (together_is logs) in
-    subst (λ (rs : List LogRecord). IsScanned (page_at c.pages) rs new) (ap kept all ∙ sym (merged_is (all_records logs)))
+    subst (λ (rs : List LogRecord). IsScanned (page_at c.pages) rs new) (ap kept all ∙ sym (law (all_records logs)))
     (left_is b.stand (subst NoneFalls (sym b.left_is) (rising 1 c.logs logs whole)) first)
 
 -- ---- one record more for the tables of a range

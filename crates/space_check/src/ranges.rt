@@ -83,6 +83,7 @@ pub fn tell_tables<D: Disk>(
     let mut tables = 0;
     while tables < 64 {
         let range = range_behind(counts, tables);
+        let last = range.last.number();
         let found = add_range(
             alloc, disk, ends, range, is_early, renews, behind, &told, block,
         )?;
@@ -90,7 +91,7 @@ pub fn tell_tables<D: Disk>(
             RangeFound::Told { told: more } => told = more,
             RangeFound::Unplaced { id } => return Ok(RangeFound::Unplaced { id }),
         }
-        tables = range.last.number();
+        tables = last;
     }
     Ok(RangeFound::Told { told })
 }

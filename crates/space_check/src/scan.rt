@@ -34,10 +34,8 @@ fn is_merged(body: &Body) -> bool
     ensures { result ≡ is_merged body.now }
 {
     match body {
-        Body::RowChange { .. }
-        | Body::Compensation { .. }
-        | Body::System { .. }
-        | Body::Commit => true,
+        Body::RowChange { .. } | Body::Compensation { .. } | Body::System { .. } | Body::Commit =>
+            true,
         Body::Ended | Body::Checkpoint { .. } | Body::RestartEnd => false,
     }
 }
@@ -45,14 +43,14 @@ fn is_merged(body: &Body) -> bool
 impl TableScan {
     /// Before the first record. `is_early` says that no transaction changes a row behind its Commit; where that isn't known, what has
     /// committed is held.
-    pub fn new(alloc: Global, range: TableRange, is_early: bool) -> TableScan
-        ensures scan { IsScan range is_early result }
+    pub fn new(alloc: Global, range: &TableRange, is_early: bool) -> TableScan
+        ensures scan { IsScan range.now is_early result }
         ensures scanned { (at : Images) → IsScanned at [] result }
     {
         TableScan {
-            met: MetPages::new(alloc, range),
-            standing: Standing::new(alloc, range),
-            turns: Turns::new(alloc, range, is_early),
+            met: MetPages::new(alloc, *range),
+            standing: Standing::new(alloc, *range),
+            turns: Turns::new(alloc, *range, is_early),
         }
     }
 

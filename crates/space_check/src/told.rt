@@ -42,10 +42,9 @@ fn first_unwhole(
     alloc: Global,
     before: Option<PageId>,
     scan: &TableScan,
-    range: TableRange,
 ) -> Result<Option<PageId>, NoMemory>
-    requires { IsScan range scan.now.turns.is_early scan.now }
-    ensures { IfOk result (λ found. (n : ℕ) → range.first ≡ n + 1 → AreWholeUpTo (images_of scan.now.met.made.records) scan.now.met.made.records n before → AreWholeUpTo (images_of scan.now.met.made.records) scan.now.met.made.records range.last found) }
+    requires { IsScan scan.now.met.made.range scan.now.turns.is_early scan.now }
+    ensures { IfOk result (λ found. (n : ℕ) → scan.now.met.made.range.first ≡ n + 1 → AreWholeUpTo (images_of scan.now.met.made.records) scan.now.met.made.records n before → AreWholeUpTo (images_of scan.now.met.made.records) scan.now.met.made.records scan.now.met.made.range.last found) }
 {
     match before {
         Some(id) => Ok(Some(id)),
@@ -69,21 +68,15 @@ impl TablesTold {
     }
 
     // Adds what was told of the next tables, of which so many pages aren't all zeros.
-    fn add_scan(
-        &self,
-        alloc: Global,
-        scan: &TableScan,
-        range: TableRange,
-        pages: u64,
-    ) -> Result<TablesTold, NoMemory>
-        requires range { range.first ≤ range.last }
-        requires scan { IsScan range scan.now.turns.is_early scan.now }
-        ensures { IfOk result (λ told. AddsScan range scan.now.turns.is_early scan.now.met.made.records pages self.now told) }
+    fn add_scan(&self, alloc: Global, scan: &TableScan, pages: u64) -> Result<TablesTold, NoMemory>
+        requires range { scan.now.met.made.range.first ≤ scan.now.met.made.range.last }
+        requires scan { IsScan scan.now.met.made.range scan.now.turns.is_early scan.now }
+        ensures { IfOk result (λ told. AddsScan scan.now.met.made.range scan.now.turns.is_early scan.now.met.made.records pages self.now told) }
     {
         unstood_laws();
         turn_laws();
         let pages = add_pages(self.pages, pages)?;
-        let unwhole = first_unwhole(alloc, self.unwhole, scan, range)?;
+        let unwhole = first_unwhole(alloc, self.unwhole, scan)?;
         let unstood = sooner(self.unstood, scan.standing.first);
         let told = scan.turns.told(alloc)?;
         let turns = self.turns.and(&told)?;
@@ -127,7 +120,7 @@ pub fn add_range<D: Disk>(
     match placed {
         Placing::Unplaced { id } => Ok(RangeFound::Unplaced { id }),
         Placing::All { pages } => {
-            let told = told.add_scan(alloc, &scan, range, pages)?;
+            let told = told.add_scan(alloc, &scan, pages)?;
             Ok(RangeFound::Told { told })
         }
     }

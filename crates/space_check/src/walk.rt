@@ -10,6 +10,7 @@ use disk_walk::{Next, heads_to, next_of_all};
 use ds_disk::{Disk, DiskError};
 use log_heads::Heads;
 use redone_pages::TableRange;
+use row_turns::merged_laws;
 use std::alloc::Global;
 
 /// How many bytes of a log are read at most by one call of the disk.
@@ -55,8 +56,9 @@ pub fn scan_tables<D: Disk>(
     ensures scan { IfOk result (IsScan range is_early) }
     ensures scanned { Reads (D.contents disk.old) (D.contents disk.new) (D.faults disk.old) (D.faults disk.new) (λ scan c. IsScanOf ends.now scan c) result }
 {
+    merged_laws();
     let mut heads = heads_to(alloc, ends, BLOCK as u32)?;
-    let mut scan = TableScan::new(alloc, range, is_early);
+    let mut scan = TableScan::new(alloc, &range, is_early);
     scan_left(alloc, disk, &mut heads, &mut scan, block)?;
     Ok(scan)
 }

@@ -22,8 +22,8 @@ pub returns-in-Unplaced : goal.returns-in-Unplaced
 returns-in-Unplaced g c =
     let held = c.loop-before.invariant in
     let read = c.in_ok-found.ensures.told in
-    let value = c.number-to.ensures.value in
-    let few = c.number-to.ensures.range in
+    let value = c.number.ensures.value in
+    let few = c.number.ensures.range in
     record {
       ok =
           set_wrong_in (g.D.Disk.contents c.args.disk.now) (g.D.Disk.contents c.loop-before.disk) c.args.met.now c.args.renews c.args.behind c.loop-before.before c.loop-before.pages c.in-Unplaced.id c.in_ok-found.found
@@ -50,9 +50,13 @@ pub returns : goal.returns
 returns g c =
     let held = c.loop-before.invariant in
     let is = c.range-range.ensures in
-    let value = c.number-to.ensures.value in
+    let value = c.number.ensures.value in
     let last : c.range-range.result.last ≡ c.args.met.now.made.range.last = ap (λ (r : TableRange). r.last) is in
-    let end : c.loop-before.before ≡ 2 * c.args.met.now.made.range.last = omega (arith, value, last) in
+    let first : c.range-range.result.first ≡ c.args.met.now.made.range.first = ap (λ (r : TableRange). r.first) is in
+    let from = c.heap_set-from.ensures in
+    let some = c.requires in
+    let up_to = c.loop-before.auto.before-end in
+    let end : c.loop-before.before ≡ 2 * c.args.met.now.made.range.last = omega (arith, value, last, first, from, some, up_to) in
     record {
       ok = sets_end (g.D.Disk.contents c.args.disk.now) c.args.met.now c.args.renews c.args.behind c.loop-before.before c.loop-before.pages end held.told;
       failed = λ e. absurd cc;

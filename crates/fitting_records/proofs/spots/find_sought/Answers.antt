@@ -15,15 +15,15 @@ pub loop-index-preserved : goal.loop-index-preserved
 loop-index-preserved g c =
     let member = member_is c.new.result (c.loop-index.index + 1) c.in-Some.member c.new.ensures (cc) in
     logs_more (spots c.args.drawn c.args.number) c.whole_laws.ensures.parts c.log_laws.ensures.read _ _ _ _ _ _ c.args.ends.now c.loop-index.index c.in-Some.member _ 0 0 0
-    (IsPlaceOf c.args.drawn c.args.number) c.in_ok-place_of.field-0 c.requires.ends (omega arith) member refl
-    (λ (log : Log) (rest : List Log) is holds. log_by c.args.drawn c.args.number c.in-Some.member c.in_ok-place_of.field-0 log rest c.in-None.is is holds) c.loop-index.invariant c.in_ok-place_of.ensures
+    (IsPlaceOf c.args.drawn c.args.number) c.in_ok-at.field-0 c.requires.ends (omega arith) member refl
+    (λ (log : Log) (rest : List Log) is holds. log_by c.args.drawn c.args.number c.in-Some.member c.in_ok-at.field-0 log rest c.in-None.is is holds) c.loop-index.invariant c.in_ok-at.ensures
 
-pub returns-in-Some : goal.returns-in-Some
-returns-in-Some g c =
+pub returns-in-Some-2 : goal.returns-in-Some-2
+returns-in-Some-2 g c =
     let member = member_is c.new.result (c.loop-index.index + 1) c.in-Some.member c.new.ensures (cc) in
     logs_stop (spots c.args.drawn c.args.number) c.whole_laws.ensures.parts c.log_laws.ensures.read _ _ _ _ _ _ c.args.ends.now c.loop-index.index c.in-Some.member _ 0 0
-    (IsPlaceOf c.args.drawn c.args.number) c.in_ok-place_of.field-0 (Some (spot.Log c.in-Some.member c.in-Some-2.at)) c.requires.ends (omega arith) member refl
-    (λ (log : Log) (rest : List Log) is holds. log_stops c.args.drawn c.args.number c.in-Some.member c.in-Some-2.at c.in_ok-place_of.field-0 log rest c.in-Some-2.is is holds) c.loop-index.invariant c.in_ok-place_of.ensures
+    (IsPlaceOf c.args.drawn c.args.number) c.in_ok-at.field-0 (Some (spot.Log c.in-Some.member c.in-Some-2.at)) c.requires.ends (omega arith) member refl
+    (λ (log : Log) (rest : List Log) is holds. log_stops c.args.drawn c.args.number c.in-Some.member c.in-Some-2.at c.in_ok-at.field-0 log rest c.in-Some-2.is is holds) c.loop-index.invariant c.in_ok-at.ensures
 
 pub returns : goal.returns
 returns g c = logs_end (spots c.args.drawn c.args.number) _ _ _ _ c.args.ends.now c.loop-index.index 0 0 None c.requires.ends (omega arith) refl c.loop-index.invariant

@@ -18,7 +18,7 @@ pub returns-in-None : goal.returns-in-None
 returns-in-None g c =
     walk_ends (places c.args.drawn c.args.number) _ _ _ _ _ _ c.args.member c.args.end 0 c.loop.head c.next_of_log.new.head 0 c.in_ok-next_of_log.field-0 None c.in-None.is refl c.loop.invariant.0 c.in_ok-next_of_log.ensures.next
 
-pub returns-in-Some-then-is_sought : goal.returns-in-Some-then-is_sought
-returns-in-Some-then-is_sought g c =
+pub returns-then-is_sought : goal.returns-then-is_sought
+returns-then-is_sought g c =
     walk_stops (places c.args.drawn c.args.number) _ _ _ _ _ _ c.args.member c.args.end 0 c.loop.head c.next_of_log.new.head 0 c.in_ok-next_of_log.field-0 c.in-Some.it (Some c.at-at.result) c.in-Some.is
     (λ (rest : List LogRecord). stops_at c.args.drawn c.args.number c.loop.head.at c.at-at.result c.in-Some.it rest c.is_sought.result c.is_sought.ensures c.if-is_sought.true c.at-at.ensures) c.loop.invariant.0 c.in_ok-next_of_log.ensures.next

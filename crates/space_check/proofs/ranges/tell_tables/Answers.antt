@@ -30,9 +30,9 @@ loop-tables-preserved g c =
     let read = c.in_ok-found.ensures in
     record {
       told =
-          more_told (g.D.Disk.contents c.args.disk.now) (g.D.Disk.contents c.loop-tables.disk) c.args.is_early c.args.ends.now c.args.renews c.args.behind c.loop-tables.tables c.number.result c.range_behind-range.result c.loop-tables.told c.in-Told.more c.in_ok-found.found
-          c.range_behind-range.ensures.first c.number.ensures.value c.in-Told.is held.told held.same read.ok;
-      few = (let is = c.number.ensures.value in let few = c.range_behind-range.ensures.few in omega (arith, is, few));
+          more_told (g.D.Disk.contents c.args.disk.now) (g.D.Disk.contents c.loop-tables.disk) c.args.is_early c.args.ends.now c.args.renews c.args.behind c.loop-tables.tables c.number-last.result c.range_behind-range.result c.loop-tables.told c.in-Told.more c.in_ok-found.found
+          c.range_behind-range.ensures.first c.number-last.ensures.value c.in-Told.is held.told held.same read.ok;
+      few = (let is = c.number-last.ensures.value in let few = c.range_behind-range.ensures.few in omega (arith, is, few));
       same = same_on _ _ _ held.same read.same;
       later = (let a = held.later in let b = read.later in omega (arith, a, b));
     }

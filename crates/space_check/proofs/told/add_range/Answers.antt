@@ -1,14 +1,17 @@
 use Rattle.std.proofs.Common.{◌≤◌, sym, subst, arith}
 use Rattle.redone_pages.specs.declared.range.TableRange.{TableRange}
 use Rattle.disk_walk.proofs.Reading.{same_on}
-use Rattle.space_check.proofs.Adding.{scan_early, adds_early, range_told, range_wrong}
+use Rattle.space_check.proofs.Adding.{scan_itself, adds_early, range_told, range_wrong}
 use Rattle.space_check.proofs.told.add_range.Goals as goal
+
+pub add_scan-requires-clause-range : goal.add_scan-requires-clause-range
+add_scan-requires-clause-range g c = subst (λ (r : TableRange). r.first ≤ r.last) (sym c.in_ok-scan.ensures.scan.range_is) c.requires.range
 
 pub check_range-requires : goal.check_range-requires
 check_range-requires g c = subst (λ (r : TableRange). r.first ≤ r.last) (sym c.in_ok-scan.ensures.scan.range_is) c.requires.range
 
 pub add_scan-requires-clause-scan : goal.add_scan-requires-clause-scan
-add_scan-requires-clause-scan g c = scan_early c.args.range c.args.is_early c.in_ok-scan.scan c.in_ok-scan.ensures.scan
+add_scan-requires-clause-scan g c = scan_itself c.args.range c.args.is_early c.in_ok-scan.scan c.in_ok-scan.ensures.scan
 
 pub returns-in-Unplaced : goal.returns-in-Unplaced
 returns-in-Unplaced g c =

@@ -12,7 +12,7 @@ returns-clause-scanned g c =
     record {
       ok =
           told_by (g.D.Disk.contents c.args.disk.now) (λ (d : Contents). ScansLeft d c.in_ok-heads.heads.heads c.new-scan.result c.scan_left.new.scan) (IsScanOf c.args.ends.now c.scan_left.new.scan)
-          (λ d left. scan_of d c.args.ends.now c.in_ok-heads.heads.heads c.new-scan.result c.scan_left.new.scan c.in_ok-heads.ensures.begin (c.new-scan.ensures.scanned (page_at d.pages)) left) read.ok;
+          (λ d left. scan_of c.merged_laws.ensures d c.args.ends.now c.in_ok-heads.heads.heads c.new-scan.result c.scan_left.new.scan c.in_ok-heads.ensures.begin (c.new-scan.ensures.scanned (page_at d.pages)) left) read.ok;
       failed = λ e. absurd cc;
       same = read.same;
       later = read.later;
