@@ -1,7 +1,3 @@
-pub mod Drawn
-pub mod Firsts
-pub mod Fronts
-pub mod Rows
 pub mod Tallies
 pub mod Behind
 pub mod Holding

@@ -1,6 +1,4 @@
 pub mod Turns
-pub mod Settling
-pub mod Holders
 pub mod Out
 pub mod Orders
 pub mod States
