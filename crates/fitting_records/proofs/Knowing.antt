@@ -55,7 +55,7 @@ some_if : {X : Type 0} (b : Bool) (v : X) (o : Option X) → is_some (cond b (So
 some_if true v o = refl
 some_if false v o = refl
 
-has_put : {X : Type 0} (m : FinMap nat_cmp X) (k : ℕ) (v : X) (q : ℕ) → is_some (get (insert m k v) q) ≡ ((k == q) || is_some (get m q))
+pub has_put : {X : Type 0} (m : FinMap nat_cmp X) (k : ℕ) (v : X) (q : ℕ) → is_some (get (insert m k v) q) ≡ ((k == q) || is_some (get m q))
 has_put m k v q = ap (λ (o : Option _). is_some o) (put_at m k v q) ∙ some_if (k == q) v (get m q)
 
 -- ---- lists with one record more

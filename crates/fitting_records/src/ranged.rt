@@ -246,8 +246,8 @@ impl RangeSeen {
     }
 }
 
-fn is_sooner(a: Place, b: Place) -> bool
-    ensures { result ≡ is_sooner a b }
+fn is_sooner(a: &Place, b: &Place) -> bool
+    ensures { result ≡ is_sooner a.now b.now }
 {
     a.member.number() < b.member.number() || (a.member.number() == b.member.number() && a.at < b.at)
 }
@@ -256,9 +256,9 @@ fn is_sooner(a: Place, b: Place) -> bool
 pub fn sooner(a: Option<Place>, b: Option<Place>) -> Option<Place>
     ensures { result ≡ sooner a b }
 {
-    match (a, b) {
-        (None, b) => b,
-        (Some(a), None) => Some(a),
-        (Some(a), Some(b)) => { if is_sooner(b, a) { Some(b) } else { Some(a) } }
+    match (&a, &b) {
+        (None, _) => b,
+        (Some(_), None) => a,
+        (Some(first), Some(second)) => { if is_sooner(second, first) { b } else { a } }
     }
 }

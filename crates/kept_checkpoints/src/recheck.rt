@@ -38,8 +38,16 @@ fn meet(offsets: &NumberMap<bool>, met: &mut NumberMap<bool>, at: u64) -> Result
 fn settle(changes: &mut NumberMap<Sequence<Lrsn>>, it: &LogRecord)
     ensures { changes.new ≡ settled_with changes.old it.now.tran it.now.body }
 {
-    if let Body::Commit = it.body {
-        changes.take(it.tran);
+    match &it.body {
+        Body::Commit => {
+            changes.take(it.tran);
+        }
+        Body::RowChange { .. }
+        | Body::Compensation { .. }
+        | Body::System { .. }
+        | Body::Ended
+        | Body::Checkpoint { .. }
+        | Body::RestartEnd => {}
     }
 }
 

@@ -1,5 +1,5 @@
 pub mod Judged
-pub mod Kept
+pub mod Deciding
 pub mod Told
 pub mod Walking
 pub mod Telling

@@ -39,7 +39,7 @@ use Rattle.kept_pages.specs.Exact.{Judges, IsScan, IsRechecked, AreNeedsJudged, 
 use Rattle.kept_pages.specs.Unmet.{AreJudged, judged_with, IsSeen}
 use Rattle.kept_pages.specs.Unkept.{page_spot, AreKept, IsKeptTold}
 use Rattle.kept_pages.proofs.Judged.{judged_more}
-use Rattle.kept_pages.proofs.Kept.{are_kept, bad_kept}
+use Rattle.kept_pages.proofs.Deciding.{are_kept, bad_kept}
 
 -- ---- needs
 

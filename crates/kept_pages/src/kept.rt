@@ -28,7 +28,7 @@ const BLOCK: usize = 65_536;
 #[derive(Clone, Copy, Debug, PartialEq, Eq)]
 pub enum LogTold {
     /// All offsets fit; this is the first page so far that doesn't meet a need.
-    Fits { first: Option<PageId> },
+    Fits { page: Option<PageId> },
     /// The Checkpoint that begins at this byte has an offset that may not stand there.
     Bad { at: u64 },
 }
@@ -111,7 +111,8 @@ fn judge_log<D: Disk>(
             None => return Ok(found),
             Some(it) => {
                 let needs = again.needs(alloc, at, &it)?;
-                found = judge_more(disk, &mut page, found, needs.as_slice())?;
+                let now = judge_more(disk, &mut page, found, needs.as_slice())?;
+                found = now;
             }
         }
     }
@@ -139,8 +140,8 @@ fn check_log<D: Disk>(
     match recheck_log(alloc, disk, member, end, &mut again, block)? {
         Some(at) => Ok(LogTold::Bad { at }),
         None => {
-            let first = judge_log(alloc, disk, member, end, &again, first, block)?;
-            Ok(LogTold::Fits { first })
+            let page = judge_log(alloc, disk, member, end, &again, first, block)?;
+            Ok(LogTold::Fits { page })
         }
     }
 }
@@ -173,7 +174,7 @@ fn check_logs<D: Disk>(
         };
         match check_log(alloc, disk, member, ends[index], first, block)? {
             LogTold::Bad { at } => return Ok(Some(Spot::Log { member, at })),
-            LogTold::Fits { first: found } => first = found,
+            LogTold::Fits { page } => first = page,
         }
     }
     Ok(page_spot(first))

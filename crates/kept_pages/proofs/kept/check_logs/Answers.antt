@@ -8,7 +8,7 @@ loop-index-init g c = keep_starts _ _ c.args.ends.now
 
 pub loop-index-preserved : goal.loop-index-preserved
 loop-index-preserved g c =
-    keep_goes c.whole_laws.ensures.parts c.log_laws.ensures.read _ _ _ _ _ _ c.args.ends.now c.loop-index.index c.in-Some.member _ c.loop-index.first c.in-Fits.found c.in_ok-at.field-0 c.requires.ends (omega arith)
+    keep_goes c.whole_laws.ensures.parts c.log_laws.ensures.read _ _ _ _ _ _ c.args.ends.now c.loop-index.index c.in-Some.member _ c.loop-index.first c.in-Fits.page c.in_ok-at.field-0 c.requires.ends (omega arith)
     (member_is c.new.result (c.loop-index.index + 1) c.in-Some.member c.new.ensures (cc)) refl c.in-Fits.is c.loop-index.invariant c.in_ok-at.ensures
 
 pub returns-in-Bad : goal.returns-in-Bad

@@ -9,8 +9,8 @@ loop-init g c = (judge_starts _ _ c.args.member c.args.end c.args.again.now c.ar
 
 pub loop-preserved : goal.loop-preserved
 loop-preserved g c = (
-  judge_goes _ _ _ _ _ _ _ _ c.args.member c.args.end c.args.again.now c.args.first c.loop.head c.next_of_log.new.head c.loop.found c.in_ok-found.field-0 c.at-at.result c.in_ok-next_of_log.field-0 c.in-Some.it c.as_slice.result.now c.in-Some.is c.at-at.ensures
-      (c.as_slice.ensures ∙ c.in_ok-needs.ensures) c.loop.invariant.0 c.in_ok-next_of_log.ensures.next c.in_ok-found.ensures,
+  judge_goes _ _ _ _ _ _ _ _ c.args.member c.args.end c.args.again.now c.args.first c.loop.head c.next_of_log.new.head c.loop.found c.in_ok-now-in-Some.now c.at-at.result c.in_ok-next_of_log.field-0 c.in-Some.it c.as_slice.result.now c.in-Some.is c.at-at.ensures
+      (c.as_slice.ensures ∙ c.in_ok-needs-in-Some.ensures) c.loop.invariant.0 c.in_ok-next_of_log.ensures.next c.in_ok-now-in-Some.ensures,
   sound_some c.next_of_log.new.head c.in_ok-next_of_log.field-0 c.in-Some.it c.in-Some.is c.in_ok-next_of_log.ensures.sound,
 )
 

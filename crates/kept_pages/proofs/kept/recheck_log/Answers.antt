@@ -21,8 +21,8 @@ returns-in-None g c =
     (walk_ends rechecks _ _ _ _ _ _ c.args.member c.args.end c.args.again.now c.loop.head c.next_of_log.new.head c.loop.again c.in_ok-next_of_log.field-0 (record { bad = None; left = c.loop.again }) c.in-None.is refl c.loop.invariant.0
     c.in_ok-next_of_log.ensures.next)
 
-pub returns-in-Some-then-not-fits : goal.returns-in-Some-then-not-fits
-returns-in-Some-then-not-fits g c =
+pub returns-then-not-fits : goal.returns-then-not-fits
+returns-then-not-fits g c =
     recheck_told c.args.member c.args.end c.args.again.now c.enter.new.self (Some c.at-at.result)
     (walk_stops rechecks _ _ _ _ _ _ c.args.member c.args.end c.args.again.now c.loop.head c.next_of_log.new.head c.loop.again c.in_ok-next_of_log.field-0 c.in-Some.it (record { bad = Some c.at-at.result; left = c.enter.new.self }) c.in-Some.is
     (λ (rest : List LogRecord). recheck_stop c.loop.again c.enter.new.self c.loop.head.at c.at-at.result c.in-Some.it rest c.fits.result c.at-at.ensures c.in_ok-enter-in-Some.ensures c.fits.ensures c.if-not-fits.true) c.loop.invariant.0
